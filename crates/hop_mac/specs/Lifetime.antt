@@ -1,0 +1,10 @@
+-- When a hop expires (draft-dekater-scion-dataplane), counted in half seconds.
+use Rattle.std.specs.Prelude.{ℕ, ◌+◌, ◌*◌, ◌≤◌}
+
+-- the half second at which a hop expires: 337.5 seconds for each unit of its expiry, one at least
+abbrev pub expiry_of : ℕ → ℕ → ℕ
+expiry_of timestamp exp_time = 2 * timestamp + 675 * (1 + exp_time)
+
+-- the hop is live at this second, up to and with the moment of its expiry
+abbrev pub IsLive : ℕ → ℕ → ℕ → Type 0
+IsLive timestamp exp_time now = 2 * now ≤ expiry_of timestamp exp_time

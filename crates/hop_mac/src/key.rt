@@ -1,0 +1,135 @@
+ghost use Rattle.std.specs.Prelude.{◌≡◌, ⊤, ◌≤◌, ◌++◌, length, map, take, drop, replicate};
+ghost use Rattle.hop_mac.specs.Hmac.{hmac_under, masked, padded};
+ghost use Rattle.hop_mac.specs.Hop.{authenticator_under};
+
+use crate::hop::mac_input;
+use sha2::{Digest, Sha256};
+use std::alloc::AllocError;
+use std::marker::Model;
+
+const BLOCK_LEN: usize = 64;
+
+const INNER_MASK: u8 = 0x36;
+
+const OUTER_MASK: u8 = 0x5c;
+
+/// A key made ready for HMAC-SHA-256: the two hash states after the padded and masked key, so that
+/// each short text costs two compressions and not four.
+///
+/// Clauses see it as the 64 bytes of the padded key.
+#[derive(Drop)]
+pub struct MacKey {
+    block: [u8; 64],
+    inner: Sha256,
+    outer: Sha256,
+}
+
+impl Model for MacKey {
+    ghost use Rattle.std.specs.Prelude.{ℕ, List};
+    ghost use Rattle.sha2.specs.Hashers.{Holds256};
+    ghost use Rattle.hop_mac.specs.Hmac.{masked};
+
+    ghost Value = { List ℕ };
+
+    ghost view = { λ key. key.block };
+
+    ghost invariant = { λ key. Holds256 key.inner (masked 0x36 key.block) × Holds256 key.outer (masked 0x5c key.block) };
+}
+
+impl Clone for MacKey {
+    ghost is_clone = { λ key other. other ≡ key };
+
+    ghost is_infallible = { λ _. ⊤ };
+
+    /// The same key once more, which takes no memory and never fails.
+    fn clone(&self) -> Result<MacKey, AllocError> {
+        Ok(MacKey {
+            block: self.block,
+            inner: copy_of(&self.inner),
+            outer: copy_of(&self.outer),
+        })
+    }
+}
+
+impl MacKey {
+    /// The key of these bytes, of which there are at most 64.
+    pub fn new(key: &[u8]) -> MacKey
+        requires { length key.now ≤ 64 }
+        ensures { result ≡ padded key.now }
+    {
+        let block = padded_block(key);
+        let mut inner = Sha256::new();
+        inner.update(masked_block(&block, INNER_MASK).as_slice());
+        let mut outer = Sha256::new();
+        outer.update(masked_block(&block, OUTER_MASK).as_slice());
+        MacKey {
+            block,
+            inner,
+            outer,
+        }
+    }
+
+    /// HMAC-SHA-256 of a text under this key.
+    pub fn mac(&self, text: &[u8]) -> [u8; 32]
+        ensures { result ≡ hmac_under self.now text.now }
+    {
+        let mut inner = copy_of(&self.inner);
+        inner.update(text);
+        let mut outer = copy_of(&self.outer);
+        outer.update(inner.finalize().as_slice());
+        outer.finalize()
+    }
+
+    /// The authenticator of a hop under this key, as [`hop_mac`](crate::hop_mac) gives it.
+    pub fn hop_mac(
+        &self,
+        beta: u16,
+        timestamp: u32,
+        exp_time: u8,
+        cons_ingress: u16,
+        cons_egress: u16,
+    ) -> [u8; 6]
+        ensures { result ≡ authenticator_under self.now beta timestamp exp_time cons_ingress cons_egress }
+    {
+        let input = mac_input(beta, timestamp, exp_time, cons_ingress, cons_egress);
+        first_six(&self.mac(input.as_slice()))
+    }
+}
+
+/// The first 6 bytes of a code.
+fn first_six(code: &[u8; 32]) -> [u8; 6]
+    ensures { result ≡ take 6 code.now }
+{
+    [code[0], code[1], code[2], code[3], code[4], code[5]]
+}
+
+/// The same hash state once more, which takes no memory.
+fn copy_of(hasher: &Sha256) -> Sha256
+    ensures { result ≡ hasher.now }
+{
+    match hasher.clone() {
+        Ok(copy) => copy,
+        Err(_) => unreachable!(),
+    }
+}
+
+/// The key with zeros after it, up to a block.
+fn padded_block(key: &[u8]) -> [u8; 64]
+    requires { length key.now ≤ 64 }
+    ensures { result ≡ padded key.now }
+{
+    let mut block = [0u8; BLOCK_LEN];
+    block[..key.len()].copy_from_slice(key);
+    block
+}
+
+/// Each byte of a block exclusive or the mask.
+fn masked_block(block: &[u8; 64], mask: u8) -> [u8; 64]
+    ensures { result ≡ masked mask block.now }
+{
+    let mut masked = *block;
+    for byte in masked.iter_mut() {
+        *byte ^= mask;
+    }
+    masked
+}

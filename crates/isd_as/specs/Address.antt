@@ -1,0 +1,73 @@
+-- Addresses of autonomous systems as text (draft-dekater-scion-controlplane, the text form of ISD-AS numbers).
+-- The relations say which texts stand for a number: leading zeros and letters of either case are fine.
+-- `canonical` is the one text of them that is printed.
+use Rattle.std.specs.Prelude.{◌≡◌, ℕ, ◌+◌, ◌*◌, ◌/◌, ◌%◌, ◌^◌, ◌<◌, ◌≤◌, ◌⊎◌, false, nat_lt, if◌then◌else◌, List, ◌∷◌, ◌++◌, length}
+use Rattle.std.specs.Fmt.{decimal, digits}
+use Rattle.std.specs.Str.Parse.{IsNumeral, digits_value}
+
+-- the sign between the ISD and the AS number, '-'
+abbrev pub dash : ℕ
+dash = 45
+
+-- the sign between the groups of an AS number, ':'
+abbrev pub colon : ℕ
+colon = 58
+
+-- the text is one or more digits of the radix, and the number is theirs
+pub record Writes (radix : ℕ) (text : List ℕ) (n : ℕ) : Type 0 where
+  pub numeral : IsNumeral radix text
+  pub value : digits_value radix text ≡ n
+
+-- the text is 1 to 4 hexadecimal digits, and the number is theirs
+pub record WritesGroup (text : List ℕ) (n : ℕ) : Type 0 where
+  pub written : Writes 16 text n
+  pub short : length text ≤ 4
+
+-- the text is three groups joined by ':', and the number has 16 bits from each, the highest first
+pub record SpellsGroups (text : List ℕ) (n : ℕ) : Type 0 where
+  pub high : ℕ
+  pub middle : ℕ
+  pub low : ℕ
+  pub first : List ℕ
+  pub second : List ℕ
+  pub third : List ℕ
+  pub parts : text ≡ first ++ (colon ∷ (second ++ (colon ∷ third)))
+  pub of : n ≡ high * 2 ^ 32 + middle * 2 ^ 16 + low
+  pub high_written : WritesGroup first high
+  pub middle_written : WritesGroup second middle
+  pub low_written : WritesGroup third low
+
+-- the text of an ISD: a decimal number of 16 bits
+pub record SpellsIsd (text : List ℕ) (n : ℕ) : Type 0 where
+  pub written : Writes 10 text n
+  pub small : n < 2 ^ 16
+
+-- a decimal number of 32 bits
+pub record SpellsDecimal (text : List ℕ) (n : ℕ) : Type 0 where
+  pub written : Writes 10 text n
+  pub small : n < 2 ^ 32
+
+-- the text of an AS number: a decimal number of 32 bits, or three groups
+abbrev pub SpellsAs : List ℕ → ℕ → Type 0
+SpellsAs text n = SpellsDecimal text n ⊎ SpellsGroups text n
+
+-- the text of an address: an ISD, '-' and an AS number, the high 16 and the low 48 bits of the address
+pub record Spells (text : List ℕ) (address : ℕ) : Type 0 where
+  pub isd : ℕ
+  pub as_number : ℕ
+  pub front : List ℕ
+  pub back : List ℕ
+  pub parts : text ≡ front ++ (dash ∷ back)
+  pub of : address ≡ isd * 2 ^ 48 + as_number
+  pub isd_spelled : SpellsIsd front isd
+  pub as_spelled : SpellsAs back as_number
+
+-- how an AS number is printed: in decimal up to 4294967295, and above in three groups
+-- of lower-case hexadecimal digits without leading zeros
+abbrev pub canonical_as : ℕ → List ℕ
+canonical_as n = if nat_lt n (2 ^ 32) then decimal n
+    else digits 16 false (n / 2 ^ 32) ++ (colon ∷ (digits 16 false (n / 2 ^ 16 % 2 ^ 16) ++ (colon ∷ digits 16 false (n % 2 ^ 16))))
+
+-- how an address is printed: its ISD in decimal, '-' and its AS number
+abbrev pub canonical : ℕ → List ℕ
+canonical address = decimal (address / 2 ^ 48) ++ (dash ∷ canonical_as (address % 2 ^ 48))

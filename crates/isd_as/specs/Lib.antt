@@ -1,0 +1,3 @@
+pub mod Fault
+pub mod Address
+pub mod Reading

@@ -1,0 +1,72 @@
+-- What reading an address answers: its number, or the first refusal in this order.
+-- Without a '-' it is NoDash. Then the ISD: BadDigit before IsdRange. Then the AS number: without a ':'
+-- BadDigit before AsRange, and with one BadGroups before BadDigit.
+use Rattle.std.specs.Prelude.{◌≡◌, ℕ, ◌+◌, ◌*◌, ◌^◌, Bool, ◌&&◌, nat_lt, ◌==◌, if◌then◌else◌, List, length, Result, Ok, Err}
+use Rattle.std.specs.Char.{digit_value}
+use Rattle.std.specs.List.{position_or_len, before_first, after_first, list_all, list_any}
+use Rattle.std.specs.Borrow.{Bor}
+use Rattle.std.specs.Str.{chars}
+use Rattle.std.specs.Str.Parse.{digits_value}
+use Rattle.isd_as.specs.declared.fault.AddrFault.{AddrFault}
+use Rattle.isd_as.specs.declared.fault.AddrFault.TheVariants as fault
+use Rattle.isd_as.specs.Address.{dash, colon}
+
+-- one step after another, up to the first refusal
+infixl 10 ◌>>=◌
+abbrev pub ◌>>=◌ : {A B : Type 0} → Result A AddrFault → (A → Result B AddrFault) → Result B AddrFault
+(Ok x) >>= f = f x
+(Err e) >>= f = Err e
+
+-- the text before and the text after the first such sign, or the refusal where there is none
+abbrev pub cut_at : ℕ → AddrFault → List ℕ → Result (List ℕ × List ℕ) AddrFault
+cut_at sign missing text = if nat_lt (position_or_len (λ b. b == sign) text) (length text)
+    then Ok (before_first (λ b. b == sign) text, after_first (λ b. b == sign) text)
+    else Err missing
+
+-- what a function of the code returned are the two parts, or the refusal
+abbrev pub GivesParts : Result (Bor (List ℕ) × Bor (List ℕ)) AddrFault → Result (List ℕ × List ℕ) AddrFault → Type 0
+GivesParts (Ok x) read = read ≡ Ok (x.0.now, x.1.now)
+GivesParts (Err e) read = read ≡ Err e
+
+-- whether each byte is a digit of the radix
+abbrev pub all_digits : ℕ → List ℕ → Bool
+all_digits radix text = list_all (λ b. nat_lt (digit_value b) radix) text
+
+-- the number of a text of digits: BadDigit comes before the refusal of one that is not below the limit
+unfoldable pub number_at : ℕ → ℕ → AddrFault → List ℕ → Result ℕ AddrFault
+number_at radix limit too_large text = if nat_lt 0 (length text) && all_digits radix text
+    then (if nat_lt (digits_value radix text) limit then Ok (digits_value radix text) else Err too_large)
+    else Err fault.BadDigit
+
+-- the number of an ISD
+unfoldable pub isd_at : List ℕ → Result ℕ AddrFault
+isd_at text = number_at 10 (2 ^ 16) fault.IsdRange text
+
+-- whether the text has 1 to 4 characters
+abbrev pub is_group : List ℕ → Bool
+is_group text = nat_lt 0 (length (chars text)) && nat_lt (length (chars text)) 5
+
+-- the number of three groups: how many they are and their lengths come before their digits, which then always fit
+unfoldable pub groups_at : List ℕ → Result ℕ AddrFault
+groups_at text = do
+  first ← cut_at colon fault.BadGroups text
+  second ← cut_at colon fault.BadGroups first.1
+  if list_any (λ b. b == colon) second.1 then Err fault.BadGroups else (
+      if is_group first.0 && is_group second.0 && is_group second.1 then (do
+        high ← number_at 16 (2 ^ 16) fault.BadGroups first.0
+        middle ← number_at 16 (2 ^ 16) fault.BadGroups second.0
+        low ← number_at 16 (2 ^ 16) fault.BadGroups second.1
+        Ok (high * 2 ^ 32 + middle * 2 ^ 16 + low))
+      else Err fault.BadGroups)
+
+-- the number of an AS
+unfoldable pub as_number_at : List ℕ → Result ℕ AddrFault
+as_number_at text = if list_any (λ b. b == colon) text then groups_at text else number_at 10 (2 ^ 32) fault.AsRange text
+
+-- the number of an address
+unfoldable pub address_at : List ℕ → Result ℕ AddrFault
+address_at text = do
+  parts ← cut_at dash fault.NoDash text
+  isd ← isd_at parts.0
+  as_number ← as_number_at parts.1
+  Ok (isd * 2 ^ 48 + as_number)

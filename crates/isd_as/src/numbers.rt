@@ -1,0 +1,110 @@
+ghost use Rattle.std.specs.Prelude.{◌≡◌, ℕ, ◌^◌, ◌<◌, ◌↔◌, IsTrue, IsSome, IfSome};
+
+use std::marker::Model;
+
+/// The number of an isolation domain (ISD), 16 bits. 0 is the wildcard.
+#[derive(Clone, Copy, Debug, PartialEq, Eq, PartialOrd, Ord, Hash)]
+pub struct Isd(pub u16);
+
+impl Model for Isd {
+    ghost Value = { ℕ };
+
+    ghost view = { λ isd. isd.0 };
+
+    ghost inverse = { λ n. record { 0 = n } };
+}
+
+impl Isd {
+    /// The wildcard, which stands for any ISD.
+    pub const WILDCARD: Isd = Isd(0);
+
+    /// The number of this ISD.
+    pub fn number(self) -> u16
+        ensures { result ≡ self }
+    {
+        self.0
+    }
+
+    /// Whether this is the wildcard, the number 0.
+    pub fn is_wildcard(self) -> bool
+        ensures { IsTrue result ↔ (self ≡ 0) }
+    {
+        self.0 == 0
+    }
+}
+
+/// The number of an autonomous system (AS), below 2^48. 0 is the wildcard.
+#[derive(Clone, Copy, Debug, PartialEq, Eq, PartialOrd, Ord, Hash)]
+pub struct AsNumber {
+    number: u64,
+}
+
+impl Model for AsNumber {
+    ghost Value = { ℕ };
+
+    ghost view = { λ a. a.number };
+
+    ghost invariant = { λ a. a.number < 2 ^ 48 };
+
+    ghost inverse = { λ n. record { number = n } };
+}
+
+impl AsNumber {
+    /// The AS of this number, where it has at most 48 bits.
+    pub fn new(number: u64) -> Option<AsNumber>
+        ensures fits { IsSome result ↔ (number < 2 ^ 48) }
+        ensures value { IfSome result (λ a. a ≡ number) }
+    {
+        if number < 1 << 48 {
+            Some(AsNumber { number })
+        } else {
+            None
+        }
+    }
+
+    /// The number of this AS.
+    pub fn number(self) -> u64
+        ensures value { result ≡ self }
+        ensures bound { result < 2 ^ 48 }
+    {
+        self.number
+    }
+
+    /// Whether this is the wildcard, the number 0.
+    pub fn is_wildcard(self) -> bool
+        ensures { IsTrue result ↔ (self ≡ 0) }
+    {
+        self.number == 0
+    }
+}
+
+/// The number of an interface of an AS, 16 bits. 0 stands for no interface.
+#[derive(Clone, Copy, Debug, PartialEq, Eq, PartialOrd, Ord, Hash)]
+pub struct IfId(pub u16);
+
+impl Model for IfId {
+    ghost Value = { ℕ };
+
+    ghost view = { λ interface. interface.0 };
+
+    ghost inverse = { λ n. record { 0 = n } };
+}
+
+impl IfId {
+    /// The number that stands where there is no interface.
+    pub const NONE: IfId = IfId(0);
+
+    /// The number of this interface.
+    pub fn number(self) -> u16
+        ensures { result ≡ self }
+    {
+        self.0
+    }
+
+    /// Whether this stands for no interface, the number 0.
+    pub fn is_none(self) -> bool
+        ensures { IsTrue result ↔ (self ≡ 0) }
+    {
+        self.0 == 0
+    }
+}
