@@ -1,0 +1,10 @@
+pub mod FieldLoop
+pub mod Answered
+pub mod OneField
+pub mod ManyFields
+pub mod MetaField
+pub mod WholeHeader
+pub mod Room
+pub mod Encoded
+pub mod TurnedTwice
+pub mod SameHeader

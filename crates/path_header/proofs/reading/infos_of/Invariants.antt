@@ -1,0 +1,10 @@
+use Rattle.std.proofs.Common.{◌≡◌, ◌-◌, ◌*◌, drop, length}
+use Rattle.path_header.specs.Reading.{info_at, fields_at}
+use Rattle.path_header.proofs.FieldLoop.{with_front}
+use Rattle.path_header.proofs.reading.infos_of.Given as goal
+
+abbrev pub invariant-loop-i : goal.invariant-loop-i
+invariant-loop-i l = record {
+  read : with_front l.infos.items (fields_at info_at 8 (l.count - l.i) (drop (8 * l.i) l.bytes)) ≡ fields_at info_at 8 l.count l.bytes;
+  len : length l.infos.items ≡ l.i;
+}

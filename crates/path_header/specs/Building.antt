@@ -1,0 +1,42 @@
+-- Building a path header from its fields, with the first refusal that is met: the lengths of
+-- draft-dekater-scion-dataplane, the SCION path type.
+use Rattle.std.specs.Prelude.{List, length, Bool, ◌==◌, ◌&&◌, ◌||◌, nat_lt, if◌then◌else◌, Result, Ok, Err}
+use Rattle.path_header.specs.declared.fault.HeaderFault.{HeaderFault}
+use Rattle.path_header.specs.declared.fault.HeaderFault.TheVariants as faults
+use Rattle.path_header.specs.declared.lens.SegLens.{SegLens}
+use Rattle.path_header.specs.declared.fields.InfoField.{InfoField}
+use Rattle.path_header.specs.declared.fields.HopField.{HopField}
+use Rattle.path_header.specs.Value.{HeaderValue, info_count, hop_count}
+
+-- what follows an answer, unless that is a refusal
+infixl 10 ◌>>=◌
+abbrev pub ◌>>=◌ : {A B : Type 0} → Result A HeaderFault → (A → Result B HeaderFault) → Result B HeaderFault
+(Ok x) >>= f = f x
+(Err e) >>= f = Err e
+
+-- the first segment is empty, or a segment follows an empty one
+abbrev pub has_gap : SegLens → Bool
+has_gap l = (l.first == 0) || ((l.second == 0) && nat_lt 0 l.third)
+
+-- a length has more than six bits
+abbrev pub is_wide : SegLens → Bool
+is_wide l = nat_lt 63 l.first || (nat_lt 63 l.second || nat_lt 63 l.third)
+
+-- the lengths, if they are those of a path
+abbrev pub checked_lens : SegLens → Result SegLens HeaderFault
+checked_lens l =
+    if has_gap l || is_wide l then Err faults.SegLens
+    else if nat_lt 64 (hop_count l) then Err faults.TooManyHops
+    else Ok l
+
+-- these lengths and fields, the packet standing at the first ones
+abbrev pub first_header : SegLens → List InfoField → List HopField → HeaderValue
+first_header l infos hops = record { curr_inf = 0; curr_hf = 0; lens = l; infos = infos; hops = hops }
+
+-- the header of these lengths and fields, if they are one
+abbrev pub new_header : SegLens → List InfoField → List HopField → Result HeaderValue HeaderFault
+new_header l infos hops = do
+  lens ← checked_lens l
+  if (length infos == info_count lens) && (length hops == hop_count lens)
+      then Ok (first_header lens infos hops)
+      else Err faults.Short

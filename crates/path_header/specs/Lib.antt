@@ -1,0 +1,6 @@
+pub mod Fault
+pub mod Value
+pub mod Building
+pub mod Spelling
+pub mod Reading
+pub mod Reversal

@@ -1,0 +1,69 @@
+ghost use Rattle.std.specs.Prelude.{◌≡◌};
+ghost use Rattle.path_header.specs.Fault.{code_of, name_of};
+
+use thiserror::Error;
+
+/// Why bytes or fields are no path header, or why a header could not be written.
+///
+/// Each call that refuses says in which order it looks for these causes.
+#[derive(Clone, Copy, Debug, PartialEq, Eq, Error)]
+pub enum HeaderFault {
+    /// The bytes end before the header does, or the fields given are not as many as the lengths say.
+    #[error("the header is cut off")]
+    Short,
+    /// A bit that has no meaning is set.
+    #[error("a reserved bit is set")]
+    Reserved,
+    /// An info field has the flag P, of a peering link, which this network does not have.
+    #[error("an info field has the peering flag")]
+    PeerFlag,
+    /// A hop field has a router alert flag, I or E, which this network does not have.
+    #[error("a hop field has a router alert flag")]
+    AlertFlag,
+    /// The first segment is empty, a segment follows an empty one, or a length has over six bits.
+    #[error("the segment lengths are not those of a path")]
+    SegLens,
+    /// The segments have more than 64 hop fields together.
+    #[error("a path has at most 64 hop fields")]
+    TooManyHops,
+    /// The current info field or the current hop field is none of the header's.
+    #[error("an index points behind the last field")]
+    BadIndex,
+    /// The header is longer than the room that it was to be written into.
+    #[error("the room is shorter than the header")]
+    RoomTooSmall,
+}
+
+impl HeaderFault {
+    /// The number by which lines of text report this refusal.
+    pub fn code(self) -> u16
+        ensures { result ≡ code_of self }
+    {
+        match self {
+            HeaderFault::Short => 20,
+            HeaderFault::Reserved => 21,
+            HeaderFault::PeerFlag => 22,
+            HeaderFault::AlertFlag => 23,
+            HeaderFault::SegLens => 24,
+            HeaderFault::TooManyHops => 25,
+            HeaderFault::BadIndex => 26,
+            HeaderFault::RoomTooSmall => 27,
+        }
+    }
+
+    /// The name by which lines of text report this refusal.
+    pub fn name(self) -> &'static str
+        ensures { result.now ≡ name_of self }
+    {
+        match self {
+            HeaderFault::Short => "Short",
+            HeaderFault::Reserved => "Reserved",
+            HeaderFault::PeerFlag => "PeerFlag",
+            HeaderFault::AlertFlag => "AlertFlag",
+            HeaderFault::SegLens => "SegLens",
+            HeaderFault::TooManyHops => "TooManyHops",
+            HeaderFault::BadIndex => "BadIndex",
+            HeaderFault::RoomTooSmall => "RoomTooSmall",
+        }
+    }
+}

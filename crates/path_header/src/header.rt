@@ -1,0 +1,216 @@
+ghost use Rattle.std.specs.Prelude.{◌≡◌, ℕ, ◌<◌, ◌≤◌, ◌↔◌, IsTrue, length, slice_get, slice_set, Some, Ok, IfOk};
+ghost use Rattle.path_header.specs.Value.{IsHeader, IsInSegment, header_len, lens_from, segment_at};
+ghost use Rattle.path_header.specs.Building.{first_header, new_header};
+
+use crate::fault::HeaderFault;
+use crate::fields::{HopField, InfoField};
+use crate::lens::SegLens;
+use arrayvec::ArrayVec;
+use std::marker::Model;
+
+/// A path header: the fields of one to three segments, and where on the path the packet stands.
+///
+/// Its type keeps that the fields are as many as the segment lengths say and that the packet stands
+/// at one of them.
+#[derive(Clone, Debug, Drop, PartialEq, Eq)]
+pub struct Header {
+    pub(crate) curr_inf: u8,
+    pub(crate) curr_hf: u8,
+    pub(crate) lens: SegLens,
+    pub(crate) infos: ArrayVec<InfoField, 3>,
+    pub(crate) hops: ArrayVec<HopField, 64>,
+}
+
+impl Model for Header {
+    ghost use Rattle.path_header.specs.Value.{HeaderValue, IsHeader};
+
+    ghost Value = { HeaderValue };
+
+    ghost view = { λ a. record { curr_inf = a.curr_inf; curr_hf = a.curr_hf; lens = a.lens; infos = a.infos.items; hops = a.hops.items } };
+
+    ghost invariant = { λ a. IsHeader (record { curr_inf = a.curr_inf; curr_hf = a.curr_hf; lens = a.lens; infos = a.infos.items; hops = a.hops.items }) };
+
+    ghost inverse = { λ v. record { curr_inf = v.curr_inf; curr_hf = v.curr_hf; lens = v.lens; infos = record { items = v.infos }; hops = record { items = v.hops } } };
+}
+
+impl Header {
+    /// The header of segments of these lengths and of these fields, at its first info and hop field.
+    ///
+    /// The first of these that holds is the refusal: [`HeaderFault::SegLens`] where the first length
+    /// is 0, a length behind a 0 is not, or a length is above 63; [`HeaderFault::TooManyHops`] where
+    /// their sum is above 64; [`HeaderFault::Short`] where there are not as many info fields as
+    /// lengths that are not 0, or not as many hop fields as their sum.
+    pub fn new(lens: [u8; 3], infos: &[InfoField], hops: &[HopField]) -> Result<Header, HeaderFault>
+        // What is built has these lengths and fields.
+        ensures found { IfOk result (λ h. h ≡ first_header (lens_from lens) infos.now hops.now) }
+        // Where these lengths and fields are a header, it is built.
+        ensures only { let header = first_header (lens_from lens) infos.now hops.now in IsHeader header → result ≡ Ok header }
+        // Which refusal it is.
+        ensures exact { result ≡ new_header (lens_from lens) infos.now hops.now }
+    {
+        let [first, second, third] = lens;
+        Header::build(
+            SegLens {
+                first,
+                second,
+                third,
+            },
+            infos,
+            hops,
+        )
+    }
+
+    /// The header of these lengths and fields, at its first info and hop field.
+    fn build(lens: SegLens, infos: &[InfoField], hops: &[HopField]) -> Result<Header, HeaderFault>
+        ensures { result ≡ new_header lens infos.now hops.now }
+    {
+        let lens = lens.checked()?;
+        if infos.len() != lens.info_count() || hops.len() != lens.hop_count() {
+            return Err(HeaderFault::Short);
+        }
+        let Ok(infos) = ArrayVec::try_from(infos) else {
+            return Err(HeaderFault::Short);
+        };
+        let Ok(hops) = ArrayVec::try_from(hops) else {
+            return Err(HeaderFault::Short);
+        };
+        Ok(Header {
+            curr_inf: 0,
+            curr_hf: 0,
+            lens,
+            infos,
+            hops,
+        })
+    }
+
+    /// The index of the current info field.
+    pub fn curr_inf(&self) -> usize
+        ensures value { result ≡ self.now.curr_inf }
+        ensures below { result < length self.now.infos }
+        ensures bound { result < 3 }
+    {
+        usize::from(self.curr_inf)
+    }
+
+    /// The index of the current hop field.
+    pub fn curr_hf(&self) -> usize
+        ensures value { result ≡ self.now.curr_hf }
+        ensures below { result < length self.now.hops }
+        ensures bound { result < 64 }
+    {
+        usize::from(self.curr_hf)
+    }
+
+    /// The number of hop fields of each segment.
+    pub fn seg_lens(&self) -> SegLens
+        ensures { result ≡ self.now.lens }
+    {
+        self.lens
+    }
+
+    /// The number of info fields, 1 to 3.
+    pub fn info_count(&self) -> usize
+        ensures value { result ≡ length self.now.infos }
+        ensures some { 0 < result }
+        ensures bound { result ≤ 3 }
+    {
+        self.infos.len()
+    }
+
+    /// The number of hop fields, 1 to 64.
+    pub fn hop_count(&self) -> usize
+        ensures value { result ≡ length self.now.hops }
+        ensures some { 0 < result }
+        ensures bound { result ≤ 64 }
+    {
+        self.hops.len()
+    }
+
+    /// The info field of this index.
+    pub fn info(&self, index: usize) -> InfoField
+        requires { index < length self.now.infos }
+        ensures { slice_get self.now.infos index ≡ Some result }
+    {
+        self.infos[index]
+    }
+
+    /// The hop field of this index.
+    pub fn hop(&self, index: usize) -> HopField
+        requires { index < length self.now.hops }
+        ensures { slice_get self.now.hops index ≡ Some result }
+    {
+        self.hops[index]
+    }
+
+    /// The info field at which the packet stands.
+    pub fn current_info(&self) -> InfoField
+        ensures { slice_get self.now.infos self.now.curr_inf ≡ Some result }
+    {
+        self.infos[usize::from(self.curr_inf)]
+    }
+
+    /// The hop field at which the packet stands.
+    pub fn current_hop(&self) -> HopField
+        ensures { slice_get self.now.hops self.now.curr_hf ≡ Some result }
+    {
+        self.hops[usize::from(self.curr_hf)]
+    }
+
+    /// The index of the info field of the segment in which this hop field stands.
+    pub fn segment_of(&self, hop: usize) -> usize
+        requires { hop < length self.now.hops }
+        ensures value { result ≡ segment_at self.now.lens hop }
+        ensures segment { IsInSegment self.now.lens hop result }
+        ensures below { result < length self.now.infos }
+    {
+        let first = usize::from(self.lens.first);
+        if hop < first {
+            0
+        } else if hop < first + usize::from(self.lens.second) {
+            1
+        } else {
+            2
+        }
+    }
+
+    /// The length of this header in bytes, 4 + 8 for each info field + 12 for each hop field.
+    pub fn encoded_len(&self) -> usize
+        ensures value { result ≡ header_len self.now }
+        ensures bound { result ≤ 796 }
+    {
+        self.lens.encoded_len()
+    }
+
+    /// Sets the accumulator of this info field, and nothing else.
+    pub fn set_seg_id(&mut self, info: usize, seg_id: u16)
+        requires { info < length self.old.infos }
+        ensures { (x : InfoField) → slice_get self.old.infos info ≡ Some x → self.new ≡ record self.old { infos = slice_set self.old.infos info (record x { seg_id = seg_id }) } }
+    {
+        self.infos[info].seg_id = seg_id;
+    }
+
+    /// Sets the current info field and the current hop field, and nothing else.
+    pub fn set_indices(&mut self, info: usize, hop: usize)
+        requires info_below { info < length self.old.infos }
+        requires hop_below { hop < length self.old.hops }
+        ensures { self.new ≡ record self.old { curr_inf = info; curr_hf = hop } }
+    {
+        let _ = &self.lens;
+        self.curr_inf = info as u8;
+        self.curr_hf = hop as u8;
+    }
+
+    /// Whether both are one header: the same indices, lengths and fields. It is what `==` answers.
+    pub fn is_same(&self, other: &Header) -> bool
+        ensures { IsTrue result ↔ (self.now ≡ other.now) }
+    {
+        self == other
+    }
+
+    /// Does nothing, and tells its caller that this is a header of the grammar.
+    pub fn known(&self)
+        ensures { IsHeader self.now }
+    {
+        let _ = &self.lens;
+    }
+}

@@ -1,0 +1,85 @@
+ghost use Rattle.std.specs.Prelude.{◌≡◌, ◌≤◌, ◌<◌, OnOk};
+ghost use Rattle.path_header.specs.Value.{info_count, hop_count, len_for, AreLens};
+ghost use Rattle.path_header.specs.Building.{checked_lens};
+ghost use Rattle.path_header.specs.Reversal.{reversed_lens};
+
+use crate::fault::HeaderFault;
+
+/// How many hop fields each of the up to three segments of a path has; 0 is no segment.
+#[derive(Clone, Copy, Debug, PartialEq, Eq)]
+pub struct SegLens {
+    /// The number of hop fields of the first segment.
+    pub first: u8,
+    /// The number of hop fields of the second segment.
+    pub second: u8,
+    /// The number of hop fields of the third segment.
+    pub third: u8,
+}
+
+impl SegLens {
+    /// The number of segments, which is that of the info fields: of the lengths that are not 0.
+    pub fn info_count(self) -> usize
+        ensures value { result ≡ info_count self }
+        ensures bound { result ≤ 3 }
+    {
+        usize::from(self.first.min(1))
+            + usize::from(self.second.min(1))
+            + usize::from(self.third.min(1))
+    }
+
+    /// The number of hop fields, the sum of the lengths.
+    pub fn hop_count(self) -> usize
+        ensures value { result ≡ hop_count self }
+        ensures bound { result < 766 }
+    {
+        usize::from(self.first) + usize::from(self.second) + usize::from(self.third)
+    }
+
+    /// The length in bytes of a header of such segments: 4, 8 for each info field and 12 for each
+    /// hop field.
+    pub(crate) fn encoded_len(self) -> usize
+        ensures { result ≡ len_for self }
+    {
+        4 + 8 * self.info_count() + 12 * self.hop_count()
+    }
+
+    /// These lengths, where a path header may have them.
+    pub(crate) fn checked(self) -> Result<SegLens, HeaderFault>
+        ensures exact { result ≡ checked_lens self }
+        ensures valid { OnOk result (AreLens self) }
+    {
+        let has_gap = self.first == 0 || (self.second == 0 && self.third > 0);
+        if has_gap || self.first > 63 || self.second > 63 || self.third > 63 {
+            return Err(HeaderFault::SegLens);
+        }
+        if self.hop_count() > 64 {
+            return Err(HeaderFault::TooManyHops);
+        }
+        Ok(self)
+    }
+
+    /// The lengths of the same segments, the last one first.
+    pub(crate) fn reversed(self) -> SegLens
+        requires { AreLens self }
+        ensures value { result ≡ reversed_lens self }
+        ensures valid { AreLens result }
+        ensures infos { info_count result ≡ info_count self }
+        ensures hops { hop_count result ≡ hop_count self }
+    {
+        if self.second == 0 {
+            self
+        } else if self.third == 0 {
+            SegLens {
+                first: self.second,
+                second: self.first,
+                third: 0,
+            }
+        } else {
+            SegLens {
+                first: self.third,
+                second: self.second,
+                third: self.first,
+            }
+        }
+    }
+}

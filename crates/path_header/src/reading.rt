@@ -1,0 +1,190 @@
+ghost use Rattle.std.specs.Prelude.{◌≡◌, ℕ, ◌+◌, ◌*◌, ◌<◌, ◌≤◌, nat_lt, List, ◌++◌, length, take, drop, Result, Ok, Err, IfOk, MatchResult};
+ghost use Rattle.path_header.specs.Value.{HeaderValue, AreLens, header_len, len_for};
+ghost use Rattle.path_header.specs.Spelling.{Spells};
+ghost use Rattle.path_header.specs.Reading.{word_at, reserved_bits, meta_from, meta_at, info_at, hop_at, fields_at, header_at, read_at};
+
+use crate::fault::HeaderFault;
+use crate::fields::{HopField, InfoField};
+use crate::header::Header;
+use crate::lens::SegLens;
+use crate::meta::Meta;
+use arrayvec::ArrayVec;
+use isd_as::IfId;
+
+/// The path header at the front of these bytes, and its length in bytes.
+///
+/// Bytes after the header play no part. The first of these that holds is the refusal:
+/// [`HeaderFault::Short`] where there are fewer than 4 bytes; [`HeaderFault::Reserved`] where a
+/// reserved bit of the meta field is set; [`HeaderFault::SegLens`] where the first length is 0 or a
+/// length behind a 0 is not; [`HeaderFault::TooManyHops`] where their sum is above 64; `Short` where
+/// there are fewer bytes than the fields need; for each info field in order
+/// [`HeaderFault::PeerFlag`] where its flag P is set, and `Reserved`; for each hop field in order
+/// [`HeaderFault::AlertFlag`] where its flag I or E is set, and `Reserved`;
+/// [`HeaderFault::BadIndex`] where the current info or hop field is none of the header's.
+pub fn decode(bytes: &[u8]) -> Result<(Header, usize), HeaderFault>
+    // What is read is spelled by the bytes in front, as many as are reported.
+    ensures found { IfOk result (λ r. (r.1 ≤ length bytes.now) × Spells (take r.1 bytes.now) r.0) }
+    ensures len { IfOk result (λ r. r.1 ≡ header_len r.0) }
+    // What the bytes in front spell is read, whatever follows.
+    ensures only { (v : HeaderValue) (text rest : List ℕ) → Spells text v → bytes.now ≡ text ++ rest → result ≡ Ok (v, header_len v) }
+    // Which refusal it is.
+    ensures exact { result ≡ read_at bytes.now }
+{
+    read(bytes)
+}
+
+/// The number of the first four bytes.
+fn word_of(bytes: &[u8]) -> u32
+    requires { 4 ≤ length bytes.now }
+    ensures { result ≡ word_at bytes.now }
+{
+    u32::from_be_bytes([bytes[0], bytes[1], bytes[2], bytes[3]])
+}
+
+/// Whether one of the six bits of the meta field is set that have no meaning.
+fn has_reserved(word: u32) -> bool
+    ensures { result ≡ nat_lt 0 (reserved_bits word) }
+{
+    (word >> 18) % 64 > 0
+}
+
+/// What the meta field says as a number.
+fn meta_in(word: u32) -> Meta
+    ensures { result ≡ meta_from word }
+{
+    Meta {
+        curr_inf: (word >> 30) as u8,
+        curr_hf: ((word >> 24) % 64) as u8,
+        lens: SegLens {
+            first: ((word >> 12) % 64) as u8,
+            second: ((word >> 6) % 64) as u8,
+            third: (word % 64) as u8,
+        },
+    }
+}
+
+/// The meta field, where the bytes are long enough for the header that it begins.
+#[tactic(auto, unfolding(crate::specs::Reading::meta_at))]
+fn meta_of(bytes: &[u8]) -> Result<Meta, HeaderFault>
+    ensures exact { result ≡ meta_at bytes.now }
+    ensures lens { IfOk result (λ m. AreLens m.lens) }
+    ensures long { IfOk result (λ m. len_for m.lens ≤ length bytes.now) }
+{
+    if bytes.len() < 4 {
+        return Err(HeaderFault::Short);
+    }
+    let word = word_of(bytes);
+    if has_reserved(word) {
+        return Err(HeaderFault::Reserved);
+    }
+    let meta = meta_in(word);
+    let lens = meta.lens.checked()?;
+    if bytes.len() < lens.encoded_len() {
+        return Err(HeaderFault::Short);
+    }
+    Ok(meta)
+}
+
+/// The info field at the front.
+#[tactic(auto, unfolding(crate::specs::Reading::info_at))]
+fn info_of(bytes: &[u8]) -> Result<InfoField, HeaderFault>
+    requires { 8 ≤ length bytes.now }
+    ensures { result ≡ info_at bytes.now }
+{
+    let flags = bytes[0];
+    if flags & 2 > 0 {
+        return Err(HeaderFault::PeerFlag);
+    }
+    if flags > 1 || bytes[1] > 0 {
+        return Err(HeaderFault::Reserved);
+    }
+    Ok(InfoField {
+        construction: flags == 1,
+        seg_id: u16::from_be_bytes([bytes[2], bytes[3]]),
+        timestamp: u32::from_be_bytes([bytes[4], bytes[5], bytes[6], bytes[7]]),
+    })
+}
+
+/// The hop field at the front.
+#[tactic(auto, unfolding(crate::specs::Reading::hop_at))]
+fn hop_of(bytes: &[u8]) -> Result<HopField, HeaderFault>
+    requires { 12 ≤ length bytes.now }
+    ensures { result ≡ hop_at bytes.now }
+{
+    let flags = bytes[0];
+    if flags & 3 > 0 {
+        return Err(HeaderFault::AlertFlag);
+    }
+    if flags > 0 {
+        return Err(HeaderFault::Reserved);
+    }
+    Ok(HopField {
+        exp_time: bytes[1],
+        cons_ingress: IfId(u16::from_be_bytes([bytes[2], bytes[3]])),
+        cons_egress: IfId(u16::from_be_bytes([bytes[4], bytes[5]])),
+        mac: [bytes[6], bytes[7], bytes[8], bytes[9], bytes[10], bytes[11]],
+    })
+}
+
+/// So many info fields, one after the other.
+fn infos_of(bytes: &[u8], count: usize) -> Result<ArrayVec<InfoField, 3>, HeaderFault>
+    requires few { count ≤ 3 }
+    requires long { 8 * count ≤ length bytes.now }
+    ensures len { IfOk result (λ v. length v.items ≡ count) }
+    ensures read { let read = fields_at info_at 8 count bytes.now in MatchResult result (λ v. read ≡ Ok v.items) (λ e. read ≡ Err e) }
+{
+    let mut infos = ArrayVec::new();
+    for i in 0..count {
+        let (_, rest) = bytes.split_at(8 * i);
+        infos.push(info_of(rest)?);
+    }
+    Ok(infos)
+}
+
+/// So many hop fields, one after the other.
+fn hops_of(bytes: &[u8], count: usize) -> Result<ArrayVec<HopField, 64>, HeaderFault>
+    requires few { count ≤ 64 }
+    requires long { 12 * count ≤ length bytes.now }
+    ensures len { IfOk result (λ v. length v.items ≡ count) }
+    ensures read { let read = fields_at hop_at 12 count bytes.now in MatchResult result (λ v. read ≡ Ok v.items) (λ e. read ≡ Err e) }
+{
+    let mut hops = ArrayVec::new();
+    for i in 0..count {
+        let (_, rest) = bytes.split_at(12 * i);
+        hops.push(hop_of(rest)?);
+    }
+    Ok(hops)
+}
+
+/// The header at the front.
+#[tactic(auto, unfolding(crate::specs::Reading::header_at))]
+fn header_of(bytes: &[u8]) -> Result<Header, HeaderFault>
+    ensures { result ≡ header_at bytes.now }
+{
+    let meta = meta_of(bytes)?;
+    let info_count = meta.lens.info_count();
+    let hop_count = meta.lens.hop_count();
+    let (_, after_meta) = bytes.split_at(4);
+    let infos = infos_of(after_meta, info_count)?;
+    let (_, after_infos) = bytes.split_at(4 + 8 * info_count);
+    let hops = hops_of(after_infos, hop_count)?;
+    if usize::from(meta.curr_inf) >= info_count || usize::from(meta.curr_hf) >= hop_count {
+        return Err(HeaderFault::BadIndex);
+    }
+    Ok(Header {
+        curr_inf: meta.curr_inf,
+        curr_hf: meta.curr_hf,
+        lens: meta.lens,
+        infos,
+        hops,
+    })
+}
+
+/// The header at the front, and its length.
+fn read(bytes: &[u8]) -> Result<(Header, usize), HeaderFault>
+    ensures { result ≡ read_at bytes.now }
+{
+    let header = header_of(bytes)?;
+    let len = header.encoded_len();
+    Ok((header, len))
+}

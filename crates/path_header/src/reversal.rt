@@ -1,0 +1,29 @@
+ghost use Rattle.std.specs.Prelude.{◌≡◌, map};
+ghost use Rattle.path_header.specs.Reversal.{turned, reversed};
+
+use crate::fields::InfoField;
+use crate::header::Header;
+
+impl Header {
+    /// Makes this the header of the way back: the segments and all fields from the last to the
+    /// first, each segment travelled the other way, and the packet where it stood.
+    pub fn reverse(&mut self)
+        ensures { self.new ≡ reversed self.old }
+    {
+        self.curr_inf = self.infos.len() as u8 - 1 - self.curr_inf;
+        self.curr_hf = self.hops.len() as u8 - 1 - self.curr_hf;
+        self.lens = self.lens.reversed();
+        turn(&mut self.infos);
+        self.infos.reverse();
+        self.hops.reverse();
+    }
+}
+
+/// Marks each segment as travelled the other way.
+fn turn(infos: &mut [InfoField])
+    ensures { infos.new ≡ map turned infos.old }
+{
+    for info in infos.iter_mut() {
+        info.construction = !info.construction;
+    }
+}
