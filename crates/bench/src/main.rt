@@ -1,0 +1,90 @@
+//! Named pieces of work over fixed inputs, each done a number of times: `bench NAME COUNT`.
+//!
+//! It prints what it did, a count and a checksum, and never a time, so that it prints the same on
+//! every machine; take the time from outside.
+#![tactic(auto)]
+
+ghost use Rattle.std.specs.Prelude.{◌<◌};
+
+mod network;
+
+use anyhow::{Context, Result, anyhow};
+use isd_as::{AsNumber, IfId, Isd, IsdAs};
+use scion_topology::Topology;
+use std::alloc::Global;
+use std::env;
+
+/// The address of the AS of this number in the network that is measured.
+fn address(number: u32) -> IsdAs {
+    match AsNumber::new(u64::from(number)) {
+        Some(as_number) => IsdAs::new(Isd(1), as_number),
+        None => IsdAs::from_number(0),
+    }
+}
+
+/// The network with the most ASes and links that a topology takes.
+fn topology(alloc: Global) -> Result<Topology> {
+    let text = network::text(alloc)?;
+    Ok(Topology::from_json(alloc, text.as_bytes())?)
+}
+
+/// Reads the network's text so many times, and sums the places of an AS.
+fn read(alloc: Global, count: u32) -> Result<u64> {
+    let text = network::text(alloc)?;
+    let mut sum = 0u64;
+    for _ in 0..count {
+        let topology = Topology::from_json(alloc, text.as_bytes())?;
+        let info = topology.as_info(address(network::ASES))?;
+        sum = sum.wrapping_add(info.position as u64);
+    }
+    Ok(sum)
+}
+
+/// Asks for so many far ends, and sums the interfaces there.
+fn far_ends(alloc: Global, count: u32) -> Result<u64> {
+    let topology = topology(alloc)?;
+    let mut sum = 0u64;
+    for turn in 0..count {
+        let link = turn % network::LINKS;
+        let (_, number) = topology.far_end(
+            address(network::from(link)),
+            IfId(network::port(link)),
+        )?;
+        sum = sum.wrapping_add(u64::from(number.number()));
+    }
+    Ok(sum)
+}
+
+/// Makes so many views of routers, and counts those that have an interface.
+fn views(alloc: Global, count: u32) -> Result<u64> {
+    let topology = topology(alloc)?;
+    let mut sum = 0u64;
+    for turn in 0..count {
+        let link = turn % network::LINKS;
+        let view = topology.view(address(network::from(link)), 0)?;
+        if view.entry(IfId(network::port(link))).is_some() {
+            sum = sum.wrapping_add(1);
+        }
+    }
+    Ok(sum)
+}
+
+fn main(rt: HostRuntime) -> Result<()> {
+    let alloc = rt.alloc();
+    let mut words = env::args(&rt)?.skip(1);
+    let name = words
+        .next()
+        .context("give the name of the work: read, far-ends or views")?;
+    let times = words.next().context("give how many times it is done")?;
+    let count = times
+        .parse::<u32>()
+        .context("reading how many times it is done")?;
+    let sum = match name.as_str() {
+        "read" => read(alloc, count)?,
+        "far-ends" => far_ends(alloc, count)?,
+        "views" => views(alloc, count)?,
+        _ => return Err(anyhow!("the work is one of read, far-ends and views")),
+    };
+    println!(rt; "{} {count} {sum}", name.as_str())?;
+    Ok(())
+}

@@ -1,0 +1,11 @@
+pub mod Deciding
+pub mod RightViews
+pub mod AuthenticHops
+pub mod Front
+pub mod Sites
+pub mod Joints
+pub mod Seeing
+pub mod Marking
+pub mod Relinked
+pub mod Keyed
+pub mod Ends

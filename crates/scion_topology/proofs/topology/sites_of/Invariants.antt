@@ -1,0 +1,15 @@
+-- The sites of the ASes from this place on are there.
+use Rattle.std.proofs.Common.{◌≡◌, ℕ, ◌≤◌, drop, length, option_map}
+use Rattle.std.specs.Ordering.{nat_cmp}
+use Rattle.std.specs.BTreeMap.{get}
+use Rattle.scion_topology.specs.Index.{seen, site_from}
+use Rattle.scion_topology.proofs.topology.sites_of.Given as goal
+
+abbrev pub invariant-loop-place : goal.invariant-loop-place
+invariant-loop-place l = record {
+  within : l.place ≤ length l.ases;
+  sites : (ia : ℕ) → option_map seen (get nat_cmp l.sites ia) ≡ site_from l.place (drop l.place l.ases) l.links ia;
+}
+
+abbrev pub decreases-loop-place : goal.decreases-loop-place
+decreases-loop-place l = l.place

@@ -1,0 +1,9 @@
+pub mod Fault
+pub mod View
+pub mod Building
+pub mod Keys
+pub mod Network
+pub mod Causes
+pub mod Reading
+pub mod Topology
+pub mod Index

@@ -1,0 +1,78 @@
+-- A network: its ASes and its links (draft-dekater-scion-controlplane, topology).
+use Rattle.std.specs.Prelude.{ℕ, ◌==◌, ◌&&◌, ◌||◌, not, nat_lt, Bool, List, [], ◌∷◌, Option, Some, None, find, if◌then◌else◌}
+use Rattle.scion_topology.specs.Building.{is_wildcard}
+use Rattle.scion_topology.specs.declared.entry.IfEntry.{IfEntry}
+use Rattle.scion_topology.specs.declared.entry.LinkKind.{LinkKind}
+use Rattle.scion_topology.specs.declared.entry.LinkKind.TheVariants as kinds
+use Rattle.scion_topology.specs.declared.network.AsEntry.{AsEntry}
+use Rattle.scion_topology.specs.declared.network.End.{End}
+use Rattle.scion_topology.specs.declared.network.Link.{Link}
+use Rattle.scion_topology.specs.declared.network.LinkClass.{LinkClass}
+use Rattle.scion_topology.specs.declared.network.LinkClass.TheVariants.{Core, Child}
+
+-- the ASes and the links, each in the order of the text that they were read from
+pub record Network : Type 0 where
+  pub ases : List AsEntry
+  pub links : List Link
+
+-- the address of an AS is no wildcard and it has a router; the numbers of a link's interfaces are not 0
+abbrev pub is_as : AsEntry → Bool
+is_as one = not (is_wildcard one.ia) && nat_lt 0 one.routers
+
+abbrev pub is_link : Link → Bool
+is_link link = nat_lt 0 link.a.number && nat_lt 0 link.b.number
+
+-- the AS of this address
+abbrev pub as_named : List AsEntry → ℕ → Option AsEntry
+as_named ases ia = find (λ one. one.ia == ia) ases
+
+-- the end is this interface of this AS
+abbrev pub is_end : End → ℕ → ℕ → Bool
+is_end end ia number = (end.ia == ia) && (end.number == number)
+
+-- the link ends at this interface of this AS
+abbrev pub has_end : Link → ℕ → ℕ → Bool
+has_end link ia number = is_end link.a ia number || is_end link.b ia number
+
+-- the link that ends there
+abbrev pub link_named : List Link → ℕ → ℕ → Option Link
+link_named links ia number = find (λ link. has_end link ia number) links
+
+-- what the far AS is to the AS at end a, and to the AS at end b
+abbrev pub kind_at_a : LinkClass → LinkKind
+kind_at_a Core = kinds.Core
+kind_at_a Child = kinds.Child
+
+abbrev pub kind_at_b : LinkClass → LinkKind
+kind_at_b Core = kinds.Core
+kind_at_b Child = kinds.Parent
+
+-- an end of a link as an interface of its AS
+abbrev pub interface_at : End → LinkKind → Bool → IfEntry
+interface_at end kind up = record { number = end.number; kind = kind; router = end.router; up = up }
+
+-- the interface by which the link ends in this AS
+abbrev pub interface_of : ℕ → Link → Option IfEntry
+interface_of ia link =
+    if link.a.ia == ia then Some (interface_at link.a (kind_at_a link.class) link.up)
+    else if link.b.ia == ia then Some (interface_at link.b (kind_at_b link.class) link.up)
+    else None
+
+abbrev pub with_first : Option IfEntry → List IfEntry → List IfEntry
+with_first None table = table
+with_first (Some entry) table = entry ∷ table
+
+-- the interfaces of an AS, in the order of the links
+abbrev pub table_of : ℕ → List Link → List IfEntry
+table_of ia [] = []
+table_of ia (link ∷ links) = with_first (interface_of ia link) (table_of ia links)
+
+-- what an AS at one end of a link is to the other, if the other is this to it
+abbrev pub mirrored : LinkKind → LinkKind
+mirrored kinds.Core = kinds.Core
+mirrored kinds.Parent = kinds.Child
+mirrored kinds.Child = kinds.Parent
+
+-- the interface of this number in a table
+abbrev pub interface_in : List IfEntry → ℕ → Option IfEntry
+interface_in table number = find (λ entry. entry.number == number) table

@@ -1,0 +1,117 @@
+-- Topologies: the network of a text, what is asked of it, and how it is changed.
+use Rattle.std.specs.Prelude.{◌≡◌, ℕ, ◌==◌, nat_lt, Bool, true, if◌then◌else◌, codes, List, [], ◌∷◌, Option, Some, None, Result, Ok, Err}
+use Rattle.std.specs.List.{list_all, position_or_len}
+use Rattle.std.specs.Option.{ok_or}
+use Rattle.serde_json.specs.Data.{Data}
+use Rattle.serde_json.specs.Read.{read}
+use Rattle.scion_topology.specs.declared.fault.TopologyFault.{TopologyFault}
+use Rattle.scion_topology.specs.declared.fault.TopologyFault.TheVariants as faults
+use Rattle.scion_topology.specs.declared.network.AsEntry.{AsEntry}
+use Rattle.scion_topology.specs.declared.network.AsInfo.{AsInfo}
+use Rattle.scion_topology.specs.declared.network.End.{End}
+use Rattle.scion_topology.specs.declared.network.Link.{Link}
+use Rattle.scion_topology.specs.View.{View}
+use Rattle.scion_topology.specs.Keys.{keys_of}
+use Rattle.scion_topology.specs.Network.{Network, is_as, is_link, as_named, is_end, has_end, link_named, table_of}
+use Rattle.scion_topology.specs.Causes.{cause_of}
+use Rattle.scion_topology.specs.Reading.{◌>>=◌, list_at, items_at, as_at, link_at}
+
+-- what is never false of a topology that was read
+pub record IsNetwork (n : Network) : Type 0 where
+  pub ases : list_all is_as n.ases ≡ true
+  pub links : list_all is_link n.links ≡ true
+  pub cause : cause_of n.ases n.links ≡ None
+
+-- ---- reading
+
+abbrev pub unless : {A : Type 0} → Option TopologyFault → A → Result A TopologyFault
+unless None x = Ok x
+unless (Some f) x = Err f
+
+-- the network of a value: each field, and then each cause over the whole
+unfoldable pub network_of : Data → Result Network TopologyFault
+network_of d = do
+  rows ← list_at (codes "ases") d
+  joints ← list_at (codes "links") d
+  ases ← items_at as_at rows
+  links ← items_at link_at joints
+  unless (cause_of ases links) (record { ases = ases; links = links })
+
+-- the network of a text
+abbrev pub of_value : Option Data → Result Network TopologyFault
+of_value (Some d) = network_of d
+of_value None = Err faults.NotJson
+
+abbrev pub network_in : List ℕ → Result Network TopologyFault
+network_in text = of_value (read text)
+
+-- ---- asking
+
+-- the AS of this address
+abbrev pub known : Network → ℕ → Result AsEntry TopologyFault
+known n ia = ok_or (as_named n.ases ia) faults.UnknownAs
+
+-- the link at this interface of this AS
+abbrev pub joined : Network → ℕ → ℕ → Result Link TopologyFault
+joined n ia number = known n ia >>= λ _. ok_or (link_named n.links ia number) faults.NoLink
+
+-- an AS's place in the list, and what the list says of it
+unfoldable pub info_in : Network → ℕ → Result AsInfo TopologyFault
+info_in n ia = do
+  one ← known n ia
+  Ok (record { position = position_or_len (λ other. other.ia == ia) n.ases; core = one.core; exp_time = one.exp_time; routers = one.routers })
+
+-- the end of a link at this interface, and the other end
+abbrev pub near_end : Link → ℕ → ℕ → End
+near_end link ia number = if is_end link.a ia number then link.a else link.b
+
+abbrev pub far_end : Link → ℕ → ℕ → End
+far_end link ia number = if is_end link.a ia number then link.b else link.a
+
+-- the AS and the interface at the far end
+unfoldable pub far_end_in : Network → ℕ → ℕ → Result (ℕ × ℕ) TopologyFault
+far_end_in n ia number = do
+  link ← joined n ia number
+  Ok ((far_end link ia number).ia, (far_end link ia number).number)
+
+-- the router that owns an interface
+unfoldable pub owner_in : Network → ℕ → ℕ → Result ℕ TopologyFault
+owner_in n ia number = do
+  link ← joined n ia number
+  Ok (near_end link ia number).router
+
+-- the view of a router
+unfoldable pub view_in : Network → ℕ → ℕ → Result View TopologyFault
+view_in n ia router = do
+  one ← known n ia
+  if nat_lt router one.routers then Ok (record { ia = ia; router = router; keys = one.keys; table = table_of ia n.links }) else Err faults.NoRouter
+
+-- ---- changing
+
+-- the links with the one at this interface up, or down
+abbrev pub with_up : Bool → ℕ → ℕ → List Link → List Link
+with_up up ia number [] = []
+with_up up ia number (link ∷ links) = if has_end link ia number then record link { up = up } ∷ links else link ∷ with_up up ia number links
+
+-- the ASes with these keys for the one of this address
+abbrev pub with_keys : ℕ → List (List ℕ) → List AsEntry → List AsEntry
+with_keys ia keys [] = []
+with_keys ia keys (one ∷ rest) = if one.ia == ia then record one { keys = keys } ∷ rest else one ∷ with_keys ia keys rest
+
+-- the network with that link up, or down
+unfoldable pub set_up : Bool → ℕ → ℕ → Network → Result Network TopologyFault
+set_up up ia number n = do
+  link ← joined n ia number
+  Ok (record n { links = with_up up ia number n.links })
+
+-- the network with another key for an AS
+unfoldable pub rotated : ℕ → List ℕ → Network → Result Network TopologyFault
+rotated ia key n = do
+  one ← known n ia
+  keys ← keys_of key
+  Ok (record n { ases = with_keys ia keys n.ases })
+
+-- a change that was done left what it says, and one that was refused left all as it was
+abbrev pub Becomes : Result Network TopologyFault → Network → Network → Result (Unit {0}) TopologyFault → Type 0
+Becomes change old new (Ok x) = change ≡ Ok new
+Becomes change old new (Err e) = (change ≡ Err e) × (new ≡ old)

@@ -1,0 +1,36 @@
+-- What a router knows of its AS: address, keys and interfaces (draft-dekater-scion-dataplane).
+use Rattle.std.specs.Prelude.{◌≡◌, ◌≢◌, ℕ, ◌/◌, ◌%◌, ◌^◌, ◌≤◌, ◌==◌, Bool, List, All, AllPairs, Any, Option, find, length}
+use Rattle.std.specs.List.{list_any}
+use Rattle.std.specs.Str.{bytes_eq}
+use Rattle.hop_mac.specs.Hop.{authenticator}
+use Rattle.scion_topology.specs.declared.entry.IfEntry.{IfEntry}
+
+-- the address of a router's AS, the router's number, the keys that the AS accepts as its own, and
+-- its interfaces
+pub record View : Type 0 where
+  pub ia : ℕ
+  pub router : ℕ
+  pub keys : List (List ℕ)
+  pub table : List IfEntry
+
+-- no wildcard in the address, keys of 1 to 64 bytes, and each interface named once, none of them 0
+pub record IsRight (view : View) : Type 0 where
+  pub isd : view.ia / 2 ^ 48 ≢ 0
+  pub as_number : view.ia % 2 ^ 48 ≢ 0
+  pub keys : All (λ key. (1 ≤ length key) × (length key ≤ 64)) view.keys
+  pub numbered : All (λ entry. entry.number ≢ 0) view.table
+  pub once : AllPairs (λ one other. one.number ≢ other.number) view.table
+
+-- the interface of this number
+abbrev pub entry_of : View → ℕ → Option IfEntry
+entry_of view number = find (λ entry. entry.number == number) view.table
+
+-- the bytes are the authenticator of a hop of these values under one of the accepted keys
+abbrev pub IsAuthentic : View → List ℕ → ℕ → ℕ → ℕ → ℕ → ℕ → Type 0
+IsAuthentic view mac beta timestamp exp_time cons_ingress cons_egress =
+    Any (λ key. mac ≡ authenticator key beta timestamp exp_time cons_ingress cons_egress) view.keys
+
+-- the test of `IsAuthentic`
+abbrev pub is_authentic : View → List ℕ → ℕ → ℕ → ℕ → ℕ → ℕ → Bool
+is_authentic view mac beta timestamp exp_time cons_ingress cons_egress =
+    list_any (λ key. bytes_eq mac (authenticator key beta timestamp exp_time cons_ingress cons_egress)) view.keys

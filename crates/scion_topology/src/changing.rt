@@ -1,0 +1,108 @@
+ghost use Rattle.std.specs.Prelude.{◌≡◌, ℕ, ◌==◌, ◌<◌, true, false, vec_len, option_map, if◌then◌else◌};
+ghost use Rattle.std.specs.Ordering.{nat_cmp};
+ghost use Rattle.std.specs.BTreeMap.{get};
+ghost use Rattle.scion_topology.specs.Topology.{Becomes, set_up, rotated};
+ghost use Rattle.scion_topology.specs.Index.{seen, marked, marked_table, set_from, keyed_at};
+
+use crate::entry::IfEntry;
+use crate::fault::TopologyFault;
+use crate::keys::Keys;
+use crate::network::{AsEntry, Link};
+use crate::site::Site;
+use crate::topology::Topology;
+use isd_as::{IfId, IsdAs};
+use std::collections::BTreeMap;
+
+impl Topology {
+    /// Cuts the link at an interface, named by either end: [`TopologyFault::UnknownAs`], then
+    /// [`TopologyFault::NoLink`] where the AS has no such interface. A cut link stays cut.
+    pub fn cut_link(&mut self, ia: IsdAs, number: IfId) -> Result<(), TopologyFault>
+        ensures { Becomes (set_up false ia number self.old) self.old self.new result }
+    {
+        self.set_link(ia, number, false)
+    }
+
+    /// Mends the link at an interface, named by either end, with the refusals of
+    /// [`Topology::cut_link`]. A whole link stays whole.
+    pub fn mend_link(&mut self, ia: IsdAs, number: IfId) -> Result<(), TopologyFault>
+        ensures { Becomes (set_up true ia number self.old) self.old self.new result }
+    {
+        self.set_link(ia, number, true)
+    }
+
+    /// Gives an AS another key: [`TopologyFault::UnknownAs`], then [`TopologyFault::BadField`] where
+    /// the key has no byte or more than 64.
+    pub fn rotate_key(&mut self, ia: IsdAs, key: &[u8]) -> Result<(), TopologyFault>
+        ensures { Becomes (rotated ia key.now self.old) self.old self.new result }
+    {
+        let place = match self.site(ia) {
+            Ok((_, site)) => site.position,
+            Err(fault) => return Err(fault),
+        };
+        let keys = match Keys::new(key) {
+            Ok(keys) => keys,
+            Err(fault) => return Err(fault),
+        };
+        put_keys(&mut self.ases, place, keys);
+        Ok(())
+    }
+
+    /// Sets the link at an interface up or down.
+    #[tactic(auto, unfolding(crate::specs::Topology::set_up))]
+    fn set_link(&mut self, ia: IsdAs, number: IfId, up: bool) -> Result<(), TopologyFault>
+        ensures { Becomes (set_up up ia number self.old) self.old self.new result }
+    {
+        let place = match self.place(ia, number) {
+            Ok(place) => place,
+            Err(fault) => return Err(fault),
+        };
+        let link = self.links[place];
+        put_up(&mut self.links, place, up);
+        mark(&mut self.sites, link.a.ia, place, up);
+        mark(&mut self.sites, link.b.ia, place, up);
+        Ok(())
+    }
+}
+
+/// Gives the AS at a place other keys.
+fn put_keys(ases: &mut Vec<AsEntry>, place: usize, keys: Keys)
+    requires { place < vec_len ases.old }
+    ensures { ases.new.items ≡ keyed_at place keys ases.old.items }
+{
+    ases[place].keys = keys;
+}
+
+/// Sets the link at a place up or down.
+fn put_up(links: &mut Vec<Link>, place: usize, up: bool)
+    requires { place < vec_len links.old }
+    ensures { links.new.items ≡ set_from 0 place up links.old.items }
+{
+    links[place].up = up;
+}
+
+/// Sets the interface of the link at a place up or down in the table of an AS.
+fn mark(sites: &mut BTreeMap<IsdAs, Site>, ia: IsdAs, place: usize, up: bool)
+    ensures { (x : ℕ) → option_map seen (get nat_cmp sites.new x) ≡ (if x == ia then option_map (marked place up) (option_map seen (get nat_cmp sites.old x)) else option_map seen (get nat_cmp sites.old x)) }
+{
+    if let Some(site) = sites.get_mut(&ia) {
+        mark_table(&mut site.table, &site.joints, place, up);
+    }
+}
+
+/// Sets the interfaces of the link at a place up or down.
+fn mark_table(table: &mut Vec<IfEntry>, joints: &Vec<usize>, place: usize, up: bool)
+    ensures { table.new.items ≡ marked_table place up table.old.items joints.now.items }
+{
+    for at in 0..table.len().min(joints.len()) {
+        mark_one(&mut table[at], joints[at] == place, up);
+    }
+}
+
+/// Sets an interface up or down, where it is that of the link.
+fn mark_one(entry: &mut IfEntry, here: bool, up: bool)
+    ensures { entry.new ≡ (if here then record entry.old { up = up } else entry.old) }
+{
+    if here {
+        entry.up = up;
+    }
+}

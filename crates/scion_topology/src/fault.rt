@@ -1,0 +1,109 @@
+ghost use Rattle.std.specs.Prelude.{◌≡◌};
+ghost use Rattle.scion_topology.specs.Fault.{code_of, name_of};
+ghost use Rattle.scion_topology.specs.declared.fault.ReadError.TheVariants.{Memory, Fault};
+
+use std::alloc::{AllocError, AllocFailed};
+use thiserror::Error;
+
+/// Why a topology can't be read, asked or changed so, or why a view can't be made of its parts.
+#[derive(Clone, Copy, Debug, PartialEq, Eq, Error)]
+pub enum TopologyFault {
+    /// The text is not JSON.
+    #[error("the text is not JSON")]
+    NotJson,
+    /// A field is missing, of another type or out of its range; an address is a wildcard; a key has not 1 to 64 bytes.
+    #[error("a field is missing, of another type or out of its range")]
+    BadField,
+    /// An AS is listed twice.
+    #[error("an AS is listed twice")]
+    DuplicateAs,
+    /// An interface stands at two ends of links.
+    #[error("an interface stands at two ends of links")]
+    DuplicateIf,
+    /// An AS is not listed.
+    #[error("an AS is not listed")]
+    UnknownAs,
+    /// A link joins ASes that its kind doesn't join.
+    #[error("a link joins ASes that its kind does not join")]
+    BadKind,
+    /// An AS has no router of this number.
+    #[error("an AS has no router of this number")]
+    NoRouter,
+    /// An AS has no interface of this number.
+    #[error("an AS has no interface of this number")]
+    NoLink,
+    /// No AS is listed, or more than 1,024; or more than 4,096 links are.
+    #[error("there are 1 to 1024 ASes and at most 4096 links")]
+    TooMany,
+}
+
+impl TopologyFault {
+    /// The number by which lines of text report this refusal.
+    pub fn code(self) -> u16
+        ensures { result ≡ code_of self }
+    {
+        match self {
+            TopologyFault::NotJson => 10,
+            TopologyFault::BadField => 11,
+            TopologyFault::DuplicateAs => 12,
+            TopologyFault::DuplicateIf => 13,
+            TopologyFault::UnknownAs => 14,
+            TopologyFault::BadKind => 15,
+            TopologyFault::NoRouter => 16,
+            TopologyFault::NoLink => 17,
+            TopologyFault::TooMany => 18,
+        }
+    }
+
+    /// The name by which lines of text report this refusal.
+    pub fn name(self) -> &'static str
+        ensures { result.now ≡ name_of self }
+    {
+        match self {
+            TopologyFault::NotJson => "NotJson",
+            TopologyFault::BadField => "BadField",
+            TopologyFault::DuplicateAs => "DuplicateAs",
+            TopologyFault::DuplicateIf => "DuplicateIf",
+            TopologyFault::UnknownAs => "UnknownAs",
+            TopologyFault::BadKind => "BadKind",
+            TopologyFault::NoRouter => "NoRouter",
+            TopologyFault::NoLink => "NoLink",
+            TopologyFault::TooMany => "TooMany",
+        }
+    }
+}
+
+/// Why a topology was not read: want of memory, or a refusal.
+#[derive(Clone, Copy, Debug, PartialEq, Eq, Error)]
+pub enum ReadError {
+    /// Memory ran out.
+    #[error("out of memory")]
+    Memory,
+    /// The text is no topology.
+    #[error("{0}")]
+    Fault(TopologyFault),
+}
+
+impl From<TopologyFault> for ReadError {
+    ghost from_gives = { λ f e. e ≡ Fault f };
+
+    fn from(fault: TopologyFault) -> ReadError {
+        ReadError::Fault(fault)
+    }
+}
+
+impl From<AllocError> for ReadError {
+    ghost from_gives = { λ _ e. e ≡ Memory };
+
+    fn from(_error: AllocError) -> ReadError {
+        ReadError::Memory
+    }
+}
+
+impl<T: Drop> From<AllocFailed<T>> for ReadError {
+    ghost from_gives = { λ _ e. e ≡ Memory };
+
+    fn from(_error: AllocFailed<T>) -> ReadError {
+        ReadError::Memory
+    }
+}

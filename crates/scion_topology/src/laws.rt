@@ -1,0 +1,49 @@
+//! Laws of views and of topologies: each is the contract of a function that does nothing.
+
+ghost use Rattle.std.specs.Prelude.{◌≡◌, ℕ, ◌<◌, IfSome, IsSome, List, ◌∷◌, [], Contains, Ok, Some, IfOk, IsTrue, ◌↔◌};
+ghost use Rattle.scion_topology.specs.declared.entry.IfEntry.{IfEntry};
+ghost use Rattle.scion_topology.specs.View.{View, IsRight, IsAuthentic, entry_of, is_authentic};
+ghost use Rattle.scion_topology.specs.declared.network.AsEntry.{AsEntry};
+ghost use Rattle.scion_topology.specs.Building.{view_of};
+ghost use Rattle.scion_topology.specs.Network.{Network, table_of, mirrored, interface_in};
+ghost use Rattle.scion_topology.specs.Topology.{IsNetwork, known, far_end_in, owner_in};
+
+/// A view that is made shows exactly the parts that it was made of, and they are right.
+pub fn view_shows_its_parts()
+    ensures { (ia router : ℕ) (key : List ℕ) (table : List IfEntry) → IfOk (view_of ia router key table) (λ view. (view ≡ record { ia = ia; router = router; keys = key ∷ []; table = table }) × IsRight view) }
+{}
+
+/// A view is made of all parts that are right.
+pub fn right_parts_are_accepted()
+    ensures { (view : View) (key : List ℕ) → IsRight view → view.keys ≡ key ∷ [] → view_of view.ia view.router key view.table ≡ Ok view }
+{}
+
+/// Each interface of a view is the one that its number finds.
+pub fn interfaces_named_once()
+    ensures { (view : View) (entry : IfEntry) → IsRight view → Contains view.table entry → entry_of view entry.number ≡ Some entry }
+{}
+
+/// The test of an authenticator passes exactly where it is one under an accepted key.
+pub fn authentic_by_test()
+    ensures { (view : View) (mac : List ℕ) (beta timestamp exp_time cons_ingress cons_egress : ℕ) → IsTrue (is_authentic view mac beta timestamp exp_time cons_ingress cons_egress) ↔ IsAuthentic view mac beta timestamp exp_time cons_ingress cons_egress }
+{}
+
+/// In a topology that was read, however it was changed since, the far end of the far end of a link
+/// is the end itself.
+pub fn far_end_of_far_end()
+    ensures { (n : Network) (ia number x m : ℕ) → IsNetwork n → far_end_in n ia number ≡ Ok (x, m) → far_end_in n x m ≡ Ok (ia, number) }
+{}
+
+/// An interface is owned by a router of its AS.
+pub fn owner_is_a_router()
+    ensures { (n : Network) (ia number router : ℕ) (one : AsEntry) → IsNetwork n → owner_in n ia number ≡ Ok router → known n ia ≡ Ok one → router < one.routers }
+{}
+
+/// The two ends of a link see it alike: both up or both down, of a core link both as Core, and of a
+/// child link the parent's as Child and the child's as Parent.
+pub fn ends_are_mirrored()
+    ensures alike { (n : Network) (ia number x m : ℕ) (near : IfEntry) → IsNetwork n → far_end_in n ia number ≡ Ok (x, m)
+        → interface_in (table_of ia n.links) number ≡ Some near
+        → IfSome (interface_in (table_of x n.links) m) (λ far. (far.kind ≡ mirrored near.kind) × (far.up ≡ near.up)) }
+    ensures there { (n : Network) (ia number x m : ℕ) → IsNetwork n → far_end_in n ia number ≡ Ok (x, m) → IsSome (interface_in (table_of ia n.links) number) }
+{}

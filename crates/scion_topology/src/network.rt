@@ -1,0 +1,63 @@
+use crate::keys::Keys;
+use isd_as::{IfId, IsdAs};
+
+/// What a link joins.
+#[derive(Clone, Copy, Debug, PartialEq, Eq)]
+pub enum LinkClass {
+    /// Two core ASes, of one ISD or of two.
+    Core,
+    /// A parent, at end `a`, and a child of the same ISD that is no core AS, at end `b`.
+    Child,
+}
+
+/// An end of a link: an interface of an AS and the router that owns it.
+#[derive(Clone, Copy, Debug, PartialEq, Eq)]
+pub struct End {
+    /// The AS.
+    pub ia: IsdAs,
+    /// The interface, which is not 0 and is at no other end.
+    pub number: IfId,
+    /// The router of the AS that owns the interface.
+    pub router: u8,
+}
+
+/// A link between two ASes.
+#[derive(Clone, Copy, Debug, PartialEq, Eq)]
+pub struct Link {
+    /// What it joins.
+    pub class: LinkClass,
+    /// One end; of a child link the parent's.
+    pub a: End,
+    /// The other end; of a child link the child's.
+    pub b: End,
+    /// Whether it is up.
+    pub up: bool,
+}
+
+/// An AS as it is listed in a topology.
+#[derive(Drop)]
+pub struct AsEntry {
+    /// Its address, no part of which is a wildcard.
+    pub ia: IsdAs,
+    /// Whether it is a core AS of its ISD.
+    pub core: bool,
+    /// The expiry that it gives its hops, in units of 337.5 seconds, less one.
+    pub exp_time: u8,
+    /// The keys whose authenticators it accepts.
+    pub keys: Keys,
+    /// How many routers it has, 1 to 64, which are numbered from 0.
+    pub routers: u8,
+}
+
+/// What a topology says of an AS, but for its key.
+#[derive(Clone, Copy, Debug, PartialEq, Eq)]
+pub struct AsInfo {
+    /// Its place in the topology's list, from 0.
+    pub position: usize,
+    /// Whether it is a core AS of its ISD.
+    pub core: bool,
+    /// The expiry that it gives its hops, in units of 337.5 seconds, less one.
+    pub exp_time: u8,
+    /// How many routers it has.
+    pub routers: u8,
+}

@@ -1,0 +1,119 @@
+ghost use Rattle.std.specs.Prelude.{◌≡◌, ℕ, ◌+◌, ◌<◌, Option, Some, None, Ok, Err, IfOk, IsOk, IsTrue, length, option_map, slice_get};
+ghost use Rattle.std.specs.List.{list_all};
+ghost use Rattle.std.specs.Ordering.{nat_cmp};
+ghost use Rattle.std.specs.BTreeMap.{get};
+ghost use Rattle.std.specs.Str.{IsUtf8};
+ghost use Rattle.serde_json.specs.View.{view};
+ghost use Rattle.scion_topology.specs.Network.{is_as, is_link};
+ghost use Rattle.scion_topology.specs.Reading.{Reads, Gives};
+ghost use Rattle.scion_topology.specs.Causes.{cause_of};
+ghost use Rattle.scion_topology.specs.Topology.{network_of, network_in, unless};
+ghost use Rattle.scion_topology.specs.Index.{seen, site_from};
+
+use crate::causes::first_cause;
+use crate::fault::{ReadError, TopologyFault};
+use crate::fields::list;
+use crate::network::{AsEntry, Link};
+use crate::reading::{ases_of, links_of};
+use crate::site::Site;
+use isd_as::IsdAs;
+use serde_json::Value;
+use std::alloc::{AllocError, Global};
+use std::collections::BTreeMap;
+use std::marker::Model;
+
+/// A network: its ASes and its links.
+///
+/// It is read from JSON, asked by address and interface, and changed by cutting and mending links
+/// and by new keys. Only reading takes memory, and no question looks at more than the interfaces of
+/// one AS.
+#[derive(Drop)]
+pub struct Topology {
+    pub(crate) ases: Vec<AsEntry>,
+    pub(crate) links: Vec<Link>,
+    pub(crate) sites: BTreeMap<IsdAs, Site>,
+}
+
+impl Model for Topology {
+    ghost use Rattle.std.specs.Prelude.{◌≡◌, ℕ, option_map};
+    ghost use Rattle.std.specs.Ordering.{nat_cmp};
+    ghost use Rattle.std.specs.BTreeMap.{get};
+    ghost use Rattle.scion_topology.specs.Network.{Network};
+    ghost use Rattle.scion_topology.specs.Topology.{IsNetwork};
+    ghost use Rattle.scion_topology.specs.Index.{seen, site_from};
+
+    ghost Value = { Network };
+
+    ghost view = { λ t. record { ases = t.ases.items; links = t.links.items } };
+
+    ghost invariant = { λ t. IsNetwork (record { ases = t.ases.items; links = t.links.items })
+        × ((ia : ℕ) → option_map seen (get nat_cmp t.sites ia) ≡ site_from 0 t.ases.items t.links.items ia) };
+}
+
+impl Topology {
+    /// The network that a JSON text describes, each link up.
+    ///
+    /// An object with the lists `ases` and `links`. An AS has `ia` (an address without a wildcard),
+    /// `core` (true or false), `exp` (0 to 255), `key` (2 to 128 hexadecimal digits, an even number)
+    /// and `routers` (1 to 64). A link has `kind` (`core` or `child`) and the ends `a` and `b`; an end
+    /// has `ia`, `if` (1 to 65535) and `router` (0 to 63). Members beside these are ignored.
+    ///
+    /// The refusals, each looked for in all of the text before the next: [`TopologyFault::NotJson`],
+    /// [`TopologyFault::BadField`], [`TopologyFault::TooMany`], [`TopologyFault::DuplicateAs`],
+    /// [`TopologyFault::UnknownAs`], [`TopologyFault::NoRouter`], [`TopologyFault::BadKind`],
+    /// [`TopologyFault::DuplicateIf`]. Want of memory is [`ReadError::Memory`].
+    pub fn from_json(alloc: Global, bytes: &[u8]) -> Result<Topology, ReadError>
+        ensures text { IsUtf8 bytes.now → Reads (λ n. n) result (network_in bytes.now) }
+        ensures no_text { ¬ IsUtf8 bytes.now → Reads (λ n. n) result (Err TopologyFault.NotJson) }
+    {
+        match Value::from_slice(alloc, bytes) {
+            Ok(value) => Topology::from_value(alloc, &value),
+            Err(error) if error.is_memory() => Err(ReadError::Memory),
+            Err(_) => Err(ReadError::Fault(TopologyFault::NotJson)),
+        }
+    }
+
+    /// The network of a JSON value.
+    #[tactic(auto, unfolding(crate::specs::Topology::network_of))]
+    fn from_value(alloc: Global, value: &Value) -> Result<Topology, ReadError>
+        ensures { Reads (λ n. n) result (network_of (view value.now)) }
+    {
+        let rows = list(value, "ases")?;
+        let joints = list(value, "links")?;
+        let ases = ases_of(alloc, rows)?;
+        let links = links_of(alloc, joints)?;
+        Topology::of_lists(alloc, ases, links)
+    }
+
+    /// The network of these lists, or the first cause why they are none.
+    fn of_lists(alloc: Global, ases: Vec<AsEntry>, links: Vec<Link>) -> Result<Topology, ReadError>
+        requires ases { IsTrue (list_all is_as ases.items) }
+        requires links { IsTrue (list_all is_link links.items) }
+        ensures { Reads (λ n. n) result (unless (cause_of ases.items links.items) (record { ases = ases.items; links = links.items })) }
+    {
+        if let Some(cause) = first_cause(&ases, &links) {
+            return Err(ReadError::Fault(cause));
+        }
+        let sites = sites_of(alloc, &ases, &links)?;
+        Ok(Topology { ases, links, sites })
+    }
+}
+
+/// The sites of a list of ASes. An AS that stands twice has the site of its first place.
+fn sites_of(
+    alloc: Global,
+    ases: &[AsEntry],
+    links: &[Link],
+) -> Result<BTreeMap<IsdAs, Site>, AllocError>
+    ensures { IfOk result (λ sites. (ia : ℕ) → option_map seen (get nat_cmp sites ia) ≡ site_from 0 ases.now links.now ia) }
+{
+    let mut sites = BTreeMap::new(alloc);
+    let mut place = ases.len();
+    while place > 0 {
+        place -= 1;
+        let one = &ases[place];
+        let site = Site::new(alloc, place, one.ia, links)?;
+        sites.insert(one.ia, site)?;
+    }
+    Ok(sites)
+}
