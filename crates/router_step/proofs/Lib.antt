@@ -1,0 +1,6 @@
+pub mod FieldReads
+pub mod Frames
+pub mod DoneSteps
+pub mod Places
+pub mod StepLaws
+pub mod Continuing

@@ -1,0 +1,6 @@
+pub mod Fault
+pub mod Place
+pub mod Checks
+pub mod Step
+pub mod Packet
+pub mod Done

@@ -1,0 +1,68 @@
+-- A packet as bytes: 8 bytes of destination, 8 of source, the path header, the payload; and one
+-- step of a router over it (draft-dekater-scion-dataplane).
+use Rattle.std.specs.Prelude.{◌≡◌, ℕ, ◌+◌, List, ◌++◌, length, take, drop, nat_lt, if◌then◌else◌, Result, Ok, Err}
+use Rattle.std.specs.Int.{w64, from_be_bytes}
+use Rattle.scion_topology.specs.View.{View}
+use Rattle.path_header.specs.declared.fault.HeaderFault.{HeaderFault}
+use Rattle.path_header.specs.declared.fault.HeaderFault.TheVariants.{Short}
+use Rattle.path_header.specs.Value.{HeaderValue}
+use Rattle.path_header.specs.Spelling.{Spells, spelling}
+use Rattle.path_header.specs.Reading.{read_at}
+use Rattle.router_step.specs.declared.arrival.Arrival.{Arrival}
+use Rattle.router_step.specs.declared.outcome.Outcome.{Outcome}
+use Rattle.router_step.specs.declared.fault.Refusal.{Refusal}
+use Rattle.router_step.specs.declared.fault.Refusal.TheVariants.{BadHeader}
+use Rattle.router_step.specs.Fault.{◌>>=◌}
+use Rattle.router_step.specs.Step.{step_of}
+
+-- the address of the AS for which the packet is
+abbrev pub destination_of : List ℕ → ℕ
+destination_of packet = from_be_bytes w64 (take 8 packet)
+
+-- the address of the AS that sent it
+abbrev pub source_of : List ℕ → ℕ
+source_of packet = from_be_bytes w64 (take 8 (drop 8 packet))
+
+-- a header's refusal as that of the packet
+abbrev pub as_bad_header : Result (HeaderValue × ℕ) HeaderFault → Result (HeaderValue × ℕ) Refusal
+as_bad_header (Ok read) = Ok read
+as_bad_header (Err fault) = Err (BadHeader fault)
+
+-- the path header behind the addresses, and its length in bytes
+abbrev pub header_in : List ℕ → Result (HeaderValue × ℕ) Refusal
+header_in packet =
+    if nat_lt (length packet) 16 then Err (BadHeader Short) else as_bad_header (read_at (drop 16 packet))
+
+-- all steps: the first refusal, or the outcome and the new packet, in which the header's bytes
+-- alone are others
+unfoldable pub packet_step : View → ℕ → Arrival → List ℕ → Result (Outcome × List ℕ) Refusal
+packet_step view now arrival packet = do
+  front ← header_in packet  -- 1
+  stepped ← step_of view now arrival (source_of packet) (destination_of packet) front.0  -- 2 to 13
+  Ok (stepped.0, take 16 packet ++ (spelling stepped.1 ++ drop (16 + front.1) packet))
+
+-- the step was done: the outcome and the new packet, or the refusal and the packet as it was
+abbrev pub IsPacketStepped : Result (Outcome × List ℕ) Refusal → List ℕ → List ℕ
+    → Result Outcome Refusal → Type 0
+IsPacketStepped step old new (Ok outcome) = step ≡ Ok (outcome, new)
+IsPacketStepped step old new (Err e) = (step ≡ Err e) × (new ≡ old)
+
+-- a packet in its parts: both addresses, a text that spells this path header, and what follows
+pub record IsFrame (packet addresses text rest : List ℕ) (header : HeaderValue) : Type 0 where
+  pub whole : packet ≡ addresses ++ (text ++ rest)
+  pub two : length addresses ≡ 16
+  pub spells : Spells text header
+
+-- the packet has a path header
+abbrev pub HasHeader : List ℕ → Type 0
+HasHeader packet = (addresses : List ℕ) × ((text : List ℕ) × ((rest : List ℕ) × ((header : HeaderValue)
+    × IsFrame packet addresses text rest header)))
+
+-- a step over a packet of these parts: the new packet has in place of the header's text another one
+-- of the same length, which spells the new header, or after a refusal the same
+abbrev pub Turns : Result (Outcome × HeaderValue) Refusal → List ℕ → List ℕ → List ℕ → List ℕ
+    → Result Outcome Refusal → Type 0
+Turns (Ok stepped) addresses text rest new result =
+    (result ≡ Ok stepped.0)
+    × ((other : List ℕ) × ((length other ≡ length text) × IsFrame new addresses other rest stepped.1))
+Turns (Err e) addresses text rest new result = (result ≡ Err e) × (new ≡ addresses ++ (text ++ rest))

@@ -1,0 +1,75 @@
+-- Where a packet stands on its path, and how a step changes that (draft-dekater-scion-dataplane).
+use Rattle.std.specs.Prelude.{ℕ, ◌+◌, Bool, true, false, not, ◌&&◌, if◌then◌else◌, [], slice_index_or, slice_set}
+use Rattle.hop_mac.specs.Hop.{beta_after}
+use Rattle.path_header.specs.declared.fields.InfoField.{InfoField}
+use Rattle.path_header.specs.declared.fields.HopField.{HopField}
+use Rattle.path_header.specs.Value.{HeaderValue}
+use Rattle.router_step.specs.declared.arrival.Arrival.{Arrival}
+use Rattle.router_step.specs.declared.arrival.Arrival.TheVariants.{FromHost, Inside, Link}
+use Rattle.router_step.specs.declared.outcome.Outcome.{Outcome}
+use Rattle.router_step.specs.declared.outcome.Outcome.TheVariants.{ToLink, ToRouter, Deliver}
+
+-- the info field at which the packet stands
+abbrev pub info_of : HeaderValue → InfoField
+info_of header = slice_index_or header.infos header.curr_inf
+    (record { construction = false; seg_id = 0; timestamp = 0 })
+
+-- the hop field at which the packet stands
+abbrev pub hop_of : HeaderValue → HopField
+hop_of header = slice_index_or header.hops header.curr_hf
+    (record { exp_time = 0; cons_ingress = 0; cons_egress = 0; mac = [] })
+
+-- the interface by which a packet that travels this segment comes into the hop's AS
+abbrev pub way_in : InfoField → HopField → ℕ
+way_in info hop = if info.construction then hop.cons_ingress else hop.cons_egress
+
+-- the interface by which it leaves
+abbrev pub way_out : InfoField → HopField → ℕ
+way_out info hop = if info.construction then hop.cons_egress else hop.cons_ingress
+
+-- the header with this accumulator in its current info field
+abbrev pub with_seg_id : HeaderValue → ℕ → HeaderValue
+with_seg_id header seg_id =
+    record header {
+      infos = slice_set header.infos header.curr_inf (record (info_of header) { seg_id = seg_id });
+    }
+
+-- the packet came over a link
+abbrev pub is_over_link : Arrival → Bool
+is_over_link FromHost = false
+is_over_link Inside = false
+is_over_link (Link interface) = true
+
+-- the accumulator on arrival: over a link and against construction direction that of one hop back
+abbrev pub seg_id_on_arrival : Arrival → InfoField → HopField → ℕ
+seg_id_on_arrival arrival info hop =
+    if is_over_link arrival && not info.construction then beta_after info.seg_id hop.mac
+    else info.seg_id
+
+-- the header after its arrival: the change of step 5
+abbrev pub arrived : Arrival → HeaderValue → HeaderValue
+arrived arrival header =
+    with_seg_id header (seg_id_on_arrival arrival (info_of header) (hop_of header))
+
+-- the header after a switch to the next segment, if there is one here: the change of step 9
+abbrev pub moved_on : Bool → HeaderValue → HeaderValue
+moved_on switched header =
+    record header {
+      curr_inf = header.curr_inf + (if switched then 1 else 0);
+      curr_hf = header.curr_hf + (if switched then 1 else 0);
+    }
+
+-- the accumulator on leaving over a link: in construction direction that of the next hop
+abbrev pub seg_id_on_leaving : InfoField → HopField → ℕ
+seg_id_on_leaving info hop =
+    if info.construction then beta_after info.seg_id hop.mac else info.seg_id
+
+-- the header after the packet went where it goes, over a link at the next hop: the changes of
+-- step 13
+abbrev pub gone : Outcome → HeaderValue → HeaderValue
+gone (ToLink interface) header =
+    record (with_seg_id header (seg_id_on_leaving (info_of header) (hop_of header))) {
+      curr_hf = header.curr_hf + 1;
+    }
+gone (ToRouter router) header = header
+gone Deliver header = header

@@ -1,0 +1,75 @@
+-- One step of a router over the value of the path header: the checks and changes in their order,
+-- numbered 2 to 13; the first, that there is a header, is the packet's
+-- (draft-dekater-scion-dataplane).
+use Rattle.std.specs.Prelude.{◌≡◌, ℕ, Bool, true, false, not, ◌==◌, if◌then◌else◌, Result, Ok, Err}
+use Rattle.std.specs.Option.{ok_or}
+use Rattle.scion_topology.specs.View.{View, entry_of}
+use Rattle.path_header.specs.declared.fields.InfoField.{InfoField}
+use Rattle.path_header.specs.declared.fields.HopField.{HopField}
+use Rattle.path_header.specs.Value.{HeaderValue}
+use Rattle.router_step.specs.declared.arrival.Arrival.{Arrival}
+use Rattle.router_step.specs.declared.outcome.Outcome.{Outcome}
+use Rattle.router_step.specs.declared.outcome.Outcome.TheVariants.{ToLink, ToRouter, Deliver}
+use Rattle.router_step.specs.declared.fault.Refusal.{Refusal}
+use Rattle.router_step.specs.declared.fault.Refusal.TheVariants as refusal
+use Rattle.router_step.specs.Fault.{◌>>=◌, check}
+use Rattle.router_step.specs.Place.{info_of, hop_of, is_over_link, way_out, arrived, moved_on, gone}
+use Rattle.router_step.specs.Checks.{indices_fit, way_in_fits, is_live, is_mac_right, source_fits, is_last, destination_fits, ends_segment, kinds_fit}
+
+-- steps 4 and 5 on the info and hop field at which the packet stands
+unfoldable pub passes : View → ℕ → InfoField → HopField → Result (Unit {0}) Refusal
+passes view now info hop = do
+  _ ← check (is_live now info hop) refusal.Expired  -- 4
+  check (is_mac_right view info hop) refusal.BadMac  -- 5
+
+-- steps 2 to 5, and the header with the accumulator that step 5 sets
+unfoldable pub admitted : View → ℕ → Arrival → HeaderValue → Result HeaderValue Refusal
+admitted view now arrival header = do
+  _ ← check (indices_fit arrival header) refusal.IndexMismatch  -- 2
+  _ ← check (way_in_fits view arrival (info_of header) (hop_of header)) refusal.WrongIngress  -- 3
+  _ ← passes view now (info_of (arrived arrival header)) (hop_of header)  -- 4, 5
+  Ok (arrived arrival header)
+
+-- steps 6 and 7, and whether the packet stands at the path's last hop
+unfoldable pub ended : View → Arrival → ℕ → ℕ → HeaderValue → Result Bool Refusal
+ended view arrival source destination header = do
+  _ ← check (source_fits view arrival source) refusal.SourceAs  -- 6
+  _ ← check (destination_fits view destination (is_last header)) refusal.DestinationAs  -- 7
+  Ok (is_last header)
+
+-- step 9: whether there is a switch to the next segment, which only a packet that came over a link
+-- may make, and only to a hop that passes steps 4 and 5
+unfoldable pub switched : View → ℕ → Arrival → HeaderValue → Result Bool Refusal
+switched view now arrival header =
+    if ends_segment header then (do
+      _ ← check (is_over_link arrival) refusal.SwitchInside
+      _ ← passes view now (info_of (moved_on true header)) (hop_of (moved_on true header))
+      Ok true)
+    else Ok false
+
+-- steps 10 to 13, as far as they choose the outcome
+unfoldable pub left : View → Arrival → Bool → InfoField → HopField → Result Outcome Refusal
+left view arrival has_switched info hop = do
+  out ← ok_or (entry_of view (way_out info hop)) refusal.UnknownEgress  -- 10
+  _ ← check (kinds_fit view arrival has_switched out.kind) refusal.LinkKinds  -- 11
+  if not (out.router == view.router) then Ok (ToRouter out.router) else (do  -- 12
+    _ ← check out.up refusal.LinkDown  -- 13
+    Ok (ToLink (way_out info hop)))
+
+-- all steps from 2 on: the first refusal, or the outcome and the new header
+unfoldable pub step_of : View → ℕ → Arrival → ℕ → ℕ → HeaderValue
+    → Result (Outcome × HeaderValue) Refusal
+step_of view now arrival source destination header = do
+  here ← admitted view now arrival header  -- 2 to 5
+  last ← ended view arrival source destination here  -- 6, 7
+  if last then Ok (Deliver, here) else (do  -- 8
+    has_switched ← switched view now arrival here  -- 9
+    outcome ← left view arrival has_switched
+        (info_of (moved_on has_switched here)) (hop_of (moved_on has_switched here))  -- 10 to 13
+    Ok (outcome, gone outcome (moved_on has_switched here)))
+
+-- the step was done: the outcome and the new header, or the refusal and the header as it was
+abbrev pub IsStepped : Result (Outcome × HeaderValue) Refusal → HeaderValue → HeaderValue
+    → Result Outcome Refusal → Type 0
+IsStepped step old new (Ok outcome) = step ≡ Ok (outcome, new)
+IsStepped step old new (Err e) = (step ≡ Err e) × (new ≡ old)

@@ -1,0 +1,12 @@
+use isd_as::IfId;
+
+/// How a packet came to the router at which it stands.
+#[derive(Clone, Copy, Debug, PartialEq, Eq)]
+pub enum Arrival {
+    /// From a host of the router's AS, which sends it.
+    FromHost,
+    /// From another router of the AS.
+    Inside,
+    /// Over the link at this interface.
+    Link(IfId),
+}

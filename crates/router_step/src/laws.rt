@@ -1,0 +1,93 @@
+//! Laws of router steps: each is the contract of a function that does nothing.
+
+ghost use Rattle.std.specs.Prelude.{◌≡◌, ◌≢◌, ℕ, true, false, Some};
+ghost use Rattle.hop_mac.specs.Hop.{beta_after};
+ghost use Rattle.scion_topology.specs.declared.entry.IfEntry.{IfEntry};
+ghost use Rattle.scion_topology.specs.View.{entry_of};
+ghost use Rattle.path_header.specs.Value.{HeaderValue, IsHeader};
+ghost use Rattle.router_step.specs.declared.arrival.Arrival.{Arrival};
+ghost use Rattle.router_step.specs.declared.outcome.Outcome.{Outcome};
+ghost use Rattle.router_step.specs.Place.{info_of, hop_of, is_over_link, way_out, gone};
+ghost use Rattle.router_step.specs.Checks.{changes_segment, indices_fit, is_last};
+ghost use Rattle.router_step.specs.Done.{Situation, Does, on_arrival, at_the_way_out, IsOwnHop, IsOwnLink, StaysOnSegment};
+
+/// A packet that is not refused stands at a hop that is live and that this AS made, under the
+/// accumulator that it has after its arrival; and where the path goes on to another segment, at
+/// such a hop there too. So it is with each that leaves over a link and each that is delivered.
+pub fn own_hops_alone()
+    ensures here { (at : Situation) (outcome : Outcome) (new : HeaderValue)
+        → Does at outcome new → IsOwnHop at.view at.now (on_arrival at) }
+    ensures beyond { (at : Situation) (outcome : Outcome) (new : HeaderValue)
+        → Does at outcome new → IsOwnHop at.view at.now (at_the_way_out at) }
+{
+    scion_topology::laws::authentic_by_test();
+}
+
+/// A packet leaves by the way out of its hop alone, over a link of this router that is up; and it
+/// goes to another router alone where that one owns the way out.
+pub fn own_links_alone()
+    ensures over_link { (at : Situation) (interface : ℕ) (new : HeaderValue)
+        → Does at (Outcome.ToLink interface) new
+        → (interface ≡ way_out (info_of (at_the_way_out at)) (hop_of (at_the_way_out at)))
+        × ((entry : IfEntry) × IsOwnLink at.view interface entry) }
+    ensures inside { (at : Situation) (router : ℕ) (new : HeaderValue)
+        → Does at (Outcome.ToRouter router) new
+        → (router ≢ at.view.router)
+        × ((entry : IfEntry) × ((entry.router ≡ router)
+        × (entry_of at.view (way_out (info_of (at_the_way_out at)) (hop_of (at_the_way_out at)))
+        ≡ Some entry))) }
+{}
+
+/// The new header is what the arrival makes of the old one, then a switch where the path goes on to
+/// another segment, then the outcome.
+pub fn three_changes()
+    ensures all { (at : Situation) (outcome : Outcome) (new : HeaderValue)
+        → Does at outcome new → new ≡ gone outcome (at_the_way_out at) }
+
+    // A packet that goes to another router is as its arrival and a switch made it.
+    ensures to_router { (at : Situation) (router : ℕ) (new : HeaderValue)
+        → Does at (Outcome.ToRouter router) new → new ≡ at_the_way_out at }
+    // A packet is delivered at its path's last hop, as its arrival made it.
+    ensures delivered { (at : Situation) (new : HeaderValue)
+        → Does at Outcome.Deliver new → (is_last at.header ≡ true) × (new ≡ on_arrival at) }
+{}
+
+/// Where the path does not go on to another segment, the new header differs from the old one by its
+/// current hop field and the accumulator of its segment alone.
+pub fn segment_stays()
+    ensures { (at : Situation) (outcome : Outcome) (new : HeaderValue)
+        → IsHeader at.header → Does at outcome new → changes_segment at.header ≡ false
+        → StaysOnSegment at.header new }
+{}
+
+/// A packet that stays on its segment and leaves over a link takes along, in construction
+/// direction, the accumulator of the next hop; one that came over a link has, against it, that of
+/// the hop before, from which the chain's step leads to the one that it came with.
+pub fn accumulator_goes_on()
+    ensures along { (at : Situation) (interface : ℕ) (new : HeaderValue)
+        → IsHeader at.header → Does at (Outcome.ToLink interface) new
+        → changes_segment at.header ≡ false → (info_of at.header).construction ≡ true
+        → (info_of new).seg_id ≡ beta_after (info_of at.header).seg_id (hop_of at.header).mac }
+    ensures against { (at : Situation) (outcome : Outcome) (new : HeaderValue)
+        → IsHeader at.header → Does at outcome new → is_over_link at.arrival ≡ true
+        → changes_segment at.header ≡ false → (info_of at.header).construction ≡ false
+        → beta_after (info_of new).seg_id (hop_of at.header).mac ≡ (info_of at.header).seg_id }
+    // With a switch too a packet leaves in construction direction with the next hop's accumulator.
+    ensures leaving { (at : Situation) (interface : ℕ) (new : HeaderValue)
+        → IsHeader at.header → Does at (Outcome.ToLink interface) new
+        → (info_of (at_the_way_out at)).construction ≡ true
+        → (info_of new).seg_id
+        ≡ beta_after (info_of (at_the_way_out at)).seg_id (hop_of (at_the_way_out at)).mac }
+{
+    hop_mac::laws::step_undone();
+}
+
+/// A packet that is not refused has a header of the grammar again, and the next router finds that
+/// its indices fit.
+pub fn indices_go_on()
+    ensures header { (at : Situation) (outcome : Outcome) (new : HeaderValue)
+        → IsHeader at.header → Does at outcome new → IsHeader new }
+    ensures indices { (at : Situation) (outcome : Outcome) (new : HeaderValue) (arrival : Arrival)
+        → IsHeader at.header → Does at outcome new → arrival ≢ Arrival.FromHost
+        → indices_fit arrival new ≡ true }
+{}

@@ -1,0 +1,23 @@
+//! One step of a router: what becomes of a packet that stands at a router of a SCION network.
+//!
+//! A router checks the hop field at which the packet stands against what it knows of its AS, in a
+//! fixed order of thirteen steps, and sends the packet over a link, hands it to another router of
+//! the AS, or delivers it. A packet that is refused stays as it was.
+#![tactic(auto)]
+
+mod arrival;
+mod checks;
+mod fault;
+pub mod laws;
+mod outcome;
+mod packet;
+mod place;
+mod route;
+
+pub use arrival::Arrival;
+pub use fault::Refusal;
+pub use outcome::Outcome;
+pub use packet::step;
+
+#[cfg(test)]
+mod tests;

@@ -1,0 +1,168 @@
+//! The step over the value of a path header: all checks first, then the changes.
+
+ghost use Rattle.std.specs.Prelude.{◌≡◌, ◌+◌, ◌<◌, true, false, length, if◌then◌else◌, OnOk, IfOk};
+ghost use Rattle.path_header.specs.Value.{segment_at};
+ghost use Rattle.router_step.specs.Fault.{Leads};
+ghost use Rattle.router_step.specs.Place.{arrived};
+ghost use Rattle.router_step.specs.Checks.{has_no_single, indices_fit};
+ghost use Rattle.router_step.specs.Step.{admitted, ended, switched, left, step_of, IsStepped};
+
+use crate::arrival::Arrival;
+use crate::checks::{
+    destination_fits, has_no_single, is_over_link, is_start_right, kinds_fit, pass, source_fits,
+    way_in_fits,
+};
+use crate::fault::Refusal;
+use crate::outcome::Outcome;
+use crate::place::{
+    hop_at, hop_to_leave, info_at, info_on_arrival, info_to_leave, way_out, write_arrival,
+    write_outcome, write_switch,
+};
+use isd_as::IsdAs;
+use path_header::{Header, HopField, InfoField};
+use scion_topology::RouterView;
+
+/// Whether the indices fit the segment lengths and how the packet came.
+fn indices_fit(arrival: &Arrival, header: &Header) -> bool
+    ensures { result ≡ indices_fit arrival.now header.now }
+{
+    let hop = header.curr_hf();
+    header.curr_inf() == header.segment_of(hop)
+        && has_no_single(header.seg_lens())
+        && is_start_right(arrival, hop)
+}
+
+/// Checks that the packet stands where it may, came in where it may, and that its hop is live and
+/// this AS's own.
+#[tactic(auto, unfolding(crate::specs::Step::admitted))]
+fn admit(view: &RouterView<'_>, now: u32, arrival: &Arrival, header: &Header) -> Result<(), Refusal>
+    ensures exact { Leads (λ _. arrived arrival.now header.now) result
+        (admitted view.now now arrival.now header.now) }
+    ensures segment { OnOk result
+        (header.now.curr_inf ≡ segment_at header.now.lens header.now.curr_hf) }
+    ensures lens { OnOk result (has_no_single header.now.lens ≡ true) }
+{
+    if !indices_fit(arrival, header) {
+        return Err(Refusal::IndexMismatch);
+    }
+    let hop = hop_at(header);
+    if !way_in_fits(view, arrival, &info_at(header), &hop) {
+        return Err(Refusal::WrongIngress);
+    }
+    pass(view, now, &info_on_arrival(arrival, header), &hop)
+}
+
+/// Checks both addresses, and answers whether the packet stands at the path's last hop.
+#[tactic(auto, unfolding(crate::specs::Step::ended))]
+fn end(
+    view: &RouterView<'_>,
+    arrival: &Arrival,
+    source: IsdAs,
+    destination: IsdAs,
+    header: &Header,
+) -> Result<bool, Refusal>
+    ensures exact { result
+        ≡ ended view.now arrival.now source destination (arrived arrival.now header.now) }
+    ensures more { IfOk result
+        (λ last. last ≡ false → header.now.curr_hf + 1 < length header.now.hops) }
+{
+    if !source_fits(view, arrival, source) {
+        return Err(Refusal::SourceAs);
+    }
+    let last = header.curr_hf() + 1 == header.hop_count();
+    if !destination_fits(view, destination, last) {
+        return Err(Refusal::DestinationAs);
+    }
+    Ok(last)
+}
+
+/// Answers whether the path changes segments here, after the checks of the hop on the next one.
+#[tactic(auto, unfolding(crate::specs::Step::switched))]
+fn switch(
+    view: &RouterView<'_>,
+    now: u32,
+    arrival: &Arrival,
+    header: &Header,
+) -> Result<bool, Refusal>
+    requires more { header.now.curr_hf + 1 < length header.now.hops }
+    requires segment { header.now.curr_inf ≡ segment_at header.now.lens header.now.curr_hf }
+    requires lens { has_no_single header.now.lens ≡ true }
+    ensures exact { result ≡ switched view.now now arrival.now (arrived arrival.now header.now) }
+    ensures infos { IfOk result (λ has_switched.
+        header.now.curr_inf + (if has_switched then 1 else 0) < length header.now.infos) }
+    ensures hops { IfOk result (λ has_switched.
+        header.now.curr_hf + (if has_switched then 1 else 0) + 1 < length header.now.hops) }
+{
+    if header.segment_of(header.curr_hf() + 1) == header.curr_inf() {
+        return Ok(false);
+    }
+    if !is_over_link(arrival) {
+        return Err(Refusal::SwitchInside);
+    }
+    header.known();
+    pass(
+        view,
+        now,
+        &info_to_leave(arrival, true, header),
+        &hop_to_leave(true, header),
+    )?;
+    Ok(true)
+}
+
+/// Chooses where the packet goes from this info and hop field.
+#[tactic(auto, unfolding(crate::specs::Step::left))]
+fn leave(
+    view: &RouterView<'_>,
+    arrival: &Arrival,
+    switched: bool,
+    info: &InfoField,
+    hop: &HopField,
+) -> Result<Outcome, Refusal>
+    ensures { result ≡ left view.now arrival.now switched info.now hop.now }
+{
+    let interface = way_out(info, hop);
+    let Some(out) = view.entry(interface) else {
+        return Err(Refusal::UnknownEgress);
+    };
+    if !kinds_fit(view, arrival, switched, out.kind) {
+        return Err(Refusal::LinkKinds);
+    }
+    if out.router != view.router() {
+        return Ok(Outcome::ToRouter(out.router));
+    }
+    if !out.up {
+        return Err(Refusal::LinkDown);
+    }
+    Ok(Outcome::ToLink(interface))
+}
+
+/// One step over a path header, after which the header is as the step says, or as it was where the
+/// packet is refused.
+#[tactic(auto, unfolding(crate::specs::Step::step_of))]
+pub(crate) fn step_header(
+    view: &RouterView<'_>,
+    now: u32,
+    arrival: Arrival,
+    source: IsdAs,
+    destination: IsdAs,
+    header: &mut Header,
+) -> Result<Outcome, Refusal>
+    ensures exact { let step = step_of view.now now arrival source destination header.old
+        in IsStepped step header.old header.new result }
+    ensures lens { header.new.lens ≡ header.old.lens }
+{
+    let arrival = &arrival;
+    admit(view, now, arrival, header)?;
+    if end(view, arrival, source, destination, header)? {
+        write_arrival(arrival, header);
+        return Ok(Outcome::Deliver);
+    }
+    let switched = switch(view, now, arrival, header)?;
+    let info = info_to_leave(arrival, switched, header);
+    let hop = hop_to_leave(switched, header);
+    let outcome = leave(view, arrival, switched, &info, &hop)?;
+    write_arrival(arrival, header);
+    write_switch(switched, header);
+    write_outcome(&outcome, header);
+    Ok(outcome)
+}
