@@ -1,0 +1,43 @@
+-- What a beacon and a segment show, the chain of authenticators and the expiry (draft-dekater-scion-dataplane).
+use Rattle.std.specs.Prelude.{◌≡◌, ℕ, ◌+◌, ◌≤◌, List, ◌∷◌, [], ◌++◌, All, Any, take, drop}
+use Rattle.std.specs.List.{fold}
+use Rattle.hop_mac.specs.Hop.{beta_after}
+use Rattle.hop_mac.specs.Lifetime.{expiry_of, IsLive}
+use Rattle.path_segment.specs.declared.entry.Entry.{Entry}
+use Rattle.path_segment.specs.declared.kind.SegKind.{SegKind}
+
+-- the kind, the timestamp in seconds, the first accumulator, and the entries in construction order
+pub record Chain : Type 0 where
+  pub kind : SegKind
+  pub timestamp : ℕ
+  pub beta0 : ℕ
+  pub entries : List Entry
+
+-- the chain of these parts
+abbrev pub chain_of : SegKind → ℕ → ℕ → List Entry → Chain
+chain_of kind timestamp beta0 entries = record { kind = kind; timestamp = timestamp; beta0 = beta0; entries = entries }
+
+-- one more entry at the end
+abbrev pub with_last : Chain → Entry → Chain
+with_last chain entry = record chain { entries = chain.entries ++ entry ∷ [] }
+
+-- the accumulator after the authenticators of these entries
+abbrev pub beta_over : ℕ → List Entry → ℕ
+beta_over beta entries = fold (λ b entry. beta_after b entry.mac) beta entries
+
+-- the accumulator with which the entry at this place is authenticated: the first i authenticators are in it
+abbrev pub beta_of : Chain → ℕ → ℕ
+beta_of chain i = beta_over chain.beta0 (take i chain.entries)
+
+-- the entries from place a to place b, both included
+abbrev pub between : ℕ → ℕ → List Entry → List Entry
+between a b entries = drop a (take (b + 1) entries)
+
+-- the half second at which the first of these entries expires: one expires then, and none before
+pub record IsLeastExpiry (timestamp : ℕ) (entries : List Entry) (least : ℕ) : Type 0 where
+  pub reached : Any (λ entry. least ≡ expiry_of timestamp entry.exp_time) entries
+  pub lower : All (λ entry. least ≤ expiry_of timestamp entry.exp_time) entries
+
+-- every hop is live at this second
+abbrev pub AreLive : Chain → ℕ → Type 0
+AreLive chain now = All (λ entry. IsLive chain.timestamp entry.exp_time now) chain.entries

@@ -1,0 +1,5 @@
+pub mod Fault
+pub mod Chain
+pub mod Rules
+pub mod Text
+pub mod Reading

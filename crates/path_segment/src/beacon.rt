@@ -1,0 +1,178 @@
+ghost use Rattle.std.specs.Prelude.{◌≡◌, ◌≤◌, ◌∷◌, [], length, IfOk, IsTrue, ◌↔◌};
+ghost use Rattle.path_segment.specs.Chain.{chain_of, with_last, beta_of};
+ghost use Rattle.path_segment.specs.Fault.{Answers};
+ghost use Rattle.path_segment.specs.Rules.{AreOfBeacon, IsBeacon, first_fault, next_fault, last_fault, unless, beacon_of, segment_of};
+
+use crate::chain::{are_same, beta_after_all, copied, with_one_more};
+use crate::entry::Entry;
+use crate::fault::SegmentError;
+use crate::kind::SegKind;
+use crate::rules::{fault_of_first, fault_of_last, fault_of_next};
+use crate::segment::Segment;
+use std::alloc::{AllocError, Global};
+use std::marker::Model;
+
+/// A segment under way: 1 to 62 entries, each with a way out to the next AS.
+///
+/// Its type keeps the rules: only the first entry has no way in, and no AS stands in it twice.
+#[derive(Debug, Drop)]
+pub struct Beacon {
+    kind: SegKind,
+    timestamp: u32,
+    beta0: u16,
+    entries: Vec<Entry>,
+}
+
+impl Model for Beacon {
+    ghost use Rattle.path_segment.specs.Chain.{Chain, chain_of};
+    ghost use Rattle.path_segment.specs.Rules.{IsBeacon};
+
+    ghost Value = { Chain };
+
+    ghost view = { λ b. chain_of b.kind b.timestamp b.beta0 b.entries.items };
+
+    ghost invariant = { λ b. IsBeacon (chain_of b.kind b.timestamp b.beta0 b.entries.items) };
+}
+
+impl Beacon {
+    /// The beacon of its first AS: `timestamp` is in seconds, and `beta0` the accumulator with which
+    /// the first hop is authenticated.
+    ///
+    /// [`SegmentFault::BadEnds`] where the entry has a way in or no way out.
+    pub fn first(
+        alloc: Global,
+        kind: SegKind,
+        timestamp: u32,
+        beta0: u16,
+        entry: Entry,
+    ) -> Result<Beacon, SegmentError>
+        // It is the beacon of this entry, or the rule that it would break.
+        ensures whole { Answers (λ b. b) result
+            (beacon_of (chain_of kind timestamp beta0 (entry ∷ []))) }
+        // Which rule it is.
+        ensures step { Answers (λ b. b) result
+            (unless (first_fault entry) (chain_of kind timestamp beta0 (entry ∷ []))) }
+    {
+        if let Some(fault) = fault_of_first(&entry) {
+            return Err(SegmentError::Fault(fault));
+        }
+        let mut entries = Vec::with_capacity(alloc, 1)?;
+        entries.push(entry)?;
+        Ok(Beacon {
+            kind,
+            timestamp,
+            beta0,
+            entries,
+        })
+    }
+
+    /// The beacon with one more entry, by which the AS passes it on.
+    ///
+    /// The first of these refusals: [`SegmentFault::TooLong`] where the beacon has 62 entries,
+    /// [`SegmentFault::BadEnds`] where the entry has no way in or no way out, [`SegmentFault::Loop`]
+    /// where its AS stands in the beacon already.
+    pub fn with_entry(&self, alloc: Global, entry: &Entry) -> Result<Beacon, SegmentError>
+        // It is the beacon of these entries, or the rule that they would break.
+        ensures whole { Answers (λ b. b) result (beacon_of (with_last self.now entry.now)) }
+        // Which rule it is.
+        ensures step { Answers (λ b. b) result
+            (unless (next_fault self.now.entries entry.now) (with_last self.now entry.now)) }
+    {
+        if let Some(fault) = fault_of_next(&self.entries, entry) {
+            return Err(SegmentError::Fault(fault));
+        }
+        let entries = with_one_more(alloc, &self.entries, entry)?;
+        Ok(Beacon {
+            kind: self.kind,
+            timestamp: self.timestamp,
+            beta0: self.beta0,
+            entries,
+        })
+    }
+
+    /// The segment that ends with this entry.
+    ///
+    /// The first of these refusals: [`SegmentFault::BadEnds`] where the entry has no way in, or a way
+    /// out, [`SegmentFault::Loop`] where its AS stands in the beacon already.
+    pub fn finish(&self, alloc: Global, entry: &Entry) -> Result<Segment, SegmentError>
+        // It is the segment of these entries, or the rule that they would break.
+        ensures whole { Answers (λ s. s) result (segment_of (with_last self.now entry.now)) }
+        // Which rule it is.
+        ensures step { Answers (λ s. s) result
+            (unless (last_fault self.now.entries entry.now) (with_last self.now entry.now)) }
+    {
+        if let Some(fault) = fault_of_last(&self.entries, entry) {
+            return Err(SegmentError::Fault(fault));
+        }
+        let entries = with_one_more(alloc, &self.entries, entry)?;
+        Ok(Segment {
+            kind: self.kind,
+            timestamp: self.timestamp,
+            beta0: self.beta0,
+            entries,
+        })
+    }
+
+    /// The same beacon once more.
+    pub fn try_clone(&self, alloc: Global) -> Result<Beacon, AllocError>
+        ensures { IfOk result (λ b. b ≡ self.now) }
+    {
+        let entries = copied(alloc, &self.entries)?;
+        Ok(Beacon {
+            kind: self.kind,
+            timestamp: self.timestamp,
+            beta0: self.beta0,
+            entries,
+        })
+    }
+
+    /// Whether the other is the same beacon: of the same kind, timestamp, first accumulator and
+    /// entries.
+    pub fn is_same(&self, other: &Beacon) -> bool
+        ensures { IsTrue result ↔ (self.now ≡ other.now) }
+    {
+        self.kind == other.kind
+            && self.timestamp == other.timestamp
+            && self.beta0 == other.beta0
+            && are_same(&self.entries, &other.entries)
+    }
+
+    /// What kind of links it follows.
+    pub fn kind(&self) -> SegKind
+        ensures { result ≡ self.now.kind }
+    {
+        self.kind
+    }
+
+    /// When it was made, in seconds.
+    pub fn timestamp(&self) -> u32
+        ensures { result ≡ self.now.timestamp }
+    {
+        self.timestamp
+    }
+
+    /// The accumulator with which its first hop is authenticated.
+    pub fn beta0(&self) -> u16
+        ensures { result ≡ self.now.beta0 }
+    {
+        self.beta0
+    }
+
+    /// Its entries, in construction order, which keep the rules of beacons.
+    pub fn entries(&self) -> &[Entry]
+        ensures value { result.now ≡ self.now.entries }
+        ensures kept { IsBeacon self.now }
+        ensures rules { AreOfBeacon self.now.entries }
+    {
+        &self.entries
+    }
+
+    /// The accumulator with which the entry at place `i` is authenticated, or after the last entry
+    /// the one for the entry to come.
+    pub fn beta_at(&self, i: usize) -> u16
+        requires { i ≤ length self.now.entries }
+        ensures { result ≡ beta_of self.now i }
+    {
+        beta_after_all(self.beta0, &self.entries[..i])
+    }
+}

@@ -1,0 +1,90 @@
+ghost use Rattle.std.specs.Prelude.{◌≡◌};
+ghost use Rattle.path_segment.specs.Fault.{code_of, name_of};
+ghost use Rattle.path_segment.specs.declared.fault.SegmentError.TheVariants.{Memory, Fault};
+
+use std::alloc::{AllocError, AllocFailed};
+use thiserror::Error;
+
+/// Why entries are no beacon or no segment, or why a text is no segment.
+#[derive(Clone, Copy, Debug, PartialEq, Eq, Error)]
+pub enum SegmentFault {
+    /// A segment of fewer than 2 entries, or a beacon of none.
+    #[error("a segment has at least 2 entries")]
+    TooShort,
+    /// A segment of more than 63 entries, or a beacon of more than 62.
+    #[error("a segment has at most 63 entries")]
+    TooLong,
+    /// The first entry has a way in or a later one has none; the last entry of a segment has a way
+    /// out, or another entry has none.
+    #[error("an interface is 0 exactly where a segment begins or ends")]
+    BadEnds,
+    /// An AS stands in two entries.
+    #[error("an AS stands in two entries")]
+    Loop,
+    /// The text is not JSON, or not of the form of a segment.
+    #[error("the text is not a segment in JSON")]
+    NotJson,
+}
+
+impl SegmentFault {
+    /// The number by which lines of text report this refusal.
+    pub fn code(self) -> u16
+        ensures { result ≡ code_of self }
+    {
+        match self {
+            SegmentFault::TooShort => 30,
+            SegmentFault::TooLong => 31,
+            SegmentFault::BadEnds => 32,
+            SegmentFault::Loop => 33,
+            SegmentFault::NotJson => 34,
+        }
+    }
+
+    /// The name by which lines of text report this refusal.
+    pub fn name(self) -> &'static str
+        ensures { result.now ≡ name_of self }
+    {
+        match self {
+            SegmentFault::TooShort => "TooShort",
+            SegmentFault::TooLong => "TooLong",
+            SegmentFault::BadEnds => "BadEnds",
+            SegmentFault::Loop => "Loop",
+            SegmentFault::NotJson => "NotJson",
+        }
+    }
+}
+
+/// Why a call that takes memory gave no beacon or segment: want of memory, or a refusal.
+#[derive(Clone, Copy, Debug, PartialEq, Eq, Error)]
+pub enum SegmentError {
+    /// Memory ran out.
+    #[error("out of memory")]
+    Memory,
+    /// The entries or the text are no beacon or segment.
+    #[error("{0}")]
+    Fault(SegmentFault),
+}
+
+impl From<SegmentFault> for SegmentError {
+    ghost from_gives = { λ f e. e ≡ Fault f };
+
+    fn from(fault: SegmentFault) -> SegmentError {
+        SegmentError::Fault(fault)
+    }
+}
+
+impl From<AllocError> for SegmentError {
+    ghost from_gives = { λ _ e. e ≡ Memory };
+
+    fn from(_error: AllocError) -> SegmentError {
+        SegmentError::Memory
+    }
+}
+
+impl<T: Drop> From<AllocFailed<T>> for SegmentError {
+    ghost from_gives = { λ _ e. e ≡ Memory };
+
+    fn from(_error: AllocFailed<T>) -> SegmentError {
+        SegmentError::Memory
+    }
+}

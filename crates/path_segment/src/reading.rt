@@ -1,0 +1,145 @@
+ghost use Rattle.std.specs.Prelude.{◌≡◌, ℕ, ◌≤◌, IfSome, option_map, Err};
+ghost use Rattle.std.specs.Option.{ok_or};
+ghost use Rattle.std.specs.Str.{IsUtf8};
+ghost use Rattle.serde_json.specs.View.{view, items_view};
+ghost use Rattle.path_segment.specs.Fault.{Answers};
+ghost use Rattle.path_segment.specs.Reading.{text_at, whole_at, address_in, mac_at, kind_at, entry_at, entries_at, list_at, chain_at, judged, segment_in};
+
+use crate::entry::Entry;
+use crate::fault::{SegmentError, SegmentFault};
+use crate::kind::SegKind;
+use crate::segment::Segment;
+use hex::FromHex;
+use isd_as::{IfId, IsdAs};
+use serde_json::Value;
+use std::alloc::Global;
+
+impl Segment {
+    /// The segment that a JSON text describes.
+    ///
+    /// An object with `kind` (`core` or `intra`), `timestamp` (0 to 4294967295), `beta0` (0 to 65535)
+    /// and the list `entries`. An entry has `ia` (an address), `ingress` and `egress` (0 to 65535),
+    /// `exp` (0 to 255) and `mac` (12 hexadecimal digits). Members beside these are ignored.
+    ///
+    /// [`SegmentFault::NotJson`] where the text is not of this form, and then the refusals of
+    /// [`Segment::new`]. Want of memory is [`SegmentError::Memory`].
+    pub fn from_json(alloc: Global, bytes: &[u8]) -> Result<Segment, SegmentError>
+        ensures text { IsUtf8 bytes.now → Answers (λ s. s) result (segment_in bytes.now) }
+        ensures no_text { ¬ IsUtf8 bytes.now → Answers (λ s. s) result (Err SegmentFault.NotJson) }
+    {
+        match Value::from_slice(alloc, bytes) {
+            Ok(value) => segment_of(alloc, &value),
+            Err(error) if error.is_memory() => Err(SegmentError::Memory),
+            Err(_) => Err(SegmentError::Fault(SegmentFault::NotJson)),
+        }
+    }
+}
+
+/// The segment of a JSON value.
+#[tactic(auto, unfolding(crate::specs::Reading::chain_at))]
+fn segment_of(alloc: Global, value: &Value) -> Result<Segment, SegmentError>
+    ensures { Answers (λ s. s) result (judged (chain_at (view value.now))) }
+{
+    let kind = kind(value, "kind").ok_or(SegmentFault::NotJson)?;
+    let timestamp = whole(value, "timestamp", 4_294_967_295).ok_or(SegmentFault::NotJson)?;
+    let beta0 = whole(value, "beta0", 65535).ok_or(SegmentFault::NotJson)?;
+    let values = list(value, "entries").ok_or(SegmentFault::NotJson)?;
+    let entries = entries_of(alloc, values)?;
+    let segment = Segment::new(kind, timestamp as u32, beta0 as u16, entries)?;
+    Ok(segment)
+}
+
+/// The entries of a list.
+fn entries_of(alloc: Global, values: &[Value]) -> Result<Vec<Entry>, SegmentError>
+    ensures { Answers (λ v. v.items) result
+        (ok_or (entries_at (items_view values.now)) SegmentFault.NotJson) }
+{
+    let mut entries = Vec::new(alloc);
+    for value in values {
+        let entry = entry_of(value).ok_or(SegmentFault::NotJson)?;
+        entries.push(entry)?;
+    }
+    Ok(entries)
+}
+
+/// An entry.
+#[tactic(auto, unfolding(crate::specs::Reading::entry_at))]
+fn entry_of(value: &Value) -> Option<Entry>
+    ensures { result ≡ entry_at (view value.now) }
+{
+    let ia = address(value, "ia")?;
+    let cons_ingress = whole(value, "ingress", 65535)?;
+    let cons_egress = whole(value, "egress", 65535)?;
+    let exp_time = whole(value, "exp", 255)?;
+    let mac = mac(value, "mac")?;
+    Some(Entry {
+        ia,
+        cons_ingress: IfId(cons_ingress as u16),
+        cons_egress: IfId(cons_egress as u16),
+        exp_time: exp_time as u8,
+        mac,
+    })
+}
+
+/// A member that is a text.
+#[tactic(auto, unfolding(crate::specs::Reading::text_at))]
+fn text<'a>(value: &'a Value, name: &str) -> Option<&'a str>
+    ensures { option_map (λ t. t.now) result ≡ text_at name.now (view value.now) }
+{
+    let member = value.get(name)?;
+    member.as_str()
+}
+
+/// A member that is a whole number up to `high`.
+#[tactic(auto, unfolding(crate::specs::Reading::whole_at))]
+fn whole(value: &Value, name: &str, high: u64) -> Option<u64>
+    ensures value { result ≡ whole_at high name.now (view value.now) }
+    ensures high { IfSome result (λ n. n ≤ high) }
+{
+    let member = value.get(name)?;
+    let number = member.as_u64()?;
+    if number <= high { Some(number) } else { None }
+}
+
+/// A member that is an address.
+#[tactic(auto, unfolding(crate::specs::Reading::address_in))]
+fn address(value: &Value, name: &str) -> Option<IsdAs>
+    ensures { result ≡ address_in name.now (view value.now) }
+{
+    let text = text(value, name)?;
+    IsdAs::parse(text).ok()
+}
+
+/// A member that is an authenticator in hexadecimal.
+#[tactic(auto, unfolding(crate::specs::Reading::mac_at))]
+fn mac(value: &Value, name: &str) -> Option<[u8; 6]>
+    ensures { result ≡ mac_at name.now (view value.now) }
+{
+    let text = text(value, name)?;
+    <[u8; 6] as FromHex>::from_hex(text).ok()
+}
+
+/// A member that is the name of a kind.
+#[tactic(auto, unfolding(crate::specs::Reading::kind_at))]
+fn kind(value: &Value, name: &str) -> Option<SegKind>
+    ensures { result ≡ kind_at name.now (view value.now) }
+{
+    let text = text(value, name)?;
+    match text {
+        "core" => Some(SegKind::Core),
+        "intra" => Some(SegKind::Intra),
+        _ => None,
+    }
+}
+
+/// A member that is the list of these values.
+#[tactic(auto, unfolding(crate::specs::Reading::list_at))]
+fn list<'a>(value: &'a Value, name: &str) -> Option<&'a [Value]>
+    ensures { option_map (λ vs. items_view vs.now) result ≡ list_at name.now (view value.now) }
+{
+    let member = value.get(name)?;
+    match member.as_array() {
+        Some(values) => Some(values),
+        None => None,
+    }
+}

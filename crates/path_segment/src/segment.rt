@@ -1,0 +1,148 @@
+ghost use Rattle.std.specs.Prelude.{◌≡◌, ◌<◌, ◌≤◌, ◌↔◌, length, Ok, IfOk, OnOk, IsTrue};
+ghost use Rattle.path_segment.specs.Chain.{chain_of, beta_of, between, IsLeastExpiry, AreLive};
+ghost use Rattle.path_segment.specs.Rules.{AreOfSegment, IsSegment, segment_of};
+
+use crate::chain::{are_live, are_same, beta_after_all, copied, least_expiry_of};
+use crate::entry::Entry;
+use crate::fault::SegmentFault;
+use crate::kind::SegKind;
+use crate::rules::fault_of_segment;
+use std::alloc::{AllocError, Global};
+use std::marker::Model;
+
+/// A path segment: 2 to 63 entries, in the direction in which it was made.
+///
+/// Its type keeps the rules: only the first entry has no way in, only the last no way out, and no AS
+/// stands in it twice.
+#[derive(Debug, Drop)]
+pub struct Segment {
+    pub(crate) kind: SegKind,
+    pub(crate) timestamp: u32,
+    pub(crate) beta0: u16,
+    pub(crate) entries: Vec<Entry>,
+}
+
+impl Model for Segment {
+    ghost use Rattle.path_segment.specs.Chain.{Chain, chain_of};
+    ghost use Rattle.path_segment.specs.Rules.{IsSegment};
+
+    ghost Value = { Chain };
+
+    ghost view = { λ s. chain_of s.kind s.timestamp s.beta0 s.entries.items };
+
+    ghost invariant = { λ s. IsSegment (chain_of s.kind s.timestamp s.beta0 s.entries.items) };
+}
+
+impl Segment {
+    /// The segment of these parts: `timestamp` is in seconds, and `beta0` the accumulator with which
+    /// the first hop is authenticated.
+    ///
+    /// The first of these refusals: [`SegmentFault::TooShort`] for fewer than 2 entries,
+    /// [`SegmentFault::TooLong`] for more than 63, [`SegmentFault::BadEnds`] where the first entry has
+    /// a way in or a later one none, or the last a way out or an earlier one none,
+    /// [`SegmentFault::Loop`] where an AS stands in two entries.
+    pub fn new(
+        kind: SegKind,
+        timestamp: u32,
+        beta0: u16,
+        entries: Vec<Entry>,
+    ) -> Result<Segment, SegmentFault>
+        // What is built has these entries, which keep the rules.
+        ensures found { OnOk result (AreOfSegment entries.items) }
+        // What keeps the rules is built.
+        ensures only { AreOfSegment entries.items
+            → result ≡ Ok (chain_of kind timestamp beta0 entries.items) }
+        // Which refusal it is.
+        ensures exact { result ≡ segment_of (chain_of kind timestamp beta0 entries.items) }
+    {
+        match fault_of_segment(&entries) {
+            Some(fault) => Err(fault),
+            None => Ok(Segment {
+                kind,
+                timestamp,
+                beta0,
+                entries,
+            }),
+        }
+    }
+
+    /// The same segment once more.
+    pub fn try_clone(&self, alloc: Global) -> Result<Segment, AllocError>
+        ensures { IfOk result (λ s. s ≡ self.now) }
+    {
+        let entries = copied(alloc, &self.entries)?;
+        Ok(Segment {
+            kind: self.kind,
+            timestamp: self.timestamp,
+            beta0: self.beta0,
+            entries,
+        })
+    }
+
+    /// Whether the other is the same segment: of the same kind, timestamp, first accumulator and
+    /// entries.
+    pub fn is_same(&self, other: &Segment) -> bool
+        ensures { IsTrue result ↔ (self.now ≡ other.now) }
+    {
+        self.kind == other.kind
+            && self.timestamp == other.timestamp
+            && self.beta0 == other.beta0
+            && are_same(&self.entries, &other.entries)
+    }
+
+    /// What kind of links it follows.
+    pub fn kind(&self) -> SegKind
+        ensures { result ≡ self.now.kind }
+    {
+        self.kind
+    }
+
+    /// When it was made, in seconds.
+    pub fn timestamp(&self) -> u32
+        ensures { result ≡ self.now.timestamp }
+    {
+        self.timestamp
+    }
+
+    /// The accumulator with which its first hop is authenticated.
+    pub fn beta0(&self) -> u16
+        ensures { result ≡ self.now.beta0 }
+    {
+        self.beta0
+    }
+
+    /// Its entries, in construction order, which keep the rules of segments.
+    pub fn entries(&self) -> &[Entry]
+        ensures value { result.now ≡ self.now.entries }
+        ensures kept { IsSegment self.now }
+        ensures rules { AreOfSegment self.now.entries }
+    {
+        &self.entries
+    }
+
+    /// The accumulator with which the entry at place `i` is authenticated, or after the last entry
+    /// the one that all authenticators leave.
+    pub fn beta_at(&self, i: usize) -> u16
+        requires { i ≤ length self.now.entries }
+        ensures { result ≡ beta_of self.now i }
+    {
+        beta_after_all(self.beta0, &self.entries[..i])
+    }
+
+    /// The moment, in half seconds, at which the first of the hops from place `a` to place `b`
+    /// expires, both included.
+    pub fn least_expiry(&self, a: usize, b: usize) -> u64
+        requires order { a ≤ b }
+        requires within { b < length self.now.entries }
+        ensures { IsLeastExpiry self.now.timestamp (between a b self.now.entries) result }
+    {
+        least_expiry_of(self.timestamp, &self.entries[a..b + 1])
+    }
+
+    /// Whether every hop is live at the second `now`.
+    pub fn is_live(&self, now: u32) -> bool
+        ensures { IsTrue result ↔ AreLive self.now now }
+    {
+        are_live(self.timestamp, &self.entries, now)
+    }
+}
