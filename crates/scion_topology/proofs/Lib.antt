@@ -9,3 +9,4 @@ pub mod Marking
 pub mod Relinked
 pub mod Keyed
 pub mod Ends
+pub mod Numbered

@@ -4,6 +4,7 @@ use Rattle.std.specs.List.{list_all, position_or_len}
 use Rattle.std.specs.Option.{ok_or}
 use Rattle.serde_json.specs.Data.{Data}
 use Rattle.serde_json.specs.Read.{read}
+use Rattle.scion_topology.specs.declared.entry.IfEntry.{IfEntry}
 use Rattle.scion_topology.specs.declared.fault.TopologyFault.{TopologyFault}
 use Rattle.scion_topology.specs.declared.fault.TopologyFault.TheVariants as faults
 use Rattle.scion_topology.specs.declared.network.AsEntry.{AsEntry}
@@ -12,7 +13,7 @@ use Rattle.scion_topology.specs.declared.network.End.{End}
 use Rattle.scion_topology.specs.declared.network.Link.{Link}
 use Rattle.scion_topology.specs.View.{View}
 use Rattle.scion_topology.specs.Keys.{keys_of}
-use Rattle.scion_topology.specs.Network.{Network, is_as, is_link, as_named, is_end, has_end, link_named, table_of}
+use Rattle.scion_topology.specs.Network.{Network, is_as, is_link, as_named, is_end, has_end, link_named, table_of, interface_in}
 use Rattle.scion_topology.specs.Causes.{cause_of}
 use Rattle.scion_topology.specs.Reading.{◌>>=◌, list_at, items_at, as_at, link_at}
 
@@ -60,6 +61,10 @@ unfoldable pub info_in : Network → ℕ → Result AsInfo TopologyFault
 info_in n ia = do
   one ← known n ia
   Ok (record { position = position_or_len (λ other. other.ia == ia) n.ases; core = one.core; exp_time = one.exp_time; routers = one.routers })
+
+-- an interface of an AS
+abbrev pub interface_at : Network → ℕ → ℕ → Result IfEntry TopologyFault
+interface_at n ia number = known n ia >>= λ _. ok_or (interface_in (table_of ia n.links) number) faults.NoLink
 
 -- the end of a link at this interface, and the other end
 abbrev pub near_end : Link → ℕ → ℕ → End

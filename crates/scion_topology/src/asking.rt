@@ -2,8 +2,9 @@ ghost use Rattle.std.specs.Prelude.{◌≡◌, ◌<◌, IfOk, length};
 ghost use Rattle.std.specs.Ordering.{nat_cmp};
 ghost use Rattle.std.specs.BTreeMap.{get};
 ghost use Rattle.std.specs.Option.{option_copied};
+ghost use Rattle.scion_topology.specs.Network.{as_named, interface_in};
 ghost use Rattle.scion_topology.specs.Reading.{Gives};
-ghost use Rattle.scion_topology.specs.Topology.{IsNetwork, joined, info_in, far_end_in, owner_in, view_in};
+ghost use Rattle.scion_topology.specs.Topology.{IsNetwork, joined, info_in, interface_at, far_end_in, owner_in, view_in};
 ghost use Rattle.scion_topology.specs.Index.{seen, joint_in, site_in, place_in};
 
 use crate::causes::is_at;
@@ -73,6 +74,26 @@ impl Topology {
         Ok(RouterView::of_parts(ia, router, &one.keys, &site.table))
     }
 
+    /// An AS as the list has it, with its keys; nothing where it isn't listed.
+    pub fn as_entry(&self, ia: IsdAs) -> Option<&AsEntry>
+        ensures { option_copied result ≡ as_named self.now.ases ia }
+    {
+        match self.site(ia) {
+            Ok((one, _)) => Some(one),
+            Err(_) => None,
+        }
+    }
+
+    /// The interface of this number of an AS: [`TopologyFault::UnknownAs`], then
+    /// [`TopologyFault::NoLink`] where the AS has no such interface.
+    pub fn interface(&self, ia: IsdAs, number: IfId) -> Result<&IfEntry, TopologyFault>
+        ensures { Gives (λ entry. entry.now) result (interface_at self.now ia number) }
+    {
+        let _ = &self.links;
+        let (_, site) = self.site(ia)?;
+        numbered(&site.table, number).ok_or(TopologyFault::NoLink)
+    }
+
     /// Does nothing, and tells its caller what is kept of every topology.
     pub fn known(&self)
         ensures { IsNetwork self.now }
@@ -116,6 +137,13 @@ fn site_of(sites: &BTreeMap<IsdAs, Site>, ia: IsdAs) -> Option<&Site>
     ensures { option_copied result ≡ get nat_cmp sites.now ia }
 {
     sites.get(&ia)
+}
+
+/// The interface of this number in a table.
+fn numbered(table: &[IfEntry], number: IfId) -> Option<&IfEntry>
+    ensures { option_copied result ≡ interface_in table.now number }
+{
+    table.iter().find(|entry| entry.number == number)
 }
 
 /// What a table and the places of its links have for an interface.

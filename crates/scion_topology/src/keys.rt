@@ -1,4 +1,4 @@
-ghost use Rattle.std.specs.Prelude.{◌≡◌, ℕ, List, [], ◌∷◌, Some, Ok, slice_get};
+ghost use Rattle.std.specs.Prelude.{◌≤◌, length, ◌≡◌, ℕ, List, [], ◌∷◌, Some, Ok, slice_get};
 ghost use Rattle.hop_mac.specs.Hmac.{padded};
 ghost use Rattle.scion_topology.specs.Keys.{keys_of};
 
@@ -52,8 +52,10 @@ impl Keys {
     }
 
     /// The key in use, under which the AS makes authenticators.
+    #[tactic(auto, unfolding(crate::specs::Keys::keys_of))]
     pub fn current(&self) -> &[u8]
-        ensures { slice_get self.now 0 ≡ Some result.now }
+        ensures value { slice_get self.now 0 ≡ Some result.now }
+        ensures len { length result.now ≤ 64 }
     {
         &self.current
     }

@@ -1,12 +1,12 @@
 //! Laws of views and of topologies: each is the contract of a function that does nothing.
 
-ghost use Rattle.std.specs.Prelude.{◌≡◌, ℕ, ◌<◌, IfSome, IsSome, List, ◌∷◌, [], Contains, Ok, Some, IfOk, IsTrue, ◌↔◌};
+ghost use Rattle.std.specs.Prelude.{◌≡◌, ◌≢◌, ℕ, ◌<◌, IfSome, IsSome, List, ◌∷◌, [], Contains, Ok, Some, IfOk, IsTrue, ◌↔◌};
 ghost use Rattle.scion_topology.specs.declared.entry.IfEntry.{IfEntry};
 ghost use Rattle.scion_topology.specs.View.{View, IsRight, IsAuthentic, entry_of, is_authentic};
 ghost use Rattle.scion_topology.specs.declared.network.AsEntry.{AsEntry};
 ghost use Rattle.scion_topology.specs.Building.{view_of};
 ghost use Rattle.scion_topology.specs.Network.{Network, table_of, mirrored, interface_in};
-ghost use Rattle.scion_topology.specs.Topology.{IsNetwork, known, far_end_in, owner_in};
+ghost use Rattle.scion_topology.specs.Topology.{IsNetwork, known, interface_at, far_end_in, owner_in};
 
 /// A view that is made shows exactly the parts that it was made of, and they are right.
 pub fn view_shows_its_parts()
@@ -46,4 +46,9 @@ pub fn ends_are_mirrored()
         → interface_in (table_of ia n.links) number ≡ Some near
         → IfSome (interface_in (table_of x n.links) m) (λ far. (far.kind ≡ mirrored near.kind) × (far.up ≡ near.up)) }
     ensures there { (n : Network) (ia number x m : ℕ) → IsNetwork n → far_end_in n ia number ≡ Ok (x, m) → IsSome (interface_in (table_of ia n.links) number) }
+{}
+
+/// No interface of a network has the number 0.
+pub fn no_interface_is_zero()
+    ensures { (n : Network) (ia number : ℕ) (entry : IfEntry) → IsNetwork n → interface_at n ia number ≡ Ok entry → number ≢ 0 }
 {}

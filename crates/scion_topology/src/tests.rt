@@ -164,6 +164,9 @@ fn answers_what_was_read(rt: HostRuntime) -> Result<(), Fail> {
         routers: 1,
     };
     assert_eq!(rt; topology.as_info(at(MIDDLE))?, info);
+    assert!(rt; topology.as_entry(at(TOP)).map(|one| one.core) == Some(true));
+    assert!(rt; topology.as_entry(at(1)).is_none());
+    assert!(rt; topology.interface(at(MIDDLE), IfId(2))? == &entry(2, LinkKind::Child, 0));
     assert_eq!(rt; topology.far_end(at(TOP), IfId(1))?, (at(MIDDLE), IfId(1)));
     assert_eq!(rt; topology.far_end(at(LEAF), IfId(1))?, (at(MIDDLE), IfId(2)));
     assert_eq!(rt; topology.owner(at(MIDDLE), IfId(2))?, 0);

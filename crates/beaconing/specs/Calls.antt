@@ -1,0 +1,66 @@
+-- What the calls of beaconing give, or the first cause why not (draft-dekater-scion-controlplane, path construction).
+use Rattle.std.specs.Prelude.{ℕ, ◌-◌, ◌==◌, not, nat_lt, [], ◌∷◌, length, slice_get, Option, Result, Ok, Err}
+use Rattle.std.specs.List.{list_any}
+use Rattle.std.specs.Option.{ok_or}
+use Rattle.scion_topology.specs.declared.fault.TopologyFault.{TopologyFault}
+use Rattle.scion_topology.specs.Network.{Network, as_named}
+use Rattle.scion_topology.specs.Topology.{interface_at, far_end_in}
+use Rattle.path_segment.specs.declared.entry.Entry.{Entry}
+use Rattle.path_segment.specs.Chain.{Chain, with_last}
+use Rattle.beaconing.specs.declared.fault.BeaconFault.{BeaconFault}
+use Rattle.beaconing.specs.declared.fault.BeaconFault.TheVariants.{TooLong, Loop, NotCore, NoInterface, LinkDown, WrongKind, NotHere}
+use Rattle.beaconing.specs.Fault.{◌>>=◌, check}
+use Rattle.beaconing.specs.Entry.{entry_by, added_by, kind_over, goes_on}
+
+-- what a topology answers, or this refusal
+abbrev pub or_else : {A : Type 0} → BeaconFault → Result A TopologyFault → Result A BeaconFault
+or_else fault (Ok x) = Ok x
+or_else fault (Err f) = Err fault
+
+-- the beacon of a core AS over one of its links: NotCore, NoInterface, LinkDown
+unfoldable pub originated : Network → ℕ → ℕ → ℕ → ℕ → Result Chain BeaconFault
+originated n ia egress timestamp beta0 = do
+  one ← ok_or (as_named n.ases ia) NotCore
+  _ ← check one.core NotCore
+  out ← or_else NoInterface (interface_at n ia egress)
+  _ ← check out.up LinkDown
+  Ok (record { kind = kind_over out.kind; timestamp = timestamp; beta0 = beta0; entries = entry_by one timestamp beta0 0 egress ∷ [] })
+
+-- the entry that was added last
+abbrev pub last_of : Chain → Option Entry
+last_of beacon = slice_get beacon.entries (length beacon.entries - 1)
+
+-- the interface by which the beacon comes to this AS from its last entry: NotHere, LinkDown
+unfoldable pub come_to : Network → Chain → ℕ → Result ℕ BeaconFault
+come_to n beacon ia = do
+  last ← ok_or (last_of beacon) NotHere
+  end ← or_else NotHere (far_end_in n last.ia last.cons_egress)
+  _ ← check (end.0 == ia) NotHere
+  into ← or_else NotHere (interface_at n ia end.1)
+  _ ← check into.up LinkDown
+  Ok end.1
+
+-- the beacon has no entry of this AS yet
+unfoldable pub is_new : Chain → ℕ → Result (Unit {0}) BeaconFault
+is_new beacon ia = check (not (list_any (λ entry. entry.ia == ia) beacon.entries)) Loop
+
+-- the beacon, passed on by an AS over one of its links: NotHere, LinkDown of the way in, Loop,
+-- TooLong, NoInterface, WrongKind, LinkDown of the way out
+unfoldable pub extended : Network → Chain → ℕ → ℕ → Result Chain BeaconFault
+extended n beacon ia egress = do
+  one ← ok_or (as_named n.ases ia) NotHere
+  ingress ← come_to n beacon ia
+  _ ← is_new beacon one.ia
+  _ ← check (nat_lt (length beacon.entries) 62) TooLong
+  out ← or_else NoInterface (interface_at n ia egress)
+  _ ← check (goes_on beacon.kind out.kind) WrongKind
+  _ ← check out.up LinkDown
+  Ok (with_last beacon (added_by one beacon ingress egress))
+
+-- the segment that ends in this AS: NotHere, LinkDown, Loop
+unfoldable pub terminated : Network → Chain → ℕ → Result Chain BeaconFault
+terminated n beacon ia = do
+  one ← ok_or (as_named n.ases ia) NotHere
+  ingress ← come_to n beacon ia
+  _ ← is_new beacon one.ia
+  Ok (with_last beacon (added_by one beacon ingress 0))

@@ -1,0 +1,58 @@
+-- What a network's links and keys make: a beacon under way and a segment (draft-dekater-scion-controlplane, path construction).
+use Rattle.std.specs.Prelude.{◌≡◌, ◌⊎◌, ℕ, ◌+◌, true, List, length, slice_get, Some, Ok, Any}
+use Rattle.hop_mac.specs.Hop.{authenticator}
+use Rattle.scion_topology.specs.declared.entry.IfEntry.{IfEntry}
+use Rattle.scion_topology.specs.declared.network.AsEntry.{AsEntry}
+use Rattle.scion_topology.specs.declared.network.End.{End}
+use Rattle.scion_topology.specs.declared.network.Link.{Link}
+use Rattle.scion_topology.specs.declared.network.LinkClass.TheVariants as classes
+use Rattle.scion_topology.specs.Network.{Network, as_named}
+use Rattle.scion_topology.specs.Causes.{is_core}
+use Rattle.scion_topology.specs.Topology.{interface_at}
+use Rattle.path_segment.specs.declared.entry.Entry.{Entry}
+use Rattle.path_segment.specs.declared.kind.SegKind.{SegKind}
+use Rattle.path_segment.specs.declared.kind.SegKind.TheVariants.{Core, Intra}
+use Rattle.path_segment.specs.Chain.{Chain, beta_of}
+use Rattle.path_segment.specs.Rules.{IsBeacon, IsSegment}
+use Rattle.beaconing.specs.Entry.{goes_on}
+use Rattle.beaconing.specs.Calls.{last_of}
+
+-- an entry of one of the network's ASes, with the AS's expiry, authenticated under this key and accumulator
+pub record IsEntryOf (n : Network) (timestamp beta : ℕ) (key : List ℕ) (entry : Entry) : Type 0 where
+  pub one : AsEntry
+  pub named : as_named n.ases entry.ia ≡ Some one
+  pub lifetime : entry.exp_time ≡ one.exp_time
+  pub mac : entry.mac ≡ authenticator key beta timestamp entry.exp_time entry.cons_ingress entry.cons_egress
+
+-- one end is the way out of an entry, and the other the way in of the next
+abbrev pub AreWays : Entry → Entry → End → End → Type 0
+AreWays entry next near far = (near.ia ≡ entry.ia) × (near.number ≡ entry.cons_egress) × (far.ia ≡ next.ia) × (far.number ≡ next.cons_ingress)
+
+-- the link leads from an entry to the next: a core link either way, a child link from the parent to the child
+abbrev pub LeadsOn : SegKind → Entry → Entry → Link → Type 0
+LeadsOn Core entry next link = (link.class ≡ classes.Core) × (AreWays entry next link.a link.b ⊎ AreWays entry next link.b link.a)
+LeadsOn Intra entry next link = (link.class ≡ classes.Child) × AreWays entry next link.a link.b
+
+-- entries as the network makes them, each under the key at its place: the first is of a core AS, and a link leads from each to the next
+pub record IsMade (n : Network) (keys : List (List ℕ)) (chain : Chain) : Type 0 where
+  pub keyed : length keys ≡ length chain.entries
+  pub core : (first : Entry) → slice_get chain.entries 0 ≡ Some first → is_core n.ases first.ia ≡ true
+  pub entries : (i : ℕ) (key : List ℕ) (entry : Entry) → slice_get keys i ≡ Some key → slice_get chain.entries i ≡ Some entry → IsEntryOf n chain.timestamp (beta_of chain i) key entry
+  pub joined : (i : ℕ) (entry next : Entry) → slice_get chain.entries i ≡ Some entry → slice_get chain.entries (i + 1) ≡ Some next → Any (LeadsOn chain.kind entry next) n.links
+
+-- the entry's way out is an interface of the network over which a beacon of this kind goes on
+pub record HasWayOut (n : Network) (kind : SegKind) (entry : Entry) : Type 0 where
+  pub out : IfEntry
+  pub there : interface_at n entry.ia entry.cons_egress ≡ Ok out
+  pub on : goes_on kind out.kind ≡ true
+
+-- a beacon that the network has made under these keys, and that may go on
+pub record IsUnderWay (n : Network) (keys : List (List ℕ)) (beacon : Chain) : Type 0 where
+  pub rules : IsBeacon beacon
+  pub made : IsMade n keys beacon
+  pub out : (last : Entry) → last_of beacon ≡ Some last → HasWayOut n beacon.kind last
+
+-- a segment that the network has made under these keys
+pub record IsIssued (n : Network) (keys : List (List ℕ)) (segment : Chain) : Type 0 where
+  pub rules : IsSegment segment
+  pub made : IsMade n keys segment

@@ -1,0 +1,150 @@
+ghost use Rattle.std.specs.Prelude.{◌≡◌, ◌∷◌, [], None, IfOk};
+ghost use Rattle.path_segment.specs.Chain.{Chain, with_last};
+ghost use Rattle.path_segment.specs.Rules.{first_fault, next_fault, last_fault};
+ghost use Rattle.beaconing.specs.Fault.{Answers};
+ghost use Rattle.beaconing.specs.Calls.{originated, extended, terminated};
+ghost use Rattle.beaconing.specs.Here.{Leads};
+
+use crate::fault::{BeaconError, BeaconFault};
+use crate::here::{added_by, come_to, entry_by, goes_on, is_new, kind_over, way_out};
+use isd_as::{IfId, IsdAs};
+use path_segment::{Beacon, Entry, SegKind, Segment, SegmentError};
+use scion_topology::Topology;
+use std::alloc::Global;
+
+/// The most entries of a beacon.
+const MAX_BEACON_LEN: usize = 62;
+
+/// The beacon that a core AS begins over one of its links: `timestamp` is in seconds, and `beta0`
+/// the accumulator with which its entry is authenticated. The kind is that of the link.
+///
+/// The first of these refusals: [`BeaconFault::NotCore`] where the topology has no such core AS,
+/// [`BeaconFault::NoInterface`] where the AS has no such interface, [`BeaconFault::LinkDown`] where
+/// its link is down.
+pub fn originate(
+    alloc: Global,
+    topology: &Topology,
+    ia: IsdAs,
+    egress: IfId,
+    timestamp: u32,
+    beta0: u16,
+) -> Result<Beacon, BeaconError>
+    ensures { Answers result (originated topology.now ia egress timestamp beta0) }
+{
+    let (kind, entry) = first_entry(topology, ia, egress, timestamp, beta0)?;
+    match Beacon::first(alloc, kind, timestamp, beta0, entry) {
+        Ok(beacon) => Ok(beacon),
+        Err(SegmentError::Memory) => Err(BeaconError::Memory),
+        Err(SegmentError::Fault(_)) => unreachable!(),
+    }
+}
+
+/// The beacon, passed on by the AS to which it comes, over one of its links.
+///
+/// The first of these refusals: [`BeaconFault::NotHere`] where the last way out does not lead to
+/// this AS, [`BeaconFault::LinkDown`] where that link is down, [`BeaconFault::Loop`] where the AS
+/// stands in the beacon already, [`BeaconFault::TooLong`] where the beacon has 62 entries,
+/// [`BeaconFault::NoInterface`] where the AS has no such interface, [`BeaconFault::WrongKind`] where
+/// the link is no core link, or none to a child, as the beacon's kind asks, and
+/// [`BeaconFault::LinkDown`] where it is down.
+pub fn extend(
+    alloc: Global,
+    topology: &Topology,
+    beacon: &Beacon,
+    ia: IsdAs,
+    egress: IfId,
+) -> Result<Beacon, BeaconError>
+    ensures { Answers result (extended topology.now beacon.now ia egress) }
+{
+    let entry = next_entry(topology, beacon, ia, egress)?;
+    match beacon.with_entry(alloc, &entry) {
+        Ok(beacon) => Ok(beacon),
+        Err(SegmentError::Memory) => Err(BeaconError::Memory),
+        Err(SegmentError::Fault(_)) => unreachable!(),
+    }
+}
+
+/// The segment that ends in the AS to which the beacon comes.
+///
+/// The first of these refusals: [`BeaconFault::NotHere`] where the last way out does not lead to
+/// this AS, [`BeaconFault::LinkDown`] where that link is down, [`BeaconFault::Loop`] where the AS
+/// stands in the beacon already.
+pub fn terminate(
+    alloc: Global,
+    topology: &Topology,
+    beacon: &Beacon,
+    ia: IsdAs,
+) -> Result<Segment, BeaconError>
+    ensures { Answers result (terminated topology.now beacon.now ia) }
+{
+    let entry = last_entry(topology, beacon, ia)?;
+    match beacon.finish(alloc, &entry) {
+        Ok(segment) => Ok(segment),
+        Err(SegmentError::Memory) => Err(BeaconError::Memory),
+        Err(SegmentError::Fault(_)) => unreachable!(),
+    }
+}
+
+/// The kind of a new beacon, and its entry.
+#[tactic(auto, unfolding(crate::specs::Calls::originated, path_segment::specs::Rules::first_fault))]
+fn first_entry(
+    topology: &Topology,
+    ia: IsdAs,
+    egress: IfId,
+    timestamp: u32,
+    beta0: u16,
+) -> Result<(SegKind, Entry), BeaconFault>
+    ensures value { Leads (λ x. record { kind = x.0; timestamp = timestamp; beta0 = beta0; entries = x.1 ∷ [] }) result
+        (originated topology.now ia egress timestamp beta0) }
+    ensures fits { IfOk result (λ x. first_fault x.1 ≡ None) }
+{
+    let one = topology.as_entry(ia).ok_or(BeaconFault::NotCore)?;
+    if !one.core {
+        return Err(BeaconFault::NotCore);
+    }
+    let out = way_out(topology, ia, egress)?;
+    if !out.up {
+        return Err(BeaconFault::LinkDown);
+    }
+    let entry = entry_by(one, timestamp, beta0, IfId::NONE, egress);
+    Ok((kind_over(out.kind), entry))
+}
+
+/// The entry by which an AS passes a beacon on.
+#[tactic(auto, unfolding(crate::specs::Calls::extended, path_segment::specs::Rules::next_fault))]
+fn next_entry(
+    topology: &Topology,
+    beacon: &Beacon,
+    ia: IsdAs,
+    egress: IfId,
+) -> Result<Entry, BeaconFault>
+    ensures value { Leads (λ entry. with_last beacon.now entry) result (extended topology.now beacon.now ia egress) }
+    ensures fits { IfOk result (λ entry. next_fault beacon.now.entries entry ≡ None) }
+{
+    let one = topology.as_entry(ia).ok_or(BeaconFault::NotHere)?;
+    let ingress = come_to(topology, beacon, ia)?;
+    is_new(beacon, one.ia)?;
+    if beacon.entries().len() >= MAX_BEACON_LEN {
+        return Err(BeaconFault::TooLong);
+    }
+    let out = way_out(topology, ia, egress)?;
+    if !goes_on(beacon.kind(), out.kind) {
+        return Err(BeaconFault::WrongKind);
+    }
+    if !out.up {
+        return Err(BeaconFault::LinkDown);
+    }
+    Ok(added_by(one, beacon, ingress, egress))
+}
+
+/// The entry by which an AS ends a beacon.
+#[tactic(auto, unfolding(crate::specs::Calls::terminated, path_segment::specs::Rules::last_fault))]
+fn last_entry(topology: &Topology, beacon: &Beacon, ia: IsdAs) -> Result<Entry, BeaconFault>
+    ensures value { Leads (λ entry. with_last beacon.now entry) result (terminated topology.now beacon.now ia) }
+    ensures fits { IfOk result (λ entry. last_fault beacon.now.entries entry ≡ None) }
+{
+    let one = topology.as_entry(ia).ok_or(BeaconFault::NotHere)?;
+    let ingress = come_to(topology, beacon, ia)?;
+    is_new(beacon, one.ia)?;
+    Ok(added_by(one, beacon, ingress, IfId::NONE))
+}
