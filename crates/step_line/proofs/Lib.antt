@@ -1,0 +1,4 @@
+pub mod Decimal
+pub mod Views
+pub mod Matches
+pub mod Asked

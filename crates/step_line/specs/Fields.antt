@@ -1,0 +1,98 @@
+-- The values of `scionet step`'s options, as their texts write them.
+use Rattle.std.specs.Prelude.{◌≡◌, ℕ, ◌&&◌, ◌==◌, nat_lt, nat_le, Bool, true, false, if◌then◌else◌, codes, List, [], ◌∷◌, length, Option, Some, None, Result, Ok, Err}
+use Rattle.std.specs.Borrow.{Bor}
+use Rattle.std.specs.List.{position_or_len, before_first, after_first}
+use Rattle.std.specs.Str.{bytes_eq}
+use Rattle.std.specs.Str.Parse.{digits_value}
+use Rattle.hex.specs.Hex.{decode_of}
+use Rattle.isd_as.specs.Reading.{address_at, all_digits}
+use Rattle.scion_topology.specs.declared.entry.IfEntry.{IfEntry}
+use Rattle.scion_topology.specs.declared.entry.LinkKind.{LinkKind}
+use Rattle.scion_topology.specs.declared.entry.LinkKind.TheVariants.{Core, Parent, Child}
+use Rattle.router_step.specs.declared.arrival.Arrival.{Arrival}
+use Rattle.router_step.specs.declared.arrival.Arrival.TheVariants.{FromHost, Inside, Link}
+
+-- one value after another, as long as each can be read
+infixl 10 ◌>>=◌
+abbrev pub ◌>>=◌ : {A B : Type 0} → Option A → (A → Option B) → Option B
+(Some x) >>= f = f x
+None >>= f = None
+
+-- what another reader reads, whatever the reason of its refusal
+abbrev pub only : {A E : Type 0} → Result A E → Option A
+only (Ok x) = Some x
+only (Err e) = None
+
+-- whether the text is decimal digits alone, at least one
+abbrev pub is_decimal : List ℕ → Bool
+is_decimal text = nat_lt 0 (length text) && all_digits 10 text
+
+-- a number from low to high, in decimal digits
+unfoldable pub number_at : ℕ → ℕ → List ℕ → Option ℕ
+number_at low high text =
+    if is_decimal text && (nat_le low (digits_value 10 text) && nat_le (digits_value 10 text) high)
+    then Some (digits_value 10 text) else None
+
+-- bytes in hexadecimal, with letters of either case
+abbrev pub bytes_of : List ℕ → Option (List ℕ)
+bytes_of text = only (decode_of text)
+
+-- the address of an AS
+abbrev pub ia_at : List ℕ → Option ℕ
+ia_at text = only (address_at text)
+
+-- how the packet came: `host`, `inside`, or the number of the interface by which it came in
+unfoldable pub arrival_at : List ℕ → Option Arrival
+arrival_at text =
+    if bytes_eq text (codes "host") then Some FromHost
+    else if bytes_eq text (codes "inside") then Some Inside
+    else (do
+      number ← number_at 1 65535 text
+      Some (Link number))
+
+-- the text before and the text after the first comma
+abbrev pub cut : List ℕ → Option (List ℕ × List ℕ)
+cut text =
+    if nat_lt (position_or_len (λ b. b == 44) text) (length text)
+    then Some (before_first (λ b. b == 44) text, after_first (λ b. b == 44) text)
+    else None
+
+-- what a function of the code returned are these two parts, or there is no comma
+abbrev pub GivesParts : Option (Bor (List ℕ) × Bor (List ℕ)) → Option (List ℕ × List ℕ) → Type 0
+GivesParts (Some x) parts = parts ≡ Some (x.0.now, x.1.now)
+GivesParts None parts = parts ≡ None
+
+-- what the AS at the far end of a link is
+unfoldable pub kind_at : List ℕ → Option LinkKind
+kind_at text =
+    if bytes_eq text (codes "core") then Some Core
+    else if bytes_eq text (codes "parent") then Some Parent
+    else if bytes_eq text (codes "child") then Some Child
+    else None
+
+-- whether a link is up
+unfoldable pub state_at : List ℕ → Option Bool
+state_at text =
+    if bytes_eq text (codes "up") then Some true
+    else if bytes_eq text (codes "down") then Some false
+    else None
+
+-- an interface: `NUMBER,core|parent|child,ROUTER,up|down`
+unfoldable pub interface_at : List ℕ → Option IfEntry
+interface_at text = do
+  first ← cut text
+  second ← cut first.1
+  third ← cut second.1
+  number ← number_at 1 65535 first.0
+  kind ← kind_at second.0
+  router ← number_at 0 63 third.0
+  up ← state_at third.1
+  Some (record { number = number; kind = kind; router = router; up = up })
+
+-- each interface of the table
+unfoldable pub interfaces_at : List (List ℕ) → Option (List IfEntry)
+interfaces_at [] = Some []
+interfaces_at (text ∷ texts) = do
+  entry ← interface_at text
+  table ← interfaces_at texts
+  Some (entry ∷ table)

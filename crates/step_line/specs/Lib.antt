@@ -1,0 +1,5 @@
+pub mod Fields
+pub mod Turn
+pub mod Line
+pub mod Words
+pub mod Fault

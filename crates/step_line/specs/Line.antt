@@ -1,0 +1,53 @@
+-- The line that `scionet step` prints of a packet.
+use Rattle.std.specs.Prelude.{ℕ, ◌==◌, ◌||◌, Bool, if◌then◌else◌, codes, List, [], ◌∷◌, ◌++◌, reverse, Option, option_map, Result, Ok, Err}
+use Rattle.std.specs.Fmt.{decimal}
+use Rattle.hex.specs.Hex.{encode_lower}
+use Rattle.path_header.specs.Fault as header
+use Rattle.router_step.specs.declared.outcome.Outcome.{Outcome}
+use Rattle.router_step.specs.declared.outcome.Outcome.TheVariants.{ToLink, ToRouter, Deliver}
+use Rattle.router_step.specs.declared.fault.Refusal.{Refusal}
+use Rattle.router_step.specs.declared.fault.Refusal.TheVariants.{BadHeader}
+use Rattle.router_step.specs.Fault.{code_of, name_of}
+use Rattle.router_step.specs.Packet.{packet_step}
+use Rattle.step_line.specs.Fields.{bytes_of}
+use Rattle.step_line.specs.Turn.{Turn}
+
+-- space, tab, CR or LF
+abbrev pub is_blank : ℕ → Bool
+is_blank b = (b == 32) || ((b == 9) || ((b == 13) || (b == 10)))
+
+-- the text from its first byte that is no blank
+unfoldable pub after_blanks : List ℕ → List ℕ
+after_blanks [] = []
+after_blanks (b ∷ rest) = if is_blank b then after_blanks rest else b ∷ rest
+
+-- the text without blanks at its ends
+abbrev pub trimmed : List ℕ → List ℕ
+trimmed text = reverse (after_blanks (reverse (after_blanks text)))
+
+-- a code and a name behind a word: `WORD CODE Name`
+abbrev pub coded : List ℕ → ℕ → List ℕ → List ℕ
+coded word code name = word ++ (codes " " ++ (decimal code ++ (codes " " ++ name)))
+
+-- a refusal: `refused CODE Name`, and of a packet without a path header the header's code and name
+abbrev pub refusal_text : Refusal → List ℕ
+refusal_text (BadHeader fault) =
+    coded (codes "refused 90 BadHeader") (header.code_of fault) (header.name_of fault)
+refusal_text refusal = coded (codes "refused") (code_of refusal) (name_of refusal)
+
+-- where the packet goes: `link IF HEX`, `router N HEX` or `deliver HEX`, with its bytes after the step
+abbrev pub outcome_text : Outcome → List ℕ → List ℕ
+outcome_text (ToLink interface) packet = coded (codes "link") interface (encode_lower packet)
+outcome_text (ToRouter router) packet = coded (codes "router") router (encode_lower packet)
+outcome_text Deliver packet = codes "deliver " ++ encode_lower packet
+
+-- the line, without its end
+abbrev pub text_of : Result (Outcome × List ℕ) Refusal → List ℕ
+text_of (Ok stepped) = outcome_text stepped.0 stepped.1
+text_of (Err refusal) = refusal_text refusal
+
+-- the line of the packet that this text writes in hexadecimal, with blanks at its ends
+unfoldable pub line_of : Turn → List ℕ → Option (List ℕ)
+line_of turn text =
+    option_map (λ packet. text_of (packet_step turn.view turn.moment turn.arrival packet))
+    (bytes_of (trimmed text))

@@ -1,0 +1,115 @@
+ghost use Rattle.std.specs.Prelude.{◌≡◌, IfOk};
+ghost use Rattle.step_line.specs.Turn.{turn_of, turn_with};
+ghost use Rattle.step_line.specs.Line.{line_of};
+ghost use Rattle.step_line.specs.Fault.{Prints};
+
+use crate::fault::StepFault;
+use crate::fields::{arrival, bytes, interfaces, number, number_of_router};
+use crate::line::{outcome_line, refusal_line, trim};
+use crate::texts::Texts;
+use isd_as::IsdAs;
+use router_step::{Arrival, step};
+use scion_topology::{IfEntry, RouterView};
+use std::alloc::{AllocError, Global};
+use std::marker::Model;
+
+/// One router's turn, read from the words of a command line: what the router knows of its AS, the
+/// second at which it works, and how the packet came to it.
+#[derive(Drop)]
+pub struct StepCommand {
+    ia: IsdAs,
+    router: u8,
+    key: Vec<u8>,
+    moment: u32,
+    arrival: Arrival,
+    table: Vec<IfEntry>,
+}
+
+impl Model for StepCommand {
+    ghost use Rattle.std.specs.Prelude.{◌≡◌, ◌∷◌, [], Ok};
+    ghost use Rattle.scion_topology.specs.Building.{view_of};
+    ghost use Rattle.step_line.specs.Turn.{Turn};
+
+    ghost Value = { Turn };
+
+    ghost view = { λ c. record { view = record { ia = c.ia; router = c.router; keys = c.key.items ∷ []; table = c.table.items }; moment = c.moment; arrival = c.arrival } };
+
+    ghost invariant = { λ c. view_of c.ia c.router c.key.items c.table.items ≡ Ok (record { ia = c.ia; router = c.router; keys = c.key.items ∷ []; table = c.table.items }) };
+}
+
+impl StepCommand {
+    /// The turn that the texts describe, or `None` where one can't be read or the parts make no view.
+    #[tactic(auto, unfolding(crate::specs::Turn::turn_of))]
+    pub(crate) fn from_texts(
+        alloc: Global,
+        texts: Texts<'_, '_>,
+    ) -> Result<Option<StepCommand>, AllocError>
+        ensures { IfOk result (λ o. o ≡ turn_of texts.entry) }
+    {
+        let Ok(ia) = IsdAs::parse(texts.ia) else {
+            return Ok(None);
+        };
+        let Some(router) = number_of_router(texts.router) else {
+            return Ok(None);
+        };
+        let Some(key) = bytes(alloc, texts.key.as_bytes())? else {
+            return Ok(None);
+        };
+        let Some(moment) = number(texts.now, 0, 4294967295) else {
+            return Ok(None);
+        };
+        let Some(arrival) = arrival(texts.from) else {
+            return Ok(None);
+        };
+        let Some(table) = interfaces(alloc, texts.interfaces)? else {
+            return Ok(None);
+        };
+        Ok(StepCommand::of_parts(ia, router, key, moment as u32, arrival, table))
+    }
+
+    /// The turn of these parts, or `None` where they make no view.
+    #[tactic(auto, using(crate::proofs::Views::view_of_accepts, crate::proofs::Views::turn_with_accepted, crate::proofs::Views::turn_with_refused))]
+    fn of_parts(
+        ia: IsdAs,
+        router: u8,
+        key: Vec<u8>,
+        moment: u32,
+        arrival: Arrival,
+        table: Vec<IfEntry>,
+    ) -> Option<StepCommand>
+        ensures { result ≡ turn_with ia router key.items moment arrival table.items }
+    {
+        if RouterView::new(ia, router, &key, &table).is_err() {
+            return None;
+        }
+        Some(StepCommand {
+            ia,
+            router,
+            key,
+            moment,
+            arrival,
+            table,
+        })
+    }
+
+    /// The line, without its end, that the turn prints of the packet that the text writes in
+    /// hexadecimal, letters of either case, with spaces, tabs, CR and LF at both ends.
+    ///
+    /// [`StepFault::PacketText`] where the text is not hexadecimal digits, two for each byte.
+    #[tactic(auto, unfolding(crate::specs::Line::line_of))]
+    pub fn line(&self, alloc: Global, packet: &str) -> Result<String, StepFault>
+        ensures { Prints result (line_of self.now packet.now) }
+    {
+        let Some(mut packet) = bytes(alloc, trim(packet.as_bytes()))? else {
+            return Err(StepFault::PacketText);
+        };
+        let view = match RouterView::new(self.ia, self.router, &self.key, &self.table) {
+            Ok(view) => view,
+            Err(_) => unreachable!(),
+        };
+        match step(&view, self.moment, self.arrival, &mut packet) {
+            Ok(outcome) => Ok(outcome_line(alloc, outcome, &packet)?),
+            Err(refusal) => Ok(refusal_line(alloc, refusal)?),
+        }
+    }
+}

@@ -1,0 +1,135 @@
+//! The values of the options, as their texts write them.
+
+ghost use Rattle.std.specs.Prelude.{◌≡◌, ℕ, ◌≤◌, IfOk, IfSome, List, map, option_map};
+ghost use Rattle.isd_as.specs.Reading.{all_digits};
+ghost use Rattle.step_line.specs.Fields.{GivesParts, arrival_at, bytes_of, cut, interface_at, interfaces_at, kind_at, number_at, state_at};
+
+use hex::FromHexError;
+use isd_as::IfId;
+use router_step::Arrival;
+use scion_topology::{IfEntry, LinkKind};
+use std::alloc::{AllocError, Global};
+
+/// Whether each byte is a decimal digit.
+fn is_all_digits(text: &str) -> bool
+    ensures { result ≡ all_digits 10 text.now }
+{
+    text.as_bytes().iter().all(|b| (*b as char).is_digit(10))
+}
+
+/// The number from `low` to `high` that the text writes in decimal digits, without a sign.
+#[tactic(auto, unfolding(crate::specs::Fields::number_at))]
+pub(crate) fn number(text: &str, low: u64, high: u64) -> Option<u64>
+    ensures value { result ≡ number_at low high text.now }
+    ensures low { IfSome result (λ n. low ≤ n) }
+    ensures high { IfSome result (λ n. n ≤ high) }
+{
+    if text.is_empty() || !is_all_digits(text) {
+        return None;
+    }
+    match u64::from_str_radix(text, 10) {
+        Ok(number) if low <= number && number <= high => Some(number),
+        _ => None,
+    }
+}
+
+/// The bytes that the text writes in hexadecimal, with letters of either case.
+pub(crate) fn bytes(alloc: Global, text: &[u8]) -> Result<Option<Vec<u8>>, AllocError>
+    ensures { IfOk result (λ o. option_map (λ v. v.items) o ≡ bytes_of text.now) }
+{
+    match hex::decode(alloc, text) {
+        Ok(bytes) => Ok(Some(bytes)),
+        Err(FromHexError::OutOfMemory) => Err(AllocError),
+        Err(_) => Ok(None),
+    }
+}
+
+/// How the packet came: `host`, `inside` or the number of an interface.
+#[tactic(auto, unfolding(crate::specs::Fields::arrival_at))]
+pub(crate) fn arrival(text: &str) -> Option<Arrival>
+    ensures { result ≡ arrival_at text.now }
+{
+    match text {
+        "host" => Some(Arrival::FromHost),
+        "inside" => Some(Arrival::Inside),
+        _ => {
+            let number = number(text, 1, 65535)?;
+            Some(Arrival::Link(IfId(number as u16)))
+        }
+    }
+}
+
+/// The text before and after the first comma.
+fn cut_at_comma(text: &str) -> Option<(&str, &str)>
+    ensures { GivesParts result (cut text.now) }
+{
+    text.split_once(',')
+}
+
+/// What the AS at the far end of a link is.
+#[tactic(auto, unfolding(crate::specs::Fields::kind_at))]
+fn kind(text: &str) -> Option<LinkKind>
+    ensures { result ≡ kind_at text.now }
+{
+    match text {
+        "core" => Some(LinkKind::Core),
+        "parent" => Some(LinkKind::Parent),
+        "child" => Some(LinkKind::Child),
+        _ => None,
+    }
+}
+
+/// Whether a link is up.
+#[tactic(auto, unfolding(crate::specs::Fields::state_at))]
+fn is_up(text: &str) -> Option<bool>
+    ensures { result ≡ state_at text.now }
+{
+    match text {
+        "up" => Some(true),
+        "down" => Some(false),
+        _ => None,
+    }
+}
+
+/// An interface, `NUMBER,core|parent|child,ROUTER,up|down`.
+#[tactic(auto, unfolding(crate::specs::Fields::interface_at))]
+fn interface(text: &str) -> Option<IfEntry>
+    ensures { result ≡ interface_at text.now }
+{
+    let (number_text, rest) = cut_at_comma(text)?;
+    let (kind_text, rest) = cut_at_comma(rest)?;
+    let (router_text, state_text) = cut_at_comma(rest)?;
+    let number = number(number_text, 1, 65535)?;
+    let kind = kind(kind_text)?;
+    let router = number_of_router(router_text)?;
+    let up = is_up(state_text)?;
+    Some(IfEntry {
+        number: IfId(number as u16),
+        kind,
+        router,
+        up,
+    })
+}
+
+/// The number of a router in its AS, 0 to 63.
+pub(crate) fn number_of_router(text: &str) -> Option<u8>
+    ensures { result ≡ number_at 0 63 text.now }
+{
+    let number = number(text, 0, 63)?;
+    Some(number as u8)
+}
+
+/// The table of these interfaces.
+#[tactic(auto, unfolding(crate::specs::Fields::interfaces_at))]
+pub(crate) fn interfaces(alloc: Global, texts: &[&str]) -> Result<Option<Vec<IfEntry>>, AllocError>
+    ensures { IfOk result (λ o. option_map (λ v. v.items) o ≡ interfaces_at (map (λ t. t.now) texts.now)) }
+{
+    let mut table = Vec::new(alloc);
+    for text in texts {
+        let Some(entry) = interface(text) else {
+            return Ok(None);
+        };
+        table.push(entry)?;
+    }
+    Ok(Some(table))
+}

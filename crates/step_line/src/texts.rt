@@ -1,0 +1,27 @@
+use std::marker::Model;
+
+/// The texts of the options and of the interfaces, as a command line gives them.
+#[derive(Drop)]
+pub(crate) struct Texts<'a, 'm> {
+    /// The address of the router's AS.
+    pub ia: &'a str,
+    /// The router's number in its AS.
+    pub router: &'a str,
+    /// The AS's key, in hexadecimal.
+    pub key: &'a str,
+    /// The second at which the router works.
+    pub now: &'a str,
+    /// How the packet came.
+    pub from: &'a str,
+    /// The AS's interfaces.
+    pub interfaces: &'m [&'a str],
+}
+
+impl<'a, 'm> Model for Texts<'a, 'm> {
+    ghost use Rattle.std.specs.Prelude.{map};
+    ghost use Rattle.step_line.specs.Turn.{OptionTexts};
+
+    ghost Value = { OptionTexts };
+
+    ghost view = { λ t. record { ia = t.ia.now; router = t.router.now; key = t.key.now; now = t.now.now; from = t.from.now; interfaces = map (λ i. i.now) t.interfaces.now } };
+}
