@@ -5,13 +5,13 @@ ghost use Rattle.std.specs.Prelude.{◌<◌, ◌≤◌, ◌^◌};
 use std::alloc::{AllocError, Global};
 
 /// How many ASes it has, numbered from 1.
-pub const ASES: u32 = 1024;
+pub(crate) const ASES: u32 = 1024;
 
 /// How many links it has, numbered from 0.
-pub const LINKS: u32 = 4096;
+pub(crate) const LINKS: u32 = 4096;
 
 /// The AS at the first end of a link.
-pub fn from(link: u32) -> u32
+pub(crate) fn from(link: u32) -> u32
     ensures { result ≤ 1024 }
 {
     link % ASES + 1
@@ -23,12 +23,12 @@ fn to(link: u32) -> u32 {
 }
 
 /// The interface at the first end of a link.
-pub fn port(link: u32) -> u16 {
+pub(crate) fn port(link: u32) -> u16 {
     (link % LINKS + 1) as u16
 }
 
 /// The network as JSON.
-pub fn text(alloc: Global) -> Result<String, AllocError> {
+pub(crate) fn text(alloc: Global) -> Result<String, AllocError> {
     let mut text = String::from_str(alloc, r#"{"ases":["#)?;
     for one in 1..=ASES {
         let comma = if one == 1 { "" } else { "," };

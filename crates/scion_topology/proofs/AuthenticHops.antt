@@ -1,6 +1,8 @@
 -- The test of an authenticator under a list of keys.
-use Rattle.std.proofs.Common.{◌≡◌, ℕ, Bool, true, false, ◌||◌, List, [], ◌∷◌, Decides, refl, sym, ◌∙◌, ap}
+use Rattle.std.proofs.Common.{◌≡◌, ℕ, Bool, true, false, ◌||◌, List, [], ◌∷◌, Decides, refl, sym}
+use Rattle.std.specs.Prelude.{IsTrue, ◌↔◌}
 use Rattle.std.specs.Str.{bytes_eq}
+use Rattle.std.proofs.lemmas.Bool.Decides.{Decides-at}
 use Rattle.std.proofs.lemmas.Slice.Eq.{bytes_eq-Decides}
 use Rattle.hop_mac.specs.Hmac.{padded}
 use Rattle.hop_mac.specs.Hop.{authenticator, authenticator_under}
@@ -12,16 +14,12 @@ or_nothing true = refl
 or_nothing false = refl
 
 -- under one key, made ready, the test is one comparison
-pub test_under_one : (view : View) (key block mac code : List ℕ) (beta timestamp exp_time cons_ingress cons_egress first second : ℕ)
-    → view.keys ≡ key ∷ [] → block ≡ padded key → first ≡ cons_ingress → second ≡ cons_egress
-    → code ≡ authenticator_under block beta timestamp exp_time first second
-    → bytes_eq mac code ≡ is_authentic view mac beta timestamp exp_time cons_ingress cons_egress
-test_under_one view key block mac code beta timestamp exp_time cons_ingress cons_egress first second one ready at_first at_second made =
-    let same : code ≡ authenticator_under (padded key) beta timestamp exp_time cons_ingress cons_egress =
-    made ∙ ap (λ b. authenticator_under b beta timestamp exp_time first second) ready
-    ∙ ap (λ n. authenticator_under (padded key) beta timestamp exp_time n second) at_first
-    ∙ ap (λ n. authenticator_under (padded key) beta timestamp exp_time cons_ingress n) at_second in
-    rw one (ap (bytes_eq mac) same ∙ sym (or_nothing (bytes_eq mac (authenticator_under (padded key) beta timestamp exp_time cons_ingress cons_egress))))
+pub test_under_one : (view : View) (key block mac : List ℕ) (beta timestamp exp_time cons_ingress cons_egress : ℕ)
+    → view.keys ≡ key ∷ [] → block ≡ padded key
+    → bytes_eq mac (authenticator_under block beta timestamp exp_time cons_ingress cons_egress)
+    ≡ is_authentic view mac beta timestamp exp_time cons_ingress cons_egress
+test_under_one view key block mac beta timestamp exp_time cons_ingress cons_egress one ready =
+    rw (one, ready) (sym (or_nothing (bytes_eq mac (authenticator_under (padded key) beta timestamp exp_time cons_ingress cons_egress))))
 
 pub Decides-is_authentic : (view : View) (mac : List ℕ) (beta timestamp exp_time cons_ingress cons_egress : ℕ)
     → Decides (is_authentic view mac beta timestamp exp_time cons_ingress cons_egress) (IsAuthentic view mac beta timestamp exp_time cons_ingress cons_egress)
@@ -31,3 +29,10 @@ Decides-is_authentic view mac beta timestamp exp_time cons_ingress cons_egress =
     (λ key. mac ≡ authenticator key beta timestamp exp_time cons_ingress cons_egress)
     (λ key. bytes_eq-Decides mac (authenticator key beta timestamp exp_time cons_ingress cons_egress))
     view.keys
+
+-- and the test tells what is authentic
+pub meant_by_test : (view : View) (mac : List ℕ) (beta timestamp exp_time cons_ingress cons_egress : ℕ) (passed : Bool)
+    → passed ≡ is_authentic view mac beta timestamp exp_time cons_ingress cons_egress
+    → IsTrue passed ↔ IsAuthentic view mac beta timestamp exp_time cons_ingress cons_egress
+meant_by_test view mac beta timestamp exp_time cons_ingress cons_egress passed same =
+    Decides-at _ _ same (Decides-is_authentic view mac beta timestamp exp_time cons_ingress cons_egress)

@@ -1,6 +1,8 @@
 ghost use Rattle.std.specs.Prelude.{◌≡◌, false, ℕ, ◌≤◌, ◌<◌, ◌↔◌, ◌==◌, ◌||◌, IsTrue, Some, length, slice_get, nat_lt};
 ghost use Rattle.std.specs.List.{list_any};
 ghost use Rattle.std.specs.Option.{option_copied};
+ghost use Rattle.std.specs.Str.{bytes_eq};
+ghost use Rattle.hop_mac.specs.Hop.{authenticator_under};
 ghost use Rattle.scion_topology.specs.View.{IsAuthentic, IsRight, entry_of, is_authentic};
 ghost use Rattle.scion_topology.specs.Building.{has_bad_field, is_named, is_wildcard, names_twice, view_of};
 
@@ -119,6 +121,7 @@ impl<'a> RouterView<'a> {
     }
 
     /// Whether `mac` is the authenticator of a hop of these values under an accepted key.
+    #[tactic(auto, using(crate::proofs::AuthenticHops::test_under_one))]
     pub fn authenticates(
         &self,
         mac: &[u8; 6],
@@ -131,12 +134,14 @@ impl<'a> RouterView<'a> {
         ensures meaning { IsTrue result ↔ IsAuthentic self.now mac.now beta timestamp exp_time cons_ingress cons_egress }
         ensures test { result ≡ is_authentic self.now mac.now beta timestamp exp_time cons_ingress cons_egress }
     {
-        *mac == self.ready.hop_mac(
+        is_made(
+            &self.ready,
+            mac,
             beta,
             timestamp,
             exp_time,
-            cons_ingress.number(),
-            cons_egress.number(),
+            cons_ingress,
+            cons_egress,
         )
     }
 
@@ -146,6 +151,27 @@ impl<'a> RouterView<'a> {
     {
         let _ = &self.table;
     }
+}
+
+/// Whether `mac` is the authenticator of a hop of these values under the key that was made ready.
+fn is_made(
+    ready: &MacKey,
+    mac: &[u8; 6],
+    beta: u16,
+    timestamp: u32,
+    exp_time: u8,
+    cons_ingress: IfId,
+    cons_egress: IfId,
+) -> bool
+    ensures { result ≡ bytes_eq mac.now (authenticator_under ready.now beta timestamp exp_time cons_ingress cons_egress) }
+{
+    *mac == ready.hop_mac(
+        beta,
+        timestamp,
+        exp_time,
+        cons_ingress.number(),
+        cons_egress.number(),
+    )
 }
 
 /// Whether the address, the key or an interface is not one that a view may have.

@@ -2,3 +2,4 @@ pub mod Decimal
 pub mod Views
 pub mod Matches
 pub mod Asked
+pub mod Whole

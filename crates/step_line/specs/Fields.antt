@@ -50,11 +50,15 @@ arrival_at text =
       number ← number_at 1 65535 text
       Some (Link number))
 
+-- a comma
+abbrev pub is_comma : ℕ → Bool
+is_comma b = b == 44
+
 -- the text before and the text after the first comma
 abbrev pub cut : List ℕ → Option (List ℕ × List ℕ)
 cut text =
-    if nat_lt (position_or_len (λ b. b == 44) text) (length text)
-    then Some (before_first (λ b. b == 44) text, after_first (λ b. b == 44) text)
+    if nat_lt (position_or_len is_comma text) (length text)
+    then Some (before_first is_comma text, after_first is_comma text)
     else None
 
 -- what a function of the code returned are these two parts, or there is no comma

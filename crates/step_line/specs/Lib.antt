@@ -3,3 +3,4 @@ pub mod Turn
 pub mod Line
 pub mod Words
 pub mod Fault
+pub mod Run

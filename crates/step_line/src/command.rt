@@ -93,14 +93,15 @@ impl StepCommand {
     }
 
     /// The line, without its end, that the turn prints of the packet that the text writes in
-    /// hexadecimal, letters of either case, with spaces, tabs, CR and LF at both ends.
+    /// hexadecimal, letters of either case, with spaces, tabs, CR and LF at both ends. The text comes
+    /// as bytes, which need not be UTF-8.
     ///
     /// [`StepFault::PacketText`] where the text is not hexadecimal digits, two for each byte.
     #[tactic(auto, unfolding(crate::specs::Line::line_of))]
-    pub fn line(&self, alloc: Global, packet: &str) -> Result<String, StepFault>
-        ensures { Prints result (line_of self.now packet.now) }
+    pub fn line(&self, alloc: Global, text: &[u8]) -> Result<String, StepFault>
+        ensures { Prints result (line_of self.now text.now) }
     {
-        let Some(mut packet) = bytes(alloc, trim(packet.as_bytes()))? else {
+        let Some(mut packet) = bytes(alloc, trim(text))? else {
             return Err(StepFault::PacketText);
         };
         let view = match RouterView::new(self.ia, self.router, &self.key, &self.table) {

@@ -7,13 +7,23 @@
 mod command;
 mod fault;
 mod fields;
+mod input;
 mod line;
+mod program;
+mod run_fault;
+mod status;
 mod texts;
 mod words;
 
 pub use command::StepCommand;
 pub use fault::StepFault;
+pub use input::read_input;
+pub use program::{end, run};
+pub use run_fault::RunFault;
+pub use status::Status;
 pub use words::step_line;
 
+#[cfg(test)]
+mod program_tests;
 #[cfg(test)]
 mod tests;

@@ -1,6 +1,7 @@
 use crate::{StepFault, step_line};
 use hex::encode;
 use hop_mac::hop_mac;
+use std::alloc::{AllocError, Global};
 use std::test::Fail;
 
 /// The words of a router of 1-ff00:0:111 and a packet of a host, but for the second and the interface.
@@ -16,6 +17,9 @@ const FRONT: [&str; 7] = [
 
 /// A packet of two hops from 1-ff00:0:111 to 1-ff00:0:110, up to its first hop's authenticator.
 const UP: &str = "0001ff00000001100001ff0000000111000020000000b39600000064003f00020000";
+
+/// The same front with the second hop as the current one.
+const MOVED: &str = "0001ff00000001100001ff0000000111010020000000b39600000064003f00020000";
 
 /// The hop behind that authenticator.
 const BEHIND: &str = "003f00000001a1a2a3a4a5a6";
@@ -54,23 +58,32 @@ fn refusals(rt: HostRuntime) -> Result<(), Fail> {
     Ok(())
 }
 
-/// A packet sent on over a link and inside the AS, and one with a wrong authenticator.
+/// The packet with this front, up to the first hop's authenticator, and that authenticator.
+fn up_packet(alloc: Global, front: &str, mac: [u8; 6]) -> Result<String, AllocError> {
+    let digits = encode(alloc, mac.as_slice())?;
+    format!(in alloc; "{front}{}{BEHIND}", digits.as_str())
+}
+
+/// A packet sent on over a link and inside the AS, and two with a wrong authenticator.
 #[test]
 fn sent_on(rt: HostRuntime) -> Result<(), Fail> {
     let alloc = rt.alloc();
-    let mac = encode(alloc, hop_mac(b"k", 0xb396, 100, 63, 2, 0).as_slice())?;
-    let packet = format!(in alloc; "{UP}{}{BEHIND}", mac.as_str())?;
+    let mac = hop_mac(b"k", 0xb396, 100, 63, 2, 0);
+    let packet = up_packet(alloc, UP, mac)?;
     let own = words("100", "host", "2,parent,0,up");
-    let behind = packet.as_str().split_at(34).1;
-    let line = format!(in alloc; "link 2 0001ff00000001100001ff000000011101{behind}")?;
+    let line = format!(in alloc; "link 2 {}", up_packet(alloc, MOVED, mac)?.as_str())?;
     assert_eq!(rt;
         step_line(alloc, &own, packet.as_str())?.as_str(),
         line.as_str()
     );
-    assert_eq!(rt;
-        step_line(alloc, &own, WRONG)?.as_str(),
-        "refused 94 BadMac"
-    );
+    let mut changed = mac;
+    changed[5] ^= 1;
+    for wrong in [up_packet(alloc, UP, changed)?.as_str(), WRONG] {
+        assert_eq!(rt;
+            step_line(alloc, &own, wrong)?.as_str(),
+            "refused 94 BadMac"
+        );
+    }
     let other = words("100", "host", "2,parent,63,up");
     let line = format!(in alloc; "router 63 {}", packet.as_str())?;
     assert_eq!(rt;
@@ -120,6 +133,11 @@ fn bad_packets(rt: HostRuntime) -> Result<(), Fail> {
     Ok(())
 }
 
+/// A key of 65 bytes, one too many.
+fn long_key() -> &'static str {
+    "6b6b6b6b6b6b6b6b6b6b6b6b6b6b6b6b6b6b6b6b6b6b6b6b6b6b6b6b6b6b6b6b6b6b6b6b6b6b6b6b6b6b6b6b6b6b6b6b6b6b6b6b6b6b6b6b6b6b6b6b6b6b6b6b6b"
+}
+
 /// Whether the words are refused.
 fn is_refused(rt: &HostRuntime, words: &[&str]) -> bool {
     matches!(step_line(rt.alloc(), words, "zz"), Err(StepFault::Usage(_)))
@@ -149,52 +167,46 @@ fn bad_words(rt: HostRuntime) -> Result<(), Fail> {
     ] {
         assert!(rt; is_refused(&rt, &words("1", "host", interface)));
     }
-    let [step, ia, address, router, number, key, hex] = FRONT;
     let now = "--now=1";
     let from = "--from=host";
-    assert!(rt; is_refused(&rt, &[step, ia, "1-0", router, number, key, hex, now, from]));
-    assert!(rt;
-        is_refused(
-            &rt,
-            &[step, ia, "ff00", router, number, key, hex, now, from]
-        )
-    );
-    assert!(rt; is_refused(&rt, &[step, ia, address, router, "64", key, hex, now, from]));
-    assert!(rt; is_refused(&rt, &[step, ia, address, router, "+1", key, hex, now, from]));
-    assert!(rt;
-        is_refused(
-            &rt,
-            &[step, ia, address, router, number, key, "6", now, from]
-        )
-    );
-    assert!(rt;
-        is_refused(
-            &rt,
-            &[step, ia, address, router, number, key, "", now, from]
-        )
-    );
-    assert!(rt; is_refused(&rt, &[step, ia, address, router, number, key, hex, now]));
-    assert!(rt;
-        is_refused(
-            &rt,
-            &[step, ia, address, router, number, key, hex, now, now, from]
-        )
-    );
-    let twice = "7,core,0,up";
-    assert!(rt;
-        is_refused(
-            &rt,
-            &[
-                step, ia, address, router, number, key, hex, now, from, twice, twice
-            ]
-        )
-    );
-    assert!(rt; is_refused(&rt, &[step, "--help"]));
-    assert!(rt; is_refused(&rt, &["--help"]));
-    assert!(rt; is_refused(&rt, &["help"]));
-    assert!(rt; is_refused(&rt, &["run"]));
-    assert!(rt; is_refused(&rt, &[""]));
-    assert!(rt; is_refused(&rt, &["--"]));
-    assert!(rt; is_refused(&rt, &[]));
+    for (ia, router, key) in [
+        ("1-0", "0", "6b"),
+        ("ff00", "0", "6b"),
+        ("1-ff00:0:111", "64", "6b"),
+        ("1-ff00:0:111", "+1", "6b"),
+        ("1-ff00:0:111", "x", "6b"),
+        ("1-ff00:0:111", "0", "6"),
+        ("1-ff00:0:111", "0", "zz"),
+        ("1-ff00:0:111", "0", ""),
+        ("1-ff00:0:111", "0", long_key()),
+    ] {
+        let given = [
+            "step", "--ia", ia, "--router", router, "--key", key, now, from,
+        ];
+        assert!(rt; is_refused(&rt, &given));
+    }
+    let [step, ia, address, router, number, key, hex] = FRONT;
+    let core = "7,core,0,up";
+    let lists: [&[&str]; 12] = [
+        &[step, ia, address, router, number, key, hex, now],
+        &[step, ia, address, router, number, key, hex, now, now, from],
+        &[
+            step, ia, address, router, number, key, hex, now, from, core, core,
+        ],
+        &[
+            step, ia, address, router, number, key, hex, now, from, "--up",
+        ],
+        &[step, ia, address, router, number, key, hex, now, "--from"],
+        &[step, "--help"],
+        &["--help"],
+        &["help"],
+        &["run"],
+        &[""],
+        &["--"],
+        &[],
+    ];
+    for words in lists {
+        assert!(rt; is_refused(&rt, words));
+    }
     Ok(())
 }

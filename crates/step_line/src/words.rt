@@ -113,6 +113,7 @@ fn program<'a>(alloc: Global) -> Result<Command<'a>, AllocError>
         .about("Takes one router's turn over the packet in hexadecimal on standard input")
         .after_long_help(EXAMPLE);
     Command::new(alloc, "scionet")
+        .bin_name("scionet")?
         .no_binary_name(true)
         .subcommand_required(true)
         .about("A SCION network in one process")
@@ -121,7 +122,7 @@ fn program<'a>(alloc: Global) -> Result<Command<'a>, AllocError>
 }
 
 /// The fault of words of which no turn can be made.
-fn no_turn(alloc: Global) -> StepFault
+pub(crate) fn no_turn(alloc: Global) -> StepFault
     ensures { IsWordsFault result }
 {
     match String::from_str(alloc, "scionet: usage\n") {
@@ -232,5 +233,5 @@ pub fn step_line<'a>(alloc: Global, words: &'a [&'a str], packet: &str) -> Resul
     ensures { Answers result (asked (map (λ word. word.now) words.entry.now)) packet.now }
 {
     let command = StepCommand::parse(alloc, words)?;
-    command.line(alloc, packet)
+    command.line(alloc, packet.as_bytes())
 }

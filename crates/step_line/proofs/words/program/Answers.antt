@@ -15,5 +15,6 @@ returns c =
     let top = ap app_of_fields c.after_long_help.ensures ∙ (ap app_of_fields c.about-2.ensures
     ∙ (ap app_of_fields c.subcommand_required.ensures
     ∙ (ap (λ (f : Command-F Command). app_of_fields (record f { subcommand_required = true })) c.no_binary_name.ensures
-    ∙ ap (on_top (λ shape. record shape { no_binary_name = true; subcommand_required = true })) c.new.ensures.app))) in
+    ∙ (ap (λ (f : Command-F Command). app_of_fields (record f { no_binary_name = true; subcommand_required = true })) c.in_ok-bin_name.ensures.0
+    ∙ ap (on_top (λ shape. record shape { no_binary_name = true; subcommand_required = true })) c.new.ensures.app)))) in
     IfOk-weaker c.subcommand.result _ _ (λ r adds. adds.shape local ∙ ap₂ with_subcommand top (ap (λ (a : App). a.top) step)) c.subcommand.ensures

@@ -1,0 +1,26 @@
+ghost use Rattle.std.specs.Prelude.{◌≡◌};
+ghost use Rattle.step_line.specs.Run.{code_of};
+
+/// How a run of the program ends.
+#[derive(Clone, Copy, Debug, PartialEq, Eq)]
+pub enum Status {
+    /// The line was printed.
+    Done,
+    /// The packet's text is none, a stream failed or held too much, or memory ran out.
+    Failed,
+    /// The words are refused, or ask for help.
+    Refused,
+}
+
+impl Status {
+    /// The number that the program gives to its caller: 0, 1 or 2.
+    pub fn code(self) -> u8
+        ensures { result ≡ code_of self }
+    {
+        match self {
+            Status::Done => 0,
+            Status::Failed => 1,
+            Status::Refused => 2,
+        }
+    }
+}
