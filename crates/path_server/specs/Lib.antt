@@ -1,0 +1,4 @@
+pub mod Fault
+pub mod Segment
+pub mod Store
+pub mod Lookup

@@ -1,0 +1,54 @@
+-- A path store, as a list of segments in order of registration (draft-dekater-scion-controlplane, registration of path segments).
+use Rattle.std.specs.Prelude.{ℕ, ◌<◌, ◌≤◌, Bool, true, false, not, nat_le, if◌then◌else◌, List, [], ◌∷◌, ◌++◌, filter, count_by, fold, Contains, Result, Ok, Err}
+use Rattle.std.specs.List.{list_any}
+use Rattle.path_segment.specs.Chain.{Chain, AreLive}
+use Rattle.path_server.specs.declared.fault.StoreFault.{StoreFault}
+use Rattle.path_server.specs.declared.fault.StoreFault.TheVariants.{Full, Expired}
+use Rattle.path_server.specs.Segment.{is_live, is_same, is_alike}
+
+-- what registering a segment answers at this second: whether it is new, or the first cause why it is refused
+unfoldable pub answer_to : List Chain → Chain → ℕ → Result Bool StoreFault
+answer_to segments segment now =
+    if not (is_live now segment) then Err Expired
+    else if list_any (is_same segment) segments then Ok false
+    else if nat_le 32 (count_by (is_alike segment) segments) then Err Full
+    else Ok true
+
+-- the same in plain facts: no two of the answers hold at once
+abbrev pub IsAnswer : List Chain → Chain → ℕ → Result Bool StoreFault → Type 0
+IsAnswer segments segment now (Err Expired) = ¬ (AreLive segment now)
+IsAnswer segments segment now (Ok false) = AreLive segment now × Contains segments segment
+IsAnswer segments segment now (Err Full) = AreLive segment now × ¬ (Contains segments segment) × (32 ≤ count_by (is_alike segment) segments)
+IsAnswer segments segment now (Ok true) = AreLive segment now × ¬ (Contains segments segment) × (count_by (is_alike segment) segments < 32)
+
+-- the list with this segment at its end, where the answer is that it is new
+abbrev pub with_new : Result Bool StoreFault → List Chain → Chain → List Chain
+with_new (Ok true) segments segment = segments ++ segment ∷ []
+with_new (Ok false) segments segment = segments
+with_new (Err fault) segments segment = segments
+
+-- the list after a segment was registered at this second
+unfoldable pub registered : List Chain → Chain → ℕ → List Chain
+registered segments segment now = with_new (answer_to segments segment now) segments segment
+
+-- the list after all that is not live at this second was taken out
+unfoldable pub swept : List Chain → ℕ → List Chain
+swept segments now = filter (is_live now) segments
+
+-- how many those are
+unfoldable pub expired_count : List Chain → ℕ → ℕ
+expired_count segments now = count_by (λ segment. not (is_live now segment)) segments
+
+-- what is done to a store, and at which second
+pub data Operation : Type 0 where
+  Register : Chain → ℕ → Operation
+  Sweep : ℕ → Operation
+
+-- the list after one operation
+abbrev pub after : List Chain → Operation → List Chain
+after segments (Register segment now) = registered segments segment now
+after segments (Sweep now) = swept segments now
+
+-- the store that these operations make, one after another
+abbrev pub store_of : List Operation → List Chain
+store_of operations = fold after [] operations

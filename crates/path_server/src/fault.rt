@@ -1,0 +1,48 @@
+ghost use Rattle.std.specs.Prelude.{◌≡◌};
+ghost use Rattle.path_server.specs.Fault.{code_of, name_of};
+
+use thiserror::Error;
+
+/// Why a path store refuses a segment.
+#[derive(Clone, Copy, Debug, PartialEq, Eq, Error)]
+pub enum StoreFault {
+    /// The store has 32 segments of this kind, first AS and last AS.
+    #[error("the store has 32 segments of this kind between these ASes")]
+    Full,
+    /// The segment is not live.
+    #[error("the segment has expired")]
+    Expired,
+}
+
+impl StoreFault {
+    /// The number by which lines of text report this refusal.
+    pub fn code(self) -> u16
+        ensures { result ≡ code_of self }
+    {
+        match self {
+            StoreFault::Full => 50,
+            StoreFault::Expired => 51,
+        }
+    }
+
+    /// The name by which lines of text report this refusal.
+    pub fn name(self) -> &'static str
+        ensures { result.now ≡ name_of self }
+    {
+        match self {
+            StoreFault::Full => "Full",
+            StoreFault::Expired => "Expired",
+        }
+    }
+}
+
+/// Why a path store did not take a segment: want of memory, or a refusal.
+#[derive(Clone, Copy, Debug, PartialEq, Eq, Error)]
+pub enum StoreError {
+    /// Memory ran out.
+    #[error("out of memory")]
+    Memory,
+    /// The store refused the segment.
+    #[error("{0}")]
+    Fault(StoreFault),
+}
