@@ -1,0 +1,15 @@
+pub mod Sets
+pub mod Reach
+pub mod Words
+pub mod Cutting
+pub mod Front
+pub mod Blanks
+pub mod Deciding
+pub mod Again
+pub mod Texts
+pub mod Printed
+pub mod Kept
+pub mod Counted
+pub mod Spelling
+pub mod Spelled
+pub mod Found

@@ -1,0 +1,121 @@
+-- Access control lists (path policy language): the first entry that matches a hop decides it.
+use Rattle.std.specs.Prelude.{◌≡◌, ℕ, ◌<◌, Bool, true, false, not, ◌&&◌, ◌||◌, ◌==◌, nat_lt, if◌then◌else◌, List, [], ◌∷◌, reverse, length, Option, Some, None, is_none, slice_get, Result, Ok, Err}
+use Rattle.policy_expr.specs.declared.fault.PolicyFault.{PolicyFault}
+use Rattle.policy_expr.specs.declared.fault.PolicyFault.TheVariants as faults
+use Rattle.policy_expr.specs.declared.hop.HopPred.{HopPred}
+use Rattle.policy_expr.specs.declared.hop.Interfaces.{Interfaces}
+use Rattle.policy_expr.specs.declared.hop.Interfaces.TheVariants.{Any, Either, Both}
+use Rattle.policy_expr.specs.declared.hop.WalkHop.{WalkHop}
+use Rattle.policy_expr.specs.declared.acl.AclEntry.{AclEntry}
+use Rattle.policy_expr.specs.declared.acl.Denied.{Denied}
+use Rattle.policy_expr.specs.Hop.{Matches}
+use Rattle.policy_expr.specs.Predicate.{◌>>=◌, predicate_at}
+use Rattle.policy_expr.specs.Next.{after_blanks}
+
+-- the entry matches the hop, as a bare one matches each
+abbrev pub MatchesBy : Option HopPred → WalkHop → Type 0
+MatchesBy None hop = Unit {0}
+MatchesBy (Some pred) hop = Matches pred hop
+
+-- the entry at this place is the first that matches the hop
+pub record Decides (entries : List AclEntry) (hop : WalkHop) (place : ℕ) (entry : AclEntry) : Type 0 where
+  pub there : slice_get entries place ≡ Some entry
+  pub matches : MatchesBy entry.pred hop
+  pub first : (earlier : ℕ) (other : AclEntry) → earlier < place → slice_get entries earlier ≡ Some other → MatchesBy other.pred hop → ⊥
+
+-- the first entry that matches the hop is `+`
+abbrev pub Allowed : List AclEntry → WalkHop → Type 0
+Allowed entries hop = (place : ℕ) × (entry : AclEntry) × Decides entries hop place entry × (entry.allows ≡ true)
+
+-- it is `-`, and stands at this place
+abbrev pub DeniedAt : List AclEntry → WalkHop → ℕ → Type 0
+DeniedAt entries hop place = (entry : AclEntry) × Decides entries hop place entry × (entry.allows ≡ false)
+
+-- each hop of the walk is allowed
+abbrev pub AllowsWalk : List AclEntry → List WalkHop → Type 0
+AllowsWalk entries walk = (k : ℕ) (hop : WalkHop) → slice_get walk k ≡ Some hop → Allowed entries hop
+
+-- the first hop of the walk that is denied, and the entry that decides it
+pub record IsDenial (entries : List AclEntry) (walk : List WalkHop) (denied : Denied) : Type 0 where
+  pub hop : WalkHop
+  pub there : slice_get walk denied.hop ≡ Some hop
+  pub by : DeniedAt entries hop denied.entry
+  pub before : (k : ℕ) (other : WalkHop) → k < denied.hop → slice_get walk k ≡ Some other → Allowed entries other
+
+-- the text without blanks at its ends
+abbrev pub trimmed : List ℕ → List ℕ
+trimmed text = reverse (after_blanks (reverse (after_blanks text)))
+
+-- a predicate of wildcards alone says nothing of a hop
+abbrev pub says_nothing : Interfaces → Bool
+says_nothing Any = true
+says_nothing (Either n) = false
+says_nothing (Both m n) = false
+
+-- the entry of a sign and a predicate, bare where that is of wildcards alone
+abbrev pub entry_of : Bool → HopPred → AclEntry
+entry_of allows pred = record { allows = allows; pred = if (pred.ia == 0) && says_nothing pred.interfaces then None else Some pred }
+
+-- the entry of a sign and what stands behind it: a predicate, or nothing
+abbrev pub signed_at : Bool → List ℕ → Result AclEntry PolicyFault
+signed_at allows [] = Ok (record { allows = allows; pred = None })
+signed_at allows (b ∷ rest) = do
+  pred ← predicate_at (b ∷ rest)
+  Ok (entry_of allows pred)
+
+abbrev pub trimmed_at : List ℕ → Result AclEntry PolicyFault
+trimmed_at [] = Err faults.BadPredicate
+trimmed_at (sign ∷ rest) =
+    if sign == 43 then signed_at true (after_blanks rest)
+    else if sign == 45 then signed_at false (after_blanks rest)
+    else Err faults.BadPredicate
+
+-- the entry of a text: '+' or '-' and a predicate or nothing, with blanks anywhere round them
+unfoldable pub entry_at : List ℕ → Result AclEntry PolicyFault
+entry_at text = trimmed_at (trimmed text)
+
+-- the entries of texts, or the refusal of the first that can't be read
+abbrev pub entries_at : List (List ℕ) → Result (List AclEntry) PolicyFault
+entries_at [] = Ok []
+entries_at (text ∷ texts) = do
+  entry ← entry_at text
+  entries ← entries_at texts
+  Ok (entry ∷ entries)
+
+-- an entry without a predicate
+abbrev pub is_bare : AclEntry → Bool
+is_bare entry = is_none entry.pred
+
+-- the last entry is bare
+abbrev pub ends_bare : List AclEntry → Bool
+ends_bare [] = false
+ends_bare (entry ∷ []) = is_bare entry
+ends_bare (entry ∷ next ∷ later) = ends_bare (next ∷ later)
+
+-- an entry before the last is bare
+abbrev pub is_bare_before_last : List AclEntry → Bool
+is_bare_before_last [] = false
+is_bare_before_last (entry ∷ []) = false
+is_bare_before_last (entry ∷ next ∷ later) = is_bare entry || is_bare_before_last (next ∷ later)
+
+-- the first rule that a list of entries would break: at most 256, the last is bare, no other is
+unfoldable pub acl_fault : List AclEntry → Option PolicyFault
+acl_fault entries =
+    if nat_lt 256 (length entries) then Some faults.TooLarge
+    else if not (ends_bare entries) then Some faults.NoDefault
+    else if is_bare_before_last entries then Some faults.AfterDefault
+    else None
+
+-- what is never false of an access control list
+abbrev pub IsAcl : List AclEntry → Type 0
+IsAcl entries = acl_fault entries ≡ None
+
+abbrev pub unless : Option PolicyFault → List AclEntry → Result (List AclEntry) PolicyFault
+unless None entries = Ok entries
+unless (Some fault) entries = Err fault
+
+-- the access control list of texts
+abbrev pub acl_at : List (List ℕ) → Result (List AclEntry) PolicyFault
+acl_at texts = do
+  entries ← entries_at texts
+  unless (acl_fault entries) entries

@@ -1,0 +1,22 @@
+-- Hop predicates (path policy language): which hops of a walk an `ISD-AS#IN,OUT` means. 0 stands for any number.
+use Rattle.std.specs.Prelude.{◌≡◌, ◌⊎◌, ℕ, ◌/◌, ◌%◌, ◌^◌}
+use Rattle.policy_expr.specs.declared.hop.HopPred.{HopPred}
+use Rattle.policy_expr.specs.declared.hop.Interfaces.{Interfaces}
+use Rattle.policy_expr.specs.declared.hop.Interfaces.TheVariants.{Any, Either, Both}
+use Rattle.policy_expr.specs.declared.hop.WalkHop.{WalkHop}
+
+-- a number is the wanted one, or any is wanted
+abbrev pub Fits : ℕ → ℕ → Type 0
+Fits wanted number = (wanted ≡ 0) ⊎ (wanted ≡ number)
+
+-- the hop has these interfaces: one number means the way in or the way out
+abbrev pub FitsInterfaces : Interfaces → WalkHop → Type 0
+FitsInterfaces Any hop = Unit {0}
+FitsInterfaces (Either wanted) hop = Fits wanted hop.ingress ⊎ Fits wanted hop.egress
+FitsInterfaces (Both ingress egress) hop = Fits ingress hop.ingress × Fits egress hop.egress
+
+-- the hop has the ISD, the AS and the interfaces of the predicate
+pub record Matches (pred : HopPred) (hop : WalkHop) : Type 0 where
+  pub isd : Fits (pred.ia / 2 ^ 48) (hop.ia / 2 ^ 48)
+  pub as_number : Fits (pred.ia % 2 ^ 48) (hop.ia % 2 ^ 48)
+  pub interfaces : FitsInterfaces pred.interfaces hop

@@ -1,0 +1,16 @@
+pub mod Fault
+pub mod Hop
+pub mod Predicate
+pub mod Tree
+pub mod Language
+pub mod Tokens
+pub mod Grammar
+pub mod Reading
+pub mod Printing
+pub mod Acl
+pub mod Policy
+pub mod Next
+pub mod Views
+pub mod Counting
+pub mod Spans
+pub mod Code

@@ -1,0 +1,81 @@
+-- How a sequence is printed: with the fewest parentheses that keep its tree, one space for following and nothing round `|`.
+use Rattle.std.specs.Prelude.{ℕ, ◌+◌, ◌<◌, ◌≤◌, max, Bool, ◌%◌, ◌/◌, ◌^◌, ◌==◌, ◌&&◌, nat_lt, if◌then◌else◌, codes, List, [], ◌++◌}
+use Rattle.std.specs.Fmt.{decimal}
+use Rattle.isd_as.specs.Address.{canonical}
+use Rattle.policy_expr.specs.declared.hop.HopPred.{HopPred}
+use Rattle.policy_expr.specs.declared.hop.Interfaces.{Interfaces}
+use Rattle.policy_expr.specs.declared.hop.Interfaces.TheVariants.{Any, Either, Both}
+use Rattle.policy_expr.specs.Acl.{says_nothing}
+use Rattle.policy_expr.specs.Reading.{node_count}
+use Rattle.policy_expr.specs.Tree.{Tree, hop, followed, either, optional, repeated, once_or_more}
+
+-- the interfaces of a predicate
+abbrev pub interfaces_text : Interfaces → List ℕ
+interfaces_text Any = []
+interfaces_text (Either n) = codes "#" ++ decimal n
+interfaces_text (Both m n) = codes "#" ++ (decimal m ++ (codes "," ++ decimal n))
+
+-- a predicate: the ISD alone where AS and interfaces are wildcards
+abbrev pub predicate_text : HopPred → List ℕ
+predicate_text pred = if (pred.ia % 2 ^ 48 == 0) && says_nothing pred.interfaces
+    then decimal (pred.ia / 2 ^ 48)
+    else canonical pred.ia ++ interfaces_text pred.interfaces
+
+-- how tight a tree binds: following least, then `|`
+abbrev pub strength : Tree → ℕ
+strength (hop pred) = 2
+strength (followed a b) = 0
+strength (either a b) = 1
+strength (optional a) = 2
+strength (repeated a) = 2
+strength (once_or_more a) = 2
+
+-- a text in parentheses, or not
+abbrev pub in_parentheses : Bool → List ℕ → List ℕ
+in_parentheses wanted text = if wanted then codes "(" ++ (text ++ codes ")") else text
+
+-- a tree's text, what is to the right of a following or a `|` in parentheses where it is one itself
+abbrev pub printed : Tree → List ℕ
+printed (hop pred) = predicate_text pred
+printed (followed a b) = printed a ++ (codes " " ++ in_parentheses (nat_lt (strength b) 1) (printed b))
+printed (either a b) = in_parentheses (nat_lt (strength a) 1) (printed a) ++ (codes "|" ++ in_parentheses (nat_lt (strength b) 2) (printed b))
+printed (optional a) = in_parentheses (nat_lt (strength a) 2) (printed a) ++ codes "?"
+printed (repeated a) = in_parentheses (nat_lt (strength a) 2) (printed a) ++ codes "*"
+printed (once_or_more a) = in_parentheses (nat_lt (strength a) 2) (printed a) ++ codes "+"
+
+-- one more where the text stands in parentheses
+abbrev pub nested : Bool → ℕ → ℕ
+nested wanted depth = if wanted then depth + 1 else depth
+
+-- how deep the parentheses of a tree's text are
+abbrev pub depth : Tree → ℕ
+depth (hop pred) = 0
+depth (followed a b) = max (depth a) (nested (nat_lt (strength b) 1) (depth b))
+depth (either a b) = max (nested (nat_lt (strength a) 1) (depth a)) (nested (nat_lt (strength b) 2) (depth b))
+depth (optional a) = nested (nat_lt (strength a) 2) (depth a)
+depth (repeated a) = nested (nat_lt (strength a) 2) (depth a)
+depth (once_or_more a) = nested (nat_lt (strength a) 2) (depth a)
+
+-- interfaces as they are read: of 16 bits, and none where all are 0
+abbrev pub AreInterfaces : Interfaces → Type 0
+AreInterfaces Any = Unit {0}
+AreInterfaces (Either n) = (0 < n) × (n < 2 ^ 16)
+AreInterfaces (Both m n) = (0 < m + n) × (m < 2 ^ 16) × (n < 2 ^ 16)
+
+-- a predicate as it is read
+abbrev pub IsPredicate : HopPred → Type 0
+IsPredicate pred = (pred.ia < 2 ^ 64) × AreInterfaces pred.interfaces
+
+abbrev pub ArePredicates : Tree → Type 0
+ArePredicates (hop pred) = IsPredicate pred
+ArePredicates (followed a b) = ArePredicates a × ArePredicates b
+ArePredicates (either a b) = ArePredicates a × ArePredicates b
+ArePredicates (optional a) = ArePredicates a
+ArePredicates (repeated a) = ArePredicates a
+ArePredicates (once_or_more a) = ArePredicates a
+
+-- what is never false of a sequence: at most 256 nodes, 32 parentheses open at once, predicates as they are read
+pub record IsSequence (tree : Tree) : Type 0 where
+  pub small : node_count tree ≤ 256
+  pub shallow : depth tree ≤ 32
+  pub predicates : ArePredicates tree

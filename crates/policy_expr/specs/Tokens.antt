@@ -1,0 +1,56 @@
+-- The tokens of a sequence's text: predicates, signs, and blanks between them, which only part tokens.
+use Rattle.std.specs.Prelude.{ℕ, Bool, false, ◌&&◌, ◌||◌, ◌==◌, nat_le, if◌then◌else◌, List, [], ◌∷◌, map, Result, Ok, Err}
+use Rattle.policy_expr.specs.declared.fault.PolicyFault.{PolicyFault}
+use Rattle.policy_expr.specs.declared.hop.HopPred.{HopPred}
+use Rattle.policy_expr.specs.declared.token.Token.{Token}
+use Rattle.policy_expr.specs.declared.token.Token.TheVariants.{Hop, Optional, OnceOrMore, Repeated, Or, Open, Close, Other}
+use Rattle.policy_expr.specs.Predicate.{predicate_at}
+
+-- space, tab, CR or LF
+abbrev pub is_blank : ℕ → Bool
+is_blank b = (b == 32) || ((b == 9) || ((b == 13) || (b == 10)))
+
+-- a digit, a letter from a to f of either case, '-', ':', '#' or ','
+abbrev pub is_mark : ℕ → Bool
+is_mark b = (nat_le 48 b && nat_le b 57) || ((nat_le 97 b && nat_le b 102) || ((nat_le 65 b && nat_le b 70)
+    || ((b == 45) || ((b == 58) || ((b == 35) || (b == 44))))))
+
+-- the text goes on with a mark
+abbrev pub begins_with_mark : List ℕ → Bool
+begins_with_mark [] = false
+begins_with_mark (b ∷ rest) = is_mark b
+
+-- the byte in front of the first of these texts
+abbrev pub lengthened : ℕ → List (List ℕ) → List (List ℕ)
+lengthened b [] = (b ∷ []) ∷ []
+lengthened b (first ∷ later) = (b ∷ first) ∷ later
+
+-- a byte before the texts of later tokens, which begin with a mark that stands right behind it or not
+abbrev pub with_byte : ℕ → Bool → List (List ℕ) → List (List ℕ)
+with_byte b mark_follows later =
+    if is_blank b then later else if is_mark b && mark_follows then lengthened b later else (b ∷ []) ∷ later
+
+-- the texts of the tokens: the longest runs of marks, and each other byte that is no blank
+unfoldable pub pieces : List ℕ → List (List ℕ)
+pieces [] = []
+pieces (b ∷ rest) = with_byte b (begins_with_mark rest) (pieces rest)
+
+-- the token of a text that is read as a predicate, and of any other
+abbrev pub read_token : Result HopPred PolicyFault → Token
+read_token (Ok pred) = Hop pred
+read_token (Err e) = Other
+
+-- the token of a sign
+abbrev pub sign_token : ℕ → Token
+sign_token b =
+    if b == 63 then Optional else if b == 43 then OnceOrMore else if b == 42 then Repeated
+    else if b == 124 then Or else if b == 40 then Open else if b == 41 then Close else Other
+
+-- the token of a text: of marks the predicate, else the sign
+abbrev pub token_of : List ℕ → Token
+token_of [] = Other
+token_of (b ∷ rest) = if is_mark b then read_token (predicate_at (b ∷ rest)) else sign_token b
+
+-- the tokens of a text
+abbrev pub tokens : List ℕ → List Token
+tokens text = map token_of (pieces text)

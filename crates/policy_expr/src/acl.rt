@@ -1,0 +1,105 @@
+ghost use Rattle.std.specs.Prelude.{◌≡◌, ◌↔◌, IfOk, IfErr, IsOk};
+ghost use Rattle.policy_expr.specs.Fault.{Answers};
+ghost use Rattle.policy_expr.specs.Acl.{AllowsWalk, IsAcl, IsDenial, acl_at};
+
+use crate::acl_rules::{denial_of, fault_of_entries};
+use crate::acl_text::AclText;
+use crate::entry::read_entries;
+use crate::fault::{PolicyError, PolicyFault};
+use crate::hop::{HopPred, WalkHop};
+use std::alloc::{AllocError, Allocator};
+use std::marker::Model;
+
+/// An entry of an access control list.
+#[derive(Clone, Copy, Debug, PartialEq, Eq)]
+pub struct AclEntry {
+    /// Whether a hop that it decides is allowed: `+`.
+    pub allows: bool,
+    /// Which hops it matches, or `None` where it is bare and matches each.
+    pub pred: Option<HopPred>,
+}
+
+/// The first hop of a walk that is denied, and the entry that decides it, each by its place.
+#[derive(Clone, Copy, Debug, PartialEq, Eq)]
+pub struct Denied {
+    /// The place of the hop in the walk, from 0.
+    pub hop: usize,
+    /// The place of the entry in the list, from 0.
+    pub entry: usize,
+}
+
+/// An access control list: the first entry that matches a hop decides it.
+///
+/// Its type keeps that it has at most 256 entries, of which the last is bare and no other is.
+#[derive(Drop)]
+pub struct Acl<A: Allocator + Clone> {
+    entries: Vec<AclEntry, A>,
+}
+
+impl<A: Allocator + Clone> Model for Acl<A> {
+    ghost use Rattle.std.specs.Prelude.{List};
+    ghost use Rattle.policy_expr.specs.declared.acl.AclEntry.{AclEntry};
+
+    ghost Value = { List AclEntry };
+
+    ghost use Rattle.policy_expr.specs.Acl.{IsAcl};
+
+    ghost view = { λ acl. acl.entries.items };
+
+    ghost invariant = { λ acl. IsAcl acl.entries.items };
+}
+
+impl<A: Allocator + Clone> Acl<A> {
+    /// The list of these texts, each `+` or `-` and then a predicate or nothing, with blanks anywhere
+    /// round them. A predicate of wildcards alone counts as none.
+    ///
+    /// The first of these refusals: [`PolicyFault::BadPredicate`] for an entry that can't be read,
+    /// [`PolicyFault::TooLarge`] for more than 256 entries, [`PolicyFault::NoDefault`] where there is
+    /// none or the last is not bare, [`PolicyFault::AfterDefault`] where another is.
+    pub fn parse(alloc: A, text: &AclText) -> Result<Acl<A>, PolicyError>
+        ensures { Answers (λ acl. acl) result (acl_at text.now) }
+    {
+        let entries = read_entries(alloc, text.texts())?;
+        match fault_of_entries(&entries) {
+            Some(fault) => Err(PolicyError::Fault(fault)),
+            None => Ok(Acl { entries }),
+        }
+    }
+
+    /// The same list under another allocator.
+    pub fn clone_in<B: Allocator + Clone>(&self, alloc: B) -> Result<Acl<B>, AllocError>
+        ensures { IfOk result (λ acl. acl ≡ self.now) }
+    {
+        let entries = copied(alloc, &self.entries)?;
+        Ok(Acl { entries })
+    }
+
+    /// Its entries, in order.
+    pub fn entries(&self) -> &[AclEntry]
+        ensures value { result.now ≡ self.now }
+        ensures kept { IsAcl self.now }
+    {
+        &self.entries
+    }
+
+    /// Whether each hop of the walk is allowed, or the first that is denied and the entry that decides
+    /// it. Takes no memory.
+    pub fn verdict(&self, walk: &[WalkHop]) -> Result<(), Denied>
+        ensures ok { IsOk result ↔ AllowsWalk self.now walk.now }
+        ensures denied { IfErr result (λ denied. IsDenial self.now walk.now denied) }
+    {
+        match denial_of(&self.entries, walk) {
+            None => Ok(()),
+            Some(denied) => Err(denied),
+        }
+    }
+}
+
+/// The same entries once more.
+fn copied<A: Allocator>(alloc: A, entries: &[AclEntry]) -> Result<Vec<AclEntry, A>, AllocError>
+    ensures { IfOk result (λ copy. copy.items ≡ entries.now) }
+{
+    let mut copy = Vec::with_capacity(alloc, entries.len())?;
+    copy.extend_from_slice(entries)?;
+    Ok(copy)
+}

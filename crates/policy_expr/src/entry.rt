@@ -1,0 +1,97 @@
+ghost use Rattle.std.specs.Prelude.{◌≡◌, map, reverse, true, false};
+ghost use Rattle.std.specs.String.{string_bytes};
+ghost use Rattle.policy_expr.specs.Fault.{Answers};
+ghost use Rattle.policy_expr.specs.Next.{after_blanks};
+ghost use Rattle.policy_expr.specs.Acl.{entries_at, entry_at, entry_of, says_nothing, signed_at, trimmed};
+
+use crate::acl::AclEntry;
+use crate::fault::{PolicyError, PolicyFault};
+use crate::hop::{HopPred, Interfaces};
+use crate::token::is_blank_byte;
+use std::alloc::Allocator;
+
+/// The entries of texts, or the refusal of the first that can't be read.
+pub(crate) fn read_entries<A: Allocator>(
+    alloc: A,
+    texts: &[String],
+) -> Result<Vec<AclEntry, A>, PolicyError>
+    ensures { Answers (λ entries. entries.items) result (entries_at (map string_bytes texts.now)) }
+{
+    let mut entries = Vec::new(alloc);
+    for text in texts {
+        entries.push(read_entry(text.as_str())?)?;
+    }
+    Ok(entries)
+}
+
+/// The entry of a text.
+#[tactic(auto, unfolding(crate::specs::Acl::entry_at))]
+fn read_entry(text: &str) -> Result<AclEntry, PolicyFault>
+    ensures { result ≡ entry_at text.now }
+{
+    let text = trim(text);
+    match text.as_bytes().split_first() {
+        Some((b'+', _)) => read_signed(true, trim_start(&text[1..])),
+        Some((b'-', _)) => read_signed(false, trim_start(&text[1..])),
+        _ => Err(PolicyFault::BadPredicate),
+    }
+}
+
+/// The entry of a sign and what stands behind it.
+fn read_signed(allows: bool, text: &str) -> Result<AclEntry, PolicyFault>
+    ensures { result ≡ signed_at allows text.now }
+{
+    if text.is_empty() {
+        return Ok(AclEntry { allows, pred: None });
+    }
+    let pred = HopPred::parse(text)?;
+    Ok(of_pred(allows, pred))
+}
+
+/// The entry of a sign and a predicate, bare where that is of wildcards alone.
+fn of_pred(allows: bool, pred: HopPred) -> AclEntry
+    ensures { result ≡ entry_of allows pred }
+{
+    let is_bare = pred.ia.number() == 0 && pred.interfaces == Interfaces::Any;
+    AclEntry {
+        allows,
+        pred: if is_bare { None } else { Some(pred) },
+    }
+}
+
+/// The text without blanks at its ends.
+fn trim(text: &str) -> &str
+    ensures { result.now ≡ trimmed text.now }
+{
+    trim_end(trim_start(text))
+}
+
+/// The text from its first character that is no blank.
+#[tactic(auto, unfolding(crate::specs::Next::after_blanks))]
+fn trim_start(text: &str) -> &str
+    ensures { result.now ≡ after_blanks text.now }
+{
+    let mut rest = text;
+    while let Some((byte, _)) = rest.as_bytes().split_first() {
+        if !is_blank_byte(*byte) {
+            return rest;
+        }
+        rest = &rest[1..];
+    }
+    rest
+}
+
+/// The text up to its last character that is no blank.
+#[tactic(auto, unfolding(crate::specs::Next::after_blanks))]
+fn trim_end(text: &str) -> &str
+    ensures { result.now ≡ reverse (after_blanks (reverse text.now)) }
+{
+    let mut rest = text;
+    while let Some((byte, before)) = rest.as_bytes().split_last() {
+        if !is_blank_byte(*byte) {
+            return rest;
+        }
+        rest = &rest[..before.len()];
+    }
+    rest
+}

@@ -1,0 +1,26 @@
+//! Laws of the texts of sequences: each is the contract of a function that does nothing.
+
+ghost use Rattle.std.specs.Prelude.{◌≡◌, ◌↔◌, ◌≤◌, ℕ, List, Ok};
+ghost use Rattle.policy_expr.specs.declared.hop.HopPred.{HopPred};
+ghost use Rattle.policy_expr.specs.Predicate.{predicate_at};
+ghost use Rattle.policy_expr.specs.Tree.{Tree};
+ghost use Rattle.policy_expr.specs.Grammar.{SpellsSequence};
+ghost use Rattle.policy_expr.specs.Reading.{node_count, sequence_at};
+ghost use Rattle.policy_expr.specs.Printing.{IsPredicate, IsSequence, predicate_text, printed};
+
+/// What is read as a sequence is what the grammar spells, of at most 256 nodes, and nothing else is.
+pub fn reading_is_the_grammar()
+    ensures { (text : List ℕ) (tree : Tree) → (sequence_at text ≡ Ok tree) ↔ (SpellsSequence text tree × (node_count tree ≤ 256)) }
+{}
+
+/// What is printed of a sequence or of a predicate is read as it again.
+pub fn printed_is_read()
+    ensures sequence { (tree : Tree) → IsSequence tree → sequence_at (printed tree) ≡ Ok tree }
+    ensures predicate { (pred : HopPred) → IsPredicate pred → predicate_at (predicate_text pred) ≡ Ok pred }
+{}
+
+/// What is read of a text is a sequence or a predicate of that kind.
+pub fn read_is_kept()
+    ensures sequence { (text : List ℕ) (tree : Tree) → sequence_at text ≡ Ok tree → IsSequence tree }
+    ensures predicate { (text : List ℕ) (pred : HopPred) → predicate_at text ≡ Ok pred → IsPredicate pred }
+{}

@@ -1,0 +1,35 @@
+//! Path policies: which walks over autonomous systems are allowed.
+//!
+//! A policy has an access control list, which decides each hop of a walk by its first entry that
+//! matches, and a sequence, a regular expression over hops of which the walk must be a word. Both are
+//! read from text and are kept under any allocator.
+#![tactic(auto)]
+
+mod acl;
+mod acl_rules;
+mod acl_text;
+mod counting;
+mod entry;
+mod fault;
+mod hop;
+pub mod laws;
+mod matching;
+mod node;
+mod places;
+mod policy;
+mod predicate;
+mod printing;
+mod reader;
+mod sequence;
+mod token;
+
+pub use acl::{Acl, AclEntry, Denied};
+pub use acl_text::AclText;
+pub use fault::{PolicyError, PolicyFault};
+pub use hop::{HopPred, Interfaces, WalkHop};
+pub use node::SeqNode;
+pub use policy::{Policy, PolicyText};
+pub use sequence::Seq;
+
+#[cfg(test)]
+mod tests;

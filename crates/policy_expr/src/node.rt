@@ -1,0 +1,62 @@
+ghost use Rattle.std.specs.Prelude.{◌≡◌, IfOk};
+ghost use Rattle.policy_expr.specs.Tree.{tree_of};
+
+use crate::hop::HopPred;
+use std::alloc::{AllocError, Allocator};
+
+/// A node of a sequence: a regular expression over hops, whose parts lie in boxes over an allocator.
+#[derive(Drop)]
+pub enum SeqNode<A: Allocator> {
+    /// One hop that the predicate matches.
+    Hop(HopPred),
+    /// The first and then the second.
+    Then(Box<SeqNode<A>, A>, Box<SeqNode<A>, A>),
+    /// The first or the second.
+    Or(Box<SeqNode<A>, A>, Box<SeqNode<A>, A>),
+    /// The item or nothing: `?`.
+    Optional(Box<SeqNode<A>, A>),
+    /// The item any number of times, also never: `*`.
+    Repeated(Box<SeqNode<A>, A>),
+    /// The item once or more often: `+`.
+    OnceOrMore(Box<SeqNode<A>, A>),
+}
+
+impl<A: Allocator + Clone> SeqNode<A> {
+    /// The same tree under another allocator.
+    pub fn clone_in<B: Allocator + Clone>(&self, alloc: &B) -> Result<SeqNode<B>, AllocError>
+        ensures { IfOk result (λ node. tree_of node ≡ tree_of self.now) }
+    {
+        match self {
+            SeqNode::Hop(pred) => Ok(SeqNode::Hop(*pred)),
+            SeqNode::Then(first, second) => {
+                let first = boxed(alloc, first.clone_in(alloc)?)?;
+                let second = boxed(alloc, second.clone_in(alloc)?)?;
+                Ok(SeqNode::Then(first, second))
+            }
+            SeqNode::Or(first, second) => {
+                let first = boxed(alloc, first.clone_in(alloc)?)?;
+                let second = boxed(alloc, second.clone_in(alloc)?)?;
+                Ok(SeqNode::Or(first, second))
+            }
+            SeqNode::Optional(item) => {
+                Ok(SeqNode::Optional(boxed(alloc, item.clone_in(alloc)?)?))
+            }
+            SeqNode::Repeated(item) => {
+                Ok(SeqNode::Repeated(boxed(alloc, item.clone_in(alloc)?)?))
+            }
+            SeqNode::OnceOrMore(item) => {
+                Ok(SeqNode::OnceOrMore(boxed(alloc, item.clone_in(alloc)?)?))
+            }
+        }
+    }
+}
+
+/// The node in a box over a copy of the allocator.
+pub(crate) fn boxed<A: Allocator + Clone>(
+    alloc: &A,
+    node: SeqNode<A>,
+) -> Result<Box<SeqNode<A>, A>, AllocError>
+    ensures { IfOk result (λ b. b.value ≡ node) }
+{
+    Ok(Box::new(alloc.clone()?, node)?)
+}

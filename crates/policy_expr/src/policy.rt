@@ -1,0 +1,133 @@
+ghost use Rattle.std.specs.Prelude.{◌≡◌, ◌≤◌, ◌↔◌, length, option_map, IsOk, IsTrue, IfErr, IfOk};
+ghost use Rattle.policy_expr.specs.Fault.{Answers};
+ghost use Rattle.policy_expr.specs.Next.{after_blanks};
+ghost use Rattle.policy_expr.specs.Policy.{AllowsHops, DeniesHop, HasWord, acl_part_at, policy_at, sequence_part_at};
+
+use crate::acl::{Acl, Denied};
+use crate::acl_text::AclText;
+use crate::fault::PolicyError;
+use crate::hop::WalkHop;
+use crate::sequence::Seq;
+use crate::token::trim_start;
+use std::alloc::{AllocError, Allocator};
+use std::marker::Model;
+
+/// The texts of a policy, either of which may be absent.
+#[derive(Clone, Copy)]
+pub struct PolicyText<'a> {
+    /// The texts of the access control list.
+    pub acl: Option<&'a AclText>,
+    /// The text of the sequence.
+    pub sequence: Option<&'a str>,
+}
+
+/// A path policy: an access control list and a sequence, of which either may be absent and then allows
+/// every walk.
+#[derive(Drop)]
+pub struct Policy<A: Allocator + Clone> {
+    acl: Option<Acl<A>>,
+    sequence: Option<Seq<A>>,
+}
+
+impl<A: Allocator + Clone> Model for Policy<A> {
+    ghost use Rattle.policy_expr.specs.Policy.{Rules};
+    ghost use Rattle.policy_expr.specs.Code.{coded_tree};
+    ghost use Rattle.std.specs.Coded.{codes};
+
+    ghost Value = { Rules };
+
+    ghost coded = { Prim.hlevel (codes, coded_tree) };
+
+    ghost view = { λ p. record { acl = p.acl; sequence = p.sequence } };
+}
+
+impl<A: Allocator + Clone> Policy<A> {
+    /// The policy of these texts. A sequence of blanks alone is read as none.
+    ///
+    /// The refusals are those of [`Acl::parse`], and then those of [`Seq::parse`].
+    #[tactic(auto, unfolding(crate::specs::Policy::policy_at))]
+    pub fn parse(alloc: A, text: &PolicyText<'_>) -> Result<Policy<A>, PolicyError>
+        ensures { Answers (λ p. p) result
+            (policy_at (option_map (λ t. t.now) text.now.acl) (option_map (λ t. t.now) text.now.sequence)) }
+    {
+        let acl = read_acl(alloc.clone()?, text.acl)?;
+        let sequence = read_sequence(alloc, text.sequence)?;
+        Ok(Policy { acl, sequence })
+    }
+
+    /// The same policy under another allocator.
+    pub fn clone_in<B: Allocator + Clone>(&self, alloc: B) -> Result<Policy<B>, AllocError>
+        ensures { IfOk result (λ p. p ≡ self.now) }
+    {
+        let acl = match &self.acl {
+            None => None,
+            Some(acl) => Some(acl.clone_in(alloc.clone()?)?),
+        };
+        let sequence = match &self.sequence {
+            None => None,
+            Some(sequence) => Some(sequence.clone_in(alloc)?),
+        };
+        Ok(Policy { acl, sequence })
+    }
+
+    /// Whether the list allows each hop of the walk, or the first that is denied and the entry that
+    /// decides it. Takes no memory.
+    pub fn verdict(&self, walk: &[WalkHop]) -> Result<(), Denied>
+        ensures ok { IsOk result ↔ AllowsHops self.now.acl walk.now }
+        ensures denied { IfErr result (λ denied. DeniesHop self.now.acl walk.now denied) }
+    {
+        match &self.acl {
+            None => Ok(()),
+            Some(acl) => acl.verdict(walk),
+        }
+    }
+
+    /// Whether the walk, of at most 64 hops, is a word of the sequence. Takes no memory.
+    pub fn matches(&self, walk: &[WalkHop]) -> bool
+        requires { length walk.now ≤ 64 }
+        ensures { IsTrue result ↔ HasWord self.now.sequence walk.now }
+    {
+        match &self.sequence {
+            None => true,
+            Some(sequence) => sequence.matches(walk),
+        }
+    }
+}
+
+/// Reads the access control list, where there is one.
+fn read_acl<A: Allocator + Clone>(
+    alloc: A,
+    text: Option<&AclText>,
+) -> Result<Option<Acl<A>>, PolicyError>
+    ensures { Answers (λ acl. acl) result (acl_part_at (option_map (λ t. t.now) text.entry)) }
+{
+    match text {
+        None => Ok(None),
+        Some(text) => Ok(Some(Acl::parse(alloc, text)?)),
+    }
+}
+
+/// Reads the sequence, where there is one that is not blanks alone.
+fn read_sequence<A: Allocator + Clone>(
+    alloc: A,
+    text: Option<&str>,
+) -> Result<Option<Seq<A>>, PolicyError>
+    ensures { Answers (λ sequence. sequence) result (sequence_part_at (option_map (λ t. t.now) text.entry)) }
+{
+    match text {
+        None => Ok(None),
+        Some(text) => {
+            if is_blank(text) {
+                return Ok(None);
+            }
+            Ok(Some(Seq::parse(alloc, text)?))
+        }
+    }
+}
+
+/// Whether the text is blanks alone.
+fn is_blank(text: &str) -> bool
+    ensures { IsTrue result ↔ (length (after_blanks text.now) ≡ 0) }
+{
+    trim_start(text.as_bytes()).is_empty()
+}

@@ -1,0 +1,121 @@
+ghost use Rattle.std.specs.Prelude.{◌≡◌, ◌<◌, IfOk, Ok};
+ghost use Rattle.policy_expr.specs.declared.hop.HopPred.{HopPred};
+ghost use Rattle.policy_expr.specs.Predicate.{GivesParts, SpellsPredicate, cut_at, interface_at, interfaces_at, one_interface, plain_at, predicate_at, two_interfaces};
+
+use crate::fault::PolicyFault;
+use crate::hop::{HopPred, Interfaces};
+use isd_as::{AsNumber, IfId, Isd, IsdAs};
+
+impl HopPred {
+    /// The predicate that a text spells: `ISD`, `ISD-AS`, `ISD-AS#IF` or `ISD-AS#IN,OUT`. ISD and AS
+    /// are those of addresses, and an interface is decimal digits up to 65535. `#0` and `#0,0` are read
+    /// as no interfaces.
+    ///
+    /// Any other text is [`PolicyFault::BadPredicate`].
+    pub fn parse(text: &str) -> Result<HopPred, PolicyFault>
+        // What is read is spelled so.
+        ensures found { IfOk result (λ pred. SpellsPredicate text.now pred) }
+        // What is spelled so is read.
+        ensures only { (pred : HopPred) → SpellsPredicate text.now pred → result ≡ Ok pred }
+        // Which refusal it is.
+        ensures exact { result ≡ predicate_at text.now }
+    {
+        read_predicate(text)
+    }
+}
+
+/// Reads a predicate.
+#[tactic(auto, unfolding(crate::specs::Predicate::predicate_at))]
+fn read_predicate(text: &str) -> Result<HopPred, PolicyFault>
+    ensures { result ≡ predicate_at text.now }
+{
+    match cut(text, '#') {
+        None => read_plain(text),
+        Some((address, interfaces)) => {
+            let ia = IsdAs::parse(address)?;
+            let interfaces = read_interfaces(interfaces)?;
+            Ok(HopPred { ia, interfaces })
+        }
+    }
+}
+
+/// Reads a predicate without interfaces.
+#[tactic(auto, unfolding(crate::specs::Predicate::plain_at))]
+fn read_plain(text: &str) -> Result<HopPred, PolicyFault>
+    ensures { result ≡ plain_at text.now }
+{
+    let ia = match cut(text, '-') {
+        None => IsdAs::new(Isd::parse(text)?, any_as()),
+        Some(_) => IsdAs::parse(text)?,
+    };
+    Ok(HopPred {
+        ia,
+        interfaces: Interfaces::Any,
+    })
+}
+
+/// The AS number that is a wildcard.
+fn any_as() -> AsNumber
+    ensures { result ≡ 0 }
+{
+    match AsNumber::new(0) {
+        Some(as_number) => as_number,
+        None => unreachable!(),
+    }
+}
+
+/// Reads one or two interfaces.
+#[tactic(auto, unfolding(crate::specs::Predicate::interfaces_at))]
+fn read_interfaces(text: &str) -> Result<Interfaces, PolicyFault>
+    ensures { result ≡ interfaces_at text.now }
+{
+    match cut(text, ',') {
+        None => {
+            let interface = read_interface(text)?;
+            Ok(of_one(interface))
+        }
+        Some((ingress, egress)) => {
+            let ingress = read_interface(ingress)?;
+            let egress = read_interface(egress)?;
+            Ok(of_two(ingress, egress))
+        }
+    }
+}
+
+/// What one interface says, where 0 says nothing.
+fn of_one(interface: IfId) -> Interfaces
+    ensures { result ≡ one_interface interface }
+{
+    if interface.is_none() {
+        Interfaces::Any
+    } else {
+        Interfaces::Either(interface)
+    }
+}
+
+/// What two interfaces say, where 0 and 0 say nothing.
+fn of_two(ingress: IfId, egress: IfId) -> Interfaces
+    ensures { result ≡ two_interfaces ingress egress }
+{
+    if ingress.is_none() && egress.is_none() {
+        Interfaces::Any
+    } else {
+        Interfaces::Both(ingress, egress)
+    }
+}
+
+/// Reads an interface: decimal digits up to 65535, as those of an ISD.
+fn read_interface(text: &str) -> Result<IfId, PolicyFault>
+    ensures { result ≡ interface_at text.now }
+{
+    let number = Isd::parse(text)?;
+    Ok(IfId(number.number()))
+}
+
+/// The text before and after the first such sign, which is an ASCII character.
+fn cut(text: &str, sign: char) -> Option<(&str, &str)>
+    requires { sign < 128 }
+    ensures { GivesParts result (cut_at sign text.now) }
+{
+    text.split_once(sign)
+}

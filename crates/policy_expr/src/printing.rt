@@ -1,0 +1,102 @@
+ghost use Rattle.std.specs.Prelude.{◌≡◌, ◌++◌, ◌<◌, nat_lt, OnOk, Some};
+ghost use Rattle.std.specs.String.{string_bytes};
+ghost use Rattle.policy_expr.specs.Printing.{in_parentheses, interfaces_text, predicate_text, printed, strength};
+ghost use Rattle.policy_expr.specs.Tree.{tree_of};
+
+use crate::hop::{HopPred, Interfaces};
+use crate::node::SeqNode;
+use std::alloc::{AllocError, Allocator};
+use std::fmt;
+
+impl fmt::Display for Interfaces {
+    ghost output = { λ interfaces. Some (interfaces_text interfaces) };
+
+    fn fmt<W: fmt::Write>(&self, f: &mut fmt::Formatter<W>) -> fmt::Result {
+        match self {
+            Interfaces::Any => Ok(()),
+            Interfaces::Either(interface) => write!(f, "#{interface}"),
+            Interfaces::Both(ingress, egress) => write!(f, "#{ingress},{egress}"),
+        }
+    }
+}
+
+impl fmt::Display for HopPred {
+    ghost output = { λ pred. Some (predicate_text pred) };
+
+    fn fmt<W: fmt::Write>(&self, f: &mut fmt::Formatter<W>) -> fmt::Result {
+        if self.ia.as_number().is_wildcard() && self.interfaces == Interfaces::Any {
+            write!(f, "{}", self.ia.isd())
+        } else {
+            write!(f, "{}{}", self.ia, self.interfaces)
+        }
+    }
+}
+
+/// How tight a node binds: following least, then `|`, and all others most.
+const FOLLOWING: u8 = 0;
+
+const EITHER: u8 = 1;
+
+const ITEM: u8 = 2;
+
+impl<A: Allocator> SeqNode<A> {
+    /// How tight it binds.
+    fn strength(&self) -> u8
+        ensures { result ≡ strength (tree_of self.now) }
+    {
+        match self {
+            SeqNode::Then(_, _) => FOLLOWING,
+            SeqNode::Or(_, _) => EITHER,
+            SeqNode::Hop(_) => ITEM,
+            SeqNode::Optional(_) => ITEM,
+            SeqNode::Repeated(_) => ITEM,
+            SeqNode::OnceOrMore(_) => ITEM,
+        }
+    }
+
+    /// Adds its text at the end.
+    #[cycle(printing)]
+    pub(crate) fn print_to<B: Allocator>(&self, out: &mut String<B>) -> Result<(), AllocError>
+        ensures { OnOk result (string_bytes out.new ≡ string_bytes out.old ++ printed (tree_of self.now)) }
+    {
+        match self {
+            SeqNode::Hop(pred) => write!(out, "{pred}"),
+            SeqNode::Then(first, second) => {
+                first.print_to(out)?;
+                out.push(' ')?;
+                second.print_in(EITHER, out)
+            }
+            SeqNode::Or(first, second) => {
+                first.print_in(EITHER, out)?;
+                out.push('|')?;
+                second.print_in(ITEM, out)
+            }
+            SeqNode::Optional(item) => {
+                item.print_in(ITEM, out)?;
+                out.push('?')
+            }
+            SeqNode::Repeated(item) => {
+                item.print_in(ITEM, out)?;
+                out.push('*')
+            }
+            SeqNode::OnceOrMore(item) => {
+                item.print_in(ITEM, out)?;
+                out.push('+')
+            }
+        }
+    }
+
+    /// Adds its text at the end, in parentheses where it binds less tight than that.
+    #[cycle(printing)]
+    fn print_in<B: Allocator>(&self, least: u8, out: &mut String<B>) -> Result<(), AllocError>
+        ensures { OnOk result (string_bytes out.new ≡ string_bytes out.old
+            ++ in_parentheses (nat_lt (strength (tree_of self.now)) least) (printed (tree_of self.now))) }
+    {
+        if self.strength() >= least {
+            return self.print_to(out);
+        }
+        out.push('(')?;
+        self.print_to(out)?;
+        out.push(')')
+    }
+}

@@ -1,0 +1,253 @@
+ghost use Rattle.std.specs.Prelude.{◌≡◌, [], IfOk, option_map};
+ghost use Rattle.policy_expr.specs.Fault.{Answers};
+ghost use Rattle.policy_expr.specs.Tree.{tree_of};
+ghost use Rattle.policy_expr.specs.Reading.{ended, item_begun, item_followed, new_level, took, tree_at, wants, whole, with_before, with_left};
+ghost use Rattle.policy_expr.specs.Views.{level_of, levels_of, reading_of};
+
+use crate::counting::MAX_OPEN;
+use crate::fault::{PolicyError, PolicyFault};
+use crate::node::{SeqNode, boxed};
+use crate::token::{Token, next_token};
+use std::alloc::{AllocError, Allocator};
+
+/// What stands before the next item since the last open parenthesis.
+#[derive(Drop)]
+pub(crate) struct Level<A: Allocator> {
+    /// What the item will follow.
+    before: Option<SeqNode<A>>,
+    /// The alternatives to which the item will be one more.
+    left: Option<SeqNode<A>>,
+}
+
+impl<A: Allocator> Level<A> {
+    /// Nothing.
+    fn new() -> Level<A>
+        ensures { level_of result ≡ new_level }
+    {
+        Level {
+            before: None,
+            left: None,
+        }
+    }
+}
+
+/// A sequence's text under way.
+#[derive(Drop)]
+pub(crate) struct Reader<A: Allocator> {
+    alloc: A,
+    levels: Vec<Level<A>, A>,
+    level: Level<A>,
+    item: Option<SeqNode<A>>,
+}
+
+impl<A: Allocator + Clone> Reader<A> {
+    /// Nothing read yet.
+    pub(crate) fn new(alloc: A) -> Result<Reader<A>, AllocError>
+        ensures { IfOk result (λ reader. reading_of reader ≡ wants [] new_level) }
+    {
+        let levels = Vec::new(alloc.clone()?);
+        Ok(Reader {
+            alloc,
+            levels,
+            level: Level::new(),
+            item: None,
+        })
+    }
+
+    /// Takes one token more.
+    #[tactic(auto, unfolding(crate::specs::Reading::took))]
+    pub(crate) fn take(self, token: Token) -> Result<Reader<A>, PolicyError>
+        ensures { Answers (λ reader. reading_of reader) result (took (reading_of self) token) }
+    {
+        let Reader {
+            alloc,
+            levels,
+            level,
+            item,
+        } = self;
+        match item {
+            None => begin_item(alloc, levels, level, token),
+            Some(item) => follow_item(alloc, levels, level, item, token),
+        }
+    }
+
+    /// The tree at the end of the text.
+    #[tactic(auto, unfolding(crate::specs::Reading::ended))]
+    pub(crate) fn end(self) -> Result<SeqNode<A>, PolicyError>
+        ensures { Answers (λ node. tree_of node) result (ended (reading_of self)) }
+    {
+        let Reader {
+            alloc,
+            levels,
+            level,
+            item,
+        } = self;
+        match item {
+            None => Err(PolicyError::Fault(PolicyFault::UnexpectedEnd)),
+            Some(item) => {
+                if !levels.is_empty() {
+                    return Err(PolicyError::Fault(PolicyFault::Unbalanced));
+                }
+                Ok(join_level(&alloc, level, item)?)
+            }
+        }
+    }
+}
+
+/// Takes a token where an item must come.
+fn begin_item<A: Allocator + Clone>(
+    alloc: A,
+    mut levels: Vec<Level<A>, A>,
+    level: Level<A>,
+    token: Token,
+) -> Result<Reader<A>, PolicyError>
+    ensures { Answers (λ reader. reading_of reader) result (item_begun (levels_of levels.items) (level_of level) token) }
+{
+    match token {
+        Token::Hop(pred) => Ok(Reader {
+            alloc,
+            levels,
+            level,
+            item: Some(SeqNode::Hop(pred)),
+        }),
+        Token::Open => {
+            if levels.len() >= MAX_OPEN {
+                return Err(PolicyError::Fault(PolicyFault::TooDeep));
+            }
+            levels.push(level)?;
+            Ok(Reader {
+                alloc,
+                levels,
+                level: Level::new(),
+                item: None,
+            })
+        }
+        _ => Err(PolicyError::Fault(PolicyFault::BadPredicate)),
+    }
+}
+
+/// Takes a token behind an item.
+fn follow_item<A: Allocator + Clone>(
+    alloc: A,
+    mut levels: Vec<Level<A>, A>,
+    level: Level<A>,
+    item: SeqNode<A>,
+    token: Token,
+) -> Result<Reader<A>, PolicyError>
+    ensures { Answers (λ reader. reading_of reader) result (item_followed (levels_of levels.items) (level_of level) (tree_of item) token) }
+{
+    match token {
+        Token::Optional => {
+            let item = Some(SeqNode::Optional(boxed(&alloc, item)?));
+            Ok(Reader {
+                alloc,
+                levels,
+                level,
+                item,
+            })
+        }
+        Token::OnceOrMore => {
+            let item = Some(SeqNode::OnceOrMore(boxed(&alloc, item)?));
+            Ok(Reader {
+                alloc,
+                levels,
+                level,
+                item,
+            })
+        }
+        Token::Repeated => {
+            let item = Some(SeqNode::Repeated(boxed(&alloc, item)?));
+            Ok(Reader {
+                alloc,
+                levels,
+                level,
+                item,
+            })
+        }
+        Token::Or => {
+            let Level { before, left } = level;
+            let left = Some(join_left(&alloc, left, item)?);
+            Ok(Reader {
+                alloc,
+                levels,
+                level: Level { before, left },
+                item: None,
+            })
+        }
+        Token::Close => match levels.pop() {
+            None => Err(PolicyError::Fault(PolicyFault::Unbalanced)),
+            Some(outer) => {
+                let item = Some(join_level(&alloc, level, item)?);
+                Ok(Reader {
+                    alloc,
+                    levels,
+                    level: outer,
+                    item,
+                })
+            }
+        },
+        Token::Other => Err(PolicyError::Fault(PolicyFault::BadPredicate)),
+        Token::Hop(_) | Token::Open => {
+            let before = Some(join_level(&alloc, level, item)?);
+            begin_item(alloc, levels, Level { before, left: None }, token)
+        }
+    }
+}
+
+/// All that was read at a level, with this item at its end.
+fn join_level<A: Allocator + Clone>(
+    alloc: &A,
+    level: Level<A>,
+    item: SeqNode<A>,
+) -> Result<SeqNode<A>, AllocError>
+    ensures { IfOk result (λ node. tree_of node ≡ whole (level_of level) (tree_of item)) }
+{
+    let Level { before, left } = level;
+    let item = join_left(alloc, left, item)?;
+    join_before(alloc, before, item)
+}
+
+/// The item as one alternative more.
+fn join_left<A: Allocator + Clone>(
+    alloc: &A,
+    left: Option<SeqNode<A>>,
+    item: SeqNode<A>,
+) -> Result<SeqNode<A>, AllocError>
+    ensures { IfOk result (λ node. tree_of node ≡ with_left (option_map tree_of left) (tree_of item)) }
+{
+    match left {
+        None => Ok(item),
+        Some(left) => Ok(SeqNode::Or(boxed(alloc, left)?, boxed(alloc, item)?)),
+    }
+}
+
+/// The item behind what it follows.
+fn join_before<A: Allocator + Clone>(
+    alloc: &A,
+    before: Option<SeqNode<A>>,
+    item: SeqNode<A>,
+) -> Result<SeqNode<A>, AllocError>
+    ensures { IfOk result (λ node. tree_of node ≡ with_before (option_map tree_of before) (tree_of item)) }
+{
+    match before {
+        None => Ok(item),
+        Some(before) => Ok(SeqNode::Then(boxed(alloc, before)?, boxed(alloc, item)?)),
+    }
+}
+
+/// The tree of a text, however large.
+#[tactic(auto, unfolding(crate::specs::Reading::read_on))]
+pub(crate) fn read_tree<A: Allocator + Clone>(
+    alloc: A,
+    text: &str,
+) -> Result<SeqNode<A>, PolicyError>
+    ensures { Answers (λ node. tree_of node) result (tree_at text.now) }
+{
+    let mut reader = Reader::new(alloc)?;
+    let mut rest = text.as_bytes();
+    while let Some((token, behind)) = next_token(rest) {
+        reader = reader.take(token)?;
+        rest = behind;
+    }
+    reader.end()
+}

@@ -1,0 +1,89 @@
+ghost use Rattle.std.specs.Prelude.{◌≡◌, ◌≤◌, ◌↔◌, length, IsTrue, IfOk, Ok};
+ghost use Rattle.std.specs.String.{string_bytes};
+ghost use Rattle.policy_expr.specs.Fault.{Answers};
+ghost use Rattle.policy_expr.specs.Language.{Lang};
+ghost use Rattle.policy_expr.specs.Printing.{IsSequence, printed};
+ghost use Rattle.policy_expr.specs.Reading.{sequence_at};
+
+use crate::counting::check_text;
+use crate::fault::PolicyError;
+use crate::hop::WalkHop;
+use crate::node::SeqNode;
+use crate::reader::read_tree;
+use std::alloc::{AllocError, Allocator};
+use std::marker::Model;
+
+/// A sequence: a regular expression over hops, of which walks are words.
+///
+/// Its type keeps that it has at most 256 nodes, and that its text has at most 32 parentheses open at
+/// once.
+#[derive(Drop)]
+pub struct Seq<A: Allocator + Clone> {
+    root: SeqNode<A>,
+}
+
+impl<A: Allocator + Clone> Model for Seq<A> {
+    ghost use Rattle.policy_expr.specs.Code.{coded_tree};
+    ghost use Rattle.policy_expr.specs.Tree.{Tree, tree_of};
+    ghost use Rattle.policy_expr.specs.Printing.{IsSequence};
+
+    ghost Value = { Tree };
+
+    ghost coded = { coded_tree };
+
+    ghost view = { λ s. tree_of s.root };
+
+    ghost invariant = { λ s. IsSequence (tree_of s.root) };
+}
+
+impl<A: Allocator + Clone> Seq<A> {
+    /// The sequence of a text.
+    ///
+    /// The text is read from left to right. Where an item must come, its end is
+    /// [`PolicyFault::UnexpectedEnd`], a `(` with 32 open [`PolicyFault::TooDeep`], and any token but a
+    /// predicate [`PolicyFault::BadPredicate`]. Behind an item, a `)` with none open and the end with
+    /// some open are [`PolicyFault::Unbalanced`], and an unknown character is
+    /// [`PolicyFault::BadPredicate`]. A text without these faults is [`PolicyFault::TooLarge`] where it
+    /// has more than 256 nodes.
+    pub fn parse(alloc: A, text: &str) -> Result<Seq<A>, PolicyError>
+        ensures { Answers (λ s. s) result (sequence_at text.now) }
+    {
+        check_text(text)?;
+        let root = read_tree(alloc, text)?;
+        Ok(Seq { root })
+    }
+
+    /// Is a sequence, so that its text is read as it again.
+    pub fn known(&self)
+        ensures kept { IsSequence self.now }
+        ensures again { sequence_at (printed self.now) ≡ Ok self.now }
+    {
+        let _ = &self.root;
+    }
+
+    /// Its text, with the fewest parentheses that keep the tree: one space for following, nothing round
+    /// `|`, addresses in their canonical text, and the ISD alone where AS and interfaces are wildcards.
+    pub fn print<B: Allocator>(&self, alloc: B) -> Result<String<B>, AllocError>
+        ensures { IfOk result (λ text. string_bytes text ≡ printed self.now) }
+    {
+        let mut text = String::new(alloc);
+        self.root.print_to(&mut text)?;
+        Ok(text)
+    }
+
+    /// The same sequence under another allocator.
+    pub fn clone_in<B: Allocator + Clone>(&self, alloc: B) -> Result<Seq<B>, AllocError>
+        ensures { IfOk result (λ s. s ≡ self.now) }
+    {
+        let root = self.root.clone_in(&alloc)?;
+        Ok(Seq { root })
+    }
+
+    /// Whether the walk, of at most 64 hops, is a word of this sequence. Takes no memory.
+    pub fn matches(&self, walk: &[WalkHop]) -> bool
+        requires { length walk.now ≤ 64 }
+        ensures { IsTrue result ↔ Lang self.now walk.now }
+    {
+        self.root.matches(walk)
+    }
+}

@@ -1,0 +1,117 @@
+ghost use Rattle.std.specs.Prelude.{◌≡◌};
+ghost use Rattle.std.specs.Str.{IsAscii};
+ghost use Rattle.policy_expr.specs.Predicate.{predicate_at};
+ghost use Rattle.policy_expr.specs.Tokens.{is_blank, is_mark, read_token, sign_token};
+ghost use Rattle.policy_expr.specs.Next.{GivesToken, after_blanks, after_marks};
+
+use crate::hop::HopPred;
+
+/// A token of a sequence's text.
+#[derive(Clone, Copy, Debug, PartialEq, Eq)]
+pub(crate) enum Token {
+    /// A predicate.
+    Hop(HopPred),
+    /// `?`
+    Optional,
+    /// `+`
+    OnceOrMore,
+    /// `*`
+    Repeated,
+    /// `|`
+    Or,
+    /// `(`
+    Open,
+    /// `)`
+    Close,
+    /// A text that is no predicate, or a character that is no sign.
+    Other,
+}
+
+/// The first token of the text, and the text behind it.
+pub(crate) fn next_token(text: &[u8]) -> Option<(Token, &[u8])>
+    ensures { GivesToken result text.now }
+{
+    let text = trim_start(text);
+    let Some((first, behind)) = text.split_first() else {
+        return None;
+    };
+    if !is_mark_byte(*first) {
+        return Some((token_of_sign(*first), behind));
+    }
+    let rest = behind_marks(text);
+    let run = &text[..text.len() - rest.len()];
+    Some((token_of_run(run), rest))
+}
+
+/// The text from its first byte that is no blank.
+#[tactic(auto, unfolding(crate::specs::Next::after_blanks))]
+pub(crate) fn trim_start(text: &[u8]) -> &[u8]
+    ensures { result.now ≡ after_blanks text.now }
+{
+    let mut rest = text;
+    while let Some((byte, behind)) = rest.split_first() {
+        if !is_blank_byte(*byte) {
+            return rest;
+        }
+        rest = behind;
+    }
+    rest
+}
+
+/// The text from its first byte that is no mark.
+#[tactic(auto, unfolding(crate::specs::Next::after_marks))]
+fn behind_marks(text: &[u8]) -> &[u8]
+    ensures { result.now ≡ after_marks text.now }
+{
+    let mut rest = text;
+    while let Some((byte, behind)) = rest.split_first() {
+        if !is_mark_byte(*byte) {
+            return rest;
+        }
+        rest = behind;
+    }
+    rest
+}
+
+/// Whether the byte is a space, a tab, CR or LF.
+pub(crate) fn is_blank_byte(byte: u8) -> bool
+    ensures { result ≡ is_blank byte }
+{
+    byte == b' ' || byte == b'\t' || byte == b'\r' || byte == b'\n'
+}
+
+/// Whether the byte is one that predicates are made of.
+fn is_mark_byte(byte: u8) -> bool
+    ensures { result ≡ is_mark byte }
+{
+    matches!(byte, b'0'..=b'9' | b'a'..=b'f' | b'A'..=b'F' | b'-' | b':' | b'#' | b',')
+}
+
+/// The token of a sign.
+fn token_of_sign(byte: u8) -> Token
+    ensures { result ≡ sign_token byte }
+{
+    match byte {
+        b'?' => Token::Optional,
+        b'+' => Token::OnceOrMore,
+        b'*' => Token::Repeated,
+        b'|' => Token::Or,
+        b'(' => Token::Open,
+        b')' => Token::Close,
+        _ => Token::Other,
+    }
+}
+
+/// The token of a run of marks.
+fn token_of_run(run: &[u8]) -> Token
+    requires { IsAscii run.now }
+    ensures { result ≡ read_token (predicate_at run.now) }
+{
+    match str::from_utf8(run) {
+        Ok(text) => match HopPred::parse(text) {
+            Ok(pred) => Token::Hop(pred),
+            Err(_) => Token::Other,
+        },
+        Err(_) => unreachable!(),
+    }
+}
