@@ -1,0 +1,84 @@
+-- Which paths may be sent, in plain facts (draft-dekater-scion-dataplane, segment combinations, without peering).
+use Rattle.std.specs.Prelude.{◌≡◌, ◌⊎◌, ℕ, ◌+◌, ◌<◌, ◌≤◌, List, [], ◌∷◌, length, map, All, Any, IsTrue, Some, slice_get}
+use Rattle.hop_mac.specs.Lifetime.{expiry_of, IsLive}
+use Rattle.path_header.specs.Value.{HeaderValue}
+use Rattle.policy_expr.specs.declared.hop.WalkHop.{WalkHop}
+use Rattle.policy_expr.specs.Policy.{Rules, AllowsHops, HasWord}
+use Rattle.path_verifier.specs.declared.kind.PieceKind.TheVariants.{Core}
+use Rattle.path_verifier.specs.Piece.{PieceValue, HasRange, kind_of, stretch, begins_in, ends_in}
+use Rattle.path_verifier.specs.Walk.{walk_of}
+use Rattle.path_verifier.specs.Header.{hop_count, header_of}
+use Rattle.path_verifier.specs.Shape.{are_kinds}
+
+-- the piece is a core piece
+abbrev pub IsCore : PieceValue → Type 0
+IsCore piece = kind_of piece ≡ Core
+
+-- where there is a core piece it is whole, and each other piece begins where its segment does; where there is none all pieces
+-- do, or none does
+pub record AreCutWell (pieces : List PieceValue) : Type 0 where
+  pub with_core : Any IsCore pieces → All (λ piece. (piece.from ≡ 0) × (IsCore piece → piece.to + 1 ≡ length piece.segment.entries)) pieces
+  pub without : ¬ (Any IsCore pieces) → All (λ piece. piece.from ≡ 0) pieces ⊎ All (λ piece. 0 < piece.from) pieces
+
+-- each piece ends in the AS in which the next begins
+abbrev pub DoMeet : List PieceValue → Type 0
+DoMeet [] = Unit {0}
+DoMeet (piece ∷ []) = Unit {0}
+DoMeet (piece ∷ next ∷ later) = (ends_in piece ≡ begins_in next) × DoMeet (next ∷ later)
+
+-- the first piece begins in this AS
+abbrev pub DoBeginIn : ℕ → List PieceValue → Type 0
+DoBeginIn src [] = ⊥
+DoBeginIn src (piece ∷ later) = begins_in piece ≡ src
+
+-- the last piece ends in this AS
+abbrev pub DoEndIn : ℕ → List PieceValue → Type 0
+DoEndIn dst [] = ⊥
+DoEndIn dst (piece ∷ []) = ends_in piece ≡ dst
+DoEndIn dst (piece ∷ next ∷ later) = DoEndIn dst (next ∷ later)
+
+-- no AS stands in two hops
+abbrev pub NamesOnce : List WalkHop → Type 0
+NamesOnce walk = (j k : ℕ) (one other : WalkHop) → slice_get walk j ≡ Some one → slice_get walk k ≡ Some other → one.ia ≡ other.ia → j ≡ k
+
+-- each hop of the pieces is live at this second
+abbrev pub AreLive : ℕ → List PieceValue → Type 0
+AreLive now pieces = All (λ piece. All (λ entry. IsLive piece.segment.timestamp entry.exp_time now) (stretch piece)) pieces
+
+-- the half second at which the first hop of the pieces expires: one expires then, and none before
+pub record IsExpiry (pieces : List PieceValue) (least : ℕ) : Type 0 where
+  pub reached : Any (λ piece. Any (λ entry. least ≡ expiry_of piece.segment.timestamp entry.exp_time) (stretch piece)) pieces
+  pub lower : All (λ piece. All (λ entry. least ≤ expiry_of piece.segment.timestamp entry.exp_time) (stretch piece)) pieces
+
+-- the pieces are a path from one AS to another, and live at this second
+pub record MakesPath (pieces : List PieceValue) (src dst now : ℕ) : Type 0 where
+  pub some : 0 < length pieces
+  pub ranges : All HasRange pieces
+  pub kinds : IsTrue (are_kinds (map kind_of pieces))
+  pub cuts : AreCutWell pieces
+  pub meet : DoMeet pieces
+  pub source : DoBeginIn src pieces
+  pub destination : DoEndIn dst pieces
+  pub few : hop_count pieces ≤ 64
+  pub once : NamesOnce (walk_of pieces)
+  pub live : AreLive now pieces
+
+-- pieces with a header, and what is asked of them: the ends, the second and the policy
+pub record Request : Type 0 where
+  pub pieces : List PieceValue
+  pub header : HeaderValue
+  pub src : ℕ
+  pub dst : ℕ
+  pub moment : ℕ
+  pub rules : Rules
+
+abbrev pub request_of : List PieceValue → HeaderValue → ℕ → ℕ → ℕ → Rules → Request
+request_of pieces header src dst moment rules =
+    record { pieces = pieces; header = header; src = src; dst = dst; moment = moment; rules = rules }
+
+-- the path may be sent: it is one, the header is that of the pieces, and the policy allows the walk
+pub record IsAccepted (request : Request) : Type 0 where
+  pub path : MakesPath request.pieces request.src request.dst request.moment
+  pub header : request.header ≡ header_of request.pieces
+  pub hops : AllowsHops request.rules.acl (walk_of request.pieces)
+  pub word : HasWord request.rules.sequence (walk_of request.pieces)

@@ -1,0 +1,59 @@
+-- Pieces of segments, of which paths are made (draft-dekater-scion-dataplane, segment combinations).
+use Rattle.std.specs.Prelude.{ℕ, ◌-◌, ◌<◌, Bool, true, false, if◌then◌else◌, List, length, reverse, slice_get}
+use Rattle.std.specs.Option.{option_map_or}
+use Rattle.path_segment.specs.declared.entry.Entry.{Entry}
+use Rattle.path_segment.specs.declared.kind.SegKind.{SegKind}
+use Rattle.path_segment.specs.declared.kind.SegKind.TheVariants.{Core, Intra}
+use Rattle.path_segment.specs.Chain.{Chain, between}
+use Rattle.path_verifier.specs.declared.kind.PieceKind.{PieceKind}
+use Rattle.path_verifier.specs.declared.kind.PieceKind.TheVariants as kinds
+
+-- a segment, the places of two of its entries, and whether it is travelled in construction direction
+pub record PieceValue : Type 0 where
+  pub segment : Chain
+  pub from : ℕ
+  pub to : ℕ
+  pub along : Bool
+
+-- both places are those of entries, the first before the second
+pub record HasRange (piece : PieceValue) : Type 0 where
+  pub order : piece.from < piece.to
+  pub within : piece.to < length piece.segment.entries
+
+-- an intra segment is travelled up against its direction and down along it, a core segment either way
+abbrev pub kind_in : SegKind → Bool → PieceKind
+kind_in Core along = kinds.Core
+kind_in Intra true = kinds.Down
+kind_in Intra false = kinds.Up
+
+abbrev pub kind_of : PieceValue → PieceKind
+kind_of piece = kind_in piece.segment.kind piece.along
+
+-- the entries between both places, both included, in construction order
+abbrev pub stretch : PieceValue → List Entry
+stretch piece = between piece.from piece.to piece.segment.entries
+
+-- entries in construction order, or the other way round
+abbrev pub in_order : Bool → List Entry → List Entry
+in_order true entries = entries
+in_order false entries = reverse entries
+
+-- the entries that are travelled, in order of travel
+abbrev pub travelled : PieceValue → List Entry
+travelled piece = in_order piece.along (stretch piece)
+
+-- the place in the segment of the entry that is travelled first
+abbrev pub first_place : PieceValue → ℕ
+first_place piece = if piece.along then piece.from else piece.to
+
+-- the AS of the entry at a place, and 0 where there is none
+abbrev pub as_at : List Entry → ℕ → ℕ
+as_at entries i = option_map_or (λ entry. entry.ia) (slice_get entries i) 0
+
+-- the AS in which the travel along a piece begins
+unfoldable pub begins_in : PieceValue → ℕ
+begins_in piece = as_at (travelled piece) 0
+
+-- the AS in which it ends
+unfoldable pub ends_in : PieceValue → ℕ
+ends_in piece = as_at (travelled piece) (length (travelled piece) - 1)

@@ -1,0 +1,49 @@
+-- The walk of a path: the ASes that it passes, each with its way in and its way out (draft-dekater-scion-dataplane,
+-- path construction). No index and no byte occurs in it.
+use Rattle.std.specs.Prelude.{ℕ, Bool, if◌then◌else◌, List, [], ◌∷◌, ◌++◌, map}
+use Rattle.std.specs.List.{fold}
+use Rattle.path_segment.specs.declared.entry.Entry.{Entry}
+use Rattle.policy_expr.specs.declared.hop.WalkHop.{WalkHop}
+use Rattle.path_verifier.specs.Piece.{PieceValue, travelled}
+
+-- the hop of an entry: in construction direction it goes in by ConsIngress and out by ConsEgress, else the other way round
+unfoldable pub hop_of : Bool → Entry → WalkHop
+hop_of along entry = record {
+  ia = entry.ia;
+  ingress = if along then entry.cons_ingress else entry.cons_egress;
+  egress = if along then entry.cons_egress else entry.cons_ingress;
+}
+
+-- the hops of a piece, in order of travel
+unfoldable pub hops_of : PieceValue → List WalkHop
+hops_of piece = map (hop_of piece.along) (travelled piece)
+
+-- these hops with this way into the first
+abbrev pub entered_by : ℕ → List WalkHop → List WalkHop
+entered_by way [] = []
+entered_by way (hop ∷ later) = record hop { ingress = way } ∷ later
+
+-- these hops with this way out of the last
+abbrev pub left_by : ℕ → List WalkHop → List WalkHop
+left_by way [] = []
+left_by way (hop ∷ []) = record hop { egress = way } ∷ []
+left_by way (hop ∷ next ∷ later) = hop ∷ left_by way (next ∷ later)
+
+-- a walk that goes on from its last AS by this hop, of which only the way out is new
+abbrev pub met : List WalkHop → WalkHop → List WalkHop
+met [] hop = hop ∷ []
+met (first ∷ later) hop = left_by hop.egress (first ∷ later)
+
+-- a walk that goes on with these hops: the AS in which both meet stands once, with the way in of the walk and the way out of
+-- the hops
+abbrev pub joined : List WalkHop → List WalkHop → List WalkHop
+joined walk [] = walk
+joined walk (hop ∷ later) = met walk hop ++ later
+
+-- the hops of all pieces, one piece after another
+abbrev pub joined_hops : List PieceValue → List WalkHop
+joined_hops pieces = fold joined [] (map hops_of pieces)
+
+-- the walk of these pieces, with 0 as the way into the first AS and as the way out of the last
+unfoldable pub walk_of : List PieceValue → List WalkHop
+walk_of pieces = left_by 0 (entered_by 0 (joined_hops pieces))

@@ -1,0 +1,139 @@
+ghost use Rattle.std.specs.Prelude.{◌≡◌, ◌+◌, ◌<◌, ◌≤◌, ◌++◌, length, map};
+ghost use Rattle.std.specs.List.{AllByRecursion, flat_map};
+ghost use Rattle.path_header.specs.Value.{IsHeader, lens_from};
+ghost use Rattle.path_header.specs.Building.{first_header};
+ghost use Rattle.path_verifier.specs.Piece.{HasRange};
+ghost use Rattle.path_verifier.specs.Held.{pieces_in};
+ghost use Rattle.path_verifier.specs.Header.{field_of, fields_of, info_of, header_of, len_of, hop_count, HaveSixBits};
+
+use crate::piece::Piece;
+use crate::pieces::Held;
+use arrayvec::ArrayVec;
+use path_header::{Header, HopField, InfoField};
+use path_segment::Entry;
+
+/// The header of these pieces, the packet standing at its first info and hop field.
+#[tactic(auto, unfolding(crate::specs::Header::header_of))]
+pub(crate) fn header_of(held: &Held<'_>) -> Header
+    requires some { 0 < length (pieces_in held.now) }
+    requires ranges { AllByRecursion HasRange (pieces_in held.now) }
+    requires few { hop_count (pieces_in held.now) ≤ 64 }
+    ensures { result ≡ header_of (pieces_in held.now) }
+{
+    built(lens_of(held), &infos_of(held), &fields_of_all(held))
+}
+
+/// The header of these lengths and fields.
+fn built(lens: [u8; 3], infos: &[InfoField], fields: &[HopField]) -> Header
+    requires { IsHeader (first_header (lens_from lens) infos.now fields.now) }
+    ensures { result ≡ first_header (lens_from lens) infos.now fields.now }
+{
+    match Header::new(lens, infos, fields) {
+        Ok(header) => header,
+        Err(_) => unreachable!(),
+    }
+}
+
+/// How many hop fields each piece has, and 0 where there is no piece.
+fn lens_of(held: &Held<'_>) -> [u8; 3]
+    requires { AllByRecursion HasRange (pieces_in held.now) }
+    ensures value { lens_from result ≡ lens_from (map len_of (pieces_in held.now)) }
+    ensures few { HaveSixBits (lens_from result) }
+{
+    match held {
+        Held::Zero => [0, 0, 0],
+        Held::One(first) => [len_of(first), 0, 0],
+        Held::Two(first, second) => [len_of(first), len_of(second), 0],
+        Held::Three(first, second, third) => [len_of(first), len_of(second), len_of(third)],
+    }
+}
+
+/// How many hop fields a piece has.
+fn len_of(piece: &Piece<'_>) -> u8
+    requires { HasRange piece.now }
+    ensures value { result ≡ len_of piece.now }
+    ensures few { result < 64 }
+{
+    piece.len() as u8
+}
+
+/// The info field of each piece.
+fn infos_of(held: &Held<'_>) -> ArrayVec<InfoField, 3>
+    requires { AllByRecursion HasRange (pieces_in held.now) }
+    ensures { result.items ≡ map info_of (pieces_in held.now) }
+{
+    let mut infos = ArrayVec::new();
+    match held {
+        Held::Zero => {}
+        Held::One(first) => infos.push(info_of(first)),
+        Held::Two(first, second) => {
+            infos.push(info_of(first));
+            infos.push(info_of(second));
+        }
+        Held::Three(first, second, third) => {
+            infos.push(info_of(first));
+            infos.push(info_of(second));
+            infos.push(info_of(third));
+        }
+    }
+    infos
+}
+
+/// The info field of a piece.
+fn info_of(piece: &Piece<'_>) -> InfoField
+    requires { HasRange piece.now }
+    ensures { result ≡ info_of piece.now }
+{
+    InfoField {
+        construction: piece.along(),
+        seg_id: piece.segment().beta_at(piece.first_place()),
+        timestamp: piece.segment().timestamp(),
+    }
+}
+
+/// The hop fields of all pieces.
+fn fields_of_all(held: &Held<'_>) -> ArrayVec<HopField, 64>
+    requires ranges { AllByRecursion HasRange (pieces_in held.now) }
+    requires few { hop_count (pieces_in held.now) ≤ 64 }
+    ensures { result.items ≡ flat_map fields_of (pieces_in held.now) }
+{
+    let mut fields = ArrayVec::new();
+    match held {
+        Held::Zero => {}
+        Held::One(first) => push_fields(&mut fields, first),
+        Held::Two(first, second) => {
+            push_fields(&mut fields, first);
+            push_fields(&mut fields, second);
+        }
+        Held::Three(first, second, third) => {
+            push_fields(&mut fields, first);
+            push_fields(&mut fields, second);
+            push_fields(&mut fields, third);
+        }
+    }
+    fields
+}
+
+/// Adds the hop fields of a piece at the end.
+fn push_fields(fields: &mut ArrayVec<HopField, 64>, piece: &Piece<'_>)
+    requires range { HasRange piece.now }
+    requires few { length fields.old.items + len_of piece.now ≤ 64 }
+    ensures fields { fields.new.items ≡ fields.old.items ++ fields_of piece.now }
+    ensures len { length fields.new.items ≡ length fields.old.items + len_of piece.now }
+{
+    for place in 0..piece.len() {
+        fields.push(field_of(piece.entry(place)));
+    }
+}
+
+/// The hop field of an entry.
+fn field_of(entry: &Entry) -> HopField
+    ensures { result ≡ field_of entry.now }
+{
+    HopField {
+        exp_time: entry.exp_time,
+        cons_ingress: entry.cons_ingress,
+        cons_egress: entry.cons_egress,
+        mac: entry.mac,
+    }
+}

@@ -1,0 +1,27 @@
+//! Laws of paths: each is the contract of a function that does nothing.
+
+ghost use Rattle.std.specs.Prelude.{◌≡◌, ◌↔◌, ℕ, ◌-◌, ◌*◌, ◌≤◌, List, Some, None, length, map, slice_get};
+ghost use Rattle.path_verifier.specs.Piece.{PieceValue};
+ghost use Rattle.path_verifier.specs.Walk.{walk_of};
+ghost use Rattle.path_verifier.specs.Shape.{path_fault};
+ghost use Rattle.path_verifier.specs.Accepted.{AreLive, IsExpiry, MakesPath};
+
+/// The tests of pieces find no fault exactly where the pieces make a path in plain facts.
+pub fn paths_are_plain()
+    ensures { (pieces : List PieceValue) (src dst now : ℕ)
+        → (path_fault pieces src dst now ≡ None) ↔ MakesPath pieces src dst now }
+{}
+
+/// The walk of a path leads from its source to its destination.
+pub fn walks_lead_on()
+    ensures begins { (pieces : List PieceValue) (src dst now : ℕ) → MakesPath pieces src dst now
+        → slice_get (map (λ hop. hop.ia) (walk_of pieces)) 0 ≡ Some src }
+    ensures ends { (pieces : List PieceValue) (src dst now : ℕ) → MakesPath pieces src dst now
+        → slice_get (map (λ hop. hop.ia) (walk_of pieces)) (length (walk_of pieces) - 1) ≡ Some dst }
+{}
+
+/// The hops of pieces are live exactly up to the moment at which the first of them expires.
+pub fn live_up_to_expiry()
+    ensures { (pieces : List PieceValue) (least now : ℕ) → IsExpiry pieces least
+        → AreLive now pieces ↔ (2 * now ≤ least) }
+{}

@@ -1,0 +1,226 @@
+ghost use Rattle.std.specs.Prelude.{◌≡◌, ◌+◌, ◌-◌, ◌<◌, ◌≤◌, length, slice_get, Some, IsTrue, nat_lt, nat_le, ◌*◌};
+ghost use Rattle.std.specs.List.{list_all};
+ghost use Rattle.hop_mac.specs.Lifetime.{expiry_of};
+ghost use Rattle.path_segment.specs.Chain.{between, IsLeastExpiry};
+ghost use Rattle.path_verifier.specs.Piece.{HasRange, kind_of, stretch, travelled, first_place, begins_in, ends_in};
+ghost use Rattle.path_verifier.specs.Shape.{has_range, is_core, begins_first, ends_last, is_live};
+
+use crate::kind::PieceKind;
+use hop_mac::hop_is_live;
+use isd_as::IsdAs;
+use path_segment::{Entry, SegKind, Segment};
+use std::marker::Model;
+
+/// A piece of a segment, by which a path goes: the entries from one place to a later one, both
+/// included, in one of both directions.
+#[derive(Debug, Drop)]
+pub struct Piece<'s> {
+    /// The segment.
+    pub segment: &'s Segment,
+    /// The place in the segment of the piece's first entry, in construction order.
+    pub from: usize,
+    /// The place of its last entry.
+    pub to: usize,
+    /// Whether it is travelled in the direction in which the segment was made.
+    pub along: bool,
+}
+
+impl<'s> Model for Piece<'s> {
+    ghost use Rattle.path_verifier.specs.Piece.{PieceValue};
+
+    ghost Value = { PieceValue };
+
+    ghost view = { λ p. record { segment = p.segment.now; from = p.from; to = p.to; along = p.along } };
+}
+
+impl<'s> Piece<'s> {
+    /// What it is: an up, a core or a down piece.
+    pub fn kind(&self) -> PieceKind
+        ensures { result ≡ kind_of self.now }
+    {
+        match (self.segment.kind(), self.along) {
+            (SegKind::Core, _) => PieceKind::Core,
+            (SegKind::Intra, true) => PieceKind::Down,
+            (SegKind::Intra, false) => PieceKind::Up,
+        }
+    }
+
+    /// Whether its places are those of two entries, the first before the second.
+    pub(crate) fn has_range(&self) -> bool
+        ensures value { result ≡ has_range self.now }
+        ensures range { IsTrue result → HasRange self.now }
+    {
+        self.from < self.to && self.to < self.segment.entries().len()
+    }
+
+    /// Whether it is a core piece.
+    pub(crate) fn is_core(&self) -> bool
+        ensures { result ≡ is_core self.now }
+    {
+        self.kind() == PieceKind::Core
+    }
+
+    /// Whether it has the entry in which its segment begins.
+    pub(crate) fn begins_first(&self) -> bool
+        ensures { result ≡ begins_first self.now }
+    {
+        self.from == 0
+    }
+
+    /// Whether it begins behind that entry.
+    pub(crate) fn begins_later(&self) -> bool
+        ensures { result ≡ nat_lt 0 self.now.from }
+    {
+        self.from > 0
+    }
+
+    /// Whether it has the entry in which its segment ends.
+    pub(crate) fn ends_last(&self) -> bool
+        requires { HasRange self.now }
+        ensures { result ≡ ends_last self.now }
+    {
+        let segment = self.segment;
+        self.to == segment.entries().len() - 1
+    }
+
+    /// The AS in which the travel along it begins.
+    #[tactic(auto, unfolding(crate::specs::Piece::begins_in))]
+    pub(crate) fn begins_in(&self) -> IsdAs
+        requires { HasRange self.now }
+        ensures { result ≡ begins_in self.now }
+    {
+        self.entry(0).ia
+    }
+
+    /// The AS in which it ends.
+    #[tactic(auto, unfolding(crate::specs::Piece::ends_in))]
+    pub(crate) fn ends_in(&self) -> IsdAs
+        requires { HasRange self.now }
+        ensures { result ≡ ends_in self.now }
+    {
+        self.entry(self.len() - 1).ia
+    }
+
+    /// Whether each of its hops is live at the second `now`.
+    pub(crate) fn is_live(&self, now: u32) -> bool
+        requires { HasRange self.now }
+        ensures { result ≡ is_live now self.now }
+    {
+        are_live(self.segment().timestamp(), self.stretch(), now)
+    }
+
+    /// Its entries, in construction order.
+    pub(crate) fn stretch(&self) -> &'s [Entry]
+        requires { HasRange self.now }
+        ensures { result.now ≡ stretch self.now }
+    {
+        let segment = self.segment;
+        let (from, to) = (self.from, self.to);
+        cut(segment.entries(), from, to)
+    }
+
+    /// The moment, in half seconds, at which the first of its hops expires.
+    pub(crate) fn expiry(&self) -> u64
+        requires { HasRange self.now }
+        ensures { IsLeastExpiry self.now.segment.timestamp (stretch self.now) result }
+    {
+        self.segment.least_expiry(self.from, self.to)
+    }
+
+    /// The segment.
+    pub(crate) fn segment(&self) -> &'s Segment
+        ensures { result.now ≡ self.now.segment }
+    {
+        self.segment
+    }
+
+    /// Whether it is travelled in the direction in which the segment was made.
+    pub(crate) fn along(&self) -> bool
+        ensures { result ≡ self.now.along }
+    {
+        self.along
+    }
+
+    /// The place in the segment of the entry that is travelled first.
+    pub(crate) fn first_place(&self) -> usize
+        ensures { result ≡ first_place self.now }
+    {
+        if self.along { self.from } else { self.to }
+    }
+
+    /// How many entries are travelled, which is at most 63.
+    #[tactic(auto, using(crate::proofs::Stretch::length_travelled))]
+    pub(crate) fn len(&self) -> usize
+        requires { HasRange self.now }
+        ensures value { result ≡ length (travelled self.now) }
+        ensures few { result ≤ 63 }
+    {
+        let segment = self.segment;
+        let (from, to) = (self.from, self.to);
+        count(segment.entries(), from, to)
+    }
+
+    /// The entry that is travelled at this place, counted from 0.
+    pub(crate) fn entry(&self, place: usize) -> &'s Entry
+        requires range { HasRange self.now }
+        requires within { place < length (travelled self.now) }
+        ensures { slice_get (travelled self.now) place ≡ Some result.now }
+    {
+        let segment = self.segment;
+        let at = if self.along {
+            self.from + place
+        } else {
+            self.to - place
+        };
+        &segment.entries()[at]
+    }
+
+    /// The same piece once more.
+    pub(crate) fn again(&self) -> Piece<'s>
+        ensures { result ≡ self.now }
+    {
+        Piece {
+            segment: self.segment,
+            from: self.from,
+            to: self.to,
+            along: self.along,
+        }
+    }
+}
+
+/// How many entries there are from one place to another, both included.
+fn count(entries: &[Entry], from: usize, to: usize) -> usize
+    requires order { from < to }
+    requires within { to < length entries.now }
+    requires few { length entries.now ≤ 63 }
+    ensures value { result ≡ to + 1 - from }
+    ensures few { result ≤ 63 }
+{
+    to + 1 - from
+}
+
+/// The entries from one place to another, both included.
+#[tactic(auto, using(crate::proofs::Stretch::take_between))]
+fn cut(entries: &[Entry], from: usize, to: usize) -> &[Entry]
+    requires order { from < to }
+    requires within { to < length entries.now }
+    ensures { result.now ≡ between from to entries.now }
+{
+    &entries[from..to + 1]
+}
+
+/// Whether each of these entries is live at the second `now`.
+fn are_live(timestamp: u32, entries: &[Entry], now: u32) -> bool
+    ensures { result ≡ list_all (λ entry. nat_le (2 * now) (expiry_of timestamp entry.exp_time)) entries.now }
+{
+    entries
+        .iter()
+        .all(|entry| is_live_at(timestamp, entry, now))
+}
+
+/// Whether an entry is live at the second `now`.
+fn is_live_at(timestamp: u32, entry: &Entry, now: u32) -> bool
+    ensures { result ≡ nat_le (2 * now) (expiry_of timestamp entry.now.exp_time) }
+{
+    hop_is_live(timestamp, entry.exp_time, now)
+}

@@ -1,0 +1,211 @@
+ghost use Rattle.std.specs.Prelude.{◌≡◌, ◌==◌, ◌+◌, ◌<◌, ◌≤◌, [], ◌∷◌, ◌++◌, length, drop, slice_get, Some};
+ghost use Rattle.std.specs.List.{AllByRecursion, list_any};
+ghost use Rattle.path_verifier.specs.Piece.{HasRange};
+ghost use Rattle.path_verifier.specs.Held.{pieces_in};
+ghost use Rattle.path_verifier.specs.Walk.{hop_of, hops_of, entered_by, left_by, met, joined, walk_of};
+ghost use Rattle.path_verifier.specs.Header.{len_of, hop_count};
+ghost use Rattle.path_verifier.specs.Shape.{names_twice};
+
+use crate::piece::Piece;
+use crate::pieces::Held;
+use isd_as::{IfId, IsdAs};
+use path_segment::Entry;
+use policy_expr::WalkHop;
+use std::marker::Model;
+
+/// The most hops of a walk, which has no more than a header has hop fields.
+pub(crate) const MAX_HOPS: usize = 64;
+
+/// A walk of at most 64 hops.
+#[derive(Debug, Drop)]
+pub(crate) struct Walk {
+    hops: [WalkHop; MAX_HOPS],
+    len: usize,
+}
+
+impl Model for Walk {
+    ghost use Rattle.std.specs.Prelude.{◌≤◌, List, take};
+    ghost use Rattle.policy_expr.specs.declared.hop.WalkHop.{WalkHop};
+
+    ghost Value = { List WalkHop };
+
+    ghost view = { λ w. take w.len w.hops };
+
+    ghost invariant = { λ w. w.len ≤ 64 };
+}
+
+impl Walk {
+    /// A walk of no hops.
+    fn new() -> Walk
+        ensures { result ≡ [] }
+    {
+        let nowhere = WalkHop {
+            ia: IsdAs::from_number(0),
+            ingress: IfId::NONE,
+            egress: IfId::NONE,
+        };
+        Walk {
+            hops: [nowhere; MAX_HOPS],
+            len: 0,
+        }
+    }
+
+    /// The hops, in order.
+    pub(crate) fn as_slice(&self) -> &[WalkHop]
+        ensures value { result.now ≡ self.now }
+        ensures few { length self.now ≤ 64 }
+    {
+        &self.hops[..self.len]
+    }
+
+    /// How many hops there are.
+    fn len(&self) -> usize
+        ensures { result ≡ length self.now }
+    {
+        self.as_slice().len()
+    }
+
+    /// Adds a hop at the end.
+    fn push(&mut self, hop: WalkHop)
+        requires { length self.old < 64 }
+        ensures { self.new ≡ self.old ++ hop ∷ [] }
+    {
+        self.hops[self.len] = hop;
+        self.len += 1;
+    }
+
+    /// Sets the way into the first hop.
+    #[tactic(auto, using(crate::proofs::Ends::entered_front))]
+    fn enter_by(&mut self, way: IfId)
+        ensures { self.new ≡ entered_by way self.old }
+    {
+        if self.len > 0 {
+            self.hops[0].ingress = way;
+        }
+    }
+
+    /// Sets the way out of the last hop.
+    #[tactic(auto, using(crate::proofs::Ends::left_front))]
+    fn leave_by(&mut self, way: IfId)
+        ensures { self.new ≡ left_by way self.old }
+    {
+        if self.len > 0 {
+            self.hops[self.len - 1].egress = way;
+        }
+    }
+}
+
+/// The hop of an entry that is travelled along its segment, or against it.
+#[tactic(auto, unfolding(crate::specs::Walk::hop_of))]
+fn hop_of(along: bool, entry: &Entry) -> WalkHop
+    ensures { result ≡ hop_of along entry.now }
+{
+    if along {
+        WalkHop {
+            ia: entry.ia,
+            ingress: entry.cons_ingress,
+            egress: entry.cons_egress,
+        }
+    } else {
+        WalkHop {
+            ia: entry.ia,
+            ingress: entry.cons_egress,
+            egress: entry.cons_ingress,
+        }
+    }
+}
+
+/// The hop of the entry that is travelled at this place of a piece.
+#[tactic(auto, using(crate::proofs::Hops::hop_there))]
+fn hop_at(piece: &Piece<'_>, place: usize) -> WalkHop
+    requires range { HasRange piece.now }
+    requires within { place < len_of piece.now }
+    ensures { slice_get (hops_of piece.now) place ≡ Some result }
+{
+    hop_of(piece.along(), piece.entry(place))
+}
+
+impl Walk {
+    /// Adds the hops of a piece from the second on.
+    fn push_later(&mut self, piece: &Piece<'_>)
+        requires range { HasRange piece.now }
+        requires few { length self.old + len_of piece.now ≤ 65 }
+        ensures { self.new ≡ self.old ++ drop 1 (hops_of piece.now) }
+    {
+        for place in 1..piece.len() {
+            self.push(hop_at(piece, place));
+        }
+    }
+
+    /// Goes on from the last AS by a hop, of which only the way out is new.
+    fn meet(&mut self, hop: WalkHop)
+        requires { length self.old < 64 }
+        ensures walk { self.new ≡ met self.old hop }
+        ensures few { length self.new ≤ length self.old + 1 }
+    {
+        if self.len() == 0 {
+            self.push(hop);
+        } else {
+            self.leave_by(hop.egress);
+        }
+    }
+
+    /// Goes on with the hops of a piece.
+    #[tactic(auto, using(crate::proofs::Hops::joined_from))]
+    fn go_on(&mut self, piece: &Piece<'_>)
+        requires range { HasRange piece.now }
+        requires few { length self.old + len_of piece.now ≤ 64 }
+        ensures walk { self.new ≡ joined self.old (hops_of piece.now) }
+        ensures few { length self.new ≤ length self.old + len_of piece.now }
+    {
+        self.meet(hop_at(piece, 0));
+        self.push_later(piece);
+    }
+
+    /// The walk of these pieces.
+    #[tactic(auto, unfolding(crate::specs::Walk::walk_of))]
+    pub(crate) fn of(held: &Held<'_>) -> Walk
+        requires ranges { AllByRecursion HasRange (pieces_in held.now) }
+        requires few { hop_count (pieces_in held.now) ≤ 64 }
+        ensures { result ≡ walk_of (pieces_in held.now) }
+    {
+        let mut walk = Walk::new();
+        match held {
+            Held::Zero => {}
+            Held::One(first) => walk.go_on(first),
+            Held::Two(first, second) => {
+                walk.go_on(first);
+                walk.go_on(second);
+            }
+            Held::Three(first, second, third) => {
+                walk.go_on(first);
+                walk.go_on(second);
+                walk.go_on(third);
+            }
+        }
+        walk.enter_by(IfId::NONE);
+        walk.leave_by(IfId::NONE);
+        walk
+    }
+}
+
+/// Whether an AS stands in two of these hops.
+pub(crate) fn do_name_twice(hops: &[WalkHop]) -> bool
+    ensures { result ≡ names_twice hops.now }
+{
+    let mut rest = hops;
+    while let Some((hop, later)) = rest.split_first() {
+        if is_in(later, hop.ia) {
+            return true;
+        }
+        rest = later;
+    }
+    false
+}
+
+/// Whether a hop is of this AS.
+fn is_in(hops: &[WalkHop], ia: IsdAs) -> bool
+    ensures { result ≡ list_any (λ other. other.ia == ia) hops.now }
+{
+    hops.iter().any(|hop| hop.ia == ia)
+}
