@@ -20,7 +20,7 @@ use Rattle.path_segment.proofs.Chained.{beta_of-with_last}
 use Rattle.path_segment.proofs.Next.{next_is, last_is, IsFree-beacon_fault}
 use Rattle.beaconing.specs.declared.fault.BeaconFault.{BeaconFault}
 use Rattle.beaconing.specs.declared.fault.BeaconFault.TheVariants.{TooLong, Loop, NotCore, NoInterface, LinkDown, WrongKind, NotHere}
-use Rattle.beaconing.specs.Fault.{◌>>=◌, check}
+use Rattle.refusal.specs.Refusal.{◌>>=◌, check}
 use Rattle.beaconing.specs.Entry.{key_of, entry_by, added_by, kind_over, goes_on}
 use Rattle.beaconing.specs.Calls.{or_else, originated, last_of, come_to, is_new, extended, terminated}
 use Rattle.beaconing.specs.Issued.{IsEntryOf, LeadsOn, IsMade, IsUnderWay, IsIssued}

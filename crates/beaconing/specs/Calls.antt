@@ -9,7 +9,7 @@ use Rattle.path_segment.specs.declared.entry.Entry.{Entry}
 use Rattle.path_segment.specs.Chain.{Chain, with_last}
 use Rattle.beaconing.specs.declared.fault.BeaconFault.{BeaconFault}
 use Rattle.beaconing.specs.declared.fault.BeaconFault.TheVariants.{TooLong, Loop, NotCore, NoInterface, LinkDown, WrongKind, NotHere}
-use Rattle.beaconing.specs.Fault.{◌>>=◌, check}
+use Rattle.refusal.specs.Refusal.{◌>>=◌, check}
 use Rattle.beaconing.specs.Entry.{entry_by, added_by, kind_over, goes_on}
 
 -- what a topology answers, or this refusal

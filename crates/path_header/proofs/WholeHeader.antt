@@ -12,10 +12,11 @@ use Rattle.path_header.specs.declared.meta.Meta.{Meta}
 use Rattle.path_header.specs.declared.fields.InfoField.{InfoField}
 use Rattle.path_header.specs.declared.fields.HopField.{HopField}
 use Rattle.path_header.specs.Value.{HeaderValue, IsHeader, info_count, hop_count, header_len, len_for}
-use Rattle.path_header.specs.Building.{◌>>=◌}
+use Rattle.refusal.specs.Refusal.{◌>>=◌}
 use Rattle.path_header.specs.Spelling.{meta_of, meta_word, info_spelling, hop_spelling, spelling, InfoFits, HopFits, Fits, Spells}
 use Rattle.path_header.specs.Reading.{meta_at, info_at, hop_at, fields_at, header_at, read_at}
-use Rattle.path_header.proofs.Answered.{AreBytes, AreBytes-drop, bind_ok, bind_from, passed_last, ok_is}
+use Rattle.refusal.proofs.Steps.{bind_ok, bind_from, ok_is}
+use Rattle.path_header.proofs.Answered.{AreBytes, AreBytes-drop, passed_last}
 use Rattle.path_header.proofs.ManyFields.{info_is_field, hop_is_field, fields_take, fields_again, length-fields}
 use Rattle.path_header.proofs.MetaField.{MetaFits, meta_takes, meta_again}
 

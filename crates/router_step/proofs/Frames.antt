@@ -6,7 +6,7 @@ use Rattle.path_header.specs.Value.{HeaderValue, header_len}
 use Rattle.path_header.specs.Spelling.{Spells, spelling}
 use Rattle.router_step.specs.declared.outcome.Outcome.{Outcome}
 use Rattle.router_step.specs.declared.fault.Refusal.{Refusal}
-use Rattle.router_step.specs.Packet.{IsFrame, HasHeader, Turns}
+use Rattle.router_step.specs.Packet.{IsFrame, HasHeader, StepsFrame}
 
 -- the front of what stands behind the addresses was written anew
 pub written : (packet addresses room after text : List ℕ) (count len : ℕ)
@@ -64,7 +64,7 @@ pub turned : (packet addresses text rest after : List ℕ) (header read new : He
     → step read ≡ Ok (outcome, new) → new.lens ≡ read.lens
     → Spells (spelling new) new → length (spelling new) ≡ header_len new
     → after ≡ take 16 packet ++ (spelling new ++ drop (16 + header_len new) packet)
-    → Turns (step header) addresses text rest after (Ok outcome)
+    → StepsFrame (step header) addresses text rest after (Ok outcome)
 turned packet addresses text rest after header read new count outcome step f same count_is within s done lens again long made =
     let text_len : length text ≡ count =
     ap (length {A = ℕ}) f.spells.spelled ∙ ap (λ h. length (spelling h)) (sym same)
@@ -76,6 +76,6 @@ turned packet addresses text rest after header read new count outcome step f sam
     let whole : after ≡ addresses ++ (spelling new ++ rest) =
     made ∙ ap (λ a. a ++ (spelling new ++ drop (16 + header_len new) packet)) (in_front packet addresses text rest header f)
     ∙ ap (λ r. addresses ++ (spelling new ++ r)) rest_is in
-    let turn : Turns (Ok (outcome, new)) addresses text rest after (Ok outcome) =
+    let turn : StepsFrame (Ok (outcome, new)) addresses text rest after (Ok outcome) =
     (refl, (spelling new, (long ∙ same_len ∙ sym text_len, record { whole = whole; two = f.two; spells = again }))) in
-    subst (λ r. Turns r addresses text rest after (Ok outcome)) (sym (ap step (sym same) ∙ done)) turn
+    subst (λ r. StepsFrame r addresses text rest after (Ok outcome)) (sym (ap step (sym same) ∙ done)) turn

@@ -26,6 +26,3 @@ pub use keys::{Keys, MAX_KEY_LEN};
 pub use network::{AsEntry, AsInfo, End, Link, LinkClass};
 pub use topology::Topology;
 pub use view::RouterView;
-
-#[cfg(test)]
-mod tests;

@@ -1,0 +1,281 @@
+use policy_expr::{
+    Acl, AclText, Denied, HopPred, Interfaces, Policy, PolicyError, PolicyFault, PolicyText, Seq,
+    SeqNode, WalkHop,
+};
+use bumpalo::Bump;
+use isd_as::{IfId, IsdAs};
+use std::alloc::{AllocError, Allocator, Global};
+use std::process::Abort;
+use std::test::Fail;
+
+/// A hop of the AS of this number in ISD 1.
+fn hop(as_number: u64, ingress: u16, egress: u16) -> WalkHop {
+    WalkHop {
+        ia: IsdAs::from_number(0x0001_0000_0000_0000 + as_number % 0x1_0000_0000_0000),
+        ingress: IfId(ingress),
+        egress: IfId(egress),
+    }
+}
+
+/// What a refusal is reported by, 0 where there is none, 1 for want of memory.
+fn code_of<T: Drop>(answer: Result<T, PolicyError>) -> u16 {
+    match answer {
+        Ok(_) => 0,
+        Err(PolicyError::Memory) => 1,
+        Err(PolicyError::Fault(fault)) => fault.code(),
+    }
+}
+
+/// Whether a sequence prints so, has the one walk and not the other.
+fn does<A: Allocator + Clone>(
+    alloc: Global,
+    sequence: &Seq<A>,
+    printed: &str,
+    word: &[WalkHop],
+    other: &[WalkHop],
+) -> Result<bool, AllocError> {
+    let text = sequence.print(alloc)?;
+    if word.len() > 64 || other.len() > 64 {
+        return Ok(false);
+    }
+    Ok(text.as_str() == printed && sequence.matches(word) && !sequence.matches(other))
+}
+
+/// Asserts the same of a sequence's text, of its clone in an arena, and of that clone's clone.
+fn expect_sequence(
+    rt: &impl Abort,
+    alloc: Global,
+    text: &str,
+    printed: &str,
+    word: &[WalkHop],
+    other: &[WalkHop],
+) -> Result<(), Fail> {
+    let sequence = Seq::parse(alloc, text)?;
+    assert!(rt; does(alloc, &sequence, printed, word, other)?);
+    let bump = Bump::new(alloc);
+    let placed = sequence.clone_in(&bump)?;
+    assert!(rt; does(alloc, &placed, printed, word, other)?);
+    assert!(rt; does(alloc, &placed.clone_in(alloc)?, printed, word, other)?);
+    let read_there = Seq::parse(&bump, text)?;
+    assert!(rt; does(alloc, &read_there, printed, word, other)?);
+    Ok(())
+}
+
+/// A hop in which walks may end.
+fn last_hop() -> WalkHop {
+    hop(0xff00_0000_0111, 2, 0)
+}
+
+/// Any hops and then one AS.
+#[test]
+fn ends_in_one_as(rt: HostRuntime) -> Result<(), Fail> {
+    let text = "(0 *)  1-FF00:0:111#0";
+    let printed = "0* 1-ff00:0:111";
+    let one = [last_hop()];
+    let two = [hop(0xff00_0000_0110, 0, 1), last_hop()];
+    let elsewhere = [last_hop(), hop(0xff00_0000_0112, 1, 0)];
+    let none: [WalkHop; 0] = [];
+    let mut most = [hop(0xff00_0000_0110, 3, 4); 64];
+    most[63] = last_hop();
+    expect_sequence(&rt, rt.alloc(), text, printed, &one, &elsewhere)?;
+    expect_sequence(&rt, rt.alloc(), text, printed, &two, &none)?;
+    expect_sequence(&rt, rt.alloc(), text, printed, &most, &elsewhere)
+}
+
+/// `|` binds tighter than following, and a walk of two hops is no word of one predicate.
+#[test]
+fn binds_either_tighter(rt: HostRuntime) -> Result<(), Fail> {
+    let one = [hop(0xff00_0000_0110, 0, 1)];
+    let two = [hop(0xff00_0000_0110, 0, 1), hop(0xff00_0000_0112, 2, 0)];
+    let swapped = [hop(0xff00_0000_0112, 0, 1), hop(0xff00_0000_0110, 2, 0)];
+    let text = "1-ff00:0:110 | 2 0";
+    expect_sequence(&rt, rt.alloc(), text, "1-ff00:0:110|2 0", &two, &swapped)?;
+    expect_sequence(&rt, rt.alloc(), "0", "0", &one, &two)
+}
+
+/// Each sign, and a repetition that has to leave a hop to what follows it.
+#[test]
+fn repeats_and_goes_back(rt: HostRuntime) -> Result<(), Fail> {
+    let none: [WalkHop; 0] = [];
+    let one = [hop(1, 0, 0)];
+    let twice = [hop(1, 0, 0), hop(1, 0, 0)];
+    let both = [hop(1, 0, 0), hop(2, 0, 0)];
+    let three = [hop(2, 0, 0), hop(1, 0, 0), hop(2, 0, 0)];
+    expect_sequence(&rt, rt.alloc(), "1-1* 1-1", "1-1* 1-1", &twice, &both)?;
+    expect_sequence(&rt, rt.alloc(), "(1-1? 1-2)+", "(1-1? 1-2)+", &three, &one)?;
+    expect_sequence(&rt, rt.alloc(), "1-1#4,0?", "1-1#4,0?", &none, &one)?;
+    expect_sequence(&rt, rt.alloc(), "1|(2|3)", "1|(2|3)", &one, &none)
+}
+
+/// The number of nodes and of open parentheses, and each refusal of a sequence.
+#[test]
+fn refuses_sequences(rt: HostRuntime) -> Result<(), Fail> {
+    let alloc = rt.alloc();
+    assert!(rt; code_of(Seq::parse(alloc, "")) == 60 && code_of(Seq::parse(alloc, "1 |")) == 60);
+    assert!(rt; code_of(Seq::parse(alloc, "(1")) == 62 && code_of(Seq::parse(alloc, "1)")) == 62);
+    assert!(rt; code_of(Seq::parse(alloc, "| 1")) == 61 && code_of(Seq::parse(alloc, "1 é")) == 61);
+    let mut deep = "((((((((((((((((((((((((((((((((0))))))))))))))))))))))))))))))))".to_string(
+        alloc,
+    )?;
+    assert!(rt; code_of(Seq::parse(alloc, deep.as_str())) == 0);
+    deep = format!(in alloc; "({})", deep.as_str())?;
+    assert!(rt; code_of(Seq::parse(alloc, deep.as_str())) == 63);
+    let mut long = String::new(alloc);
+    for _ in 0..128 {
+        long.push_str("0 ")?;
+    }
+    assert!(rt; code_of(Seq::parse(alloc, long.as_str())) == 0);
+    long.push_str("0")?;
+    assert!(rt; code_of(Seq::parse(alloc, long.as_str())) == 64);
+    Ok(())
+}
+
+/// The list of these texts.
+fn acl_text(alloc: Global, texts: &[&str]) -> Result<AclText, AllocError> {
+    let mut list = AclText::new(alloc);
+    for text in texts {
+        list.push(alloc, text)?;
+    }
+    Ok(list)
+}
+
+/// Whether a list denies the second hop of the one walk by its first entry, and allows the other.
+fn decides<A: Allocator + Clone>(acl: &Acl<A>, denied: &[WalkHop], allowed: &[WalkHop]) -> bool {
+    let entries = acl.entries().len();
+    acl.verdict(denied) == Err(Denied { hop: 1, entry: 0 })
+        && acl.verdict(allowed) == Ok(())
+        && entries == 2
+}
+
+/// One interface wanted, on a list, on its clone in an arena, and on that clone's clone.
+#[test]
+fn decides_by_first_entry(rt: HostRuntime) -> Result<(), Fail> {
+    let alloc = rt.alloc();
+    let denied = [hop(0xff00_0000_0133, 1, 2), hop(0xff00_0000_0133, 2, 1)];
+    let allowed = [hop(0xff00_0000_0133, 1, 2), hop(0xff00_0000_0134, 2, 1)];
+    let text = acl_text(alloc, &["- 1-ff00:0:133#2,0", " + "])?;
+    assert!(rt; text.texts().len() == 2);
+    let acl = Acl::parse(alloc, &text)?;
+    assert!(rt; decides(&acl, &denied, &allowed));
+    let bump = Bump::new(alloc);
+    let placed = acl.clone_in(&bump)?;
+    assert!(rt; decides(&placed, &denied, &allowed));
+    let back = placed.clone_in(alloc)?;
+    assert!(rt; decides(&back, &denied, &allowed));
+    let read_there = Acl::parse(&bump, &text)?;
+    assert!(rt; decides(&read_there, &denied, &allowed));
+    Ok(())
+}
+
+/// Each refusal of a list.
+#[test]
+fn refuses_lists(rt: HostRuntime) -> Result<(), Fail> {
+    let alloc = rt.alloc();
+    assert!(rt; code_of(Acl::parse(alloc, &acl_text(alloc, &["- x", "+"])?)) == 61);
+    assert!(rt; code_of(Acl::parse(alloc, &acl_text(alloc, &["- 1"])?)) == 65);
+    assert!(rt; code_of(Acl::parse(alloc, &acl_text(alloc, &[])?)) == 65);
+    assert!(rt; code_of(Acl::parse(alloc, &acl_text(alloc, &["+", "- 1", "-"])?)) == 66);
+    assert!(rt; code_of(Acl::parse(alloc, &acl_text(alloc, &["\t-\r0-0#0,0\n"])?)) == 0);
+    let mut long = AclText::new(alloc);
+    for _ in 0..255 {
+        long.push(alloc, "- 1")?;
+    }
+    long.push(alloc, "+")?;
+    assert!(rt; code_of(Acl::parse(alloc, &long)) == 0);
+    long.push(alloc, "+")?;
+    assert!(rt; code_of(Acl::parse(alloc, &long)) == 64);
+    Ok(())
+}
+
+/// Whether a policy denies the one walk at its first hop, has the second as a word, and allows the
+/// third, which is no word.
+fn judges<A: Allocator + Clone>(
+    policy: &Policy<A>,
+    denied: &[WalkHop; 1],
+    word: &[WalkHop; 1],
+    other: &[WalkHop; 2],
+) -> bool {
+    policy.verdict(denied) == Err(Denied { hop: 0, entry: 0 })
+        && policy.verdict(other) == Ok(())
+        && policy.matches(word)
+        && !policy.matches(other)
+}
+
+/// A policy of both parts, one of blanks, and the refusals of either part, the list's first.
+#[test]
+fn policies(rt: HostRuntime) -> Result<(), Fail> {
+    let alloc = rt.alloc();
+    let list = acl_text(alloc, &["- 1-2", "+"])?;
+    let text = PolicyText {
+        acl: Some(&list),
+        sequence: Some("0"),
+    };
+    let denied = [hop(2, 0, 0)];
+    let word = [hop(1, 0, 0)];
+    let other = [hop(1, 0, 0), hop(3, 0, 0)];
+    let policy = Policy::parse(alloc, &text)?;
+    assert!(rt; judges(&policy, &denied, &word, &other));
+    let bump = Bump::new(alloc);
+    let placed = policy.clone_in(&bump)?;
+    assert!(rt; judges(&placed, &denied, &word, &other));
+    let back = placed.clone_in(alloc)?;
+    assert!(rt; judges(&back, &denied, &word, &other));
+    let blank = PolicyText {
+        acl: None,
+        sequence: Some(" \t\r\n"),
+    };
+    let open = Policy::parse(alloc, &blank)?;
+    assert!(rt; open.verdict(&denied) == Ok(()) && open.matches(&denied));
+    let wrong_list = acl_text(alloc, &["- 1"])?;
+    let wrong = PolicyText {
+        acl: Some(&wrong_list),
+        sequence: Some("1 |"),
+    };
+    assert!(rt; code_of(Policy::parse(alloc, &wrong)) == 65);
+    Ok(())
+}
+
+/// Whether the predicate says this of interfaces.
+fn says(pred: &HopPred, interfaces: Interfaces) -> bool {
+    pred.interfaces == interfaces
+}
+
+/// Whether the text is read as a predicate.
+fn does_read(text: &str) -> bool {
+    HopPred::parse(text).is_ok()
+}
+
+/// A predicate is read, printed, and matches by one interface on either side.
+#[test]
+fn predicates(rt: HostRuntime) -> Result<(), Fail> {
+    let alloc = rt.alloc();
+    let pred = HopPred::parse("1-FF00:0:110#5")?;
+    assert!(rt; pred.to_string(alloc)?.as_str() == "1-ff00:0:110#5");
+    assert!(rt; says(&pred, Interfaces::Either(IfId(5))));
+    let (comes_in, leaves) = (hop(0xff00_0000_0110, 5, 1), hop(0xff00_0000_0110, 1, 5));
+    assert!(rt; pred.matches(&comes_in) && pred.matches(&leaves));
+    let open = HopPred::parse("2-0#0")?;
+    assert!(rt; says(&open, Interfaces::Any));
+    assert!(rt; !does_read("1#5"));
+    let node: SeqNode<Global> = SeqNode::Hop(pred);
+    let walk = [hop(0xff00_0000_0110, 5, 1)];
+    assert!(rt; node.matches(&walk));
+    Ok(())
+}
+
+/// What refusals are reported by.
+#[test]
+fn reported(rt: HostRuntime) -> Result<(), Fail> {
+    let alloc = rt.alloc();
+    assert!(rt; PolicyFault::UnexpectedEnd.code() == 60 && PolicyFault::BadPredicate.code() == 61);
+    assert!(rt; PolicyFault::Unbalanced.code() == 62 && PolicyFault::TooDeep.code() == 63);
+    assert!(rt; PolicyFault::TooLarge.code() == 64 && PolicyFault::NoDefault.code() == 65);
+    assert!(rt; PolicyFault::AfterDefault.code() == 66);
+    assert!(rt; PolicyFault::AfterDefault.name() == "AfterDefault");
+    assert!(rt; PolicyFault::TooDeep.name() == "TooDeep");
+    let shown = PolicyError::Fault(PolicyFault::Unbalanced).to_string(alloc)?;
+    assert!(rt; shown.as_str() == "the parentheses of a sequence don't match");
+    let memory = PolicyError::Memory.to_string(alloc)?;
+    assert!(rt; memory.as_str() == "out of memory");
+    Ok(())
+}
