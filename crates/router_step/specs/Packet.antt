@@ -41,6 +41,12 @@ packet_step view now arrival packet = do
   stepped ← step_of view now arrival (source_of packet) (destination_of packet) front.0  -- 2 to 13
   Ok (stepped.0, take 16 packet ++ (spelling stepped.1 ++ drop (16 + front.1) packet))
 
+-- the same over a packet of these addresses, this path header and this rest
+abbrev pub frame_step : View → ℕ → Arrival → List ℕ → List ℕ → HeaderValue → List ℕ → Result (Outcome × List ℕ) Refusal
+frame_step view now arrival packet addresses header rest = do
+  stepped ← step_of view now arrival (source_of packet) (destination_of packet) header
+  Ok (stepped.0, addresses ++ (spelling stepped.1 ++ rest))
+
 -- the step was done: the outcome and the new packet, or the refusal and the packet as it was
 abbrev pub IsPacketStepped : Result (Outcome × List ℕ) Refusal → List ℕ → List ℕ
     → Result Outcome Refusal → Type 0
