@@ -1,0 +1,33 @@
+ghost use Rattle.std.specs.Prelude.{◌≡◌};
+ghost use Rattle.refusal.specs.declared.fault.OrMemory.TheVariants.{Memory};
+
+use std::alloc::{AllocError, AllocFailed};
+use std::fmt::Display;
+use thiserror::Error;
+
+/// Why a call that takes memory gave no value: memory ran out, or what the call refuses.
+#[derive(Clone, Copy, Debug, PartialEq, Eq, Error)]
+pub enum OrMemory<F: Display> {
+    /// Memory ran out.
+    #[error("out of memory")]
+    Memory,
+    /// What was asked for is refused.
+    #[error("{0}")]
+    Refused(F),
+}
+
+impl<F: Display> From<AllocError> for OrMemory<F> {
+    ghost from_gives = { λ _ e. e ≡ Memory };
+
+    fn from(_error: AllocError) -> OrMemory<F> {
+        OrMemory::Memory
+    }
+}
+
+impl<F: Display, T: Drop> From<AllocFailed<T>> for OrMemory<F> {
+    ghost from_gives = { λ _ e. e ≡ Memory };
+
+    fn from(_error: AllocFailed<T>) -> OrMemory<F> {
+        OrMemory::Memory
+    }
+}
