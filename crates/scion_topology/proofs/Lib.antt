@@ -1,9 +1,12 @@
 pub mod Deciding
+pub mod KeyTests
+pub mod Steps
+pub mod Judging
 pub mod RightViews
 pub mod AuthenticHops
 pub mod Front
-pub mod Sites
-pub mod Joints
+pub mod Indexes
+pub mod Places
 pub mod Seeing
 pub mod Marking
 pub mod Relinked

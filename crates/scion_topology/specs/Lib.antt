@@ -1,8 +1,9 @@
 pub mod Fault
-pub mod View
-pub mod Building
 pub mod Keys
 pub mod Network
+pub mod Rules
+pub mod View
+pub mod Building
 pub mod Causes
 pub mod Reading
 pub mod Topology
