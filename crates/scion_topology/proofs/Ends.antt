@@ -76,10 +76,10 @@ found_by_end (first ∷ rest) ia number x m link once found ends =
 
 -- ---- far and near
 
-ends_at_a : (link : Link) → has_end link link.a.ia link.a.number ≡ true
+pub ends_at_a : (link : Link) → has_end link link.a.ia link.a.number ≡ true
 ends_at_a link = or_left _ (is_end link.b link.a.ia link.a.number) (and_from _ _ (eq-eqb link.a.ia link.a.ia refl) (eq-eqb link.a.number link.a.number refl))
 
-ends_at_b : (link : Link) → has_end link link.b.ia link.b.number ≡ true
+pub ends_at_b : (link : Link) → has_end link link.b.ia link.b.number ≡ true
 ends_at_b link = or_right (is_end link.a link.b.ia link.b.number) _ (and_from _ _ (eq-eqb link.b.ia link.b.ia refl) (eq-eqb link.b.number link.b.number refl))
 
 -- a link of a network, found by one end, is found by the other
@@ -104,7 +104,7 @@ pub record AreSides (link : Link) (ia number : ℕ) : Type 0 where
   pub at_a : is_end link.a ia number ≡ true → (link.a.ia ≡ ia) × (link.a.number ≡ number)
   pub at_b : is_end link.a ia number ≡ false → (link.b.ia ≡ ia) × (link.b.number ≡ number)
 
-sides : (link : Link) (ia number : ℕ) → has_end link ia number ≡ true → AreSides link ia number
+pub sides : (link : Link) (ia number : ℕ) → has_end link ia number ≡ true → AreSides link ia number
 sides link ia number ends = record {
   at_a = λ here. (let parts = and_parts (eqb link.a.ia ia) (eqb link.a.number number) here in (eqb-true _ _ parts.0, eqb-true _ _ parts.1));
   at_b = λ other. (
@@ -220,10 +220,10 @@ pub record AreMirrored (n : Network) (x m : ℕ) (near : IfEntry) : Type 0 where
   pub kind : far.kind ≡ mirrored near.kind
   pub up : far.up ≡ near.up
 
-seen_at_a : (link : Link) → interface_of link.a.ia link ≡ Some (end_as_interface link.a (kind_at_a link.class) link.up)
+pub seen_at_a : (link : Link) → interface_of link.a.ia link ≡ Some (end_as_interface link.a (kind_at_a link.class) link.up)
 seen_at_a link = rw (eq-eqb link.a.ia link.a.ia refl) refl
 
-seen_at_b : (link : Link) → eqb link.a.ia link.b.ia ≡ false → interface_of link.b.ia link ≡ Some (end_as_interface link.b (kind_at_b link.class) link.up)
+pub seen_at_b : (link : Link) → eqb link.a.ia link.b.ia ≡ false → interface_of link.b.ia link ≡ Some (end_as_interface link.b (kind_at_b link.class) link.up)
 seen_at_b link apart = rw (apart, eq-eqb link.b.ia link.b.ia refl) refl
 
 mirrored_at : (n : Network) (ia number x m : ℕ) (near : IfEntry) (link : Link) → IsNetwork n → joined n ia number ≡ Ok link → (far_end link ia number).ia ≡ x → (far_end link ia number).number ≡ m → interface_in (table_of ia n.links) number ≡ Some near → AreMirrored n x m near

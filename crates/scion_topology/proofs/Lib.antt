@@ -13,3 +13,5 @@ pub mod Relinked
 pub mod Keyed
 pub mod Ends
 pub mod Numbered
+pub mod Shown
+pub mod Lasting

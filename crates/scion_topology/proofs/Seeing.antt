@@ -62,7 +62,7 @@ unfolding names_twice
 once_more None table new once = once
 once_more (Some e) table new once = or_from (is_named e.number table) (names_twice table) (new e refl) once
 
-entry_is : (x y : Bool) (a b e : IfEntry) → cond x (Some a) (cond y (Some b) None) ≡ Some e → ((x ≡ true) × (a ≡ e)) ⊎ ((y ≡ true) × (b ≡ e))
+pub entry_is : (x y : Bool) (a b e : IfEntry) → cond x (Some a) (cond y (Some b) None) ≡ Some e → ((x ≡ true) × (a ≡ e)) ⊎ ((y ≡ true) × (b ≡ e))
 entry_is true y a b e h = inl (refl, cc)
 entry_is false true a b e h = inr (refl, cc)
 entry_is false false a b e h = absurd cc

@@ -7,4 +7,5 @@ pub mod Building
 pub mod Causes
 pub mod Reading
 pub mod Topology
+pub mod Ends
 pub mod Index
