@@ -98,7 +98,9 @@ fn first_entry(
         (originated topology.now ia egress timestamp beta0) }
     ensures fits { IfOk result (λ x. first_fault x.1 ≡ None) }
 {
-    let one = topology.as_entry(ia).ok_or(BeaconFault::NotCore)?;
+    let Ok(one) = topology.as_entry(ia) else {
+        return Err(BeaconFault::NotCore);
+    };
     if !one.core {
         return Err(BeaconFault::NotCore);
     }
@@ -121,7 +123,9 @@ fn next_entry(
     ensures value { Gives (λ entry. with_last beacon.now entry) result (extended topology.now beacon.now ia egress) }
     ensures fits { IfOk result (λ entry. next_fault beacon.now.entries entry ≡ None) }
 {
-    let one = topology.as_entry(ia).ok_or(BeaconFault::NotHere)?;
+    let Ok(one) = topology.as_entry(ia) else {
+        return Err(BeaconFault::NotHere);
+    };
     let ingress = come_to(topology, beacon, ia)?;
     is_new(beacon, one.ia)?;
     if beacon.entries().len() >= MAX_BEACON_LEN {
@@ -143,7 +147,9 @@ fn last_entry(topology: &Topology, beacon: &Beacon, ia: IsdAs) -> Result<Entry, 
     ensures value { Gives (λ entry. with_last beacon.now entry) result (terminated topology.now beacon.now ia) }
     ensures fits { IfOk result (λ entry. last_fault beacon.now.entries entry ≡ None) }
 {
-    let one = topology.as_entry(ia).ok_or(BeaconFault::NotHere)?;
+    let Ok(one) = topology.as_entry(ia) else {
+        return Err(BeaconFault::NotHere);
+    };
     let ingress = come_to(topology, beacon, ia)?;
     is_new(beacon, one.ia)?;
     Ok(added_by(one, beacon, ingress, IfId::NONE))

@@ -1,8 +1,9 @@
 ghost use Rattle.std.specs.Prelude.{◌<◌};
 
-use scion_topology::{AsInfo, IfEntry, LinkKind, ReadError, RouterView, Topology, TopologyFault};
+use scion_topology::{AsInfo, IfEntry, LinkKind, RouterView, Topology, TopologyFault};
 use hop_mac::hop_mac;
 use isd_as::{IfId, IsdAs};
+use refusal::OrMemory;
 use std::test::Fail;
 
 const IA: u64 = 0x0001_ff00_0000_0111;
@@ -103,7 +104,7 @@ fn first_cause_is_reported(rt: HostRuntime) -> Result<(), Fail> {
             TopologyFault::BadField,
             11,
         ),
-        (r#""links""#, r#""joints""#, TopologyFault::BadField, 11),
+        (r#""links""#, r#""places""#, TopologyFault::BadField, 11),
         (
             r#""ia":"1-ff00:0:111""#,
             r#""ia":"1-ff00:0:110""#,
@@ -133,13 +134,13 @@ fn first_cause_is_reported(rt: HostRuntime) -> Result<(), Fail> {
     for (old, new, fault, code) in rows {
         let text = changed(&rt, old, new)?;
         let read = Topology::from_json(rt.alloc(), text.as_bytes());
-        assert!(rt; read.err() == Some(ReadError::Fault(fault)), "{new}");
+        assert!(rt; read.err() == Some(OrMemory::Refused(fault)), "{new}");
         assert_eq!(rt; fault.code(), code, "{new}");
     }
     let empty = Topology::from_json(rt.alloc(), br#"{"ases":[],"links":[]}"#);
-    assert!(rt; empty.err() == Some(ReadError::Fault(TopologyFault::TooMany)));
+    assert!(rt; empty.err() == Some(OrMemory::Refused(TopologyFault::TooMany)));
     let no_text = Topology::from_json(rt.alloc(), b"\"\xff\"");
-    assert!(rt; no_text.err() == Some(ReadError::Fault(TopologyFault::NotJson)));
+    assert!(rt; no_text.err() == Some(OrMemory::Refused(TopologyFault::NotJson)));
     Ok(())
 }
 
@@ -149,7 +150,7 @@ fn fronts_are_not_json(rt: HostRuntime) {
     let bytes = THREE.as_bytes();
     for len in 0..bytes.len() {
         let read = Topology::from_json(rt.alloc(), &bytes[..len]);
-        assert!(rt; read.err() == Some(ReadError::Fault(TopologyFault::NotJson)));
+        assert!(rt; read.err() == Some(OrMemory::Refused(TopologyFault::NotJson)));
     }
 }
 
@@ -160,12 +161,12 @@ fn answers_what_was_read(rt: HostRuntime) -> Result<(), Fail> {
     let info = AsInfo {
         position: 1,
         core: false,
-        exp_time: 63,
+        exp: 63,
         routers: 1,
     };
     assert_eq!(rt; topology.as_info(at(MIDDLE))?, info);
-    assert!(rt; topology.as_entry(at(TOP)).map(|one| one.core) == Some(true));
-    assert!(rt; topology.as_entry(at(1)).is_none());
+    assert!(rt; topology.as_entry(at(TOP))?.core);
+    assert!(rt; topology.as_entry(at(1)).err() == Some(TopologyFault::UnknownAs));
     assert!(rt; topology.interface(at(MIDDLE), IfId(2))? == &entry(2, LinkKind::Child, 0));
     assert_eq!(rt; topology.far_end(at(TOP), IfId(1))?, (at(MIDDLE), IfId(1)));
     assert_eq!(rt; topology.far_end(at(LEAF), IfId(1))?, (at(MIDDLE), IfId(2)));
@@ -274,7 +275,7 @@ fn limits_are_exact(rt: HostRuntime) -> Result<(), Fail> {
     for (ases, links) in [(1025, 0), (1024, 4097)] {
         let text = ring(&rt, ases, links)?;
         let read = Topology::from_json(rt.alloc(), text.as_bytes());
-        assert!(rt; read.err() == Some(ReadError::Fault(TopologyFault::TooMany)));
+        assert!(rt; read.err() == Some(OrMemory::Refused(TopologyFault::TooMany)));
     }
     Ok(())
 }

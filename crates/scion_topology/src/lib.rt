@@ -12,11 +12,11 @@ mod changing;
 mod entry;
 mod fault;
 mod fields;
+mod index;
 mod keys;
 pub mod laws;
 mod network;
 mod reading;
-mod site;
 mod topology;
 mod view;
 
