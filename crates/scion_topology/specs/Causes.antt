@@ -2,6 +2,7 @@
 use Rattle.std.specs.Prelude.{ℕ, ◌/◌, ◌^◌, ◌==◌, ◌&&◌, ◌||◌, not, nat_lt, nat_le, Bool, false, if◌then◌else◌, List, [], ◌∷◌, length, Option, Some, None}
 use Rattle.std.specs.List.{list_any}
 use Rattle.std.specs.Option.{option_map_or}
+use Rattle.isd_as.specs.Address.{isd_of}
 use Rattle.scion_topology.specs.declared.fault.TopologyFault.{TopologyFault}
 use Rattle.scion_topology.specs.declared.fault.TopologyFault.TheVariants as faults
 use Rattle.scion_topology.specs.declared.network.AsEntry.{AsEntry}
@@ -56,7 +57,7 @@ is_core ases ia = option_map_or (λ one. one.core) (as_named ases ia) false
 -- a core link has an end that is not core; a child link crosses ISDs or has a core AS as its child
 abbrev pub is_ill_classed : List AsEntry → LinkClass → ℕ → ℕ → Bool
 is_ill_classed ases Core a b = not (is_core ases a) || not (is_core ases b)
-is_ill_classed ases Child parent child = not (parent / 2 ^ 48 == child / 2 ^ 48) || is_core ases child
+is_ill_classed ases Child parent child = not (isd_of parent == isd_of child) || is_core ases child
 
 -- both ends are in one AS, or the link's class doesn't allow its ends
 abbrev pub is_ill_joined : List AsEntry → Link → Bool

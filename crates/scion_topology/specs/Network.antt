@@ -1,5 +1,6 @@
 -- A network: its ASes and its links (draft-dekater-scion-controlplane, topology).
 use Rattle.std.specs.Prelude.{◌≢◌, ℕ, ◌/◌, ◌%◌, ◌^◌, ◌==◌, ◌&&◌, ◌||◌, Bool, List, [], ◌∷◌, Option, Some, None, find, if◌then◌else◌}
+use Rattle.isd_as.specs.Address.{isd_of, as_number_of}
 use Rattle.scion_topology.specs.declared.entry.IfEntry.{IfEntry}
 use Rattle.scion_topology.specs.declared.entry.LinkKind.{LinkKind}
 use Rattle.scion_topology.specs.declared.entry.LinkKind.TheVariants as kinds
@@ -16,10 +17,10 @@ pub record Network : Type 0 where
 
 -- the ISD or the AS number of this address is the wildcard 0, and neither is
 abbrev pub is_wildcard : ℕ → Bool
-is_wildcard ia = (ia / 2 ^ 48 == 0) || (ia % 2 ^ 48 == 0)
+is_wildcard ia = (isd_of ia == 0) || (as_number_of ia == 0)
 
 abbrev pub IsPlain : ℕ → Type 0
-IsPlain ia = (ia / 2 ^ 48 ≢ 0) × (ia % 2 ^ 48 ≢ 0)
+IsPlain ia = (isd_of ia ≢ 0) × (as_number_of ia ≢ 0)
 
 -- the AS of this address
 abbrev pub as_named : List AsEntry → ℕ → Option AsEntry

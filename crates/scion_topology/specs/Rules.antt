@@ -1,5 +1,6 @@
 -- The rules of a network (draft-dekater-scion-controlplane: ASes, core links, links to children).
 use Rattle.std.specs.Prelude.{◌≡◌, ◌≢◌, ℕ, ◌/◌, ◌^◌, ◌<◌, ◌≤◌, true, false, List, [], ◌∷◌, length, All, AllPairs, Contains}
+use Rattle.isd_as.specs.Address.{isd_of}
 use Rattle.scion_topology.specs.declared.network.AsEntry.{AsEntry}
 use Rattle.scion_topology.specs.declared.network.End.{End}
 use Rattle.scion_topology.specs.declared.network.Link.{Link}
@@ -24,7 +25,7 @@ pub record IsEnd (end : End) (one : AsEntry) : Type 0 where
 -- a core link joins two core ASes; a child link a parent and a child of one ISD, which is no core AS
 abbrev pub Joins : LinkClass → AsEntry → AsEntry → Type 0
 Joins Core one other = (one.core ≡ true) × (other.core ≡ true)
-Joins Child parent child = (parent.ia / 2 ^ 48 ≡ child.ia / 2 ^ 48) × (child.core ≡ false)
+Joins Child parent child = (isd_of parent.ia ≡ isd_of child.ia) × (child.core ≡ false)
 
 -- a link joins two of the ASes, and no AS to itself
 pub record IsLink (ases : List AsEntry) (link : Link) : Type 0 where
