@@ -1,6 +1,6 @@
 use policy_expr::{
     Acl, AclText, Denied, HopPred, Interfaces, Policy, PolicyError, PolicyFault, PolicyText, Seq,
-    SeqNode, WalkHop,
+    WalkHop,
 };
 use bumpalo::Bump;
 use isd_as::{IfId, IsdAs};
@@ -15,6 +15,19 @@ fn hop(as_number: u64, ingress: u16, egress: u16) -> WalkHop {
         ingress: IfId(ingress),
         egress: IfId(egress),
     }
+}
+
+/// A walk of hops of these ISDs.
+fn in_isds(alloc: Global, isds: &[u16]) -> Result<Vec<WalkHop>, AllocError> {
+    let mut walk = Vec::new(alloc);
+    for isd in isds {
+        walk.push(WalkHop {
+            ia: IsdAs::from_number(u64::from(*isd) << 48),
+            ingress: IfId(0),
+            egress: IfId(0),
+        })?;
+    }
+    Ok(walk)
 }
 
 /// What a refusal is reported by, 0 where there is none, 1 for want of memory.
@@ -35,13 +48,11 @@ fn does<A: Allocator + Clone>(
     other: &[WalkHop],
 ) -> Result<bool, AllocError> {
     let text = sequence.print(alloc)?;
-    if word.len() > 64 || other.len() > 64 {
-        return Ok(false);
-    }
     Ok(text.as_str() == printed && sequence.matches(word) && !sequence.matches(other))
 }
 
-/// Asserts the same of a sequence's text, of its clone in an arena, and of that clone's clone.
+/// Asserts the same of a sequence's text, of its clone in an arena, of that clone's clone, and of the
+/// text read in the arena.
 fn expect_sequence(
     rt: &impl Abort,
     alloc: Global,
@@ -107,26 +118,74 @@ fn repeats_and_goes_back(rt: HostRuntime) -> Result<(), Fail> {
     expect_sequence(&rt, rt.alloc(), "1|(2|3)", "1|(2|3)", &one, &none)
 }
 
-/// The number of nodes and of open parentheses, and each refusal of a sequence.
+/// A repetition of an item that may be left out, and one more behind it: words by their ISDs.
+#[test]
+fn has_words(rt: HostRuntime) -> Result<(), Fail> {
+    let alloc = rt.alloc();
+    let text = "(1? 2)+ 1*";
+    let wrong: [&[u16]; 4] = [&[], &[1], &[1, 1, 2], &[2, 1, 1, 2]];
+    let right: [&[u16]; 4] = [&[2], &[1, 2], &[2, 1, 2], &[2, 2, 1, 1]];
+    for (word, other) in right.iter().zip(wrong.iter()) {
+        let word = in_isds(alloc, word)?;
+        let other = in_isds(alloc, other)?;
+        expect_sequence(&rt, alloc, text, text, &word, &other)?;
+    }
+    Ok(())
+}
+
+/// The text so many times.
+fn times(alloc: Global, text: &str, count: usize) -> Result<String, AllocError> {
+    let mut all = String::new(alloc);
+    for _ in 0..count {
+        all.push_str(text)?;
+    }
+    Ok(all)
+}
+
+/// Repetitions inside one another: 64 hops are answered at once.
+#[test]
+fn repeats_repetitions(rt: HostRuntime) -> Result<(), Fail> {
+    let alloc = rt.alloc();
+    let none: [WalkHop; 0] = [];
+    let same = [hop(100, 0, 0); 64];
+    let pluses = format!(in alloc; "0{}", times(alloc, "+", 255)?)?;
+    expect_sequence(&rt, alloc, pluses.as_str(), pluses.as_str(), &same, &none)?;
+    let open = times(alloc, "(", 32)?;
+    let stars = format!(in alloc; "{open}1-100{}", times(alloc, ")*", 32)?)?;
+    let printed = format!(in alloc; "1-100{}", times(alloc, "*", 32)?)?;
+    let mut other = same;
+    other[63] = hop(101, 0, 0);
+    expect_sequence(&rt, alloc, stars.as_str(), printed.as_str(), &same, &other)?;
+    let mut levels = "0* 1-100".to_string(alloc)?;
+    let mut word = same;
+    for level in 1..33 {
+        levels = format!(in alloc; "({})* 1-{}", levels.as_str(), 100 + level)?;
+        word[31 + level] = hop(100 + level as u64, 0, 0);
+    }
+    expect_sequence(&rt, alloc, levels.as_str(), levels.as_str(), &word, &same)
+}
+
+/// The number of nodes and of open parentheses, each at its limit, and each refusal of a sequence.
 #[test]
 fn refuses_sequences(rt: HostRuntime) -> Result<(), Fail> {
     let alloc = rt.alloc();
     assert!(rt; code_of(Seq::parse(alloc, "")) == 60 && code_of(Seq::parse(alloc, "1 |")) == 60);
     assert!(rt; code_of(Seq::parse(alloc, "(1")) == 62 && code_of(Seq::parse(alloc, "1)")) == 62);
     assert!(rt; code_of(Seq::parse(alloc, "| 1")) == 61 && code_of(Seq::parse(alloc, "1 é")) == 61);
-    let mut deep = "((((((((((((((((((((((((((((((((0))))))))))))))))))))))))))))))))".to_string(
-        alloc,
-    )?;
-    assert!(rt; code_of(Seq::parse(alloc, deep.as_str())) == 0);
-    deep = format!(in alloc; "({})", deep.as_str())?;
-    assert!(rt; code_of(Seq::parse(alloc, deep.as_str())) == 63);
-    let mut long = String::new(alloc);
-    for _ in 0..128 {
-        long.push_str("0 ")?;
-    }
-    assert!(rt; code_of(Seq::parse(alloc, long.as_str())) == 0);
-    long.push_str("0")?;
-    assert!(rt; code_of(Seq::parse(alloc, long.as_str())) == 64);
+    let one = [last_hop()];
+    let none: [WalkHop; 0] = [];
+    let open = times(alloc, "(", 32)?;
+    let deep = format!(in alloc; "{open}0{}", times(alloc, ")", 32)?)?;
+    expect_sequence(&rt, alloc, deep.as_str(), "0", &one, &none)?;
+    let too_deep = format!(in alloc; "({deep})")?;
+    assert!(rt; code_of(Seq::parse(alloc, too_deep.as_str())) == 63);
+    let pairs = times(alloc, "1|0 ", 63)?;
+    let long = format!(in alloc; "{pairs}0 1")?;
+    let mut walk = [last_hop(); 65];
+    walk[64] = hop(1, 0, 0);
+    expect_sequence(&rt, alloc, long.as_str(), long.as_str(), &walk, &walk[1..])?;
+    let too_long = format!(in alloc; "{long} 0")?;
+    assert!(rt; code_of(Seq::parse(alloc, too_long.as_str())) == 64);
     Ok(())
 }
 
@@ -220,6 +279,8 @@ fn policies(rt: HostRuntime) -> Result<(), Fail> {
     assert!(rt; judges(&placed, &denied, &word, &other));
     let back = placed.clone_in(alloc)?;
     assert!(rt; judges(&back, &denied, &word, &other));
+    let read_there = Policy::parse(&bump, &text)?;
+    assert!(rt; judges(&read_there, &denied, &word, &other));
     let blank = PolicyText {
         acl: None,
         sequence: Some(" \t\r\n"),
@@ -257,24 +318,49 @@ fn predicates(rt: HostRuntime) -> Result<(), Fail> {
     let open = HopPred::parse("2-0#0")?;
     assert!(rt; says(&open, Interfaces::Any));
     assert!(rt; !does_read("1#5"));
-    let node: SeqNode<Global> = SeqNode::Hop(pred);
-    let walk = [hop(0xff00_0000_0110, 5, 1)];
-    assert!(rt; node.matches(&walk));
     Ok(())
 }
 
-/// What refusals are reported by.
+/// Asserts by which number, name and sentence a refusal is reported.
+fn expect_report(
+    rt: &impl Abort,
+    alloc: Global,
+    fault: PolicyFault,
+    code: u16,
+    name: &str,
+    sentence: &str,
+) -> Result<(), Fail> {
+    assert!(rt; fault.code() == code && fault.name() == name);
+    assert!(rt; fault.to_string(alloc)?.as_str() == sentence);
+    let shown = PolicyError::Fault(fault).to_string(alloc)?;
+    assert!(rt; shown.as_str() == sentence);
+    Ok(())
+}
+
+/// What refusals of sequences are reported by.
 #[test]
-fn reported(rt: HostRuntime) -> Result<(), Fail> {
+fn reports_sequences(rt: HostRuntime) -> Result<(), Fail> {
     let alloc = rt.alloc();
-    assert!(rt; PolicyFault::UnexpectedEnd.code() == 60 && PolicyFault::BadPredicate.code() == 61);
-    assert!(rt; PolicyFault::Unbalanced.code() == 62 && PolicyFault::TooDeep.code() == 63);
-    assert!(rt; PolicyFault::TooLarge.code() == 64 && PolicyFault::NoDefault.code() == 65);
-    assert!(rt; PolicyFault::AfterDefault.code() == 66);
-    assert!(rt; PolicyFault::AfterDefault.name() == "AfterDefault");
-    assert!(rt; PolicyFault::TooDeep.name() == "TooDeep");
-    let shown = PolicyError::Fault(PolicyFault::Unbalanced).to_string(alloc)?;
-    assert!(rt; shown.as_str() == "the parentheses of a sequence don't match");
+    let text = "a sequence ends where an item must come";
+    expect_report(&rt, alloc, PolicyFault::UnexpectedEnd, 60, "UnexpectedEnd", text)?;
+    let text = "a hop predicate can't be read";
+    expect_report(&rt, alloc, PolicyFault::BadPredicate, 61, "BadPredicate", text)?;
+    let text = "the parentheses of a sequence don't match";
+    expect_report(&rt, alloc, PolicyFault::Unbalanced, 62, "Unbalanced", text)?;
+    let text = "a sequence has at most 32 parentheses open at once";
+    expect_report(&rt, alloc, PolicyFault::TooDeep, 63, "TooDeep", text)?;
+    let text = "a sequence has at most 256 nodes, and a list at most 256 entries";
+    expect_report(&rt, alloc, PolicyFault::TooLarge, 64, "TooLarge", text)
+}
+
+/// What refusals of lists, and want of memory, are reported by.
+#[test]
+fn reports_lists(rt: HostRuntime) -> Result<(), Fail> {
+    let alloc = rt.alloc();
+    let text = "the last entry of a list has no predicate";
+    expect_report(&rt, alloc, PolicyFault::NoDefault, 65, "NoDefault", text)?;
+    let text = "an entry without a predicate is the last of its list";
+    expect_report(&rt, alloc, PolicyFault::AfterDefault, 66, "AfterDefault", text)?;
     let memory = PolicyError::Memory.to_string(alloc)?;
     assert!(rt; memory.as_str() == "out of memory");
     Ok(())

@@ -1,6 +1,8 @@
 pub mod Sets
-pub mod Reach
-pub mod Words
+pub mod Runs
+pub mod Tables
+pub mod Passes
+pub mod Linking
 pub mod Cutting
 pub mod Front
 pub mod Blanks

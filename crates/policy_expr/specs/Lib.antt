@@ -12,5 +12,6 @@ pub mod Policy
 pub mod Next
 pub mod Views
 pub mod Counting
-pub mod Spans
+pub mod Sets
+pub mod Table
 pub mod Code

@@ -1,4 +1,4 @@
-ghost use Rattle.std.specs.Prelude.{◌≡◌, ◌≤◌, ◌↔◌, length, option_map, IsOk, IsTrue, IfErr, IfOk};
+ghost use Rattle.std.specs.Prelude.{◌≡◌, ◌↔◌, length, option_map, IsOk, IsTrue, IfErr, IfOk};
 ghost use Rattle.policy_expr.specs.Fault.{Answers};
 ghost use Rattle.policy_expr.specs.Next.{after_blanks};
 ghost use Rattle.policy_expr.specs.Policy.{AllowsHops, DeniesHop, HasWord, acl_part_at, policy_at, sequence_part_at};
@@ -82,9 +82,9 @@ impl<A: Allocator + Clone> Policy<A> {
         }
     }
 
-    /// Whether the walk, of at most 64 hops, is a word of the sequence. Takes no memory.
+    /// Whether the walk is a word of the sequence. Tries each hop with each predicate at most once, so
+    /// that a walk of 64 hops takes at most 8,192 tries. Takes no memory.
     pub fn matches(&self, walk: &[WalkHop]) -> bool
-        requires { length walk.now ≤ 64 }
         ensures { IsTrue result ↔ HasWord self.now.sequence walk.now }
     {
         match &self.sequence {

@@ -1,4 +1,4 @@
-ghost use Rattle.std.specs.Prelude.{◌≡◌, ◌≤◌, ◌↔◌, length, IsTrue, IfOk, Ok};
+ghost use Rattle.std.specs.Prelude.{◌≡◌, ◌↔◌, IsTrue, IfOk, Ok};
 ghost use Rattle.std.specs.String.{string_bytes};
 ghost use Rattle.policy_expr.specs.Fault.{Answers};
 ghost use Rattle.policy_expr.specs.Language.{Lang};
@@ -10,6 +10,7 @@ use crate::fault::PolicyError;
 use crate::hop::WalkHop;
 use crate::node::SeqNode;
 use crate::reader::read_tree;
+use crate::table::Table;
 use std::alloc::{AllocError, Allocator};
 use std::marker::Model;
 
@@ -20,12 +21,14 @@ use std::marker::Model;
 #[derive(Drop)]
 pub struct Seq<A: Allocator + Clone> {
     root: SeqNode<A>,
+    table: Table<A>,
 }
 
 impl<A: Allocator + Clone> Model for Seq<A> {
     ghost use Rattle.policy_expr.specs.Code.{coded_tree};
     ghost use Rattle.policy_expr.specs.Tree.{Tree, tree_of};
     ghost use Rattle.policy_expr.specs.Printing.{IsSequence};
+    ghost use Rattle.policy_expr.specs.Table.{IsTableOf};
 
     ghost Value = { Tree };
 
@@ -33,7 +36,8 @@ impl<A: Allocator + Clone> Model for Seq<A> {
 
     ghost view = { λ s. tree_of s.root };
 
-    ghost invariant = { λ s. IsSequence (tree_of s.root) };
+    ghost invariant = { λ s. IsSequence (tree_of s.root)
+        × IsTableOf (tree_of s.root) s.table.lines.items s.table.ends };
 }
 
 impl<A: Allocator + Clone> Seq<A> {
@@ -49,8 +53,9 @@ impl<A: Allocator + Clone> Seq<A> {
         ensures { Answers (λ s. s) result (sequence_at text.now) }
     {
         check_text(text)?;
-        let root = read_tree(alloc, text)?;
-        Ok(Seq { root })
+        let root = read_tree(alloc.clone()?, text)?;
+        let table = Table::new(alloc, &root)?;
+        Ok(Seq { root, table })
     }
 
     /// Is a sequence, so that its text is read as it again.
@@ -76,14 +81,15 @@ impl<A: Allocator + Clone> Seq<A> {
         ensures { IfOk result (λ s. s ≡ self.now) }
     {
         let root = self.root.clone_in(&alloc)?;
-        Ok(Seq { root })
+        let table = self.table.clone_in(alloc)?;
+        Ok(Seq { root, table })
     }
 
-    /// Whether the walk, of at most 64 hops, is a word of this sequence. Takes no memory.
+    /// Whether the walk is a word of this sequence. Tries each hop with each predicate at most once, so
+    /// that a walk of 64 hops takes at most 8,192 tries. Takes no memory.
     pub fn matches(&self, walk: &[WalkHop]) -> bool
-        requires { length walk.now ≤ 64 }
         ensures { IsTrue result ↔ Lang self.now walk.now }
     {
-        self.root.matches(walk)
+        self.table.matches(walk)
     }
 }

@@ -4,4 +4,4 @@ use Rattle.policy_expr.proofs.sequence.Seq.known.Goals as goal
 use Rattle.std.proofs.Common.{subst}
 
 pub returns-clause-again : goal.returns-clause-again
-returns-clause-again g c = printed_again c.args.self.now (subst IsSequence c.self.view_is c.self.invariant)
+returns-clause-again g c = printed_again c.args.self.now (subst IsSequence c.self.view_is c.self.invariant.0)

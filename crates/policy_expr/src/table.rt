@@ -1,0 +1,152 @@
+ghost use Rattle.std.specs.Prelude.{◌≡◌, ℕ, ◌+◌, ◌≤◌, ◌<◌, ◌↔◌, length, vec_len, IfOk, IsTrue};
+ghost use Rattle.policy_expr.specs.Sets.{Has};
+ghost use Rattle.policy_expr.specs.Table.{Accepts, Adds, IsTableOf, IsWithin, Links, MeetsAt, StepsTo, pred_count};
+ghost use Rattle.policy_expr.specs.Tree.{tree_of};
+
+use crate::ends::Ends;
+use crate::hop::{HopPred, WalkHop};
+use crate::node::SeqNode;
+use crate::pred_set::PredSet;
+use std::alloc::{AllocError, Allocator};
+
+/// A line of a table: a predicate, and the predicates that may follow it.
+#[derive(Clone, Copy)]
+pub(crate) struct Line {
+    pub(crate) pred: HopPred,
+    pub(crate) next: PredSet,
+}
+
+/// A sequence as a table: a line for each predicate, numbered from left to right, the predicates that
+/// may come first and last, and whether the walk of no hops is a word.
+#[derive(Drop)]
+pub(crate) struct Table<A: Allocator> {
+    pub(crate) lines: Vec<Line, A>,
+    pub(crate) ends: Ends,
+}
+
+impl<A: Allocator> Table<A> {
+    /// The table of a tree of at most 128 predicates.
+    pub(crate) fn new<B: Allocator>(alloc: A, root: &SeqNode<B>) -> Result<Table<A>, AllocError>
+        requires { pred_count (tree_of root.now) ≤ 128 }
+        ensures { IfOk result (λ table. IsTableOf (tree_of root.now) table.lines.items table.ends) }
+    {
+        let mut lines = Vec::new(alloc);
+        let ends = root.add_lines(&mut lines)?;
+        Ok(Table { lines, ends })
+    }
+
+    /// The same table under another allocator.
+    pub(crate) fn clone_in<B: Allocator>(&self, alloc: B) -> Result<Table<B>, AllocError>
+        ensures { IfOk result (λ table. (table.lines.items ≡ self.now.lines.items) × (table.ends ≡ self.now.ends)) }
+    {
+        let mut lines = Vec::with_capacity(alloc, self.lines.len())?;
+        lines.extend_from_slice(&self.lines)?;
+        Ok(Table {
+            lines,
+            ends: self.ends,
+        })
+    }
+
+    /// Whether the walk is a word of the table. One pass over its hops, each of which is tried with each
+    /// predicate at most once. Takes no memory.
+    pub(crate) fn matches(&self, walk: &[WalkHop]) -> bool
+        requires { IsWithin self.now.lines.items self.now.ends }
+        ensures { IsTrue result ↔ Accepts self.now.lines.items self.now.ends walk.now }
+    {
+        let Some((end, before)) = walk.split_last() else {
+            return self.ends.has_empty;
+        };
+        let mut wanted = self.ends.first;
+        for hop in before {
+            wanted = self.wanted_behind(wanted, hop);
+        }
+        self.does_one_match(wanted.and(self.ends.last), end)
+    }
+
+    /// The predicates that may follow one of these that matches the hop.
+    fn wanted_behind(&self, wanted: PredSet, hop: &WalkHop) -> PredSet
+        requires { (k : ℕ) → Has wanted k → k < vec_len self.now.lines }
+        ensures { (j : ℕ) → Has result j ↔ StepsTo self.now.lines.items wanted hop.now j }
+    {
+        let mut next = PredSet::none();
+        let mut rest = wanted;
+        while let Some(number) = rest.first() {
+            let line = &self.lines[number];
+            if line.pred.matches(hop) {
+                next = next.or(line.next);
+            }
+            rest = rest.without_first();
+        }
+        next
+    }
+
+    /// Whether one of these predicates matches the hop.
+    fn does_one_match(&self, wanted: PredSet, hop: &WalkHop) -> bool
+        requires { (k : ℕ) → Has wanted k → k < vec_len self.now.lines }
+        ensures { IsTrue result ↔ ((k : ℕ) × Has wanted k × MeetsAt self.now.lines.items k hop.now) }
+    {
+        let mut rest = wanted;
+        while let Some(number) = rest.first() {
+            if self.lines[number].pred.matches(hop) {
+                return true;
+            }
+            rest = rest.without_first();
+        }
+        false
+    }
+}
+
+impl<A: Allocator> SeqNode<A> {
+    /// Adds the lines of its predicates at the end.
+    pub(crate) fn add_lines<B: Allocator>(&self, lines: &mut Vec<Line, B>) -> Result<Ends, AllocError>
+        requires { vec_len lines.old + pred_count (tree_of self.now) ≤ 128 }
+        ensures { IfOk result (λ ends. Adds (tree_of self.now) lines.old.items lines.new.items ends) }
+    {
+        match self {
+            SeqNode::Hop(pred) => {
+                let only = PredSet::only(lines.len());
+                let next = PredSet::none();
+                lines.push(Line { pred: *pred, next })?;
+                Ok(Ends::of_hop(only))
+            }
+            SeqNode::Then(front, back) => {
+                let front = front.add_lines(lines)?;
+                let back = back.add_lines(lines)?;
+                link(lines, front.last, back.first);
+                Ok(front.then(back))
+            }
+            SeqNode::Or(one, other) => {
+                let one = one.add_lines(lines)?;
+                let other = other.add_lines(lines)?;
+                Ok(one.or(other))
+            }
+            SeqNode::Optional(item) => {
+                let item = item.add_lines(lines)?;
+                Ok(item.or_nothing())
+            }
+            SeqNode::Repeated(item) => {
+                let again = item.add_lines(lines)?;
+                link(lines, again.last, again.first);
+                Ok(again.or_nothing())
+            }
+            SeqNode::OnceOrMore(item) => {
+                let once = item.add_lines(lines)?;
+                link(lines, once.last, once.first);
+                Ok(once)
+            }
+        }
+    }
+}
+
+/// Lets each of the one predicates be followed by each of the others.
+fn link(lines: &mut [Line], last: PredSet, first: PredSet)
+    requires { (k : ℕ) → Has last k → k < length lines.old }
+    ensures { Links lines.old lines.new last first }
+{
+    let mut rest = last;
+    while let Some(number) = rest.first() {
+        let line = &mut lines[number];
+        line.next = line.next.or(first);
+        rest = rest.without_first();
+    }
+}
