@@ -175,9 +175,9 @@ Comes-come_to n b ia ingress network found =
     at : ℕ → ℕ → Result (ℕ × ℕ) TopologyFault
     at x m = Ok (x, m)
 
-new_of : (b : Chain) (ia : ℕ) (x : Unit {0}) → is_new b ia ≡ Ok x → list_any (λ entry. eqb entry.ia ia) b.entries ≡ false
+new_of : (b : Chain) (ia : ℕ) → is_new b ia ≡ true → list_any (λ entry. eqb entry.ia ia) b.entries ≡ false
 unfolding is_new
-new_of b ia x found = not-true _ (check_ok (not (list_any (λ entry. eqb entry.ia ia) b.entries)) Loop x found)
+new_of b ia new = not-true _ new
 
 -- what an AS adds to a beacon that comes to it is made
 made_added : (n : Network) (keys : List (List ℕ)) (b : Chain) (ia ingress egress : ℕ) (one : AsEntry) → IsNetwork n → IsUnderWay n keys b → as_named n.ases ia ≡ Some one → Comes n b ia ingress
@@ -213,8 +213,8 @@ passed_on n keys b ia egress one c network under named found =
     let s2 = bind_ok (come_to n b ia) _ c s1.2 in
     let ingress = s2.0 in
     let comes = Comes-come_to n b ia ingress network s2.1 in
-    let s3 = bind_ok (is_new b s1.0.ia) _ c s2.2 in
-    let new : list_any (λ entry. eqb entry.ia one.ia) b.entries ≡ false = ap (λ (o : AsEntry). list_any (λ entry. eqb entry.ia o.ia) b.entries) (sym same) ∙ new_of b s1.0.ia s3.0 s3.1 in
+    let s3 = bind_ok (check (is_new b s1.0.ia) Loop) _ c s2.2 in
+    let new : list_any (λ entry. eqb entry.ia one.ia) b.entries ≡ false = ap (λ (o : AsEntry). list_any (λ entry. eqb entry.ia o.ia) b.entries) (sym same) ∙ new_of b s1.0.ia (check_ok (is_new b s1.0.ia) Loop s3.0 s3.1) in
     let s4 = bind_ok (check (nat_lt (length b.entries) 62) TooLong) _ c s3.2 in
     let few = check_ok (nat_lt (length b.entries) 62) TooLong s4.0 s4.1 in
     let s5 = bind_ok (or_else NoInterface (interface_at n ia egress)) _ c s4.2 in
@@ -243,8 +243,8 @@ ended n keys b ia one s network under named found =
     let s2 = bind_ok (come_to n b ia) _ s s1.2 in
     let ingress = s2.0 in
     let comes = Comes-come_to n b ia ingress network s2.1 in
-    let s3 = bind_ok (is_new b s1.0.ia) _ s s2.2 in
-    let new : list_any (λ entry. eqb entry.ia one.ia) b.entries ≡ false = ap (λ (o : AsEntry). list_any (λ entry. eqb entry.ia o.ia) b.entries) (sym same) ∙ new_of b s1.0.ia s3.0 s3.1 in
+    let s3 = bind_ok (check (is_new b s1.0.ia) Loop) _ s s2.2 in
+    let new : list_any (λ entry. eqb entry.ia one.ia) b.entries ≡ false = ap (λ (o : AsEntry). list_any (λ entry. eqb entry.ia o.ia) b.entries) (sym same) ∙ new_of b s1.0.ia (check_ok (is_new b s1.0.ia) Loop s3.0 s3.1) in
     let e = added_by one b ingress 0 in
     let is : with_last b e ≡ s = ap (λ (o : AsEntry). with_last b (added_by o b ingress 0)) (sym same) ∙ ok_is _ s s3.2 in
     rw (← is) (record {

@@ -10,7 +10,7 @@ use Rattle.scion_topology.specs.Network.{Network, as_named}
 use Rattle.scion_topology.specs.Topology.{IsNetwork, interface_at}
 use Rattle.path_segment.specs.declared.entry.Entry.{Entry}
 use Rattle.path_segment.specs.Chain.{Chain, chain_of, with_last}
-use Rattle.beaconing.specs.declared.fault.BeaconFault.TheVariants.{TooLong, NotCore, NoInterface, LinkDown, WrongKind, NotHere}
+use Rattle.beaconing.specs.declared.fault.BeaconFault.TheVariants.{TooLong, Loop, NotCore, NoInterface, LinkDown, WrongKind, NotHere}
 use Rattle.beaconing.specs.Entry.{key_of, key_in, entry_by, added_by, kind_over, goes_on}
 use Rattle.beaconing.specs.Calls.{or_else, originated, come_to, is_new, extended, terminated}
 use Rattle.beaconing.specs.Issued.{IsUnderWay, IsIssued, keys_in, passed_on, Grows}
@@ -57,7 +57,7 @@ adds_next n b ia egress c found =
     let s1 = bind_ok (ok_or (as_named n.ases ia) NotHere) _ c found in
     let named = ok_or_ok (as_named n.ases ia) NotHere s1.0 s1.1 in
     let s2 = bind_ok (come_to n b ia) _ c s1.2 in
-    let s3 = bind_ok (is_new b s1.0.ia) _ c s2.2 in
+    let s3 = bind_ok (check (is_new b s1.0.ia) Loop) _ c s2.2 in
     let s4 = bind_ok (check (nat_lt (length b.entries) 62) TooLong) _ c s3.2 in
     let s5 = bind_ok (or_else NoInterface (interface_at n ia egress)) _ c s4.2 in
     let s6 = bind_ok (check (goes_on b.kind s5.0.kind) WrongKind) _ c s5.2 in
@@ -79,7 +79,7 @@ adds_last n b ia c found =
     let s1 = bind_ok (ok_or (as_named n.ases ia) NotHere) _ c found in
     let named = ok_or_ok (as_named n.ases ia) NotHere s1.0 s1.1 in
     let s2 = bind_ok (come_to n b ia) _ c s1.2 in
-    let s3 = bind_ok (is_new b s1.0.ia) _ c s2.2 in
+    let s3 = bind_ok (check (is_new b s1.0.ia) Loop) _ c s2.2 in
     record {
       one = s1.0;
       named = named;

@@ -1,5 +1,5 @@
 -- What the calls of beaconing give, or the first cause why not (draft-dekater-scion-controlplane, path construction).
-use Rattle.std.specs.Prelude.{ℕ, ◌-◌, ◌==◌, not, nat_lt, [], ◌∷◌, length, slice_get, Option, Result, Ok, Err}
+use Rattle.std.specs.Prelude.{ℕ, ◌-◌, Bool, ◌==◌, not, nat_lt, [], ◌∷◌, length, slice_get, Option, Result, Ok, Err}
 use Rattle.std.specs.List.{list_any}
 use Rattle.std.specs.Option.{ok_or}
 use Rattle.scion_topology.specs.declared.fault.TopologyFault.{TopologyFault}
@@ -41,8 +41,8 @@ come_to n beacon ia = do
   Ok end.1
 
 -- the beacon has no entry of this AS yet
-unfoldable pub is_new : Chain → ℕ → Result (Unit {0}) BeaconFault
-is_new beacon ia = check (not (list_any (λ entry. entry.ia == ia) beacon.entries)) Loop
+unfoldable pub is_new : Chain → ℕ → Bool
+is_new beacon ia = not (list_any (λ entry. entry.ia == ia) beacon.entries)
 
 -- the beacon, passed on by an AS over one of its links: NotHere, LinkDown of the way in, Loop,
 -- TooLong, NoInterface, WrongKind, LinkDown of the way out
@@ -50,7 +50,7 @@ unfoldable pub extended : Network → Chain → ℕ → ℕ → Result Chain Bea
 extended n beacon ia egress = do
   one ← ok_or (as_named n.ases ia) NotHere
   ingress ← come_to n beacon ia
-  _ ← is_new beacon one.ia
+  _ ← check (is_new beacon one.ia) Loop
   _ ← check (nat_lt (length beacon.entries) 62) TooLong
   out ← or_else NoInterface (interface_at n ia egress)
   _ ← check (goes_on beacon.kind out.kind) WrongKind
@@ -62,5 +62,5 @@ unfoldable pub terminated : Network → Chain → ℕ → Result Chain BeaconFau
 terminated n beacon ia = do
   one ← ok_or (as_named n.ases ia) NotHere
   ingress ← come_to n beacon ia
-  _ ← is_new beacon one.ia
+  _ ← check (is_new beacon one.ia) Loop
   Ok (with_last beacon (added_by one beacon ingress 0))

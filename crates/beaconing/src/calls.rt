@@ -12,9 +12,6 @@ use refusal::OrMemory;
 use scion_topology::Topology;
 use std::alloc::Global;
 
-/// The most entries of a beacon.
-const MAX_BEACON_LEN: usize = 62;
-
 /// The beacon that a core AS begins over one of its links: `timestamp` is in seconds, and `beta0`
 /// the accumulator with which its entry is authenticated. The kind is that of the link.
 ///
@@ -127,8 +124,10 @@ fn next_entry(
         return Err(BeaconFault::NotHere);
     };
     let ingress = come_to(topology, beacon, ia)?;
-    is_new(beacon, one.ia)?;
-    if beacon.entries().len() >= MAX_BEACON_LEN {
+    if !is_new(beacon, one.ia) {
+        return Err(BeaconFault::Loop);
+    }
+    if beacon.is_full() {
         return Err(BeaconFault::TooLong);
     }
     let out = way_out(topology, ia, egress)?;
@@ -151,6 +150,8 @@ fn last_entry(topology: &Topology, beacon: &Beacon, ia: IsdAs) -> Result<Entry, 
         return Err(BeaconFault::NotHere);
     };
     let ingress = come_to(topology, beacon, ia)?;
-    is_new(beacon, one.ia)?;
+    if !is_new(beacon, one.ia) {
+        return Err(BeaconFault::Loop);
+    }
     Ok(added_by(one, beacon, ingress, IfId::NONE))
 }

@@ -1,6 +1,6 @@
 //! The parts of a call: the entry that an AS makes, and where a beacon comes in and goes out.
 
-ghost use Rattle.std.specs.Prelude.{◌≡◌, ◌≢◌, ◌==◌, false, IfOk, OnOk};
+ghost use Rattle.std.specs.Prelude.{◌≡◌, ◌≢◌, ◌==◌, false, IfOk, IsTrue};
 ghost use Rattle.std.specs.List.{list_any};
 ghost use Rattle.scion_topology.specs.Topology.{interface_at};
 ghost use Rattle.beaconing.specs.Entry.{entry_by, added_by, kind_over, goes_on};
@@ -108,16 +108,13 @@ pub(crate) fn come_to(topology: &Topology, beacon: &Beacon, ia: IsdAs) -> Result
     Ok(ingress)
 }
 
-/// Checks that a beacon has no entry of this AS yet.
+/// Whether a beacon has no entry of this AS yet.
 #[tactic(auto, unfolding(crate::specs::Calls::is_new))]
-pub(crate) fn is_new(beacon: &Beacon, ia: IsdAs) -> Result<(), BeaconFault>
+pub(crate) fn is_new(beacon: &Beacon, ia: IsdAs) -> bool
     ensures value { result ≡ is_new beacon.now ia }
-    ensures clear { OnOk result (list_any (λ entry. entry.ia == ia) beacon.now.entries ≡ false) }
+    ensures clear { IsTrue result → list_any (λ entry. entry.ia == ia) beacon.now.entries ≡ false }
 {
-    if stands_in(beacon.entries(), ia) {
-        return Err(BeaconFault::Loop);
-    }
-    Ok(())
+    !stands_in(beacon.entries(), ia)
 }
 
 /// Whether an AS stands in one of these entries.

@@ -192,6 +192,7 @@ impl Header {
         requires hop_below { hop < length self.old.hops }
         ensures { self.new ≡ record self.old { curr_inf = info; curr_hf = hop } }
     {
+        // The type's rules bound both indices, which is seen where a field is read.
         let _ = &self.lens;
         self.curr_inf = info as u8;
         self.curr_hf = hop as u8;
@@ -208,6 +209,7 @@ impl Header {
     pub fn known(&self)
         ensures { IsHeader self.now }
     {
+        // The type's rules are seen where a field is read.
         let _ = &self.lens;
     }
 }

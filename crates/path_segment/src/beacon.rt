@@ -1,4 +1,4 @@
-ghost use Rattle.std.specs.Prelude.{◌≡◌, ◌≤◌, ◌∷◌, [], length, IfOk, IsTrue, ◌↔◌};
+ghost use Rattle.std.specs.Prelude.{◌≡◌, ◌≤◌, ◌∷◌, [], length, nat_le, IfOk, IsTrue, ◌↔◌};
 ghost use Rattle.path_segment.specs.Chain.{chain_of, with_last, beta_of};
 ghost use Rattle.refusal.specs.Refusal.{Answers, unless};
 ghost use Rattle.path_segment.specs.Rules.{AreOfBeacon, IsBeacon, first_fault, next_fault, last_fault, beacon_of, segment_of};
@@ -7,7 +7,7 @@ use crate::chain::{are_same, beta_after_all, copied, with_one_more};
 use crate::entry::Entry;
 use crate::fault::SegmentError;
 use crate::kind::SegKind;
-use crate::rules::{fault_of_first, fault_of_last, fault_of_next};
+use crate::rules::{MAX_BEACON_LEN, fault_of_first, fault_of_last, fault_of_next};
 use crate::segment::Segment;
 use refusal::OrMemory;
 use std::alloc::{AllocError, Global};
@@ -112,6 +112,13 @@ impl Beacon {
             beta0: self.beta0,
             entries,
         })
+    }
+
+    /// Whether it has 62 entries, so that it can end and not be passed on.
+    pub fn is_full(&self) -> bool
+        ensures { result ≡ nat_le 62 (length self.now.entries) }
+    {
+        self.entries.len() >= MAX_BEACON_LEN
     }
 
     /// The same beacon once more.

@@ -7,7 +7,7 @@ use crate::fault::SegmentFault;
 use isd_as::{IfId, IsdAs};
 
 /// The most entries of a beacon: one less than of a segment, which has its last AS besides.
-const MAX_BEACON_LEN: usize = 62;
+pub(crate) const MAX_BEACON_LEN: usize = 62;
 
 /// The most entries of a segment.
 const MAX_SEGMENT_LEN: usize = 63;
