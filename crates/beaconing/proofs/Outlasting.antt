@@ -8,10 +8,10 @@ use Rattle.scion_topology.specs.declared.entry.LinkKind.{LinkKind}
 use Rattle.scion_topology.specs.declared.fault.TopologyFault.TheVariants as faults
 use Rattle.scion_topology.specs.declared.network.AsEntry.{AsEntry}
 use Rattle.scion_topology.specs.declared.network.Link.{Link}
-use Rattle.scion_topology.specs.Keys.{keys_of}
+use Rattle.scion_topology.specs.Keys.{key_of, renewed}
 use Rattle.scion_topology.specs.Network.{Network, as_named, has_end, interface_of, with_first, table_of, interface_in}
 use Rattle.scion_topology.specs.Causes.{is_core}
-use Rattle.scion_topology.specs.Topology.{known, joined, interface_at, with_up, with_keys, set_up, rotated}
+use Rattle.scion_topology.specs.Topology.{known, joined, interface_at, with_up, with_key, set_up, rotated}
 use Rattle.scion_topology.proofs.Steps.{bind_ok, ok_is, ok_or_ok}
 use Rattle.path_segment.specs.declared.entry.Entry.{Entry}
 use Rattle.path_segment.specs.declared.kind.SegKind.{SegKind}
@@ -57,17 +57,17 @@ alike_later x first rest one miss alike = record {
   core = alike.core;
 }
 
-rekeyed : (ia : ℕ) (keys : List (List ℕ)) (x : ℕ) (ases : List AsEntry) (one : AsEntry) → as_named ases x ≡ Some one → HasAlike (with_keys ia keys ases) x one
-rekeyed ia keys x [] one named = absurd cc
-rekeyed ia keys x (first ∷ rest) one named = elim (cases_Bool (eqb first.ia ia)) [
-  | inl here ↦ rw here (rekeyed_first keys x first rest one named)
+rekeyed : (ia : ℕ) (key : List ℕ) (x : ℕ) (ases : List AsEntry) (one : AsEntry) → as_named ases x ≡ Some one → HasAlike (with_key ia key ases) x one
+rekeyed ia key x [] one named = absurd cc
+rekeyed ia key x (first ∷ rest) one named = elim (cases_Bool (eqb first.ia ia)) [
+  | inl here ↦ rw here (rekeyed_first (renewed key first.keys) x first rest one named)
   | inr other ↦ rw other (elim (cases_Bool (eqb first.ia x)) [
     | inl hit ↦ (
         let now : cond true (Some first) (as_named rest x) ≡ Some one = rw hit at named in
-        itself (first ∷ with_keys ia keys rest) x one (rw hit now))
+        itself (first ∷ with_key ia key rest) x one (rw hit now))
     | inr miss ↦ (
         let later : cond false (Some first) (as_named rest x) ≡ Some one = rw miss at named in
-        alike_later x first (with_keys ia keys rest) one miss (rekeyed ia keys x rest one later))
+        alike_later x first (with_key ia key rest) one miss (rekeyed ia key x rest one later))
   ])
 ]
 
@@ -200,8 +200,8 @@ Outlasts-rotated : (ia : ℕ) (key : List ℕ) (n m : Network) → rotated ia ke
 unfolding rotated
 Outlasts-rotated ia key n m change =
     let step = bind_ok (known n ia) _ m change in
-    let made = bind_ok (keys_of key) _ m step.2 in
-    let is = ok_is (record n { ases = with_keys ia made.0 n.ases }) m made.2 in
+    let made = bind_ok (key_of key) _ m step.2 in
+    let is = ok_is (record n { ases = with_key ia made.0 n.ases }) m made.2 in
     rw (← is) (record {
       ases = λ x one named. rekeyed ia made.0 x n.ases one named;
       joined = λ kind entry next leads. leads;

@@ -8,7 +8,6 @@ ghost use Rattle.beaconing.specs.Calls.{or_else, come_to, is_new};
 ghost use Rattle.refusal.specs.Refusal.{Gives};
 
 use crate::fault::BeaconFault;
-use hop_mac::hop_mac;
 use isd_as::{IfId, IsdAs};
 use path_segment::{Beacon, Entry, SegKind};
 use scion_topology::{AsEntry, IfEntry, LinkKind, Topology};
@@ -28,14 +27,10 @@ pub(crate) fn entry_by(
         cons_ingress,
         cons_egress,
         exp_time: one.exp_time,
-        mac: hop_mac(
-            one.keys.current(),
-            beta,
-            timestamp,
-            one.exp_time,
-            cons_ingress.number(),
-            cons_egress.number(),
-        ),
+        mac: one
+            .keys
+            .in_use()
+            .hop_mac(beta, timestamp, one.exp_time, cons_ingress, cons_egress),
     }
 }
 

@@ -21,7 +21,7 @@ fn entry(number: u16, kind: LinkKind, router: u8) -> IfEntry {
 #[test]
 fn shows(rt: HostRuntime) -> Result<(), Fail> {
     let table = [entry(2, LinkKind::Child, 1), entry(1, LinkKind::Parent, 0)];
-    let view = RouterView::new(IsdAs::from_number(IA), 63, b"k", &table)?;
+    let view = RouterView::new(IsdAs::from_number(IA), 63, b"k", None, &table)?;
     assert_eq!(rt; view.ia().number(), IA);
     assert_eq!(rt; view.router(), 63);
     assert!(rt; view.key() == b"k".as_slice());
@@ -47,10 +47,10 @@ fn refuses(rt: HostRuntime) {
         (IA, b"k", &twice, 13),
     ];
     for (ia, key, table, code) in cases.iter() {
-        let view = RouterView::new(IsdAs::from_number(*ia), 0, key, table);
+        let view = RouterView::new(IsdAs::from_number(*ia), 0, key, None, table);
         assert_eq!(rt; view.err().map(TopologyFault::code), Some(*code));
     }
-    assert!(rt; RouterView::new(IsdAs::from_number(IA), 0, &[7; 64], &[]).is_ok());
+    assert!(rt; RouterView::new(IsdAs::from_number(IA), 0, &[7; 64], None, &[]).is_ok());
     assert_eq!(rt; TopologyFault::DuplicateIf.name(), "DuplicateIf");
 }
 
@@ -232,8 +232,13 @@ fn changes_what_is_named(rt: HostRuntime) -> Result<(), Fail> {
         topology.rotate_key(at(1), b""),
         Err(TopologyFault::UnknownAs)
     );
-    topology.rotate_key(at(LEAF), b"a3")?;
-    assert!(rt; topology.view(at(LEAF), 0)?.key() == b"a3".as_slice());
+    for (key, before) in [(b"a3", b"a2"), (b"a4", b"a3")] {
+        topology.rotate_key(at(LEAF), key)?;
+        let view = topology.view(at(LEAF), 0)?;
+        assert!(rt; view.key() == key.as_slice());
+        assert!(rt; view.previous() == Some(before.as_slice()));
+    }
+    assert!(rt; topology.view(at(MIDDLE), 0)?.previous().is_none());
     assert!(rt; topology.view(at(MIDDLE), 0)?.key() == b"a1".as_slice());
     Ok(())
 }
@@ -276,6 +281,68 @@ fn limits_are_exact(rt: HostRuntime) -> Result<(), Fail> {
         let text = ring(&rt, ases, links)?;
         let read = Topology::from_json(rt.alloc(), text.as_bytes());
         assert!(rt; read.err() == Some(OrMemory::Refused(TopologyFault::TooMany)));
+    }
+    Ok(())
+}
+
+/// The sentence of each refusal, and of want of memory.
+#[test]
+fn sentences(rt: HostRuntime) -> Result<(), Fail> {
+    let alloc = rt.alloc();
+    let rows = [
+        (TopologyFault::NotJson, "the text is not JSON"),
+        (
+            TopologyFault::BadField,
+            "a field is missing, of another type or out of its range",
+        ),
+        (TopologyFault::DuplicateAs, "an AS is listed twice"),
+        (
+            TopologyFault::DuplicateIf,
+            "an interface stands at two ends of links",
+        ),
+        (TopologyFault::UnknownAs, "an AS is not listed"),
+        (
+            TopologyFault::BadKind,
+            "a link joins ASes that its kind does not join",
+        ),
+        (
+            TopologyFault::NoRouter,
+            "an AS has no router of this number",
+        ),
+        (
+            TopologyFault::NoLink,
+            "an AS has no interface of this number",
+        ),
+        (
+            TopologyFault::TooMany,
+            "there are 1 to 1024 ASes and at most 4096 links",
+        ),
+    ];
+    for (fault, sentence) in rows {
+        assert_eq!(rt; format!(in alloc; "{fault}")?.as_str(), sentence);
+        let error = OrMemory::Refused(fault);
+        assert_eq!(rt; format!(in alloc; "{error}")?.as_str(), sentence);
+    }
+    Ok(())
+}
+
+/// The largest network with one double, each at the very end.
+#[test]
+fn last_double_is_found(rt: HostRuntime) -> Result<(), Fail> {
+    let most = ring(&rt, 1024, 4096)?;
+    let rows = [
+        (
+            r#""1-1024","core""#,
+            r#""1-1023","core""#,
+            TopologyFault::DuplicateAs,
+        ),
+        (r#""if":4096,"#, r#""if":3072,"#, TopologyFault::DuplicateIf),
+    ];
+    for (old, new, fault) in rows {
+        let (front, back) = most.split_once(old).ok_or("the text to change is there")?;
+        let text = format!(in rt.alloc(); "{front}{new}{back}")?;
+        let read = Topology::from_json(rt.alloc(), text.as_bytes());
+        assert!(rt; read.err() == Some(OrMemory::Refused(fault)), "{new}");
     }
     Ok(())
 }

@@ -9,18 +9,6 @@ use Rattle.hop_mac.specs.Hop.{authenticator, authenticator_under}
 use Rattle.scion_topology.specs.View.{View, IsAuthentic, is_authentic}
 use Rattle.scion_topology.proofs.Deciding.{Decides-list_any}
 
-or_nothing : (b : Bool) → (b || false) ≡ b
-or_nothing true = refl
-or_nothing false = refl
-
--- under one key, made ready, the test is one comparison
-pub test_under_one : (view : View) (key block mac : List ℕ) (beta timestamp exp_time cons_ingress cons_egress : ℕ)
-    → view.keys ≡ key ∷ [] → block ≡ padded key
-    → bytes_eq mac (authenticator_under block beta timestamp exp_time cons_ingress cons_egress)
-    ≡ is_authentic view mac beta timestamp exp_time cons_ingress cons_egress
-test_under_one view key block mac beta timestamp exp_time cons_ingress cons_egress one ready =
-    rw (one, ready) (sym (or_nothing (bytes_eq mac (authenticator_under (padded key) beta timestamp exp_time cons_ingress cons_egress))))
-
 pub Decides-is_authentic : (view : View) (mac : List ℕ) (beta timestamp exp_time cons_ingress cons_egress : ℕ)
     → Decides (is_authentic view mac beta timestamp exp_time cons_ingress cons_egress) (IsAuthentic view mac beta timestamp exp_time cons_ingress cons_egress)
 Decides-is_authentic view mac beta timestamp exp_time cons_ingress cons_egress =

@@ -12,9 +12,9 @@ use Rattle.scion_topology.specs.declared.fault.TopologyFault.TheVariants as faul
 use Rattle.scion_topology.specs.declared.network.AsEntry.{AsEntry}
 use Rattle.scion_topology.specs.declared.network.End.{End}
 use Rattle.scion_topology.specs.declared.network.Link.{Link}
-use Rattle.scion_topology.specs.Keys.{keys_of}
+use Rattle.scion_topology.specs.Keys.{is_key, key_of, renewed}
 use Rattle.scion_topology.specs.Network.{Network, as_named, is_end, has_end, link_named, interface_of, with_first, table_of, interface_in}
-use Rattle.scion_topology.specs.Topology.{IsNetwork, known, joined, near_end, far_end, interface_at, far_end_in, owner_in, with_up, with_keys, set_up, rotated}
+use Rattle.scion_topology.specs.Topology.{IsNetwork, known, joined, near_end, far_end, interface_at, far_end_in, owner_in, with_up, with_key, set_up, rotated}
 use Rattle.scion_topology.specs.Ends.{IsAt, IsShown, at_a, at_b, IsUp, IsStill, IsSame}
 use Rattle.scion_topology.specs.Index.{place_in, set_from}
 use Rattle.scion_topology.proofs.Steps.{bind_ok, ok_is, ok_or_ok}
@@ -22,8 +22,8 @@ use Rattle.scion_topology.proofs.Judging.{IsFree-IsNetwork, ia_of_named}
 use Rattle.scion_topology.proofs.Places.{is_numbered, are_apart, ends_there, network_apart}
 use Rattle.scion_topology.proofs.Marking.{with_up-set_from}
 use Rattle.scion_topology.proofs.Relinked.{set_up-none, IsNetwork-relinked}
-use Rattle.scion_topology.proofs.Keyed.{with_keys-keyed_at, IsNetwork-rekeyed}
-use Rattle.scion_topology.proofs.KeyTests.{are_keys_of}
+use Rattle.scion_topology.proofs.Keyed.{with_key-keyed_at, IsNetwork-rekeyed}
+use Rattle.scion_topology.proofs.KeyTests.{made_key}
 use Rattle.scion_topology.proofs.Ends.{IsJoined-joined, sides}
 use Rattle.scion_topology.proofs.Shown.{found_at, shows_both_ends}
 
@@ -43,16 +43,16 @@ is_linked up x y n m change =
 
 -- an AS with other keys, in a network of the same links
 pub record IsKeyed (x : ℕ) (key : List ℕ) (n m : Network) : Type 0 where
-  pub keys : List (List ℕ)
-  pub made : keys_of key ≡ Ok keys
-  pub is : record n { ases = with_keys x keys n.ases } ≡ m
+  pub new : List ℕ
+  pub made : key_of key ≡ Ok new
+  pub is : record n { ases = with_key x new n.ases } ≡ m
 
 pub is_keyed : (x : ℕ) (key : List ℕ) (n m : Network) → rotated x key n ≡ Ok m → IsKeyed x key n m
 unfolding rotated
 is_keyed x key n m change =
     let at = bind_ok (known n x) _ m change in
-    let made = bind_ok (keys_of key) _ m at.2 in
-    record { keys = made.0; made = made.1; is = ok_is (record n { ases = with_keys x made.0 n.ases }) m made.2 }
+    let made = bind_ok (key_of key) _ m at.2 in
+    record { new = made.0; made = made.1; is = ok_is (record n { ases = with_key x made.0 n.ases }) m made.2 }
 
 pub same_ases : (up : Bool) (x y : ℕ) (n m : Network) → set_up up x y n ≡ Ok m → m.ases ≡ n.ases
 same_ases up x y n m change = sym (ap (λ (k : Network). k.ases) (is_linked up x y n m change).is)
@@ -62,11 +62,14 @@ same_links x key n m change = sym (ap (λ (k : Network). k.links) (is_keyed x ke
 
 -- ---- a network stays one
 
+fitting : (key new : List ℕ) → key_of key ≡ Ok new → is_key new ≡ true
+fitting key new made = let is = made_key key new made in subst (λ (k : List ℕ). is_key k ≡ true) is.1 is.0
+
 pub rotated_network : (x : ℕ) (key : List ℕ) (n m : Network) → IsNetwork n → rotated x key n ≡ Ok m → IsNetwork m
 rotated_network x key n m network change =
     let keyed = is_keyed x key n m change in
-    let same = with_keys-keyed_at x keyed.keys n.ases in
-    subst IsNetwork (ap (λ (ases : List AsEntry). record n { ases = ases }) (sym same) ∙ keyed.is) (IsNetwork-rekeyed (position_or_len (λ one. eqb one.ia x) n.ases) keyed.keys n (are_keys_of key keyed.keys keyed.made) network)
+    let same = with_key-keyed_at x keyed.new n.ases in
+    subst IsNetwork (ap (λ (ases : List AsEntry). record n { ases = ases }) (sym same) ∙ keyed.is) (IsNetwork-rekeyed (position_or_len (λ one. eqb one.ia x) n.ases) keyed.new n (fitting key keyed.new keyed.made) network)
 
 abbrev fails : TopologyFault → Result Network TopologyFault
 fails f = Err f
@@ -91,13 +94,13 @@ linked_network up x y n m network change = go (place_in n x y) refl
 
 -- ---- keys
 
-named_elsewhere : (x ia : ℕ) (keys : List (List ℕ)) (ases : List AsEntry) → x ≢ ia → as_named (with_keys x keys ases) ia ≡ as_named ases ia
-named_elsewhere x ia keys [] other = refl
-named_elsewhere x ia keys (one ∷ rest) other = elim (cases_Bool (eqb one.ia x)) [
+named_elsewhere : (x ia : ℕ) (key : List ℕ) (ases : List AsEntry) → x ≢ ia → as_named (with_key x key ases) ia ≡ as_named ases ia
+named_elsewhere x ia key [] other = refl
+named_elsewhere x ia key (one ∷ rest) other = elim (cases_Bool (eqb one.ia x)) [
   | inl here ↦ (let not_ia : eqb one.ia ia ≡ false = ne_eqb one.ia ia (λ same. other (sym (eqb-true one.ia x here) ∙ same)) in rw (here, not_ia) refl)
   | inr past ↦ rw past (elim (cases_Bool (eqb one.ia ia)) [
     | inl found ↦ rw found refl
-    | inr later ↦ rw later (named_elsewhere x ia keys rest other)
+    | inr later ↦ rw later (named_elsewhere x ia key rest other)
   ])
 ]
 
@@ -105,17 +108,24 @@ named_elsewhere x ia keys (one ∷ rest) other = elim (cases_Bool (eqb one.ia x)
 pub named_still : (x ia : ℕ) (key : List ℕ) (n m : Network) → rotated x key n ≡ Ok m → x ≢ ia → as_named m.ases ia ≡ as_named n.ases ia
 named_still x ia key n m change other =
     let keyed = is_keyed x key n m change in
-    ap (λ (k : Network). as_named k.ases ia) (sym keyed.is) ∙ named_elsewhere x ia keyed.keys n.ases other
+    ap (λ (k : Network). as_named k.ases ia) (sym keyed.is) ∙ named_elsewhere x ia keyed.new n.ases other
 
-named_here : (x : ℕ) (keys : List (List ℕ)) (ases : List AsEntry) (one : AsEntry) → as_named ases x ≡ Some one → as_named (with_keys x keys ases) x ≡ Some (record one { keys = keys })
-named_here x keys [] one named = absurd cc
-named_here x keys (first ∷ rest) one named = elim (cases_Bool (eqb first.ia x)) [
+named_here : (x : ℕ) (key : List ℕ) (ases : List AsEntry) (one : AsEntry) → as_named ases x ≡ Some one → as_named (with_key x key ases) x ≡ Some (record one { keys = renewed key one.keys })
+named_here x key [] one named = absurd cc
+named_here x key (first ∷ rest) one named = elim (cases_Bool (eqb first.ia x)) [
   | inl here ↦ (
       let now : cond true (Some first) (as_named rest x) ≡ Some one = rw here at named in
       let same : first ≡ one = same_Some first one now in
-      rw (here, here) (ap (λ (o : AsEntry). Some (record o { keys = keys })) same))
-  | inr past ↦ (let later : cond false (Some first) (as_named rest x) ≡ Some one = rw past at named in rw (past, past) (named_here x keys rest one later))
+      rw (here, here) (ap (λ (o : AsEntry). Some (record o { keys = renewed key o.keys })) same))
+  | inr past ↦ (let later : cond false (Some first) (as_named rest x) ≡ Some one = rw past at named in rw (past, past) (named_here x key rest one later))
 ]
+
+-- the AS that took it into use
+pub named_renewed : (x : ℕ) (key : List ℕ) (n m : Network) (one : AsEntry) → rotated x key n ≡ Ok m → as_named n.ases x ≡ Some one → as_named m.ases x ≡ Some (record one { keys = renewed key one.keys })
+named_renewed x key n m one change named =
+    let keyed = is_keyed x key n m change in
+    ap (λ (k : Network). as_named k.ases x) (sym keyed.is) ∙ named_here x keyed.new n.ases one named
+    ∙ ap (λ (new : List ℕ). Some (record one { keys = renewed new one.keys })) (sym (made_key key keyed.new keyed.made).1)
 
 -- ---- owners, far ends and presence
 
@@ -170,11 +180,11 @@ abbrev is_there : Option AsEntry → Bool
 is_there None = false
 is_there (Some one) = true
 
-there_still : (ia x : ℕ) (keys : List (List ℕ)) (ases : List AsEntry) → is_there (as_named (with_keys x keys ases) ia) ≡ is_there (as_named ases ia)
-there_still ia x keys [] = refl
-there_still ia x keys (one ∷ rest) = elim (cases_Bool (eqb one.ia x)) [
+there_still : (ia x : ℕ) (key : List ℕ) (ases : List AsEntry) → is_there (as_named (with_key x key ases) ia) ≡ is_there (as_named ases ia)
+there_still ia x key [] = refl
+there_still ia x key (one ∷ rest) = elim (cases_Bool (eqb one.ia x)) [
   | inl here ↦ rw here (elim (cases_Bool (eqb one.ia ia)) [ inl found ↦ rw found refl | inr other ↦ rw other refl ])
-  | inr past ↦ rw past (elim (cases_Bool (eqb one.ia ia)) [ inl found ↦ rw found refl | inr other ↦ rw other (there_still ia x keys rest) ])
+  | inr past ↦ rw past (elim (cases_Bool (eqb one.ia ia)) [ inl found ↦ rw found refl | inr other ↦ rw other (there_still ia x key rest) ])
 ]
 
 if_there : {A : Type 0} (o p : Option AsEntry) (r : Result A TopologyFault) → is_there o ≡ is_there p → if_known (ok_or o faults.UnknownAs) r ≡ if_known (ok_or p faults.UnknownAs) r
@@ -187,8 +197,8 @@ asked_keyed : {A : Type 0} (g : Link → A) (x : ℕ) (key : List ℕ) (ia i : �
 asked_keyed g x key ia i n m change =
     let keyed = is_keyed x key n m change in
     ap (λ (k : Network). joined k ia i >>= λ link. Ok (g link)) (sym keyed.is)
-    ∙ asked_at g (record n { ases = with_keys x keyed.keys n.ases }) ia i
-    ∙ if_there (as_named (with_keys x keyed.keys n.ases) ia) (as_named n.ases ia) (asked g (link_named n.links ia i)) (there_still ia x keyed.keys n.ases)
+    ∙ asked_at g (record n { ases = with_key x keyed.new n.ases }) ia i
+    ∙ if_there (as_named (with_key x keyed.new n.ases) ia) (as_named n.ases ia) (asked g (link_named n.links ia i)) (there_still ia x keyed.new n.ases)
     ∙ sym (asked_at g n ia i)
 
 -- an interface, where the AS is known
@@ -202,13 +212,13 @@ pub same_interfaces : (x : ℕ) (key : List ℕ) (n m : Network) (ia i : ℕ) �
 unfolding owner_in far_end_in
 same_interfaces x key n m ia i change =
     let keyed = is_keyed x key n m change in
-    let k : Network = record n { ases = with_keys x keyed.keys n.ases } in
+    let k : Network = record n { ases = with_key x keyed.new n.ases } in
     record {
       owner = asked_keyed (λ link. (near_end link ia i).router) x key ia i n m change;
       leads = asked_keyed (λ link. ((far_end link ia i).ia, (far_end link ia i).number)) x key ia i n m change;
       shown = ap (λ (w : Network). interface_at w ia i) (sym keyed.is)
           ∙ entry_split (known k ia) (interface_in (table_of ia n.links) i)
-          ∙ if_there (as_named k.ases ia) (as_named n.ases ia) (ok_or (interface_in (table_of ia n.links) i) faults.NoLink) (there_still ia x keyed.keys n.ases)
+          ∙ if_there (as_named k.ases ia) (as_named n.ases ia) (ok_or (interface_in (table_of ia n.links) i) faults.NoLink) (there_still ia x keyed.new n.ases)
           ∙ sym (entry_split (known n ia) (interface_in (table_of ia n.links) i));
     }
 
@@ -234,6 +244,7 @@ some_here up ia number link t entry shown = go (eqb link.a.ia ia) (eqb link.b.ia
   where
     same : interface_in t number ≡ Some entry → SomeState t number entry
     same found = (entry.up, found)
+
     go : (p q : Bool) (a b : IfEntry) → interface_in (with_first (cond p (Some a) (cond q (Some b) None)) t) number ≡ Some entry → SomeState (with_first (cond p (Some (record a { up = up })) (cond q (Some (record b { up = up })) None)) t) number entry
     go true q a b found = some_first a t t number entry up same found
     go false true a b found = some_first b t t number entry up same found

@@ -1,18 +1,19 @@
 -- What a router sees of a network is a view: no wildcard, and each interface named once, none 0.
-use Rattle.std.proofs.Common.{◌≡◌, ℕ, Bool, true, false, cond, eqb, ltb, not, List, [], ◌∷◌, Option, Some, None, Ok, Err, refl, sym, ap, ◌∙◌, arith, inl, inr, ◌⊎◌, ◌||◌, length}
+use Rattle.std.proofs.Common.{◌≡◌, ℕ, Bool, true, false, cond, eqb, ltb, not, List, [], ◌∷◌, Option, Some, None, Ok, Err, refl, sym, ap, ◌∙◌, subst, arith, inl, inr, ◌⊎◌, ◌||◌, length}
 use Rattle.std.specs.List.{list_all, list_any}
 use Rattle.std.proofs.lemmas.Bool.{cases_Bool, or_parts, or_from, and_parts, not-true, eqb-true, ltb-true, ne_eqb}
 use Rattle.scion_topology.specs.declared.entry.IfEntry.{IfEntry}
 use Rattle.scion_topology.specs.declared.fault.TopologyFault.{TopologyFault}
 use Rattle.scion_topology.specs.declared.network.AsEntry.{AsEntry}
 use Rattle.scion_topology.specs.declared.network.Link.{Link}
-use Rattle.scion_topology.specs.Building.{is_named, names_twice, view_of}
-use Rattle.scion_topology.specs.Keys.{is_key, are_keys, keys_of}
+use Rattle.scion_topology.specs.Building.{is_named, names_twice}
+use Rattle.scion_topology.specs.Keys.{AreKeys}
+use Rattle.scion_topology.specs.Rules.{IsAs}
 use Rattle.scion_topology.specs.Network.{Network, is_wildcard, as_named, has_end, interface_of, with_first, table_of}
 use Rattle.scion_topology.specs.Causes.{is_as, is_link, stands, joins_twice}
 use Rattle.scion_topology.specs.Topology.{IsNetwork, known}
 use Rattle.scion_topology.proofs.Steps.{ok_or_ok}
-use Rattle.scion_topology.proofs.Judging.{IsFree-IsNetwork, judged}
+use Rattle.scion_topology.proofs.Judging.{IsFree-IsNetwork, judged, listed_of_named}
 use Rattle.scion_topology.proofs.Places.{are_apart, is_numbered, ends_there, network_apart}
 
 -- the address of an AS that was found is no wildcard
@@ -87,28 +88,20 @@ none_twice ia (link ∷ links) apart once =
     once_more (interface_of ia link) (table_of ia links) new (none_twice ia links parts.1 second.1)
 
 -- what a view of a known AS is made of
-pub record IsSeen (n : Network) (ia : ℕ) : Type 0 where
+pub record IsSeen (n : Network) (ia : ℕ) (one : AsEntry) : Type 0 where
   pub plain : is_wildcard ia ≡ false
+  pub keys : AreKeys one.keys
   pub numbered : is_named 0 (table_of ia n.links) ≡ false
   pub once : names_twice (table_of ia n.links) ≡ false
 
-pub IsSeen-known : (n : Network) (ia : ℕ) (one : AsEntry) → IsNetwork n → known n ia ≡ Ok one → IsSeen n ia
+pub IsSeen-known : (n : Network) (ia : ℕ) (one : AsEntry) → IsNetwork n → known n ia ≡ Ok one → IsSeen n ia one
 IsSeen-known n ia one network found =
     let free = IsFree-IsNetwork n network in
     let apart = network_apart n network in
+    let named = ok_or_ok (as_named n.ases ia) _ one found in
     record {
-      plain = plain_found n.ases ia one (judged n network).ases (ok_or_ok (as_named n.ases ia) _ one found);
+      plain = plain_found n.ases ia one (judged n network).ases named;
+      keys = (let there = listed_of_named n.ases ia one named in (subst IsAs there.2 (network.ases there.0 one there.1)).keys);
       numbered = none_zero ia n.links (judged n network).links;
       once = none_twice ia n.links apart free.interfaces;
     }
-
--- a key that is accepted passes the test
-key_guard : (b : Bool) (f : TopologyFault) (keys : List (List ℕ)) → cond b (Ok keys) (Err f) ≡ Ok keys → b ≡ true
-key_guard true f keys e = refl
-key_guard false f keys e = absurd cc
-
--- parts that are right make a view
-pub view_of-parts : (ia router : ℕ) (key : List ℕ) (table : List IfEntry) → is_wildcard ia ≡ false → is_named 0 table ≡ false → names_twice table ≡ false → keys_of key ≡ Ok (key ∷ []) → view_of ia router key table ≡ Ok (record { ia = ia; router = router; keys = key ∷ []; table = table })
-unfolding view_of keys_of
-view_of-parts ia router key table plain numbered once fits =
-    rw (plain, key_guard (is_key key) _ (key ∷ []) fits, numbered, once) refl

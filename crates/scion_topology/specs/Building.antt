@@ -1,10 +1,10 @@
 -- Making a router's view of its parts, with the first refusal.
-use Rattle.std.specs.Prelude.{ℕ, ◌==◌, ◌||◌, not, Bool, false, if◌then◌else◌, List, [], ◌∷◌, Result, Ok, Err}
-use Rattle.std.specs.List.{list_any}
+use Rattle.std.specs.Prelude.{ℕ, ◌==◌, ◌||◌, not, Bool, false, if◌then◌else◌, List, [], ◌∷◌, Option, Result, Ok, Err}
+use Rattle.std.specs.List.{list_any, list_all}
 use Rattle.scion_topology.specs.declared.entry.IfEntry.{IfEntry}
 use Rattle.scion_topology.specs.declared.fault.TopologyFault.{TopologyFault}
 use Rattle.scion_topology.specs.declared.fault.TopologyFault.TheVariants as faults
-use Rattle.scion_topology.specs.Keys.{is_key}
+use Rattle.scion_topology.specs.Keys.{is_key, accepted}
 use Rattle.scion_topology.specs.Network.{is_wildcard}
 use Rattle.scion_topology.specs.View.{View}
 
@@ -12,19 +12,19 @@ use Rattle.scion_topology.specs.View.{View}
 abbrev pub is_named : ℕ → List IfEntry → Bool
 is_named number table = list_any (λ entry. entry.number == number) table
 
--- the address is a wildcard, the key has no byte or more than 64, or an interface has number 0
-abbrev pub has_bad_field : ℕ → List ℕ → List IfEntry → Bool
-has_bad_field ia key table =
-    is_wildcard ia || (not (is_key key) || is_named 0 table)
+-- a key has no byte or more than 64, the address is a wildcard, or an interface has number 0
+abbrev pub has_bad_field : ℕ → List (List ℕ) → List IfEntry → Bool
+has_bad_field ia keys table =
+    not (list_all is_key keys) || (is_wildcard ia || is_named 0 table)
 
 -- two interfaces of the table have the same number
 unfoldable pub names_twice : List IfEntry → Bool
 names_twice [] = false
 names_twice (entry ∷ rest) = is_named entry.number rest || names_twice rest
 
--- the view of these parts
-unfoldable pub view_of : ℕ → ℕ → List ℕ → List IfEntry → Result View TopologyFault
-view_of ia router key table =
-    if has_bad_field ia key table then Err faults.BadField
+-- the view of these parts: a router of an AS, its key in use and the one before, its interfaces
+unfoldable pub view_of : ℕ → ℕ → List ℕ → Option (List ℕ) → List IfEntry → Result View TopologyFault
+view_of ia router key previous table =
+    if has_bad_field ia (accepted key previous) table then Err faults.BadField
     else if names_twice table then Err faults.DuplicateIf
-    else Ok (record { ia = ia; router = router; keys = key ∷ []; table = table })
+    else Ok (record { ia = ia; router = router; keys = accepted key previous; table = table })

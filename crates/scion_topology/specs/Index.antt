@@ -10,6 +10,7 @@ use Rattle.scion_topology.specs.declared.network.Link.{Link}
 use Rattle.scion_topology.specs.declared.index.AsIndex.{AsIndex}
 use Rattle.scion_topology.specs.declared.fault.TopologyFault.{TopologyFault}
 use Rattle.scion_topology.specs.declared.fault.TopologyFault.TheVariants as faults
+use Rattle.scion_topology.specs.Keys.{renewed}
 use Rattle.scion_topology.specs.Network.{Network, has_end, interface_of, table_of}
 use Rattle.scion_topology.specs.Topology.{known}
 
@@ -79,8 +80,8 @@ set_from base place up [] = []
 set_from base place up (link ∷ links) =
     (if base == place then record link { up = up } else link) ∷ set_from (base + 1) place up links
 
--- the ASes with these keys for the one at this place
-abbrev pub keyed_at : ℕ → List (List ℕ) → List AsEntry → List AsEntry
-keyed_at place keys [] = []
-keyed_at zero keys (one ∷ rest) = record one { keys = keys } ∷ rest
-keyed_at (suc place) keys (one ∷ rest) = one ∷ keyed_at place keys rest
+-- the ASes with this key in use for the one at this place
+abbrev pub keyed_at : ℕ → List ℕ → List AsEntry → List AsEntry
+keyed_at place key [] = []
+keyed_at zero key (one ∷ rest) = record one { keys = renewed key one.keys } ∷ rest
+keyed_at (suc place) key (one ∷ rest) = one ∷ keyed_at place key rest

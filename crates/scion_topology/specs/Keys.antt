@@ -1,5 +1,5 @@
 -- The keys of an AS: those whose authenticators it accepts, the one in use first.
-use Rattle.std.specs.Prelude.{ℕ, ◌≤◌, ◌&&◌, nat_lt, nat_le, Bool, if◌then◌else◌, List, [], ◌∷◌, All, length, slice_get, Result, Ok, Err}
+use Rattle.std.specs.Prelude.{ℕ, ◌≤◌, ◌&&◌, nat_le, Bool, if◌then◌else◌, List, [], ◌∷◌, All, length, slice_get, Option, Some, None, Result, Ok, Err}
 use Rattle.std.specs.List.{list_all}
 use Rattle.std.specs.Option.{unwrap_or}
 use Rattle.scion_topology.specs.declared.fault.TopologyFault.{TopologyFault}
@@ -9,9 +9,10 @@ use Rattle.scion_topology.specs.declared.fault.TopologyFault.TheVariants as faul
 abbrev pub IsKey : List ℕ → Type 0
 IsKey key = (1 ≤ length key) × (length key ≤ 64)
 
--- what an AS accepts: at least one key, of which the first is in use
+-- what an AS accepts: the key in use, which is the first, and at most the one before it
 pub record AreKeys (keys : List (List ℕ)) : Type 0 where
   pub some : 1 ≤ length keys
+  pub few : length keys ≤ 2
   pub each : All IsKey keys
 
 -- the key in use, under which the AS makes authenticators
@@ -23,8 +24,23 @@ abbrev pub is_key : List ℕ → Bool
 is_key key = nat_le 1 (length key) && nat_le (length key) 64
 
 abbrev pub are_keys : List (List ℕ) → Bool
-are_keys keys = nat_lt 0 (length keys) && list_all is_key keys
+are_keys keys = nat_le 1 (length keys) && (nat_le (length keys) 2 && list_all is_key keys)
 
--- the keys of an AS with this one in use
-unfoldable pub keys_of : List ℕ → Result (List (List ℕ)) TopologyFault
-keys_of key = if is_key key then Ok (key ∷ []) else Err faults.BadField
+-- the key of these bytes
+unfoldable pub key_of : List ℕ → Result (List ℕ) TopologyFault
+key_of bytes = if is_key bytes then Ok bytes else Err faults.BadField
+
+-- the key in use, and the one before it where there is one
+abbrev pub accepted : List ℕ → Option (List ℕ) → List (List ℕ)
+accepted key None = key ∷ []
+accepted key (Some previous) = key ∷ previous ∷ []
+
+-- the keys of an AS with this one in use, and this one before it
+unfoldable pub keys_of : List ℕ → Option (List ℕ) → Result (List (List ℕ)) TopologyFault
+keys_of key previous =
+    if list_all is_key (accepted key previous) then Ok (accepted key previous) else Err faults.BadField
+
+-- the keys after another one was taken into use: the one that was in use is the one before
+abbrev pub renewed : List ℕ → List (List ℕ) → List (List ℕ)
+renewed key [] = key ∷ []
+renewed key (current ∷ older) = key ∷ current ∷ []

@@ -9,3 +9,4 @@ pub mod Reading
 pub mod Topology
 pub mod Ends
 pub mod Index
+pub mod ViewKeys

@@ -14,7 +14,7 @@ use Rattle.scion_topology.specs.declared.network.End.{End}
 use Rattle.scion_topology.specs.declared.network.Link.{Link}
 use Rattle.scion_topology.specs.declared.network.LinkClass.{LinkClass}
 use Rattle.scion_topology.specs.declared.network.LinkClass.TheVariants.{Core, Child}
-use Rattle.scion_topology.specs.Keys.{keys_of}
+use Rattle.scion_topology.specs.Keys.{key_of}
 use Rattle.scion_topology.specs.Network.{is_wildcard}
 
 -- what is not there, and what another reader refuses, is a bad field
@@ -57,22 +57,22 @@ address_in name d = do
   if is_wildcard ia then Err faults.BadField else Ok ia
 
 -- a key: 2 to 128 hexadecimal digits, an even number of them
-unfoldable pub keys_at : List ℕ → Data → Result (List (List ℕ)) TopologyFault
-keys_at name d = do
+unfoldable pub key_at : List ℕ → Data → Result (List ℕ) TopologyFault
+key_at name d = do
   text ← text_at name d
   if nat_le 2 (length text) && nat_le (length text) 128
-      then or_bad (decode_of text) >>= keys_of
+      then or_bad (decode_of text) >>= key_of
       else Err faults.BadField
 
--- an AS
+-- an AS, with one key
 unfoldable pub as_at : Data → Result AsEntry TopologyFault
 as_at d = do
   ia ← address_in (codes "ia") d
   core ← truth_at (codes "core") d
   exp_time ← whole_at 0 255 (codes "exp") d
-  keys ← keys_at (codes "key") d
+  key ← key_at (codes "key") d
   routers ← whole_at 1 64 (codes "routers") d
-  Ok (record { ia = ia; core = core; exp_time = exp_time; keys = keys; routers = routers })
+  Ok (record { ia = ia; core = core; exp_time = exp_time; keys = key ∷ []; routers = routers })
 
 -- what a link joins
 unfoldable pub class_at : List ℕ → Data → Result LinkClass TopologyFault

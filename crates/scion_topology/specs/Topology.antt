@@ -13,7 +13,7 @@ use Rattle.scion_topology.specs.declared.network.AsInfo.{AsInfo}
 use Rattle.scion_topology.specs.declared.network.End.{End}
 use Rattle.scion_topology.specs.declared.network.Link.{Link}
 use Rattle.scion_topology.specs.View.{View}
-use Rattle.scion_topology.specs.Keys.{keys_of}
+use Rattle.scion_topology.specs.Keys.{key_of, renewed}
 use Rattle.scion_topology.specs.Network.{Network, as_named, is_end, has_end, link_named, table_of, interface_in}
 use Rattle.scion_topology.specs.Causes.{cause_of}
 pub use Rattle.scion_topology.specs.Rules.{IsNetwork}
@@ -100,11 +100,12 @@ with_up up ia number (link ∷ links) =
     if has_end link ia number then record link { up = up } ∷ links
     else link ∷ with_up up ia number links
 
--- the ASes with these keys for the one of this address
-abbrev pub with_keys : ℕ → List (List ℕ) → List AsEntry → List AsEntry
-with_keys ia keys [] = []
-with_keys ia keys (one ∷ rest) =
-    if one.ia == ia then record one { keys = keys } ∷ rest else one ∷ with_keys ia keys rest
+-- the ASes with this key in use for the one of this address
+abbrev pub with_key : ℕ → List ℕ → List AsEntry → List AsEntry
+with_key ia key [] = []
+with_key ia key (one ∷ rest) =
+    if one.ia == ia then record one { keys = renewed key one.keys } ∷ rest
+    else one ∷ with_key ia key rest
 
 -- the network with that link up, or down
 unfoldable pub set_up : Bool → ℕ → ℕ → Network → Result Network TopologyFault
@@ -112,12 +113,12 @@ set_up up ia number n = do
   link ← joined n ia number
   Ok (record n { links = with_up up ia number n.links })
 
--- the network with another key for an AS
+-- the network with another key in use for an AS
 unfoldable pub rotated : ℕ → List ℕ → Network → Result Network TopologyFault
 rotated ia key n = do
   one ← known n ia
-  keys ← keys_of key
-  Ok (record n { ases = with_keys ia keys n.ases })
+  new ← key_of key
+  Ok (record n { ases = with_key ia new n.ases })
 
 -- a change that was done left what it says, and one that was refused left all as it was
 abbrev pub Becomes : Result Network TopologyFault → Network → Network → Result (Unit {0}) TopologyFault → Type 0

@@ -7,7 +7,7 @@ ghost use Rattle.scion_topology.specs.Index.{seen, marked_where, marked_table, s
 use crate::entry::IfEntry;
 use crate::fault::TopologyFault;
 use crate::index::AsIndex;
-use crate::keys::Keys;
+use crate::keys::Key;
 use crate::network::{AsEntry, Link};
 use crate::topology::Topology;
 use isd_as::{IfId, IsdAs};
@@ -30,15 +30,16 @@ impl Topology {
         self.set_link(ia, number, true)
     }
 
-    /// Gives an AS another key: [`TopologyFault::UnknownAs`], then [`TopologyFault::BadField`] where
-    /// the key has no byte or more than 64.
+    /// Takes another key of an AS into use; the one that was in use is the one before, and the older
+    /// one is gone. [`TopologyFault::UnknownAs`], then [`TopologyFault::BadField`] where the key has
+    /// no byte or more than 64.
     pub fn rotate_key(&mut self, ia: IsdAs, key: &[u8]) -> Result<(), TopologyFault>
         ensures { Becomes (rotated ia key.now self.old) self.old self.new result }
     {
         let (_, index) = self.indexed(ia)?;
         let place = index.position;
-        let keys = Keys::new(key)?;
-        put_keys(&mut self.ases, place, keys);
+        let key = Key::new(key)?;
+        put_key(&mut self.ases, place, key);
         Ok(())
     }
 
@@ -56,12 +57,12 @@ impl Topology {
     }
 }
 
-/// Gives the AS at a place other keys.
-fn put_keys(ases: &mut Vec<AsEntry>, place: usize, keys: Keys)
+/// Takes another key of the AS at a place into use.
+fn put_key(ases: &mut Vec<AsEntry>, place: usize, key: Key)
     requires { place < vec_len ases.old }
-    ensures { ases.new.items ≡ keyed_at place keys ases.old.items }
+    ensures { ases.new.items ≡ keyed_at place key ases.old.items }
 {
-    ases[place].keys = keys;
+    ases[place].keys.renew(key);
 }
 
 /// Sets the link at a place up or down.

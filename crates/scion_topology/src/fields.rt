@@ -2,13 +2,13 @@ ghost use Rattle.std.specs.Prelude.{◌≡◌, ℕ, ◌≤◌, ◌^◌, ◌<◌,
 ghost use Rattle.std.specs.Str.{bytes_eq};
 ghost use Rattle.refusal.specs.Refusal.{Gives};
 ghost use Rattle.serde_json.specs.View.{view, items_view};
-ghost use Rattle.scion_topology.specs.Keys.{are_keys};
+ghost use Rattle.scion_topology.specs.Keys.{is_key};
 ghost use Rattle.scion_topology.specs.Network.{is_wildcard};
 ghost use Rattle.scion_topology.specs.Causes.{is_as, is_link};
-ghost use Rattle.scion_topology.specs.Reading.{member_at, text_at, truth_at, whole_at, address_in, keys_at, as_at, class_at, end_at, link_at, list_at};
+ghost use Rattle.scion_topology.specs.Reading.{member_at, text_at, truth_at, whole_at, address_in, key_at, as_at, class_at, end_at, link_at, list_at};
 
 use crate::fault::TopologyFault;
-use crate::keys::{Keys, MAX_KEY_LEN};
+use crate::keys::{Key, Keys, MAX_KEY_LEN};
 use crate::network::{AsEntry, End, Link, LinkClass};
 use isd_as::{IfId, IsdAs};
 use serde_json::Value;
@@ -80,10 +80,10 @@ fn address(value: &Value, name: &str) -> Result<IsdAs, TopologyFault>
 }
 
 /// A member that is a key in hexadecimal.
-#[tactic(auto, unfolding(crate::specs::Reading::keys_at))]
-fn keys(value: &Value, name: &str) -> Result<Keys, TopologyFault>
-    ensures value { result ≡ keys_at name.now (view value.now) }
-    ensures fits { IfOk result (λ keys. are_keys keys ≡ true) }
+#[tactic(auto, unfolding(crate::specs::Reading::key_at))]
+fn key(value: &Value, name: &str) -> Result<Key, TopologyFault>
+    ensures value { result ≡ key_at name.now (view value.now) }
+    ensures fits { IfOk result (λ key. is_key key ≡ true) }
 {
     let text = text(value, name)?;
     if text.len() < 2 || text.len() > 2 * MAX_KEY_LEN {
@@ -92,7 +92,7 @@ fn keys(value: &Value, name: &str) -> Result<Keys, TopologyFault>
     let mut room = [0; MAX_KEY_LEN];
     let key = &mut room[..text.len() / 2];
     match hex::decode_to_slice(text.as_bytes(), key) {
-        Ok(()) => Keys::new(key),
+        Ok(()) => Key::new(key),
         Err(_) => Err(TopologyFault::BadField),
     }
 }
@@ -106,13 +106,13 @@ pub(crate) fn as_of(value: &Value) -> Result<AsEntry, TopologyFault>
     let ia = address(value, "ia")?;
     let core = truth(value, "core")?;
     let exp_time = whole(value, "exp", 0, 255)?;
-    let keys = keys(value, "key")?;
+    let key = key(value, "key")?;
     let routers = whole(value, "routers", 1, 64)?;
     Ok(AsEntry {
         ia,
         core,
         exp_time: exp_time as u8,
-        keys,
+        keys: Keys::first(key),
         routers: routers as u8,
     })
 }

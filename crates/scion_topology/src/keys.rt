@@ -1,81 +1,173 @@
-ghost use Rattle.std.specs.Prelude.{◌≤◌, true, IfOk, length, ◌≡◌, ℕ, List, [], ◌∷◌, Some, Ok, slice_get};
-ghost use Rattle.hop_mac.specs.Hmac.{padded};
-ghost use Rattle.scion_topology.specs.Keys.{are_keys, keys_of};
+ghost use Rattle.std.specs.Prelude.{◌≡◌, true, IfOk, Some, None, slice_get};
+ghost use Rattle.std.specs.List.{list_any};
+ghost use Rattle.std.specs.Option.{option_copied};
+ghost use Rattle.std.specs.Str.{bytes_eq};
+ghost use Rattle.hop_mac.specs.Hop.{authenticator};
+ghost use Rattle.scion_topology.specs.Keys.{accepted, is_key, key_of, key_in_use, keys_of, renewed};
 
 use crate::fault::TopologyFault;
 use arrayvec::ArrayVec;
 use hop_mac::MacKey;
+use isd_as::IfId;
 use std::marker::Model;
+use std::mem;
 
 /// The most bytes that a key has.
 pub const MAX_KEY_LEN: usize = 64;
 
-/// The keys whose authenticators an AS accepts, today one: its key in use.
+/// A key of an AS, of 1 to 64 bytes. Clauses see its bytes.
 ///
-/// Clauses see the list of them, each of 1 to 64 bytes. The key's hash states stand beside its
-/// bytes, so that making a view of a router hashes nothing.
+/// Its hash states stand beside them, so that each authenticator costs two compressions.
 #[derive(Drop)]
-pub struct Keys {
-    current: ArrayVec<u8, MAX_KEY_LEN>,
+pub struct Key {
+    bytes: ArrayVec<u8, MAX_KEY_LEN>,
     ready: MacKey,
 }
 
-impl Model for Keys {
-    ghost use Rattle.std.specs.Prelude.{◌≡◌, ℕ, ◌∷◌, [], Ok, List};
+impl Model for Key {
+    ghost use Rattle.std.specs.Prelude.{◌≡◌, ℕ, List, true};
     ghost use Rattle.hop_mac.specs.Hmac.{padded};
-    ghost use Rattle.scion_topology.specs.Keys.{keys_of};
+    ghost use Rattle.scion_topology.specs.Keys.{is_key};
 
-    ghost Value = { List (List ℕ) };
+    ghost Value = { List ℕ };
 
-    ghost view = { λ k. k.current.items ∷ [] };
+    ghost view = { λ k. k.bytes.items };
 
-    ghost invariant = { λ k. (k.ready ≡ padded k.current.items) × (keys_of k.current.items ≡ Ok (k.current.items ∷ [])) };
+    ghost invariant = { λ k. (k.ready ≡ padded k.bytes.items) × (is_key k.bytes.items ≡ true) };
 }
 
-impl Keys {
-    /// An AS's keys with this one in use: [`TopologyFault::BadField`] where it has no byte or more
-    /// than 64.
-    #[tactic(auto, unfolding(crate::specs::Keys::keys_of))]
-    pub fn new(key: &[u8]) -> Result<Keys, TopologyFault>
-        ensures value { result ≡ keys_of key.now }
-        ensures fits { IfOk result (λ keys. are_keys keys ≡ true) }
+impl Key {
+    /// The key of these bytes: [`TopologyFault::BadField`] where there is none or more than 64.
+    #[tactic(auto, unfolding(crate::specs::Keys::key_of))]
+    pub fn new(bytes: &[u8]) -> Result<Key, TopologyFault>
+        ensures value { result ≡ key_of bytes.now }
+        ensures fits { IfOk result (λ key. is_key key ≡ true) }
     {
-        if key.is_empty() {
+        if bytes.is_empty() {
             return Err(TopologyFault::BadField);
         }
-        let Ok(current) = ArrayVec::try_from(key) else {
+        let Ok(kept) = ArrayVec::try_from(bytes) else {
             return Err(TopologyFault::BadField);
         };
-        Ok(Keys {
-            current,
-            ready: MacKey::new(key),
+        Ok(Key {
+            bytes: kept,
+            ready: MacKey::new(bytes),
         })
     }
 
+    /// Its bytes.
+    pub fn bytes(&self) -> &[u8]
+        ensures { result.now ≡ self.now }
+    {
+        &self.bytes
+    }
+
+    /// The authenticator of a hop of these values under this key.
+    pub fn hop_mac(
+        &self,
+        beta: u16,
+        timestamp: u32,
+        exp_time: u8,
+        cons_ingress: IfId,
+        cons_egress: IfId,
+    ) -> [u8; 6]
+        ensures { result ≡ authenticator self.now beta timestamp exp_time cons_ingress cons_egress }
+    {
+        let ingress = cons_ingress.number();
+        let egress = cons_egress.number();
+        self.ready
+            .hop_mac(beta, timestamp, exp_time, ingress, egress)
+    }
+}
+
+/// The keys whose authenticators an AS accepts: the one in use, and the one before it, where it has
+/// had one. Clauses see the list of them, the key in use first.
+#[derive(Drop)]
+pub struct Keys {
+    current: Key,
+    previous: Option<Key>,
+}
+
+impl Model for Keys {
+    ghost use Rattle.std.specs.Prelude.{ℕ, List};
+    ghost use Rattle.scion_topology.specs.Keys.{accepted};
+
+    ghost Value = { List (List ℕ) };
+
+    ghost view = { λ k. accepted k.current k.previous };
+}
+
+impl Keys {
+    /// The keys of an AS with this one in use, and this one before it:
+    /// [`TopologyFault::BadField`] where either has no byte or more than 64.
+    #[tactic(auto, unfolding(crate::specs::Keys::keys_of, crate::specs::Keys::key_of))]
+    pub fn new(key: &[u8], previous: Option<&[u8]>) -> Result<Keys, TopologyFault>
+        ensures { result ≡ keys_of key.now (option_copied previous.entry) }
+    {
+        let current = Key::new(key)?;
+        let previous = match previous {
+            Some(bytes) => Some(Key::new(bytes)?),
+            None => None,
+        };
+        Ok(Keys { current, previous })
+    }
+
+    /// An AS's first key.
+    pub(crate) fn first(key: Key) -> Keys
+        ensures { result ≡ accepted key None }
+    {
+        Keys {
+            current: key,
+            previous: None,
+        }
+    }
+
     /// The key in use, under which the AS makes authenticators.
-    #[tactic(auto, unfolding(crate::specs::Keys::keys_of))]
-    pub fn current(&self) -> &[u8]
-        ensures value { slice_get self.now 0 ≡ Some result.now }
-        ensures len { length result.now ≤ 64 }
+    pub fn in_use(&self) -> &Key
+        ensures value { result.now ≡ key_in_use self.now }
+        ensures first { slice_get self.now 0 ≡ Some result.now }
     {
         &self.current
     }
 
-    /// The key in use, which is the only one that is accepted today.
-    pub(crate) fn only(&self) -> &[u8]
-        ensures alone { self.now ≡ result.now ∷ [] }
-        ensures fits { keys_of result.now ≡ Ok (result.now ∷ []) }
+    /// The key that was in use before it, where there was one.
+    pub fn before(&self) -> Option<&Key>
+        ensures { option_copied result ≡ slice_get self.now 1 }
     {
-        &self.current
+        self.previous.as_ref()
     }
 
-    /// The key in use, made ready, once more: its hash states are copied and not computed anew.
-    pub(crate) fn ready_again(&self) -> MacKey
-        ensures { (key : List ℕ) → slice_get self.now 0 ≡ Some key → result ≡ padded key }
+    /// Takes another key into use. The one that was in use is the one before; the older one is gone.
+    pub(crate) fn renew(&mut self, key: Key)
+        ensures { self.new ≡ renewed key self.old }
     {
-        match self.ready.clone() {
-            Ok(ready) => ready,
-            Err(_) => unreachable!(),
+        self.previous = Some(mem::replace(&mut self.current, key));
+    }
+
+    /// Whether `mac` is the authenticator of a hop of these values under one of the keys. The key
+    /// before is looked at only where it isn't under the one in use.
+    pub fn authenticate(
+        &self,
+        mac: &[u8; 6],
+        beta: u16,
+        timestamp: u32,
+        exp_time: u8,
+        cons_ingress: IfId,
+        cons_egress: IfId,
+    ) -> bool
+        ensures { result ≡ list_any (λ key. bytes_eq mac.now
+            (authenticator key beta timestamp exp_time cons_ingress cons_egress)) self.now }
+    {
+        if *mac
+            == self
+                .current
+                .hop_mac(beta, timestamp, exp_time, cons_ingress, cons_egress)
+        {
+            return true;
+        }
+        match &self.previous {
+            Some(key) => *mac == key.hop_mac(beta, timestamp, exp_time, cons_ingress, cons_egress),
+            None => false,
         }
     }
 }

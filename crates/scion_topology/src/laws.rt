@@ -1,11 +1,12 @@
 //! Laws of views and of topologies: each is the contract of a function that does nothing. What a
 //! law says may be cited by the lemma of `proofs/` that its answer names.
 
-ghost use Rattle.std.specs.Prelude.{◌≡◌, ◌≢◌, ℕ, ◌<◌, ◌↔◌, All, Bool, true, IfSome, IsSome, List, ◌∷◌, [], Contains, None, Ok, Some, IfOk, IsTrue};
+ghost use Rattle.std.specs.Prelude.{◌≡◌, ◌≢◌, ℕ, ◌<◌, ◌↔◌, All, Bool, true, IfSome, IsSome, List, Contains, None, Ok, Option, Some, IfOk, IsTrue};
 ghost use Rattle.scion_topology.specs.declared.entry.IfEntry.{IfEntry};
 ghost use Rattle.scion_topology.specs.declared.network.AsEntry.{AsEntry};
 ghost use Rattle.scion_topology.specs.declared.network.Link.{Link};
 ghost use Rattle.scion_topology.specs.View.{View, IsRight, IsAuthentic, entry_of, is_authentic};
+ghost use Rattle.scion_topology.specs.Keys.{accepted, renewed};
 ghost use Rattle.scion_topology.specs.Building.{view_of};
 ghost use Rattle.scion_topology.specs.Causes.{cause_of};
 ghost use Rattle.scion_topology.specs.Network.{Network, as_named, table_of, mirrored, interface_in};
@@ -23,16 +24,17 @@ pub fn rules_without_cause()
 
 /// A view that is made shows exactly the parts that it was made of, and they are right.
 pub fn view_shows_its_parts()
-    ensures { (ia router : ℕ) (key : List ℕ) (table : List IfEntry)
-        → IfOk (view_of ia router key table) (λ view.
-        (view ≡ record { ia = ia; router = router; keys = key ∷ []; table = table })
+    ensures { (ia router : ℕ) (key : List ℕ) (previous : Option (List ℕ)) (table : List IfEntry)
+        → IfOk (view_of ia router key previous table) (λ view.
+        (view ≡ record { ia = ia; router = router; keys = accepted key previous; table = table })
         × IsRight view) }
 {}
 
 /// A view is made of all parts that are right.
 pub fn right_parts_are_accepted()
-    ensures { (view : View) (key : List ℕ) → IsRight view → view.keys ≡ key ∷ []
-        → view_of view.ia view.router key view.table ≡ Ok view }
+    ensures { (view : View) (key : List ℕ) (previous : Option (List ℕ)) → IsRight view
+        → view.keys ≡ accepted key previous
+        → view_of view.ia view.router key previous view.table ≡ Ok view }
 {}
 
 /// Each interface of a view is the one that its number finds.
@@ -112,9 +114,12 @@ pub fn networks_outlast_changes()
         → rotated x key n ≡ Ok m → IsNetwork m }
 {}
 
-/// A new key is that of one AS: the others and all links stay as they were, and each interface with
-/// its owner and its far end.
+/// A new key is that of one AS, where the key that was in use is still accepted: the other ASes and
+/// all links stay as they were, and each interface with its owner and its far end.
 pub fn keys_change_alone()
+    ensures own { (n m : Network) (x : ℕ) (key : List ℕ) (one : AsEntry) → rotated x key n ≡ Ok m
+        → as_named n.ases x ≡ Some one
+        → as_named m.ases x ≡ Some (record one { keys = renewed key one.keys }) }
     ensures others { (n m : Network) (x ia : ℕ) (key : List ℕ) → rotated x key n ≡ Ok m → x ≢ ia
         → as_named m.ases ia ≡ as_named n.ases ia }
     ensures links { (n m : Network) (x : ℕ) (key : List ℕ) → rotated x key n ≡ Ok m

@@ -44,7 +44,7 @@ pub struct AsEntry {
     pub core: bool,
     /// The expiry that it gives its hops, in units of 337.5 seconds, less one.
     pub exp_time: u8,
-    /// The keys whose authenticators it accepts.
+    /// The keys whose authenticators it accepts, the one in use first.
     pub keys: Keys,
     /// How many routers it has, which are numbered from 0.
     pub routers: u8,

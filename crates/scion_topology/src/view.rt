@@ -1,63 +1,69 @@
-ghost use Rattle.std.specs.Prelude.{◌≡◌, false, ℕ, ◌≤◌, ◌<◌, ◌↔◌, ◌==◌, ◌||◌, IsTrue, Some, length, slice_get, nat_lt};
-ghost use Rattle.std.specs.List.{list_any};
+ghost use Rattle.std.specs.Prelude.{◌≡◌, ◌↔◌, IsTrue, Some, slice_get};
 ghost use Rattle.std.specs.Option.{option_copied};
-ghost use Rattle.std.specs.Str.{bytes_eq};
-ghost use Rattle.hop_mac.specs.Hop.{authenticator_under};
 ghost use Rattle.scion_topology.specs.View.{IsAuthentic, IsRight, entry_of, is_authentic};
-ghost use Rattle.scion_topology.specs.Keys.{is_key};
 ghost use Rattle.scion_topology.specs.Network.{is_wildcard};
-ghost use Rattle.scion_topology.specs.Building.{has_bad_field, is_named, names_twice, view_of};
+ghost use Rattle.scion_topology.specs.Building.{is_named, names_twice, view_of};
 
 use crate::entry::IfEntry;
 use crate::fault::TopologyFault;
-use crate::keys::{Keys, MAX_KEY_LEN};
-use hop_mac::MacKey;
+use crate::keys::Keys;
 use isd_as::{IfId, IsdAs};
 use std::marker::Model;
 
-/// What a router knows of its AS: its address, its own number, the AS's key and its interfaces.
+/// What a router knows of its AS: its address, its own number, the AS's keys and its interfaces.
 ///
-/// Its type keeps that the address is no wildcard, that the key has 1 to 64 bytes, and that each
-/// interface is named once, none of them by 0. It borrows the key and the table, and keeps the
-/// key's hash states, so that an authenticator under a standing view costs two compressions.
+/// Its type keeps that the address is no wildcard, that each key has 1 to 64 bytes, and that each
+/// interface is named once, none of them by 0. It borrows the table; the hash states of its keys are
+/// lent by a topology, or made once.
 #[derive(Drop)]
 pub struct RouterView<'a> {
     ia: IsdAs,
     router: u8,
-    key: &'a [u8],
+    keys: ViewKeys<'a>,
     table: &'a [IfEntry],
-    ready: MacKey,
+}
+
+/// The keys of a view.
+#[derive(Drop)]
+enum ViewKeys<'a> {
+    /// Those of an AS of a topology.
+    Lent(&'a Keys),
+    /// Those that were given by their bytes.
+    Made(Keys),
 }
 
 impl<'a> Model for RouterView<'a> {
-    ghost use Rattle.std.specs.Prelude.{◌≡◌, ◌∷◌, [], Ok};
-    ghost use Rattle.hop_mac.specs.Hmac.{padded};
-    ghost use Rattle.scion_topology.specs.View.{View};
-    ghost use Rattle.scion_topology.specs.Building.{view_of};
+    ghost use Rattle.std.specs.Prelude.{◌≡◌, All};
+    ghost use Rattle.scion_topology.specs.View.{View, IsRight};
+    ghost use Rattle.scion_topology.specs.ViewKeys.{keys_in};
 
     ghost Value = { View };
 
-    ghost view = { λ a. record { ia = a.ia; router = a.router; keys = a.key.now ∷ []; table = a.table.now } };
+    ghost view = { λ a. record { ia = a.ia; router = a.router; keys = keys_in a.keys; table = a.table.now } };
 
-    ghost invariant = { λ a. (a.ready ≡ padded a.key.now) × (view_of a.ia a.router a.key.now a.table.now ≡ Ok (record { ia = a.ia; router = a.router; keys = a.key.now ∷ []; table = a.table.now })) };
+    ghost invariant = { λ a. IsRight
+        (record { ia = a.ia; router = a.router; keys = keys_in a.keys; table = a.table.now }) };
 }
 
 impl<'a> RouterView<'a> {
-    /// The view of router `router` of the AS `ia`, with this key and these interfaces, in any order.
+    /// The view of router `router` of the AS `ia`, with this key in use, this key before it, and
+    /// these interfaces, in any order. It takes no memory.
     ///
     /// The first of these that holds is the refusal: [`TopologyFault::BadField`] where the ISD or
-    /// the AS number is the wildcard, the key has no byte or more than 64, or an interface has
+    /// the AS number is the wildcard, a key has no byte or more than 64, or an interface has
     /// number 0; [`TopologyFault::DuplicateIf`] where two interfaces have the same number.
-    #[tactic(auto, unfolding(crate::specs::Building::view_of))]
+    #[tactic(auto, unfolding(crate::specs::Building::view_of, crate::specs::Keys::keys_of))]
     pub fn new(
         ia: IsdAs,
         router: u8,
-        key: &'a [u8],
+        key: &[u8],
+        previous: Option<&[u8]>,
         table: &'a [IfEntry],
     ) -> Result<RouterView<'a>, TopologyFault>
-        ensures { result ≡ view_of ia router key.now table.now }
+        ensures { result ≡ view_of ia router key.now (option_copied previous.entry) table.now }
     {
-        if has_bad_field(ia, key, table) {
+        let keys = Keys::new(key, previous)?;
+        if is_wildcard(ia) || is_named(IfId::NONE, table) {
             return Err(TopologyFault::BadField);
         }
         if names_twice(table) {
@@ -66,31 +72,26 @@ impl<'a> RouterView<'a> {
         Ok(RouterView {
             ia,
             router,
-            key,
+            keys: ViewKeys::Made(keys),
             table,
-            ready: MacKey::new(key),
         })
     }
 
     /// The view of these parts, which are known to be right: no test is run and nothing is hashed.
-    #[tactic(auto, unfolding(crate::specs::Building::view_of))]
     pub(crate) fn of_parts(
         ia: IsdAs,
         router: u8,
         keys: &'a Keys,
         table: &'a [IfEntry],
     ) -> RouterView<'a>
-        requires plain { is_wildcard ia ≡ false }
-        requires numbered { is_named 0 table.now ≡ false }
-        requires once { names_twice table.now ≡ false }
+        requires { IsRight (record { ia = ia; router = router; keys = keys.now; table = table.now }) }
         ensures { result ≡ record { ia = ia; router = router; keys = keys.now; table = table.now } }
     {
         RouterView {
             ia,
             router,
-            key: keys.only(),
+            keys: ViewKeys::Lent(keys),
             table,
-            ready: keys.ready_again(),
         }
     }
 
@@ -108,11 +109,22 @@ impl<'a> RouterView<'a> {
         self.router
     }
 
-    /// The key under which the AS makes the authenticators of its hops, the first that it accepts.
-    pub fn key(&self) -> &'a [u8]
+    /// The key in use, under which the AS makes the authenticators of its hops.
+    pub fn key(&self) -> &[u8]
         ensures { slice_get self.now.keys 0 ≡ Some result.now }
     {
-        self.key
+        self.keys().in_use().bytes()
+    }
+
+    /// The key that was in use before it, whose authenticators the AS accepts too, where there was
+    /// one.
+    pub fn previous(&self) -> Option<&[u8]>
+        ensures { option_copied result ≡ slice_get self.now.keys 1 }
+    {
+        match self.keys().before() {
+            Some(key) => Some(key.bytes()),
+            None => None,
+        }
     }
 
     /// The interface of this number, where the AS has one.
@@ -122,8 +134,9 @@ impl<'a> RouterView<'a> {
         self.table.iter().find(|entry| entry.number == number)
     }
 
-    /// Whether `mac` is the authenticator of a hop of these values under an accepted key.
-    #[tactic(auto, using(crate::proofs::AuthenticHops::test_under_one))]
+    /// Whether `mac` is the authenticator of a hop of these values under the key in use or the one
+    /// before it: two compressions where it is right under the key in use or there is no other, and
+    /// four where it isn't.
     pub fn authenticates(
         &self,
         mac: &[u8; 6],
@@ -133,18 +146,23 @@ impl<'a> RouterView<'a> {
         cons_ingress: IfId,
         cons_egress: IfId,
     ) -> bool
-        ensures meaning { IsTrue result ↔ IsAuthentic self.now mac.now beta timestamp exp_time cons_ingress cons_egress }
-        ensures test { result ≡ is_authentic self.now mac.now beta timestamp exp_time cons_ingress cons_egress }
+        ensures meaning { IsTrue result
+            ↔ IsAuthentic self.now mac.now beta timestamp exp_time cons_ingress cons_egress }
+        ensures test { result
+            ≡ is_authentic self.now mac.now beta timestamp exp_time cons_ingress cons_egress }
     {
-        is_made(
-            &self.ready,
-            mac,
-            beta,
-            timestamp,
-            exp_time,
-            cons_ingress,
-            cons_egress,
-        )
+        self.keys()
+            .authenticate(mac, beta, timestamp, exp_time, cons_ingress, cons_egress)
+    }
+
+    /// Its keys.
+    fn keys(&self) -> &Keys
+        ensures { result.now ≡ self.now.keys }
+    {
+        match &self.keys {
+            ViewKeys::Lent(keys) => keys,
+            ViewKeys::Made(keys) => keys,
+        }
     }
 
     /// Does nothing, and tells its caller that this is a view of right parts.
@@ -153,34 +171,6 @@ impl<'a> RouterView<'a> {
     {
         let _ = &self.table;
     }
-}
-
-/// Whether `mac` is the authenticator of a hop of these values under the key that was made ready.
-fn is_made(
-    ready: &MacKey,
-    mac: &[u8; 6],
-    beta: u16,
-    timestamp: u32,
-    exp_time: u8,
-    cons_ingress: IfId,
-    cons_egress: IfId,
-) -> bool
-    ensures { result ≡ bytes_eq mac.now (authenticator_under ready.now beta timestamp exp_time cons_ingress cons_egress) }
-{
-    *mac == ready.hop_mac(
-        beta,
-        timestamp,
-        exp_time,
-        cons_ingress.number(),
-        cons_egress.number(),
-    )
-}
-
-/// Whether the address, the key or an interface is not one that a view may have.
-fn has_bad_field(ia: IsdAs, key: &[u8], table: &[IfEntry]) -> bool
-    ensures { result ≡ has_bad_field ia key.now table.now }
-{
-    is_wildcard(ia) || key.is_empty() || key.len() > MAX_KEY_LEN || is_named(IfId::NONE, table)
 }
 
 /// Whether the ISD or the AS number is the wildcard.

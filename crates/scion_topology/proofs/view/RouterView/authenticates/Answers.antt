@@ -1,11 +1,11 @@
 -- What the test says is what is meant.
-use Rattle.std.proofs.Common.{◌≡◌, rules}
+use Rattle.std.proofs.Common.{◌≡◌}
 use Rattle.scion_topology.specs.View.{is_authentic}
-use Rattle.scion_topology.proofs.AuthenticHops.{meant_by_test, test_under_one}
+use Rattle.scion_topology.proofs.AuthenticHops.{meant_by_test}
 use Rattle.scion_topology.proofs.view.RouterView.authenticates.Goals as goal
 
 pub returns-clause-meaning : goal.returns-clause-meaning
 returns-clause-meaning c =
-    let passed : c.is_made.result ≡ is_authentic c.args.self.now c.args.mac.now c.args.beta c.args.timestamp c.args.exp_time c.args.cons_ingress c.args.cons_egress =
-    search (test_under_one, rules) in
-    meant_by_test c.args.self.now c.args.mac.now c.args.beta c.args.timestamp c.args.exp_time c.args.cons_ingress c.args.cons_egress c.is_made.result passed
+    let passed : c.authenticate.result ≡ is_authentic c.args.self.now c.args.mac.now c.args.beta c.args.timestamp c.args.exp_time c.args.cons_ingress c.args.cons_egress =
+    rw (← c.keys.ensures) c.authenticate.ensures in
+    meant_by_test c.args.self.now c.args.mac.now c.args.beta c.args.timestamp c.args.exp_time c.args.cons_ingress c.args.cons_egress c.authenticate.result passed
