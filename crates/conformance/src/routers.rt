@@ -2,7 +2,7 @@ use router_step::{Arrival, Outcome, Refusal, step};
 use hop_mac::{hop_mac, next_beta};
 use isd_as::{IfId, IsdAs};
 use path_header::{Header, HeaderFault, HopField, InfoField, encode};
-use scion_topology::{IfEntry, LinkKind, RouterView};
+use scion_topology::{IfEntry, LinkKind, RouterView, Topology};
 use std::test::Fail;
 
 /// The key of every AS of these tests.
@@ -37,7 +37,7 @@ fn address(isd: u64, last: u64) -> IsdAs {
 #[test]
 fn two_hops(rt: HostRuntime) -> Result<(), Fail> {
     let table = [entry(2, LinkKind::Parent, 0)];
-    let view = RouterView::new(address(1, 0x111), 0, KEY, &table)?;
+    let view = RouterView::new(address(1, 0x111), 0, KEY, None, &table)?;
 
     let mut packet = UP;
     let expired = step(&view, 21_701, Arrival::FromHost, &mut packet);
@@ -194,7 +194,7 @@ fn three_segments(rt: HostRuntime) -> Result<(), Fail> {
         (2, 0x212, 0, &leaf, Arrival::Link(IfId(1)), Outcome::Deliver),
     ];
     for (isd, last, router, table, arrival, outcome) in turns.iter() {
-        let view = RouterView::new(address(*isd, *last), *router, KEY, table)?;
+        let view = RouterView::new(address(*isd, *last), *router, KEY, None, table)?;
         assert_eq!(rt; step(&view, NOW, *arrival, &mut packet), Ok(*outcome));
     }
     assert_eq!(rt; packet[140], 0x77);
@@ -224,20 +224,52 @@ fn shortcut(rt: HostRuntime) -> Result<(), Fail> {
         packet[8..16].copy_from_slice(&address(1, 0x112).to_bytes());
         let _ = encode(&header, &mut packet[16..])?;
 
-        let first = RouterView::new(address(1, 0x112), 0, KEY, &leaf)?;
+        let first = RouterView::new(address(1, 0x112), 0, KEY, None, &leaf)?;
         let sent = step(&first, NOW, Arrival::FromHost, &mut packet);
         assert_eq!(rt; sent, Ok(Outcome::ToLink(IfId(1))));
-        let second = RouterView::new(address(1, 0x111), 0, KEY, &middle)?;
+        let second = RouterView::new(address(1, 0x111), 0, KEY, None, &middle)?;
         let mut met = step(&second, NOW, Arrival::Link(IfId(2)), &mut packet);
         if routers == 2 {
             assert_eq!(rt; met, Ok(Outcome::ToRouter(1)));
-            let other = RouterView::new(address(1, 0x111), 1, KEY, &middle)?;
+            let other = RouterView::new(address(1, 0x111), 1, KEY, None, &middle)?;
             met = step(&other, NOW, Arrival::Inside, &mut packet);
         }
         assert_eq!(rt; met, Ok(Outcome::ToLink(IfId(3))));
-        let third = RouterView::new(address(1, 0x113), 0, KEY, &leaf)?;
+        let third = RouterView::new(address(1, 0x113), 0, KEY, None, &leaf)?;
         let came = step(&third, NOW, Arrival::Link(IfId(1)), &mut packet);
         assert_eq!(rt; came, Ok(Outcome::Deliver));
+    }
+    Ok(())
+}
+
+/// Two ASes, a core AS and its child.
+const TWO: &str =
+    r#"{"ases":[{"ia":"1-ff00:0:110","core":true,"exp":63,"key":"6130","routers":1},{"ia":"1-ff00:0:111","core":false,"exp":63,"key":"6131","routers":1}],"links":[{"kind":"child","a":{"ia":"1-ff00:0:110","if":1,"router":0},"b":{"ia":"1-ff00:0:111","if":2,"router":0}}]}"#;
+
+/// A packet made under a key goes on after its AS took another key into use, and not after one more.
+#[test]
+fn keys_overlap(rt: HostRuntime) -> Result<(), Fail> {
+    let own = address(1, 0x111);
+    let mut topology = Topology::from_json(rt.alloc(), TWO.as_bytes())?;
+    let first = hop_mac(b"a1", 0xb396, 100, 63, 2, 0);
+    let second = hop_mac(b"b1", 0xb396, 100, 63, 2, 0);
+    let third = hop_mac(b"c1", 0xb396, 100, 63, 2, 0);
+    assert!(rt; first != second && second != third && third != first);
+    let mut packet = UP;
+    packet[34..40].copy_from_slice(&first);
+    let rows: [(&[u8], Result<Outcome, Refusal>); 3] = [
+        (b"a1", Ok(Outcome::ToLink(IfId(2)))),
+        (b"b1", Ok(Outcome::ToLink(IfId(2)))),
+        (b"c1", Err(Refusal::BadMac)),
+    ];
+    for (key, outcome) in rows.iter() {
+        if *key != b"a1".as_slice() {
+            topology.rotate_key(own, key)?;
+        }
+        let view = topology.view(own, 0)?;
+        assert!(rt; view.key() == *key);
+        let mut sent = packet;
+        assert_eq!(rt; step(&view, 100, Arrival::FromHost, &mut sent), *outcome);
     }
     Ok(())
 }

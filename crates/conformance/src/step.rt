@@ -210,3 +210,43 @@ fn bad_words(rt: HostRuntime) -> Result<(), Fail> {
     }
     Ok(())
 }
+
+/// A key before the one in use: under which the authenticator is right, another one, and one that
+/// can't be read.
+#[test]
+fn previous_key(rt: HostRuntime) -> Result<(), Fail> {
+    let alloc = rt.alloc();
+    let mac = encode(alloc, hop_mac(b"k", 0xb396, 100, 63, 2, 0))?;
+    let packet = format!(in alloc; "{UP}{mac}{BEHIND}")?;
+    let moved = format!(in alloc; "link 2 {MOVED}{mac}{BEHIND}")?;
+    let rows = [
+        ("6b", Some(moved.as_str())),
+        ("6c", Some("refused 94 BadMac")),
+        ("6", None),
+    ];
+    for (previous, line) in rows {
+        let [step, ia, address, router, number, key, _] = FRONT;
+        let words = [
+            step,
+            ia,
+            address,
+            router,
+            number,
+            key,
+            "6a",
+            "--previous",
+            previous,
+            "--now",
+            "100",
+            "--from",
+            "host",
+            "2,parent,0,up",
+        ];
+        let printed = step_line(alloc, &words, &packet);
+        match line {
+            Some(line) => assert_eq!(rt; printed?.as_str(), line),
+            None => assert!(rt; matches!(&printed, Err(StepFault::Usage(_)))),
+        }
+    }
+    Ok(())
+}

@@ -1,10 +1,11 @@
 -- Parts that are accepted make the view that they are, and so a turn.
-use Rattle.std.proofs.Common.{◌≡◌, ℕ, Bool, true, false, List, [], ◌∷◌, Some, None, Ok, Err, refl}
+use Rattle.std.proofs.Common.{◌≡◌, ℕ, Bool, true, false, List, Option, Some, None, Ok, Err, refl}
 use Rattle.std.specs.Prelude.{Result, if◌then◌else◌}
 use Rattle.std.specs.Result.{is_err}
 use Rattle.scion_topology.specs.declared.entry.IfEntry.{IfEntry}
 use Rattle.scion_topology.specs.declared.fault.TopologyFault.{TopologyFault}
 use Rattle.scion_topology.specs.View.{View}
+use Rattle.scion_topology.specs.Keys.{accepted}
 use Rattle.scion_topology.specs.Building.{view_of, has_bad_field, names_twice}
 use Rattle.router_step.specs.declared.arrival.Arrival.{Arrival}
 use Rattle.step_line.specs.Turn.{Turn, turn_with}
@@ -17,24 +18,24 @@ chosen false true d e v none = absurd cc
 chosen false false d e v none = refl
 
 -- the view is of those parts
-pub view_of_accepts : (ia router : ℕ) (key : List ℕ) (table : List IfEntry) → is_err (view_of ia router key table) ≡ false
-    → view_of ia router key table ≡ Ok (record { ia = ia; router = router; keys = key ∷ []; table = table })
+pub view_of_accepts : (ia router : ℕ) (key : List ℕ) (previous : Option (List ℕ)) (table : List IfEntry) → is_err (view_of ia router key previous table) ≡ false
+    → view_of ia router key previous table ≡ Ok (record { ia = ia; router = router; keys = accepted key previous; table = table })
 unfolding view_of
-view_of_accepts ia router key table none = chosen (has_bad_field ia key table) (names_twice table) _ _ _ none
+view_of_accepts ia router key previous table none = chosen (has_bad_field ia (accepted key previous) table) (names_twice table) _ _ _ none
 
 -- and the turn has it
-pub turn_with_accepted : (ia router : ℕ) (key : List ℕ) (now : ℕ) (arrival : Arrival) (table : List IfEntry) → is_err (view_of ia router key table) ≡ false
-    → turn_with ia router key now arrival table ≡ Some (record { view = record { ia = ia; router = router; keys = key ∷ []; table = table }; moment = now; arrival = arrival })
+pub turn_with_accepted : (ia router : ℕ) (key : List ℕ) (previous : Option (List ℕ)) (now : ℕ) (arrival : Arrival) (table : List IfEntry) → is_err (view_of ia router key previous table) ≡ false
+    → turn_with ia router key previous now arrival table ≡ Some (record { view = record { ia = ia; router = router; keys = accepted key previous; table = table }; moment = now; arrival = arrival })
 unfolding turn_with
-turn_with_accepted ia router key now arrival table none = rw (view_of_accepts ia router key table none) refl
+turn_with_accepted ia router key previous now arrival table none = rw (view_of_accepts ia router key previous table none) refl
 
 refused : (r : Result View TopologyFault) (f : View → Turn) → is_err r ≡ true → (only r >>= (λ v. Some (f v))) ≡ None
 refused (Ok v) f bad = absurd cc
 refused (Err e) f bad = refl
 
 -- no turn is made of parts that are refused
-pub turn_with_refused : (ia router : ℕ) (key : List ℕ) (now : ℕ) (arrival : Arrival) (table : List IfEntry) → is_err (view_of ia router key table) ≡ true
-    → turn_with ia router key now arrival table ≡ None
+pub turn_with_refused : (ia router : ℕ) (key : List ℕ) (previous : Option (List ℕ)) (now : ℕ) (arrival : Arrival) (table : List IfEntry) → is_err (view_of ia router key previous table) ≡ true
+    → turn_with ia router key previous now arrival table ≡ None
 unfolding turn_with
-turn_with_refused ia router key now arrival table bad =
-    refused (view_of ia router key table) (λ v. record { view = v; moment = now; arrival = arrival }) bad
+turn_with_refused ia router key previous now arrival table bad =
+    refused (view_of ia router key previous table) (λ v. record { view = v; moment = now; arrival = arrival }) bad

@@ -1,7 +1,8 @@
 -- One router's turn, as the words of `scionet step` describe it.
-use Rattle.std.specs.Prelude.{ℕ, List, Option, Some}
+use Rattle.std.specs.Prelude.{ℕ, List, Option, Some, None, option_map, Vec}
 use Rattle.scion_topology.specs.declared.entry.IfEntry.{IfEntry}
 use Rattle.scion_topology.specs.View.{View}
+use Rattle.scion_topology.specs.Keys.{accepted}
 use Rattle.scion_topology.specs.Building.{view_of}
 use Rattle.router_step.specs.declared.arrival.Arrival.{Arrival}
 use Rattle.refusal.specs.Optional.{◌>>=◌, only}
@@ -12,6 +13,7 @@ pub record OptionTexts : Type 0 where
   pub ia : List ℕ
   pub router : List ℕ
   pub key : List ℕ
+  pub previous : Option (List ℕ)
   pub now : List ℕ
   pub from : List ℕ
   pub interfaces : List (List ℕ)
@@ -23,10 +25,17 @@ pub record Turn : Type 0 where
   pub arrival : Arrival
 
 -- the turn of these parts, if they make a view
-unfoldable pub turn_with : ℕ → ℕ → List ℕ → ℕ → Arrival → List IfEntry → Option Turn
-turn_with ia router key moment arrival table = do
-  view ← only (view_of ia router key table)
+unfoldable pub turn_with : ℕ → ℕ → List ℕ → Option (List ℕ) → ℕ → Arrival → List IfEntry → Option Turn
+turn_with ia router key previous moment arrival table = do
+  view ← only (view_of ia router key previous table)
   Some (record { view = view; moment = moment; arrival = arrival })
+
+-- the key before, where one is given
+abbrev pub previous_of : Option (List ℕ) → Option (Option (List ℕ))
+previous_of None = Some None
+previous_of (Some text) = do
+  key ← bytes_of text
+  Some (Some key)
 
 -- the turn that the texts describe, if each can be read and the parts make a view
 unfoldable pub turn_of : OptionTexts → Option Turn
@@ -34,7 +43,17 @@ turn_of texts = do
   ia ← ia_at texts.ia
   router ← number_at 0 63 texts.router
   key ← bytes_of texts.key
+  previous ← previous_of texts.previous
   moment ← number_at 0 4294967295 texts.now
   arrival ← arrival_at texts.from
   table ← interfaces_at texts.interfaces
-  turn_with ia router key moment arrival table
+  turn_with ia router key previous moment arrival table
+
+-- the bytes of a key that may be there
+abbrev pub items_of : {A : Type 0} → Option (Vec ℕ A) → Option (List ℕ)
+items_of key = option_map (λ v. v.items) key
+
+-- the view that these parts show
+abbrev pub parts_seen : ℕ → ℕ → List ℕ → Option (List ℕ) → List IfEntry → View
+parts_seen ia router key previous table =
+    record { ia = ia; router = router; keys = accepted key previous; table = table }

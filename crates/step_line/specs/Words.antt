@@ -15,6 +15,10 @@ use Rattle.step_line.specs.Turn.{OptionTexts, Turn, turn_of}
 abbrev pub option_rule : Text → Rule
 option_rule name = record (new_rule name) { long = Some name; value_names = 1; required = true }
 
+-- one that need not be given
+abbrev pub optional_rule : Text → Rule
+optional_rule name = record (new_rule name) { long = Some name; value_names = 1 }
+
 -- one whose value is a number from 0 to `most`
 abbrev pub number_rule : ℕ → Text → Rule
 number_rule most name = record (option_rule name) { parser = Some (Signed (pos 0) (pos most)) }
@@ -26,9 +30,10 @@ interface_rule = record (new_rule (codes "interface")) { value_names = 1; action
 -- `step`, with its options
 abbrev pub step_app : App
 step_app =
-    with_rule (with_rule (with_rule (with_rule (with_rule (with_rule (new_app (codes "step"))
+    with_rule (with_rule (with_rule (with_rule (with_rule (with_rule (with_rule (new_app (codes "step"))
     (option_rule (codes "ia"))) (number_rule 63 (codes "router"))) (option_rule (codes "key")))
-    (number_rule 4294967295 (codes "now"))) (option_rule (codes "from"))) interface_rule
+    (optional_rule (codes "previous"))) (number_rule 4294967295 (codes "now")))
+    (option_rule (codes "from"))) interface_rule
 
 -- `scionet`, which wants a command behind its name; the words begin behind that name
 abbrev pub program_app : App
@@ -53,6 +58,7 @@ texts_in rows = do
     ia = ia;
     router = router;
     key = key;
+    previous = first_of (codes "previous") rows;
     now = now;
     from = from;
     interfaces = unwrap_or (all_of (codes "interface") rows) [];

@@ -1,5 +1,6 @@
-ghost use Rattle.std.specs.Prelude.{◌≡◌, IfOk};
-ghost use Rattle.step_line.specs.Turn.{turn_of, turn_with};
+ghost use Rattle.std.specs.Prelude.{◌≡◌, IfOk, option_map};
+ghost use Rattle.std.specs.Option.{option_copied};
+ghost use Rattle.step_line.specs.Turn.{items_of, previous_of, turn_of, turn_with};
 ghost use Rattle.step_line.specs.Line.{line_of};
 ghost use Rattle.step_line.specs.Fault.{Prints};
 
@@ -20,21 +21,27 @@ pub struct StepCommand {
     ia: IsdAs,
     router: u8,
     key: Vec<u8>,
+    previous: Option<Vec<u8>>,
     moment: u32,
     arrival: Arrival,
     table: Vec<IfEntry>,
 }
 
 impl Model for StepCommand {
-    ghost use Rattle.std.specs.Prelude.{◌≡◌, ◌∷◌, [], Ok};
+    ghost use Rattle.std.specs.Prelude.{◌≡◌, Ok};
     ghost use Rattle.scion_topology.specs.Building.{view_of};
-    ghost use Rattle.step_line.specs.Turn.{Turn};
+    ghost use Rattle.step_line.specs.Turn.{Turn, items_of, parts_seen};
 
     ghost Value = { Turn };
 
-    ghost view = { λ c. record { view = record { ia = c.ia; router = c.router; keys = c.key.items ∷ []; table = c.table.items }; moment = c.moment; arrival = c.arrival } };
+    ghost view = { λ c. record {
+      view = parts_seen c.ia c.router c.key.items (items_of c.previous) c.table.items;
+      moment = c.moment;
+      arrival = c.arrival;
+    } };
 
-    ghost invariant = { λ c. view_of c.ia c.router c.key.items c.table.items ≡ Ok (record { ia = c.ia; router = c.router; keys = c.key.items ∷ []; table = c.table.items }) };
+    ghost invariant = { λ c. view_of c.ia c.router c.key.items (items_of c.previous) c.table.items
+        ≡ Ok (parts_seen c.ia c.router c.key.items (items_of c.previous) c.table.items) };
 }
 
 impl StepCommand {
@@ -55,6 +62,9 @@ impl StepCommand {
         let Some(key) = bytes(alloc, texts.key.as_bytes())? else {
             return Ok(None);
         };
+        let Some(previous) = previous_key(alloc, texts.previous)? else {
+            return Ok(None);
+        };
         let Some(moment) = number(texts.now, 0, 4294967295) else {
             return Ok(None);
         };
@@ -64,7 +74,7 @@ impl StepCommand {
         let Some(table) = interfaces(alloc, texts.interfaces)? else {
             return Ok(None);
         };
-        Ok(StepCommand::of_parts(ia, router, key, moment as u32, arrival, table))
+        Ok(StepCommand::of_parts(ia, router, key, previous, moment as u32, arrival, table))
     }
 
     /// The turn of these parts, or `None` where they make no view.
@@ -73,19 +83,22 @@ impl StepCommand {
         ia: IsdAs,
         router: u8,
         key: Vec<u8>,
+        previous: Option<Vec<u8>>,
         moment: u32,
         arrival: Arrival,
         table: Vec<IfEntry>,
     ) -> Option<StepCommand>
-        ensures { result ≡ turn_with ia router key.items moment arrival table.items }
+        ensures { result
+            ≡ turn_with ia router key.items (items_of previous) moment arrival table.items }
     {
-        if RouterView::new(ia, router, &key, &table).is_err() {
+        if RouterView::new(ia, router, &key, lent(&previous), &table).is_err() {
             return None;
         }
         Some(StepCommand {
             ia,
             router,
             key,
+            previous,
             moment,
             arrival,
             table,
@@ -104,7 +117,13 @@ impl StepCommand {
         let Some(mut packet) = bytes(alloc, trim(text))? else {
             return Err(StepFault::PacketText);
         };
-        let view = match RouterView::new(self.ia, self.router, &self.key, &self.table) {
+        let view = match RouterView::new(
+            self.ia,
+            self.router,
+            &self.key,
+            lent(&self.previous),
+            &self.table,
+        ) {
             Ok(view) => view,
             Err(_) => unreachable!(),
         };
@@ -112,5 +131,28 @@ impl StepCommand {
             Ok(outcome) => Ok(outcome_line(alloc, outcome, &packet)?),
             Err(refusal) => Ok(refusal_line(alloc, refusal)?),
         }
+    }
+}
+
+/// The key before, where one is given; `None` where its text is no hexadecimal.
+fn previous_key(alloc: Global, text: Option<&str>) -> Result<Option<Option<Vec<u8>>>, AllocError>
+    ensures { IfOk result (λ o. option_map items_of o ≡ previous_of (option_copied text.entry)) }
+{
+    let Some(text) = text else {
+        return Ok(Some(None));
+    };
+    match bytes(alloc, text.as_bytes())? {
+        Some(key) => Ok(Some(Some(key))),
+        None => Ok(None),
+    }
+}
+
+/// The bytes of a key that may be there.
+fn lent(key: &Option<Vec<u8>>) -> Option<&[u8]>
+    ensures { option_copied result ≡ items_of key.now }
+{
+    match key {
+        Some(key) => Some(key),
+        None => None,
     }
 }

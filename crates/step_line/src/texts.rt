@@ -9,6 +9,8 @@ pub(crate) struct Texts<'a, 'm> {
     pub router: &'a str,
     /// The AS's key, in hexadecimal.
     pub key: &'a str,
+    /// The key that was in use before it, in hexadecimal, where there was one.
+    pub previous: Option<&'a str>,
     /// The second at which the router works.
     pub now: &'a str,
     /// How the packet came.
@@ -19,9 +21,18 @@ pub(crate) struct Texts<'a, 'm> {
 
 impl<'a, 'm> Model for Texts<'a, 'm> {
     ghost use Rattle.std.specs.Prelude.{map};
+    ghost use Rattle.std.specs.Option.{option_copied};
     ghost use Rattle.step_line.specs.Turn.{OptionTexts};
 
     ghost Value = { OptionTexts };
 
-    ghost view = { λ t. record { ia = t.ia.now; router = t.router.now; key = t.key.now; now = t.now.now; from = t.from.now; interfaces = map (λ i. i.now) t.interfaces.now } };
+    ghost view = { λ t. record {
+      ia = t.ia.now;
+      router = t.router.now;
+      key = t.key.now;
+      previous = option_copied t.previous;
+      now = t.now.now;
+      from = t.from.now;
+      interfaces = map (λ i. i.now) t.interfaces.now;
+    } };
 }

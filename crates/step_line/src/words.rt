@@ -2,7 +2,7 @@
 
 ghost use Rattle.std.specs.Prelude.{◌≡◌, IfOk, codes, false, map, option_map};
 ghost use Rattle.clap.specs.Words.{all_of, app_of, first_of, found_of, rows_of, rule_of};
-ghost use Rattle.step_line.specs.Words.{IsLocal, asked, interface_rule, number_rule, option_rule, program_app, step_app, turn_in};
+ghost use Rattle.step_line.specs.Words.{IsLocal, asked, interface_rule, number_rule, option_rule, optional_rule, program_app, step_app, turn_in};
 ghost use Rattle.step_line.specs.Fault.{Answers, Asks, Explains, IsWordsFault};
 
 use crate::command::StepCommand;
@@ -27,6 +27,17 @@ fn option<'a>(alloc: Global, name: &'a str, value: &'a str, help: &'a str) -> Ar
         .long(name)
         .value_name(value)
         .required(true)
+        .help(help)
+}
+
+/// An option that has a value and need not be given.
+fn optional<'a>(alloc: Global, name: &'a str, value: &'a str, help: &'a str) -> Arg<'a>
+    ensures rule { rule_of result ≡ optional_rule name.entry.now }
+    ensures local { result.global ≡ false }
+{
+    Arg::new(alloc, name)
+        .long(name)
+        .value_name(value)
         .help(help)
 }
 
@@ -82,6 +93,12 @@ fn step_command<'a>(alloc: Global) -> Result<Command<'a>, AllocError>
         "HEX",
         "The AS's key, 1 to 64 bytes in hexadecimal",
     );
+    let previous = optional(
+        alloc,
+        "previous",
+        "HEX",
+        "The AS's key before that one, which it accepts too",
+    );
     let now = number_option(
         alloc,
         u32::MAX,
@@ -100,6 +117,7 @@ fn step_command<'a>(alloc: Global) -> Result<Command<'a>, AllocError>
         .arg(ia)?
         .arg(router)?
         .arg(key)?
+        .arg(previous)?
         .arg(now)?
         .arg(from)?
         .arg(interface)
@@ -173,6 +191,7 @@ fn from_matches(alloc: Global, matches: &ArgMatches<'_>) -> Result<Option<StepCo
     let Some(key) = text_of(matches, "key") else {
         return Ok(None);
     };
+    let previous = text_of(matches, "previous");
     let Some(now) = text_of(matches, "now") else {
         return Ok(None);
     };
@@ -184,6 +203,7 @@ fn from_matches(alloc: Global, matches: &ArgMatches<'_>) -> Result<Option<StepCo
             ia,
             router,
             key,
+            previous,
             now,
             from,
             interfaces: &[],
@@ -194,6 +214,7 @@ fn from_matches(alloc: Global, matches: &ArgMatches<'_>) -> Result<Option<StepCo
         ia,
         router,
         key,
+        previous,
         now,
         from,
         interfaces,
