@@ -20,7 +20,8 @@ use Rattle.path_segment.proofs.Chained.{beta_of-with_last}
 use Rattle.path_segment.proofs.Next.{next_is, last_is, IsFree-beacon_fault}
 use Rattle.beaconing.specs.declared.fault.BeaconFault.{BeaconFault}
 use Rattle.beaconing.specs.declared.fault.BeaconFault.TheVariants.{TooLong, Loop, NotCore, NoInterface, LinkDown, WrongKind, NotHere}
-use Rattle.beaconing.specs.Fault.{◌>>=◌, check}
+use Rattle.refusal.specs.Refusal.{check}
+use Rattle.refusal.proofs.Steps.{bind_ok, check_ok, ok_or_ok, ok_is}
 use Rattle.beaconing.specs.Entry.{key_of, entry_by, added_by, kind_over, goes_on}
 use Rattle.beaconing.specs.Calls.{or_else, originated, last_of, come_to, is_new, extended, terminated}
 use Rattle.beaconing.specs.Issued.{IsEntryOf, LeadsOn, IsMade, IsUnderWay, IsIssued}
@@ -28,27 +29,9 @@ use Rattle.beaconing.proofs.Reaching.{ia_of_named, leads_on, core_goes_on}
 
 -- ---- what an answer went through
 
-pub then_ok : {A B : Type 0} (r : Result A BeaconFault) (f : A → Result B BeaconFault) (y : B) → (r >>= f) ≡ Ok y → (x : A) × (r ≡ Ok x) × (f x ≡ Ok y)
-then_ok (Ok x) f y e = (x, refl, e)
-then_ok (Err d) f y e = absurd cc
-
-given : {A : Type 0} (o : Option A) (f : BeaconFault) (x : A) → ok_or o f ≡ Ok x → o ≡ Some x
-given (Some y) f x e = cc
-given None f x e = absurd cc
-
-answered : {A : Type 0} (f : BeaconFault) (r : Result A TopologyFault) (x : A) → or_else f r ≡ Ok x → r ≡ Ok x
+pub answered : {A : Type 0} (f : BeaconFault) (r : Result A TopologyFault) (x : A) → or_else f r ≡ Ok x → r ≡ Ok x
 answered f (Ok y) x e = cc
 answered f (Err d) x e = absurd cc
-
-checked : (b : Bool) (f : BeaconFault) (x : Unit {0}) → check b f ≡ Ok x → b ≡ true
-checked true f x e = refl
-checked false f x e = absurd cc
-
-abbrev done : {A : Type 0} → A → Result A BeaconFault
-done x = Ok x
-
-done_is : {A : Type 0} (x y : A) → done x ≡ done y → x ≡ y
-done_is x y e = cc
 
 -- ---- one entry more
 
@@ -133,17 +116,17 @@ rules_of_first e no_in some_out = rw (no_in, ne_eqb e.cons_egress 0 some_out) re
 pub begun : (n : Network) (ia egress timestamp beta0 : ℕ) (one : AsEntry) (b : Chain) → IsNetwork n → as_named n.ases ia ≡ Some one → originated n ia egress timestamp beta0 ≡ Ok b → IsUnderWay n (key_of one ∷ []) b
 unfolding originated
 begun n ia egress timestamp beta0 one b network named found =
-    let s1 = then_ok (ok_or (as_named n.ases ia) NotCore) _ b found in
-    let same : s1.0 ≡ one = same_Some s1.0 one (sym (given (as_named n.ases ia) NotCore s1.0 s1.1) ∙ named) in
-    let s2 = then_ok (check s1.0.core NotCore) _ b s1.2 in
-    let core : one.core ≡ true = ap (λ (o : AsEntry). o.core) (sym same) ∙ checked s1.0.core NotCore s2.0 s2.1 in
-    let s3 = then_ok (or_else NoInterface (interface_at n ia egress)) _ b s2.2 in
+    let s1 = bind_ok (ok_or (as_named n.ases ia) NotCore) _ b found in
+    let same : s1.0 ≡ one = same_Some s1.0 one (sym (ok_or_ok (as_named n.ases ia) NotCore s1.0 s1.1) ∙ named) in
+    let s2 = bind_ok (check s1.0.core NotCore) _ b s1.2 in
+    let core : one.core ≡ true = ap (λ (o : AsEntry). o.core) (sym same) ∙ check_ok s1.0.core NotCore s2.0 s2.1 in
+    let s3 = bind_ok (or_else NoInterface (interface_at n ia egress)) _ b s2.2 in
     let out = s3.0 in
     let there = answered NoInterface (interface_at n ia egress) out s3.1 in
-    let s4 = then_ok (check out.up LinkDown) _ b s3.2 in
+    let s4 = bind_ok (check out.up LinkDown) _ b s3.2 in
     let e = entry_by one timestamp beta0 0 egress in
     let is : chain_of (kind_over out.kind) timestamp beta0 (e ∷ []) ≡ b =
-    ap (λ (o : AsEntry). chain_of (kind_over out.kind) timestamp beta0 (entry_by o timestamp beta0 0 egress ∷ [])) (sym same) ∙ done_is _ b s4.2 in
+    ap (λ (o : AsEntry). chain_of (kind_over out.kind) timestamp beta0 (entry_by o timestamp beta0 0 egress ∷ [])) (sym same) ∙ ok_is _ b s4.2 in
     let ia_is = ia_of_named n.ases ia one named in
     let is_core_there : is_core n.ases ia ≡ true = rw named core in
     let first_core : is_core n.ases one.ia ≡ true = ap (is_core n.ases) ia_is ∙ is_core_there in
@@ -172,19 +155,19 @@ record Comes (n : Network) (b : Chain) (ia ingress : ℕ) : Type 0 where
 Comes-come_to : (n : Network) (b : Chain) (ia ingress : ℕ) → IsNetwork n → come_to n b ia ≡ Ok ingress → Comes n b ia ingress
 unfolding come_to
 Comes-come_to n b ia ingress network found =
-    let s1 = then_ok (ok_or (last_of b) NotHere) _ ingress found in
+    let s1 = bind_ok (ok_or (last_of b) NotHere) _ ingress found in
     let last = s1.0 in
-    let s2 = then_ok (or_else NotHere (far_end_in n last.ia last.cons_egress)) _ ingress s1.2 in
+    let s2 = bind_ok (or_else NotHere (far_end_in n last.ia last.cons_egress)) _ ingress s1.2 in
     let far = answered NotHere (far_end_in n last.ia last.cons_egress) s2.0 s2.1 in
-    let s3 = then_ok (check (eqb s2.0.0 ia) NotHere) _ ingress s2.2 in
-    let here = eqb-true s2.0.0 ia (checked (eqb s2.0.0 ia) NotHere s3.0 s3.1) in
-    let s4 = then_ok (or_else NotHere (interface_at n ia s2.0.1)) _ ingress s3.2 in
+    let s3 = bind_ok (check (eqb s2.0.0 ia) NotHere) _ ingress s2.2 in
+    let here = eqb-true s2.0.0 ia (check_ok (eqb s2.0.0 ia) NotHere s3.0 s3.1) in
+    let s4 = bind_ok (or_else NotHere (interface_at n ia s2.0.1)) _ ingress s3.2 in
     let into = answered NotHere (interface_at n ia s2.0.1) s4.0 s4.1 in
-    let s5 = then_ok (check s4.0.up LinkDown) _ ingress s4.2 in
-    let is : s2.0.1 ≡ ingress = done_is s2.0.1 ingress s5.2 in
+    let s5 = bind_ok (check s4.0.up LinkDown) _ ingress s4.2 in
+    let is : s2.0.1 ≡ ingress = ok_is s2.0.1 ingress s5.2 in
     record {
       last = last;
-      is_last = given (last_of b) NotHere last s1.1;
+      is_last = ok_or_ok (last_of b) NotHere last s1.1;
       leads = far ∙ ap (λ (x : ℕ). at x s2.0.1) here ∙ ap (at ia) is;
       some = rw (← is) (no_zero n ia s2.0.1 s4.0 network into);
     }
@@ -194,7 +177,7 @@ Comes-come_to n b ia ingress network found =
 
 new_of : (b : Chain) (ia : ℕ) (x : Unit {0}) → is_new b ia ≡ Ok x → list_any (λ entry. eqb entry.ia ia) b.entries ≡ false
 unfolding is_new
-new_of b ia x found = not-true _ (checked (not (list_any (λ entry. eqb entry.ia ia) b.entries)) Loop x found)
+new_of b ia x found = not-true _ (check_ok (not (list_any (λ entry. eqb entry.ia ia) b.entries)) Loop x found)
 
 -- what an AS adds to a beacon that comes to it is made
 made_added : (n : Network) (keys : List (List ℕ)) (b : Chain) (ia ingress egress : ℕ) (one : AsEntry) → IsNetwork n → IsUnderWay n keys b → as_named n.ases ia ≡ Some one → Comes n b ia ingress
@@ -225,23 +208,23 @@ rules_of_last es e some_in no_out new = rw (ne_eqb e.cons_ingress 0 some_in, no_
 pub passed_on : (n : Network) (keys : List (List ℕ)) (b : Chain) (ia egress : ℕ) (one : AsEntry) (c : Chain) → IsNetwork n → IsUnderWay n keys b → as_named n.ases ia ≡ Some one → extended n b ia egress ≡ Ok c → IsUnderWay n (keys ++ (key_of one ∷ [])) c
 unfolding extended
 passed_on n keys b ia egress one c network under named found =
-    let s1 = then_ok (ok_or (as_named n.ases ia) NotHere) _ c found in
-    let same : s1.0 ≡ one = same_Some s1.0 one (sym (given (as_named n.ases ia) NotHere s1.0 s1.1) ∙ named) in
-    let s2 = then_ok (come_to n b ia) _ c s1.2 in
+    let s1 = bind_ok (ok_or (as_named n.ases ia) NotHere) _ c found in
+    let same : s1.0 ≡ one = same_Some s1.0 one (sym (ok_or_ok (as_named n.ases ia) NotHere s1.0 s1.1) ∙ named) in
+    let s2 = bind_ok (come_to n b ia) _ c s1.2 in
     let ingress = s2.0 in
     let comes = Comes-come_to n b ia ingress network s2.1 in
-    let s3 = then_ok (is_new b s1.0.ia) _ c s2.2 in
+    let s3 = bind_ok (is_new b s1.0.ia) _ c s2.2 in
     let new : list_any (λ entry. eqb entry.ia one.ia) b.entries ≡ false = ap (λ (o : AsEntry). list_any (λ entry. eqb entry.ia o.ia) b.entries) (sym same) ∙ new_of b s1.0.ia s3.0 s3.1 in
-    let s4 = then_ok (check (nat_lt (length b.entries) 62) TooLong) _ c s3.2 in
-    let few = checked (nat_lt (length b.entries) 62) TooLong s4.0 s4.1 in
-    let s5 = then_ok (or_else NoInterface (interface_at n ia egress)) _ c s4.2 in
+    let s4 = bind_ok (check (nat_lt (length b.entries) 62) TooLong) _ c s3.2 in
+    let few = check_ok (nat_lt (length b.entries) 62) TooLong s4.0 s4.1 in
+    let s5 = bind_ok (or_else NoInterface (interface_at n ia egress)) _ c s4.2 in
     let out = s5.0 in
     let there = answered NoInterface (interface_at n ia egress) out s5.1 in
-    let s6 = then_ok (check (goes_on b.kind out.kind) WrongKind) _ c s5.2 in
-    let on = checked (goes_on b.kind out.kind) WrongKind s6.0 s6.1 in
-    let s7 = then_ok (check out.up LinkDown) _ c s6.2 in
+    let s6 = bind_ok (check (goes_on b.kind out.kind) WrongKind) _ c s5.2 in
+    let on = check_ok (goes_on b.kind out.kind) WrongKind s6.0 s6.1 in
+    let s7 = bind_ok (check out.up LinkDown) _ c s6.2 in
     let e = added_by one b ingress egress in
-    let is : with_last b e ≡ c = ap (λ (o : AsEntry). with_last b (added_by o b ingress egress)) (sym same) ∙ done_is _ c s7.2 in
+    let is : with_last b e ≡ c = ap (λ (o : AsEntry). with_last b (added_by o b ingress egress)) (sym same) ∙ ok_is _ c s7.2 in
     rw (← is) (record {
       rules = sym (next_is b.entries e under.rules) ∙ rules_of_next b.entries e few comes.some (no_zero n ia egress out network there) new;
       made = made_added n keys b ia ingress egress one network under named comes;
@@ -255,15 +238,15 @@ passed_on n keys b ia egress one c network under named found =
 pub ended : (n : Network) (keys : List (List ℕ)) (b : Chain) (ia : ℕ) (one : AsEntry) (s : Chain) → IsNetwork n → IsUnderWay n keys b → as_named n.ases ia ≡ Some one → terminated n b ia ≡ Ok s → IsIssued n (keys ++ (key_of one ∷ [])) s
 unfolding terminated
 ended n keys b ia one s network under named found =
-    let s1 = then_ok (ok_or (as_named n.ases ia) NotHere) _ s found in
-    let same : s1.0 ≡ one = same_Some s1.0 one (sym (given (as_named n.ases ia) NotHere s1.0 s1.1) ∙ named) in
-    let s2 = then_ok (come_to n b ia) _ s s1.2 in
+    let s1 = bind_ok (ok_or (as_named n.ases ia) NotHere) _ s found in
+    let same : s1.0 ≡ one = same_Some s1.0 one (sym (ok_or_ok (as_named n.ases ia) NotHere s1.0 s1.1) ∙ named) in
+    let s2 = bind_ok (come_to n b ia) _ s s1.2 in
     let ingress = s2.0 in
     let comes = Comes-come_to n b ia ingress network s2.1 in
-    let s3 = then_ok (is_new b s1.0.ia) _ s s2.2 in
+    let s3 = bind_ok (is_new b s1.0.ia) _ s s2.2 in
     let new : list_any (λ entry. eqb entry.ia one.ia) b.entries ≡ false = ap (λ (o : AsEntry). list_any (λ entry. eqb entry.ia o.ia) b.entries) (sym same) ∙ new_of b s1.0.ia s3.0 s3.1 in
     let e = added_by one b ingress 0 in
-    let is : with_last b e ≡ s = ap (λ (o : AsEntry). with_last b (added_by o b ingress 0)) (sym same) ∙ done_is _ s s3.2 in
+    let is : with_last b e ≡ s = ap (λ (o : AsEntry). with_last b (added_by o b ingress 0)) (sym same) ∙ ok_is _ s s3.2 in
     rw (← is) (record {
       rules = sym (last_is b.entries e under.rules) ∙ rules_of_last b.entries e comes.some refl new;
       made = made_added n keys b ia ingress 0 one network under named comes;

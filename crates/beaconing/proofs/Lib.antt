@@ -1,3 +1,5 @@
 pub mod Reaching
 pub mod Issuing
 pub mod Outlasting
+pub mod Made
+pub mod Coming

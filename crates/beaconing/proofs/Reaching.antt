@@ -15,7 +15,9 @@ use Rattle.scion_topology.specs.Network.{Network, as_named, is_end, has_end, lin
 use Rattle.scion_topology.specs.Network as net
 use Rattle.scion_topology.specs.Causes.{is_core, is_ill_classed, is_ill_joined}
 use Rattle.scion_topology.specs.Topology.{IsNetwork, known, joined, interface_at, far_end, far_end_in}
-use Rattle.scion_topology.proofs.Joints.{bind_ok, ok_is, ok_or_ok, are_apart-ill, IsFree-cause_of}
+use Rattle.scion_topology.proofs.Steps.{bind_ok, ok_is, ok_or_ok}
+use Rattle.scion_topology.proofs.Judging.{IsFree-IsNetwork}
+use Rattle.scion_topology.proofs.Places.{network_apart}
 use Rattle.scion_topology.proofs.Ends.{IsJoined-joined, interface_in-table_of}
 use Rattle.path_segment.specs.declared.entry.Entry.{Entry}
 use Rattle.path_segment.specs.declared.kind.SegKind.{SegKind}
@@ -73,10 +75,10 @@ leads_from_b Intra entry next link on ways = absurd (none_at_b link.class on)
 
 -- ---- the link of a way out
 
-seen_at_a : (link : Link) → interface_of link.a.ia link ≡ Some (net.interface_at link.a (kind_at_a link.class) link.up)
+seen_at_a : (link : Link) → interface_of link.a.ia link ≡ Some (net.end_as_interface link.a (kind_at_a link.class) link.up)
 seen_at_a link = rw (eq-eqb link.a.ia link.a.ia refl) refl
 
-seen_at_b : (link : Link) → eqb link.a.ia link.b.ia ≡ false → interface_of link.b.ia link ≡ Some (net.interface_at link.b (kind_at_b link.class) link.up)
+seen_at_b : (link : Link) → eqb link.a.ia link.b.ia ≡ false → interface_of link.b.ia link ≡ Some (net.end_as_interface link.b (kind_at_b link.class) link.up)
 seen_at_b link apart = rw (apart, eq-eqb link.b.ia link.b.ia refl) refl
 
 -- where a way out leads, a link of the beacon's kind leads
@@ -91,15 +93,15 @@ leads_on n kind entry next x m network way found at_x at_m =
     let x-is : (far_end link ia number).ia ≡ x = ap (λ (p : ℕ × ℕ). p.0) pair in
     let m-is : (far_end link ia number).number ≡ m = ap (λ (p : ℕ × ℕ). p.1) pair in
     let is = IsJoined-joined n ia number link network at.1 in
-    let free = IsFree-cause_of n.ases n.links network.cause in
+    let free = IsFree-IsNetwork n network in
     let step = bind_ok (known n ia) _ way.out way.there in
     let shown : interface_in (table_of ia n.links) number ≡ Some way.out = ok_or_ok _ faults.NoLink way.out step.2 in
-    let near_shown : interface_of ia link ≡ Some way.out = sym (interface_in-table_of ia number n.links link (are_apart-ill n.ases n.links free.classes) is.named) ∙ shown in
+    let near_shown : interface_of ia link ≡ Some way.out = sym (interface_in-table_of ia number n.links link (network_apart n network) is.named) ∙ shown in
     any_found (LeadsOn kind entry next) n.links ia number link is.named (elim (cases_Bool (is_end link.a ia number)) [
       | inl here ↦ (
           let parts = and_parts (eqb link.a.ia ia) (eqb link.a.number number) here in
           let a_is = eqb-true _ _ parts.0 in
-          let seen : Some (net.interface_at link.a (kind_at_a link.class) link.up) ≡ Some way.out = sym (seen_at_a link) ∙ ap (λ (y : ℕ). interface_of y link) a_is ∙ near_shown in
+          let seen : Some (net.end_as_interface link.a (kind_at_a link.class) link.up) ≡ Some way.out = sym (seen_at_a link) ∙ ap (λ (y : ℕ). interface_of y link) a_is ∙ near_shown in
           let kind_is : kind_at_a link.class ≡ way.out.kind = ap (λ (i : IfEntry). i.kind) (same_Some _ way.out seen) in
           let bx : link.b.ia ≡ x = (let f : (cond true link.b link.a).ia ≡ x = rw here at x-is in f) in
           let bm : link.b.number ≡ m = (let f : (cond true link.b link.a).number ≡ m = rw here at m-is in f) in
@@ -108,7 +110,7 @@ leads_on n kind entry next x m network way found at_x at_m =
           let side : is_end link.b ia number ≡ true = (let ends = is.ends in let f : (false || is_end link.b ia number) ≡ true = rw other at ends in f) in
           let parts = and_parts (eqb link.b.ia ia) (eqb link.b.number number) side in
           let b_is = eqb-true _ _ parts.0 in
-          let seen : Some (net.interface_at link.b (kind_at_b link.class) link.up) ≡ Some way.out = sym (seen_at_b link is.apart) ∙ ap (λ (y : ℕ). interface_of y link) b_is ∙ near_shown in
+          let seen : Some (net.end_as_interface link.b (kind_at_b link.class) link.up) ≡ Some way.out = sym (seen_at_b link is.apart) ∙ ap (λ (y : ℕ). interface_of y link) b_is ∙ near_shown in
           let kind_is : kind_at_b link.class ≡ way.out.kind = ap (λ (i : IfEntry). i.kind) (same_Some _ way.out seen) in
           let ax : link.a.ia ≡ x = (let f : (cond false link.b link.a).ia ≡ x = rw other at x-is in f) in
           let am : link.a.number ≡ m = (let f : (cond false link.b link.a).number ≡ m = rw other at m-is in f) in
@@ -157,7 +159,7 @@ begins_over links.Child up = refl
 -- a beacon that a core AS begins may go on
 pub core_goes_on : (n : Network) (ia number : ℕ) (out : IfEntry) → IsNetwork n → is_core n.ases ia ≡ true → interface_at n ia number ≡ Ok out → goes_on (kind_over out.kind) out.kind ≡ true
 core_goes_on n ia number out network core found =
-    let free = IsFree-cause_of n.ases n.links network.cause in
+    let free = IsFree-IsNetwork n network in
     let step = bind_ok (known n ia) _ out found in
     let shown : interface_in (table_of ia n.links) number ≡ Some out = ok_or_ok _ faults.NoLink out step.2 in
     begins_over out.kind (no_parent_in n.ases ia number n.links out core free.classes shown)

@@ -6,10 +6,10 @@ use Rattle.scion_topology.specs.declared.fault.TopologyFault.{TopologyFault}
 use Rattle.scion_topology.specs.Network.{Network, as_named}
 use Rattle.scion_topology.specs.Topology.{interface_at, far_end_in}
 use Rattle.path_segment.specs.declared.entry.Entry.{Entry}
-use Rattle.path_segment.specs.Chain.{Chain, with_last}
+use Rattle.path_segment.specs.Chain.{Chain, chain_of, with_last}
 use Rattle.beaconing.specs.declared.fault.BeaconFault.{BeaconFault}
 use Rattle.beaconing.specs.declared.fault.BeaconFault.TheVariants.{TooLong, Loop, NotCore, NoInterface, LinkDown, WrongKind, NotHere}
-use Rattle.beaconing.specs.Fault.{◌>>=◌, check}
+use Rattle.refusal.specs.Refusal.{◌>>=◌, check}
 use Rattle.beaconing.specs.Entry.{entry_by, added_by, kind_over, goes_on}
 
 -- what a topology answers, or this refusal
@@ -24,7 +24,7 @@ originated n ia egress timestamp beta0 = do
   _ ← check one.core NotCore
   out ← or_else NoInterface (interface_at n ia egress)
   _ ← check out.up LinkDown
-  Ok (record { kind = kind_over out.kind; timestamp = timestamp; beta0 = beta0; entries = entry_by one timestamp beta0 0 egress ∷ [] })
+  Ok (chain_of (kind_over out.kind) timestamp beta0 (entry_by one timestamp beta0 0 egress ∷ []))
 
 -- the entry that was added last
 abbrev pub last_of : Chain → Option Entry

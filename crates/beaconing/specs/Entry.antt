@@ -1,10 +1,11 @@
 -- The entry that an AS adds to a beacon (draft-dekater-scion-controlplane, path construction).
 use Rattle.std.specs.Prelude.{ℕ, Bool, true, false, List, [], length, slice_get}
-use Rattle.std.specs.Option.{unwrap_or}
+use Rattle.std.specs.Option.{unwrap_or, option_map_or}
 use Rattle.hop_mac.specs.Hop.{authenticator}
 use Rattle.scion_topology.specs.declared.entry.LinkKind.{LinkKind}
 use Rattle.scion_topology.specs.declared.entry.LinkKind.TheVariants as links
 use Rattle.scion_topology.specs.declared.network.AsEntry.{AsEntry}
+use Rattle.scion_topology.specs.Network.{Network, as_named}
 use Rattle.path_segment.specs.declared.entry.Entry.{Entry}
 use Rattle.path_segment.specs.declared.kind.SegKind.{SegKind}
 use Rattle.path_segment.specs.Chain.{Chain, beta_of}
@@ -14,13 +15,24 @@ use Rattle.path_segment.specs.declared.kind.SegKind.TheVariants.{Core, Intra}
 abbrev pub key_of : AsEntry → List ℕ
 key_of one = unwrap_or (slice_get one.keys 0) []
 
+-- the key that the AS of this address has in use, none where the network lacks it
+abbrev pub key_in : Network → ℕ → List ℕ
+key_in n ia = option_map_or key_of (as_named n.ases ia) []
+
 -- the entry of an AS between two of its interfaces, authenticated under its key and this accumulator
 abbrev pub entry_by : AsEntry → ℕ → ℕ → ℕ → ℕ → Entry
-entry_by one timestamp beta ingress egress = record { ia = one.ia; cons_ingress = ingress; cons_egress = egress; exp_time = one.exp_time; mac = authenticator (key_of one) beta timestamp one.exp_time ingress egress }
+entry_by one timestamp beta ingress egress = record {
+  ia = one.ia;
+  cons_ingress = ingress;
+  cons_egress = egress;
+  exp_time = one.exp_time;
+  mac = authenticator (key_of one) beta timestamp one.exp_time ingress egress;
+}
 
 -- the entry that an AS adds to a beacon, under the accumulator of the entries before
 abbrev pub added_by : AsEntry → Chain → ℕ → ℕ → Entry
-added_by one beacon ingress egress = entry_by one beacon.timestamp (beta_of beacon (length beacon.entries)) ingress egress
+added_by one beacon ingress egress =
+    entry_by one beacon.timestamp (beta_of beacon (length beacon.entries)) ingress egress
 
 -- the kind of a beacon that begins over a link of this kind
 abbrev pub kind_over : LinkKind → SegKind

@@ -1,5 +1,7 @@
--- What a network's links and keys make: a beacon under way and a segment (draft-dekater-scion-controlplane, path construction).
-use Rattle.std.specs.Prelude.{◌≡◌, ◌⊎◌, ℕ, ◌+◌, true, List, length, slice_get, Some, Ok, Any}
+-- What a network's links and keys make: a beacon under way and a segment
+-- (draft-dekater-scion-controlplane, path construction).
+use Rattle.std.specs.Prelude.{◌≡◌, ◌⊎◌, ℕ, ◌+◌, true, List, [], ◌∷◌, length, map, slice_get, Some, Result, Ok, Any}
+use Rattle.refusal.specs.Refusal.{◌>>=◌}
 use Rattle.hop_mac.specs.Hop.{authenticator}
 use Rattle.scion_topology.specs.declared.entry.IfEntry.{IfEntry}
 use Rattle.scion_topology.specs.declared.network.AsEntry.{AsEntry}
@@ -8,16 +10,19 @@ use Rattle.scion_topology.specs.declared.network.Link.{Link}
 use Rattle.scion_topology.specs.declared.network.LinkClass.TheVariants as classes
 use Rattle.scion_topology.specs.Network.{Network, as_named}
 use Rattle.scion_topology.specs.Causes.{is_core}
-use Rattle.scion_topology.specs.Topology.{interface_at}
+use Rattle.scion_topology.specs.Topology.{interface_at, far_end_in}
+use Rattle.scion_topology.specs.Ends.{IsUp}
 use Rattle.path_segment.specs.declared.entry.Entry.{Entry}
 use Rattle.path_segment.specs.declared.kind.SegKind.{SegKind}
 use Rattle.path_segment.specs.declared.kind.SegKind.TheVariants.{Core, Intra}
-use Rattle.path_segment.specs.Chain.{Chain, beta_of}
+use Rattle.path_segment.specs.Chain.{Chain, with_last, beta_of}
 use Rattle.path_segment.specs.Rules.{IsBeacon, IsSegment}
-use Rattle.beaconing.specs.Entry.{goes_on}
-use Rattle.beaconing.specs.Calls.{last_of}
+use Rattle.beaconing.specs.declared.fault.BeaconFault.{BeaconFault}
+use Rattle.beaconing.specs.Entry.{goes_on, key_in}
+use Rattle.beaconing.specs.Calls.{last_of, come_to, extended}
 
--- an entry of one of the network's ASes, with the AS's expiry, authenticated under this key and accumulator
+-- an entry of one of the network's ASes, with the AS's expiry, authenticated under this key and
+-- accumulator
 pub record IsEntryOf (n : Network) (timestamp beta : ℕ) (key : List ℕ) (entry : Entry) : Type 0 where
   pub one : AsEntry
   pub named : as_named n.ases entry.ia ≡ Some one
@@ -26,19 +31,28 @@ pub record IsEntryOf (n : Network) (timestamp beta : ℕ) (key : List ℕ) (entr
 
 -- one end is the way out of an entry, and the other the way in of the next
 abbrev pub AreWays : Entry → Entry → End → End → Type 0
-AreWays entry next near far = (near.ia ≡ entry.ia) × (near.number ≡ entry.cons_egress) × (far.ia ≡ next.ia) × (far.number ≡ next.cons_ingress)
+AreWays entry next near far =
+    (near.ia ≡ entry.ia) × (near.number ≡ entry.cons_egress)
+    × (far.ia ≡ next.ia) × (far.number ≡ next.cons_ingress)
 
--- the link leads from an entry to the next: a core link either way, a child link from the parent to the child
+-- the link leads from an entry to the next: a core link either way, a child link from the parent to
+-- the child
 abbrev pub LeadsOn : SegKind → Entry → Entry → Link → Type 0
-LeadsOn Core entry next link = (link.class ≡ classes.Core) × (AreWays entry next link.a link.b ⊎ AreWays entry next link.b link.a)
+LeadsOn Core entry next link =
+    (link.class ≡ classes.Core) × (AreWays entry next link.a link.b ⊎ AreWays entry next link.b link.a)
 LeadsOn Intra entry next link = (link.class ≡ classes.Child) × AreWays entry next link.a link.b
 
--- entries as the network makes them, each under the key at its place: the first is of a core AS, and a link leads from each to the next
+-- entries as the network makes them, each under the key at its place: the first is of a core AS, and
+-- a link leads from each to the next
 pub record IsMade (n : Network) (keys : List (List ℕ)) (chain : Chain) : Type 0 where
   pub keyed : length keys ≡ length chain.entries
   pub core : (first : Entry) → slice_get chain.entries 0 ≡ Some first → is_core n.ases first.ia ≡ true
-  pub entries : (i : ℕ) (key : List ℕ) (entry : Entry) → slice_get keys i ≡ Some key → slice_get chain.entries i ≡ Some entry → IsEntryOf n chain.timestamp (beta_of chain i) key entry
-  pub joined : (i : ℕ) (entry next : Entry) → slice_get chain.entries i ≡ Some entry → slice_get chain.entries (i + 1) ≡ Some next → Any (LeadsOn chain.kind entry next) n.links
+  pub entries : (i : ℕ) (key : List ℕ) (entry : Entry)
+      → slice_get keys i ≡ Some key → slice_get chain.entries i ≡ Some entry
+      → IsEntryOf n chain.timestamp (beta_of chain i) key entry
+  pub joined : (i : ℕ) (entry next : Entry)
+      → slice_get chain.entries i ≡ Some entry → slice_get chain.entries (i + 1) ≡ Some next
+      → Any (LeadsOn chain.kind entry next) n.links
 
 -- the entry's way out is an interface of the network over which a beacon of this kind goes on
 pub record HasWayOut (n : Network) (kind : SegKind) (entry : Entry) : Type 0 where
@@ -56,3 +70,28 @@ pub record IsUnderWay (n : Network) (keys : List (List ℕ)) (beacon : Chain) : 
 pub record IsIssued (n : Network) (keys : List (List ℕ)) (segment : Chain) : Type 0 where
   pub rules : IsSegment segment
   pub made : IsMade n keys segment
+
+-- the keys that the ASes of a chain's entries have in use
+abbrev pub keys_in : Network → Chain → List (List ℕ)
+keys_in n chain = map (λ entry. key_in n entry.ia) chain.entries
+
+-- the beacon, passed on by these ASes over these interfaces, one after another
+abbrev pub passed_on : Network → Chain → List (ℕ × ℕ) → Result Chain BeaconFault
+passed_on n beacon [] = Ok beacon
+passed_on n beacon (hop ∷ hops) = do
+  next ← extended n beacon hop.0 hop.1
+  passed_on n next hops
+
+-- a beacon comes to this AS by this interface, over a link that is up
+pub record ComesOver (n : Network) (beacon : Chain) (ia ingress : ℕ) : Type 0 where
+  pub last : Entry
+  pub is_last : last_of beacon ≡ Some last
+  pub leads : far_end_in n last.ia last.cons_egress ≡ Ok (ia, ingress)
+  pub up : IsUp n last.ia last.cons_egress true
+
+-- a chain has one entry more than the beacon before, that of this AS, to which the beacon came
+pub record Grows (n : Network) (before : Chain) (ia : ℕ) (after : Chain) : Type 0 where
+  pub entry : Entry
+  pub of : entry.ia ≡ ia
+  pub came : come_to n before ia ≡ Ok entry.cons_ingress
+  pub is : after ≡ with_last before entry

@@ -1,14 +1,14 @@
 ghost use Rattle.std.specs.Prelude.{◌≡◌, ◌∷◌, [], None, IfOk};
 ghost use Rattle.path_segment.specs.Chain.{Chain, with_last};
 ghost use Rattle.path_segment.specs.Rules.{first_fault, next_fault, last_fault};
-ghost use Rattle.beaconing.specs.Fault.{Answers};
 ghost use Rattle.beaconing.specs.Calls.{originated, extended, terminated};
-ghost use Rattle.beaconing.specs.Here.{Leads};
+ghost use Rattle.refusal.specs.Refusal.{Answers, Gives};
 
 use crate::fault::{BeaconError, BeaconFault};
 use crate::here::{added_by, come_to, entry_by, goes_on, is_new, kind_over, way_out};
 use isd_as::{IfId, IsdAs};
-use path_segment::{Beacon, Entry, SegKind, Segment, SegmentError};
+use path_segment::{Beacon, Entry, SegKind, Segment};
+use refusal::OrMemory;
 use scion_topology::Topology;
 use std::alloc::Global;
 
@@ -29,13 +29,13 @@ pub fn originate(
     timestamp: u32,
     beta0: u16,
 ) -> Result<Beacon, BeaconError>
-    ensures { Answers result (originated topology.now ia egress timestamp beta0) }
+    ensures { Answers (λ made. made) result (originated topology.now ia egress timestamp beta0) }
 {
-    let (kind, entry) = first_entry(topology, ia, egress, timestamp, beta0)?;
+    let (kind, entry) = first_entry(topology, ia, egress, timestamp, beta0).map_err(OrMemory::Refused)?;
     match Beacon::first(alloc, kind, timestamp, beta0, entry) {
         Ok(beacon) => Ok(beacon),
-        Err(SegmentError::Memory) => Err(BeaconError::Memory),
-        Err(SegmentError::Fault(_)) => unreachable!(),
+        Err(OrMemory::Memory) => Err(OrMemory::Memory),
+        Err(OrMemory::Refused(_)) => unreachable!(),
     }
 }
 
@@ -54,13 +54,13 @@ pub fn extend(
     ia: IsdAs,
     egress: IfId,
 ) -> Result<Beacon, BeaconError>
-    ensures { Answers result (extended topology.now beacon.now ia egress) }
+    ensures { Answers (λ made. made) result (extended topology.now beacon.now ia egress) }
 {
-    let entry = next_entry(topology, beacon, ia, egress)?;
-    match beacon.with_entry(alloc, &entry) {
+    let entry = next_entry(topology, beacon, ia, egress).map_err(OrMemory::Refused)?;
+    match beacon.with_entry(alloc, entry) {
         Ok(beacon) => Ok(beacon),
-        Err(SegmentError::Memory) => Err(BeaconError::Memory),
-        Err(SegmentError::Fault(_)) => unreachable!(),
+        Err(OrMemory::Memory) => Err(OrMemory::Memory),
+        Err(OrMemory::Refused(_)) => unreachable!(),
     }
 }
 
@@ -75,13 +75,13 @@ pub fn terminate(
     beacon: &Beacon,
     ia: IsdAs,
 ) -> Result<Segment, BeaconError>
-    ensures { Answers result (terminated topology.now beacon.now ia) }
+    ensures { Answers (λ made. made) result (terminated topology.now beacon.now ia) }
 {
-    let entry = last_entry(topology, beacon, ia)?;
-    match beacon.finish(alloc, &entry) {
+    let entry = last_entry(topology, beacon, ia).map_err(OrMemory::Refused)?;
+    match beacon.finish(alloc, entry) {
         Ok(segment) => Ok(segment),
-        Err(SegmentError::Memory) => Err(BeaconError::Memory),
-        Err(SegmentError::Fault(_)) => unreachable!(),
+        Err(OrMemory::Memory) => Err(OrMemory::Memory),
+        Err(OrMemory::Refused(_)) => unreachable!(),
     }
 }
 
@@ -94,11 +94,13 @@ fn first_entry(
     timestamp: u32,
     beta0: u16,
 ) -> Result<(SegKind, Entry), BeaconFault>
-    ensures value { Leads (λ x. record { kind = x.0; timestamp = timestamp; beta0 = beta0; entries = x.1 ∷ [] }) result
+    ensures value { Gives (λ x. record { kind = x.0; timestamp = timestamp; beta0 = beta0; entries = x.1 ∷ [] }) result
         (originated topology.now ia egress timestamp beta0) }
     ensures fits { IfOk result (λ x. first_fault x.1 ≡ None) }
 {
-    let one = topology.as_entry(ia).ok_or(BeaconFault::NotCore)?;
+    let Ok(one) = topology.as_entry(ia) else {
+        return Err(BeaconFault::NotCore);
+    };
     if !one.core {
         return Err(BeaconFault::NotCore);
     }
@@ -118,10 +120,12 @@ fn next_entry(
     ia: IsdAs,
     egress: IfId,
 ) -> Result<Entry, BeaconFault>
-    ensures value { Leads (λ entry. with_last beacon.now entry) result (extended topology.now beacon.now ia egress) }
+    ensures value { Gives (λ entry. with_last beacon.now entry) result (extended topology.now beacon.now ia egress) }
     ensures fits { IfOk result (λ entry. next_fault beacon.now.entries entry ≡ None) }
 {
-    let one = topology.as_entry(ia).ok_or(BeaconFault::NotHere)?;
+    let Ok(one) = topology.as_entry(ia) else {
+        return Err(BeaconFault::NotHere);
+    };
     let ingress = come_to(topology, beacon, ia)?;
     is_new(beacon, one.ia)?;
     if beacon.entries().len() >= MAX_BEACON_LEN {
@@ -140,10 +144,12 @@ fn next_entry(
 /// The entry by which an AS ends a beacon.
 #[tactic(auto, unfolding(crate::specs::Calls::terminated, path_segment::specs::Rules::last_fault))]
 fn last_entry(topology: &Topology, beacon: &Beacon, ia: IsdAs) -> Result<Entry, BeaconFault>
-    ensures value { Leads (λ entry. with_last beacon.now entry) result (terminated topology.now beacon.now ia) }
+    ensures value { Gives (λ entry. with_last beacon.now entry) result (terminated topology.now beacon.now ia) }
     ensures fits { IfOk result (λ entry. last_fault beacon.now.entries entry ≡ None) }
 {
-    let one = topology.as_entry(ia).ok_or(BeaconFault::NotHere)?;
+    let Ok(one) = topology.as_entry(ia) else {
+        return Err(BeaconFault::NotHere);
+    };
     let ingress = come_to(topology, beacon, ia)?;
     is_new(beacon, one.ia)?;
     Ok(added_by(one, beacon, ingress, IfId::NONE))

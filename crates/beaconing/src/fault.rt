@@ -1,8 +1,7 @@
 ghost use Rattle.std.specs.Prelude.{◌≡◌};
 ghost use Rattle.beaconing.specs.Fault.{code_of, name_of};
-ghost use Rattle.beaconing.specs.declared.fault.BeaconError.TheVariants.{Memory, Fault};
 
-use std::alloc::AllocError;
+use refusal::OrMemory;
 use thiserror::Error;
 
 /// Why an AS does not begin a beacon, pass it on, or end it.
@@ -64,28 +63,4 @@ impl BeaconFault {
 }
 
 /// Why a call gave no beacon or segment: want of memory, or a refusal.
-#[derive(Clone, Copy, Debug, PartialEq, Eq, Error)]
-pub enum BeaconError {
-    /// Memory ran out.
-    #[error("out of memory")]
-    Memory,
-    /// The AS refused.
-    #[error("{0}")]
-    Fault(BeaconFault),
-}
-
-impl From<BeaconFault> for BeaconError {
-    ghost from_gives = { λ f e. e ≡ Fault f };
-
-    fn from(fault: BeaconFault) -> BeaconError {
-        BeaconError::Fault(fault)
-    }
-}
-
-impl From<AllocError> for BeaconError {
-    ghost from_gives = { λ _ e. e ≡ Memory };
-
-    fn from(_error: AllocError) -> BeaconError {
-        BeaconError::Memory
-    }
-}
+pub type BeaconError = OrMemory<BeaconFault>;

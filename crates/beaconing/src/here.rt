@@ -5,7 +5,7 @@ ghost use Rattle.std.specs.List.{list_any};
 ghost use Rattle.scion_topology.specs.Topology.{interface_at};
 ghost use Rattle.beaconing.specs.Entry.{entry_by, added_by, kind_over, goes_on};
 ghost use Rattle.beaconing.specs.Calls.{or_else, come_to, is_new};
-ghost use Rattle.beaconing.specs.Here.{Leads};
+ghost use Rattle.refusal.specs.Refusal.{Gives};
 
 use crate::fault::BeaconFault;
 use hop_mac::hop_mac;
@@ -74,7 +74,7 @@ pub(crate) fn goes_on(kind: SegKind, link: LinkKind) -> bool
 
 /// An interface by which a beacon is to go out.
 pub(crate) fn way_out(topology: &Topology, ia: IsdAs, number: IfId) -> Result<&IfEntry, BeaconFault>
-    ensures value { Leads (λ out. out.now) result (or_else BeaconFault.NoInterface (interface_at topology.now ia number)) }
+    ensures value { Gives (λ out. out.now) result (or_else BeaconFault.NoInterface (interface_at topology.now ia number)) }
     ensures above { IfOk result (λ _. number ≢ 0) }
 {
     topology.known();

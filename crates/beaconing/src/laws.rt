@@ -1,31 +1,53 @@
 //! Laws of beacons and segments: each is the contract of a function that does nothing.
 
-ghost use Rattle.std.specs.Prelude.{◌≡◌, ℕ, Bool, List, [], ◌∷◌, ◌++◌, Some, Ok};
-ghost use Rattle.scion_topology.specs.declared.network.AsEntry.{AsEntry};
-ghost use Rattle.scion_topology.specs.Network.{Network, as_named};
+ghost use Rattle.std.specs.Prelude.{◌≡◌, ℕ, Bool, List, [], ◌∷◌, ◌++◌, Ok};
+ghost use Rattle.scion_topology.specs.Network.{Network};
 ghost use Rattle.scion_topology.specs.Topology.{IsNetwork, set_up, rotated};
 ghost use Rattle.path_segment.specs.Chain.{Chain};
-ghost use Rattle.beaconing.specs.Entry.{key_of};
-ghost use Rattle.beaconing.specs.Calls.{originated, extended, terminated};
-ghost use Rattle.beaconing.specs.Issued.{IsUnderWay, IsIssued};
+ghost use Rattle.beaconing.specs.Entry.{key_in};
+ghost use Rattle.beaconing.specs.Calls.{originated, come_to, extended, terminated};
+ghost use Rattle.beaconing.specs.Issued.{IsUnderWay, IsIssued, ComesOver, Grows, keys_in, passed_on};
 
-/// A beacon that an AS begins is under way, with the key of the AS.
+/// A beacon that an AS begins is under way, with the key that the AS has in use.
 pub fn begun_is_under_way()
-    ensures { (n : Network) (ia egress timestamp beta0 : ℕ) (one : AsEntry) (beacon : Chain) → IsNetwork n → as_named n.ases ia ≡ Some one
-        → originated n ia egress timestamp beta0 ≡ Ok beacon → IsUnderWay n (key_of one ∷ []) beacon }
+    ensures { (n : Network) (ia egress timestamp beta0 : ℕ) (beacon : Chain) → IsNetwork n
+        → originated n ia egress timestamp beta0 ≡ Ok beacon
+        → IsUnderWay n (key_in n ia ∷ []) beacon }
 {}
 
-/// A beacon under way that an AS passes on is under way, with the key of the AS besides.
+/// A beacon under way that an AS passes on is under way, with the key that the AS has in use besides.
 pub fn passed_on_is_under_way()
-    ensures { (n : Network) (keys : List (List ℕ)) (beacon : Chain) (ia egress : ℕ) (one : AsEntry) (next : Chain) → IsNetwork n → IsUnderWay n keys beacon
-        → as_named n.ases ia ≡ Some one → extended n beacon ia egress ≡ Ok next → IsUnderWay n (keys ++ key_of one ∷ []) next }
+    ensures { (n : Network) (keys : List (List ℕ)) (beacon : Chain) (ia egress : ℕ) (next : Chain)
+        → IsNetwork n → IsUnderWay n keys beacon → extended n beacon ia egress ≡ Ok next
+        → IsUnderWay n (keys ++ (key_in n ia ∷ [])) next }
 {}
 
-/// A beacon under way that ends in an AS becomes a segment that the network issues, with the key of
-/// the AS besides.
+/// A beacon under way that ends in an AS becomes a segment that the network issues, with the key that
+/// the AS has in use besides.
 pub fn ended_is_issued()
-    ensures { (n : Network) (keys : List (List ℕ)) (beacon : Chain) (ia : ℕ) (one : AsEntry) (segment : Chain) → IsNetwork n → IsUnderWay n keys beacon
-        → as_named n.ases ia ≡ Some one → terminated n beacon ia ≡ Ok segment → IsIssued n (keys ++ key_of one ∷ []) segment }
+    ensures { (n : Network) (keys : List (List ℕ)) (beacon : Chain) (ia : ℕ) (segment : Chain)
+        → IsNetwork n → IsUnderWay n keys beacon → terminated n beacon ia ≡ Ok segment
+        → IsIssued n (keys ++ (key_in n ia ∷ [])) segment }
+{}
+
+/// A segment that is begun, passed on any number of times and ended in one unchanged network is
+/// issued under the keys that its own ASes have in use.
+pub fn made_is_issued()
+    ensures { (n : Network) (ia egress timestamp beta0 : ℕ) (hops : List (ℕ × ℕ)) (last : ℕ)
+        (begun beacon segment : Chain) → IsNetwork n
+        → originated n ia egress timestamp beta0 ≡ Ok begun → passed_on n begun hops ≡ Ok beacon
+        → terminated n beacon last ≡ Ok segment → IsIssued n (keys_in n segment) segment }
+{}
+
+/// Each call adds one entry, that of the AS to which the beacon came; and the link by which it came
+/// is up.
+pub fn chains_grow_by_one()
+    ensures extended { (n : Network) (beacon : Chain) (ia egress : ℕ) (next : Chain)
+        → extended n beacon ia egress ≡ Ok next → Grows n beacon ia next }
+    ensures terminated { (n : Network) (beacon : Chain) (ia : ℕ) (segment : Chain)
+        → terminated n beacon ia ≡ Ok segment → Grows n beacon ia segment }
+    ensures came { (n : Network) (beacon : Chain) (ia ingress : ℕ) → IsNetwork n
+        → come_to n beacon ia ≡ Ok ingress → ComesOver n beacon ia ingress }
 {}
 
 /// A beacon under way stays so where a link goes up or down, and where an AS takes another key.

@@ -12,6 +12,3 @@ pub mod laws;
 
 pub use calls::{extend, originate, terminate};
 pub use fault::{BeaconError, BeaconFault};
-
-#[cfg(test)]
-mod tests;

@@ -1,5 +1,5 @@
 -- When a hop expires (draft-dekater-scion-dataplane), counted in half seconds.
-use Rattle.std.specs.Prelude.{ℕ, ◌+◌, ◌*◌, ◌≤◌}
+use Rattle.std.specs.Prelude.{ℕ, ◌+◌, ◌*◌, ◌≤◌, Bool, nat_le}
 
 -- the half second at which a hop expires: 337.5 seconds for each unit of its expiry, one at least
 abbrev pub expiry_of : ℕ → ℕ → ℕ
@@ -8,3 +8,7 @@ expiry_of timestamp exp_time = 2 * timestamp + 675 * (1 + exp_time)
 -- the hop is live at this second, up to and with the moment of its expiry
 abbrev pub IsLive : ℕ → ℕ → ℕ → Type 0
 IsLive timestamp exp_time now = 2 * now ≤ expiry_of timestamp exp_time
+
+-- the same as a test
+abbrev pub is_live_at : ℕ → ℕ → ℕ → Bool
+is_live_at timestamp exp_time now = nat_le (2 * now) (expiry_of timestamp exp_time)

@@ -16,6 +16,3 @@ pub use hmac::hmac_sha256;
 pub use hop::{hop_mac, mac_input, next_beta};
 pub use key::MacKey;
 pub use lifetime::{expiry, hop_is_live};
-
-#[cfg(test)]
-mod tests;

@@ -1,5 +1,5 @@
 ghost use Rattle.std.specs.Prelude.{◌≡◌, ◌↔◌, IsTrue};
-ghost use Rattle.hop_mac.specs.Lifetime.{expiry_of, IsLive};
+ghost use Rattle.hop_mac.specs.Lifetime.{expiry_of, IsLive, is_live_at};
 
 /// The moment at which a hop expires, in half seconds: `exp_time` + 1 times 337.5 seconds after the
 /// timestamp of its segment, which is in seconds.
@@ -12,7 +12,8 @@ pub fn expiry(timestamp: u32, exp_time: u8) -> u64
 /// Whether a hop is live at the second `now`: up to its expiry, that moment included. A hop has no
 /// earliest moment.
 pub fn hop_is_live(timestamp: u32, exp_time: u8, now: u32) -> bool
-    ensures { IsTrue result ↔ IsLive timestamp exp_time now }
+    ensures fact { IsTrue result ↔ IsLive timestamp exp_time now }
+    ensures test { result ≡ is_live_at timestamp exp_time now }
 {
     2 * u64::from(now) <= expiry(timestamp, exp_time)
 }

@@ -9,12 +9,13 @@ use Rattle.std.proofs.lemmas.Str.{chars-IsAscii}
 use Rattle.std.proofs.lemmas.Int.Digits.{digits_value-lt}
 use Rattle.std.proofs.Math.Nat.{pow-le-pow_right}
 use Rattle.std.proofs.lemmas.List.Folds.{list_any-append}
+use Rattle.refusal.specs.Refusal.{◌>>=◌}
 use Rattle.isd_as.specs.declared.fault.AddrFault.{AddrFault}
 use Rattle.isd_as.specs.declared.fault.AddrFault.TheVariants as fault
 use Rattle.isd_as.specs.Address.{dash, colon, Writes, WritesGroup, SpellsGroups, SpellsIsd, SpellsAs, Spells}
-use Rattle.isd_as.specs.Reading.{◌>>=◌, cut_at, all_digits, number_at, isd_at, is_group, groups_at, as_number_at, address_at}
+use Rattle.isd_as.specs.Reading.{cut_at, all_digits, number_at, isd_at, is_group, groups_at, as_number_at, address_at}
 use Rattle.isd_as.proofs.Digits.{AllDigits-all_digits, all_digits-AllDigits}
-use Rattle.isd_as.proofs.Steps.{bind_ok, guard_ok, guard_not, ok_is, done}
+use Rattle.refusal.proofs.Steps.{bind_ok, guard_ok, guard_not, ok_is, done}
 use Rattle.isd_as.proofs.Cut.{has_sign, cut_at-append, append-cut_at}
 
 -- ---- digits

@@ -5,6 +5,22 @@ use Rattle.std.specs.Prelude.{◌≡◌, ℕ, ◌+◌, ◌*◌, ◌/◌, ◌%◌
 use Rattle.std.specs.Fmt.{decimal, digits}
 use Rattle.std.specs.Str.Parse.{IsNumeral, digits_value}
 
+-- the ISD of an address, its high 16 bits
+abbrev pub isd_of : ℕ → ℕ
+isd_of address = address / 2 ^ 48
+
+-- the AS number of an address, its low 48 bits
+abbrev pub as_number_of : ℕ → ℕ
+as_number_of address = address % 2 ^ 48
+
+-- the address of an AS number in an ISD
+abbrev pub address_of : ℕ → ℕ → ℕ
+address_of isd as_number = isd * 2 ^ 48 + as_number
+
+-- the ISD or the AS number is the wildcard 0
+abbrev pub IsWildcard : ℕ → Type 0
+IsWildcard address = (isd_of address ≡ 0) ⊎ (as_number_of address ≡ 0)
+
 -- the sign between the ISD and the AS number, '-'
 abbrev pub dash : ℕ
 dash = 45
@@ -58,7 +74,7 @@ pub record Spells (text : List ℕ) (address : ℕ) : Type 0 where
   pub front : List ℕ
   pub back : List ℕ
   pub parts : text ≡ front ++ (dash ∷ back)
-  pub of : address ≡ isd * 2 ^ 48 + as_number
+  pub of : address ≡ address_of isd as_number
   pub isd_spelled : SpellsIsd front isd
   pub as_spelled : SpellsAs back as_number
 
@@ -70,4 +86,4 @@ canonical_as n = if nat_lt n (2 ^ 32) then decimal n
 
 -- how an address is printed: its ISD in decimal, '-' and its AS number
 abbrev pub canonical : ℕ → List ℕ
-canonical address = decimal (address / 2 ^ 48) ++ (dash ∷ canonical_as (address % 2 ^ 48))
+canonical address = decimal (isd_of address) ++ (dash ∷ canonical_as (as_number_of address))

@@ -7,15 +7,10 @@ use Rattle.std.specs.List.{position_or_len, before_first, after_first, list_all,
 use Rattle.std.specs.Borrow.{Bor}
 use Rattle.std.specs.Str.{chars}
 use Rattle.std.specs.Str.Parse.{digits_value}
+use Rattle.refusal.specs.Refusal.{◌>>=◌}
 use Rattle.isd_as.specs.declared.fault.AddrFault.{AddrFault}
 use Rattle.isd_as.specs.declared.fault.AddrFault.TheVariants as fault
-use Rattle.isd_as.specs.Address.{dash, colon}
-
--- one step after another, up to the first refusal
-infixl 10 ◌>>=◌
-abbrev pub ◌>>=◌ : {A B : Type 0} → Result A AddrFault → (A → Result B AddrFault) → Result B AddrFault
-(Ok x) >>= f = f x
-(Err e) >>= f = Err e
+use Rattle.isd_as.specs.Address.{address_of, dash, colon}
 
 -- the text before and the text after the first such sign, or the refusal where there is none
 abbrev pub cut_at : ℕ → AddrFault → List ℕ → Result (List ℕ × List ℕ) AddrFault
@@ -69,4 +64,4 @@ address_at text = do
   parts ← cut_at dash fault.NoDash text
   isd ← isd_at parts.0
   as_number ← as_number_at parts.1
-  Ok (isd * 2 ^ 48 + as_number)
+  Ok (address_of isd as_number)

@@ -1,5 +1,6 @@
-ghost use Rattle.std.specs.Prelude.{◌≡◌, ℕ, ◌+◌, ◌*◌, ◌/◌, ◌%◌, ◌^◌, ◌<◌, ◌↔◌, ◌⊎◌, IsTrue};
+ghost use Rattle.std.specs.Prelude.{◌≡◌, ℕ, ◌^◌, ◌<◌, ◌↔◌, IsTrue};
 ghost use Rattle.std.specs.Int.{w64, to_be_bytes, from_be_bytes};
+ghost use Rattle.isd_as.specs.Address.{address_of, isd_of, as_number_of, IsWildcard};
 
 use crate::numbers::{AsNumber, Isd};
 use std::marker::Model;
@@ -23,7 +24,7 @@ impl Model for IsdAs {
 impl IsdAs {
     /// The address of this AS number in this ISD.
     pub fn new(isd: Isd, as_number: AsNumber) -> IsdAs
-        ensures { result ≡ isd * 2 ^ 48 + as_number }
+        ensures { result ≡ address_of isd as_number }
     {
         let high = u64::from(isd.number());
         IsdAs {
@@ -48,14 +49,14 @@ impl IsdAs {
 
     /// The ISD, the high 16 bits.
     pub fn isd(self) -> Isd
-        ensures { result ≡ self / 2 ^ 48 }
+        ensures { result ≡ isd_of self }
     {
         Isd((self.number >> 48) as u16)
     }
 
     /// The AS number, the low 48 bits.
     pub fn as_number(self) -> AsNumber
-        ensures value { result ≡ self % 2 ^ 48 }
+        ensures { result ≡ as_number_of self }
     {
         match AsNumber::new(self.number % (1 << 48)) {
             Some(as_number) => as_number,
@@ -65,7 +66,7 @@ impl IsdAs {
 
     /// Whether the ISD or the AS number is the wildcard 0.
     pub fn is_wildcard(self) -> bool
-        ensures { IsTrue result ↔ ((self / 2 ^ 48 ≡ 0) ⊎ (self % 2 ^ 48 ≡ 0)) }
+        ensures { IsTrue result ↔ IsWildcard self }
     {
         self.isd().is_wildcard() || self.as_number().is_wildcard()
     }

@@ -5,6 +5,7 @@
 #![tactic(auto)]
 
 mod address;
+pub mod comparison;
 mod fault;
 pub mod laws;
 mod numbers;
@@ -15,6 +16,3 @@ pub use address::IsdAs;
 pub use fault::AddrFault;
 pub use numbers::{AsNumber, IfId, Isd};
 pub use writing::MAX_TEXT_LEN;
-
-#[cfg(test)]
-mod tests;

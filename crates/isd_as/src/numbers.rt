@@ -15,9 +15,6 @@ impl Model for Isd {
 }
 
 impl Isd {
-    /// The wildcard, which stands for any ISD.
-    pub const WILDCARD: Isd = Isd(0);
-
     /// The number of this ISD.
     pub fn number(self) -> u16
         ensures { result ≡ self }

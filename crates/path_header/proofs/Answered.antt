@@ -2,7 +2,6 @@
 use Rattle.std.proofs.Common.{◌≡◌, ℕ, ◌+◌, ◌<◌, Bool, true, false, cond, List, get_or, drop, Result, Ok, Err, refl}
 use Rattle.std.proofs.lemmas.List.{get_or-drop}
 use Rattle.path_header.specs.declared.fault.HeaderFault.{HeaderFault}
-use Rattle.path_header.specs.Building.{◌>>=◌}
 
 -- each element is a byte
 abbrev pub AreBytes : List ℕ → Type 0
@@ -10,15 +9,6 @@ AreBytes bytes = (i : ℕ) → get_or bytes i 0 < 256
 
 pub AreBytes-drop : (n : ℕ) (bytes : List ℕ) → AreBytes bytes → AreBytes (drop n bytes)
 AreBytes-drop n bytes h i = rw get_or-drop (h (n + i))
-
--- the value of a step that did not refuse
-pub bind_ok : {A B : Type 0} (r : Result A HeaderFault) (f : A → Result B HeaderFault) (y : B) → (r >>= f) ≡ Ok y → (x : A) × (r ≡ Ok x) × (f x ≡ Ok y)
-bind_ok (Ok x) f y e = (x, refl, e)
-bind_ok (Err d) f y e = absurd cc
-
--- a step that did not refuse, and what follows
-pub bind_from : {A B : Type 0} (r : Result A HeaderFault) (f : A → Result B HeaderFault) (x : A) (z : Result B HeaderFault) → r ≡ Ok x → f x ≡ z → (r >>= f) ≡ z
-bind_from r f x z e h = rw e h
 
 -- a test that did not refuse
 pub passed : {A : Type 0} (b : Bool) (d : HeaderFault) (r : Result A HeaderFault) (y : A) → cond b (Err d) r ≡ Ok y → (b ≡ false) × (r ≡ Ok y)
@@ -29,9 +19,3 @@ passed false d r y e = (refl, e)
 pub passed_last : {A : Type 0} (b : Bool) (d : HeaderFault) (r : Result A HeaderFault) (y : A) → cond b r (Err d) ≡ Ok y → (b ≡ true) × (r ≡ Ok y)
 passed_last true d r y e = (refl, e)
 passed_last false d r y e = absurd cc
-
-abbrev answer : {A : Type 0} → A → Result A HeaderFault
-answer x = Ok x
-
-pub ok_is : {A : Type 0} (x y : A) → answer x ≡ answer y → x ≡ y
-ok_is x y e = cc

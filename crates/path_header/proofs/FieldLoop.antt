@@ -2,7 +2,7 @@
 use Rattle.std.proofs.Common.{◌≡◌, ℕ, suc, ◌-◌, ◌+◌, ◌*◌, ◌≤◌, ◌<◌, List, [], ◌∷◌, ◌++◌, drop, Result, Ok, Err, refl, sym, ap, ◌∙◌, append_assoc, arith}
 use Rattle.std.proofs.lemmas.List.{append-nil, drop-drop}
 use Rattle.path_header.specs.declared.fault.HeaderFault.{HeaderFault}
-use Rattle.path_header.specs.Building.{◌>>=◌}
+use Rattle.refusal.specs.Refusal.{◌>>=◌}
 use Rattle.path_header.specs.Reading.{fields_at}
 
 -- what was read before, and what is still read

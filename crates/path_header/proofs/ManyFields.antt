@@ -5,10 +5,11 @@ use Rattle.std.proofs.lemmas.List.{drop_at}
 use Rattle.std.proofs.lemmas.List.Concat.{flat_map-cons}
 use Rattle.std.proofs.Math.Seq.{take-add}
 use Rattle.path_header.specs.declared.fault.HeaderFault.{HeaderFault}
-use Rattle.path_header.specs.Building.{◌>>=◌}
+use Rattle.refusal.specs.Refusal.{◌>>=◌}
 use Rattle.path_header.specs.Spelling.{info_spelling, hop_spelling, InfoFits, HopFits}
 use Rattle.path_header.specs.Reading.{info_at, hop_at, fields_at}
-use Rattle.path_header.proofs.Answered.{AreBytes, AreBytes-drop, bind_ok, ok_is}
+use Rattle.refusal.proofs.Steps.{bind_ok, ok_is}
+use Rattle.path_header.proofs.Answered.{AreBytes, AreBytes-drop}
 use Rattle.path_header.proofs.OneField.{info_takes, info_again, length-info_spelling, hop_takes, hop_again, length-hop_spelling}
 
 -- a reader of a field of this width, its spelling, and what has one

@@ -11,7 +11,8 @@ use Rattle.path_header.specs.Value.{AreLens, hop_count, len_for}
 use Rattle.path_header.specs.Building.{has_gap, is_wide, checked_lens}
 use Rattle.path_header.specs.Spelling.{meta_word}
 use Rattle.path_header.specs.Reading.{word_at, reserved_bits, meta_from, announced, meta_at}
-use Rattle.path_header.proofs.Answered.{AreBytes, bind_ok, bind_from, passed, ok_is}
+use Rattle.refusal.proofs.Steps.{bind_ok, bind_from, ok_is}
+use Rattle.path_header.proofs.Answered.{AreBytes, passed}
 use Rattle.path_header.proofs.OneField.{four}
 
 -- ---- lengths

@@ -9,7 +9,8 @@ use Rattle.path_header.specs.declared.fields.InfoField.{InfoField}
 use Rattle.path_header.specs.declared.fields.HopField.{HopField}
 use Rattle.path_header.specs.Spelling.{info_spelling, hop_spelling, InfoFits, HopFits}
 use Rattle.path_header.specs.Reading.{info_at, hop_at}
-use Rattle.path_header.proofs.Answered.{AreBytes, passed, ok_is}
+use Rattle.refusal.proofs.Steps.{ok_is}
+use Rattle.path_header.proofs.Answered.{AreBytes, passed}
 
 -- ---- numbers of two and four bytes
 

@@ -12,10 +12,11 @@ use Rattle.path_header.specs.declared.meta.Meta.{Meta}
 use Rattle.path_header.specs.declared.fields.InfoField.{InfoField}
 use Rattle.path_header.specs.declared.fields.HopField.{HopField}
 use Rattle.path_header.specs.Value.{HeaderValue, IsHeader, info_count, hop_count, header_len, len_for}
-use Rattle.path_header.specs.Building.{◌>>=◌}
+use Rattle.refusal.specs.Refusal.{◌>>=◌}
 use Rattle.path_header.specs.Spelling.{meta_of, meta_word, info_spelling, hop_spelling, spelling, InfoFits, HopFits, Fits, Spells}
 use Rattle.path_header.specs.Reading.{meta_at, info_at, hop_at, fields_at, header_at, read_at}
-use Rattle.path_header.proofs.Answered.{AreBytes, AreBytes-drop, bind_ok, bind_from, passed_last, ok_is}
+use Rattle.refusal.proofs.Steps.{bind_ok, bind_from, ok_is}
+use Rattle.path_header.proofs.Answered.{AreBytes, AreBytes-drop, passed_last}
 use Rattle.path_header.proofs.ManyFields.{info_is_field, hop_is_field, fields_take, fields_again, length-fields}
 use Rattle.path_header.proofs.MetaField.{MetaFits, meta_takes, meta_again}
 
@@ -150,3 +151,15 @@ spelled_once v w text more first second =
     let len_same : header_len v ≡ header_len w = ap (λ (x : HeaderValue). header_len x) same in
     let whole : length (spelling v ++ more) ≡ length (spelling w) = ap (λ (t : List ℕ). length t) (same_bytes ∙ append-nil (spelling w)) in
     (same, nil_from_length more (omega (arith, whole, length-append (spelling v) more, len_v, len_w, len_same)))
+
+-- what spells a header is read as it, whatever follows
+pub spelled_is_read : (v : HeaderValue) (text rest : List ℕ) → Spells text v → read_at (text ++ rest) ≡ Ok (v, header_len v)
+spelled_is_read v text rest spells = is_only (text ++ rest) (read_at (text ++ rest)) refl v text rest spells refl
+
+-- it has the header's length
+pub spelled_is_long : (v : HeaderValue) (text : List ℕ) → Spells text v → length text ≡ header_len v
+spelled_is_long v text spells = rw spells.spelled (length-spelling v spells.is_header spells.fits)
+
+-- a header whose numbers fit is spelled by its spelling
+pub spelling_spells : (v : HeaderValue) → IsHeader v → Fits v → Spells (spelling v) v
+spelling_spells v is fits = record { is_header = is; fits = fits; spelled = refl }

@@ -1,18 +1,13 @@
 -- Building a path header from its fields, with the first refusal that is met: the lengths of
 -- draft-dekater-scion-dataplane, the SCION path type.
 use Rattle.std.specs.Prelude.{List, length, Bool, ◌==◌, ◌&&◌, ◌||◌, nat_lt, if◌then◌else◌, Result, Ok, Err}
+use Rattle.refusal.specs.Refusal.{◌>>=◌}
 use Rattle.path_header.specs.declared.fault.HeaderFault.{HeaderFault}
 use Rattle.path_header.specs.declared.fault.HeaderFault.TheVariants as faults
 use Rattle.path_header.specs.declared.lens.SegLens.{SegLens}
 use Rattle.path_header.specs.declared.fields.InfoField.{InfoField}
 use Rattle.path_header.specs.declared.fields.HopField.{HopField}
 use Rattle.path_header.specs.Value.{HeaderValue, info_count, hop_count}
-
--- what follows an answer, unless that is a refusal
-infixl 10 ◌>>=◌
-abbrev pub ◌>>=◌ : {A B : Type 0} → Result A HeaderFault → (A → Result B HeaderFault) → Result B HeaderFault
-(Ok x) >>= f = f x
-(Err e) >>= f = Err e
 
 -- the first segment is empty, or a segment follows an empty one
 abbrev pub has_gap : SegLens → Bool

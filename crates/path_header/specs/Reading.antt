@@ -2,13 +2,14 @@
 -- draft-dekater-scion-dataplane, the SCION path type.
 use Rattle.std.specs.Prelude.{ℕ, zero, suc, ◌+◌, ◌*◌, ◌/◌, ◌%◌, ◌^◌, List, [], ◌∷◌, length, drop, slice_index, nat_lt, ◌==◌, ◌&&◌, ◌||◌, bit_and, if◌then◌else◌, Result, Ok, Err}
 use Rattle.std.specs.Int.{w16, w32, from_be_bytes}
+use Rattle.refusal.specs.Refusal.{◌>>=◌}
 use Rattle.path_header.specs.declared.fault.HeaderFault.{HeaderFault}
 use Rattle.path_header.specs.declared.fault.HeaderFault.TheVariants.{Short, Reserved, PeerFlag, AlertFlag, BadIndex}
 use Rattle.path_header.specs.declared.meta.Meta.{Meta}
 use Rattle.path_header.specs.declared.fields.InfoField.{InfoField}
 use Rattle.path_header.specs.declared.fields.HopField.{HopField}
 use Rattle.path_header.specs.Value.{HeaderValue, info_count, hop_count, len_for, header_len}
-use Rattle.path_header.specs.Building.{◌>>=◌, checked_lens}
+use Rattle.path_header.specs.Building.{checked_lens}
 
 -- the number of the first four bytes
 abbrev pub word_at : List ℕ → ℕ

@@ -68,11 +68,8 @@ impl Header {
         if infos.len() != lens.info_count() || hops.len() != lens.hop_count() {
             return Err(HeaderFault::Short);
         }
-        let Ok(infos) = ArrayVec::try_from(infos) else {
-            return Err(HeaderFault::Short);
-        };
-        let Ok(hops) = ArrayVec::try_from(hops) else {
-            return Err(HeaderFault::Short);
+        let (Ok(infos), Ok(hops)) = (ArrayVec::try_from(infos), ArrayVec::try_from(hops)) else {
+            unreachable!();
         };
         Ok(Header {
             curr_inf: 0,

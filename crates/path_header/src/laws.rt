@@ -1,9 +1,10 @@
 //! Laws of path headers: each is the contract of a function that does nothing.
 
-ghost use Rattle.std.specs.Prelude.{◌≡◌, ℕ, ◌<◌, List, [], ◌++◌};
+ghost use Rattle.std.specs.Prelude.{◌≡◌, ℕ, ◌<◌, List, [], ◌++◌, length, Ok};
 ghost use Rattle.path_header.specs.declared.lens.SegLens.{SegLens};
-ghost use Rattle.path_header.specs.Value.{HeaderValue, IsHeader, IsInSegment, hop_count, segment_at};
-ghost use Rattle.path_header.specs.Spelling.{Spells};
+ghost use Rattle.path_header.specs.Value.{HeaderValue, IsHeader, IsInSegment, header_len, hop_count, segment_at};
+ghost use Rattle.path_header.specs.Spelling.{Fits, Spells, spelling};
+ghost use Rattle.path_header.specs.Reading.{read_at};
 ghost use Rattle.path_header.specs.Reversal.{reversed};
 
 /// Each header has one spelling, each spelling is of one header, and none begins another.
@@ -23,4 +24,13 @@ pub fn one_segment()
 pub fn reversed_twice()
     ensures back { (v : HeaderValue) → IsHeader v → reversed (reversed v) ≡ v }
     ensures header { (v : HeaderValue) → IsHeader v → IsHeader (reversed v) }
+{}
+
+/// What spells a header is read as it, whatever follows, and has its length; and a header whose
+/// numbers fit is spelled by its spelling.
+pub fn spelled_is_read()
+    ensures read { (v : HeaderValue) (text rest : List ℕ) → Spells text v
+        → read_at (text ++ rest) ≡ Ok (v, header_len v) }
+    ensures long { (v : HeaderValue) (text : List ℕ) → Spells text v → length text ≡ header_len v }
+    ensures spelled { (v : HeaderValue) → IsHeader v → Fits v → Spells (spelling v) v }
 {}

@@ -23,6 +23,3 @@ pub use header::Header;
 pub use lens::SegLens;
 pub use reading::decode;
 pub use writing::encode;
-
-#[cfg(test)]
-mod tests;

@@ -1,7 +1,8 @@
 -- The accumulators along the entries, and the moment up to which entries are live.
-use Rattle.std.proofs.Common.{◌≡◌, ℕ, zero, suc, ◌+◌, ◌*◌, ◌≤◌, List, [], ◌∷◌, length, get_or, take, Some, All, Any, ap, arith, add-one}
-use Rattle.std.specs.Prelude.{◌↔◌, slice_get}
+use Rattle.std.proofs.Common.{◌≡◌, ℕ, zero, suc, ◌+◌, ◌*◌, ◌^◌, ◌<◌, ◌≤◌, List, [], ◌∷◌, length, get_or, take, Some, All, Any, ap, arith, add-one}
+use Rattle.std.specs.Prelude.{◌↔◌, slice_get, slice_index}
 use Rattle.std.proofs.lemmas.List.{take-append-le}
+use Rattle.std.proofs.lemmas.Nat.{xor_lt}
 use Rattle.std.proofs.lemmas.Option.{same_Some}
 use Rattle.hop_mac.specs.Hop.{beta_after}
 use Rattle.hop_mac.specs.Lifetime.{expiry_of, IsLive}
@@ -37,3 +38,16 @@ live_up_to timestamp least now es is = (
   λ all. below_all timestamp least es is.reached (2 * now) all,
   λ up k d within. (let lower = is.lower k d within in omega arith),
 )
+
+-- an accumulator of 16 bits stays one over authenticators of bytes
+over_take : (beta : ℕ) (es : List Entry) (i : ℕ) → beta < 2 ^ 16 → All (λ e. (k : ℕ) → slice_index e.mac k < 256) es → beta_over beta (take i es) < 2 ^ 16
+over_take beta es zero small bytes = small
+over_take beta [] (suc i) small bytes = small
+over_take beta (x ∷ xs) (suc i) small bytes =
+    let high = bytes 0 x (omega arith) 0 in
+    let low = bytes 0 x (omega arith) 1 in
+    let front : slice_index x.mac 0 * 256 + slice_index x.mac 1 < 2 ^ 16 = omega arith in
+    over_take (beta_after beta x.mac) xs i (xor_lt 16 beta (slice_index x.mac 0 * 256 + slice_index x.mac 1) small front) (λ k d within. bytes (suc k) d (omega arith))
+
+pub beta_of-lt : (chain : Chain) (i : ℕ) → chain.beta0 < 2 ^ 16 → All (λ e. (k : ℕ) → slice_index e.mac k < 256) chain.entries → beta_of chain i < 2 ^ 16
+beta_of-lt chain i small bytes = over_take chain.beta0 chain.entries i small bytes

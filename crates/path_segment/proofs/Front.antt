@@ -1,7 +1,7 @@
 -- Reading a list, where a front of it has been read.
 use Rattle.std.proofs.Common.{List, ◌++◌, Option, Some}
 use Rattle.path_segment.specs.declared.entry.Entry.{Entry}
-use Rattle.path_segment.specs.Reading.{◌>>=◌}
+use Rattle.refusal.specs.Optional.{◌>>=◌}
 
 -- what was read so far, and then the rest
 abbrev pub with_front : List Entry → Option (List Entry) → Option (List Entry)

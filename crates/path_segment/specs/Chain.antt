@@ -1,6 +1,7 @@
 -- What a beacon and a segment show, the chain of authenticators and the expiry (draft-dekater-scion-dataplane).
-use Rattle.std.specs.Prelude.{◌≡◌, ℕ, ◌+◌, ◌≤◌, List, ◌∷◌, [], ◌++◌, All, Any, take, drop}
+use Rattle.std.specs.Prelude.{◌≡◌, ℕ, ◌+◌, ◌-◌, ◌≤◌, List, ◌∷◌, [], ◌++◌, All, Any, take, drop, length, slice_get}
 use Rattle.std.specs.List.{fold}
+use Rattle.std.specs.Option.{option_map_or}
 use Rattle.hop_mac.specs.Hop.{beta_after}
 use Rattle.hop_mac.specs.Lifetime.{expiry_of, IsLive}
 use Rattle.path_segment.specs.declared.entry.Entry.{Entry}
@@ -41,3 +42,15 @@ pub record IsLeastExpiry (timestamp : ℕ) (entries : List Entry) (least : ℕ) 
 -- every hop is live at this second
 abbrev pub AreLive : Chain → ℕ → Type 0
 AreLive chain now = All (λ entry. IsLive chain.timestamp entry.exp_time now) chain.entries
+
+-- the AS of the entry at a place, and 0 where there is none
+abbrev pub as_at : List Entry → ℕ → ℕ
+as_at entries i = option_map_or (λ entry. entry.ia) (slice_get entries i) 0
+
+-- the AS in which a segment begins; it has an entry there
+unfoldable pub first_as : Chain → ℕ
+first_as segment = as_at segment.entries 0
+
+-- the AS in which a segment ends; it has an entry there
+unfoldable pub last_as : Chain → ℕ
+last_as segment = as_at segment.entries (length segment.entries - 1)

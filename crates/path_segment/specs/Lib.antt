@@ -1,5 +1,6 @@
 pub mod Fault
 pub mod Chain
+pub mod Tests
 pub mod Rules
 pub mod Text
 pub mod Reading

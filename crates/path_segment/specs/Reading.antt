@@ -4,6 +4,7 @@ use Rattle.std.specs.Prelude.{ℕ, nat_le, if◌then◌else◌, codes, List, [],
 use Rattle.std.specs.Result.{result_ok}
 use Rattle.std.specs.Str.{bytes_eq}
 use Rattle.hex.specs.Hex.{decode_sized}
+use Rattle.refusal.specs.Optional.{◌>>=◌}
 use Rattle.isd_as.specs.Reading.{address_at}
 use Rattle.serde_json.specs.Data.{Data, Items, no_items, item}
 use Rattle.serde_json.specs.Find.{get, as_number, as_u64, as_str, as_array}
@@ -15,12 +16,6 @@ use Rattle.path_segment.specs.declared.kind.SegKind.{SegKind}
 use Rattle.path_segment.specs.declared.kind.SegKind.TheVariants.{Core, Intra}
 use Rattle.path_segment.specs.Chain.{Chain}
 use Rattle.path_segment.specs.Rules.{segment_of}
-
--- one step after another, as long as there is something
-infixl 10 ◌>>=◌
-abbrev pub ◌>>=◌ : {A B : Type 0} → Option A → (A → Option B) → Option B
-(Some x) >>= f = f x
-None >>= f = None
 
 -- a text
 unfoldable pub text_at : List ℕ → Data → Option (List ℕ)

@@ -1,15 +1,17 @@
 -- Which entries are a segment, and which a beacon under way (draft-dekater-scion-controlplane, path segments).
 use Rattle.std.specs.Prelude.{◌≡◌, ◌≢◌, ◌↔◌, ℕ, ◌+◌, ◌≤◌, ◌==◌, ◌&&◌, ◌||◌, not, nat_lt, nat_le, Bool, true, false, if◌then◌else◌, List, [], ◌∷◌, length, Option, Some, None, slice_get, Result, Ok, Err}
 use Rattle.std.specs.List.{list_any, list_all}
+use Rattle.refusal.specs.Refusal.{unless}
 use Rattle.path_segment.specs.declared.entry.Entry.{Entry}
 use Rattle.path_segment.specs.declared.fault.SegmentFault.{SegmentFault}
 use Rattle.path_segment.specs.declared.fault.SegmentFault.TheVariants as faults
 use Rattle.path_segment.specs.Chain.{Chain}
 
--- the entry has an interface towards the AS before, and towards the AS after
+-- the entry has an interface towards the AS before
 abbrev pub has_way_in : Entry → Bool
 has_way_in entry = not (entry.cons_ingress == 0)
 
+-- the entry has an interface towards the AS after
 abbrev pub has_way_out : Entry → Bool
 has_way_out entry = not (entry.cons_egress == 0)
 
@@ -85,20 +87,18 @@ pub record AreOfSegment (entries : List Entry) : Type 0 where
   pub shorter : length entries ≤ 63
   pub ways_out : (k : ℕ) (entry : Entry) → slice_get entries k ≡ Some entry → (entry.cons_egress ≡ 0) ↔ (k + 1 ≡ length entries)
 
--- what is never false of a beacon, and of a segment
+-- what is never false of a beacon
 abbrev pub IsBeacon : Chain → Type 0
 IsBeacon chain = beacon_fault chain.entries ≡ None
 
+-- what is never false of a segment
 abbrev pub IsSegment : Chain → Type 0
 IsSegment chain = segment_fault chain.entries ≡ None
 
--- the chain, or the rule that it breaks
-abbrev pub unless : Option SegmentFault → Chain → Result Chain SegmentFault
-unless None chain = Ok chain
-unless (Some fault) chain = Err fault
-
+-- the beacon, or the rule that it breaks
 abbrev pub beacon_of : Chain → Result Chain SegmentFault
 beacon_of chain = unless (beacon_fault chain.entries) chain
 
+-- the segment, or the rule that it breaks
 abbrev pub segment_of : Chain → Result Chain SegmentFault
 segment_of chain = unless (segment_fault chain.entries) chain

@@ -1,7 +1,7 @@
 ghost use Rattle.std.specs.Prelude.{◌≡◌, ◌≤◌, ◌∷◌, [], length, IfOk, IsTrue, ◌↔◌};
 ghost use Rattle.path_segment.specs.Chain.{chain_of, with_last, beta_of};
-ghost use Rattle.path_segment.specs.Fault.{Answers};
-ghost use Rattle.path_segment.specs.Rules.{AreOfBeacon, IsBeacon, first_fault, next_fault, last_fault, unless, beacon_of, segment_of};
+ghost use Rattle.refusal.specs.Refusal.{Answers, unless};
+ghost use Rattle.path_segment.specs.Rules.{AreOfBeacon, IsBeacon, first_fault, next_fault, last_fault, beacon_of, segment_of};
 
 use crate::chain::{are_same, beta_after_all, copied, with_one_more};
 use crate::entry::Entry;
@@ -9,6 +9,7 @@ use crate::fault::SegmentError;
 use crate::kind::SegKind;
 use crate::rules::{fault_of_first, fault_of_last, fault_of_next};
 use crate::segment::Segment;
+use refusal::OrMemory;
 use std::alloc::{AllocError, Global};
 use std::marker::Model;
 
@@ -54,7 +55,7 @@ impl Beacon {
             (unless (first_fault entry) (chain_of kind timestamp beta0 (entry ∷ []))) }
     {
         if let Some(fault) = fault_of_first(&entry) {
-            return Err(SegmentError::Fault(fault));
+            return Err(OrMemory::Refused(fault));
         }
         let mut entries = Vec::with_capacity(alloc, 1)?;
         entries.push(entry)?;
@@ -71,17 +72,17 @@ impl Beacon {
     /// The first of these refusals: [`SegmentFault::TooLong`] where the beacon has 62 entries,
     /// [`SegmentFault::BadEnds`] where the entry has no way in or no way out, [`SegmentFault::Loop`]
     /// where its AS stands in the beacon already.
-    pub fn with_entry(&self, alloc: Global, entry: &Entry) -> Result<Beacon, SegmentError>
+    pub fn with_entry(&self, alloc: Global, entry: Entry) -> Result<Beacon, SegmentError>
         // It is the beacon of these entries, or the rule that they would break.
-        ensures whole { Answers (λ b. b) result (beacon_of (with_last self.now entry.now)) }
+        ensures whole { Answers (λ b. b) result (beacon_of (with_last self.now entry)) }
         // Which rule it is.
         ensures step { Answers (λ b. b) result
-            (unless (next_fault self.now.entries entry.now) (with_last self.now entry.now)) }
+            (unless (next_fault self.now.entries entry) (with_last self.now entry)) }
     {
-        if let Some(fault) = fault_of_next(&self.entries, entry) {
-            return Err(SegmentError::Fault(fault));
+        if let Some(fault) = fault_of_next(&self.entries, &entry) {
+            return Err(OrMemory::Refused(fault));
         }
-        let entries = with_one_more(alloc, &self.entries, entry)?;
+        let entries = with_one_more(alloc, &self.entries, &entry)?;
         Ok(Beacon {
             kind: self.kind,
             timestamp: self.timestamp,
@@ -94,17 +95,17 @@ impl Beacon {
     ///
     /// The first of these refusals: [`SegmentFault::BadEnds`] where the entry has no way in, or a way
     /// out, [`SegmentFault::Loop`] where its AS stands in the beacon already.
-    pub fn finish(&self, alloc: Global, entry: &Entry) -> Result<Segment, SegmentError>
+    pub fn finish(&self, alloc: Global, entry: Entry) -> Result<Segment, SegmentError>
         // It is the segment of these entries, or the rule that they would break.
-        ensures whole { Answers (λ s. s) result (segment_of (with_last self.now entry.now)) }
+        ensures whole { Answers (λ s. s) result (segment_of (with_last self.now entry)) }
         // Which rule it is.
         ensures step { Answers (λ s. s) result
-            (unless (last_fault self.now.entries entry.now) (with_last self.now entry.now)) }
+            (unless (last_fault self.now.entries entry) (with_last self.now entry)) }
     {
-        if let Some(fault) = fault_of_last(&self.entries, entry) {
-            return Err(SegmentError::Fault(fault));
+        if let Some(fault) = fault_of_last(&self.entries, &entry) {
+            return Err(OrMemory::Refused(fault));
         }
-        let entries = with_one_more(alloc, &self.entries, entry)?;
+        let entries = with_one_more(alloc, &self.entries, &entry)?;
         Ok(Segment {
             kind: self.kind,
             timestamp: self.timestamp,

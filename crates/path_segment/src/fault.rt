@@ -1,8 +1,7 @@
 ghost use Rattle.std.specs.Prelude.{◌≡◌};
 ghost use Rattle.path_segment.specs.Fault.{code_of, name_of};
-ghost use Rattle.path_segment.specs.declared.fault.SegmentError.TheVariants.{Memory, Fault};
 
-use std::alloc::{AllocError, AllocFailed};
+use refusal::OrMemory;
 use thiserror::Error;
 
 /// Why entries are no beacon or no segment, or why a text is no segment.
@@ -54,37 +53,5 @@ impl SegmentFault {
     }
 }
 
-/// Why a call that takes memory gave no beacon or segment: want of memory, or a refusal.
-#[derive(Clone, Copy, Debug, PartialEq, Eq, Error)]
-pub enum SegmentError {
-    /// Memory ran out.
-    #[error("out of memory")]
-    Memory,
-    /// The entries or the text are no beacon or segment.
-    #[error("{0}")]
-    Fault(SegmentFault),
-}
-
-impl From<SegmentFault> for SegmentError {
-    ghost from_gives = { λ f e. e ≡ Fault f };
-
-    fn from(fault: SegmentFault) -> SegmentError {
-        SegmentError::Fault(fault)
-    }
-}
-
-impl From<AllocError> for SegmentError {
-    ghost from_gives = { λ _ e. e ≡ Memory };
-
-    fn from(_error: AllocError) -> SegmentError {
-        SegmentError::Memory
-    }
-}
-
-impl<T: Drop> From<AllocFailed<T>> for SegmentError {
-    ghost from_gives = { λ _ e. e ≡ Memory };
-
-    fn from(_error: AllocFailed<T>) -> SegmentError {
-        SegmentError::Memory
-    }
-}
+/// Why a call that takes memory gave no beacon or segment.
+pub type SegmentError = OrMemory<SegmentFault>;

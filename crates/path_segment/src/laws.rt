@@ -1,11 +1,13 @@
 //! Laws of segments: each is the contract of a function that does nothing.
 
-ghost use Rattle.std.specs.Prelude.{◌≡◌, ℕ, ◌+◌, ◌*◌, ◌≤◌, ◌↔◌, List, Some, None, All, length, slice_get};
+ghost use Rattle.std.specs.Prelude.{◌≡◌, ℕ, ◌+◌, ◌*◌, ◌^◌, ◌<◌, ◌≤◌, ◌↔◌, List, [], ◌∷◌, ◌++◌, Some, None, All, IsTrue, length, slice_get, slice_index};
 ghost use Rattle.hop_mac.specs.Hop.{beta_after};
 ghost use Rattle.hop_mac.specs.Lifetime.{IsLive};
 ghost use Rattle.path_segment.specs.declared.entry.Entry.{Entry};
-ghost use Rattle.path_segment.specs.Chain.{Chain, with_last, beta_of, IsLeastExpiry};
-ghost use Rattle.path_segment.specs.Rules.{AreOfBeacon, AreOfSegment, beacon_fault, segment_fault};
+ghost use Rattle.path_segment.specs.declared.kind.SegKind.{SegKind};
+ghost use Rattle.path_segment.specs.Chain.{Chain, with_last, beta_of, IsLeastExpiry, AreLive};
+ghost use Rattle.path_segment.specs.Tests.{is_live, is_same, same_kind};
+ghost use Rattle.path_segment.specs.Rules.{AreOfBeacon, AreOfSegment, beacon_fault, next_fault, last_fault, segment_fault};
 
 /// The first accumulator is the one that was chosen, each next one is the step of the one before by
 /// the authenticator of its entry, and a further entry changes none of them.
@@ -29,4 +31,26 @@ pub fn live_up_to_least_expiry()
         → IsLeastExpiry timestamp entries least → IsLeastExpiry timestamp entries other → least ≡ other }
     ensures live { (timestamp least now : ℕ) (entries : List Entry) → IsLeastExpiry timestamp entries least
         → All (λ entry. IsLive timestamp entry.exp_time now) entries ↔ (2 * now ≤ least) }
+{}
+
+/// The tests of liveness, of kinds and of sameness in plain facts.
+pub fn tests_are_plain()
+    ensures live { (now : ℕ) (chain : Chain) → IsTrue (is_live now chain) ↔ AreLive chain now }
+    ensures kind { (one other : SegKind) → IsTrue (same_kind one other) ↔ (one ≡ other) }
+    ensures same { (one other : Chain) → IsTrue (is_same one other) ↔ (one ≡ other) }
+{}
+
+/// Of an entry behind those of a beacon only that entry is left to look at.
+pub fn the_new_entry_alone_is_judged()
+    ensures next { (entries : List Entry) (entry : Entry) → beacon_fault entries ≡ None
+        → next_fault entries entry ≡ beacon_fault (entries ++ (entry ∷ [])) }
+    ensures last { (entries : List Entry) (entry : Entry) → beacon_fault entries ≡ None
+        → last_fault entries entry ≡ segment_fault (entries ++ (entry ∷ [])) }
+{}
+
+/// Every accumulator of a chain has 16 bits, where the first has and the authenticators are of bytes.
+pub fn accumulators_are_small()
+    ensures { (chain : Chain) (i : ℕ) → chain.beta0 < 2 ^ 16
+        → All (λ entry. (k : ℕ) → slice_index entry.mac k < 256) chain.entries
+        → beta_of chain i < 2 ^ 16 }
 {}

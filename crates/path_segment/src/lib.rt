@@ -21,6 +21,3 @@ pub use entry::Entry;
 pub use fault::{SegmentError, SegmentFault};
 pub use kind::SegKind;
 pub use segment::Segment;
-
-#[cfg(test)]
-mod tests;

@@ -2,7 +2,7 @@ ghost use Rattle.std.specs.Prelude.{◌≡◌, ℕ, ◌≤◌, IfSome, option_ma
 ghost use Rattle.std.specs.Option.{ok_or};
 ghost use Rattle.std.specs.Str.{IsUtf8};
 ghost use Rattle.serde_json.specs.View.{view, items_view};
-ghost use Rattle.path_segment.specs.Fault.{Answers};
+ghost use Rattle.refusal.specs.Refusal.{Reads};
 ghost use Rattle.path_segment.specs.Reading.{text_at, whole_at, address_in, mac_at, kind_at, entry_at, entries_at, list_at, chain_at, judged, segment_in};
 
 use crate::entry::Entry;
@@ -11,6 +11,7 @@ use crate::kind::SegKind;
 use crate::segment::Segment;
 use hex::FromHex;
 use isd_as::{IfId, IsdAs};
+use refusal::OrMemory;
 use serde_json::Value;
 use std::alloc::Global;
 
@@ -22,15 +23,15 @@ impl Segment {
     /// `exp` (0 to 255) and `mac` (12 hexadecimal digits). Members beside these are ignored.
     ///
     /// [`SegmentFault::NotJson`] where the text is not of this form, and then the refusals of
-    /// [`Segment::new`]. Want of memory is [`SegmentError::Memory`].
+    /// [`Segment::new`]. Want of memory is [`OrMemory::Memory`].
     pub fn from_json(alloc: Global, bytes: &[u8]) -> Result<Segment, SegmentError>
-        ensures text { IsUtf8 bytes.now → Answers (λ s. s) result (segment_in bytes.now) }
-        ensures no_text { ¬ IsUtf8 bytes.now → Answers (λ s. s) result (Err SegmentFault.NotJson) }
+        ensures text { IsUtf8 bytes.now → Reads (λ s. s) result (segment_in bytes.now) }
+        ensures no_text { ¬ IsUtf8 bytes.now → Reads (λ s. s) result (Err SegmentFault.NotJson) }
     {
         match Value::from_slice(alloc, bytes) {
             Ok(value) => segment_of(alloc, &value),
-            Err(error) if error.is_memory() => Err(SegmentError::Memory),
-            Err(_) => Err(SegmentError::Fault(SegmentFault::NotJson)),
+            Err(error) if error.is_memory() => Err(OrMemory::Memory),
+            Err(_) => Err(OrMemory::Refused(SegmentFault::NotJson)),
         }
     }
 }
@@ -38,25 +39,24 @@ impl Segment {
 /// The segment of a JSON value.
 #[tactic(auto, unfolding(crate::specs::Reading::chain_at))]
 fn segment_of(alloc: Global, value: &Value) -> Result<Segment, SegmentError>
-    ensures { Answers (λ s. s) result (judged (chain_at (view value.now))) }
+    ensures { Reads (λ s. s) result (judged (chain_at (view value.now))) }
 {
-    let kind = kind(value, "kind").ok_or(SegmentFault::NotJson)?;
-    let timestamp = whole(value, "timestamp", 4_294_967_295).ok_or(SegmentFault::NotJson)?;
-    let beta0 = whole(value, "beta0", 65535).ok_or(SegmentFault::NotJson)?;
-    let values = list(value, "entries").ok_or(SegmentFault::NotJson)?;
+    let kind = kind(value, "kind").ok_or(OrMemory::Refused(SegmentFault::NotJson))?;
+    let timestamp = whole(value, "timestamp", 4_294_967_295).ok_or(OrMemory::Refused(SegmentFault::NotJson))?;
+    let beta0 = whole(value, "beta0", 65535).ok_or(OrMemory::Refused(SegmentFault::NotJson))?;
+    let values = list(value, "entries").ok_or(OrMemory::Refused(SegmentFault::NotJson))?;
     let entries = entries_of(alloc, values)?;
-    let segment = Segment::new(kind, timestamp as u32, beta0 as u16, entries)?;
-    Ok(segment)
+    Segment::new(kind, timestamp as u32, beta0 as u16, entries).map_err(OrMemory::Refused)
 }
 
 /// The entries of a list.
 fn entries_of(alloc: Global, values: &[Value]) -> Result<Vec<Entry>, SegmentError>
-    ensures { Answers (λ v. v.items) result
+    ensures { Reads (λ v. v.items) result
         (ok_or (entries_at (items_view values.now)) SegmentFault.NotJson) }
 {
     let mut entries = Vec::new(alloc);
     for value in values {
-        let entry = entry_of(value).ok_or(SegmentFault::NotJson)?;
+        let entry = entry_of(value).ok_or(OrMemory::Refused(SegmentFault::NotJson))?;
         entries.push(entry)?;
     }
     Ok(entries)
@@ -138,6 +138,7 @@ fn list<'a>(value: &'a Value, name: &str) -> Option<&'a [Value]>
     ensures { option_map (λ vs. items_view vs.now) result ≡ list_at name.now (view value.now) }
 {
     let member = value.get(name)?;
+    // The list is lent as a slice, which `as_array()` alone is not.
     match member.as_array() {
         Some(values) => Some(values),
         None => None,

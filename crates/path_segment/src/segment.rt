@@ -1,12 +1,14 @@
 ghost use Rattle.std.specs.Prelude.{◌≡◌, ◌<◌, ◌≤◌, ◌↔◌, length, Ok, IfOk, OnOk, IsTrue};
-ghost use Rattle.path_segment.specs.Chain.{chain_of, beta_of, between, IsLeastExpiry, AreLive};
+ghost use Rattle.path_segment.specs.Chain.{chain_of, beta_of, between, first_as, last_as, IsLeastExpiry, AreLive};
 ghost use Rattle.path_segment.specs.Rules.{AreOfSegment, IsSegment, segment_of};
+ghost use Rattle.path_segment.specs.Tests.{is_live, is_same};
 
 use crate::chain::{are_live, are_same, beta_after_all, copied, least_expiry_of};
 use crate::entry::Entry;
 use crate::fault::SegmentFault;
 use crate::kind::SegKind;
 use crate::rules::fault_of_segment;
+use isd_as::IsdAs;
 use std::alloc::{AllocError, Global};
 use std::marker::Model;
 
@@ -47,7 +49,7 @@ impl Segment {
         beta0: u16,
         entries: Vec<Entry>,
     ) -> Result<Segment, SegmentFault>
-        // What is built has these entries, which keep the rules.
+        // Only entries that keep the rules are built.
         ensures found { OnOk result (AreOfSegment entries.items) }
         // What keeps the rules is built.
         ensures only { AreOfSegment entries.items
@@ -82,6 +84,14 @@ impl Segment {
     /// Whether the other is the same segment: of the same kind, timestamp, first accumulator and
     /// entries.
     pub fn is_same(&self, other: &Segment) -> bool
+        ensures fact { IsTrue result ↔ (self.now ≡ other.now) }
+        ensures test { result ≡ is_same self.now other.now }
+    {
+        self.has_parts_of(other)
+    }
+
+    /// Whether it has the parts of the other.
+    fn has_parts_of(&self, other: &Segment) -> bool
         ensures { IsTrue result ↔ (self.now ≡ other.now) }
     {
         self.kind == other.kind
@@ -120,6 +130,28 @@ impl Segment {
         &self.entries
     }
 
+    /// The AS in which it begins.
+    #[tactic(auto, unfolding(crate::specs::Chain::first_as))]
+    pub fn first_as(&self) -> IsdAs
+        ensures { result ≡ first_as self.now }
+    {
+        match self.entries() {
+            [first, ..] => first.ia,
+            [] => unreachable!(),
+        }
+    }
+
+    /// The AS in which it ends.
+    #[tactic(auto, unfolding(crate::specs::Chain::last_as))]
+    pub fn last_as(&self) -> IsdAs
+        ensures { result ≡ last_as self.now }
+    {
+        match self.entries().last() {
+            Some(last) => last.ia,
+            None => unreachable!(),
+        }
+    }
+
     /// The accumulator with which the entry at place `i` is authenticated, or after the last entry
     /// the one that all authenticators leave.
     pub fn beta_at(&self, i: usize) -> u16
@@ -141,6 +173,14 @@ impl Segment {
 
     /// Whether every hop is live at the second `now`.
     pub fn is_live(&self, now: u32) -> bool
+        ensures fact { IsTrue result ↔ AreLive self.now now }
+        ensures test { result ≡ is_live now self.now }
+    {
+        self.is_each_hop_live(now)
+    }
+
+    /// Whether each of its hops is live at the second `now`.
+    fn is_each_hop_live(&self, now: u32) -> bool
         ensures { IsTrue result ↔ AreLive self.now now }
     {
         are_live(self.timestamp, &self.entries, now)

@@ -8,12 +8,14 @@ use Rattle.std.proofs.lemmas.List.Elements.{Contains-append_left, Contains-push_
 use Rattle.path_segment.specs.declared.kind.SegKind.TheVariants.{Core, Intra}
 use Rattle.path_segment.specs.Chain.{Chain, AreLive}
 use Rattle.path_server.specs.declared.fault.StoreFault.{StoreFault}
-use Rattle.path_server.specs.Segment.{first_as, last_as, is_live, is_same, is_alike}
+use Rattle.path_segment.specs.Chain.{first_as, last_as}
+use Rattle.path_segment.specs.Tests.{is_live, is_same}
+use Rattle.path_server.specs.Segment.{is_alike}
 use Rattle.path_server.specs.Store.{answer_to, IsAnswer, with_new, registered, swept, expired_count}
 use Rattle.path_server.specs.Lookup.{ends_in, is_reached, joins, segments_for, LeadsTo, IsReached, LeadsBetween}
 use Rattle.path_server.proofs.Counts.{left_out}
 use Rattle.path_server.proofs.Members.{Contains-filter, is_in-Decides, any-Decides, filter-filter}
-use Rattle.path_server.proofs.Decided.{is_live-Decides, is_same-Decides, same_kind-Decides}
+use Rattle.path_segment.proofs.Decided.{is_live-Decides, is_same-Decides, same_kind-Decides}
 
 pub answer_is_plain : (segments : List Chain) (segment : Chain) (now : ℕ) → IsAnswer segments segment now (answer_to segments segment now)
 unfolding answer_to

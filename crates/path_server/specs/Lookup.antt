@@ -2,8 +2,8 @@
 use Rattle.std.specs.Prelude.{◌≡◌, ◌⊎◌, ℕ, ◌==◌, ◌&&◌, ◌||◌, Bool, List, filter, Any, Contains}
 use Rattle.std.specs.List.{list_any}
 use Rattle.path_segment.specs.declared.kind.SegKind.TheVariants.{Core, Intra}
-use Rattle.path_segment.specs.Chain.{Chain, AreLive}
-use Rattle.path_server.specs.Segment.{first_as, last_as, is_live, same_kind}
+use Rattle.path_segment.specs.Chain.{Chain, AreLive, first_as, last_as}
+use Rattle.path_segment.specs.Tests.{is_live, same_kind}
 
 -- the segments of a look-up, and the second for which they were looked up
 pub record Selection : Type 0 where
@@ -31,7 +31,12 @@ unfoldable pub segments_for : List Chain → ℕ → ℕ → ℕ → Selection
 segments_for segments src dst now =
     let ups = filter (ends_in src now) segments in
     let downs = filter (ends_in dst now) segments in
-    record { ups = ups; cores = filter (joins (is_reached src ups) (is_reached dst downs) now) segments; downs = downs; moment = now }
+    record {
+      ups = ups;
+      cores = filter (joins (is_reached src ups) (is_reached dst downs) now) segments;
+      downs = downs;
+      moment = now;
+    }
 
 -- the same in plain facts: a segment of the list is a live intra segment to this AS
 pub record LeadsTo (segments : List Chain) (ia now : ℕ) (segment : Chain) : Type 0 where

@@ -4,7 +4,8 @@ use Rattle.std.specs.List.{list_any}
 use Rattle.path_segment.specs.Chain.{Chain, AreLive}
 use Rattle.path_server.specs.declared.fault.StoreFault.{StoreFault}
 use Rattle.path_server.specs.declared.fault.StoreFault.TheVariants.{Full, Expired}
-use Rattle.path_server.specs.Segment.{is_live, is_same, is_alike}
+use Rattle.path_segment.specs.Tests.{is_live, is_same}
+use Rattle.path_server.specs.Segment.{is_alike}
 
 -- what registering a segment answers at this second: whether it is new, or the first cause why it is refused
 unfoldable pub answer_to : List Chain → Chain → ℕ → Result Bool StoreFault

@@ -1,6 +1,7 @@
 ghost use Rattle.std.specs.Prelude.{◌≡◌};
 ghost use Rattle.path_server.specs.Fault.{code_of, name_of};
 
+use refusal::OrMemory;
 use thiserror::Error;
 
 /// Why a path store refuses a segment.
@@ -37,12 +38,4 @@ impl StoreFault {
 }
 
 /// Why a path store did not take a segment: want of memory, or a refusal.
-#[derive(Clone, Copy, Debug, PartialEq, Eq, Error)]
-pub enum StoreError {
-    /// Memory ran out.
-    #[error("out of memory")]
-    Memory,
-    /// The store refused the segment.
-    #[error("{0}")]
-    Fault(StoreFault),
-}
+pub type StoreError = OrMemory<StoreFault>;

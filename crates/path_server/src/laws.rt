@@ -1,16 +1,14 @@
 //! Laws of path stores: each is the contract of a function that does nothing.
 
 ghost use Rattle.std.specs.Prelude.{◌≡◌, ◌≢◌, ◌↔◌, ◌⊎◌, ℕ, ◌≤◌, List, ◌++◌, AllPairs, Contains, count_by, fold, IsTrue};
-ghost use Rattle.path_segment.specs.Chain.{Chain, AreLive};
-ghost use Rattle.path_server.specs.Segment.{first_as, last_as, is_live, is_same, is_alike};
+ghost use Rattle.path_segment.specs.Chain.{Chain, AreLive, first_as, last_as};
+ghost use Rattle.path_server.specs.Segment.{is_alike};
 ghost use Rattle.path_server.specs.Store.{Operation, answer_to, IsAnswer, registered, swept, expired_count, after, store_of};
 ghost use Rattle.path_server.specs.Lookup.{segments_for, LeadsTo, IsReached, LeadsBetween};
 
-/// The tests of segments in plain facts.
-pub fn tests_are_plain()
-    ensures live { (now : ℕ) (segment : Chain) → IsTrue (is_live now segment) ↔ AreLive segment now }
-    ensures same { (one other : Chain) → IsTrue (is_same one other) ↔ (one ≡ other) }
-    ensures alike { (one other : Chain) → IsTrue (is_alike one other)
+/// Which segments are counted together, in plain facts.
+pub fn alike_is_plain()
+    ensures { (one other : Chain) → IsTrue (is_alike one other)
         ↔ ((one.kind ≡ other.kind) × (first_as one ≡ first_as other) × (last_as one ≡ last_as other)) }
 {}
 

@@ -8,13 +8,9 @@
 mod fault;
 pub mod laws;
 mod lookup;
-mod segment;
 mod set;
 mod store;
 
 pub use fault::{StoreError, StoreFault};
 pub use set::SegmentSet;
 pub use store::PathStore;
-
-#[cfg(test)]
-mod tests;

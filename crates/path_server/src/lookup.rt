@@ -2,10 +2,9 @@
 
 ghost use Rattle.std.specs.Prelude.{◌≡◌, ◌==◌, filter, IfOk};
 ghost use Rattle.std.specs.List.{list_any};
+ghost use Rattle.path_segment.specs.Chain.{first_as};
 ghost use Rattle.path_server.specs.Lookup.{ends_in, is_reached, joins};
-ghost use Rattle.path_server.specs.Segment.{first_as};
 
-use crate::segment::{first_as, is_live, last_as};
 use isd_as::IsdAs;
 use path_segment::{SegKind, Segment};
 use std::alloc::{AllocError, Global};
@@ -71,7 +70,7 @@ pub(crate) fn joining(
 fn ends_in(segment: &Segment, ia: IsdAs, now: u32) -> bool
     ensures { result ≡ ends_in ia now segment.now }
 {
-    segment.kind() == SegKind::Intra && is_live(segment, now) && last_as(segment) == ia
+    segment.kind() == SegKind::Intra && segment.is_live(now) && segment.last_as() == ia
 }
 
 /// Whether an AS is that of a side, or one in which one of its segments begins.
@@ -86,7 +85,7 @@ fn is_reached(side: &Side<'_>, ia: IsdAs) -> bool
 fn does_any_begin_in(segments: &[Segment], ia: IsdAs) -> bool
     ensures { result ≡ list_any (λ segment. first_as segment == ia) segments.now }
 {
-    segments.iter().any(|segment| first_as(segment) == ia)
+    segments.iter().any(|segment| segment.first_as() == ia)
 }
 
 /// Whether a segment is a live core segment from one side to the other, either way round.
@@ -95,9 +94,9 @@ fn joins(segment: &Segment, near: &Side<'_>, far: &Side<'_>, now: u32) -> bool
     ensures { result ≡
         joins (is_reached near.now.ia near.now.segments.now) (is_reached far.now.ia far.now.segments.now) now segment.now }
 {
-    let (first, last) = (first_as(segment), last_as(segment));
+    let (first, last) = (segment.first_as(), segment.last_as());
     segment.kind() == SegKind::Core
-        && is_live(segment, now)
+        && segment.is_live(now)
         && (is_reached(near, first) && is_reached(far, last)
             || is_reached(near, last) && is_reached(far, first))
 }

@@ -1,16 +1,17 @@
 ghost use Rattle.std.specs.Prelude.{◌≡◌, ◌↔◌, [], ◌≤◌, length, count_by, filter, vec_len, IfOk, IsTrue, OnErr, OnOk};
 ghost use Rattle.std.specs.List.{list_any};
-ghost use Rattle.path_server.specs.Fault.{Answers};
-ghost use Rattle.path_server.specs.Segment.{is_alike, is_live, is_same};
+ghost use Rattle.path_segment.specs.Tests.{is_live, is_same};
+ghost use Rattle.path_server.specs.Fault.{Registers};
+ghost use Rattle.path_server.specs.Segment.{is_alike};
 ghost use Rattle.path_server.specs.Store.{answer_to, registered, swept, expired_count};
 ghost use Rattle.path_server.specs.Lookup.{segments_for};
 
 use crate::fault::{StoreError, StoreFault};
 use crate::lookup::{Side, ending_in, joining};
-use crate::segment::{is_alike, is_live, is_same};
 use crate::set::SegmentSet;
 use isd_as::IsdAs;
 use path_segment::Segment;
+use refusal::OrMemory;
 use std::alloc::{AllocError, Global};
 use std::marker::Model;
 
@@ -68,19 +69,20 @@ impl PathStore {
     ///
     /// The first of these refusals, with the segment handed back: [`StoreFault::Expired`] where it is
     /// not live at `now`, [`StoreFault::Full`] where it is new and 32 segments of its kind, first AS
-    /// and last AS are there. [`StoreError::Memory`] hands it back too.
+    /// and last AS are there. Want of memory hands it back too, and comes
+    /// only where the segment was to be taken in.
     #[tactic(auto, unfolding(crate::specs::Store::registered))]
     pub fn register(&mut self, segment: Segment, now: u32) -> Result<bool, (Segment, StoreError)>
-        ensures answer { Answers segment result (answer_to self.old segment now) }
+        ensures answer { Registers segment result (answer_to self.old segment now) }
         ensures taken { OnOk result (self.new ≡ registered self.old segment now) }
         ensures kept { OnErr result (self.new ≡ self.old) }
     {
         match answer_to(&self.segments, &segment, now) {
-            Err(fault) => Err((segment, StoreError::Fault(fault))),
+            Err(fault) => Err((segment, OrMemory::Refused(fault))),
             Ok(false) => Ok(false),
             Ok(true) => match self.segments.push(segment) {
                 Ok(()) => Ok(true),
-                Err(refused) => Err((refused.value, StoreError::Memory)),
+                Err(refused) => Err((refused.value, OrMemory::Memory)),
             },
         }
     }
@@ -137,7 +139,7 @@ fn keep_live(segments: &mut Vec<Segment>, now: u32)
     ensures kept { segments.new.items ≡ filter (is_live now) segments.old.items }
     ensures fewer { vec_len segments.new ≤ vec_len segments.old }
 {
-    segments.retain(|segment| is_live(segment, now));
+    segments.retain(|segment| segment.is_live(now));
 }
 
 /// What registering a segment answers, before memory is asked for.
@@ -145,7 +147,7 @@ fn keep_live(segments: &mut Vec<Segment>, now: u32)
 fn answer_to(segments: &[Segment], segment: &Segment, now: u32) -> Result<bool, StoreFault>
     ensures { result ≡ answer_to segments.now segment.now now }
 {
-    if !is_live(segment, now) {
+    if !segment.is_live(now) {
         Err(StoreFault::Expired)
     } else if is_in(segments, segment) {
         Ok(false)
@@ -160,7 +162,7 @@ fn answer_to(segments: &[Segment], segment: &Segment, now: u32) -> Result<bool, 
 fn is_in(segments: &[Segment], segment: &Segment) -> bool
     ensures { result ≡ list_any (is_same segment.now) segments.now }
 {
-    segments.iter().any(|other| is_same(segment, other))
+    segments.iter().any(|other| segment.is_same(other))
 }
 
 /// How many segments are of this one's kind, and begin and end where it does.
@@ -171,4 +173,14 @@ fn count_alike(segments: &[Segment], segment: &Segment) -> usize
         .iter()
         .filter(|other| is_alike(segment, other))
         .count()
+}
+
+/// Whether two segments are of one kind, and begin and end in the same ASes.
+#[tactic(auto, unfolding(crate::specs::Segment::is_alike))]
+fn is_alike(segment: &Segment, other: &Segment) -> bool
+    ensures { result ≡ is_alike segment.now other.now }
+{
+    segment.kind() == other.kind()
+        && segment.first_as() == other.first_as()
+        && segment.last_as() == other.last_as()
 }

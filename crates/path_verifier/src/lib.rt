@@ -22,6 +22,3 @@ pub use path::VerifiedPath;
 pub use piece::Piece;
 pub use pieces::Pieces;
 pub use verification::verify;
-
-#[cfg(test)]
-mod tests;

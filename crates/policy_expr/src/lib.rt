@@ -31,6 +31,3 @@ pub use hop::{HopPred, Interfaces, WalkHop};
 pub use node::SeqNode;
 pub use policy::{Policy, PolicyText};
 pub use sequence::Seq;
-
-#[cfg(test)]
-mod tests;

@@ -12,7 +12,7 @@ use Rattle.router_step.specs.declared.outcome.Outcome.{Outcome}
 use Rattle.router_step.specs.declared.outcome.Outcome.TheVariants.{ToLink, ToRouter, Deliver}
 use Rattle.router_step.specs.declared.fault.Refusal.{Refusal}
 use Rattle.router_step.specs.declared.fault.Refusal.TheVariants as refusal
-use Rattle.router_step.specs.Fault.{◌>>=◌, check}
+use Rattle.refusal.specs.Refusal.{◌>>=◌, check}
 use Rattle.router_step.specs.Place.{info_of, hop_of, is_over_link, way_out, arrived, moved_on, gone}
 use Rattle.router_step.specs.Checks.{indices_fit, way_in_fits, is_live, is_mac_right, source_fits, is_last, destination_fits, ends_segment, kinds_fit}
 use Rattle.router_step.specs.Step.{passes, admitted, ended, switched, left, step_of}

@@ -1,12 +1,19 @@
 -- A packet in its parts, and what a step makes of them.
 use Rattle.std.proofs.Common.{◌≡◌, ℕ, ◌+◌, ◌≤◌, List, ◌++◌, Result, Ok, MatchResult, length, take, drop, refl, sym, ◌∙◌, ap, subst, arith}
 use Rattle.std.proofs.Math.Seq.{take-append_seam, drop-append_seam}
-use Rattle.std.proofs.lemmas.List.{take-append-drop, drop-drop, length-take-le, length-drop}
+use Rattle.std.proofs.lemmas.Bool.{le-ltb}
+use Rattle.std.proofs.lemmas.List.{take-append-drop, drop-drop, length-append, length-take-le, length-drop}
+use Rattle.refusal.specs.Refusal.{◌>>=◌}
+use Rattle.scion_topology.specs.View.{View}
 use Rattle.path_header.specs.Value.{HeaderValue, header_len}
 use Rattle.path_header.specs.Spelling.{Spells, spelling}
+use Rattle.path_header.specs.Reading.{read_at}
+use Rattle.path_header.proofs.WholeHeader.{spelled_is_read, spelled_is_long}
 use Rattle.router_step.specs.declared.outcome.Outcome.{Outcome}
 use Rattle.router_step.specs.declared.fault.Refusal.{Refusal}
-use Rattle.router_step.specs.Packet.{IsFrame, HasHeader, Turns}
+use Rattle.router_step.specs.declared.arrival.Arrival.{Arrival}
+use Rattle.router_step.specs.Packet.{source_of, destination_of, as_bad_header, header_in, packet_step, frame_step, IsFrame, HasHeader, StepsFrame}
+use Rattle.router_step.specs.Step.{step_of}
 
 -- the front of what stands behind the addresses was written anew
 pub written : (packet addresses room after text : List ℕ) (count len : ℕ)
@@ -64,7 +71,7 @@ pub turned : (packet addresses text rest after : List ℕ) (header read new : He
     → step read ≡ Ok (outcome, new) → new.lens ≡ read.lens
     → Spells (spelling new) new → length (spelling new) ≡ header_len new
     → after ≡ take 16 packet ++ (spelling new ++ drop (16 + header_len new) packet)
-    → Turns (step header) addresses text rest after (Ok outcome)
+    → StepsFrame (step header) addresses text rest after (Ok outcome)
 turned packet addresses text rest after header read new count outcome step f same count_is within s done lens again long made =
     let text_len : length text ≡ count =
     ap (length {A = ℕ}) f.spells.spelled ∙ ap (λ h. length (spelling h)) (sym same)
@@ -76,6 +83,33 @@ turned packet addresses text rest after header read new count outcome step f sam
     let whole : after ≡ addresses ++ (spelling new ++ rest) =
     made ∙ ap (λ a. a ++ (spelling new ++ drop (16 + header_len new) packet)) (in_front packet addresses text rest header f)
     ∙ ap (λ r. addresses ++ (spelling new ++ r)) rest_is in
-    let turn : Turns (Ok (outcome, new)) addresses text rest after (Ok outcome) =
+    let turn : StepsFrame (Ok (outcome, new)) addresses text rest after (Ok outcome) =
     (refl, (spelling new, (long ∙ same_len ∙ sym text_len, record { whole = whole; two = f.two; spells = again }))) in
-    subst (λ r. Turns r addresses text rest after (Ok outcome)) (sym (ap step (sym same) ∙ done)) turn
+    subst (λ r. StepsFrame r addresses text rest after (Ok outcome)) (sym (ap step (sym same) ∙ done)) turn
+
+-- the header of a packet of these parts
+read_in : (packet addresses text rest : List ℕ) (header : HeaderValue) → IsFrame packet addresses text rest header → header_in packet ≡ Ok (header, header_len header)
+read_in packet addresses text rest header f =
+    let long : 16 ≤ length packet = rw f.whole (omega (arith, length-append addresses (text ++ rest), f.two)) in
+    rw (le-ltb (length packet) 16 long) (ap as_bad_header (ap read_at (behind packet addresses text rest header f) ∙ spelled_is_read header text rest f.spells))
+
+rest_of : (packet addresses text rest : List ℕ) (header : HeaderValue) → IsFrame packet addresses text rest header → drop (16 + header_len header) packet ≡ rest
+rest_of packet addresses text rest header f =
+    sym (drop-drop (header_len header) 16 packet) ∙ ap (drop (header_len header)) (behind packet addresses text rest header f)
+    ∙ ap (λ n. drop n (text ++ rest)) (sym (spelled_is_long header text f.spells)) ∙ drop-append_seam text rest
+
+-- a packet with this spelling between two parts
+abbrev framed : List ℕ → List ℕ → Outcome × HeaderValue → Result (Outcome × List ℕ) Refusal
+framed front rest stepped = Ok (stepped.0, front ++ (spelling stepped.1 ++ rest))
+
+again : (step : Result (Outcome × HeaderValue) Refusal) (a b c d : List ℕ) → a ≡ b → c ≡ d → (step >>= framed a c) ≡ (step >>= framed b d)
+again step a b c d front back = ap (λ (x : List ℕ). step >>= framed x c) front ∙ ap (λ (x : List ℕ). step >>= framed b x) back
+
+-- a step over a packet of these parts
+pub frame_stepped : (view : View) (now : ℕ) (arrival : Arrival) (packet addresses text rest : List ℕ) (header : HeaderValue) → IsFrame packet addresses text rest header
+    → packet_step view now arrival packet ≡ frame_step view now arrival packet addresses header rest
+unfolding packet_step
+frame_stepped view now arrival packet addresses text rest header f =
+    rw (read_in packet addresses text rest header f)
+    (again (step_of view now arrival (source_of packet) (destination_of packet) header) (take 16 packet) addresses (drop (16 + header_len header) packet) rest
+      (in_front packet addresses text rest header f) (rest_of packet addresses text rest header f))

@@ -1,8 +1,8 @@
 -- The tests that a router makes (draft-dekater-scion-dataplane).
-use Rattle.std.specs.Prelude.{ℕ, ◌+◌, ◌*◌, Bool, true, false, not, ◌&&◌, ◌==◌, nat_le, length}
+use Rattle.std.specs.Prelude.{ℕ, ◌+◌, Bool, true, false, not, ◌&&◌, ◌==◌, length}
 use Rattle.std.specs.Option.{option_map_or}
 use Rattle.std.specs.Bool.{beq}
-use Rattle.hop_mac.specs.Lifetime.{expiry_of}
+use Rattle.hop_mac.specs.Lifetime.{is_live_at}
 use Rattle.scion_topology.specs.declared.entry.LinkKind.{LinkKind}
 use Rattle.scion_topology.specs.declared.entry.LinkKind.TheVariants.{Core, Parent, Child}
 use Rattle.scion_topology.specs.View.{View, entry_of, is_authentic}
@@ -45,7 +45,7 @@ way_in_fits view (Link interface) info hop =
 
 -- step 4: the hop is live
 abbrev pub is_live : ℕ → InfoField → HopField → Bool
-is_live now info hop = nat_le (2 * now) (expiry_of info.timestamp hop.exp_time)
+is_live now info hop = is_live_at info.timestamp hop.exp_time now
 
 -- step 5: the hop's authenticator is right under the info field's accumulator and an accepted key
 abbrev pub is_mac_right : View → InfoField → HopField → Bool

@@ -4,3 +4,4 @@ pub mod Checks
 pub mod Step
 pub mod Packet
 pub mod Done
+pub mod Forward

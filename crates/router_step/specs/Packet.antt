@@ -2,6 +2,7 @@
 -- step of a router over it (draft-dekater-scion-dataplane).
 use Rattle.std.specs.Prelude.{◌≡◌, ℕ, ◌+◌, List, ◌++◌, length, take, drop, nat_lt, if◌then◌else◌, Result, Ok, Err}
 use Rattle.std.specs.Int.{w64, from_be_bytes}
+use Rattle.refusal.specs.Refusal.{◌>>=◌}
 use Rattle.scion_topology.specs.View.{View}
 use Rattle.path_header.specs.declared.fault.HeaderFault.{HeaderFault}
 use Rattle.path_header.specs.declared.fault.HeaderFault.TheVariants.{Short}
@@ -12,7 +13,6 @@ use Rattle.router_step.specs.declared.arrival.Arrival.{Arrival}
 use Rattle.router_step.specs.declared.outcome.Outcome.{Outcome}
 use Rattle.router_step.specs.declared.fault.Refusal.{Refusal}
 use Rattle.router_step.specs.declared.fault.Refusal.TheVariants.{BadHeader}
-use Rattle.router_step.specs.Fault.{◌>>=◌}
 use Rattle.router_step.specs.Step.{step_of}
 
 -- the address of the AS for which the packet is
@@ -41,6 +41,12 @@ packet_step view now arrival packet = do
   stepped ← step_of view now arrival (source_of packet) (destination_of packet) front.0  -- 2 to 13
   Ok (stepped.0, take 16 packet ++ (spelling stepped.1 ++ drop (16 + front.1) packet))
 
+-- the same over a packet of these addresses, this path header and this rest
+abbrev pub frame_step : View → ℕ → Arrival → List ℕ → List ℕ → HeaderValue → List ℕ → Result (Outcome × List ℕ) Refusal
+frame_step view now arrival packet addresses header rest = do
+  stepped ← step_of view now arrival (source_of packet) (destination_of packet) header
+  Ok (stepped.0, addresses ++ (spelling stepped.1 ++ rest))
+
 -- the step was done: the outcome and the new packet, or the refusal and the packet as it was
 abbrev pub IsPacketStepped : Result (Outcome × List ℕ) Refusal → List ℕ → List ℕ
     → Result Outcome Refusal → Type 0
@@ -60,9 +66,9 @@ HasHeader packet = (addresses : List ℕ) × ((text : List ℕ) × ((rest : List
 
 -- a step over a packet of these parts: the new packet has in place of the header's text another one
 -- of the same length, which spells the new header, or after a refusal the same
-abbrev pub Turns : Result (Outcome × HeaderValue) Refusal → List ℕ → List ℕ → List ℕ → List ℕ
+abbrev pub StepsFrame : Result (Outcome × HeaderValue) Refusal → List ℕ → List ℕ → List ℕ → List ℕ
     → Result Outcome Refusal → Type 0
-Turns (Ok stepped) addresses text rest new result =
+StepsFrame (Ok stepped) addresses text rest new result =
     (result ≡ Ok stepped.0)
     × ((other : List ℕ) × ((length other ≡ length text) × IsFrame new addresses other rest stepped.1))
-Turns (Err e) addresses text rest new result = (result ≡ Err e) × (new ≡ addresses ++ (text ++ rest))
+StepsFrame (Err e) addresses text rest new result = (result ≡ Err e) × (new ≡ addresses ++ (text ++ rest))

@@ -9,10 +9,14 @@ use Rattle.router_step.specs.declared.arrival.Arrival.TheVariants.{FromHost, Ins
 use Rattle.router_step.specs.declared.outcome.Outcome.{Outcome}
 use Rattle.router_step.specs.declared.outcome.Outcome.TheVariants.{ToLink, ToRouter, Deliver}
 
+-- the info field of this index
+abbrev pub info_at : HeaderValue → ℕ → InfoField
+info_at header index = slice_index_or header.infos index
+    (record { construction = false; seg_id = 0; timestamp = 0 })
+
 -- the info field at which the packet stands
 abbrev pub info_of : HeaderValue → InfoField
-info_of header = slice_index_or header.infos header.curr_inf
-    (record { construction = false; seg_id = 0; timestamp = 0 })
+info_of header = info_at header header.curr_inf
 
 -- the hop field at which the packet stands
 abbrev pub hop_of : HeaderValue → HopField

@@ -1,19 +1,23 @@
 //! Laws of router steps: each is the contract of a function that does nothing.
 
-ghost use Rattle.std.specs.Prelude.{◌≡◌, ◌≢◌, ℕ, true, false, Some};
+ghost use Rattle.std.specs.Prelude.{◌≡◌, ◌≢◌, ℕ, Bool, true, false, List, Ok, Some};
 ghost use Rattle.hop_mac.specs.Hop.{beta_after};
 ghost use Rattle.scion_topology.specs.declared.entry.IfEntry.{IfEntry};
-ghost use Rattle.scion_topology.specs.View.{entry_of};
+ghost use Rattle.scion_topology.specs.View.{View, entry_of};
 ghost use Rattle.path_header.specs.Value.{HeaderValue, IsHeader};
 ghost use Rattle.router_step.specs.declared.arrival.Arrival.{Arrival};
 ghost use Rattle.router_step.specs.declared.outcome.Outcome.{Outcome};
-ghost use Rattle.router_step.specs.Place.{info_of, hop_of, is_over_link, way_out, gone};
-ghost use Rattle.router_step.specs.Checks.{changes_segment, indices_fit, is_last};
-ghost use Rattle.router_step.specs.Done.{Situation, Does, on_arrival, at_the_way_out, IsOwnHop, IsOwnLink, StaysOnSegment};
+ghost use Rattle.router_step.specs.Place.{info_of, hop_of, is_over_link, way_out, moved_on, gone};
+ghost use Rattle.router_step.specs.Checks.{changes_segment, destination_fits, ends_segment, indices_fit, is_last, is_live, is_mac_right};
+ghost use Rattle.router_step.specs.Step.{step_of, switched};
+ghost use Rattle.router_step.specs.Packet.{IsFrame, frame_step, packet_step};
+ghost use Rattle.router_step.specs.Done.{Situation, Does, on_arrival, at_the_way_out, IsOwnHop, IsOwnLink, StaysOnSegment, ChangesSegment};
+ghost use Rattle.router_step.specs.Forward.{IsAdmitted, MayLeave, goes};
 
-/// A packet that is not refused stands at a hop that is live and that this AS made, under the
-/// accumulator that it has after its arrival; and where the path goes on to another segment, at
-/// such a hop there too. So it is with each that leaves over a link and each that is delivered.
+/// A packet that is not refused stands at a hop that is live and whose authenticator is right under a
+/// key that this AS accepts and the accumulator that the packet has after its arrival; and where the
+/// path goes on to another segment, at such a hop there too. So it is with each that leaves over a
+/// link and each that is delivered.
 pub fn own_hops_alone()
     ensures here { (at : Situation) (outcome : Outcome) (new : HeaderValue)
         → Does at outcome new → IsOwnHop at.view at.now (on_arrival at) }
@@ -52,12 +56,19 @@ pub fn three_changes()
         → Does at Outcome.Deliver new → (is_last at.header ≡ true) × (new ≡ on_arrival at) }
 {}
 
-/// Where the path does not go on to another segment, the new header differs from the old one by its
-/// current hop field and the accumulator of its segment alone.
+/// Where the path does not go on to another segment, the new header differs from the old one by the
+/// index of its hop field and the accumulator of its segment alone.
 pub fn segment_stays()
     ensures { (at : Situation) (outcome : Outcome) (new : HeaderValue)
         → IsHeader at.header → Does at outcome new → changes_segment at.header ≡ false
         → StaysOnSegment at.header new }
+{}
+
+/// Where the path goes on to another segment, the one that is left keeps the accumulator of the
+/// arrival, the next one's is before the way out as it was, and both indices go up by one.
+pub fn segment_changes()
+    ensures { (at : Situation) (outcome : Outcome) (new : HeaderValue)
+        → Does at outcome new → changes_segment at.header ≡ true → ChangesSegment at new }
 {}
 
 /// A packet that stays on its segment and leaves over a link takes along, in construction
@@ -90,4 +101,39 @@ pub fn indices_go_on()
     ensures indices { (at : Situation) (outcome : Outcome) (new : HeaderValue) (arrival : Arrival)
         → IsHeader at.header → Does at outcome new → arrival ≢ Arrival.FromHost
         → indices_fit arrival new ≡ true }
+{}
+
+/// Where the checks hold the step goes on: at the path's last hop the packet is delivered, and
+/// elsewhere it goes where its hop's way out leads, after a switch where its segment ends.
+pub fn checks_lead_on()
+    ensures delivered { (view : View) (now : ℕ) (arrival : Arrival) (source destination : ℕ)
+        (header here : HeaderValue) → IsAdmitted view now arrival source header here
+        → is_last here ≡ true → destination_fits view destination true ≡ true
+        → step_of view now arrival source destination header ≡ Ok (Outcome.Deliver, here) }
+    ensures sent_on { (view : View) (now : ℕ) (arrival : Arrival) (source destination : ℕ)
+        (header here : HeaderValue) (has_switched : Bool) (out : IfEntry)
+        → IsAdmitted view now arrival source header here → is_last here ≡ false
+        → destination_fits view destination false ≡ true
+        → switched view now arrival here ≡ Ok has_switched
+        → MayLeave view arrival has_switched (moved_on has_switched here) out
+        → let there = moved_on has_switched here in let way = goes view out there in
+        step_of view now arrival source destination header ≡ Ok (way, gone way there) }
+
+    // Whether there is a switch.
+    ensures on_its_segment { (view : View) (now : ℕ) (arrival : Arrival) (here : HeaderValue)
+        → ends_segment here ≡ false → switched view now arrival here ≡ Ok false }
+    ensures to_the_next { (view : View) (now : ℕ) (arrival : Arrival) (here : HeaderValue)
+        → ends_segment here ≡ true → is_over_link arrival ≡ true
+        → is_live now (info_of (moved_on true here)) (hop_of (moved_on true here)) ≡ true
+        → is_mac_right view (info_of (moved_on true here)) (hop_of (moved_on true here)) ≡ true
+        → switched view now arrival here ≡ Ok true }
+{}
+
+/// A step over a packet of these parts is that over its path header, with the new header's spelling
+/// in the place of the old one's.
+pub fn frames_are_stepped()
+    ensures { (view : View) (now : ℕ) (arrival : Arrival) (packet addresses text rest : List ℕ)
+        (header : HeaderValue) → IsFrame packet addresses text rest header
+        → packet_step view now arrival packet
+        ≡ frame_step view now arrival packet addresses header rest }
 {}

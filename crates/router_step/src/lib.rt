@@ -18,6 +18,3 @@ pub use arrival::Arrival;
 pub use fault::Refusal;
 pub use outcome::Outcome;
 pub use packet::step;
-
-#[cfg(test)]
-mod tests;

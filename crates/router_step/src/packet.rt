@@ -4,7 +4,7 @@ ghost use Rattle.std.specs.Prelude.{◌≡◌, ℕ, ◌+◌, ◌≤◌, List, �
 ghost use Rattle.path_header.specs.Value.{HeaderValue, header_len};
 ghost use Rattle.path_header.specs.Spelling.{Spells, spelling};
 ghost use Rattle.router_step.specs.Step.{step_of};
-ghost use Rattle.router_step.specs.Packet.{destination_of, source_of, header_in, packet_step, IsPacketStepped, IsFrame, HasHeader, Turns};
+ghost use Rattle.router_step.specs.Packet.{destination_of, source_of, header_in, packet_step, IsPacketStepped, IsFrame, HasHeader, StepsFrame};
 
 use crate::arrival::Arrival;
 use crate::fault::Refusal;
@@ -60,7 +60,7 @@ pub fn step(
     ensures spelled { (addresses text rest : List ℕ) (header : HeaderValue)
         → IsFrame packet.old addresses text rest header
         → let step = step_of view.now now arrival (source_of packet.old) (destination_of packet.old) header
-        in Turns step addresses text rest packet.new result }
+        in StepsFrame step addresses text rest packet.new result }
     // A packet has a path header, or it is refused for the reason that it has none.
     ensures bad_header { MatchResult (header_in packet.old)
         (λ _. HasHeader packet.old)

@@ -2,7 +2,7 @@
 
 ghost use Rattle.std.specs.Prelude.{◌≡◌, ◌+◌, ◌<◌, true, false, length, if◌then◌else◌, OnOk, IfOk};
 ghost use Rattle.path_header.specs.Value.{segment_at};
-ghost use Rattle.router_step.specs.Fault.{Leads};
+ghost use Rattle.refusal.specs.Refusal.{Gives};
 ghost use Rattle.router_step.specs.Place.{arrived};
 ghost use Rattle.router_step.specs.Checks.{has_no_single, indices_fit};
 ghost use Rattle.router_step.specs.Step.{admitted, ended, switched, left, step_of, IsStepped};
@@ -36,7 +36,7 @@ fn indices_fit(arrival: &Arrival, header: &Header) -> bool
 /// this AS's own.
 #[tactic(auto, unfolding(crate::specs::Step::admitted))]
 fn admit(view: &RouterView<'_>, now: u32, arrival: &Arrival, header: &Header) -> Result<(), Refusal>
-    ensures exact { Leads (λ _. arrived arrival.now header.now) result
+    ensures exact { Gives (λ _. arrived arrival.now header.now) result
         (admitted view.now now arrival.now header.now) }
     ensures segment { OnOk result
         (header.now.curr_inf ≡ segment_at header.now.lens header.now.curr_hf) }

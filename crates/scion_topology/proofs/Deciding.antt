@@ -1,6 +1,7 @@
 -- What tests of lists and of pairs of tests tell.
-use Rattle.std.proofs.Common.{◌≡◌, ◌≢◌, ℕ, Bool, true, false, ◌||◌, ◌==◌, List, get_or, Decides, Any, All, refl, sym, ◌∙◌}
-use Rattle.std.specs.List.{list_any}
+use Rattle.std.proofs.Common.{◌≡◌, ◌≢◌, ℕ, zero, suc, Bool, true, false, ◌||◌, ◌==◌, List, [], ◌∷◌, length, get_or, Decides, Any, All, refl, sym, ◌∙◌, arith}
+use Rattle.std.specs.List.{list_any, list_all}
+use Rattle.std.proofs.lemmas.Bool.{and_parts, and_from}
 use mathlib.Core.Bool.{true≢false}
 use Rattle.std.proofs.lemmas.Bool.Decides.{not_from_Decides, Decides-eqb}
 use Rattle.std.proofs.lemmas.List.Folds.{list_any_at, Any-from_list_any, list_any-from_Any}
@@ -34,3 +35,26 @@ Decides-list_any p P each xs = (
 -- where none passes, each one fails
 pub each_fails : {X : Type 0} (p : X → Bool) (xs : List X) → list_any p xs ≡ false → All (λ x. p x ≡ false) xs
 each_fails p xs none k d below = false_unless (p (get_or xs k d)) (λ e. true≢false (sym (list_any_at p xs k d below e) ∙ none))
+
+-- a fact of the first and of each other
+pub All-cons : {X : Type 0} (P : X → Type 0) (x : X) (xs : List X) → P x → All P xs → All P (x ∷ xs)
+All-cons P x xs first rest zero d below = first
+All-cons P x xs first rest (suc k) d below = rest k d (omega arith)
+
+pub All-rest : {X : Type 0} (P : X → Type 0) (x : X) (xs : List X) → All P (x ∷ xs) → All P xs
+All-rest P x xs all = λ k d below. all (suc k) d (omega arith)
+
+pub All-first : {X : Type 0} (P : X → Type 0) (x : X) (xs : List X) → All P (x ∷ xs) → P x
+All-first P x xs all = all zero x (omega arith)
+
+-- all elements pass exactly where the fact holds of each
+pub All-from_list_all : {X : Type 0} (p : X → Bool) (P : X → Type 0) → ((x : X) → p x ≡ true → P x) → (xs : List X) → list_all p xs ≡ true → All P xs
+All-from_list_all p P each [] all = λ k d below. absurd (omega arith)
+All-from_list_all p P each (x ∷ xs) all =
+    let parts = and_parts (p x) (list_all p xs) all in
+    All-cons P x xs (each x parts.0) (All-from_list_all p P each xs parts.1)
+
+pub list_all-from_All : {X : Type 0} (p : X → Bool) (P : X → Type 0) → ((x : X) → P x → p x ≡ true) → (xs : List X) → All P xs → list_all p xs ≡ true
+list_all-from_All p P each [] all = refl
+list_all-from_All p P each (x ∷ xs) all =
+    and_from (p x) (list_all p xs) (each x (All-first P x xs all)) (list_all-from_All p P each xs (All-rest P x xs all))

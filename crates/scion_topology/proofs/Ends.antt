@@ -11,10 +11,12 @@ use Rattle.scion_topology.specs.declared.network.End.{End}
 use Rattle.scion_topology.specs.declared.network.Link.{Link}
 use Rattle.scion_topology.specs.declared.network.LinkClass.{LinkClass}
 use Rattle.scion_topology.specs.declared.network.LinkClass.TheVariants.{Core, Child}
-use Rattle.scion_topology.specs.Network.{Network, as_named, is_end, has_end, link_named, kind_at_a, kind_at_b, interface_at, interface_of, with_first, table_of, mirrored, interface_in}
+use Rattle.scion_topology.specs.Network.{Network, as_named, is_end, has_end, link_named, kind_at_a, kind_at_b, end_as_interface, interface_of, with_first, table_of, mirrored, interface_in}
 use Rattle.scion_topology.specs.Causes.{is_listed, has_unknown_end, lacks_router, has_no_router, is_ill_joined, stands, joins_twice}
 use Rattle.scion_topology.specs.Topology.{IsNetwork, known, joined, near_end, far_end, far_end_in, owner_in}
-use Rattle.scion_topology.proofs.Joints.{bind_ok, ok_is, ok_or_ok, are_apart, are_apart-ill, is_numbered, ends_there, IsFree-cause_of}
+use Rattle.scion_topology.proofs.Steps.{bind_ok, ok_is, ok_or_ok}
+use Rattle.scion_topology.proofs.Judging.{IsFree-IsNetwork, listed_known, has_router}
+use Rattle.scion_topology.proofs.Places.{are_apart, is_numbered, ends_there, network_apart}
 
 -- a link that was found is in the list, and ends where it was looked for
 pub found_ends : (links : List Link) (ia number : ℕ) (link : Link) → link_named links ia number ≡ Some link → has_end link ia number ≡ true
@@ -74,23 +76,16 @@ found_by_end (first ∷ rest) ia number x m link once found ends =
 
 -- ---- far and near
 
-ends_at_a : (link : Link) → has_end link link.a.ia link.a.number ≡ true
+pub ends_at_a : (link : Link) → has_end link link.a.ia link.a.number ≡ true
 ends_at_a link = or_left _ (is_end link.b link.a.ia link.a.number) (and_from _ _ (eq-eqb link.a.ia link.a.ia refl) (eq-eqb link.a.number link.a.number refl))
 
-ends_at_b : (link : Link) → has_end link link.b.ia link.b.number ≡ true
+pub ends_at_b : (link : Link) → has_end link link.b.ia link.b.number ≡ true
 ends_at_b link = or_right (is_end link.a link.b.ia link.b.number) _ (and_from _ _ (eq-eqb link.b.ia link.b.ia refl) (eq-eqb link.b.number link.b.number refl))
-
-listed_known : (ases : List AsEntry) (ia : ℕ) → is_listed ases ia ≡ true → (one : AsEntry) × (as_named ases ia ≡ Some one)
-listed_known [] ia listed = absurd cc
-listed_known (first ∷ rest) ia listed = elim (cases_Bool (eqb first.ia ia)) [
-  | inl here ↦ (first, rw here refl)
-  | inr other ↦ (let later : (false || is_listed rest ia) ≡ true = rw other at listed in let r = listed_known rest ia later in (r.0, rw other r.1))
-]
 
 -- a link of a network, found by one end, is found by the other
 pub joined_by_end : (n : Network) (ia number x m : ℕ) (link : Link) → IsNetwork n → joined n ia number ≡ Ok link → has_end link x m ≡ true → joined n x m ≡ Ok link
 joined_by_end n ia number x m link network found ends =
-    let free = IsFree-cause_of n.ases n.links network.cause in
+    let free = IsFree-IsNetwork n network in
     let at = bind_ok (known n ia) _ link found in
     let named = ok_or_ok (link_named n.links ia number) faults.NoLink link at.2 in
     let again = found_by_end n.links ia number x m link free.interfaces named ends in
@@ -109,7 +104,7 @@ pub record AreSides (link : Link) (ia number : ℕ) : Type 0 where
   pub at_a : is_end link.a ia number ≡ true → (link.a.ia ≡ ia) × (link.a.number ≡ number)
   pub at_b : is_end link.a ia number ≡ false → (link.b.ia ≡ ia) × (link.b.number ≡ number)
 
-sides : (link : Link) (ia number : ℕ) → has_end link ia number ≡ true → AreSides link ia number
+pub sides : (link : Link) (ia number : ℕ) → has_end link ia number ≡ true → AreSides link ia number
 sides link ia number ends = record {
   at_a = λ here. (let parts = and_parts (eqb link.a.ia ia) (eqb link.a.number number) here in (eqb-true _ _ parts.0, eqb-true _ _ parts.1));
   at_b = λ other. (
@@ -126,7 +121,7 @@ pub record IsJoined (n : Network) (ia number : ℕ) (link : Link) : Type 0 where
 
 pub IsJoined-joined : (n : Network) (ia number : ℕ) (link : Link) → IsNetwork n → joined n ia number ≡ Ok link → IsJoined n ia number link
 IsJoined-joined n ia number link network found =
-    let free = IsFree-cause_of n.ases n.links network.cause in
+    let free = IsFree-IsNetwork n network in
     let at = bind_ok (known n ia) _ link found in
     let named = ok_or_ok (link_named n.links ia number) faults.NoLink link at.2 in
     record {
@@ -169,11 +164,6 @@ far_back n ia number x m network found =
     rw (x-is, m-is) at (far_back_at n ia number at.0 network at.1)
 
 -- ---- owners
-
-has_router : (ases : List AsEntry) (end : End) (ia : ℕ) (one : AsEntry) → lacks_router ases end ≡ false → end.ia ≡ ia → as_named ases ia ≡ Some one → end.router < one.routers
-has_router ases end ia one lacks at named =
-    let test : leb one.routers end.router ≡ false = (let f : option_map_or (λ (o : AsEntry). leb o.routers end.router) (as_named ases ia) false ≡ false = rw at at lacks in rw named at f) in
-    leb-false one.routers end.router test
 
 pub owner_below : (n : Network) (ia number router : ℕ) (one : AsEntry) → IsNetwork n → owner_in n ia number ≡ Ok router → known n ia ≡ Ok one → router < one.routers
 unfolding owner_in
@@ -230,38 +220,38 @@ pub record AreMirrored (n : Network) (x m : ℕ) (near : IfEntry) : Type 0 where
   pub kind : far.kind ≡ mirrored near.kind
   pub up : far.up ≡ near.up
 
-seen_at_a : (link : Link) → interface_of link.a.ia link ≡ Some (interface_at link.a (kind_at_a link.class) link.up)
+pub seen_at_a : (link : Link) → interface_of link.a.ia link ≡ Some (end_as_interface link.a (kind_at_a link.class) link.up)
 seen_at_a link = rw (eq-eqb link.a.ia link.a.ia refl) refl
 
-seen_at_b : (link : Link) → eqb link.a.ia link.b.ia ≡ false → interface_of link.b.ia link ≡ Some (interface_at link.b (kind_at_b link.class) link.up)
+pub seen_at_b : (link : Link) → eqb link.a.ia link.b.ia ≡ false → interface_of link.b.ia link ≡ Some (end_as_interface link.b (kind_at_b link.class) link.up)
 seen_at_b link apart = rw (apart, eq-eqb link.b.ia link.b.ia refl) refl
 
 mirrored_at : (n : Network) (ia number x m : ℕ) (near : IfEntry) (link : Link) → IsNetwork n → joined n ia number ≡ Ok link → (far_end link ia number).ia ≡ x → (far_end link ia number).number ≡ m → interface_in (table_of ia n.links) number ≡ Some near → AreMirrored n x m near
 mirrored_at n ia number x m near link network found x-is m-is shown =
-    let free = IsFree-cause_of n.ases n.links network.cause in
-    let apart = are_apart-ill n.ases n.links free.classes in
+    let free = IsFree-IsNetwork n network in
+    let apart = network_apart n network in
     let is = IsJoined-joined n ia number link network found in
     let side = sides link ia number is.ends in
     let near_shown : interface_of ia link ≡ Some near = sym (interface_in-table_of ia number n.links link apart is.named) ∙ shown in
     elim (cases_Bool (is_end link.a ia number)) [
       | inl here ↦ (
-          let near_is : interface_at link.a (kind_at_a link.class) link.up ≡ near = (let f : interface_of link.a.ia link ≡ Some near = ap (λ (y : ℕ). interface_of y link) (side.at_a here).0 ∙ near_shown in let g = sym (seen_at_a link) ∙ f in cc) in
+          let near_is : end_as_interface link.a (kind_at_a link.class) link.up ≡ near = (let f : interface_of link.a.ia link ≡ Some near = ap (λ (y : ℕ). interface_of y link) (side.at_a here).0 ∙ near_shown in let g = sym (seen_at_a link) ∙ f in cc) in
           let bx : link.b.ia ≡ x = (let f : (cond true link.b link.a).ia ≡ x = rw here at x-is in f) in
           let bm : link.b.number ≡ m = (let f : (cond true link.b link.a).number ≡ m = rw here at m-is in f) in
           let named = found_by_end n.links ia number link.b.ia link.b.number link free.interfaces is.named (ends_at_b link) in
           rw (← bx, ← bm, ← near_is) (record {
-            far = interface_at link.b (kind_at_b link.class) link.up;
+            far = end_as_interface link.b (kind_at_b link.class) link.up;
             shown = interface_in-table_of link.b.ia link.b.number n.links link apart named ∙ seen_at_b link is.apart;
             kind = mirrored_b link.class;
             up = refl;
           }))
       | inr other ↦ (
-          let near_is : interface_at link.b (kind_at_b link.class) link.up ≡ near = (let f : interface_of link.b.ia link ≡ Some near = ap (λ (y : ℕ). interface_of y link) (side.at_b other).0 ∙ near_shown in let g = sym (seen_at_b link is.apart) ∙ f in cc) in
+          let near_is : end_as_interface link.b (kind_at_b link.class) link.up ≡ near = (let f : interface_of link.b.ia link ≡ Some near = ap (λ (y : ℕ). interface_of y link) (side.at_b other).0 ∙ near_shown in let g = sym (seen_at_b link is.apart) ∙ f in cc) in
           let ax : link.a.ia ≡ x = (let f : (cond false link.b link.a).ia ≡ x = rw other at x-is in f) in
           let am : link.a.number ≡ m = (let f : (cond false link.b link.a).number ≡ m = rw other at m-is in f) in
           let named = found_by_end n.links ia number link.a.ia link.a.number link free.interfaces is.named (ends_at_a link) in
           rw (← ax, ← am, ← near_is) (record {
-            far = interface_at link.a (kind_at_a link.class) link.up;
+            far = end_as_interface link.a (kind_at_a link.class) link.up;
             shown = interface_in-table_of link.a.ia link.a.number n.links link apart named ∙ seen_at_a link;
             kind = mirrored_a link.class;
             up = refl;
@@ -283,9 +273,9 @@ far_is_shown n ia number x m near network found shown =
 -- an interface at which a link ends is in its AS's table
 shown_at : (n : Network) (ia number : ℕ) (link : Link) → IsNetwork n → joined n ia number ≡ Ok link → IsSome (interface_in (table_of ia n.links) number)
 shown_at n ia number link network found =
-    let free = IsFree-cause_of n.ases n.links network.cause in
+    let free = IsFree-IsNetwork n network in
     let is = IsJoined-joined n ia number link network found in
-    let shown = interface_in-table_of ia number n.links link (are_apart-ill n.ases n.links free.classes) is.named in
+    let shown = interface_in-table_of ia number n.links link (network_apart n network) is.named in
     let side = sides link ia number is.ends in
     elim (cases_Bool (is_end link.a ia number)) [
       | inl here ↦ (let seen : interface_of ia link ≡ _ = ap (λ (y : ℕ). interface_of y link) (sym (side.at_a here).0) ∙ seen_at_a link in rw (shown, seen) refl)

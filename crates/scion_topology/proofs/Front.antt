@@ -6,7 +6,8 @@ use Rattle.serde_json.specs.Data.{Data}
 use Rattle.serde_json.specs.View.{view, items_view}
 use Rattle.serde_json.specs.declared.value.Value.{Value}
 use Rattle.scion_topology.specs.declared.fault.TopologyFault.{TopologyFault}
-use Rattle.scion_topology.specs.Reading.{◌>>=◌, items_at}
+use Rattle.refusal.specs.Refusal.{◌>>=◌}
+use Rattle.scion_topology.specs.Reading.{items_at}
 
 -- what was read so far, and then the rest
 abbrev pub with_front : {A : Type 0} → List A → Result (List A) TopologyFault → Result (List A) TopologyFault

@@ -1,9 +1,9 @@
 -- A topology after one of its ASes took another key.
-use Rattle.std.proofs.Common.{◌≡◌, ℕ, zero, suc, ◌+◌, ◌<◌, Bool, false, eqb, List, [], ◌∷◌, length, get_or, Some, Result, Ok, Err, refl, sym, ap, ◌∙◌, arith, inl, inr}
+use Rattle.std.proofs.Common.{◌≡◌, ℕ, zero, suc, ◌+◌, ◌<◌, Bool, true, false, cond, not, eqb, List, [], ◌∷◌, length, get_or, Some, Result, Ok, Err, refl, sym, ap, ◌∙◌, arith, inl, inr}
 use Rattle.std.specs.Prelude.{slice_get, slice_set, nat_le}
 use Rattle.std.specs.List.{list_all, list_any, position_or_len}
 use Rattle.std.specs.Option.{option_map_or}
-use Rattle.std.proofs.lemmas.Bool.{cases_Bool}
+use Rattle.std.proofs.lemmas.Bool.{cases_Bool, and_parts, and_from}
 use Rattle.std.proofs.lemmas.Option.{slice_get-get_or}
 use Rattle.scion_topology.specs.declared.fault.TopologyFault.{TopologyFault}
 use Rattle.scion_topology.specs.declared.network.AsEntry.{AsEntry}
@@ -11,14 +11,15 @@ use Rattle.scion_topology.specs.declared.network.End.{End}
 use Rattle.scion_topology.specs.declared.network.Link.{Link}
 use Rattle.scion_topology.specs.declared.network.LinkClass.{LinkClass}
 use Rattle.scion_topology.specs.declared.network.LinkClass.TheVariants.{Core, Child}
-use Rattle.scion_topology.specs.Keys.{keys_of}
-use Rattle.scion_topology.specs.Reading.{◌>>=◌}
-use Rattle.scion_topology.specs.Network.{Network, is_as, as_named}
-use Rattle.scion_topology.specs.Causes.{lists_twice, has_unknown_end, lacks_router, has_no_router, is_core, is_ill_classed, is_ill_joined, cause_of}
+use Rattle.scion_topology.specs.Keys.{are_keys, keys_of}
+use Rattle.refusal.specs.Refusal.{◌>>=◌}
+use Rattle.scion_topology.specs.Network.{Network, is_wildcard, as_named}
+use Rattle.scion_topology.specs.Causes.{is_as, lists_twice, has_unknown_end, lacks_router, has_no_router, is_core, is_ill_classed, is_ill_joined, cause_of}
 use Rattle.scion_topology.specs.Topology.{IsNetwork, known, with_keys, rotated}
-use Rattle.scion_topology.specs.Index.{SiteValue, site_at, site_from, site_in, keyed_at}
-use Rattle.scion_topology.proofs.Joints.{bind_ok, ok_is, ok_or_ok}
-use Rattle.scion_topology.proofs.Sites.{slice_get-bound}
+use Rattle.scion_topology.specs.Index.{IndexValue, index_at, index_from, index_in, keyed_at}
+use Rattle.scion_topology.proofs.Steps.{bind_ok, ok_is, ok_or_ok}
+use Rattle.scion_topology.proofs.Judging.{judged, rules_from}
+use Rattle.scion_topology.proofs.Indexes.{slice_get-bound}
 use Rattle.std.proofs.lemmas.List.Folds.{find_at}
 
 -- the AS of an address is the one at its place
@@ -50,11 +51,6 @@ same_any : (f : AsEntry → Bool) → IgnoresKeys f → (k : ℕ) (keys : List (
 same_any f same k keys [] = refl
 same_any f same zero keys (one ∷ rest) = rw (same one keys) refl
 same_any f same (suc k) keys (one ∷ rest) = rw (same_any f same k keys rest) refl
-
-same_all : (f : AsEntry → Bool) → IgnoresKeys f → (k : ℕ) (keys : List (List ℕ)) (ases : List AsEntry) → list_all f (keyed_at k keys ases) ≡ list_all f ases
-same_all f same k keys [] = refl
-same_all f same zero keys (one ∷ rest) = rw (same one keys) refl
-same_all f same (suc k) keys (one ∷ rest) = rw (same_all f same k keys rest) refl
 
 same_named : (f : AsEntry → Bool) → IgnoresKeys f → (ia k : ℕ) (keys : List (List ℕ)) (ases : List AsEntry) → option_map_or f (as_named (keyed_at k keys ases) ia) false ≡ option_map_or f (as_named ases ia) false
 same_named f same ia k keys [] = refl
@@ -104,31 +100,47 @@ cause_of-keyed_at k keys ases links =
 abbrev pub rekeyed : ℕ → List (List ℕ) → Network → Network
 rekeyed k keys n = record { ases = keyed_at k keys n.ases; links = n.links }
 
-pub IsNetwork-rekeyed : (k : ℕ) (keys : List (List ℕ)) (n : Network) → IsNetwork n → IsNetwork (rekeyed k keys n)
-IsNetwork-rekeyed k keys n network = record {
-  ases = same_all is_as (λ o ks. refl) k keys n.ases ∙ network.ases;
-  links = network.links;
-  cause = cause_of-keyed_at k keys n.ases n.links ∙ network.cause;
-}
+all_keyed : (k : ℕ) (keys : List (List ℕ)) (ases : List AsEntry) → are_keys keys ≡ true → list_all is_as ases ≡ true → list_all is_as (keyed_at k keys ases) ≡ true
+all_keyed k keys [] fit all = all
+all_keyed zero keys (one ∷ rest) fit all =
+    let parts = and_parts (is_as one) (list_all is_as rest) all in
+    and_from (is_as (record one { keys = keys })) (list_all is_as rest) (as_keyed one keys fit parts.0) parts.1
+  where
+    as_keyed : (one : AsEntry) (keys : List (List ℕ)) → are_keys keys ≡ true → is_as one ≡ true → is_as (record one { keys = keys }) ≡ true
+    as_keyed one keys fit passed =
+        let a = and_parts (not (is_wildcard one.ia)) _ passed in
+        let b = and_parts (nat_le 1 one.routers) _ a.1 in
+        let c = and_parts (nat_le one.routers 64) (are_keys one.keys) b.1 in
+        and_from _ _ a.0 (and_from _ _ b.0 (and_from _ _ c.0 fit))
+all_keyed (suc k) keys (one ∷ rest) fit all =
+    let parts = and_parts (is_as one) (list_all is_as rest) all in
+    and_from (is_as one) (list_all is_as (keyed_at k keys rest)) parts.0 (all_keyed k keys rest fit parts.1)
 
-pub site_from-keyed_at : (base k : ℕ) (keys : List (List ℕ)) (ases : List AsEntry) (links : List Link) (x : ℕ) → site_from base (keyed_at k keys ases) links x ≡ site_from base ases links x
-site_from-keyed_at base k keys [] links x = refl
-site_from-keyed_at base zero keys (one ∷ rest) links x = refl
-site_from-keyed_at base (suc k) keys (one ∷ rest) links x = rw (site_from-keyed_at (base + 1) k keys rest links x) refl
+pub IsNetwork-rekeyed : (k : ℕ) (keys : List (List ℕ)) (n : Network) → are_keys keys ≡ true → IsNetwork n → IsNetwork (rekeyed k keys n)
+IsNetwork-rekeyed k keys n fit network = let passed = judged n network in rules_from (rekeyed k keys n) (record {
+  ases = all_keyed k keys n.ases fit passed.ases;
+  links = passed.links;
+  cause = cause_of-keyed_at k keys n.ases n.links ∙ passed.cause;
+})
+
+pub index_from-keyed_at : (base k : ℕ) (keys : List (List ℕ)) (ases : List AsEntry) (links : List Link) (x : ℕ) → index_from base (keyed_at k keys ases) links x ≡ index_from base ases links x
+index_from-keyed_at base k keys [] links x = refl
+index_from-keyed_at base zero keys (one ∷ rest) links x = refl
+index_from-keyed_at base (suc k) keys (one ∷ rest) links x = rw (index_from-keyed_at (base + 1) k keys rest links x) refl
 
 -- ---- the change
 
-pub rotated-site_in : (ia : ℕ) (key : List ℕ) (keys : List (List ℕ)) (n : Network) (one : AsEntry) (site : SiteValue) → site_in n ia ≡ Ok (one, site) → keys_of key ≡ Ok keys → rotated ia key n ≡ Ok (rekeyed site.position keys n)
+pub rotated-index_in : (ia : ℕ) (key : List ℕ) (keys : List (List ℕ)) (n : Network) (one : AsEntry) (index : IndexValue) → index_in n ia ≡ Ok (one, index) → keys_of key ≡ Ok keys → rotated ia key n ≡ Ok (rekeyed index.position keys n)
 unfolding rotated
-rotated-site_in ia key keys n one site found fits =
-    let at = bind_ok (known n ia) _ (one, site) found in
-    let pair = ok_is (at.0, site_at (position_or_len (λ other. eqb other.ia ia) n.ases) ia n.links) (one, site) at.2 in
-    let place : position_or_len (λ other. eqb other.ia ia) n.ases ≡ site.position = ap (λ (p : AsEntry × SiteValue). p.1.position) pair in
+rotated-index_in ia key keys n one index found fits =
+    let at = bind_ok (known n ia) _ (one, index) found in
+    let pair = ok_is (at.0, index_at (position_or_len (λ other. eqb other.ia ia) n.ases) ia n.links) (one, index) at.2 in
+    let place : position_or_len (λ other. eqb other.ia ia) n.ases ≡ index.position = ap (λ (p : AsEntry × IndexValue). p.1.position) pair in
     rw (at.1, fits, with_keys-keyed_at ia keys n.ases, place) refl
 
--- an AS with its site
-abbrev paired : Network → ℕ → AsEntry → Result (AsEntry × SiteValue) TopologyFault
-paired n ia one = Ok (one, site_at (position_or_len (λ other. eqb other.ia ia) n.ases) ia n.links)
+-- an AS with its index
+abbrev paired : Network → ℕ → AsEntry → Result (AsEntry × IndexValue) TopologyFault
+paired n ia one = Ok (one, index_at (position_or_len (λ other. eqb other.ia ia) n.ases) ia n.links)
 
 abbrev with_key : Network → ℕ → List ℕ → AsEntry → Result Network TopologyFault
 with_key n ia key one = keys_of key >>= λ keys. Ok (record { ases = with_keys ia keys n.ases; links = n.links })
@@ -137,19 +149,19 @@ unknown_both : (r : Result AsEntry TopologyFault) (n : Network) (ia : ℕ) (key 
 unknown_both (Ok x) n ia key f e = absurd cc
 unknown_both (Err g) n ia key f e = cc
 
-pub rotated-unknown : (ia : ℕ) (key : List ℕ) (n : Network) (f : TopologyFault) → site_in n ia ≡ Err f → rotated ia key n ≡ Err f
+pub rotated-unknown : (ia : ℕ) (key : List ℕ) (n : Network) (f : TopologyFault) → index_in n ia ≡ Err f → rotated ia key n ≡ Err f
 unfolding rotated
 rotated-unknown ia key n f none = unknown_both (known n ia) n ia key f none
 
-pub rotated-bad : (ia : ℕ) (key : List ℕ) (n : Network) (one : AsEntry) (site : SiteValue) (f : TopologyFault) → site_in n ia ≡ Ok (one, site) → keys_of key ≡ Err f → rotated ia key n ≡ Err f
+pub rotated-bad : (ia : ℕ) (key : List ℕ) (n : Network) (one : AsEntry) (index : IndexValue) (f : TopologyFault) → index_in n ia ≡ Ok (one, index) → keys_of key ≡ Err f → rotated ia key n ≡ Err f
 unfolding rotated
-rotated-bad ia key n one site f found bad = let at = bind_ok (known n ia) _ (one, site) found in rw (at.1, bad) refl
+rotated-bad ia key n one index f found bad = let at = bind_ok (known n ia) _ (one, index) found in rw (at.1, bad) refl
 
-pub within-site_in : (n : Network) (ia : ℕ) (one : AsEntry) (site : SiteValue) → site_in n ia ≡ Ok (one, site) → site.position < length n.ases
-within-site_in n ia one site found =
-    let at = bind_ok (known n ia) _ (one, site) found in
-    let pair = ok_is (at.0, site_at (position_or_len (λ other. eqb other.ia ia) n.ases) ia n.links) (one, site) at.2 in
-    let place : position_or_len (λ other. eqb other.ia ia) n.ases ≡ site.position = ap (λ (p : AsEntry × SiteValue). p.1.position) pair in
+pub within-index_in : (n : Network) (ia : ℕ) (one : AsEntry) (index : IndexValue) → index_in n ia ≡ Ok (one, index) → index.position < length n.ases
+within-index_in n ia one index found =
+    let at = bind_ok (known n ia) _ (one, index) found in
+    let pair = ok_is (at.0, index_at (position_or_len (λ other. eqb other.ia ia) n.ases) ia n.links) (one, index) at.2 in
+    let place : position_or_len (λ other. eqb other.ia ia) n.ases ≡ index.position = ap (λ (p : AsEntry × IndexValue). p.1.position) pair in
     let named = ok_or_ok (as_named n.ases ia) _ at.0 at.1 in
     let got : slice_get n.ases (position_or_len (λ other. eqb other.ia ia) n.ases) ≡ Some at.0 = sym (find_at (λ other. eqb other.ia ia) n.ases) ∙ named in
     rw (← place) (slice_get-bound n.ases (position_or_len (λ other. eqb other.ia ia) n.ases) at.0 got)

@@ -9,15 +9,15 @@ use Rattle.std.proofs.lemmas.Bool.{cases_Bool, eq-eqb, eqb-true, ne_eqb}
 use Rattle.std.specs.Ordering.{nat_cmp}
 use Rattle.std.specs.BTreeMap.{is_at}
 use Rattle.std.proofs.lemmas.Bool.Decides.{nat_tests}
-use Rattle.scion_topology.specs.declared.site.Site.{Site}
+use Rattle.scion_topology.specs.declared.index.AsIndex.{AsIndex}
 use Rattle.scion_topology.specs.declared.entry.IfEntry.{IfEntry}
 use Rattle.scion_topology.specs.declared.network.AsEntry.{AsEntry}
 use Rattle.scion_topology.specs.declared.network.Link.{Link}
-use Rattle.scion_topology.specs.Network.{is_link, has_end, interface_of, with_first, table_of}
-use Rattle.scion_topology.specs.Causes.{has_unknown_end, has_no_router, is_ill_joined, stands, joins_twice, cause_of}
+use Rattle.scion_topology.specs.Network.{has_end, interface_of, with_first, table_of}
+use Rattle.scion_topology.specs.Causes.{is_link, has_unknown_end, has_no_router, is_ill_joined, stands, joins_twice, cause_of}
 use Rattle.scion_topology.specs.Topology.{with_up}
-use Rattle.scion_topology.specs.Index.{SiteValue, seen, joints_of, site_at, marked_table, marked, set_from}
-use Rattle.scion_topology.proofs.Joints.{position-cons}
+use Rattle.scion_topology.specs.Index.{IndexValue, seen, places_of, index_at, marked_table, marked, set_from}
+use Rattle.scion_topology.proofs.Places.{position-cons}
 
 -- an interface with the link's new state, where it is that link's
 abbrev restated : Bool → Bool → IfEntry → IfEntry
@@ -41,45 +41,45 @@ is_some-restated here up None = refl
 is_some-restated here up (Some e) = refl
 
 -- the places of links stay
-pub joints_of-set_from : (base x place count : ℕ) (up : Bool) (links : List Link) → joints_of base x (set_from count place up links) ≡ joints_of base x links
-joints_of-set_from base x place count up [] = refl
-joints_of-set_from base x place count up (link ∷ links) =
-    rw (interface_of-restated (eqb count place) up x link, is_some-restated (eqb count place) up (interface_of x link), joints_of-set_from (base + 1) x place (count + 1) up links) refl
+pub places_of-set_from : (base x place count : ℕ) (up : Bool) (links : List Link) → places_of base x (set_from count place up links) ≡ places_of base x links
+places_of-set_from base x place count up [] = refl
+places_of-set_from base x place count up (link ∷ links) =
+    rw (interface_of-restated (eqb count place) up x link, is_some-restated (eqb count place) up (interface_of x link), places_of-set_from (base + 1) x place (count + 1) up links) refl
 
-table_step : (o : Option IfEntry) (base place : ℕ) (up : Bool) (table rest : List IfEntry) (joints : List ℕ) → rest ≡ marked_table place up table joints → with_first (option_map (restated (eqb base place) up) o) rest ≡ marked_table place up (with_first o table) (cond (is_some o) (base ∷ joints) joints)
-table_step None base place up table rest joints same = same
-table_step (Some e) base place up table rest joints same = ap (λ (t : List IfEntry). restated (eqb base place) up e ∷ t) same
+table_step : (o : Option IfEntry) (base place : ℕ) (up : Bool) (table rest : List IfEntry) (places : List ℕ) → rest ≡ marked_table place up table places → with_first (option_map (restated (eqb base place) up) o) rest ≡ marked_table place up (with_first o table) (cond (is_some o) (base ∷ places) places)
+table_step None base place up table rest places same = same
+table_step (Some e) base place up table rest places same = ap (λ (t : List IfEntry). restated (eqb base place) up e ∷ t) same
 
 -- each table is the one before with that link's interfaces marked
-pub table_of-set_from : (base x place : ℕ) (up : Bool) (links : List Link) → table_of x (set_from base place up links) ≡ marked_table place up (table_of x links) (joints_of base x links)
+pub table_of-set_from : (base x place : ℕ) (up : Bool) (links : List Link) → table_of x (set_from base place up links) ≡ marked_table place up (table_of x links) (places_of base x links)
 table_of-set_from base x place up [] = refl
 table_of-set_from base x place up (link ∷ links) =
     rw (interface_of-restated (eqb base place) up x link)
-    (table_step (interface_of x link) base place up (table_of x links) (table_of x (set_from (base + 1) place up links)) (joints_of (base + 1) x links) (table_of-set_from (base + 1) x place up links))
+    (table_step (interface_of x link) base place up (table_of x links) (table_of x (set_from (base + 1) place up links)) (places_of (base + 1) x links) (table_of-set_from (base + 1) x place up links))
 
--- the site of an AS is the one before, marked
-pub site_at-set_from : (position x place : ℕ) (up : Bool) (links : List Link) → site_at position x (set_from 0 place up links) ≡ marked place up (site_at position x links)
-site_at-set_from position x place up links = same_site position _ _ _ _ (table_of-set_from 0 x place up links) (joints_of-set_from 0 x place 0 up links)
+-- the index of an AS is the one before, marked
+pub index_at-set_from : (position x place : ℕ) (up : Bool) (links : List Link) → index_at position x (set_from 0 place up links) ≡ marked place up (index_at position x links)
+index_at-set_from position x place up links = same_site position _ _ _ _ (table_of-set_from 0 x place up links) (places_of-set_from 0 x place 0 up links)
   where
-    same_site : (position : ℕ) (t u : List IfEntry) (i j : List ℕ) → t ≡ u → i ≡ j → (let s : SiteValue = record { position = position; table = t; joints = i } in s) ≡ (let s : SiteValue = record { position = position; table = u; joints = j } in s)
-    same_site position t u i j e d = ap (λ (v : List IfEntry). (let s : SiteValue = record { position = position; table = v; joints = i } in s)) e ∙ ap (λ (v : List ℕ). (let s : SiteValue = record { position = position; table = u; joints = v } in s)) d
+    same_site : (position : ℕ) (t u : List IfEntry) (i j : List ℕ) → t ≡ u → i ≡ j → (let s : IndexValue = record { position = position; table = t; places = i } in s) ≡ (let s : IndexValue = record { position = position; table = u; places = j } in s)
+    same_site position t u i j e d = ap (λ (v : List IfEntry). (let s : IndexValue = record { position = position; table = v; places = i } in s)) e ∙ ap (λ (v : List ℕ). (let s : IndexValue = record { position = position; table = u; places = v } in s)) d
 
 -- the link at this place, counted from base, does not end in an AS
 abbrev pub Misses : ℕ → ℕ → ℕ → List Link → Type 0
 Misses base x place links = (k : ℕ) (link : Link) → slice_get links k ≡ Some link → base + k ≡ place → interface_of x link ≡ None
 
-miss_step : (o : Option IfEntry) (base place : ℕ) (up : Bool) (table : List IfEntry) (joints : List ℕ) → (base ≡ place → o ≡ None) → marked_table place up table joints ≡ table → marked_table place up (with_first o table) (cond (is_some o) (base ∷ joints) joints) ≡ with_first o table
-miss_step None base place up table joints misses same = same
-miss_step (Some e) base place up table joints misses same = elim (cases_Bool (eqb base place)) [
+miss_step : (o : Option IfEntry) (base place : ℕ) (up : Bool) (table : List IfEntry) (places : List ℕ) → (base ≡ place → o ≡ None) → marked_table place up table places ≡ table → marked_table place up (with_first o table) (cond (is_some o) (base ∷ places) places) ≡ with_first o table
+miss_step None base place up table places misses same = same
+miss_step (Some e) base place up table places misses same = elim (cases_Bool (eqb base place)) [
   | inl here ↦ absurd (let none = misses (eqb-true base place here) in cc)
   | inr other ↦ rw other (ap (λ (t : List IfEntry). e ∷ t) same)
 ]
 
 -- an AS in which the link does not end keeps its table
-pub marked_table-misses : (base x place : ℕ) (up : Bool) (links : List Link) → Misses base x place links → marked_table place up (table_of x links) (joints_of base x links) ≡ table_of x links
+pub marked_table-misses : (base x place : ℕ) (up : Bool) (links : List Link) → Misses base x place links → marked_table place up (table_of x links) (places_of base x links) ≡ table_of x links
 marked_table-misses base x place up [] misses = refl
 marked_table-misses base x place up (link ∷ links) misses =
-    miss_step (interface_of x link) base place up (table_of x links) (joints_of (base + 1) x links)
+    miss_step (interface_of x link) base place up (table_of x links) (places_of (base + 1) x links)
     (λ at. misses 0 link refl (omega arith))
     (marked_table-misses (base + 1) x place up links (λ k other found at. misses (suc k) other found (omega arith)))
 
@@ -175,8 +175,8 @@ is_link-set_from base place up links = same_all is_link (λ l b. refl) base plac
 -- ---- the code's steps
 
 -- nothing is left to mark
-pub marked_table-done : (place at : ℕ) (up : Bool) (table : List IfEntry) (joints : List ℕ) → min (length table) (length joints) ≤ at → take at table ++ marked_table place up (drop at table) (drop at joints) ≡ table
-marked_table-done place at up table joints done = ap (λ (t : List IfEntry). take at table ++ t) (rest (drop at table) (drop at joints) (omega (arith, length-drop at table, length-drop at joints))) ∙ take-append-drop at table
+pub marked_table-done : (place at : ℕ) (up : Bool) (table : List IfEntry) (places : List ℕ) → min (length table) (length places) ≤ at → take at table ++ marked_table place up (drop at table) (drop at places) ≡ table
+marked_table-done place at up table places done = ap (λ (t : List IfEntry). take at table ++ t) (rest (drop at table) (drop at places) (omega (arith, length-drop at table, length-drop at places))) ∙ take-append-drop at table
   where
     rest : (t : List IfEntry) (j : List ℕ) → min (length t) (length j) ≤ 0 → marked_table place up t j ≡ t
     rest [] j h = refl
@@ -193,7 +193,7 @@ put_up-is place up links link below is =
 pub is_at-nat_cmp : (x y : ℕ) → is_at (nat_cmp y) x ≡ eqb x y
 is_at-nat_cmp x y = grind (arith, nat_tests)
 
--- one site of the index is marked
-pub mark_at : (place : ℕ) (up hit : Bool) (old new : Option Site) (before after : Site) → new ≡ cond hit (Some after) old → (hit ≡ true → old ≡ Some before) → seen after ≡ marked place up (seen before) → option_map seen new ≡ cond hit (option_map (marked place up) (option_map seen old)) (option_map seen old)
+-- one index of the index is marked
+pub mark_at : (place : ℕ) (up hit : Bool) (old new : Option AsIndex) (before after : AsIndex) → new ≡ cond hit (Some after) old → (hit ≡ true → old ≡ Some before) → seen after ≡ marked place up (seen before) → option_map seen new ≡ cond hit (option_map (marked place up) (option_map seen old)) (option_map seen old)
 mark_at place up true old new before after is at same = rw (is, at refl) (ap Some same)
 mark_at place up false old new before after is at same = ap (option_map seen) is

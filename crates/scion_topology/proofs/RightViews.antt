@@ -1,12 +1,17 @@
 -- A view is made exactly of parts that are right.
-use Rattle.std.proofs.Common.{◌≡◌, ◌≢◌, ℕ, zero, suc, ◌/◌, ◌%◌, ◌^◌, ◌<◌, ◌≤◌, Bool, true, false, ◌||◌, ◌==◌, nat_lt, if◌then◌else◌, List, [], ◌∷◌, length, get_or, All, AllPairs, Contains, Some, Ok, Err, IfOk, find, refl, sym, ◌∙◌, ap, subst, arith}
+use Rattle.std.proofs.Common.{◌≡◌, ◌≢◌, ℕ, zero, suc, ◌/◌, ◌%◌, ◌^◌, ◌<◌, ◌≤◌, Bool, true, false, ◌||◌, not, ◌==◌, if◌then◌else◌, List, [], ◌∷◌, length, get_or, All, AllPairs, Contains, Some, Ok, Err, IfOk, find, refl, sym, ◌∙◌, ap, subst, arith}
 use Rattle.std.proofs.lemmas.List.Folds.{list_any_none}
 use Rattle.std.proofs.lemmas.List.Kept.{AllPairs-cons}
-use Rattle.std.proofs.lemmas.Bool.Decides.{Decides-eqb, Decides-ltb, not_from_Decides}
+use Rattle.std.proofs.lemmas.Bool.{not-false, not_from_true}
+use Rattle.std.proofs.lemmas.Bool.Decides.{Decides-eqb}
 use Rattle.scion_topology.specs.declared.entry.IfEntry.{IfEntry}
 use Rattle.scion_topology.specs.declared.fault.TopologyFault.TheVariants as faults
 use Rattle.scion_topology.specs.View.{View, IsRight, entry_of}
-use Rattle.scion_topology.specs.Building.{has_bad_field, is_named, is_wildcard, names_twice, view_of}
+use Rattle.scion_topology.specs.Keys.{IsKey, AreKeys, is_key}
+use Rattle.scion_topology.specs.Network.{is_wildcard}
+use Rattle.scion_topology.specs.Building.{has_bad_field, is_named, names_twice, view_of}
+use Rattle.scion_topology.proofs.KeyTests.{IsKey-is_key, is_key-IsKey}
+use Rattle.scion_topology.proofs.Judging.{IsPlain-is_wildcard, is_wildcard-IsPlain}
 use Rattle.scion_topology.proofs.Deciding.{false_unless, or_false, false_or, apart, apart_test, each_fails}
 
 -- what holds of one element holds of each of a list of it alone
@@ -34,18 +39,12 @@ not_named_twice (entry ∷ rest) once =
 right : (ia router : ℕ) (key : List ℕ) (table : List IfEntry) → has_bad_field ia key table ≡ false → names_twice table ≡ false
     → IsRight (record { ia = ia; router = router; keys = key ∷ []; table = table })
 right ia router key table fine once =
-    let parts = or_false (is_wildcard ia) ((length key == 0) || (nat_lt 64 (length key) || is_named 0 table)) fine in
-    let address = or_false (ia / 2 ^ 48 == 0) (ia % 2 ^ 48 == 0) parts.0 in
-    let key_and_table = or_false (length key == 0) (nat_lt 64 (length key) || is_named 0 table) parts.1 in
-    let long_and_table = or_false (nat_lt 64 (length key)) (is_named 0 table) key_and_table.1 in
-    let some : length key ≢ 0 = apart _ _ key_and_table.0 in
-    let not_long : 64 < length key → ⊥ = not_from_Decides (nat_lt 64 (length key)) (Decides-ltb 64 (length key)) long_and_table.0 in
-    let short : length key ≤ 64 = omega arith in
+    let parts = or_false (is_wildcard ia) (not (is_key key) || is_named 0 table) fine in
+    let key_and_table = or_false (not (is_key key)) (is_named 0 table) parts.1 in
     record {
-      isd = apart _ _ address.0;
-      as_number = apart _ _ address.1;
-      keys = all_of_one (λ key. (1 ≤ length key) × (length key ≤ 64)) key (omega arith, short);
-      numbered = λ k d below. apart _ _ (each_fails (λ entry. entry.number == 0) table long_and_table.1 k d below);
+      plain = IsPlain-is_wildcard ia parts.0;
+      keys = record { some = omega arith; each = all_of_one IsKey key (IsKey-is_key key (not-false _ key_and_table.0)) };
+      numbered = λ k d below. apart _ _ (each_fails (λ entry. entry.number == 0) table key_and_table.1 k d below);
       once = named_once table once;
     }
 
@@ -69,12 +68,10 @@ right_view ia router key table view e = (rw e at (made_right ia router key table
 
 no_bad_field : (view : View) (key : List ℕ) → IsRight view → view.keys ≡ key ∷ [] → has_bad_field view.ia key view.table ≡ false
 no_bad_field view key h one =
-    let all : All (λ key. (1 ≤ length key) × (length key ≤ 64)) (key ∷ []) = subst (All (λ key. (1 ≤ length key) × (length key ≤ 64))) one h.keys in
-    let is_key : (1 ≤ length key) × (length key ≤ 64) = all zero key (omega arith) in
-    false_or _ _ (false_or _ _ (apart_test _ _ h.isd) (apart_test _ _ h.as_number))
-    (false_or _ _ (apart_test _ _ (omega arith))
-    (false_or _ _ (false_unless (nat_lt 64 (length key)) (λ long. let above : 64 < length key = (Decides-ltb 64 (length key)).0 long in omega arith))
-    (list_any_none (λ entry. entry.number == 0) view.table (λ k d below. apart_test _ _ (h.numbered k d below)))))
+    let all : All IsKey (key ∷ []) = subst (All IsKey) one h.keys.each in
+    false_or _ _ (is_wildcard-IsPlain view.ia h.plain)
+    (false_or _ _ (not_from_true _ (is_key-IsKey key (all zero key (omega arith))))
+    (list_any_none (λ entry. entry.number == 0) view.table (λ k d below. apart_test _ _ (h.numbered k d below))))
 
 pub right_made : (view : View) (key : List ℕ) → IsRight view → view.keys ≡ key ∷ [] → view_of view.ia view.router key view.table ≡ Ok view
 unfolding view_of

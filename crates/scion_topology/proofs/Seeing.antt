@@ -6,12 +6,14 @@ use Rattle.scion_topology.specs.declared.entry.IfEntry.{IfEntry}
 use Rattle.scion_topology.specs.declared.fault.TopologyFault.{TopologyFault}
 use Rattle.scion_topology.specs.declared.network.AsEntry.{AsEntry}
 use Rattle.scion_topology.specs.declared.network.Link.{Link}
-use Rattle.scion_topology.specs.Building.{is_wildcard, is_named, names_twice, view_of}
-use Rattle.scion_topology.specs.Keys.{keys_of}
-use Rattle.scion_topology.specs.Network.{Network, is_as, is_link, as_named, has_end, interface_of, with_first, table_of}
-use Rattle.scion_topology.specs.Causes.{stands, joins_twice}
+use Rattle.scion_topology.specs.Building.{is_named, names_twice, view_of}
+use Rattle.scion_topology.specs.Keys.{is_key, are_keys, keys_of}
+use Rattle.scion_topology.specs.Network.{Network, is_wildcard, as_named, has_end, interface_of, with_first, table_of}
+use Rattle.scion_topology.specs.Causes.{is_as, is_link, stands, joins_twice}
 use Rattle.scion_topology.specs.Topology.{IsNetwork, known}
-use Rattle.scion_topology.proofs.Joints.{are_apart, is_numbered, ends_there, IsFree-cause_of, are_apart-ill, ok_or_ok}
+use Rattle.scion_topology.proofs.Steps.{ok_or_ok}
+use Rattle.scion_topology.proofs.Judging.{IsFree-IsNetwork, judged}
+use Rattle.scion_topology.proofs.Places.{are_apart, is_numbered, ends_there, network_apart}
 
 -- the address of an AS that was found is no wildcard
 plain_found : (ases : List AsEntry) (ia : ℕ) (one : AsEntry) → list_all is_as ases ≡ true → as_named ases ia ≡ Some one → is_wildcard ia ≡ false
@@ -19,7 +21,7 @@ plain_found [] ia one all found = absurd cc
 plain_found (first ∷ rest) ia one all found =
     let parts = and_parts (is_as first) (list_all is_as rest) all in
     elim (cases_Bool (eqb first.ia ia)) [
-      | inl here ↦ (let same = eqb-true first.ia ia here in (let own = and_parts (not (is_wildcard first.ia)) (ltb 0 first.routers) parts.0 in rw (← same) (not-true (is_wildcard first.ia) own.0)))
+      | inl here ↦ (let same = eqb-true first.ia ia here in (let own = and_parts (not (is_wildcard first.ia)) _ parts.0 in rw (← same) (not-true (is_wildcard first.ia) own.0)))
       | inr other ↦ (let later : cond false (Some first) (as_named rest ia) ≡ Some one = rw other at found in plain_found rest ia one parts.1 later)
     ]
 
@@ -60,7 +62,7 @@ unfolding names_twice
 once_more None table new once = once
 once_more (Some e) table new once = or_from (is_named e.number table) (names_twice table) (new e refl) once
 
-entry_is : (x y : Bool) (a b e : IfEntry) → cond x (Some a) (cond y (Some b) None) ≡ Some e → ((x ≡ true) × (a ≡ e)) ⊎ ((y ≡ true) × (b ≡ e))
+pub entry_is : (x y : Bool) (a b e : IfEntry) → cond x (Some a) (cond y (Some b) None) ≡ Some e → ((x ≡ true) × (a ≡ e)) ⊎ ((y ≡ true) × (b ≡ e))
 entry_is true y a b e h = inl (refl, cc)
 entry_is false true a b e h = inr (refl, cc)
 entry_is false false a b e h = absurd cc
@@ -92,22 +94,21 @@ pub record IsSeen (n : Network) (ia : ℕ) : Type 0 where
 
 pub IsSeen-known : (n : Network) (ia : ℕ) (one : AsEntry) → IsNetwork n → known n ia ≡ Ok one → IsSeen n ia
 IsSeen-known n ia one network found =
-    let free = IsFree-cause_of n.ases n.links network.cause in
-    let apart = are_apart-ill n.ases n.links free.classes in
+    let free = IsFree-IsNetwork n network in
+    let apart = network_apart n network in
     record {
-      plain = plain_found n.ases ia one network.ases (ok_or_ok (as_named n.ases ia) _ one found);
-      numbered = none_zero ia n.links network.links;
+      plain = plain_found n.ases ia one (judged n network).ases (ok_or_ok (as_named n.ases ia) _ one found);
+      numbered = none_zero ia n.links (judged n network).links;
       once = none_twice ia n.links apart free.interfaces;
     }
 
--- a key that is accepted has 1 to 64 bytes
-key_guard : (b : Bool) (f : TopologyFault) (keys : List (List ℕ)) → cond b (Err f) (Ok keys) ≡ Ok keys → b ≡ false
-key_guard true f keys e = absurd cc
-key_guard false f keys e = refl
+-- a key that is accepted passes the test
+key_guard : (b : Bool) (f : TopologyFault) (keys : List (List ℕ)) → cond b (Ok keys) (Err f) ≡ Ok keys → b ≡ true
+key_guard true f keys e = refl
+key_guard false f keys e = absurd cc
 
 -- parts that are right make a view
 pub view_of-parts : (ia router : ℕ) (key : List ℕ) (table : List IfEntry) → is_wildcard ia ≡ false → is_named 0 table ≡ false → names_twice table ≡ false → keys_of key ≡ Ok (key ∷ []) → view_of ia router key table ≡ Ok (record { ia = ia; router = router; keys = key ∷ []; table = table })
 unfolding view_of keys_of
 view_of-parts ia router key table plain numbered once fits =
-    let short = or_parts (eqb (length key) 0) (ltb 64 (length key)) (key_guard (eqb (length key) 0 || ltb 64 (length key)) _ (key ∷ []) fits) in
-    rw (plain, short.0, short.1, numbered, once) refl
+    rw (plain, key_guard (is_key key) _ (key ∷ []) fits, numbered, once) refl

@@ -1,7 +1,8 @@
 -- Why a list of ASes and a list of links are no network: the first cause, over all of both lists.
-use Rattle.std.specs.Prelude.{ℕ, ◌/◌, ◌^◌, ◌==◌, ◌||◌, not, nat_lt, nat_le, Bool, false, if◌then◌else◌, List, [], ◌∷◌, length, Option, Some, None}
+use Rattle.std.specs.Prelude.{ℕ, ◌/◌, ◌^◌, ◌==◌, ◌&&◌, ◌||◌, not, nat_lt, nat_le, Bool, false, if◌then◌else◌, List, [], ◌∷◌, length, Option, Some, None}
 use Rattle.std.specs.List.{list_any}
 use Rattle.std.specs.Option.{option_map_or}
+use Rattle.isd_as.specs.Address.{isd_of}
 use Rattle.scion_topology.specs.declared.fault.TopologyFault.{TopologyFault}
 use Rattle.scion_topology.specs.declared.fault.TopologyFault.TheVariants as faults
 use Rattle.scion_topology.specs.declared.network.AsEntry.{AsEntry}
@@ -9,7 +10,21 @@ use Rattle.scion_topology.specs.declared.network.End.{End}
 use Rattle.scion_topology.specs.declared.network.Link.{Link}
 use Rattle.scion_topology.specs.declared.network.LinkClass.{LinkClass}
 use Rattle.scion_topology.specs.declared.network.LinkClass.TheVariants.{Core, Child}
-use Rattle.scion_topology.specs.Network.{as_named, has_end}
+use Rattle.scion_topology.specs.Keys.{are_keys}
+use Rattle.scion_topology.specs.Network.{is_wildcard, as_named, has_end}
+
+-- ---- an AS and a link by themselves
+
+-- the tests of `IsAs` and of `IsNumbered`
+abbrev pub is_as : AsEntry → Bool
+is_as one =
+    not (is_wildcard one.ia)
+    && (nat_le 1 one.routers && (nat_le one.routers 64 && are_keys one.keys))
+
+abbrev pub is_link : Link → Bool
+is_link link = nat_lt 0 link.a.number && nat_lt 0 link.b.number
+
+-- ---- the whole
 
 -- no AS, more than 1,024 ASes, or more than 4,096 links
 abbrev pub is_too_many : List AsEntry → List Link → Bool
@@ -42,7 +57,7 @@ is_core ases ia = option_map_or (λ one. one.core) (as_named ases ia) false
 -- a core link has an end that is not core; a child link crosses ISDs or has a core AS as its child
 abbrev pub is_ill_classed : List AsEntry → LinkClass → ℕ → ℕ → Bool
 is_ill_classed ases Core a b = not (is_core ases a) || not (is_core ases b)
-is_ill_classed ases Child parent child = not (parent / 2 ^ 48 == child / 2 ^ 48) || is_core ases child
+is_ill_classed ases Child parent child = not (isd_of parent == isd_of child) || is_core ases child
 
 -- both ends are in one AS, or the link's class doesn't allow its ends
 abbrev pub is_ill_joined : List AsEntry → Link → Bool

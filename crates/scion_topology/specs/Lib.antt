@@ -1,9 +1,11 @@
 pub mod Fault
-pub mod View
-pub mod Building
 pub mod Keys
 pub mod Network
+pub mod Rules
+pub mod View
+pub mod Building
 pub mod Causes
 pub mod Reading
 pub mod Topology
+pub mod Ends
 pub mod Index

@@ -1,6 +1,6 @@
 -- A network: its ASes and its links (draft-dekater-scion-controlplane, topology).
-use Rattle.std.specs.Prelude.{ℕ, ◌==◌, ◌&&◌, ◌||◌, not, nat_lt, Bool, List, [], ◌∷◌, Option, Some, None, find, if◌then◌else◌}
-use Rattle.scion_topology.specs.Building.{is_wildcard}
+use Rattle.std.specs.Prelude.{◌≢◌, ℕ, ◌/◌, ◌%◌, ◌^◌, ◌==◌, ◌&&◌, ◌||◌, Bool, List, [], ◌∷◌, Option, Some, None, find, if◌then◌else◌}
+use Rattle.isd_as.specs.Address.{isd_of, as_number_of}
 use Rattle.scion_topology.specs.declared.entry.IfEntry.{IfEntry}
 use Rattle.scion_topology.specs.declared.entry.LinkKind.{LinkKind}
 use Rattle.scion_topology.specs.declared.entry.LinkKind.TheVariants as kinds
@@ -15,12 +15,12 @@ pub record Network : Type 0 where
   pub ases : List AsEntry
   pub links : List Link
 
--- the address of an AS is no wildcard and it has a router; the numbers of a link's interfaces are not 0
-abbrev pub is_as : AsEntry → Bool
-is_as one = not (is_wildcard one.ia) && nat_lt 0 one.routers
+-- the ISD or the AS number of this address is the wildcard 0, and neither is
+abbrev pub is_wildcard : ℕ → Bool
+is_wildcard ia = (isd_of ia == 0) || (as_number_of ia == 0)
 
-abbrev pub is_link : Link → Bool
-is_link link = nat_lt 0 link.a.number && nat_lt 0 link.b.number
+abbrev pub IsPlain : ℕ → Type 0
+IsPlain ia = (isd_of ia ≢ 0) × (as_number_of ia ≢ 0)
 
 -- the AS of this address
 abbrev pub as_named : List AsEntry → ℕ → Option AsEntry
@@ -48,14 +48,14 @@ kind_at_b Core = kinds.Core
 kind_at_b Child = kinds.Parent
 
 -- an end of a link as an interface of its AS
-abbrev pub interface_at : End → LinkKind → Bool → IfEntry
-interface_at end kind up = record { number = end.number; kind = kind; router = end.router; up = up }
+abbrev pub end_as_interface : End → LinkKind → Bool → IfEntry
+end_as_interface end kind up = record { number = end.number; kind = kind; router = end.router; up = up }
 
 -- the interface by which the link ends in this AS
 abbrev pub interface_of : ℕ → Link → Option IfEntry
 interface_of ia link =
-    if link.a.ia == ia then Some (interface_at link.a (kind_at_a link.class) link.up)
-    else if link.b.ia == ia then Some (interface_at link.b (kind_at_b link.class) link.up)
+    if link.a.ia == ia then Some (end_as_interface link.a (kind_at_a link.class) link.up)
+    else if link.b.ia == ia then Some (end_as_interface link.b (kind_at_b link.class) link.up)
     else None
 
 abbrev pub with_first : Option IfEntry → List IfEntry → List IfEntry

@@ -1,13 +1,12 @@
 -- Reading a topology from JSON: the network, or the first refusal.
 -- An object has the named members and any others; a whole number is one that is written as such.
-use Rattle.std.specs.Prelude.{◌≡◌, ℕ, ◌&&◌, nat_le, Bool, true, if◌then◌else◌, codes, List, [], ◌∷◌, length, Option, Some, None, option_and_then, Result, Ok, Err}
+use Rattle.std.specs.Prelude.{ℕ, ◌&&◌, nat_le, Bool, true, if◌then◌else◌, codes, List, [], ◌∷◌, length, Option, Some, None, option_and_then, Result, Ok, Err}
 use Rattle.std.specs.Str.{bytes_eq}
 use Rattle.serde_json.specs.Data.{Data, Items, no_items, item}
 use Rattle.serde_json.specs.Find.{get, as_number, as_u64, as_bool, as_str, as_array}
 use Rattle.hex.specs.Hex.{decode_of}
 use Rattle.isd_as.specs.Reading.{address_at}
-use Rattle.scion_topology.specs.declared.fault.ReadError.{ReadError}
-use Rattle.scion_topology.specs.declared.fault.ReadError.TheVariants as errors
+use Rattle.refusal.specs.Refusal.{◌>>=◌}
 use Rattle.scion_topology.specs.declared.fault.TopologyFault.{TopologyFault}
 use Rattle.scion_topology.specs.declared.fault.TopologyFault.TheVariants as faults
 use Rattle.scion_topology.specs.declared.network.AsEntry.{AsEntry}
@@ -15,14 +14,8 @@ use Rattle.scion_topology.specs.declared.network.End.{End}
 use Rattle.scion_topology.specs.declared.network.Link.{Link}
 use Rattle.scion_topology.specs.declared.network.LinkClass.{LinkClass}
 use Rattle.scion_topology.specs.declared.network.LinkClass.TheVariants.{Core, Child}
-use Rattle.scion_topology.specs.Building.{is_wildcard}
 use Rattle.scion_topology.specs.Keys.{keys_of}
-
--- one step after another, up to the first refusal
-infixl 10 ◌>>=◌
-abbrev pub ◌>>=◌ : {A B : Type 0} → Result A TopologyFault → (A → Result B TopologyFault) → Result B TopologyFault
-(Ok x) >>= f = f x
-(Err e) >>= f = Err e
+use Rattle.scion_topology.specs.Network.{is_wildcard}
 
 -- what is not there, and what another reader refuses, is a bad field
 abbrev pub required : {A : Type 0} → Option A → Result A TopologyFault
@@ -67,7 +60,9 @@ address_in name d = do
 unfoldable pub keys_at : List ℕ → Data → Result (List (List ℕ)) TopologyFault
 keys_at name d = do
   text ← text_at name d
-  if nat_le 2 (length text) && nat_le (length text) 128 then or_bad (decode_of text) >>= keys_of else Err faults.BadField
+  if nat_le 2 (length text) && nat_le (length text) 128
+      then or_bad (decode_of text) >>= keys_of
+      else Err faults.BadField
 
 -- an AS
 unfoldable pub as_at : Data → Result AsEntry TopologyFault
@@ -83,8 +78,9 @@ as_at d = do
 unfoldable pub class_at : List ℕ → Data → Result LinkClass TopologyFault
 class_at name d = do
   text ← text_at name d
-  if bytes_eq text (codes "core") then Ok Core else
-      if bytes_eq text (codes "child") then Ok Child else Err faults.BadField
+  if bytes_eq text (codes "core") then Ok Core
+      else if bytes_eq text (codes "child") then Ok Child
+      else Err faults.BadField
 
 -- an end of a link
 unfoldable pub end_at : List ℕ → Data → Result End TopologyFault
@@ -116,17 +112,3 @@ unfoldable pub list_at : List ℕ → Data → Result Items TopologyFault
 list_at name d = do
   v ← member_at name d
   required (as_array v)
-
--- what a function of the code returned, seen by view, is what reading gives
-abbrev pub Gives : {X Y : Type 0} → (X → Y) → Result X TopologyFault → Result Y TopologyFault → Type 0
-Gives view (Ok x) reading = reading ≡ Ok (view x)
-Gives view (Err e) reading = reading ≡ Err e
-
--- the same of a function that may run out of memory, of which nothing more is said
-abbrev pub Fails : {Y : Type 0} → ReadError → Result Y TopologyFault → Type 0
-Fails errors.Memory reading = Unit {0}
-Fails (errors.Fault f) reading = reading ≡ Err f
-
-abbrev pub Reads : {X Y : Type 0} → (X → Y) → Result X ReadError → Result Y TopologyFault → Type 0
-Reads view (Ok x) reading = reading ≡ Ok (view x)
-Reads view (Err e) reading = Fails e reading

@@ -1,9 +1,10 @@
 -- Topologies: the network of a text, what is asked of it, and how it is changed.
-use Rattle.std.specs.Prelude.{◌≡◌, ℕ, ◌==◌, nat_lt, Bool, true, if◌then◌else◌, codes, List, [], ◌∷◌, Option, Some, None, Result, Ok, Err}
-use Rattle.std.specs.List.{list_all, position_or_len}
+use Rattle.std.specs.Prelude.{◌≡◌, ℕ, ◌==◌, nat_lt, Bool, if◌then◌else◌, codes, List, [], ◌∷◌, Option, Some, None, Result, Ok, Err}
+use Rattle.std.specs.List.{position_or_len}
 use Rattle.std.specs.Option.{ok_or}
 use Rattle.serde_json.specs.Data.{Data}
 use Rattle.serde_json.specs.Read.{read}
+use Rattle.refusal.specs.Refusal.{◌>>=◌, unless}
 use Rattle.scion_topology.specs.declared.entry.IfEntry.{IfEntry}
 use Rattle.scion_topology.specs.declared.fault.TopologyFault.{TopologyFault}
 use Rattle.scion_topology.specs.declared.fault.TopologyFault.TheVariants as faults
@@ -13,29 +14,20 @@ use Rattle.scion_topology.specs.declared.network.End.{End}
 use Rattle.scion_topology.specs.declared.network.Link.{Link}
 use Rattle.scion_topology.specs.View.{View}
 use Rattle.scion_topology.specs.Keys.{keys_of}
-use Rattle.scion_topology.specs.Network.{Network, is_as, is_link, as_named, is_end, has_end, link_named, table_of, interface_in}
+use Rattle.scion_topology.specs.Network.{Network, as_named, is_end, has_end, link_named, table_of, interface_in}
 use Rattle.scion_topology.specs.Causes.{cause_of}
-use Rattle.scion_topology.specs.Reading.{◌>>=◌, list_at, items_at, as_at, link_at}
-
--- what is never false of a topology that was read
-pub record IsNetwork (n : Network) : Type 0 where
-  pub ases : list_all is_as n.ases ≡ true
-  pub links : list_all is_link n.links ≡ true
-  pub cause : cause_of n.ases n.links ≡ None
+pub use Rattle.scion_topology.specs.Rules.{IsNetwork}
+use Rattle.scion_topology.specs.Reading.{list_at, items_at, as_at, link_at}
 
 -- ---- reading
-
-abbrev pub unless : {A : Type 0} → Option TopologyFault → A → Result A TopologyFault
-unless None x = Ok x
-unless (Some f) x = Err f
 
 -- the network of a value: each field, and then each cause over the whole
 unfoldable pub network_of : Data → Result Network TopologyFault
 network_of d = do
-  rows ← list_at (codes "ases") d
-  joints ← list_at (codes "links") d
-  ases ← items_at as_at rows
-  links ← items_at link_at joints
+  as_items ← list_at (codes "ases") d
+  link_items ← list_at (codes "links") d
+  ases ← items_at as_at as_items
+  links ← items_at link_at link_items
   unless (cause_of ases links) (record { ases = ases; links = links })
 
 -- the network of a text
@@ -60,11 +52,17 @@ joined n ia number = known n ia >>= λ _. ok_or (link_named n.links ia number) f
 unfoldable pub info_in : Network → ℕ → Result AsInfo TopologyFault
 info_in n ia = do
   one ← known n ia
-  Ok (record { position = position_or_len (λ other. other.ia == ia) n.ases; core = one.core; exp_time = one.exp_time; routers = one.routers })
+  Ok (record {
+    position = position_or_len (λ other. other.ia == ia) n.ases;
+    core = one.core;
+    exp = one.exp_time;
+    routers = one.routers;
+  })
 
 -- an interface of an AS
 abbrev pub interface_at : Network → ℕ → ℕ → Result IfEntry TopologyFault
-interface_at n ia number = known n ia >>= λ _. ok_or (interface_in (table_of ia n.links) number) faults.NoLink
+interface_at n ia number =
+    known n ia >>= λ _. ok_or (interface_in (table_of ia n.links) number) faults.NoLink
 
 -- the end of a link at this interface, and the other end
 abbrev pub near_end : Link → ℕ → ℕ → End
@@ -89,19 +87,24 @@ owner_in n ia number = do
 unfoldable pub view_in : Network → ℕ → ℕ → Result View TopologyFault
 view_in n ia router = do
   one ← known n ia
-  if nat_lt router one.routers then Ok (record { ia = ia; router = router; keys = one.keys; table = table_of ia n.links }) else Err faults.NoRouter
+  if nat_lt router one.routers
+      then Ok (record { ia = ia; router = router; keys = one.keys; table = table_of ia n.links })
+      else Err faults.NoRouter
 
 -- ---- changing
 
 -- the links with the one at this interface up, or down
 abbrev pub with_up : Bool → ℕ → ℕ → List Link → List Link
 with_up up ia number [] = []
-with_up up ia number (link ∷ links) = if has_end link ia number then record link { up = up } ∷ links else link ∷ with_up up ia number links
+with_up up ia number (link ∷ links) =
+    if has_end link ia number then record link { up = up } ∷ links
+    else link ∷ with_up up ia number links
 
 -- the ASes with these keys for the one of this address
 abbrev pub with_keys : ℕ → List (List ℕ) → List AsEntry → List AsEntry
 with_keys ia keys [] = []
-with_keys ia keys (one ∷ rest) = if one.ia == ia then record one { keys = keys } ∷ rest else one ∷ with_keys ia keys rest
+with_keys ia keys (one ∷ rest) =
+    if one.ia == ia then record one { keys = keys } ∷ rest else one ∷ with_keys ia keys rest
 
 -- the network with that link up, or down
 unfoldable pub set_up : Bool → ℕ → ℕ → Network → Result Network TopologyFault

@@ -1,9 +1,11 @@
 -- What a router knows of its AS: address, keys and interfaces (draft-dekater-scion-dataplane).
-use Rattle.std.specs.Prelude.{◌≡◌, ◌≢◌, ℕ, ◌/◌, ◌%◌, ◌^◌, ◌≤◌, ◌==◌, Bool, List, All, AllPairs, Any, Option, find, length}
+use Rattle.std.specs.Prelude.{◌≡◌, ◌≢◌, ℕ, Bool, List, All, AllPairs, Any, Option}
 use Rattle.std.specs.List.{list_any}
 use Rattle.std.specs.Str.{bytes_eq}
 use Rattle.hop_mac.specs.Hop.{authenticator}
 use Rattle.scion_topology.specs.declared.entry.IfEntry.{IfEntry}
+use Rattle.scion_topology.specs.Keys.{AreKeys}
+use Rattle.scion_topology.specs.Network.{IsPlain, interface_in}
 
 -- the address of a router's AS, the router's number, the keys that the AS accepts as its own, and
 -- its interfaces
@@ -13,17 +15,16 @@ pub record View : Type 0 where
   pub keys : List (List ℕ)
   pub table : List IfEntry
 
--- no wildcard in the address, keys of 1 to 64 bytes, and each interface named once, none of them 0
+-- no wildcard in the address, at least one key, and each interface named once, none of them 0
 pub record IsRight (view : View) : Type 0 where
-  pub isd : view.ia / 2 ^ 48 ≢ 0
-  pub as_number : view.ia % 2 ^ 48 ≢ 0
-  pub keys : All (λ key. (1 ≤ length key) × (length key ≤ 64)) view.keys
+  pub plain : IsPlain view.ia
+  pub keys : AreKeys view.keys
   pub numbered : All (λ entry. entry.number ≢ 0) view.table
   pub once : AllPairs (λ one other. one.number ≢ other.number) view.table
 
 -- the interface of this number
 abbrev pub entry_of : View → ℕ → Option IfEntry
-entry_of view number = find (λ entry. entry.number == number) view.table
+entry_of view number = interface_in view.table number
 
 -- the bytes are the authenticator of a hop of these values under one of the accepted keys
 abbrev pub IsAuthentic : View → List ℕ → ℕ → ℕ → ℕ → ℕ → ℕ → Type 0

@@ -1,17 +1,17 @@
-ghost use Rattle.std.specs.Prelude.{◌≡◌, ◌<◌, IfOk, length};
+ghost use Rattle.std.specs.Prelude.{◌≡◌, ◌<◌, Some, None, IfOk, MatchResult, length};
 ghost use Rattle.std.specs.Ordering.{nat_cmp};
 ghost use Rattle.std.specs.BTreeMap.{get};
 ghost use Rattle.std.specs.Option.{option_copied};
 ghost use Rattle.scion_topology.specs.Network.{as_named, interface_in};
-ghost use Rattle.scion_topology.specs.Reading.{Gives};
-ghost use Rattle.scion_topology.specs.Topology.{IsNetwork, joined, info_in, interface_at, far_end_in, owner_in, view_in};
-ghost use Rattle.scion_topology.specs.Index.{seen, joint_in, site_in, place_in};
+ghost use Rattle.refusal.specs.Refusal.{Gives};
+ghost use Rattle.scion_topology.specs.Topology.{IsNetwork, known, joined, info_in, interface_at, far_end_in, owner_in, view_in};
+ghost use Rattle.scion_topology.specs.Index.{seen, place_beside, index_in, place_in};
 
-use crate::causes::is_at;
+use crate::causes::is_end;
 use crate::entry::IfEntry;
 use crate::fault::TopologyFault;
+use crate::index::AsIndex;
 use crate::network::{AsEntry, AsInfo, Link};
-use crate::site::Site;
 use crate::topology::Topology;
 use crate::view::RouterView;
 use isd_as::{IfId, IsdAs};
@@ -23,11 +23,11 @@ impl Topology {
     pub fn as_info(&self, ia: IsdAs) -> Result<AsInfo, TopologyFault>
         ensures { result ≡ info_in self.now ia }
     {
-        let (one, site) = self.site(ia)?;
+        let (one, index) = self.indexed(ia)?;
         Ok(AsInfo {
-            position: site.position,
+            position: index.position,
             core: one.core,
-            exp_time: one.exp_time,
+            exp: one.exp_time,
             routers: one.routers,
         })
     }
@@ -39,7 +39,7 @@ impl Topology {
         ensures { result ≡ far_end_in self.now ia number }
     {
         let link = self.link(ia, number)?;
-        if is_at(&link.a, ia, number) {
+        if is_end(&link.a, ia, number) {
             Ok((link.b.ia, link.b.number))
         } else {
             Ok((link.a.ia, link.a.number))
@@ -53,7 +53,7 @@ impl Topology {
         ensures { result ≡ owner_in self.now ia number }
     {
         let link = self.link(ia, number)?;
-        if is_at(&link.a, ia, number) {
+        if is_end(&link.a, ia, number) {
             Ok(link.a.router)
         } else {
             Ok(link.b.router)
@@ -67,21 +67,21 @@ impl Topology {
         ensures { result ≡ view_in self.now ia router }
     {
         let _ = &self.links;
-        let (one, site) = self.site(ia)?;
+        let (one, index) = self.indexed(ia)?;
         if router >= one.routers {
             return Err(TopologyFault::NoRouter);
         }
-        Ok(RouterView::of_parts(ia, router, &one.keys, &site.table))
+        Ok(RouterView::of_parts(ia, router, &one.keys, &index.table))
     }
 
-    /// An AS as the list has it, with its keys; nothing where it isn't listed.
-    pub fn as_entry(&self, ia: IsdAs) -> Option<&AsEntry>
-        ensures { option_copied result ≡ as_named self.now.ases ia }
+    /// An AS as the list has it, with its keys: [`TopologyFault::UnknownAs`] where it isn't listed.
+    pub fn as_entry(&self, ia: IsdAs) -> Result<&AsEntry, TopologyFault>
+        ensures value { Gives (λ one. one.now) result (known self.now ia) }
+        ensures named { MatchResult result (λ one. as_named self.now.ases ia ≡ Some one.now)
+            (λ _. as_named self.now.ases ia ≡ None) }
     {
-        match self.site(ia) {
-            Ok((one, _)) => Some(one),
-            Err(_) => None,
-        }
+        let (one, _) = self.indexed(ia)?;
+        Ok(one)
     }
 
     /// The interface of this number of an AS: [`TopologyFault::UnknownAs`], then
@@ -90,11 +90,11 @@ impl Topology {
         ensures { Gives (λ entry. entry.now) result (interface_at self.now ia number) }
     {
         let _ = &self.links;
-        let (_, site) = self.site(ia)?;
-        numbered(&site.table, number).ok_or(TopologyFault::NoLink)
+        let (_, index) = self.indexed(ia)?;
+        interface_in(&index.table, number).ok_or(TopologyFault::NoLink)
     }
 
-    /// Does nothing, and tells its caller what is kept of every topology.
+    /// Does nothing, and tells its caller the rules that every topology keeps.
     pub fn known(&self)
         ensures { IsNetwork self.now }
     {
@@ -102,13 +102,13 @@ impl Topology {
     }
 
     /// An AS and what was prepared for it.
-    pub(crate) fn site(&self, ia: IsdAs) -> Result<(&AsEntry, &Site), TopologyFault>
-        ensures { Gives (λ x. (x.0.now, seen x.1.now)) result (site_in self.now ia) }
+    pub(crate) fn indexed(&self, ia: IsdAs) -> Result<(&AsEntry, &AsIndex), TopologyFault>
+        ensures { Gives (λ x. (x.0.now, seen x.1.now)) result (index_in self.now ia) }
     {
-        let Some(site) = site_of(&self.sites, ia) else {
+        let Some(index) = index_of(&self.indexes, ia) else {
             return Err(TopologyFault::UnknownAs);
         };
-        Ok((&self.ases[site.position], site))
+        Ok((&self.ases[index.position], index))
     }
 
     /// The place of the link at an interface.
@@ -117,43 +117,41 @@ impl Topology {
         ensures bound { IfOk result (λ place. place < length self.now.links) }
     {
         let _ = &self.links;
-        let (_, site) = self.site(ia)?;
-        joint_at(&site.table, &site.joints, number).ok_or(TopologyFault::NoLink)
+        let (_, index) = self.indexed(ia)?;
+        place_beside(&index.table, &index.places, number).ok_or(TopologyFault::NoLink)
     }
 
     /// The link at an interface.
     pub(crate) fn link(&self, ia: IsdAs, number: IfId) -> Result<&Link, TopologyFault>
         ensures { Gives (λ link. link.now) result (joined self.now ia number) }
     {
-        match self.place(ia, number) {
-            Ok(place) => Ok(&self.links[place]),
-            Err(fault) => Err(fault),
-        }
+        let place = self.place(ia, number)?;
+        Ok(&self.links[place])
     }
 }
 
-/// The site of an AS.
-fn site_of(sites: &BTreeMap<IsdAs, Site>, ia: IsdAs) -> Option<&Site>
-    ensures { option_copied result ≡ get nat_cmp sites.now ia }
+/// The index of an AS.
+fn index_of(indexes: &BTreeMap<IsdAs, AsIndex>, ia: IsdAs) -> Option<&AsIndex>
+    ensures { option_copied result ≡ get nat_cmp indexes.now ia }
 {
-    sites.get(&ia)
+    indexes.get(&ia)
 }
 
 /// The interface of this number in a table.
-fn numbered(table: &[IfEntry], number: IfId) -> Option<&IfEntry>
+fn interface_in(table: &[IfEntry], number: IfId) -> Option<&IfEntry>
     ensures { option_copied result ≡ interface_in table.now number }
 {
     table.iter().find(|entry| entry.number == number)
 }
 
 /// What a table and the places of its links have for an interface.
-fn joint_at(table: &[IfEntry], joints: &[usize], number: IfId) -> Option<usize>
-    requires { length table.now ≡ length joints.now }
-    ensures { result ≡ joint_in number table.now joints.now }
+fn place_beside(table: &[IfEntry], places: &[usize], number: IfId) -> Option<usize>
+    requires { length table.now ≡ length places.now }
+    ensures { result ≡ place_beside number table.now places.now }
 {
     for (at, entry) in table.iter().enumerate() {
         if entry.number == number {
-            return Some(joints[at]);
+            return Some(places[at]);
         }
     }
     None

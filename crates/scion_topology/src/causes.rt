@@ -20,31 +20,31 @@ const MAX_LINKS: usize = 4096;
 pub(crate) fn first_cause(ases: &[AsEntry], links: &[Link]) -> Option<TopologyFault>
     ensures { result ≡ cause_of ases.now links.now }
 {
-    if are_too_many(ases, links) {
+    if is_too_many(ases, links) {
         Some(TopologyFault::TooMany)
-    } else if is_any_as_twice(ases) {
+    } else if lists_twice(ases) {
         Some(TopologyFault::DuplicateAs)
     } else if is_any_end_unknown(ases, links) {
         Some(TopologyFault::UnknownAs)
     } else if is_any_router_missing(ases, links) {
         Some(TopologyFault::NoRouter)
-    } else if is_any_joined_ill(ases, links) {
+    } else if is_any_ill_joined(ases, links) {
         Some(TopologyFault::BadKind)
-    } else if is_any_interface_twice(links) {
+    } else if joins_twice(links) {
         Some(TopologyFault::DuplicateIf)
     } else {
         None
     }
 }
 
-fn are_too_many(ases: &[AsEntry], links: &[Link]) -> bool
+fn is_too_many(ases: &[AsEntry], links: &[Link]) -> bool
     ensures { result ≡ is_too_many ases.now links.now }
 {
     ases.is_empty() || ases.len() > MAX_ASES || links.len() > MAX_LINKS
 }
 
 /// Whether an AS of this address is listed.
-fn is_in(ases: &[AsEntry], ia: IsdAs) -> bool
+fn is_listed(ases: &[AsEntry], ia: IsdAs) -> bool
     ensures { result ≡ is_listed ases.now ia }
 {
     ases.iter().any(|one| one.ia == ia)
@@ -52,12 +52,12 @@ fn is_in(ases: &[AsEntry], ia: IsdAs) -> bool
 
 /// Whether an AS is listed twice.
 #[tactic(auto, unfolding(crate::specs::Causes::lists_twice))]
-fn is_any_as_twice(ases: &[AsEntry]) -> bool
+fn lists_twice(ases: &[AsEntry]) -> bool
     ensures { result ≡ lists_twice ases.now }
 {
     let mut rest = ases;
     while let Some((one, others)) = rest.split_first() {
-        if is_in(others, one.ia) {
+        if is_listed(others, one.ia) {
             return true;
         }
         rest = others;
@@ -65,111 +65,111 @@ fn is_any_as_twice(ases: &[AsEntry]) -> bool
     false
 }
 
-fn is_an_end_unknown(ases: &[AsEntry], link: &Link) -> bool
+fn has_unknown_end(ases: &[AsEntry], link: &Link) -> bool
     ensures { result ≡ has_unknown_end ases.now link.now }
 {
-    !is_in(ases, link.a.ia) || !is_in(ases, link.b.ia)
+    !is_listed(ases, link.a.ia) || !is_listed(ases, link.b.ia)
 }
 
 /// Whether a link has an end in no AS of the list.
 fn is_any_end_unknown(ases: &[AsEntry], links: &[Link]) -> bool
     ensures { result ≡ list_any (λ link. has_unknown_end ases.now link) links.now }
 {
-    links.iter().any(|link| is_an_end_unknown(ases, link))
+    links.iter().any(|link| has_unknown_end(ases, link))
 }
 
 /// The AS of this address.
-fn named(ases: &[AsEntry], ia: IsdAs) -> Option<&AsEntry>
+fn as_named(ases: &[AsEntry], ia: IsdAs) -> Option<&AsEntry>
     ensures { option_copied result ≡ as_named ases.now ia }
 {
     ases.iter().find(|one| one.ia == ia)
 }
 
 /// Whether the AS of an end has no router of its number.
-fn is_router_missing(ases: &[AsEntry], end: &End) -> bool
+fn lacks_router(ases: &[AsEntry], end: &End) -> bool
     ensures { result ≡ lacks_router ases.now end.now }
 {
-    match named(ases, end.ia) {
+    match as_named(ases, end.ia) {
         Some(one) => one.routers <= end.router,
         None => false,
     }
 }
 
-fn is_a_router_missing(ases: &[AsEntry], link: &Link) -> bool
+fn has_no_router(ases: &[AsEntry], link: &Link) -> bool
     ensures { result ≡ has_no_router ases.now link.now }
 {
-    is_router_missing(ases, &link.a) || is_router_missing(ases, &link.b)
+    lacks_router(ases, &link.a) || lacks_router(ases, &link.b)
 }
 
 /// Whether a link has an end whose AS has no router of its number.
 fn is_any_router_missing(ases: &[AsEntry], links: &[Link]) -> bool
     ensures { result ≡ list_any (λ link. has_no_router ases.now link) links.now }
 {
-    links.iter().any(|link| is_a_router_missing(ases, link))
+    links.iter().any(|link| has_no_router(ases, link))
 }
 
 /// Whether a core AS of this address is listed.
-fn is_core_as(ases: &[AsEntry], ia: IsdAs) -> bool
+fn is_core(ases: &[AsEntry], ia: IsdAs) -> bool
     ensures { result ≡ is_core ases.now ia }
 {
-    match named(ases, ia) {
+    match as_named(ases, ia) {
         Some(one) => one.core,
         None => false,
     }
 }
 
 /// Whether the class of a link doesn't allow its ends.
-fn is_classed_ill(ases: &[AsEntry], class: LinkClass, a: IsdAs, b: IsdAs) -> bool
+fn is_ill_classed(ases: &[AsEntry], class: LinkClass, a: IsdAs, b: IsdAs) -> bool
     ensures { result ≡ is_ill_classed ases.now class a b }
 {
     match class {
-        LinkClass::Core => !is_core_as(ases, a) || !is_core_as(ases, b),
-        LinkClass::Child => a.isd() != b.isd() || is_core_as(ases, b),
+        LinkClass::Core => !is_core(ases, a) || !is_core(ases, b),
+        LinkClass::Child => a.isd() != b.isd() || is_core(ases, b),
     }
 }
 
-fn is_joined_ill(ases: &[AsEntry], link: &Link) -> bool
+fn is_ill_joined(ases: &[AsEntry], link: &Link) -> bool
     ensures { result ≡ is_ill_joined ases.now link.now }
 {
-    link.a.ia == link.b.ia || is_classed_ill(ases, link.class, link.a.ia, link.b.ia)
+    link.a.ia == link.b.ia || is_ill_classed(ases, link.class, link.a.ia, link.b.ia)
 }
 
 /// Whether a link joins what it may not.
-fn is_any_joined_ill(ases: &[AsEntry], links: &[Link]) -> bool
+fn is_any_ill_joined(ases: &[AsEntry], links: &[Link]) -> bool
     ensures { result ≡ list_any (λ link. is_ill_joined ases.now link) links.now }
 {
-    links.iter().any(|link| is_joined_ill(ases, link))
+    links.iter().any(|link| is_ill_joined(ases, link))
 }
 
 /// Whether the end is this interface of this AS.
-pub(crate) fn is_at(end: &End, ia: IsdAs, number: IfId) -> bool
+pub(crate) fn is_end(end: &End, ia: IsdAs, number: IfId) -> bool
     ensures { result ≡ is_end end.now ia number }
 {
     end.ia == ia && end.number == number
 }
 
 /// Whether the link ends at this interface of this AS.
-pub(crate) fn ends_at(link: &Link, ia: IsdAs, number: IfId) -> bool
+pub(crate) fn has_end(link: &Link, ia: IsdAs, number: IfId) -> bool
     ensures { result ≡ has_end link.now ia number }
 {
-    is_at(&link.a, ia, number) || is_at(&link.b, ia, number)
+    is_end(&link.a, ia, number) || is_end(&link.b, ia, number)
 }
 
 /// Whether a link of the list ends at the interface of this end.
-fn is_joined(links: &[Link], end: &End) -> bool
+fn stands(links: &[Link], end: &End) -> bool
     ensures { result ≡ stands links.now end.now }
 {
-    links.iter().any(|link| ends_at(link, end.ia, end.number))
+    links.iter().any(|link| has_end(link, end.ia, end.number))
 }
 
 /// Whether an interface stands at the ends of two links.
 #[tactic(auto, unfolding(crate::specs::Causes::joins_twice))]
-fn is_any_interface_twice(links: &[Link]) -> bool
+fn joins_twice(links: &[Link]) -> bool
     ensures { result ≡ joins_twice links.now }
 {
     let mut rest = links;
     while let Some((link, others)) = rest.split_first() {
-        if is_joined(others, &link.a) || is_joined(others, &link.b) {
+        if stands(others, &link.a) || stands(others, &link.b) {
             return true;
         }
         rest = others;

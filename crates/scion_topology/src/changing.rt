@@ -2,13 +2,13 @@ ghost use Rattle.std.specs.Prelude.{◌≡◌, ℕ, ◌==◌, ◌<◌, true, fal
 ghost use Rattle.std.specs.Ordering.{nat_cmp};
 ghost use Rattle.std.specs.BTreeMap.{get};
 ghost use Rattle.scion_topology.specs.Topology.{Becomes, set_up, rotated};
-ghost use Rattle.scion_topology.specs.Index.{seen, marked, marked_table, set_from, keyed_at};
+ghost use Rattle.scion_topology.specs.Index.{seen, marked_where, marked_table, set_from, keyed_at};
 
 use crate::entry::IfEntry;
 use crate::fault::TopologyFault;
+use crate::index::AsIndex;
 use crate::keys::Keys;
 use crate::network::{AsEntry, Link};
-use crate::site::Site;
 use crate::topology::Topology;
 use isd_as::{IfId, IsdAs};
 use std::collections::BTreeMap;
@@ -35,14 +35,9 @@ impl Topology {
     pub fn rotate_key(&mut self, ia: IsdAs, key: &[u8]) -> Result<(), TopologyFault>
         ensures { Becomes (rotated ia key.now self.old) self.old self.new result }
     {
-        let place = match self.site(ia) {
-            Ok((_, site)) => site.position,
-            Err(fault) => return Err(fault),
-        };
-        let keys = match Keys::new(key) {
-            Ok(keys) => keys,
-            Err(fault) => return Err(fault),
-        };
+        let (_, index) = self.indexed(ia)?;
+        let place = index.position;
+        let keys = Keys::new(key)?;
         put_keys(&mut self.ases, place, keys);
         Ok(())
     }
@@ -52,14 +47,11 @@ impl Topology {
     fn set_link(&mut self, ia: IsdAs, number: IfId, up: bool) -> Result<(), TopologyFault>
         ensures { Becomes (set_up up ia number self.old) self.old self.new result }
     {
-        let place = match self.place(ia, number) {
-            Ok(place) => place,
-            Err(fault) => return Err(fault),
-        };
+        let place = self.place(ia, number)?;
         let link = self.links[place];
         put_up(&mut self.links, place, up);
-        mark(&mut self.sites, link.a.ia, place, up);
-        mark(&mut self.sites, link.b.ia, place, up);
+        mark(&mut self.indexes, link.a.ia, place, up);
+        mark(&mut self.indexes, link.b.ia, place, up);
         Ok(())
     }
 }
@@ -81,20 +73,21 @@ fn put_up(links: &mut Vec<Link>, place: usize, up: bool)
 }
 
 /// Sets the interface of the link at a place up or down in the table of an AS.
-fn mark(sites: &mut BTreeMap<IsdAs, Site>, ia: IsdAs, place: usize, up: bool)
-    ensures { (x : ℕ) → option_map seen (get nat_cmp sites.new x) ≡ (if x == ia then option_map (marked place up) (option_map seen (get nat_cmp sites.old x)) else option_map seen (get nat_cmp sites.old x)) }
+fn mark(indexes: &mut BTreeMap<IsdAs, AsIndex>, ia: IsdAs, place: usize, up: bool)
+    ensures { (x : ℕ) → option_map seen (get nat_cmp indexes.new x)
+        ≡ marked_where (x == ia) place up (option_map seen (get nat_cmp indexes.old x)) }
 {
-    if let Some(site) = sites.get_mut(&ia) {
-        mark_table(&mut site.table, &site.joints, place, up);
+    if let Some(index) = indexes.get_mut(&ia) {
+        mark_table(&mut index.table, &index.places, place, up);
     }
 }
 
 /// Sets the interfaces of the link at a place up or down.
-fn mark_table(table: &mut Vec<IfEntry>, joints: &Vec<usize>, place: usize, up: bool)
-    ensures { table.new.items ≡ marked_table place up table.old.items joints.now.items }
+fn mark_table(table: &mut Vec<IfEntry>, places: &Vec<usize>, place: usize, up: bool)
+    ensures { table.new.items ≡ marked_table place up table.old.items places.now.items }
 {
-    for at in 0..table.len().min(joints.len()) {
-        mark_one(&mut table[at], joints[at] == place, up);
+    for at in 0..table.len().min(places.len()) {
+        mark_one(&mut table[at], places[at] == place, up);
     }
 }
 

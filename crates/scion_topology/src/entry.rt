@@ -14,7 +14,7 @@ pub enum LinkKind {
 /// An interface of an AS.
 #[derive(Clone, Copy, Debug, PartialEq, Eq)]
 pub struct IfEntry {
-    /// Its number, which is not 0 and is that of no other interface of the AS.
+    /// Its number.
     pub number: IfId,
     /// What the AS at the far end is to this one.
     pub kind: LinkKind,

@@ -1,8 +1,8 @@
 ghost use Rattle.std.specs.Prelude.{◌≡◌};
 ghost use Rattle.scion_topology.specs.Fault.{code_of, name_of};
-ghost use Rattle.scion_topology.specs.declared.fault.ReadError.TheVariants.{Memory, Fault};
+ghost use Rattle.refusal.specs.declared.fault.OrMemory.TheVariants.{Refused};
 
-use std::alloc::{AllocError, AllocFailed};
+use refusal::OrMemory;
 use thiserror::Error;
 
 /// Why a topology can't be read, asked or changed so, or why a view can't be made of its parts.
@@ -11,7 +11,8 @@ pub enum TopologyFault {
     /// The text is not JSON.
     #[error("the text is not JSON")]
     NotJson,
-    /// A field is missing, of another type or out of its range; an address is a wildcard; a key has not 1 to 64 bytes.
+    /// A field is missing, of another type or out of its range; an address is a wildcard; a key has
+    /// not 1 to 64 bytes.
     #[error("a field is missing, of another type or out of its range")]
     BadField,
     /// An AS is listed twice.
@@ -73,37 +74,13 @@ impl TopologyFault {
     }
 }
 
-/// Why a topology was not read: want of memory, or a refusal.
-#[derive(Clone, Copy, Debug, PartialEq, Eq, Error)]
-pub enum ReadError {
-    /// Memory ran out.
-    #[error("out of memory")]
-    Memory,
-    /// The text is no topology.
-    #[error("{0}")]
-    Fault(TopologyFault),
-}
+/// Why a topology was not read: want of memory, or why the text is no topology.
+pub type ReadError = OrMemory<TopologyFault>;
 
-impl From<TopologyFault> for ReadError {
-    ghost from_gives = { λ f e. e ≡ Fault f };
+impl From<TopologyFault> for OrMemory<TopologyFault> {
+    ghost from_gives = { λ fault e. e ≡ Refused fault };
 
-    fn from(fault: TopologyFault) -> ReadError {
-        ReadError::Fault(fault)
-    }
-}
-
-impl From<AllocError> for ReadError {
-    ghost from_gives = { λ _ e. e ≡ Memory };
-
-    fn from(_error: AllocError) -> ReadError {
-        ReadError::Memory
-    }
-}
-
-impl<T: Drop> From<AllocFailed<T>> for ReadError {
-    ghost from_gives = { λ _ e. e ≡ Memory };
-
-    fn from(_error: AllocFailed<T>) -> ReadError {
-        ReadError::Memory
+    fn from(fault: TopologyFault) -> OrMemory<TopologyFault> {
+        OrMemory::Refused(fault)
     }
 }

@@ -1,9 +1,11 @@
-ghost use Rattle.std.specs.Prelude.{◌≡◌, ℕ, ◌≤◌, ◌^◌, ◌<◌, false, IsTrue, IfOk};
+ghost use Rattle.std.specs.Prelude.{◌≡◌, ℕ, ◌≤◌, ◌^◌, ◌<◌, true, false, IsTrue, IfOk};
 ghost use Rattle.std.specs.Str.{bytes_eq};
+ghost use Rattle.refusal.specs.Refusal.{Gives};
 ghost use Rattle.serde_json.specs.View.{view, items_view};
-ghost use Rattle.scion_topology.specs.Building.{is_wildcard};
-ghost use Rattle.scion_topology.specs.Network.{is_as, is_link};
-ghost use Rattle.scion_topology.specs.Reading.{Gives, member_at, text_at, truth_at, whole_at, address_in, keys_at, as_at, class_at, end_at, link_at, list_at};
+ghost use Rattle.scion_topology.specs.Keys.{are_keys};
+ghost use Rattle.scion_topology.specs.Network.{is_wildcard};
+ghost use Rattle.scion_topology.specs.Causes.{is_as, is_link};
+ghost use Rattle.scion_topology.specs.Reading.{member_at, text_at, truth_at, whole_at, address_in, keys_at, as_at, class_at, end_at, link_at, list_at};
 
 use crate::fault::TopologyFault;
 use crate::keys::{Keys, MAX_KEY_LEN};
@@ -80,7 +82,8 @@ fn address(value: &Value, name: &str) -> Result<IsdAs, TopologyFault>
 /// A member that is a key in hexadecimal.
 #[tactic(auto, unfolding(crate::specs::Reading::keys_at))]
 fn keys(value: &Value, name: &str) -> Result<Keys, TopologyFault>
-    ensures { result ≡ keys_at name.now (view value.now) }
+    ensures value { result ≡ keys_at name.now (view value.now) }
+    ensures fits { IfOk result (λ keys. are_keys keys ≡ true) }
 {
     let text = text(value, name)?;
     if text.len() < 2 || text.len() > 2 * MAX_KEY_LEN {

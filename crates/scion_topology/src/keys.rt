@@ -1,6 +1,6 @@
-ghost use Rattle.std.specs.Prelude.{◌≤◌, length, ◌≡◌, ℕ, List, [], ◌∷◌, Some, Ok, slice_get};
+ghost use Rattle.std.specs.Prelude.{◌≤◌, true, IfOk, length, ◌≡◌, ℕ, List, [], ◌∷◌, Some, Ok, slice_get};
 ghost use Rattle.hop_mac.specs.Hmac.{padded};
-ghost use Rattle.scion_topology.specs.Keys.{keys_of};
+ghost use Rattle.scion_topology.specs.Keys.{are_keys, keys_of};
 
 use crate::fault::TopologyFault;
 use arrayvec::ArrayVec;
@@ -37,7 +37,8 @@ impl Keys {
     /// than 64.
     #[tactic(auto, unfolding(crate::specs::Keys::keys_of))]
     pub fn new(key: &[u8]) -> Result<Keys, TopologyFault>
-        ensures { result ≡ keys_of key.now }
+        ensures value { result ≡ keys_of key.now }
+        ensures fits { IfOk result (λ keys. are_keys keys ≡ true) }
     {
         if key.is_empty() {
             return Err(TopologyFault::BadField);

@@ -1,54 +1,148 @@
-//! Laws of views and of topologies: each is the contract of a function that does nothing.
+//! Laws of views and of topologies: each is the contract of a function that does nothing. What a
+//! law says may be cited by the lemma of `proofs/` that its answer names.
 
-ghost use Rattle.std.specs.Prelude.{◌≡◌, ◌≢◌, ℕ, ◌<◌, IfSome, IsSome, List, ◌∷◌, [], Contains, Ok, Some, IfOk, IsTrue, ◌↔◌};
+ghost use Rattle.std.specs.Prelude.{◌≡◌, ◌≢◌, ℕ, ◌<◌, ◌↔◌, All, Bool, true, IfSome, IsSome, List, ◌∷◌, [], Contains, None, Ok, Some, IfOk, IsTrue};
 ghost use Rattle.scion_topology.specs.declared.entry.IfEntry.{IfEntry};
-ghost use Rattle.scion_topology.specs.View.{View, IsRight, IsAuthentic, entry_of, is_authentic};
 ghost use Rattle.scion_topology.specs.declared.network.AsEntry.{AsEntry};
+ghost use Rattle.scion_topology.specs.declared.network.Link.{Link};
+ghost use Rattle.scion_topology.specs.View.{View, IsRight, IsAuthentic, entry_of, is_authentic};
 ghost use Rattle.scion_topology.specs.Building.{view_of};
-ghost use Rattle.scion_topology.specs.Network.{Network, table_of, mirrored, interface_in};
-ghost use Rattle.scion_topology.specs.Topology.{IsNetwork, known, interface_at, far_end_in, owner_in};
+ghost use Rattle.scion_topology.specs.Causes.{cause_of};
+ghost use Rattle.scion_topology.specs.Network.{Network, as_named, table_of, mirrored, interface_in};
+ghost use Rattle.scion_topology.specs.Rules.{IsAs, IsNetwork, IsNumbered};
+ghost use Rattle.scion_topology.specs.Topology.{known, interface_at, far_end_in, owner_in, set_up, rotated};
+ghost use Rattle.scion_topology.specs.Ends.{ShowsBothEnds, AreJoined, IsEndOf, IsUp, IsStill, IsSame};
+
+/// The rules of a network hold exactly where each AS and each link is right by itself and no cause
+/// of a refusal is found over the whole.
+pub fn rules_without_cause()
+    ensures none { (n : Network) → IsNetwork n → cause_of n.ases n.links ≡ None }
+    ensures kept { (n : Network) → All IsAs n.ases → All IsNumbered n.links
+        → cause_of n.ases n.links ≡ None → IsNetwork n }
+{}
 
 /// A view that is made shows exactly the parts that it was made of, and they are right.
 pub fn view_shows_its_parts()
-    ensures { (ia router : ℕ) (key : List ℕ) (table : List IfEntry) → IfOk (view_of ia router key table) (λ view. (view ≡ record { ia = ia; router = router; keys = key ∷ []; table = table }) × IsRight view) }
+    ensures { (ia router : ℕ) (key : List ℕ) (table : List IfEntry)
+        → IfOk (view_of ia router key table) (λ view.
+        (view ≡ record { ia = ia; router = router; keys = key ∷ []; table = table })
+        × IsRight view) }
 {}
 
 /// A view is made of all parts that are right.
 pub fn right_parts_are_accepted()
-    ensures { (view : View) (key : List ℕ) → IsRight view → view.keys ≡ key ∷ [] → view_of view.ia view.router key view.table ≡ Ok view }
+    ensures { (view : View) (key : List ℕ) → IsRight view → view.keys ≡ key ∷ []
+        → view_of view.ia view.router key view.table ≡ Ok view }
 {}
 
 /// Each interface of a view is the one that its number finds.
 pub fn interfaces_named_once()
-    ensures { (view : View) (entry : IfEntry) → IsRight view → Contains view.table entry → entry_of view entry.number ≡ Some entry }
+    ensures { (view : View) (entry : IfEntry) → IsRight view → Contains view.table entry
+        → entry_of view entry.number ≡ Some entry }
 {}
 
 /// The test of an authenticator passes exactly where it is one under an accepted key.
 pub fn authentic_by_test()
-    ensures { (view : View) (mac : List ℕ) (beta timestamp exp_time cons_ingress cons_egress : ℕ) → IsTrue (is_authentic view mac beta timestamp exp_time cons_ingress cons_egress) ↔ IsAuthentic view mac beta timestamp exp_time cons_ingress cons_egress }
+    ensures { (view : View) (mac : List ℕ) (beta timestamp exp_time cons_ingress cons_egress : ℕ)
+        → IsTrue (is_authentic view mac beta timestamp exp_time cons_ingress cons_egress)
+        ↔ IsAuthentic view mac beta timestamp exp_time cons_ingress cons_egress }
 {}
 
 /// In a topology that was read, however it was changed since, the far end of the far end of a link
 /// is the end itself.
 pub fn far_end_of_far_end()
-    ensures { (n : Network) (ia number x m : ℕ) → IsNetwork n → far_end_in n ia number ≡ Ok (x, m) → far_end_in n x m ≡ Ok (ia, number) }
+    ensures { (n : Network) (ia number far_ia far_number : ℕ) → IsNetwork n
+        → far_end_in n ia number ≡ Ok (far_ia, far_number)
+        → far_end_in n far_ia far_number ≡ Ok (ia, number) }
 {}
 
 /// An interface is owned by a router of its AS.
 pub fn owner_is_a_router()
-    ensures { (n : Network) (ia number router : ℕ) (one : AsEntry) → IsNetwork n → owner_in n ia number ≡ Ok router → known n ia ≡ Ok one → router < one.routers }
+    ensures { (n : Network) (ia number router : ℕ) (one : AsEntry) → IsNetwork n
+        → owner_in n ia number ≡ Ok router → known n ia ≡ Ok one → router < one.routers }
 {}
 
 /// The two ends of a link see it alike: both up or both down, of a core link both as Core, and of a
 /// child link the parent's as Child and the child's as Parent.
 pub fn ends_are_mirrored()
-    ensures alike { (n : Network) (ia number x m : ℕ) (near : IfEntry) → IsNetwork n → far_end_in n ia number ≡ Ok (x, m)
+    ensures alike { (n : Network) (ia number far_ia far_number : ℕ) (near : IfEntry) → IsNetwork n
+        → far_end_in n ia number ≡ Ok (far_ia, far_number)
         → interface_in (table_of ia n.links) number ≡ Some near
-        → IfSome (interface_in (table_of x n.links) m) (λ far. (far.kind ≡ mirrored near.kind) × (far.up ≡ near.up)) }
-    ensures there { (n : Network) (ia number x m : ℕ) → IsNetwork n → far_end_in n ia number ≡ Ok (x, m) → IsSome (interface_in (table_of ia n.links) number) }
+        → IfSome (interface_in (table_of far_ia n.links) far_number)
+        (λ far. (far.kind ≡ mirrored near.kind) × (far.up ≡ near.up)) }
+    ensures there { (n : Network) (ia number far_ia far_number : ℕ) → IsNetwork n
+        → far_end_in n ia number ≡ Ok (far_ia, far_number)
+        → IsSome (interface_in (table_of ia n.links) number) }
 {}
 
 /// No interface of a network has the number 0.
 pub fn no_interface_is_zero()
-    ensures { (n : Network) (ia number : ℕ) (entry : IfEntry) → IsNetwork n → interface_at n ia number ≡ Ok entry → number ≢ 0 }
+    ensures { (n : Network) (ia number : ℕ) (entry : IfEntry) → IsNetwork n
+        → interface_at n ia number ≡ Ok entry → number ≢ 0 }
+{}
+
+/// Each AS that is found keeps the rules of one: among them, that it has a key in use.
+pub fn found_as_is_right()
+    ensures { (n : Network) (ia : ℕ) (one : AsEntry) → IsNetwork n
+        → as_named n.ases ia ≡ Some one → IsAs one × (one.ia ≡ ia) }
+{}
+
+/// Each link of the list shows itself at both its ends: the interfaces, who owns them, and that
+/// each leads to the other.
+pub fn links_show_both_ends()
+    ensures { (n : Network) (link : Link) → IsNetwork n → Contains n.links link
+        → ShowsBothEnds n link }
+{}
+
+/// Where an interface leads to a far end, a link of the list joins the two; and each interface is
+/// an end of a link of the list.
+pub fn links_alone_are_shown()
+    ensures far_ends { (n : Network) (ia number far_ia far_number : ℕ) → IsNetwork n
+        → far_end_in n ia number ≡ Ok (far_ia, far_number)
+        → AreJoined n ia number far_ia far_number }
+    ensures interfaces { (n : Network) (ia number : ℕ) (entry : IfEntry)
+        → interface_at n ia number ≡ Ok entry → IsEndOf n ia number entry }
+{}
+
+/// A link that is cut or mended, and a new key, leave a network one.
+pub fn networks_outlast_changes()
+    ensures links { (n m : Network) (up : Bool) (x y : ℕ) → IsNetwork n
+        → set_up up x y n ≡ Ok m → IsNetwork m }
+    ensures keys { (n m : Network) (x : ℕ) (key : List ℕ) → IsNetwork n
+        → rotated x key n ≡ Ok m → IsNetwork m }
+{}
+
+/// A new key is that of one AS: the others and all links stay as they were, and each interface with
+/// its owner and its far end.
+pub fn keys_change_alone()
+    ensures others { (n m : Network) (x ia : ℕ) (key : List ℕ) → rotated x key n ≡ Ok m → x ≢ ia
+        → as_named m.ases ia ≡ as_named n.ases ia }
+    ensures links { (n m : Network) (x : ℕ) (key : List ℕ) → rotated x key n ≡ Ok m
+        → m.links ≡ n.links }
+    ensures interfaces { (n m : Network) (x ia number : ℕ) (key : List ℕ) → rotated x key n ≡ Ok m
+        → IsSame n m ia number }
+{}
+
+/// A link that is cut or mended leaves all ASes as they were, and each interface but for its state.
+pub fn states_change_alone()
+    ensures ases { (n m : Network) (up : Bool) (x y : ℕ) → set_up up x y n ≡ Ok m
+        → m.ases ≡ n.ases }
+    ensures interfaces { (n m : Network) (up : Bool) (x y ia number : ℕ) → set_up up x y n ≡ Ok m
+        → IsStill n m ia number }
+{}
+
+/// The link that is cut or mended shows its state at both its ends; an interface of another link
+/// stays as it was, and one whose link is up when any link is mended.
+pub fn named_link_changes()
+    ensures both_ends { (n m : Network) (up : Bool) (x y far_ia far_number : ℕ) → IsNetwork n
+        → set_up up x y n ≡ Ok m → far_end_in n x y ≡ Ok (far_ia, far_number)
+        → IsUp m x y up × IsUp m far_ia far_number up }
+    ensures others { (n m : Network) (up : Bool) (x y ia number far_ia far_number : ℕ)
+        → IsNetwork n → set_up up x y n ≡ Ok m
+        → far_end_in n ia number ≡ Ok (far_ia, far_number)
+        → ¬ ((ia ≡ x) × (number ≡ y)) → ¬ ((far_ia ≡ x) × (far_number ≡ y))
+        → interface_at m ia number ≡ interface_at n ia number }
+    ensures mended { (n m : Network) (x y ia number : ℕ) (entry : IfEntry)
+        → set_up true x y n ≡ Ok m → interface_at n ia number ≡ Ok entry → entry.up ≡ true
+        → interface_at m ia number ≡ Ok entry }
 {}

@@ -12,11 +12,11 @@ mod changing;
 mod entry;
 mod fault;
 mod fields;
+mod index;
 mod keys;
 pub mod laws;
 mod network;
 mod reading;
-mod site;
 mod topology;
 mod view;
 
@@ -26,6 +26,3 @@ pub use keys::{Keys, MAX_KEY_LEN};
 pub use network::{AsEntry, AsInfo, End, Link, LinkClass};
 pub use topology::Topology;
 pub use view::RouterView;
-
-#[cfg(test)]
-mod tests;

@@ -15,13 +15,14 @@ pub enum LinkClass {
 pub struct End {
     /// The AS.
     pub ia: IsdAs,
-    /// The interface, which is not 0 and is at no other end.
+    /// The number of the interface.
     pub number: IfId,
     /// The router of the AS that owns the interface.
     pub router: u8,
 }
 
-/// A link between two ASes.
+/// A link between two ASes. What a [`Topology`](crate::Topology) keeps of its ASes and links is said
+/// there.
 #[derive(Clone, Copy, Debug, PartialEq, Eq)]
 pub struct Link {
     /// What it joins.
@@ -37,7 +38,7 @@ pub struct Link {
 /// An AS as it is listed in a topology.
 #[derive(Drop)]
 pub struct AsEntry {
-    /// Its address, no part of which is a wildcard.
+    /// Its address.
     pub ia: IsdAs,
     /// Whether it is a core AS of its ISD.
     pub core: bool,
@@ -45,7 +46,7 @@ pub struct AsEntry {
     pub exp_time: u8,
     /// The keys whose authenticators it accepts.
     pub keys: Keys,
-    /// How many routers it has, 1 to 64, which are numbered from 0.
+    /// How many routers it has, which are numbered from 0.
     pub routers: u8,
 }
 
@@ -57,7 +58,7 @@ pub struct AsInfo {
     /// Whether it is a core AS of its ISD.
     pub core: bool,
     /// The expiry that it gives its hops, in units of 337.5 seconds, less one.
-    pub exp_time: u8,
+    pub exp: u8,
     /// How many routers it has.
     pub routers: u8,
 }

@@ -1,8 +1,9 @@
 ghost use Rattle.std.specs.Prelude.{IsTrue, IfOk};
 ghost use Rattle.std.specs.List.{list_all};
 ghost use Rattle.serde_json.specs.View.{items_view};
-ghost use Rattle.scion_topology.specs.Network.{is_as, is_link};
-ghost use Rattle.scion_topology.specs.Reading.{Reads, items_at, as_at, link_at};
+ghost use Rattle.scion_topology.specs.Causes.{is_as, is_link};
+ghost use Rattle.refusal.specs.Refusal.{Reads};
+ghost use Rattle.scion_topology.specs.Reading.{items_at, as_at, link_at};
 
 use crate::fault::ReadError;
 use crate::fields::{as_of, link_of};

@@ -1,22 +1,22 @@
-ghost use Rattle.std.specs.Prelude.{◌≡◌, ℕ, ◌+◌, ◌<◌, Option, Some, None, Ok, Err, IfOk, IsOk, IsTrue, length, option_map, slice_get};
+ghost use Rattle.std.specs.Prelude.{◌≡◌, ℕ, Err, IfOk, IfSome, IsTrue, option_map};
 ghost use Rattle.std.specs.List.{list_all};
 ghost use Rattle.std.specs.Ordering.{nat_cmp};
 ghost use Rattle.std.specs.BTreeMap.{get};
 ghost use Rattle.std.specs.Str.{IsUtf8};
 ghost use Rattle.serde_json.specs.View.{view};
-ghost use Rattle.scion_topology.specs.Network.{is_as, is_link};
-ghost use Rattle.scion_topology.specs.Reading.{Reads, Gives};
-ghost use Rattle.scion_topology.specs.Causes.{cause_of};
-ghost use Rattle.scion_topology.specs.Topology.{network_of, network_in, unless};
-ghost use Rattle.scion_topology.specs.Index.{seen, site_from};
+ghost use Rattle.refusal.specs.Refusal.{Reads, unless};
+ghost use Rattle.scion_topology.specs.Causes.{is_as, is_link, cause_of};
+ghost use Rattle.scion_topology.specs.Topology.{network_of, network_in};
+ghost use Rattle.scion_topology.specs.Index.{seen, index_from};
 
 use crate::causes::first_cause;
 use crate::fault::{ReadError, TopologyFault};
 use crate::fields::list;
+use crate::index::AsIndex;
 use crate::network::{AsEntry, Link};
 use crate::reading::{ases_of, links_of};
-use crate::site::Site;
 use isd_as::IsdAs;
+use refusal::OrMemory;
 use serde_json::Value;
 use std::alloc::{AllocError, Global};
 use std::collections::BTreeMap;
@@ -31,7 +31,7 @@ use std::marker::Model;
 pub struct Topology {
     pub(crate) ases: Vec<AsEntry>,
     pub(crate) links: Vec<Link>,
-    pub(crate) sites: BTreeMap<IsdAs, Site>,
+    pub(crate) indexes: BTreeMap<IsdAs, AsIndex>,
 }
 
 impl Model for Topology {
@@ -40,14 +40,15 @@ impl Model for Topology {
     ghost use Rattle.std.specs.BTreeMap.{get};
     ghost use Rattle.scion_topology.specs.Network.{Network};
     ghost use Rattle.scion_topology.specs.Topology.{IsNetwork};
-    ghost use Rattle.scion_topology.specs.Index.{seen, site_from};
+    ghost use Rattle.scion_topology.specs.Index.{seen, index_from};
 
     ghost Value = { Network };
 
     ghost view = { λ t. record { ases = t.ases.items; links = t.links.items } };
 
     ghost invariant = { λ t. IsNetwork (record { ases = t.ases.items; links = t.links.items })
-        × ((ia : ℕ) → option_map seen (get nat_cmp t.sites ia) ≡ site_from 0 t.ases.items t.links.items ia) };
+        × ((ia : ℕ) → option_map seen (get nat_cmp t.indexes ia)
+        ≡ index_from 0 t.ases.items t.links.items ia) };
 }
 
 impl Topology {
@@ -61,15 +62,15 @@ impl Topology {
     /// The refusals, each looked for in all of the text before the next: [`TopologyFault::NotJson`],
     /// [`TopologyFault::BadField`], [`TopologyFault::TooMany`], [`TopologyFault::DuplicateAs`],
     /// [`TopologyFault::UnknownAs`], [`TopologyFault::NoRouter`], [`TopologyFault::BadKind`],
-    /// [`TopologyFault::DuplicateIf`]. Want of memory is [`ReadError::Memory`].
+    /// [`TopologyFault::DuplicateIf`]. Want of memory is [`OrMemory::Memory`].
     pub fn from_json(alloc: Global, bytes: &[u8]) -> Result<Topology, ReadError>
         ensures text { IsUtf8 bytes.now → Reads (λ n. n) result (network_in bytes.now) }
         ensures no_text { ¬ IsUtf8 bytes.now → Reads (λ n. n) result (Err TopologyFault.NotJson) }
     {
         match Value::from_slice(alloc, bytes) {
             Ok(value) => Topology::from_value(alloc, &value),
-            Err(error) if error.is_memory() => Err(ReadError::Memory),
-            Err(_) => Err(ReadError::Fault(TopologyFault::NotJson)),
+            Err(error) if error.is_memory() => Err(OrMemory::Memory),
+            Err(_) => Err(OrMemory::Refused(TopologyFault::NotJson)),
         }
     }
 
@@ -78,10 +79,10 @@ impl Topology {
     fn from_value(alloc: Global, value: &Value) -> Result<Topology, ReadError>
         ensures { Reads (λ n. n) result (network_of (view value.now)) }
     {
-        let rows = list(value, "ases")?;
-        let joints = list(value, "links")?;
-        let ases = ases_of(alloc, rows)?;
-        let links = links_of(alloc, joints)?;
+        let as_items = list(value, "ases")?;
+        let link_items = list(value, "links")?;
+        let ases = ases_of(alloc, as_items)?;
+        let links = links_of(alloc, link_items)?;
         Topology::of_lists(alloc, ases, links)
     }
 
@@ -89,31 +90,39 @@ impl Topology {
     fn of_lists(alloc: Global, ases: Vec<AsEntry>, links: Vec<Link>) -> Result<Topology, ReadError>
         requires ases { IsTrue (list_all is_as ases.items) }
         requires links { IsTrue (list_all is_link links.items) }
-        ensures { Reads (λ n. n) result (unless (cause_of ases.items links.items) (record { ases = ases.items; links = links.items })) }
+        ensures value { Reads (λ n. n) result (unless (cause_of ases.items links.items)
+            (record { ases = ases.items; links = links.items })) }
+        ensures refused { IfSome (cause_of ases.items links.items)
+            (λ fault. result ≡ Err (OrMemory.Refused fault)) }
     {
         if let Some(cause) = first_cause(&ases, &links) {
-            return Err(ReadError::Fault(cause));
+            return Err(OrMemory::Refused(cause));
         }
-        let sites = sites_of(alloc, &ases, &links)?;
-        Ok(Topology { ases, links, sites })
+        let indexes = indexes_of(alloc, &ases, &links)?;
+        Ok(Topology {
+            ases,
+            links,
+            indexes,
+        })
     }
 }
 
-/// The sites of a list of ASes. An AS that stands twice has the site of its first place.
-fn sites_of(
+/// The index of each AS of a list. An AS that stands twice has that of its first place.
+fn indexes_of(
     alloc: Global,
     ases: &[AsEntry],
     links: &[Link],
-) -> Result<BTreeMap<IsdAs, Site>, AllocError>
-    ensures { IfOk result (λ sites. (ia : ℕ) → option_map seen (get nat_cmp sites ia) ≡ site_from 0 ases.now links.now ia) }
+) -> Result<BTreeMap<IsdAs, AsIndex>, AllocError>
+    ensures { IfOk result (λ indexes. (ia : ℕ)
+        → option_map seen (get nat_cmp indexes ia) ≡ index_from 0 ases.now links.now ia) }
 {
-    let mut sites = BTreeMap::new(alloc);
+    let mut indexes = BTreeMap::new(alloc);
     let mut place = ases.len();
     while place > 0 {
         place -= 1;
         let one = &ases[place];
-        let site = Site::new(alloc, place, one.ia, links)?;
-        sites.insert(one.ia, site)?;
+        let index = AsIndex::new(alloc, place, one.ia, links)?;
+        indexes.insert(one.ia, index)?;
     }
-    Ok(sites)
+    Ok(indexes)
 }

@@ -4,7 +4,9 @@ ghost use Rattle.std.specs.Option.{option_copied};
 ghost use Rattle.std.specs.Str.{bytes_eq};
 ghost use Rattle.hop_mac.specs.Hop.{authenticator_under};
 ghost use Rattle.scion_topology.specs.View.{IsAuthentic, IsRight, entry_of, is_authentic};
-ghost use Rattle.scion_topology.specs.Building.{has_bad_field, is_named, is_wildcard, names_twice, view_of};
+ghost use Rattle.scion_topology.specs.Keys.{is_key};
+ghost use Rattle.scion_topology.specs.Network.{is_wildcard};
+ghost use Rattle.scion_topology.specs.Building.{has_bad_field, is_named, names_twice, view_of};
 
 use crate::entry::IfEntry;
 use crate::fault::TopologyFault;
@@ -55,10 +57,10 @@ impl<'a> RouterView<'a> {
     ) -> Result<RouterView<'a>, TopologyFault>
         ensures { result ≡ view_of ia router key.now table.now }
     {
-        if is_any_field_bad(ia, key, table) {
+        if has_bad_field(ia, key, table) {
             return Err(TopologyFault::BadField);
         }
-        if is_any_named_twice(table) {
+        if names_twice(table) {
             return Err(TopologyFault::DuplicateIf);
         }
         Ok(RouterView {
@@ -175,17 +177,14 @@ fn is_made(
 }
 
 /// Whether the address, the key or an interface is not one that a view may have.
-fn is_any_field_bad(ia: IsdAs, key: &[u8], table: &[IfEntry]) -> bool
+fn has_bad_field(ia: IsdAs, key: &[u8], table: &[IfEntry]) -> bool
     ensures { result ≡ has_bad_field ia key.now table.now }
 {
-    is_any_part_wild(ia)
-        || key.is_empty()
-        || key.len() > MAX_KEY_LEN
-        || is_one_named(IfId::NONE, table)
+    is_wildcard(ia) || key.is_empty() || key.len() > MAX_KEY_LEN || is_named(IfId::NONE, table)
 }
 
 /// Whether the ISD or the AS number is the wildcard.
-fn is_any_part_wild(ia: IsdAs) -> bool
+fn is_wildcard(ia: IsdAs) -> bool
     ensures { result ≡ is_wildcard ia }
 {
     ia.is_wildcard()
@@ -193,12 +192,12 @@ fn is_any_part_wild(ia: IsdAs) -> bool
 
 /// Whether two interfaces of the table have the same number.
 #[tactic(auto, unfolding(crate::specs::Building::names_twice))]
-fn is_any_named_twice(table: &[IfEntry]) -> bool
+fn names_twice(table: &[IfEntry]) -> bool
     ensures { result ≡ names_twice table.now }
 {
     let mut rest = table;
     while let Some((entry, others)) = rest.split_first() {
-        if is_one_named(entry.number, others) {
+        if is_named(entry.number, others) {
             return true;
         }
         rest = others;
@@ -207,7 +206,7 @@ fn is_any_named_twice(table: &[IfEntry]) -> bool
 }
 
 /// Whether an interface of this number is in the table.
-fn is_one_named(number: IfId, table: &[IfEntry]) -> bool
+fn is_named(number: IfId, table: &[IfEntry]) -> bool
     ensures { result ≡ is_named number table.now }
 {
     table.iter().any(|entry| entry.number == number)

@@ -9,7 +9,7 @@ use Rattle.clap.specs.declared.error.kind.ErrorKind.{ErrorKind}
 use Rattle.clap.proofs.OnLiterals.{clap_on_literals}
 use Rattle.step_line.specs.declared.fault.StepFault.{StepFault}
 use Rattle.step_line.specs.declared.fault.StepFault.TheVariants.{Usage, PacketText, Memory}
-use Rattle.step_line.specs.Fields.{◌>>=◌}
+use Rattle.refusal.specs.Optional.{◌>>=◌}
 use Rattle.step_line.specs.Turn.{Turn}
 use Rattle.step_line.specs.Words.{asked, program_app, turn_in, unless_faulty}
 use Rattle.step_line.specs.Fault.{Asks, Explains, IsWordsFault}

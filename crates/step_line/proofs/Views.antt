@@ -8,7 +8,7 @@ use Rattle.scion_topology.specs.View.{View}
 use Rattle.scion_topology.specs.Building.{view_of, has_bad_field, names_twice}
 use Rattle.router_step.specs.declared.arrival.Arrival.{Arrival}
 use Rattle.step_line.specs.Turn.{Turn, turn_with}
-use Rattle.step_line.specs.Fields.{◌>>=◌, only}
+use Rattle.refusal.specs.Optional.{◌>>=◌, only}
 
 chosen : (bad twice : Bool) (d e : TopologyFault) (v : View) → is_err (if bad then Err d else if twice then Err e else Ok v) ≡ false
     → (if bad then Err d else if twice then Err e else Ok v) ≡ Ok v

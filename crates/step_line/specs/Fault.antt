@@ -1,5 +1,5 @@
 -- What the calls of this crate return, or why not.
-use Rattle.std.specs.Prelude.{◌≡◌, ◌≢◌, ℕ, List, Option, Some, None, Result, Ok, Err, String}
+use Rattle.std.specs.Prelude.{◌≡◌, ◌≢◌, ℕ, codes, List, Option, Some, None, Result, Ok, Err, String}
 use Rattle.std.specs.String.{string_bytes}
 use Rattle.clap.specs.Words.{kind_of}
 use Rattle.clap.specs.declared.error.Error.{Error}
@@ -16,9 +16,13 @@ Prints (Err (fault.Usage text)) line = ⊥
 Prints (Err fault.PacketText) line = line ≡ None
 Prints (Err fault.Memory) line = Unit {0}
 
--- the words are refused or ask for help, or memory ran out, of which nothing is said
+-- the text that is told of words that ask for no turn, where `clap` has none
+abbrev pub usage_text : List ℕ
+usage_text = codes "scionet: usage\n"
+
+-- the words ask for no turn, which is told in our own text, or memory ran out, of which nothing is said
 abbrev pub IsWordsFault : StepFault → Type 0
-IsWordsFault (fault.Usage text) = Unit {0}
+IsWordsFault (fault.Usage text) = string_bytes text ≡ usage_text
 IsWordsFault fault.PacketText = ⊥
 IsWordsFault fault.Memory = Unit {0}
 

@@ -1,27 +1,17 @@
 -- The values of `scionet step`'s options, as their texts write them.
-use Rattle.std.specs.Prelude.{◌≡◌, ℕ, ◌&&◌, ◌==◌, nat_lt, nat_le, Bool, true, false, if◌then◌else◌, codes, List, [], ◌∷◌, length, Option, Some, None, Result, Ok, Err}
+use Rattle.std.specs.Prelude.{◌≡◌, ℕ, ◌&&◌, ◌==◌, nat_lt, nat_le, Bool, true, false, if◌then◌else◌, codes, List, [], ◌∷◌, length, Option, Some, None}
 use Rattle.std.specs.Borrow.{Bor}
 use Rattle.std.specs.List.{position_or_len, before_first, after_first}
 use Rattle.std.specs.Str.{bytes_eq}
 use Rattle.std.specs.Str.Parse.{digits_value}
 use Rattle.hex.specs.Hex.{decode_of}
+use Rattle.refusal.specs.Optional.{◌>>=◌, only}
 use Rattle.isd_as.specs.Reading.{address_at, all_digits}
 use Rattle.scion_topology.specs.declared.entry.IfEntry.{IfEntry}
 use Rattle.scion_topology.specs.declared.entry.LinkKind.{LinkKind}
 use Rattle.scion_topology.specs.declared.entry.LinkKind.TheVariants.{Core, Parent, Child}
 use Rattle.router_step.specs.declared.arrival.Arrival.{Arrival}
 use Rattle.router_step.specs.declared.arrival.Arrival.TheVariants.{FromHost, Inside, Link}
-
--- one value after another, as long as each can be read
-infixl 10 ◌>>=◌
-abbrev pub ◌>>=◌ : {A B : Type 0} → Option A → (A → Option B) → Option B
-(Some x) >>= f = f x
-None >>= f = None
-
--- what another reader reads, whatever the reason of its refusal
-abbrev pub only : {A E : Type 0} → Result A E → Option A
-only (Ok x) = Some x
-only (Err e) = None
 
 -- whether the text is decimal digits alone, at least one
 abbrev pub is_decimal : List ℕ → Bool

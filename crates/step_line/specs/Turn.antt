@@ -4,7 +4,8 @@ use Rattle.scion_topology.specs.declared.entry.IfEntry.{IfEntry}
 use Rattle.scion_topology.specs.View.{View}
 use Rattle.scion_topology.specs.Building.{view_of}
 use Rattle.router_step.specs.declared.arrival.Arrival.{Arrival}
-use Rattle.step_line.specs.Fields.{◌>>=◌, only, ia_at, number_at, bytes_of, arrival_at, interfaces_at}
+use Rattle.refusal.specs.Optional.{◌>>=◌, only}
+use Rattle.step_line.specs.Fields.{ia_at, number_at, bytes_of, arrival_at, interfaces_at}
 
 -- the texts of the options, and of the interfaces
 pub record OptionTexts : Type 0 where

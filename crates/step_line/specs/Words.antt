@@ -8,7 +8,7 @@ use Rattle.clap.specs.declared.builder.action.ArgAction.TheVariants.{Append}
 use Rattle.clap.specs.declared.builder.value_parser.ValueParser.TheVariants.{Signed}
 use Rattle.clap.specs.declared.builder.command.Command.{Command}
 use Rattle.clap.specs.declared.builder.command.Command.TheViews.{out-Command}
-use Rattle.step_line.specs.Fields.{◌>>=◌}
+use Rattle.refusal.specs.Optional.{◌>>=◌}
 use Rattle.step_line.specs.Turn.{OptionTexts, Turn, turn_of}
 
 -- an option that has a value and must be given

@@ -22,8 +22,3 @@ pub use program::{end, run};
 pub use run_fault::RunFault;
 pub use status::Status;
 pub use words::step_line;
-
-#[cfg(test)]
-mod program_tests;
-#[cfg(test)]
-mod tests;

@@ -1,5 +1,5 @@
 use Rattle.std.proofs.Common.{sym, ◌∙◌}
-use Rattle.isd_as.proofs.Steps.{ok_is}
+use Rattle.refusal.proofs.Steps.{ok_is}
 use Rattle.isd_as.proofs.Spelled.{address_at-Spells, isd_at-SpellsIsd, as_number_at-SpellsAs}
 use Rattle.isd_as.proofs.laws.spelled_is_one.Goals as goal
 

@@ -1,6 +1,6 @@
 use Rattle.std.proofs.Common.{rules}
 use Rattle.std.proofs.lemmas.Fn.{filter_same}
-use Rattle.path_server.specs.Segment.{is_live}
+use Rattle.path_segment.specs.Tests.{is_live}
 use Rattle.path_server.proofs.store.keep_live.Goals as goal
 
 pub returns-clause-kept : goal.returns-clause-kept

@@ -6,5 +6,5 @@ use Rattle.scion_topology.proofs.changing.mark_table.Given as goal
 abbrev pub invariant-loop-at : goal.invariant-loop-at
 invariant-loop-at l = record {
   same : length l.table.items ≡ length l.initial.table.items;
-  so_far : take l.at l.table.items ++ marked_table l.place l.up (drop l.at l.table.items) (drop l.at l.joints.items) ≡ marked_table l.place l.up l.initial.table.items l.joints.items;
+  so_far : take l.at l.table.items ++ marked_table l.place l.up (drop l.at l.table.items) (drop l.at l.places.items) ≡ marked_table l.place l.up l.initial.table.items l.places.items;
 }

@@ -1,5 +1,5 @@
 use Rattle.std.proofs.Common.{◌∙◌, sym}
-use Rattle.scion_topology.specs.Network.{is_as}
+use Rattle.scion_topology.specs.Causes.{is_as}
 use Rattle.scion_topology.specs.Reading.{as_at}
 use Rattle.scion_topology.proofs.Front.{with_front-next, list_all-push}
 use Rattle.scion_topology.proofs.reading.ases_of.Goals as goal

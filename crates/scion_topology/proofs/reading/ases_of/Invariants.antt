@@ -2,7 +2,7 @@
 use Rattle.std.proofs.Common.{◌≡◌, true, drop}
 use Rattle.std.specs.List.{list_all}
 use Rattle.serde_json.specs.View.{items_view}
-use Rattle.scion_topology.specs.Network.{is_as}
+use Rattle.scion_topology.specs.Causes.{is_as}
 use Rattle.scion_topology.specs.Reading.{items_at, as_at}
 use Rattle.scion_topology.proofs.Front.{with_front}
 use Rattle.scion_topology.proofs.reading.ases_of.Given as goal

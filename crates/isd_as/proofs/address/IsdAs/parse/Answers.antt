@@ -1,6 +1,6 @@
 -- What is read is spelled, and what is spelled is read.
 use Rattle.std.proofs.Common.{sym, ◌∙◌}
-use Rattle.isd_as.proofs.Steps.{if_ok}
+use Rattle.refusal.proofs.Steps.{if_ok}
 use Rattle.isd_as.proofs.Spelled.{Spells-address_at, address_at-Spells}
 use Rattle.isd_as.proofs.address.IsdAs.parse.Goals as goal
 

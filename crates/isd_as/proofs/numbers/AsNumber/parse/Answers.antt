@@ -1,6 +1,6 @@
 -- What is read is spelled, and what is spelled is read.
 use Rattle.std.proofs.Common.{sym, ◌∙◌}
-use Rattle.isd_as.proofs.Steps.{if_ok}
+use Rattle.refusal.proofs.Steps.{if_ok}
 use Rattle.isd_as.proofs.Spelled.{SpellsAs-as_number_at, as_number_at-SpellsAs}
 use Rattle.isd_as.proofs.numbers.AsNumber.parse.Goals as goal
 

@@ -1,6 +1,6 @@
 -- What is read is spelled, and what is spelled is read.
 use Rattle.std.proofs.Common.{sym, ◌∙◌}
-use Rattle.isd_as.proofs.Steps.{if_ok}
+use Rattle.refusal.proofs.Steps.{if_ok}
 use Rattle.isd_as.proofs.Spelled.{SpellsIsd-isd_at, isd_at-SpellsIsd}
 use Rattle.isd_as.proofs.numbers.Isd.parse.Goals as goal
 

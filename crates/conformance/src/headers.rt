@@ -1,0 +1,183 @@
+use path_header::{Header, HeaderFault, HopField, InfoField, decode, encode};
+use isd_as::IfId;
+use std::test::Fail;
+
+/// A path of one segment of two hop fields, travelled in construction direction, at its second hop.
+const WORKED: [u8; 36] = [
+    0x01, 0x00, 0x20, 0x00, 0x01, 0x00, 0x12, 0x34, 0x00, 0x00, 0x00, 0x64, 0x00, 0x3f, 0x00, 0x00,
+    0x00, 0x01, 0xa1, 0xa2, 0xa3, 0xa4, 0xa5, 0xa6, 0x00, 0x3f, 0x00, 0x02, 0x00, 0x00, 0xb1, 0xb2,
+    0xb3, 0xb4, 0xb5, 0xb6,
+];
+
+/// The way back of [`WORKED`].
+const BACK: [u8; 36] = [
+    0x00, 0x00, 0x20, 0x00, 0x00, 0x00, 0x12, 0x34, 0x00, 0x00, 0x00, 0x64, 0x00, 0x3f, 0x00, 0x02,
+    0x00, 0x00, 0xb1, 0xb2, 0xb3, 0xb4, 0xb5, 0xb6, 0x00, 0x3f, 0x00, 0x00, 0x00, 0x01, 0xa1, 0xa2,
+    0xa3, 0xa4, 0xa5, 0xa6,
+];
+
+/// A path up the segment of [`WORKED`], as it leaves its first AS.
+const UP: [u8; 36] = [
+    0x00, 0x00, 0x20, 0x00, 0x00, 0x00, 0xb3, 0x96, 0x00, 0x00, 0x00, 0x64, 0x00, 0x3f, 0x00, 0x02,
+    0x00, 0x00, 0xb1, 0xb2, 0xb3, 0xb4, 0xb5, 0xb6, 0x00, 0x3f, 0x00, 0x00, 0x00, 0x01, 0xa1, 0xa2,
+    0xa3, 0xa4, 0xa5, 0xa6,
+];
+
+const UP_INFO: InfoField = InfoField {
+    construction: false,
+    seg_id: 0xb396,
+    timestamp: 100,
+};
+
+const LEAF_HOP: HopField = HopField {
+    exp_time: 63,
+    cons_ingress: IfId(2),
+    cons_egress: IfId(0),
+    mac: [0xb1, 0xb2, 0xb3, 0xb4, 0xb5, 0xb6],
+};
+
+const CORE_HOP: HopField = HopField {
+    exp_time: 63,
+    cons_ingress: IfId(0),
+    cons_egress: IfId(1),
+    mac: [0xa1, 0xa2, 0xa3, 0xa4, 0xa5, 0xa6],
+};
+
+/// What a refusal is reported by, and 0 where there is none.
+fn code_of<T: Drop>(answer: Result<T, HeaderFault>) -> u16 {
+    match answer {
+        Ok(_) => 0,
+        Err(fault) => fault.code(),
+    }
+}
+
+/// What the header is refused by, some of its bytes set to others, and cut to a length.
+fn code_of_changed(header: &[u8], changes: &[(usize, u8)], len: usize) -> u16 {
+    let mut bytes = [0; 48];
+    for (byte, value) in bytes.iter_mut().zip(header) {
+        *byte = *value;
+    }
+    for (at, value) in changes {
+        if let Some(byte) = bytes.get_mut(*at) {
+            *byte = *value;
+        }
+    }
+    code_of(decode(&bytes[..len.min(48)]))
+}
+
+#[test]
+fn first_refusal_is_reported(rt: HostRuntime) {
+    let cases: [(&[(usize, u8)], usize, u16); 27] = [
+        (&[], 36, 0),
+        (&[(36, 0xff), (47, 0xff)], 48, 0),
+        (&[], 35, 20),
+        (&[], 0, 20),
+        // the meta field: Short, Reserved, SegLens, TooManyHops, and Short again
+        (&[(1, 0xfc), (2, 0x00)], 3, 20),
+        (&[(1, 0x04)], 36, 21),
+        (&[(1, 0x80), (2, 0x00)], 36, 21),
+        (&[(1, 0x0a), (2, 0x1f), (3, 0xff)], 36, 21),
+        (&[(0, 0xff), (1, 0x20), (4, 0x02), (12, 0x01)], 35, 21),
+        (&[(2, 0x00)], 36, 24),
+        (&[(0, 0xff), (3, 0x01), (4, 0x02), (12, 0x01)], 36, 24),
+        (&[(1, 0x00), (2, 0x0f), (3, 0xff)], 4, 24),
+        (
+            &[(0, 0xff), (1, 0x02), (2, 0x18), (4, 0x02), (6, 0x01)],
+            48,
+            25,
+        ),
+        (&[(1, 0x03), (2, 0xf0), (3, 0x40)], 4, 20),
+        (&[(0, 0xff), (4, 0x02), (5, 0x01), (12, 0x01)], 35, 20),
+        // the fields in order, and the indices behind them
+        (&[(4, 0x02)], 36, 22),
+        (&[(4, 0x86), (5, 0x01)], 36, 22),
+        (&[(0, 0x3f), (4, 0x03), (12, 0x02)], 36, 22),
+        (&[(4, 0x04), (12, 0x01)], 36, 21),
+        (&[(0, 0xc0), (5, 0x01)], 36, 21),
+        (&[(12, 0x01)], 36, 23),
+        (&[(24, 0x02)], 36, 23),
+        (&[(0, 0x40), (24, 0x06)], 36, 23),
+        (&[(12, 0x80), (24, 0x02)], 36, 21),
+        (&[(0, 0x40), (24, 0x04)], 36, 21),
+        (&[(0, 0x40)], 36, 26),
+        (&[(0, 0x02)], 36, 26),
+    ];
+    for (changes, len, code) in cases {
+        assert_eq!(rt; code_of_changed(&WORKED, changes, len), code);
+    }
+    let two_segments = [0x00, 0x00, 0x10, 0x40];
+    assert_eq!(rt;
+        code_of_changed(&two_segments, &[(5, 0x01), (12, 0x02)], 44),
+        21
+    );
+    assert_eq!(rt;
+        code_of_changed(&two_segments, &[(4, 0x02), (13, 0x01)], 44),
+        22
+    );
+    assert_eq!(rt; code_of_changed(&two_segments, &[(0, 0x80)], 44), 26);
+    assert_eq!(rt; HeaderFault::BadIndex.name(), "BadIndex");
+}
+
+#[test]
+fn new_header_is_spelled(rt: HostRuntime) -> Result<(), Fail> {
+    let hops = [LEAF_HOP, CORE_HOP];
+    let header = Header::new([2, 0, 0], &[UP_INFO], &hops)?;
+    let mut room = [0xff; 48];
+    assert_eq!(rt; encode(&header, &mut room)?, 36);
+    assert_eq!(rt; &room[..36], UP.as_slice());
+    assert_eq!(rt; room[36], 0xff);
+    let cases: [([u8; 3], usize, u16); 7] = [
+        ([0, 2, 0], 2, 24),
+        ([0, 2, 0], 1, 24),
+        ([2, 0, 1], 2, 24),
+        ([64, 64, 0], 2, 24),
+        ([33, 32, 0], 2, 25),
+        ([2, 0, 0], 1, 20),
+        ([1, 1, 0], 2, 20),
+    ];
+    for (lens, count, code) in cases {
+        assert_eq!(rt;
+            code_of(Header::new(lens, &[UP_INFO], &hops[..count.min(2)])),
+            code
+        );
+    }
+    Ok(())
+}
+
+#[test]
+fn meta_fields_are_spelled(rt: HostRuntime) -> Result<(), Fail> {
+    let mut header = Header::new([3, 2, 3], &[UP_INFO; 3], &[LEAF_HOP; 8])?;
+    let mut room = [0; 124];
+    assert_eq!(rt; encode(&header, &mut room)?, 124);
+    assert_eq!(rt; &room[..4], [0x00, 0x00, 0x30, 0x83].as_slice());
+    if header.info_count() > 1 && header.hop_count() > 3 {
+        header.set_indices(1, 3);
+        assert_eq!(rt; header.segment_of(2), 0);
+        assert_eq!(rt; header.segment_of(3), 1);
+    }
+    assert_eq!(rt; encode(&header, &mut room)?, 124);
+    assert_eq!(rt; &room[..4], [0x43, 0x00, 0x30, 0x83].as_slice());
+    Ok(())
+}
+
+#[test]
+fn header_is_read_and_reversed(rt: HostRuntime) -> Result<(), Fail> {
+    let (mut header, len) = decode(&WORKED)?;
+    assert_eq!(rt; len, 36);
+    assert_eq!(rt; (header.curr_inf(), header.curr_hf()), (0, 1));
+    assert_eq!(rt; header.seg_lens().first, 2);
+    assert_eq!(rt; header.info(header.curr_inf()), header.current_info());
+    assert_eq!(rt; header.hop(header.curr_hf()), header.current_hop());
+    assert_eq!(rt; header.current_hop(), LEAF_HOP);
+    let before = header.clone()?;
+    header.reverse();
+    assert!(rt; !header.is_same(&before));
+    let mut room = [0xee; 36];
+    assert_eq!(rt; code_of(encode(&header, &mut room[..35])), 27);
+    assert_eq!(rt; room, [0xee; 36]);
+    assert_eq!(rt; encode(&header, &mut room)?, header.encoded_len());
+    assert_eq!(rt; room, BACK);
+    header.set_seg_id(0, 0xb396);
+    assert_eq!(rt; header.current_info(), UP_INFO);
+    Ok(())
+}

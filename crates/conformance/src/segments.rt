@@ -1,0 +1,226 @@
+use path_segment::{Beacon, Entry, SegKind, Segment, SegmentError, SegmentFault};
+use isd_as::{IfId, IsdAs};
+use refusal::OrMemory;
+use std::alloc::Global;
+use std::test::Fail;
+
+/// The text of the worked segment.
+fn text() -> &'static str {
+    "{\"beta0\":4660,\"entries\":[{\"egress\":1,\"exp\":63,\"ia\":\"1-ff00:0:110\",\"ingress\":0,\"mac\":\"a1a2a3a4a5a6\"},{\"egress\":0,\"exp\":63,\"ia\":\"1-ff00:0:111\",\"ingress\":2,\"mac\":\"b1b2b3b4b5b6\"}],\"kind\":\"intra\",\"timestamp\":100}"
+}
+
+/// The same in another spacing, another order of names, capital digits and with other members.
+fn other_text() -> &'static str {
+    " {\"timestamp\" : 100,\n\"more\":[1.5, null], \"kind\":\"intra\", \"entries\":[ {\"ia\":\"1-FF00:0:0110\", \"mac\":\"A1a2A3a4A5a6\",\"ingress\":0, \"egress\":1, \"exp\":63, \"x\":{}},\t{\"mac\":\"B1B2B3B4B5B6\",\"exp\":63,\"egress\":0,\"ingress\":2,\"ia\":\"1-ff00:0:111\"} ], \"beta0\":4660 }\r\n"
+}
+
+fn entry(ia: u64, cons_ingress: u16, cons_egress: u16, mac: [u8; 6]) -> Entry {
+    Entry {
+        ia: IsdAs::from_number(ia),
+        cons_ingress: IfId(cons_ingress),
+        cons_egress: IfId(cons_egress),
+        exp_time: 63,
+        mac,
+    }
+}
+
+fn first_entry() -> Entry {
+    entry(
+        0x0001_ff00_0000_0110,
+        0,
+        1,
+        [0xa1, 0xa2, 0xa3, 0xa4, 0xa5, 0xa6],
+    )
+}
+
+fn last_entry() -> Entry {
+    entry(
+        0x0001_ff00_0000_0111,
+        2,
+        0,
+        [0xb1, 0xb2, 0xb3, 0xb4, 0xb5, 0xb6],
+    )
+}
+
+/// What a refusal is reported by, 0 where there is none, 1 for want of memory.
+fn code_of<T: Drop>(answer: Result<T, SegmentError>) -> u16 {
+    match answer {
+        Ok(_) => 0,
+        Err(OrMemory::Memory) => 1,
+        Err(OrMemory::Refused(fault)) => fault.code(),
+    }
+}
+
+/// The worked segment shows what it should, in calls and as text, and is read again.
+#[test]
+fn worked(rt: HostRuntime) -> Result<(), Fail> {
+    let alloc = rt.alloc();
+    let entries = vec![in alloc; first_entry(), last_entry()]?;
+    let segment = Segment::new(SegKind::Intra, 100, 4660, entries)?;
+    assert!(rt; segment.kind() == SegKind::Intra && segment.timestamp() == 100);
+    assert!(rt; segment.beta0() == 4660 && segment.entries().len() == 2);
+    assert_eq!(rt; segment.beta_at(0), 0x1234);
+    assert_eq!(rt; segment.beta_at(1), 0xb396);
+    assert_eq!(rt; segment.beta_at(2), 0x0224);
+    assert_eq!(rt; segment.least_expiry(0, 1), 43_400);
+    assert!(rt; segment.is_live(0) && segment.is_live(21_700) && !segment.is_live(21_701));
+    assert_eq!(rt; segment.to_json(alloc)?.as_str(), text());
+
+    assert!(rt; segment.try_clone(alloc)?.is_same(&segment));
+    assert!(rt; Segment::from_json(alloc, text().as_bytes())?.is_same(&segment));
+    assert!(rt; Segment::from_json(alloc, other_text().as_bytes())?.is_same(&segment));
+    Ok(())
+}
+
+/// The beacon of the worked segment's first entry, and the segment that it ends as.
+#[test]
+fn under_way(rt: HostRuntime) -> Result<(), Fail> {
+    let alloc = rt.alloc();
+    let beacon = Beacon::first(alloc, SegKind::Intra, 100, 4660, first_entry())?;
+    assert!(rt; beacon.kind() == SegKind::Intra && beacon.timestamp() == 100);
+    assert!(rt; beacon.beta0() == 4660 && beacon.beta_at(1) == 0xb396);
+    assert!(rt; beacon.try_clone(alloc)?.is_same(&beacon));
+    let segment = beacon.finish(alloc, last_entry())?;
+    assert!(rt; segment.is_same(&Segment::from_json(alloc, text().as_bytes())?));
+    Ok(())
+}
+
+/// Entries of as many ASes, which are a segment where they are neither too few nor too many.
+fn entries_of(alloc: Global, count: u16) -> Result<Vec<Entry>, Fail> {
+    let mut entries = Vec::new(alloc);
+    for i in 0..count {
+        let egress = if i < count - 1 { 1 } else { 0 };
+        entries.push(entry(u64::from(i), i, egress, [0; 6]))?;
+    }
+    Ok(entries)
+}
+
+/// Lengths, ends and loops, and which refusal comes first.
+#[test]
+fn rules(rt: HostRuntime) -> Result<(), Fail> {
+    let alloc = rt.alloc();
+    let lengths = [(0, 30), (1, 30), (2, 0), (63, 0), (64, 31)];
+    for (count, code) in lengths {
+        let segment = Segment::new(SegKind::Core, 0, 0, entries_of(alloc, count)?);
+        assert_eq!(rt; segment.err().map_or(0, SegmentFault::code), code);
+    }
+    let mut beacon = Beacon::first(alloc, SegKind::Core, 0, 0, entry(0, 0, 1, [0; 6]))?;
+    for i in 1..62 {
+        beacon = beacon.with_entry(alloc, entry(i, 1, 1, [0; 6]))?;
+    }
+    assert_eq!(rt; beacon.entries().len(), 62);
+    assert_eq!(rt;
+        code_of(beacon.with_entry(alloc, entry(0, 0, 0, [0; 6]))),
+        31
+    );
+    assert_eq!(rt;
+        beacon
+            .finish(alloc, entry(62, 1, 0, [0; 6]))?
+            .entries()
+            .len(),
+        63
+    );
+
+    let ends = [
+        (0, 0, 0, 32, 32),
+        (0, 1, 1, 33, 32),
+        (0, 1, 0, 32, 33),
+        (1, 1, 1, 0, 32),
+        (1, 0, 0, 32, 32),
+    ];
+    let beacon = Beacon::first(alloc, SegKind::Core, 0, 0, entry(0, 0, 1, [0; 6]))?;
+    for (ia, ingress, egress, next, last) in ends {
+        let one = entry(ia, ingress, egress, [0; 6]);
+        let first = Beacon::first(
+            alloc,
+            SegKind::Core,
+            0,
+            0,
+            entry(ia, ingress, egress, [0; 6]),
+        );
+        assert_eq!(rt; code_of(first), 32);
+        assert_eq!(rt; code_of(beacon.with_entry(alloc, one)), next);
+        assert_eq!(rt; code_of(beacon.finish(alloc, one)), last);
+    }
+    let names = [
+        (SegmentFault::TooShort, 30, "TooShort"),
+        (SegmentFault::TooLong, 31, "TooLong"),
+        (SegmentFault::BadEnds, 32, "BadEnds"),
+        (SegmentFault::Loop, 33, "Loop"),
+        (SegmentFault::NotJson, 34, "NotJson"),
+    ];
+    for (fault, code, name) in names {
+        assert!(rt; fault.code() == code && fault.name() == name);
+    }
+    Ok(())
+}
+
+/// What the worked text is refused by, one part of it exchanged for another.
+fn code_of_changed(alloc: Global, part: &str, other: &str) -> Result<u16, Fail> {
+    match text().split_once(part) {
+        Some((front, back)) => {
+            let text = format!(in alloc; "{front}{other}{back}")?;
+            Ok(code_of(Segment::from_json(alloc, text.as_bytes())))
+        }
+        None => Ok(2),
+    }
+}
+
+/// A part of the worked text, what is put in its place, and what the text is then refused by.
+fn changes() -> [(&'static str, &'static str, u16); 34] {
+    [
+        ("{\"beta0\"", "\"beta0\"", 34),
+        ("intra", "core", 0),
+        ("intra", "up", 34),
+        ("\"intra\"", "null", 34),
+        ("\"kind\"", "\"kin\"", 34),
+        ("4660", "65535", 0),
+        ("4660", "65536", 34),
+        ("4660", "4660.0", 34),
+        ("4660", "-1", 34),
+        ("\"beta0\"", "\"beta\"", 34),
+        (":100", ":4294967295", 0),
+        (":100", ":4294967296", 34),
+        ("timestamp", "time", 34),
+        ("entries", "entry", 34),
+        ("[{", "[[],{", 34),
+        ("\"egress\":1", "\"egress\":65536", 34),
+        ("egress", "out", 34),
+        ("\"ingress\":2", "\"ingress\":65536", 34),
+        ("ingress", "in", 34),
+        ("63", "255", 0),
+        ("63", "256", 34),
+        ("exp", "life", 34),
+        ("1-ff00:0:110", "0-0", 0),
+        ("1-ff00:0:110", "1-ff00:0", 34),
+        ("ia", "as", 34),
+        ("a1a2", "A1a2", 0),
+        ("a1a2", "a1", 34),
+        ("a1a2", "a1a2a", 34),
+        ("a1a2", "g1a2", 34),
+        ("mac", "code", 34),
+        // the rules come last, in their order
+        (",{\"egress\":0", "],\"x\":[{\"egress\":0", 30),
+        ("\"ingress\":0", "\"ingress\":1", 32),
+        ("\"egress\":1", "\"egress\":0", 32),
+        ("0:110", "0:111", 33),
+    ]
+}
+
+/// Texts of another form, members that are absent, of another type or out of range, and the rules.
+#[test]
+fn refused_texts(rt: HostRuntime) -> Result<(), Fail> {
+    let alloc = rt.alloc();
+    for (part, other, code) in changes() {
+        assert_eq!(rt;
+            code_of_changed(alloc, part, other)?,
+            code,
+            "{part} {other}"
+        );
+    }
+    let texts: [&[u8]; 4] = [b"", b"[]", b"{}", &[0x22, 0xff, 0x22]];
+    for text in texts {
+        assert_eq!(rt; code_of(Segment::from_json(alloc, text)), 34);
+    }
+    Ok(())
+}

@@ -1,0 +1,281 @@
+ghost use Rattle.std.specs.Prelude.{◌<◌};
+
+use scion_topology::{AsInfo, IfEntry, LinkKind, RouterView, Topology, TopologyFault};
+use hop_mac::hop_mac;
+use isd_as::{IfId, IsdAs};
+use refusal::OrMemory;
+use std::test::Fail;
+
+const IA: u64 = 0x0001_ff00_0000_0111;
+
+fn entry(number: u16, kind: LinkKind, router: u8) -> IfEntry {
+    IfEntry {
+        number: IfId(number),
+        kind,
+        router,
+        up: true,
+    }
+}
+
+/// A view shows what it was made of, and knows the authenticators that its key makes.
+#[test]
+fn shows(rt: HostRuntime) -> Result<(), Fail> {
+    let table = [entry(2, LinkKind::Child, 1), entry(1, LinkKind::Parent, 0)];
+    let view = RouterView::new(IsdAs::from_number(IA), 63, b"k", &table)?;
+    assert_eq!(rt; view.ia().number(), IA);
+    assert_eq!(rt; view.router(), 63);
+    assert!(rt; view.key() == b"k".as_slice());
+    assert!(rt; view.entry(IfId(1)) == Some(&table[1]));
+    assert!(rt; view.entry(IfId(3)).is_none());
+    let mac = hop_mac(b"k", 7, 100, 63, 1, 2);
+    assert!(rt; view.authenticates(&mac, 7, 100, 63, IfId(1), IfId(2)));
+    assert!(rt; !view.authenticates(&mac, 8, 100, 63, IfId(1), IfId(2)));
+    Ok(())
+}
+
+/// Each cause of a refusal, and the first of two.
+#[test]
+fn refuses(rt: HostRuntime) {
+    let with_none = [entry(1, LinkKind::Core, 0), entry(0, LinkKind::Core, 0)];
+    let twice = [entry(1, LinkKind::Core, 0), entry(1, LinkKind::Child, 1)];
+    let cases: [(u64, &[u8], &[IfEntry], u16); 6] = [
+        (0x0000_ff00_0000_0111, b"k", &[], 11),
+        (0x0001_0000_0000_0000, b"k", &twice, 11),
+        (IA, b"", &twice, 11),
+        (IA, &[7; 65], &[], 11),
+        (IA, b"k", &with_none, 11),
+        (IA, b"k", &twice, 13),
+    ];
+    for (ia, key, table, code) in cases.iter() {
+        let view = RouterView::new(IsdAs::from_number(*ia), 0, key, table);
+        assert_eq!(rt; view.err().map(TopologyFault::code), Some(*code));
+    }
+    assert!(rt; RouterView::new(IsdAs::from_number(IA), 0, &[7; 64], &[]).is_ok());
+    assert_eq!(rt; TopologyFault::DuplicateIf.name(), "DuplicateIf");
+}
+
+/// Three ASes in a row, one router each: a core AS, its child, and the child of that.
+const THREE: &str =
+    r#"{"ases":[{"ia":"1-ff00:0:110","core":true,"exp":63,"key":"6130","routers":1},{"ia":"1-ff00:0:111","core":false,"exp":63,"key":"6131","routers":1},{"ia":"1-ff00:0:112","core":false,"exp":63,"key":"6132","routers":1}],"links":[{"kind":"child","a":{"ia":"1-ff00:0:110","if":1,"router":0},"b":{"ia":"1-ff00:0:111","if":1,"router":0}},{"kind":"child","a":{"ia":"1-ff00:0:111","if":2,"router":0},"b":{"ia":"1-ff00:0:112","if":1,"router":0}}]}"#;
+
+const TOP: u64 = 0x0001_ff00_0000_0110;
+
+const MIDDLE: u64 = 0x0001_ff00_0000_0111;
+
+const LEAF: u64 = 0x0001_ff00_0000_0112;
+
+fn at(number: u64) -> IsdAs {
+    IsdAs::from_number(number)
+}
+
+/// The text with one change, at the first place where `old` stands in it.
+fn changed(rt: &HostRuntime, old: &str, new: &str) -> Result<String, Fail> {
+    let (front, back) = THREE.split_once(old).ok_or("the text to change is there")?;
+    Ok(format!(in rt.alloc(); "{front}{new}{back}")?)
+}
+
+/// One change each, and the refusal that it leads to.
+#[test]
+fn first_cause_is_reported(rt: HostRuntime) -> Result<(), Fail> {
+    let rows = [
+        (THREE, "{", TopologyFault::NotJson, 10),
+        (r#""exp":63"#, r#""exp":256"#, TopologyFault::BadField, 11),
+        (
+            r#""key":"6131""#,
+            r#""key":"613""#,
+            TopologyFault::BadField,
+            11,
+        ),
+        (
+            r#""core":true"#,
+            r#""core":null"#,
+            TopologyFault::BadField,
+            11,
+        ),
+        (
+            r#""routers":1"#,
+            r#""routers":1.0"#,
+            TopologyFault::BadField,
+            11,
+        ),
+        (
+            r#""ia":"1-ff00:0:110""#,
+            r#""ia":"0-ff00:0:110""#,
+            TopologyFault::BadField,
+            11,
+        ),
+        (r#""links""#, r#""places""#, TopologyFault::BadField, 11),
+        (
+            r#""ia":"1-ff00:0:111""#,
+            r#""ia":"1-ff00:0:110""#,
+            TopologyFault::DuplicateAs,
+            12,
+        ),
+        (
+            r#""b":{"ia":"1-ff00:0:112""#,
+            r#""b":{"ia":"1-ff00:0:113""#,
+            TopologyFault::UnknownAs,
+            14,
+        ),
+        (
+            r#""if":2,"router":0"#,
+            r#""if":2,"router":1"#,
+            TopologyFault::NoRouter,
+            16,
+        ),
+        (
+            r#""kind":"child""#,
+            r#""kind":"core""#,
+            TopologyFault::BadKind,
+            15,
+        ),
+        (r#""if":2"#, r#""if":1"#, TopologyFault::DuplicateIf, 13),
+    ];
+    for (old, new, fault, code) in rows {
+        let text = changed(&rt, old, new)?;
+        let read = Topology::from_json(rt.alloc(), text.as_bytes());
+        assert!(rt; read.err() == Some(OrMemory::Refused(fault)), "{new}");
+        assert_eq!(rt; fault.code(), code, "{new}");
+    }
+    let empty = Topology::from_json(rt.alloc(), br#"{"ases":[],"links":[]}"#);
+    assert!(rt; empty.err() == Some(OrMemory::Refused(TopologyFault::TooMany)));
+    let no_text = Topology::from_json(rt.alloc(), b"\"\xff\"");
+    assert!(rt; no_text.err() == Some(OrMemory::Refused(TopologyFault::NotJson)));
+    Ok(())
+}
+
+/// No proper front of the text is a topology.
+#[test]
+fn fronts_are_not_json(rt: HostRuntime) {
+    let bytes = THREE.as_bytes();
+    for len in 0..bytes.len() {
+        let read = Topology::from_json(rt.alloc(), &bytes[..len]);
+        assert!(rt; read.err() == Some(OrMemory::Refused(TopologyFault::NotJson)));
+    }
+}
+
+/// What is asked of the three ASes.
+#[test]
+fn answers_what_was_read(rt: HostRuntime) -> Result<(), Fail> {
+    let topology = Topology::from_json(rt.alloc(), THREE.as_bytes())?;
+    let info = AsInfo {
+        position: 1,
+        core: false,
+        exp: 63,
+        routers: 1,
+    };
+    assert_eq!(rt; topology.as_info(at(MIDDLE))?, info);
+    assert!(rt; topology.as_entry(at(TOP))?.core);
+    assert!(rt; topology.as_entry(at(1)).err() == Some(TopologyFault::UnknownAs));
+    assert!(rt; topology.interface(at(MIDDLE), IfId(2))? == &entry(2, LinkKind::Child, 0));
+    assert_eq!(rt; topology.far_end(at(TOP), IfId(1))?, (at(MIDDLE), IfId(1)));
+    assert_eq!(rt; topology.far_end(at(LEAF), IfId(1))?, (at(MIDDLE), IfId(2)));
+    assert_eq!(rt; topology.owner(at(MIDDLE), IfId(2))?, 0);
+    assert_eq!(rt;
+        topology.owner(at(TOP), IfId(2)),
+        Err(TopologyFault::NoLink)
+    );
+    assert_eq!(rt;
+        topology.far_end(at(1), IfId(0)),
+        Err(TopologyFault::UnknownAs)
+    );
+    assert!(rt; topology.view(at(TOP), 1).err() == Some(TopologyFault::NoRouter));
+    let view = topology.view(at(MIDDLE), 0)?;
+    assert!(rt; view.key() == b"a1".as_slice());
+    assert!(rt; view.entry(IfId(1)) == Some(&entry(1, LinkKind::Parent, 0)));
+    assert!(rt; view.entry(IfId(2)) == Some(&entry(2, LinkKind::Child, 0)));
+    assert!(rt;
+        view.authenticates(
+            &hop_mac(b"a1", 7, 100, 63, 1, 2),
+            7,
+            100,
+            63,
+            IfId(1),
+            IfId(2)
+        )
+    );
+    Ok(())
+}
+
+/// A cut and a mend, named by either end, and another key.
+#[test]
+fn changes_what_is_named(rt: HostRuntime) -> Result<(), Fail> {
+    let mut topology = Topology::from_json(rt.alloc(), THREE.as_bytes())?;
+    topology.cut_link(at(LEAF), IfId(1))?;
+    topology.cut_link(at(MIDDLE), IfId(2))?;
+    for (ia, number, up) in [
+        (MIDDLE, 2, false),
+        (LEAF, 1, false),
+        (MIDDLE, 1, true),
+        (TOP, 1, true),
+    ] {
+        let view = topology.view(at(ia), 0)?;
+        assert!(rt; view.entry(IfId(number)).map(|entry| entry.up) == Some(up));
+    }
+    topology.mend_link(at(MIDDLE), IfId(2))?;
+    assert!(rt;
+        topology
+            .view(at(LEAF), 0)?
+            .entry(IfId(1))
+            .map(|entry| entry.up)
+            == Some(true)
+    );
+    assert_eq!(rt;
+        topology.cut_link(at(TOP), IfId(0)),
+        Err(TopologyFault::NoLink)
+    );
+    assert_eq!(rt;
+        topology.rotate_key(at(LEAF), b""),
+        Err(TopologyFault::BadField)
+    );
+    assert_eq!(rt;
+        topology.rotate_key(at(1), b""),
+        Err(TopologyFault::UnknownAs)
+    );
+    topology.rotate_key(at(LEAF), b"a3")?;
+    assert!(rt; topology.view(at(LEAF), 0)?.key() == b"a3".as_slice());
+    assert!(rt; topology.view(at(MIDDLE), 0)?.key() == b"a1".as_slice());
+    Ok(())
+}
+
+/// A ring of so many core ASes, with so many links between neighbours.
+fn ring(rt: &HostRuntime, ases: u32, links: u32) -> Result<String, Fail>
+    requires { 0 < ases }
+{
+    let alloc = rt.alloc();
+    let mut text = String::from_str(alloc, r#"{"ases":["#)?;
+    for one in 1..=ases {
+        let comma = if one == 1 { "" } else { "," };
+        let row = format!(in alloc;
+            r#"{comma}{{"ia":"1-{one}","core":true,"exp":0,"key":"00","routers":1}}"#
+        )?;
+        text.push_str(row.as_str())?;
+    }
+    text.push_str(r#"],"links":["#)?;
+    for link in 1..=links {
+        let comma = if link == 1 { "" } else { "," };
+        let one = link % ases + 1;
+        let other = one % ases + 1;
+        let row = format!(in alloc;
+            r#"{comma}{{"kind":"core","a":{{"ia":"1-{one}","if":{link},"router":0}},"b":{{"ia":"1-{other}","if":{},"router":0}}}}"#,
+            10_000 + link % 50_000
+        )?;
+        text.push_str(row.as_str())?;
+    }
+    text.push_str("]}")?;
+    Ok(text)
+}
+
+/// The most ASes and links are read, and one more of either is not.
+#[test]
+fn limits_are_exact(rt: HostRuntime) -> Result<(), Fail> {
+    let most = ring(&rt, 1024, 4096)?;
+    let topology = Topology::from_json(rt.alloc(), most.as_bytes())?;
+    assert_eq!(rt; topology.as_info(IsdAs::parse("1-1024")?)?.position, 1023);
+    for (ases, links) in [(1025, 0), (1024, 4097)] {
+        let text = ring(&rt, ases, links)?;
+        let read = Topology::from_json(rt.alloc(), text.as_bytes());
+        assert!(rt; read.err() == Some(OrMemory::Refused(TopologyFault::TooMany)));
+    }
+    Ok(())
+}

@@ -1,0 +1,71 @@
+-- What a step computes to where its checks hold.
+use Rattle.std.proofs.Common.{◌≡◌, ℕ, ◌+◌, Bool, true, false, not, ◌==◌, if◌then◌else◌, Result, Ok, Some, refl, sym, ap, ◌∙◌, subst, arith}
+use Rattle.std.specs.Bool.{beq}
+use Rattle.refusal.specs.Refusal.{◌>>=◌, check}
+use Rattle.scion_topology.specs.declared.entry.IfEntry.{IfEntry}
+use Rattle.scion_topology.specs.View.{View, entry_of}
+use Rattle.path_header.specs.declared.fields.InfoField.{InfoField}
+use Rattle.path_header.specs.declared.fields.HopField.{HopField}
+use Rattle.path_header.specs.Value.{HeaderValue}
+use Rattle.router_step.specs.declared.arrival.Arrival.{Arrival}
+use Rattle.router_step.specs.declared.outcome.Outcome.{Outcome}
+use Rattle.router_step.specs.declared.outcome.Outcome.TheVariants.{ToLink, ToRouter, Deliver}
+use Rattle.router_step.specs.declared.fault.Refusal.{Refusal}
+use Rattle.router_step.specs.declared.fault.Refusal.TheVariants as refusal
+use Rattle.router_step.specs.Place.{info_of, hop_of, is_over_link, way_out, arrived, moved_on, gone}
+use Rattle.router_step.specs.Checks.{indices_fit, way_in_fits, is_live, is_mac_right, source_fits, is_last, destination_fits, ends_segment, kinds_fit}
+use Rattle.router_step.specs.Step.{passes, admitted, ended, switched, left, step_of}
+use Rattle.router_step.specs.Forward.{IsAdmitted, MayLeave, goes}
+
+abbrev done : Outcome → Result Outcome Refusal
+done way = Ok way
+
+abbrev admission : HeaderValue → Result HeaderValue Refusal
+admission h = Ok h
+
+admitted_is : (view : View) (now : ℕ) (arrival : Arrival) (source : ℕ) (header here : HeaderValue) → IsAdmitted view now arrival source header here → admitted view now arrival header ≡ Ok here
+unfolding admitted passes
+admitted_is view now arrival source header here is =
+    let same = is.here_is in
+    let live : is_live now (info_of (arrived arrival header)) (hop_of header) ≡ true = ap (λ (h : HeaderValue). is_live now (info_of h) (hop_of header)) same ∙ is.live in
+    let mac : is_mac_right view (info_of (arrived arrival header)) (hop_of header) ≡ true = ap (λ (h : HeaderValue). is_mac_right view (info_of h) (hop_of header)) same ∙ is.mac in
+    rw (is.indices, is.way_in, live, mac) (ap admission same)
+
+ended_is : (view : View) (arrival : Arrival) (source destination : ℕ) (header : HeaderValue) (last : Bool) → source_fits view arrival source ≡ true → is_last header ≡ last → destination_fits view destination last ≡ true
+    → ended view arrival source destination header ≡ Ok last
+unfolding ended
+ended_is view arrival source destination header last from is_last fits = rw (from, is_last, fits) refl
+
+leaves_by : (view : View) (out : IfEntry) (way : ℕ) (other : Bool) → out.up ≡ true
+    → (if other then Ok (ToRouter out.router) else (check out.up refusal.LinkDown >>= λ _. Ok (ToLink way))) ≡ done (if other then ToRouter out.router else ToLink way)
+leaves_by view out way true up = refl
+leaves_by view out way false up = rw up refl
+
+left_is : (view : View) (arrival : Arrival) (has_switched : Bool) (header : HeaderValue) (out : IfEntry) → MayLeave view arrival has_switched header out
+    → left view arrival has_switched (info_of header) (hop_of header) ≡ Ok (goes view out header)
+unfolding left
+left_is view arrival has_switched header out may =
+    rw (may.known, may.kinds) (leaves_by view out (way_out (info_of header) (hop_of header)) (not (out.router == view.router)) may.up)
+
+pub no_switch : (view : View) (now : ℕ) (arrival : Arrival) (here : HeaderValue) → ends_segment here ≡ false → switched view now arrival here ≡ Ok false
+unfolding switched
+no_switch view now arrival here stays = rw stays refl
+
+pub a_switch : (view : View) (now : ℕ) (arrival : Arrival) (here : HeaderValue) → ends_segment here ≡ true → is_over_link arrival ≡ true
+    → is_live now (info_of (moved_on true here)) (hop_of (moved_on true here)) ≡ true → is_mac_right view (info_of (moved_on true here)) (hop_of (moved_on true here)) ≡ true
+    → switched view now arrival here ≡ Ok true
+unfolding switched passes
+a_switch view now arrival here ends over live mac = rw (ends, over, live, mac) refl
+
+pub delivered : (view : View) (now : ℕ) (arrival : Arrival) (source destination : ℕ) (header here : HeaderValue) → IsAdmitted view now arrival source header here
+    → is_last here ≡ true → destination_fits view destination true ≡ true → step_of view now arrival source destination header ≡ Ok (Deliver, here)
+unfolding step_of
+delivered view now arrival source destination header here is last fits =
+    rw (admitted_is view now arrival source header here is, ended_is view arrival source destination here true is.from last fits) refl
+
+pub went_on : (view : View) (now : ℕ) (arrival : Arrival) (source destination : ℕ) (header here : HeaderValue) (has_switched : Bool) (out : IfEntry) → IsAdmitted view now arrival source header here
+    → is_last here ≡ false → destination_fits view destination false ≡ true → switched view now arrival here ≡ Ok has_switched → MayLeave view arrival has_switched (moved_on has_switched here) out
+    → step_of view now arrival source destination header ≡ Ok (goes view out (moved_on has_switched here), gone (goes view out (moved_on has_switched here)) (moved_on has_switched here))
+unfolding step_of
+went_on view now arrival source destination header here has_switched out is last fits switch may =
+    rw (admitted_is view now arrival source header here is, ended_is view arrival source destination here false is.from last fits, switch, left_is view arrival has_switched (moved_on has_switched here) out may) refl
