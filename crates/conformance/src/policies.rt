@@ -35,7 +35,7 @@ fn code_of<T: Drop>(answer: Result<T, PolicyError>) -> u16 {
     match answer {
         Ok(_) => 0,
         Err(PolicyError::Memory) => 1,
-        Err(PolicyError::Fault(fault)) => fault.code(),
+        Err(PolicyError::Refused(fault)) => fault.code(),
     }
 }
 
@@ -348,7 +348,7 @@ fn expect_report(
 ) -> Result<(), Fail> {
     assert!(rt; fault.code() == code && fault.name() == name);
     assert!(rt; fault.to_string(alloc)?.as_str() == sentence);
-    let shown = PolicyError::Fault(fault).to_string(alloc)?;
+    let shown = PolicyError::Refused(fault).to_string(alloc)?;
     assert!(rt; shown.as_str() == sentence);
     Ok(())
 }

@@ -1,6 +1,6 @@
 ghost use Rattle.std.specs.Prelude.{◌≡◌, ◌↔◌, IsTrue, IfOk, Ok};
 ghost use Rattle.std.specs.String.{string_bytes};
-ghost use Rattle.policy_expr.specs.Fault.{Answers};
+ghost use Rattle.refusal.specs.Refusal.{Answers};
 ghost use Rattle.policy_expr.specs.Language.{Lang};
 ghost use Rattle.policy_expr.specs.Printing.{IsSequence, printed};
 ghost use Rattle.policy_expr.specs.Reading.{sequence_at};
