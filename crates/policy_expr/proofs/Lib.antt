@@ -16,3 +16,4 @@ pub mod Counted
 pub mod Spelling
 pub mod Spelled
 pub mod Found
+pub mod Refusing

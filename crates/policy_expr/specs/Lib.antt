@@ -6,6 +6,7 @@ pub mod Language
 pub mod Tokens
 pub mod Grammar
 pub mod Reading
+pub mod Refusing
 pub mod Printing
 pub mod Acl
 pub mod Policy
