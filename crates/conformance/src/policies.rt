@@ -35,7 +35,7 @@ fn code_of<T: Drop>(answer: Result<T, PolicyError>) -> u16 {
     match answer {
         Ok(_) => 0,
         Err(PolicyError::Memory) => 1,
-        Err(PolicyError::Fault(fault)) => fault.code(),
+        Err(PolicyError::Refused(fault)) => fault.code(),
     }
 }
 
@@ -142,25 +142,40 @@ fn times(alloc: Global, text: &str, count: usize) -> Result<String, AllocError> 
     Ok(all)
 }
 
+/// `0* 1-100`, repeated and followed by `1-101`, the whole of it repeated and followed by `1-102`, and
+/// so on.
+fn levels_text(alloc: Global, levels: u64) -> Result<String, AllocError> {
+    let mut text = "0* 1-100".to_string(alloc)?;
+    for level in 0..levels {
+        let last = level % 1000 + 101;
+        text = format!(in alloc; "({text})* 1-{last}")?;
+    }
+    Ok(text)
+}
+
 /// Repetitions inside one another: 64 hops are answered at once.
 #[test]
 fn repeats_repetitions(rt: HostRuntime) -> Result<(), Fail> {
     let alloc = rt.alloc();
     let none: [WalkHop; 0] = [];
     let same = [hop(100, 0, 0); 64];
-    let pluses = format!(in alloc; "0{}", times(alloc, "+", 255)?)?;
+    let signs = times(alloc, "+", 255)?;
+    let pluses = format!(in alloc; "0{signs}")?;
     expect_sequence(&rt, alloc, pluses.as_str(), pluses.as_str(), &same, &none)?;
     let open = times(alloc, "(", 32)?;
-    let stars = format!(in alloc; "{open}1-100{}", times(alloc, ")*", 32)?)?;
-    let printed = format!(in alloc; "1-100{}", times(alloc, "*", 32)?)?;
-    let mut other = same;
+    let closed = times(alloc, ")*", 32)?;
+    let stars = format!(in alloc; "{open}1-100{closed}")?;
+    let signs = times(alloc, "*", 32)?;
+    let printed = format!(in alloc; "1-100{signs}")?;
+    let mut other = [hop(100, 0, 0); 64];
     other[63] = hop(101, 0, 0);
     expect_sequence(&rt, alloc, stars.as_str(), printed.as_str(), &same, &other)?;
-    let mut levels = "0* 1-100".to_string(alloc)?;
-    let mut word = same;
-    for level in 1..33 {
-        levels = format!(in alloc; "({})* 1-{}", levels.as_str(), 100 + level)?;
-        word[31 + level] = hop(100 + level as u64, 0, 0);
+    let levels = levels_text(alloc, 32)?;
+    let mut word = [hop(100, 0, 0); 64];
+    let mut as_number = 100;
+    for place in word.iter_mut().skip(32) {
+        as_number = as_number % 1000 + 1;
+        *place = hop(as_number, 0, 0);
     }
     expect_sequence(&rt, alloc, levels.as_str(), levels.as_str(), &word, &same)
 }
@@ -175,15 +190,16 @@ fn refuses_sequences(rt: HostRuntime) -> Result<(), Fail> {
     let one = [last_hop()];
     let none: [WalkHop; 0] = [];
     let open = times(alloc, "(", 32)?;
-    let deep = format!(in alloc; "{open}0{}", times(alloc, ")", 32)?)?;
+    let closed = times(alloc, ")", 32)?;
+    let deep = format!(in alloc; "{open}0{closed}")?;
     expect_sequence(&rt, alloc, deep.as_str(), "0", &one, &none)?;
     let too_deep = format!(in alloc; "({deep})")?;
     assert!(rt; code_of(Seq::parse(alloc, too_deep.as_str())) == 63);
     let pairs = times(alloc, "1|0 ", 63)?;
     let long = format!(in alloc; "{pairs}0 1")?;
-    let mut walk = [last_hop(); 65];
-    walk[64] = hop(1, 0, 0);
-    expect_sequence(&rt, alloc, long.as_str(), long.as_str(), &walk, &walk[1..])?;
+    let walk = [last_hop(); 65];
+    let short = [last_hop(); 64];
+    expect_sequence(&rt, alloc, long.as_str(), long.as_str(), &walk, &short)?;
     let too_long = format!(in alloc; "{long} 0")?;
     assert!(rt; code_of(Seq::parse(alloc, too_long.as_str())) == 64);
     Ok(())
@@ -332,7 +348,7 @@ fn expect_report(
 ) -> Result<(), Fail> {
     assert!(rt; fault.code() == code && fault.name() == name);
     assert!(rt; fault.to_string(alloc)?.as_str() == sentence);
-    let shown = PolicyError::Fault(fault).to_string(alloc)?;
+    let shown = PolicyError::Refused(fault).to_string(alloc)?;
     assert!(rt; shown.as_str() == sentence);
     Ok(())
 }
@@ -342,9 +358,23 @@ fn expect_report(
 fn reports_sequences(rt: HostRuntime) -> Result<(), Fail> {
     let alloc = rt.alloc();
     let text = "a sequence ends where an item must come";
-    expect_report(&rt, alloc, PolicyFault::UnexpectedEnd, 60, "UnexpectedEnd", text)?;
+    expect_report(
+        &rt,
+        alloc,
+        PolicyFault::UnexpectedEnd,
+        60,
+        "UnexpectedEnd",
+        text,
+    )?;
     let text = "a hop predicate can't be read";
-    expect_report(&rt, alloc, PolicyFault::BadPredicate, 61, "BadPredicate", text)?;
+    expect_report(
+        &rt,
+        alloc,
+        PolicyFault::BadPredicate,
+        61,
+        "BadPredicate",
+        text,
+    )?;
     let text = "the parentheses of a sequence don't match";
     expect_report(&rt, alloc, PolicyFault::Unbalanced, 62, "Unbalanced", text)?;
     let text = "a sequence has at most 32 parentheses open at once";
@@ -360,7 +390,14 @@ fn reports_lists(rt: HostRuntime) -> Result<(), Fail> {
     let text = "the last entry of a list has no predicate";
     expect_report(&rt, alloc, PolicyFault::NoDefault, 65, "NoDefault", text)?;
     let text = "an entry without a predicate is the last of its list";
-    expect_report(&rt, alloc, PolicyFault::AfterDefault, 66, "AfterDefault", text)?;
+    expect_report(
+        &rt,
+        alloc,
+        PolicyFault::AfterDefault,
+        66,
+        "AfterDefault",
+        text,
+    )?;
     let memory = PolicyError::Memory.to_string(alloc)?;
     assert!(rt; memory.as_str() == "out of memory");
     Ok(())

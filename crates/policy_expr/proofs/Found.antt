@@ -12,7 +12,7 @@ use Rattle.policy_expr.specs.Reading.{Level, Reading, new_level, with_left, with
 use Rattle.policy_expr.specs.Grammar.{SpellsSequence}
 use Rattle.policy_expr.specs.Tokens.{tokens}
 use Rattle.policy_expr.proofs.Spelled.{spelled_is_read}
-use Rattle.policy_expr.specs.Predicate.{◌>>=◌}
+use Rattle.refusal.specs.Refusal.{◌>>=◌}
 
 -- the tokens in front spell what an item will follow, and the next ones the alternatives before it
 abbrev IsBefore : ℕ → Option Tree → List Token → Type 0

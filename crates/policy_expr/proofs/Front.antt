@@ -2,7 +2,7 @@
 use Rattle.std.proofs.Common.{List, ◌++◌, Result, Ok}
 use Rattle.policy_expr.specs.declared.acl.AclEntry.{AclEntry}
 use Rattle.policy_expr.specs.declared.fault.PolicyFault.{PolicyFault}
-use Rattle.policy_expr.specs.Predicate.{◌>>=◌}
+use Rattle.refusal.specs.Refusal.{◌>>=◌}
 
 -- what was read so far, and then the rest
 abbrev pub with_front : List AclEntry → Result (List AclEntry) PolicyFault → Result (List AclEntry) PolicyFault

@@ -16,7 +16,8 @@ use Rattle.policy_expr.specs.declared.hop.Interfaces.{Interfaces}
 use Rattle.policy_expr.specs.declared.hop.Interfaces.TheVariants.{Any, Either, Both}
 use Rattle.policy_expr.specs.declared.token.Token.{Token}
 use Rattle.policy_expr.specs.declared.token.Token.TheVariants as signs
-use Rattle.policy_expr.specs.Predicate.{◌>>=◌, hash, one_interface, two_interfaces, as_part, cut_at, interface_at, cut_interfaces_at, interfaces_at, cut_plain_at, plain_at, cut_predicate_at, predicate_at}
+use Rattle.refusal.specs.Refusal.{◌>>=◌}
+use Rattle.policy_expr.specs.Predicate.{hash, one_interface, two_interfaces, as_part, cut_at, interface_at, cut_interfaces_at, interfaces_at, cut_plain_at, plain_at, cut_predicate_at, predicate_at}
 use Rattle.policy_expr.specs.Tokens.{is_mark, pieces, token_of, read_token, sign_token, tokens}
 use Rattle.policy_expr.specs.Tree.{Tree, hop, followed, either, optional, repeated, once_or_more}
 use Rattle.policy_expr.specs.Reading.{Level, Reading, new_level, wants, has, with_left, with_before, whole, item_begun, item_followed, level_closed, took, took_at, ended, ended_at, read_on, tree_at, sequence_at, within_size, node_count}

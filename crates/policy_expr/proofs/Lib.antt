@@ -7,6 +7,7 @@ pub mod Cutting
 pub mod Front
 pub mod Blanks
 pub mod Deciding
+pub mod Checked
 pub mod Again
 pub mod Texts
 pub mod Printed
@@ -15,3 +16,4 @@ pub mod Counted
 pub mod Spelling
 pub mod Spelled
 pub mod Found
+pub mod Refusing

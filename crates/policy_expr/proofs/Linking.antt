@@ -1,5 +1,5 @@
 -- Letting each of some predicates be followed by each of others.
-use Rattle.std.proofs.Common.{◌≡◌, ◌≢◌, ◌⊎◌, ◌↔◌, ℕ, zero, suc, ◌+◌, ◌<◌, List, [], ◌∷◌, ◌++◌, length, take, drop, Some, None, slice_get, set, inl, inr, sym, ◌∙◌, ap, refl, subst, arith}
+use Rattle.std.proofs.Common.{◌≡◌, ◌≢◌, ◌⊎◌, ◌↔◌, ℕ, zero, suc, ◌<◌, List, [], ◌∷◌, ◌++◌, length, take, drop, Some, slice_get, set, inl, inr, sym, ◌∙◌, ap, refl, subst, arith}
 use Rattle.std.proofs.lemmas.Bool.Decides.{eqb_tells}
 use Rattle.std.proofs.Math.ListN.{length-set}
 use Rattle.std.proofs.lemmas.List.{append-nil}
@@ -82,12 +82,18 @@ module _ (old : List Line) (last first : ℕ) where
     step_preds : (k : ℕ) (pred : HopPred) → HasPred new k pred ↔ HasPred now k pred
     step_preds k pred = elim (eqb_tells k number) [
       | inl same ↦ (
-        λ h. (line, ap (slice_get now) same.1 ∙ there,
-            (let e = one_line h.0 written new number (sym (ap (slice_get new) same.1) ∙ h.1) at_number in
-            ap (λ (l : Line). l.pred) (sym is_written) ∙ ap (λ (l : Line). l.pred) (sym e) ∙ h.2)),
-        λ h. (written, ap (slice_get new) same.1 ∙ at_number,
-            (let e = one_line h.0 line now number (sym (ap (slice_get now) same.1) ∙ h.1) there in
-            ap (λ (l : Line). l.pred) is_written ∙ ap (λ (l : Line). l.pred) (sym e) ∙ h.2)),
+        λ h. (
+          line,
+          ap (slice_get now) same.1 ∙ there,
+          (let e = one_line h.0 written new number (sym (ap (slice_get new) same.1) ∙ h.1) at_number in
+              ap (λ (l : Line). l.pred) (sym is_written) ∙ ap (λ (l : Line). l.pred) (sym e) ∙ h.2),
+        ),
+        λ h. (
+          written,
+          ap (slice_get new) same.1 ∙ at_number,
+          (let e = one_line h.0 line now number (sym (ap (slice_get now) same.1) ∙ h.1) there in
+              ap (λ (l : Line). l.pred) is_written ∙ ap (λ (l : Line). l.pred) (sym e) ∙ h.2),
+        ),
       )
       | inr apart ↦ (
         λ h. (h.0, sym (elsewhere k apart.1) ∙ h.1, h.2),
@@ -104,11 +110,15 @@ module _ (old : List Line) (last first : ℕ) where
               | inl before ↦ inl (line, ap (slice_get now) same.1 ∙ there, before)
               | inr linked ↦ inr (same.1, linked)
             ]),
-        λ h. (written, ap (slice_get new) same.1 ∙ at_number, subst (λ (l : Line). Has l.next k) (sym is_written) ((is_more k).1 (elim h [
-          | inl before ↦ inl (let e = one_line before.0 line now number (sym (ap (slice_get now) same.1) ∙ before.1) there in
-              subst (λ (l : Line). Has l.next k) e before.2)
-          | inr linked ↦ inr linked.1
-        ]))),
+        λ h. (
+          written,
+          ap (slice_get new) same.1 ∙ at_number,
+          subst (λ (l : Line). Has l.next k) (sym is_written) ((is_more k).1 (elim h [
+            | inl before ↦ inl (let e = one_line before.0 line now number (sym (ap (slice_get now) same.1) ∙ before.1) there in
+                subst (λ (l : Line). Has l.next k) e before.2)
+            | inr linked ↦ inr linked.1
+          ])),
+        ),
       )
       | inr apart ↦ (
         λ h. inl (h.0, sym (elsewhere j apart.1) ∙ h.1, h.2),

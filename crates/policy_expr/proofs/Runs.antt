@@ -1,6 +1,6 @@
 -- The words of a sequence are those that go from one predicate to the next, by which of them may come first, last and
 -- one behind the other.
-use Rattle.std.proofs.Common.{◌≡◌, ◌⊎◌, ◌↔◌, ℕ, ◌+◌, ◌<◌, ◌≤◌, Bool, true, false, ◌||◌, ◌&&◌, List, [], ◌∷◌, ◌++◌, length, inl, inr, sym, ◌∙◌, ap, refl, subst, arith}
+use Rattle.std.proofs.Common.{◌≡◌, ◌⊎◌, ℕ, ◌+◌, ◌<◌, ◌≤◌, Bool, true, false, ◌||◌, ◌&&◌, List, [], ◌∷◌, ◌++◌, length, inl, inr, sym, ap, refl, subst, arith}
 use Rattle.std.specs.List.{AllByRecursion}
 use Rattle.policy_expr.specs.declared.hop.HopPred.{HopPred}
 use Rattle.policy_expr.specs.declared.hop.WalkHop.{WalkHop}
@@ -253,25 +253,45 @@ module _ (a b : Tree) (from : ℕ) where
   either_of_word : (w : List WalkHop) → IsWord (either a b) from w → IsWord a from w ⊎ IsWord b (from + pred_count a) w
   either_of_word [] word = or_either (has_empty a) (has_empty b) word
   either_of_word (h ∷ w) word = elim word.1 [
-    | inl one ↦ (let i = first_in a from word.0 one in inl (word.0, one, (elim word.2.1 [
+    | inl one ↦ (let i = first_in a from word.0 one in inl (
+      word.0,
+      one,
+      (elim word.2.1 [
         | inl mine ↦ (word.2.0, mine, word.2.2)
         | inr yours ↦ absurd (apart a b from word.0 i (names_in b (from + pred_count a) word.0 word.2.0 yours))
-      ]), one_ends word.0 w i word.3))
-    | inr other ↦ (let i = first_in b (from + pred_count a) word.0 other in inr (word.0, other, (elim word.2.1 [
+      ]),
+      one_ends word.0 w i word.3,
+    ))
+    | inr other ↦ (let i = first_in b (from + pred_count a) word.0 other in inr (
+      word.0,
+      other,
+      (elim word.2.1 [
         | inl yours ↦ absurd (apart a b from word.0 (names_in a from word.0 word.2.0 yours) i)
         | inr mine ↦ (word.2.0, mine, word.2.2)
-      ]), other_ends word.0 w i word.3))
+      ]),
+      other_ends word.0 w i word.3,
+    ))
   ]
 
   word_of_one : (w : List WalkHop) → IsWord a from w → IsWord (either a b) from w
   word_of_one [] word = or_first (has_empty a) (has_empty b) word
-  word_of_one (h ∷ w) word = (word.0, inl word.1, (word.2.0, inl word.2.1, word.2.2), after_map _ _ _ _ _ _ (λ _. Unit {0})
-      (λ m _ last. inl last) (λ m j _ next. (inl next, tt)) (λ j g _ meets. (meets.0, inl meets.1, meets.2)) word.0 w tt word.3)
+  word_of_one (h ∷ w) word = (
+    word.0,
+    inl word.1,
+    (word.2.0, inl word.2.1, word.2.2),
+    after_map _ _ _ _ _ _ (λ _. Unit {0})
+        (λ m _ last. inl last) (λ m j _ next. (inl next, tt)) (λ j g _ meets. (meets.0, inl meets.1, meets.2)) word.0 w tt word.3,
+  )
 
   word_of_other : (w : List WalkHop) → IsWord b (from + pred_count a) w → IsWord (either a b) from w
   word_of_other [] word = or_second (has_empty a) (has_empty b) word
-  word_of_other (h ∷ w) word = (word.0, inr word.1, (word.2.0, inr word.2.1, word.2.2), after_map _ _ _ _ _ _ (λ _. Unit {0})
-      (λ m _ last. inr last) (λ m j _ next. (inr next, tt)) (λ j g _ meets. (meets.0, inr meets.1, meets.2)) word.0 w tt word.3)
+  word_of_other (h ∷ w) word = (
+    word.0,
+    inr word.1,
+    (word.2.0, inr word.2.1, word.2.2),
+    after_map _ _ _ _ _ _ (λ _. Unit {0})
+        (λ m _ last. inr last) (λ m j _ next. (inr next, tt)) (λ j g _ meets. (meets.0, inr meets.1, meets.2)) word.0 w tt word.3,
+  )
 
 -- ---- one part again and again
 

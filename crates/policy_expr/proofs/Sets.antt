@@ -1,9 +1,9 @@
 -- Sets of predicates as the bits of a number.
-use Rattle.std.proofs.Common.{◌≡◌, ◌≢◌, ◌⊎◌, ◌↔◌, ℕ, zero, suc, ◌+◌, ◌-◌, ◌*◌, ◌/◌, ◌%◌, ◌^◌, ◌<◌, ◌≤◌, max, min, inl, inr, sym, ◌∙◌, ap, subst, arith, bit_and, bit_or}
+use Rattle.std.proofs.Common.{◌≡◌, ◌≢◌, ◌⊎◌, ◌↔◌, ℕ, ◌+◌, ◌-◌, ◌*◌, ◌/◌, ◌%◌, ◌^◌, ◌<◌, max, min, inl, inr, sym, ◌∙◌, ap, subst, arith, bit_and, bit_or}
 use Rattle.std.proofs.lemmas.Bool.Decides.{eqb_tells}
 use Rattle.std.specs.Int.{bit_at, w128, trailing_zeros}
 use Rattle.std.proofs.lemmas.Nat.{and_le_r}
-use Rattle.std.proofs.lemmas.Nat.Bits.{bit_at_or, bit_at_and, bit_at-pow_same, bit_at-pow_other, bit_at-lt, bit_at-zero, bit_at-trailing_zeros, bit_at_cat_low, bit_at_cat_high, bit_at_ones_above, same_from_bits_below, same_from_bits}
+use Rattle.std.proofs.lemmas.Nat.Bits.{bit_at_or, bit_at_and, bit_at-pow_same, bit_at-pow_other, bit_at-lt, bit_at-zero, bit_at-trailing_zeros, bit_at_cat_low, bit_at_cat_high, bit_at_ones_above, same_from_bits_below}
 use Rattle.std.proofs.lemmas.Nat.{pow_pos}
 use Rattle.std.proofs.Math.Nat.{mod-lt}
 use Rattle.std.proofs.Math.Pow.{pow-lt, ones_lt}
@@ -64,10 +64,10 @@ low_digits : (n t : ℕ) → bit_at n t ≡ 1 → ((i : ℕ) → i < t → bit_a
 low_digits n t one none =
     same_from_bits_below (t + 1) (n % 2 ^ (t + 1)) (2 ^ t) (mod-lt n (pow_pos (t + 1))) (pow-lt (omega arith))
     (λ i h. sym (bit_at_cat_low (n / 2 ^ (t + 1)) (t + 1) (n % 2 ^ (t + 1)) i h) ∙ ap (λ m. bit_at m i) (quotient_and_rest n (2 ^ (t + 1)))
-        ∙ elim (eqb_tells i t) [
-          | inl same ↦ subst (λ j. bit_at n j ≡ bit_at (2 ^ t) j) (sym same.1) (one ∙ sym (bit_at-pow_same t))
-          | inr other ↦ none i (let ne = other.1 in omega (arith, ne)) ∙ sym (bit_at-pow_other t i other.1)
-        ])
+    ∙ elim (eqb_tells i t) [
+      | inl same ↦ subst (λ j. bit_at n j ≡ bit_at (2 ^ t) j) (sym same.1) (one ∙ sym (bit_at-pow_same t))
+      | inr other ↦ none i (let ne = other.1 in omega (arith, ne)) ∙ sym (bit_at-pow_other t i other.1)
+    ])
 
 module _ (n t : ℕ) (one : bit_at n t ≡ 1) (none : (i : ℕ) → i < t → bit_at n i ≡ 0) where
   -- the number, and one less
@@ -96,16 +96,21 @@ split_bits n number is_first =
     record {
       there = one;
       rest = λ k. (
-        λ has. let both = (and_has n (n - 1) k).0 has in
-            (both.0, λ same. let zero_there : bit_at (n - 1) k ≡ 0 = subst (λ j. bit_at (n - 1) j ≡ 0) (sym same) (cleared n number one none) in
-                let f : 1 ≡ 0 = sym both.1 ∙ zero_there in absurd (omega arith)),
-        λ both. (and_has n (n - 1) k).1 (both.0, elim (cases_order k number) [
-          | inl same ↦ absurd (both.1 same)
-          | inr apart ↦ elim apart [
-            | inl below ↦ absurd (is_first.least k below both.0)
-            | inr above ↦ higher n number one none k above ∙ both.0
-          ]
-        ]),
+        λ has. let both = (and_has n (n - 1) k).0 has in (
+          both.0,
+          λ same. let zero_there : bit_at (n - 1) k ≡ 0 = subst (λ j. bit_at (n - 1) j ≡ 0) (sym same) (cleared n number one none) in
+              let f : 1 ≡ 0 = sym both.1 ∙ zero_there in absurd (omega arith),
+        ),
+        λ both. (and_has n (n - 1) k).1 (
+          both.0,
+          elim (cases_order k number) [
+            | inl same ↦ absurd (both.1 same)
+            | inr apart ↦ elim apart [
+              | inl below ↦ absurd (is_first.least k below both.0)
+              | inr above ↦ higher n number one none k above ∙ both.0
+            ]
+          ],
+        ),
       );
       smaller = let some : 0 < n = omega (arith, whole n number one none, pow_pos number) in omega (arith, and_le_r n (n - 1));
     }

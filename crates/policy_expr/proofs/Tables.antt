@@ -1,5 +1,5 @@
 -- Tables are built part by part, and the words of a tree's table are the words of the tree.
-use Rattle.std.proofs.Common.{◌≡◌, ◌≢◌, ◌⊎◌, ◌↔◌, ℕ, zero, suc, ◌+◌, ◌<◌, ◌≤◌, Bool, true, false, ◌&&◌, ◌||◌, List, [], ◌∷◌, ◌++◌, length, Some, None, slice_get, inl, inr, sym, ◌∙◌, ap, refl, subst, arith, length-append}
+use Rattle.std.proofs.Common.{◌≡◌, ◌⊎◌, ◌↔◌, ℕ, zero, suc, ◌+◌, ◌<◌, ◌≤◌, Bool, true, false, ◌&&◌, ◌||◌, List, [], ◌∷◌, ◌++◌, length, Some, None, slice_get, inl, inr, sym, ◌∙◌, ap, refl, subst, arith, length-append}
 use Rattle.policy_expr.specs.declared.hop.HopPred.{HopPred}
 use Rattle.policy_expr.specs.declared.hop.WalkHop.{WalkHop}
 use Rattle.policy_expr.specs.declared.ends.Ends.{Ends}
@@ -9,8 +9,8 @@ use Rattle.policy_expr.specs.Language.{Lang}
 use Rattle.policy_expr.specs.Reading.{node_count}
 use Rattle.policy_expr.specs.Sets.{Has}
 use Rattle.policy_expr.specs.Tree.{Tree, hop, followed, either, optional, repeated, once_or_more}
-use Rattle.policy_expr.specs.Table.{pred_count, has_empty, Names, ComesFirst, ComesLast, Follows, HasPred, MayFollow, MeetsAt, Adds, IsTableOf, Links, IsThen, IsEither, IsWithin, After, Accepts}
-use Rattle.policy_expr.proofs.Runs.{In, names_in, first_in, last_in, follows_in, after_map, Meets, Ends as Finishes, IsWord, word_of_lang, lang_of_word}
+use Rattle.policy_expr.specs.Table.{pred_count, has_empty, Names, ComesFirst, ComesLast, Follows, HasPred, MayFollow, MeetsAt, Adds, IsTableOf, Links, IsThen, IsEither, IsWithin, Accepts}
+use Rattle.policy_expr.proofs.Runs.{first_in, last_in, follows_in, after_map, Meets, IsWord, word_of_lang, lang_of_word}
 
 -- ---- one line more
 
@@ -46,8 +46,11 @@ module _ (pred : HopPred) (old new : List Line) (only next : ℕ) (line : Line)
     ],
     λ either. elim either [
       | inl before ↦ (before.0, get_old old line before.0 k before.1, before.2)
-      | inr now ↦ (line, subst (λ (n : ℕ). slice_get (old ++ line ∷ []) n ≡ Some line) (sym now.0) (get_new old line),
-          ap (λ (l : Line). l.pred) is_line ∙ sym now.1)
+      | inr now ↦ (
+        line,
+        subst (λ (n : ℕ). slice_get (old ++ line ∷ []) n ≡ Some line) (sym now.0) (get_new old line),
+        ap (λ (l : Line). l.pred) is_line ∙ sym now.1,
+      )
     ],
   )
 
@@ -156,7 +159,12 @@ adds_either a b old mid late x y z front back ends =
 
 pub adds_optional : (a : Tree) (old new : List Line) (x z : Ends) → Adds a old new x → z ≡ record x { has_empty = true } → Adds (optional a) old new z
 adds_optional a old new x z item is = rw is (record {
-  count = item.count; preds = item.preds; next = item.next; first = item.first; last = item.last; empty = refl;
+  count = item.count;
+  preds = item.preds;
+  next = item.next;
+  first = item.first;
+  last = item.last;
+  empty = refl;
 })
 
 -- the predicates that come last are among the lines
@@ -173,12 +181,22 @@ module _ (a : Tree) (old mid new : List Line) (x : Ends) (item : Adds a old mid 
 
   pub adds_repeated : (z : Ends) → z ≡ record x { has_empty = true } → Adds (repeated a) old new z
   adds_repeated z is = rw is (record {
-    count = links.count ∙ item.count; preds = again_preds; next = again_next; first = item.first; last = item.last; empty = refl;
+    count = links.count ∙ item.count;
+    preds = again_preds;
+    next = again_next;
+    first = item.first;
+    last = item.last;
+    empty = refl;
   })
 
   pub adds_once_or_more : Adds (once_or_more a) old new x
   adds_once_or_more = record {
-    count = links.count ∙ item.count; preds = again_preds; next = again_next; first = item.first; last = item.last; empty = item.empty;
+    count = links.count ∙ item.count;
+    preds = again_preds;
+    next = again_next;
+    first = item.first;
+    last = item.last;
+    empty = item.empty;
   }
 
 -- ---- the table of a tree
@@ -195,10 +213,14 @@ module _ (t : Tree) (lines : List Line) (ends : Ends) (table : IsTableOf t lines
 
   meets : (k : ℕ) (h : WalkHop) → MeetsAt lines k h ↔ Meets t 0 k h
   meets k h = (
-    λ m. (m.0.pred, (elim ((table.preds k m.0.pred).0 (m.0, m.1, refl)) [
-      | inl before ↦ absurd (let e : None ≡ Some before.0 = before.1 in cc)
-      | inr now ↦ now
-    ]), m.2),
+    λ m. (
+      m.0.pred,
+      (elim ((table.preds k m.0.pred).0 (m.0, m.1, refl)) [
+        | inl before ↦ absurd (let e : None ≡ Some before.0 = before.1 in cc)
+        | inr now ↦ now
+      ]),
+      m.2,
+    ),
     λ m. let has = (table.preds k m.0).1 (inr m.1) in (has.0, has.1, subst (λ (p : HopPred). Matches p h) (sym has.2) m.2),
   )
 
@@ -211,10 +233,20 @@ module _ (t : Tree) (lines : List Line) (ends : Ends) (table : IsTableOf t lines
   accepts_is_word : (w : List WalkHop) → Accepts lines ends w ↔ IsWord t 0 w
   accepts_is_word [] = same_test _ _ table.empty
   accepts_is_word (h ∷ w) = (
-    λ a. (a.0, (table.first a.0).0 a.1, (meets a.0 h).0 a.2, after_map _ _ _ _ _ _ (λ _. Unit {0})
-        (λ k _ last. (table.last k).0 last) (λ k j _ next. ((steps k j).0 next, tt)) (λ j g _ m. (meets j g).0 m) a.0 w tt a.3),
-    λ a. (a.0, (table.first a.0).1 a.1, (meets a.0 h).1 a.2, after_map _ _ _ _ _ _ (λ _. Unit {0})
-        (λ k _ last. (table.last k).1 last) (λ k j _ next. ((steps k j).1 next, tt)) (λ j g _ m. (meets j g).1 m) a.0 w tt a.3),
+    λ a. (
+      a.0,
+      (table.first a.0).0 a.1,
+      (meets a.0 h).0 a.2,
+      after_map _ _ _ _ _ _ (λ _. Unit {0})
+          (λ k _ last. (table.last k).0 last) (λ k j _ next. ((steps k j).0 next, tt)) (λ j g _ m. (meets j g).0 m) a.0 w tt a.3,
+    ),
+    λ a. (
+      a.0,
+      (table.first a.0).1 a.1,
+      (meets a.0 h).1 a.2,
+      after_map _ _ _ _ _ _ (λ _. Unit {0})
+          (λ k _ last. (table.last k).1 last) (λ k j _ next. ((steps k j).1 next, tt)) (λ j g _ m. (meets j g).1 m) a.0 w tt a.3,
+    ),
   )
 
   -- the words of a tree's table are the tree's

@@ -9,7 +9,8 @@ use Rattle.policy_expr.specs.declared.hop.WalkHop.{WalkHop}
 use Rattle.policy_expr.specs.declared.acl.AclEntry.{AclEntry}
 use Rattle.policy_expr.specs.declared.acl.Denied.{Denied}
 use Rattle.policy_expr.specs.Hop.{Matches}
-use Rattle.policy_expr.specs.Predicate.{◌>>=◌, predicate_at}
+use Rattle.refusal.specs.Refusal.{◌>>=◌, unless}
+use Rattle.policy_expr.specs.Predicate.{predicate_at}
 use Rattle.policy_expr.specs.Next.{after_blanks}
 
 -- the entry matches the hop, as a bare one matches each
@@ -109,10 +110,6 @@ acl_fault entries =
 -- what is never false of an access control list
 abbrev pub IsAcl : List AclEntry → Type 0
 IsAcl entries = acl_fault entries ≡ None
-
-abbrev pub unless : Option PolicyFault → List AclEntry → Result (List AclEntry) PolicyFault
-unless None entries = Ok entries
-unless (Some fault) entries = Err fault
 
 -- the access control list of texts
 abbrev pub acl_at : List (List ℕ) → Result (List AclEntry) PolicyFault

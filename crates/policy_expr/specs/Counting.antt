@@ -1,6 +1,6 @@
 -- Reading a sequence without its tree: the parentheses that are open, whether an item stands at the end, and the nodes,
 -- which are counted up to 257.
-use Rattle.std.specs.Prelude.{◌≡◌, ℕ, ◌+◌, ◌-◌, ◌≤◌, ◌==◌, true, false, Bool, nat_lt, if◌then◌else◌, List, Result, Ok, Err}
+use Rattle.std.specs.Prelude.{◌≡◌, ℕ, ◌+◌, ◌-◌, ◌≤◌, ◌==◌, true, false, Bool, nat_lt, if◌then◌else◌, List, Result, Ok, Err, IsOk}
 use Rattle.policy_expr.specs.declared.counting.Counter.{Counter}
 use Rattle.policy_expr.specs.declared.fault.PolicyFault.{PolicyFault}
 use Rattle.policy_expr.specs.declared.fault.PolicyFault.TheVariants as faults
@@ -38,6 +38,11 @@ count_at depth false nodes token = begun_count depth nodes token
 -- the counter with one token more
 unfoldable pub counted : Counter → Token → Result Counter PolicyFault
 counted c token = count_at c.depth c.has_item c.nodes token
+
+-- what a call that judges a text answers: that something is read of it, or the refusal
+abbrev pub Judges : {A : Type 0} → Result (Unit {0}) PolicyFault → Result A PolicyFault → Type 0
+Judges (Ok done) wanted = IsOk wanted
+Judges (Err fault) wanted = wanted ≡ Err fault
 
 -- the first refusal of a text, or its tree has at most 256 nodes
 abbrev pub Tells : Result (Unit {0}) PolicyFault → List ℕ → Type 0

@@ -1,7 +1,5 @@
--- The refusals of policies, as lines of text report them, and what a call that takes memory answers.
-use Rattle.std.specs.Prelude.{◌≡◌, ℕ, List, codes, Result, Ok, Err}
-use Rattle.policy_expr.specs.declared.fault.PolicyError.{PolicyError}
-use Rattle.policy_expr.specs.declared.fault.PolicyError.TheVariants as errors
+-- The refusals of policies, as lines of text report them.
+use Rattle.std.specs.Prelude.{ℕ, List, codes}
 use Rattle.policy_expr.specs.declared.fault.PolicyFault.{PolicyFault}
 use Rattle.policy_expr.specs.declared.fault.PolicyFault.TheVariants.{UnexpectedEnd, BadPredicate, Unbalanced, TooDeep, TooLarge, NoDefault, AfterDefault}
 
@@ -24,13 +22,3 @@ name_of TooDeep = codes "TooDeep"
 name_of TooLarge = codes "TooLarge"
 name_of NoDefault = codes "NoDefault"
 name_of AfterDefault = codes "AfterDefault"
-
--- an error that fits what was to come: the refusal, or want of memory, of which nothing more is said
-abbrev pub Fails : {A : Type 0} → PolicyError → Result A PolicyFault → Type 0
-Fails errors.Memory wanted = Unit {0}
-Fails (errors.Fault f) wanted = wanted ≡ Err f
-
--- what a call that takes memory answers, seen by view, is the value or the refusal that was to come
-abbrev pub Answers : {X Y : Type 0} → (X → Y) → Result X PolicyError → Result Y PolicyFault → Type 0
-Answers view (Ok x) wanted = wanted ≡ Ok (view x)
-Answers view (Err e) wanted = Fails e wanted

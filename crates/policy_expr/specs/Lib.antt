@@ -6,12 +6,14 @@ pub mod Language
 pub mod Tokens
 pub mod Grammar
 pub mod Reading
+pub mod Refusing
 pub mod Printing
 pub mod Acl
 pub mod Policy
 pub mod Next
 pub mod Views
 pub mod Counting
+pub mod Checking
 pub mod Sets
 pub mod Table
 pub mod Code

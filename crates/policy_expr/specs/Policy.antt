@@ -4,7 +4,7 @@ use Rattle.policy_expr.specs.declared.fault.PolicyFault.{PolicyFault}
 use Rattle.policy_expr.specs.declared.hop.WalkHop.{WalkHop}
 use Rattle.policy_expr.specs.declared.acl.AclEntry.{AclEntry}
 use Rattle.policy_expr.specs.declared.acl.Denied.{Denied}
-use Rattle.policy_expr.specs.Predicate.{◌>>=◌}
+use Rattle.refusal.specs.Refusal.{◌>>=◌}
 use Rattle.policy_expr.specs.Tree.{Tree}
 use Rattle.policy_expr.specs.Language.{Lang}
 use Rattle.policy_expr.specs.Next.{after_blanks}

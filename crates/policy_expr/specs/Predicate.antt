@@ -3,6 +3,7 @@
 use Rattle.std.specs.Prelude.{◌≡◌, ℕ, ◌*◌, ◌^◌, ◌==◌, ◌&&◌, nat_lt, if◌then◌else◌, List, ◌∷◌, ◌++◌, length, Option, Some, None, Result, Ok, Err}
 use Rattle.std.specs.List.{position_or_len, before_first, after_first}
 use Rattle.std.specs.Borrow.{Bor}
+use Rattle.refusal.specs.Refusal.{◌>>=◌}
 use Rattle.isd_as.specs.Address.{Spells, SpellsIsd, dash}
 use Rattle.isd_as.specs.Reading.{isd_at, address_at}
 use Rattle.isd_as.specs.declared.fault.AddrFault.{AddrFault}
@@ -38,12 +39,6 @@ pub data SpellsPredicate : List ℕ → HopPred → Type 0 where
   address : (text : List ℕ) (n : ℕ) → Spells text n → SpellsPredicate text (record { ia = n; interfaces = Any })
   with_interfaces : (front back : List ℕ) (n : ℕ) (ways : Interfaces) → Spells front n → SpellsInterfaces back ways
       → SpellsPredicate (front ++ (hash ∷ back)) (record { ia = n; interfaces = ways })
-
--- one step after another, up to the first refusal
-infixl 10 ◌>>=◌
-abbrev pub ◌>>=◌ : {A B : Type 0} → Result A PolicyFault → (A → Result B PolicyFault) → Result B PolicyFault
-(Ok x) >>= f = f x
-(Err e) >>= f = Err e
 
 -- what an address or a number is read as, any refusal being BadPredicate
 abbrev pub as_part : {A : Type 0} → Result A AddrFault → Result A PolicyFault

@@ -1,10 +1,10 @@
 ghost use Rattle.std.specs.Prelude.{◌≡◌, ◌↔◌, IfOk, IfErr, IsOk};
-ghost use Rattle.policy_expr.specs.Fault.{Answers};
-ghost use Rattle.policy_expr.specs.Acl.{AllowsWalk, IsAcl, IsDenial, acl_at};
+ghost use Rattle.refusal.specs.Refusal.{Answers};
+ghost use Rattle.policy_expr.specs.Acl.{AllowsWalk, IsAcl, IsDenial, acl_at, is_bare};
 
-use crate::acl_rules::{denial_of, fault_of_entries};
+use crate::acl_rules::denial_of;
 use crate::acl_text::AclText;
-use crate::entry::read_entries;
+use crate::entry::{check_acl, read_entries};
 use crate::fault::{PolicyError, PolicyFault};
 use crate::hop::{HopPred, WalkHop};
 use std::alloc::{AllocError, Allocator};
@@ -17,6 +17,15 @@ pub struct AclEntry {
     pub allows: bool,
     /// Which hops it matches, or `None` where it is bare and matches each.
     pub pred: Option<HopPred>,
+}
+
+impl AclEntry {
+    /// Whether it has no predicate.
+    pub(crate) fn is_bare(&self) -> bool
+        ensures { result ≡ is_bare self.now }
+    {
+        self.pred.is_none()
+    }
 }
 
 /// The first hop of a walk that is denied, and the entry that decides it, each by its place.
@@ -59,11 +68,9 @@ impl<A: Allocator + Clone> Acl<A> {
     pub fn parse(alloc: A, text: &AclText) -> Result<Acl<A>, PolicyError>
         ensures { Answers (λ acl. acl) result (acl_at text.now) }
     {
+        check_acl(text)?;
         let entries = read_entries(alloc, text.texts())?;
-        match fault_of_entries(&entries) {
-            Some(fault) => Err(PolicyError::Fault(fault)),
-            None => Ok(Acl { entries }),
-        }
+        Ok(Acl { entries })
     }
 
     /// The same list under another allocator.

@@ -1,21 +1,67 @@
-ghost use Rattle.std.specs.Prelude.{◌≡◌, map, reverse, true, false};
+ghost use Rattle.std.specs.Prelude.{◌≡◌, length, map, reverse, true, false};
 ghost use Rattle.std.specs.String.{string_bytes};
-ghost use Rattle.policy_expr.specs.Fault.{Answers};
+ghost use Rattle.refusal.specs.Refusal.{Reads};
 ghost use Rattle.policy_expr.specs.Next.{after_blanks};
-ghost use Rattle.policy_expr.specs.Acl.{entries_at, entry_at, entry_of, says_nothing, signed_at, trimmed};
+ghost use Rattle.policy_expr.specs.Counting.{Judges};
+ghost use Rattle.policy_expr.specs.Checking.{bare_at, check_on};
+ghost use Rattle.policy_expr.specs.Acl.{acl_at, entries_at, entry_at, entry_of, says_nothing, signed_at, trimmed};
 
 use crate::acl::AclEntry;
+use crate::acl_text::AclText;
 use crate::fault::{PolicyError, PolicyFault};
 use crate::hop::{HopPred, Interfaces};
 use crate::token::is_blank_byte;
 use std::alloc::Allocator;
+
+/// How many entries a list may have.
+const MAX_ENTRIES: usize = 256;
+
+/// The first refusal of a list's texts. Takes no memory.
+pub(crate) fn check_acl(text: &AclText) -> Result<(), PolicyFault>
+    ensures { Judges result (acl_at text.now) }
+{
+    check_entries(text.texts())
+}
+
+/// The first refusal of these texts as a list.
+fn check_entries(texts: &[String]) -> Result<(), PolicyFault>
+    ensures { result ≡ check_on (length texts.now) false false (map string_bytes texts.now) }
+{
+    let mut is_last_bare = false;
+    let mut is_other_bare = false;
+    for text in texts {
+        let is_bare = is_text_bare(text.as_str())?;
+        is_other_bare = is_other_bare || is_last_bare;
+        is_last_bare = is_bare;
+    }
+    if texts.len() > MAX_ENTRIES {
+        return Err(PolicyFault::TooLarge);
+    }
+    if !is_last_bare {
+        return Err(PolicyFault::NoDefault);
+    }
+    if is_other_bare {
+        return Err(PolicyFault::AfterDefault);
+    }
+    Ok(())
+}
+
+/// Whether the entry of a text is bare.
+fn is_text_bare(text: &str) -> Result<bool, PolicyFault>
+    ensures { result ≡ bare_at text.now }
+{
+    match read_entry(text) {
+        Ok(entry) => Ok(entry.is_bare()),
+        Err(fault) => Err(fault),
+    }
+}
 
 /// The entries of texts, or the refusal of the first that can't be read.
 pub(crate) fn read_entries<A: Allocator>(
     alloc: A,
     texts: &[String],
 ) -> Result<Vec<AclEntry, A>, PolicyError>
-    ensures { Answers (λ entries. entries.items) result (entries_at (map string_bytes texts.now)) }
+    ensures { Reads (λ entries. entries.items) result (entries_at (map string_bytes texts.now)) }
 {
     let mut entries = Vec::new(alloc);
     for text in texts {

@@ -1,10 +1,10 @@
 ghost use Rattle.std.specs.Prelude.{◌≡◌};
 ghost use Rattle.policy_expr.specs.Fault.{code_of, name_of};
-ghost use Rattle.policy_expr.specs.declared.fault.PolicyError.TheVariants.{Memory, Fault};
+ghost use Rattle.refusal.specs.declared.fault.OrMemory.TheVariants.{Refused};
 ghost use Rattle.policy_expr.specs.declared.fault.PolicyFault.TheVariants.{BadPredicate};
 
 use isd_as::AddrFault;
-use std::alloc::{AllocError, AllocFailed};
+use refusal::OrMemory;
 use thiserror::Error;
 
 /// Why a text is no policy.
@@ -74,36 +74,12 @@ impl From<AddrFault> for PolicyFault {
 }
 
 /// Why a call that takes memory gave no policy: want of memory, or a refusal.
-#[derive(Clone, Copy, Debug, PartialEq, Eq, Error)]
-pub enum PolicyError {
-    /// Memory ran out.
-    #[error("out of memory")]
-    Memory,
-    /// The text is no policy.
-    #[error("{0}")]
-    Fault(PolicyFault),
-}
+pub type PolicyError = OrMemory<PolicyFault>;
 
-impl From<PolicyFault> for PolicyError {
-    ghost from_gives = { λ f e. e ≡ Fault f };
+impl From<PolicyFault> for OrMemory<PolicyFault> {
+    ghost from_gives = { λ f e. e ≡ Refused f };
 
-    fn from(fault: PolicyFault) -> PolicyError {
-        PolicyError::Fault(fault)
-    }
-}
-
-impl From<AllocError> for PolicyError {
-    ghost from_gives = { λ _ e. e ≡ Memory };
-
-    fn from(_error: AllocError) -> PolicyError {
-        PolicyError::Memory
-    }
-}
-
-impl<T: Drop> From<AllocFailed<T>> for PolicyError {
-    ghost from_gives = { λ _ e. e ≡ Memory };
-
-    fn from(_error: AllocFailed<T>) -> PolicyError {
-        PolicyError::Memory
+    fn from(fault: PolicyFault) -> OrMemory<PolicyFault> {
+        OrMemory::Refused(fault)
     }
 }

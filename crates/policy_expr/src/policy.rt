@@ -1,11 +1,14 @@
 ghost use Rattle.std.specs.Prelude.{◌≡◌, ◌↔◌, length, option_map, IsOk, IsTrue, IfErr, IfOk};
-ghost use Rattle.policy_expr.specs.Fault.{Answers};
+ghost use Rattle.refusal.specs.Refusal.{Answers};
+ghost use Rattle.policy_expr.specs.Counting.{Judges};
 ghost use Rattle.policy_expr.specs.Next.{after_blanks};
 ghost use Rattle.policy_expr.specs.Policy.{AllowsHops, DeniesHop, HasWord, acl_part_at, policy_at, sequence_part_at};
 
 use crate::acl::{Acl, Denied};
 use crate::acl_text::AclText;
-use crate::fault::PolicyError;
+use crate::counting::check_text;
+use crate::entry::check_acl;
+use crate::fault::{PolicyError, PolicyFault};
 use crate::hop::WalkHop;
 use crate::sequence::Seq;
 use crate::token::trim_start;
@@ -50,6 +53,7 @@ impl<A: Allocator + Clone> Policy<A> {
         ensures { Answers (λ p. p) result
             (policy_at (option_map (λ t. t.now) text.now.acl) (option_map (λ t. t.now) text.now.sequence)) }
     {
+        check_policy(text)?;
         let acl = read_acl(alloc.clone()?, text.acl)?;
         let sequence = read_sequence(alloc, text.sequence)?;
         Ok(Policy { acl, sequence })
@@ -90,6 +94,41 @@ impl<A: Allocator + Clone> Policy<A> {
         match &self.sequence {
             None => true,
             Some(sequence) => sequence.matches(walk),
+        }
+    }
+}
+
+/// The first refusal of a policy's texts. Takes no memory.
+#[tactic(auto, unfolding(crate::specs::Policy::policy_at))]
+fn check_policy(text: &PolicyText<'_>) -> Result<(), PolicyFault>
+    ensures { Judges result
+        (policy_at (option_map (λ t. t.now) text.now.acl) (option_map (λ t. t.now) text.now.sequence)) }
+{
+    check_list(text.acl)?;
+    check_sequence(text.sequence)
+}
+
+/// The first refusal of a list's texts, where there is one.
+fn check_list(text: Option<&AclText>) -> Result<(), PolicyFault>
+    ensures { Judges result (acl_part_at (option_map (λ t. t.now) text.entry)) }
+{
+    match text {
+        None => Ok(()),
+        Some(text) => check_acl(text),
+    }
+}
+
+/// The first refusal of a sequence's text, where there is one that is not blanks alone.
+fn check_sequence(text: Option<&str>) -> Result<(), PolicyFault>
+    ensures { Judges result (sequence_part_at (option_map (λ t. t.now) text.entry)) }
+{
+    match text {
+        None => Ok(()),
+        Some(text) => {
+            if is_blank(text) {
+                return Ok(());
+            }
+            check_text(text)
         }
     }
 }

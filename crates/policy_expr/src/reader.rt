@@ -1,5 +1,5 @@
 ghost use Rattle.std.specs.Prelude.{◌≡◌, [], IfOk, option_map};
-ghost use Rattle.policy_expr.specs.Fault.{Answers};
+ghost use Rattle.refusal.specs.Refusal.{Reads};
 ghost use Rattle.policy_expr.specs.Tree.{tree_of};
 ghost use Rattle.policy_expr.specs.Reading.{ended, item_begun, item_followed, new_level, took, tree_at, wants, whole, with_before, with_left};
 ghost use Rattle.policy_expr.specs.Views.{level_of, levels_of, reading_of};
@@ -57,7 +57,7 @@ impl<A: Allocator + Clone> Reader<A> {
     /// Takes one token more.
     #[tactic(auto, unfolding(crate::specs::Reading::took))]
     pub(crate) fn take(self, token: Token) -> Result<Reader<A>, PolicyError>
-        ensures { Answers (λ reader. reading_of reader) result (took (reading_of self) token) }
+        ensures { Reads (λ reader. reading_of reader) result (took (reading_of self) token) }
     {
         let Reader {
             alloc,
@@ -74,7 +74,7 @@ impl<A: Allocator + Clone> Reader<A> {
     /// The tree at the end of the text.
     #[tactic(auto, unfolding(crate::specs::Reading::ended))]
     pub(crate) fn end(self) -> Result<SeqNode<A>, PolicyError>
-        ensures { Answers (λ node. tree_of node) result (ended (reading_of self)) }
+        ensures { Reads (λ node. tree_of node) result (ended (reading_of self)) }
     {
         let Reader {
             alloc,
@@ -83,10 +83,10 @@ impl<A: Allocator + Clone> Reader<A> {
             item,
         } = self;
         match item {
-            None => Err(PolicyError::Fault(PolicyFault::UnexpectedEnd)),
+            None => Err(PolicyError::Refused(PolicyFault::UnexpectedEnd)),
             Some(item) => {
                 if !levels.is_empty() {
-                    return Err(PolicyError::Fault(PolicyFault::Unbalanced));
+                    return Err(PolicyError::Refused(PolicyFault::Unbalanced));
                 }
                 Ok(join_level(&alloc, level, item)?)
             }
@@ -101,7 +101,7 @@ fn begin_item<A: Allocator + Clone>(
     level: Level<A>,
     token: Token,
 ) -> Result<Reader<A>, PolicyError>
-    ensures { Answers (λ reader. reading_of reader) result (item_begun (levels_of levels.items) (level_of level) token) }
+    ensures { Reads (λ reader. reading_of reader) result (item_begun (levels_of levels.items) (level_of level) token) }
 {
     match token {
         Token::Hop(pred) => Ok(Reader {
@@ -112,7 +112,7 @@ fn begin_item<A: Allocator + Clone>(
         }),
         Token::Open => {
             if levels.len() >= MAX_OPEN {
-                return Err(PolicyError::Fault(PolicyFault::TooDeep));
+                return Err(PolicyError::Refused(PolicyFault::TooDeep));
             }
             levels.push(level)?;
             Ok(Reader {
@@ -122,7 +122,7 @@ fn begin_item<A: Allocator + Clone>(
                 item: None,
             })
         }
-        _ => Err(PolicyError::Fault(PolicyFault::BadPredicate)),
+        _ => Err(PolicyError::Refused(PolicyFault::BadPredicate)),
     }
 }
 
@@ -134,7 +134,7 @@ fn follow_item<A: Allocator + Clone>(
     item: SeqNode<A>,
     token: Token,
 ) -> Result<Reader<A>, PolicyError>
-    ensures { Answers (λ reader. reading_of reader) result (item_followed (levels_of levels.items) (level_of level) (tree_of item) token) }
+    ensures { Reads (λ reader. reading_of reader) result (item_followed (levels_of levels.items) (level_of level) (tree_of item) token) }
 {
     match token {
         Token::Optional => {
@@ -175,7 +175,7 @@ fn follow_item<A: Allocator + Clone>(
             })
         }
         Token::Close => match levels.pop() {
-            None => Err(PolicyError::Fault(PolicyFault::Unbalanced)),
+            None => Err(PolicyError::Refused(PolicyFault::Unbalanced)),
             Some(outer) => {
                 let item = Some(join_level(&alloc, level, item)?);
                 Ok(Reader {
@@ -186,7 +186,7 @@ fn follow_item<A: Allocator + Clone>(
                 })
             }
         },
-        Token::Other => Err(PolicyError::Fault(PolicyFault::BadPredicate)),
+        Token::Other => Err(PolicyError::Refused(PolicyFault::BadPredicate)),
         Token::Hop(_) | Token::Open => {
             let before = Some(join_level(&alloc, level, item)?);
             begin_item(alloc, levels, Level { before, left: None }, token)
@@ -241,7 +241,7 @@ pub(crate) fn read_tree<A: Allocator + Clone>(
     alloc: A,
     text: &str,
 ) -> Result<SeqNode<A>, PolicyError>
-    ensures { Answers (λ node. tree_of node) result (tree_at text.now) }
+    ensures { Reads (λ node. tree_of node) result (tree_at text.now) }
 {
     let mut reader = Reader::new(alloc)?;
     let mut rest = text.as_bytes();

@@ -1,9 +1,12 @@
-ghost use Rattle.std.specs.Prelude.{◌≡◌, ◌↔◌, IsTrue, IfOk, Ok};
+ghost use Rattle.std.specs.Prelude.{◌≡◌, ◌↔◌, ◌≤◌, IsTrue, IfErr, IfOk, Ok};
 ghost use Rattle.std.specs.String.{string_bytes};
-ghost use Rattle.policy_expr.specs.Fault.{Answers};
+ghost use Rattle.refusal.specs.Refusal.{Answers};
 ghost use Rattle.policy_expr.specs.Language.{Lang};
 ghost use Rattle.policy_expr.specs.Printing.{IsSequence, printed};
-ghost use Rattle.policy_expr.specs.Reading.{sequence_at};
+ghost use Rattle.policy_expr.specs.Grammar.{SpellsSequence};
+ghost use Rattle.policy_expr.specs.Reading.{node_count, sequence_at};
+ghost use Rattle.policy_expr.specs.Refusing.{Gets, IsRefusal};
+ghost use Rattle.policy_expr.specs.Tree.{Tree};
 
 use crate::counting::check_text;
 use crate::fault::PolicyError;
@@ -50,6 +53,21 @@ impl<A: Allocator + Clone> Seq<A> {
     /// [`PolicyFault::BadPredicate`]. A text without these faults is [`PolicyFault::TooLarge`] where it
     /// has more than 256 nodes.
     pub fn parse(alloc: A, text: &str) -> Result<Seq<A>, PolicyError>
+        // What is read is spelled so.
+        ensures found { IfOk result (λ s. SpellsSequence text.now s × (node_count s ≤ 256)) }
+        // What is spelled so is read, or memory is wanted.
+        ensures only { (tree : Tree) → SpellsSequence text.now tree → node_count tree ≤ 256
+            → Gets tree result }
+        // Which refusal it is.
+        ensures refused { IfErr result (IsRefusal text.now) }
+        // The same as one equation.
+        ensures exact { Answers (λ s. s) result (sequence_at text.now) }
+    {
+        Seq::read(alloc, text)
+    }
+
+    /// Reads a sequence.
+    fn read(alloc: A, text: &str) -> Result<Seq<A>, PolicyError>
         ensures { Answers (λ s. s) result (sequence_at text.now) }
     {
         check_text(text)?;

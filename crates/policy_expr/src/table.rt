@@ -98,7 +98,10 @@ impl<A: Allocator> Table<A> {
 
 impl<A: Allocator> SeqNode<A> {
     /// Adds the lines of its predicates at the end.
-    pub(crate) fn add_lines<B: Allocator>(&self, lines: &mut Vec<Line, B>) -> Result<Ends, AllocError>
+    pub(crate) fn add_lines<B: Allocator>(
+        &self,
+        lines: &mut Vec<Line, B>,
+    ) -> Result<Ends, AllocError>
         requires { vec_len lines.old + pred_count (tree_of self.now) ≤ 128 }
         ensures { IfOk result (λ ends. Adds (tree_of self.now) lines.old.items lines.new.items ends) }
     {

@@ -11,7 +11,7 @@ loop-number-preserved c =
     let within : c.in-Some.number < length c.loop-number.lines =
     omega (arith, c.requires c.in-Some.number (c.loop-number.invariant.sub _ c.in-Some.ensures.there), c.loop-number.invariant.count) in
     links_more _ _ _ _ _ _ _ _ _ _ _ c.loop-number.invariant (c.without_first-rest.ensures _ c.in-Some.ensures)
-        (slice_get-get_or c.loop-number.lines c.in-Some.number c.index-lines-number.result within) within c.or-line.ensures refl refl
+    (slice_get-get_or c.loop-number.lines c.in-Some.number c.index-lines-number.result within) within c.or-line.ensures refl refl
 
 pub returns : goal.returns
 returns c = links_all _ _ _ _ _ c.loop-number.invariant c.in_default.ensures

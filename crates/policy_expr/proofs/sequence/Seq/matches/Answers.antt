@@ -1,6 +1,3 @@
-use Rattle.std.proofs.Common.{subst}
-use Rattle.policy_expr.specs.Tree.{tree_of}
-use Rattle.policy_expr.specs.Language.{Lang}
 use Rattle.policy_expr.proofs.Tables.{accepts_is_lang, table_within}
 use Rattle.policy_expr.proofs.sequence.Seq.matches.Goals as goal
 

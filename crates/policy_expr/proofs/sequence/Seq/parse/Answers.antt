@@ -1,15 +1,11 @@
-use Rattle.policy_expr.specs.Tree.{tree_of}
-use Rattle.policy_expr.proofs.Kept.{told_is_sequence}
-use Rattle.policy_expr.proofs.Tables.{few_preds}
+use Rattle.policy_expr.proofs.Refusing.{found_from, only_from, refused_from}
 use Rattle.policy_expr.proofs.sequence.Seq.parse.Goals as goal
 
-pub new-requires : goal.new-requires
-new-requires g c =
-    let told = c.in_ok-check_text.ensures in
-    let kept = told_is_sequence c.args.text.now (tree_of c.in_ok-root.root) told.0 c.in_ok-root.ensures told.1 told.2 in
-    few_preds (tree_of c.in_ok-root.root) kept.small
+pub returns-clause-found : goal.returns-clause-found
+returns-clause-found g c = found_from c.args.text.now c.read.result c.read.ensures
 
-pub invariant_of-result : goal.invariant_of-result
-invariant_of-result g c =
-    let told = c.in_ok-check_text.ensures in
-    (told_is_sequence c.args.text.now (tree_of c.in_ok-root.root) told.0 c.in_ok-root.ensures told.1 told.2, c.in_ok-table.ensures)
+pub returns-clause-only : goal.returns-clause-only
+returns-clause-only g c = only_from c.args.text.now c.read.result c.read.ensures
+
+pub returns-clause-refused : goal.returns-clause-refused
+returns-clause-refused g c = refused_from c.args.text.now c.read.result c.read.ensures

@@ -1,0 +1,122 @@
+-- Reading a sequence answers the first fault of its tokens.
+use Rattle.std.proofs.Common.{IfOk, IfErr, ◌≡◌, ◌≢◌, ℕ, suc, ◌+◌, ◌-◌, ◌≤◌, Bool, true, false, cond, List, [], ◌∷◌, length, Option, Some, None, is_some, Result, Ok, Err, IsOk, refl, sym, ◌∙◌, ap, subst, arith, add-one, unwrap_or}
+use Rattle.std.specs.Prelude.{nat_lt, nat_eq}
+use Rattle.std.specs.Result.{result_err}
+use Rattle.std.proofs.lemmas.Bool.{ne_eqb}
+use Rattle.refusal.specs.Refusal.{◌>>=◌, Answers}
+use Rattle.refusal.specs.declared.fault.OrMemory.{OrMemory}
+use Rattle.refusal.specs.declared.fault.OrMemory.TheVariants.{Memory, Refused}
+use Rattle.policy_expr.specs.declared.fault.PolicyFault.{PolicyFault}
+use Rattle.policy_expr.specs.declared.fault.PolicyFault.TheVariants as faults
+use Rattle.policy_expr.specs.declared.token.Token.{Token}
+use Rattle.policy_expr.specs.declared.token.Token.TheVariants as signs
+use Rattle.policy_expr.specs.Tokens.{tokens}
+use Rattle.policy_expr.specs.Tree.{Tree, hop, followed, either, optional, repeated, once_or_more}
+use Rattle.policy_expr.specs.Grammar.{SpellsSequence}
+use Rattle.policy_expr.specs.Reading.{Level, Reading, new_level, with_left, whole, wants, has, item_begun, level_closed, item_followed, took, ended, read_on, tree_at, node_count, within_size, sequence_at}
+use Rattle.policy_expr.specs.Refusing.{fault_at, IsRefusal, Gets}
+use Rattle.policy_expr.proofs.Found.{sequence_is_spelled, spelled_is_sequence}
+
+-- what these tokens answer at any point of a reading
+abbrev Agrees : List Token → Type 0
+Agrees ts = (levels : List Level) (level : Level) (item : Option Tree)
+    → fault_at (length levels) (is_some item) ts ≡ result_err (read_on (record { open_levels = levels; level = level; item = item }) ts)
+
+end_agrees : Agrees []
+unfolding read_on ended
+end_agrees [] level None = refl
+end_agrees [] level (Some item) = refl
+end_agrees (outer ∷ levels) level None = refl
+end_agrees (outer ∷ levels) level (Some item) =
+    let some : length (outer ∷ levels) ≢ 0 = omega arith in
+    rw (ne_eqb (length (outer ∷ levels)) 0 some) refl
+
+module _ (ts : List Token) (rest : Agrees ts) where
+  open_agrees : (levels : List Level) (level : Level) (room : Bool)
+      → cond room (fault_at (length levels + 1) false ts) (Some faults.TooDeep)
+        ≡ result_err (cond room (Ok (wants (level ∷ levels) new_level)) (Err faults.TooDeep) >>= λ r. read_on r ts)
+  open_agrees levels level true = rw add-one (rest (level ∷ levels) new_level None)
+  open_agrees levels level false = refl
+
+  begun_agrees : (levels : List Level) (level : Level) (token : Token)
+      → fault_at (length levels) false (token ∷ ts) ≡ result_err (item_begun levels level token >>= λ r. read_on r ts)
+  begun_agrees levels level (signs.Hop pred) = rest levels level (Some (hop pred))
+  begun_agrees levels level signs.Open = open_agrees levels level (nat_lt (length levels) 32)
+  begun_agrees levels level signs.Optional = refl
+  begun_agrees levels level signs.OnceOrMore = refl
+  begun_agrees levels level signs.Repeated = refl
+  begun_agrees levels level signs.Or = refl
+  begun_agrees levels level signs.Close = refl
+  begun_agrees levels level signs.Other = refl
+
+  closed_agrees : (levels : List Level) (item : Tree)
+      → fault_at (length levels) true (signs.Close ∷ ts) ≡ result_err (level_closed levels item >>= λ r. read_on r ts)
+  closed_agrees [] item = refl
+  closed_agrees (outer ∷ levels) item =
+      let some : length (outer ∷ levels) ≢ 0 = omega arith in
+      let less : length (outer ∷ levels) - 1 ≡ length levels = omega arith in
+      rw (ne_eqb (length (outer ∷ levels)) 0 some, less) (rest levels outer (Some item))
+
+  followed_agrees : (levels : List Level) (level : Level) (item : Tree) (token : Token)
+      → fault_at (length levels) true (token ∷ ts) ≡ result_err (item_followed levels level item token >>= λ r. read_on r ts)
+  followed_agrees levels level item signs.Optional = rest levels level (Some (optional item))
+  followed_agrees levels level item signs.OnceOrMore = rest levels level (Some (once_or_more item))
+  followed_agrees levels level item signs.Repeated = rest levels level (Some (repeated item))
+  followed_agrees levels level item signs.Or = rest levels (record { before = level.before; left = Some (with_left level.left item) }) None
+  followed_agrees levels level item signs.Close = closed_agrees levels (whole level item)
+  followed_agrees levels level item signs.Other = refl
+  followed_agrees levels level item (signs.Hop pred) = begun_agrees levels (record { before = Some (whole level item); left = None }) (signs.Hop pred)
+  followed_agrees levels level item signs.Open = begun_agrees levels (record { before = Some (whole level item); left = None }) signs.Open
+
+  one_agrees : (token : Token) → Agrees (token ∷ ts)
+  unfolding read_on took
+  one_agrees token levels level None = begun_agrees levels level token
+  one_agrees token levels level (Some item) = followed_agrees levels level item token
+
+agrees : (ts : List Token) → Agrees ts
+agrees [] = end_agrees
+agrees (token ∷ ts) = one_agrees ts (agrees ts) token
+
+fault_is : (f : PolicyFault) (read : Result Tree PolicyFault) (found : Option PolicyFault) → found ≡ result_err read → (read >>= within_size) ≡ Err f → f ≡ unwrap_or found faults.TooLarge
+fault_is f (Err g) found is e = rw is (let same : g ≡ f = cc in sym same)
+fault_is f (Ok tree) found is e = rw is (large (nat_lt 256 (node_count tree)) e)
+  where
+    large : (b : Bool) → cond b (Err faults.TooLarge) (Ok tree) ≡ Err f → f ≡ faults.TooLarge
+    large true d = cc
+    large false d = absurd cc
+
+-- the refusal of a text is its first fault, and TooLarge where it has none
+pub refusal_is : (text : List ℕ) (f : PolicyFault) → sequence_at text ≡ Err f → f ≡ unwrap_or (fault_at 0 false (tokens text)) faults.TooLarge
+refusal_is text f e = fault_is f (tree_at text) (fault_at 0 false (tokens text)) (agrees (tokens text) [] new_level None) e
+
+-- where the text is read, it spells a tree
+pub spelled_there : (text : List ℕ) → IsOk (sequence_at text) → (tree : Tree) × SpellsSequence text tree × (node_count tree ≤ 256)
+spelled_there text ok = there (sequence_at text) refl ok
+  where
+    there : (r : Result Tree PolicyFault) → sequence_at text ≡ r → IsOk r → (tree : Tree) × SpellsSequence text tree × (node_count tree ≤ 256)
+    there (Ok tree) is ok = let both = sequence_is_spelled text tree is in (tree, both.0, both.1)
+    there (Err fault) is ok = absurd (let f : false ≡ true = ok in cc)
+
+-- ---- the three clauses, from the equation
+
+one_tree : (r : Result Tree PolicyFault) (t tree : Tree) → r ≡ Ok t → r ≡ Ok tree → t ≡ tree
+one_tree r t tree a b = cc
+
+one_answer : (r : Result Tree PolicyFault) (fault : PolicyFault) (tree : Tree) → r ≡ Err fault → r ≡ Ok tree → ⊥
+one_answer r fault tree a b = cc
+
+module _ (text : List ℕ) where
+  pub found_from : (r : Result Tree (OrMemory PolicyFault)) → Answers (λ s. s) r (sequence_at text) → IfOk r (λ t. SpellsSequence text t × (node_count t ≤ 256))
+  found_from (Ok t) e = sequence_is_spelled text t e
+  found_from (Err error) e = tt
+
+  pub refused_from : (r : Result Tree (OrMemory PolicyFault)) → Answers (λ s. s) r (sequence_at text) → IfErr r (IsRefusal text)
+  refused_from (Ok t) e = tt
+  refused_from (Err Memory) e = spelled_there text e
+  refused_from (Err (Refused fault)) e = refusal_is text fault e
+
+  pub only_from : (r : Result Tree (OrMemory PolicyFault)) → Answers (λ s. s) r (sequence_at text)
+      → (tree : Tree) → SpellsSequence text tree → node_count tree ≤ 256 → Gets tree r
+  only_from (Ok t) e tree spelled small = one_tree (sequence_at text) t tree e (spelled_is_sequence text tree spelled small)
+  only_from (Err Memory) e tree spelled small = tt
+  only_from (Err (Refused fault)) e tree spelled small = one_answer (sequence_at text) fault tree e (spelled_is_sequence text tree spelled small)
