@@ -28,7 +28,8 @@ is_link link = nat_lt 0 link.a.number && nat_lt 0 link.b.number
 
 -- no AS, more than 1,024 ASes, or more than 4,096 links
 abbrev pub is_too_many : List AsEntry → List Link → Bool
-is_too_many ases links = (length ases == 0) || (nat_lt 1024 (length ases) || nat_lt 4096 (length links))
+is_too_many ases links =
+    (length ases == 0) || (nat_lt 1024 (length ases) || nat_lt 4096 (length links))
 
 -- an AS of this address is listed
 abbrev pub is_listed : List AsEntry → ℕ → Bool
@@ -45,7 +46,8 @@ has_unknown_end ases link = not (is_listed ases link.a.ia) || not (is_listed ase
 
 -- the router of this end is not below its AS's number of routers
 abbrev pub lacks_router : List AsEntry → End → Bool
-lacks_router ases end = option_map_or (λ one. nat_le one.routers end.router) (as_named ases end.ia) false
+lacks_router ases end =
+    option_map_or (λ one. nat_le one.routers end.router) (as_named ases end.ia) false
 
 abbrev pub has_no_router : List AsEntry → Link → Bool
 has_no_router ases link = lacks_router ases link.a || lacks_router ases link.b
@@ -57,11 +59,13 @@ is_core ases ia = option_map_or (λ one. one.core) (as_named ases ia) false
 -- a core link has an end that is not core; a child link crosses ISDs or has a core AS as its child
 abbrev pub is_ill_classed : List AsEntry → LinkClass → ℕ → ℕ → Bool
 is_ill_classed ases Core a b = not (is_core ases a) || not (is_core ases b)
-is_ill_classed ases Child parent child = not (isd_of parent == isd_of child) || is_core ases child
+is_ill_classed ases Child parent child =
+    not (isd_of parent == isd_of child) || is_core ases child
 
 -- both ends are in one AS, or the link's class doesn't allow its ends
 abbrev pub is_ill_joined : List AsEntry → Link → Bool
-is_ill_joined ases link = (link.a.ia == link.b.ia) || is_ill_classed ases link.class link.a.ia link.b.ia
+is_ill_joined ases link =
+    (link.a.ia == link.b.ia) || is_ill_classed ases link.class link.a.ia link.b.ia
 
 -- a link of the list ends at the interface of this end
 abbrev pub stands : List Link → End → Bool

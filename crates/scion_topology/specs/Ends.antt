@@ -38,7 +38,8 @@ pub record AreJoined (n : Network) (ia number far_ia far_number : ℕ) : Type 0 
 pub record IsEndOf (n : Network) (ia number : ℕ) (entry : IfEntry) : Type 0 where
   pub link : Link
   pub listed : Contains n.links link
-  pub end : (IsAt link.a ia number × (entry ≡ at_a link)) ⊎ (IsAt link.b ia number × (entry ≡ at_b link))
+  pub end : (IsAt link.a ia number × (entry ≡ at_a link))
+      ⊎ (IsAt link.b ia number × (entry ≡ at_b link))
 
 -- the interface of this number is up, or down
 pub record IsUp (n : Network) (ia number : ℕ) (up : Bool) : Type 0 where

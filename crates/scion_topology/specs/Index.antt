@@ -21,7 +21,8 @@ pub record IndexValue : Type 0 where
   pub places : List ℕ
 
 abbrev pub seen : AsIndex → IndexValue
-seen index = record { position = index.position; table = index.table.items; places = index.places.items }
+seen index =
+    record { position = index.position; table = index.table.items; places = index.places.items }
 
 -- the places, counted from base, of the links that end in an AS
 abbrev pub places_of : ℕ → ℕ → List Link → List ℕ

@@ -38,7 +38,8 @@ accepted key (Some previous) = key ∷ previous ∷ []
 -- the keys of an AS with this one in use, and this one before it
 unfoldable pub keys_of : List ℕ → Option (List ℕ) → Result (List (List ℕ)) TopologyFault
 keys_of key previous =
-    if list_all is_key (accepted key previous) then Ok (accepted key previous) else Err faults.BadField
+    if list_all is_key (accepted key previous) then Ok (accepted key previous)
+    else Err faults.BadField
 
 -- the keys after another one was taken into use: the one that was in use is the one before
 abbrev pub renewed : List ℕ → List (List ℕ) → List (List ℕ)

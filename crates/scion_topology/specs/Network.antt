@@ -49,7 +49,8 @@ kind_at_b Child = kinds.Parent
 
 -- an end of a link as an interface of its AS
 abbrev pub end_as_interface : End → LinkKind → Bool → IfEntry
-end_as_interface end kind up = record { number = end.number; kind = kind; router = end.router; up = up }
+end_as_interface end kind up =
+    record { number = end.number; kind = kind; router = end.router; up = up }
 
 -- the interface by which the link ends in this AS
 abbrev pub interface_of : ℕ → Link → Option IfEntry

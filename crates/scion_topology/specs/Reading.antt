@@ -100,7 +100,8 @@ link_at d = do
   Ok (record { class = class; a = a; b = b; up = true })
 
 -- each item of a list
-abbrev pub items_at : {A : Type 0} → (Data → Result A TopologyFault) → Items → Result (List A) TopologyFault
+abbrev pub items_at : {A : Type 0} → (Data → Result A TopologyFault) → Items
+    → Result (List A) TopologyFault
 items_at one no_items = Ok []
 items_at one (item d ds) = do
   x ← one d

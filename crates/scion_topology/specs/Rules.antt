@@ -22,7 +22,7 @@ pub record IsEnd (end : End) (one : AsEntry) : Type 0 where
   pub numbered : end.number ≢ 0
   pub router : end.router < one.routers
 
--- a core link joins two core ASes; a child link a parent and a child of one ISD, which is no core AS
+-- a core link joins two core ASes; a child link a parent and a child of one ISD that is no core AS
 abbrev pub Joins : LinkClass → AsEntry → AsEntry → Type 0
 Joins Core one other = (one.core ≡ true) × (other.core ≡ true)
 Joins Child parent child = (isd_of parent.ia ≡ isd_of child.ia) × (child.core ≡ false)

@@ -121,6 +121,7 @@ rotated ia key n = do
   Ok (record n { ases = with_key ia new n.ases })
 
 -- a change that was done left what it says, and one that was refused left all as it was
-abbrev pub Becomes : Result Network TopologyFault → Network → Network → Result (Unit {0}) TopologyFault → Type 0
+abbrev pub Becomes : Result Network TopologyFault → Network → Network
+    → Result (Unit {0}) TopologyFault → Type 0
 Becomes change old new (Ok x) = change ≡ Ok new
 Becomes change old new (Err e) = (change ≡ Err e) × (new ≡ old)

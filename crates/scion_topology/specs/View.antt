@@ -34,4 +34,5 @@ IsAuthentic view mac beta timestamp exp_time cons_ingress cons_egress =
 -- the test of `IsAuthentic`
 abbrev pub is_authentic : View → List ℕ → ℕ → ℕ → ℕ → ℕ → ℕ → Bool
 is_authentic view mac beta timestamp exp_time cons_ingress cons_egress =
-    list_any (λ key. bytes_eq mac (authenticator key beta timestamp exp_time cons_ingress cons_egress)) view.keys
+    list_any (λ key.
+    bytes_eq mac (authenticator key beta timestamp exp_time cons_ingress cons_egress)) view.keys

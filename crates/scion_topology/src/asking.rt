@@ -66,6 +66,7 @@ impl Topology {
     pub fn view(&self, ia: IsdAs, router: u8) -> Result<RouterView<'_>, TopologyFault>
         ensures { result ≡ view_in self.now ia router }
     {
+        // The read of a field brings what the type keeps.
         let _ = &self.links;
         let (one, index) = self.indexed(ia)?;
         if router >= one.routers {
@@ -89,6 +90,7 @@ impl Topology {
     pub fn interface(&self, ia: IsdAs, number: IfId) -> Result<&IfEntry, TopologyFault>
         ensures { Gives (λ entry. entry.now) result (interface_at self.now ia number) }
     {
+        // The read of a field brings what the type keeps.
         let _ = &self.links;
         let (_, index) = self.indexed(ia)?;
         interface_in(&index.table, number).ok_or(TopologyFault::NoLink)
@@ -98,6 +100,7 @@ impl Topology {
     pub fn known(&self)
         ensures { IsNetwork self.now }
     {
+        // The read of a field brings what the type keeps.
         let _ = &self.links;
     }
 
@@ -116,6 +119,7 @@ impl Topology {
         ensures value { result ≡ place_in self.now ia number }
         ensures bound { IfOk result (λ place. place < length self.now.links) }
     {
+        // The read of a field brings what the type keeps.
         let _ = &self.links;
         let (_, index) = self.indexed(ia)?;
         place_beside(&index.table, &index.places, number).ok_or(TopologyFault::NoLink)

@@ -13,8 +13,8 @@ use std::marker::Model;
 /// What a router knows of its AS: its address, its own number, the AS's keys and its interfaces.
 ///
 /// Its type keeps that the address is no wildcard, that each key has 1 to 64 bytes, and that each
-/// interface is named once, none of them by 0. It borrows the table; the hash states of its keys are
-/// lent by a topology, or made once.
+/// interface is named once, none of them by 0. It borrows the table; the hash states of its keys
+/// are lent by a topology, or made once.
 #[derive(Drop)]
 pub struct RouterView<'a> {
     ia: IsdAs,
@@ -39,7 +39,12 @@ impl<'a> Model for RouterView<'a> {
 
     ghost Value = { View };
 
-    ghost view = { λ a. record { ia = a.ia; router = a.router; keys = keys_in a.keys; table = a.table.now } };
+    ghost view = { λ a. record {
+      ia = a.ia;
+      router = a.router;
+      keys = keys_in a.keys;
+      table = a.table.now;
+    } };
 
     ghost invariant = { λ a. IsRight
         (record { ia = a.ia; router = a.router; keys = keys_in a.keys; table = a.table.now }) };
@@ -84,7 +89,8 @@ impl<'a> RouterView<'a> {
         keys: &'a Keys,
         table: &'a [IfEntry],
     ) -> RouterView<'a>
-        requires { IsRight (record { ia = ia; router = router; keys = keys.now; table = table.now }) }
+        requires { IsRight
+            (record { ia = ia; router = router; keys = keys.now; table = table.now }) }
         ensures { result ≡ record { ia = ia; router = router; keys = keys.now; table = table.now } }
     {
         RouterView {
@@ -169,6 +175,7 @@ impl<'a> RouterView<'a> {
     pub fn known(&self)
         ensures { IsRight self.now }
     {
+        // The read of a field brings what the type keeps.
         let _ = &self.table;
     }
 }
