@@ -28,7 +28,9 @@ pub fn originate(
 ) -> Result<Beacon, BeaconError>
     ensures { Answers (λ made. made) result (originated topology.now ia egress timestamp beta0) }
 {
-    let (kind, entry) = first_entry(topology, ia, egress, timestamp, beta0).map_err(OrMemory::Refused)?;
+    let (kind, entry) = first_entry(topology, ia, egress, timestamp, beta0).map_err(
+        OrMemory::Refused,
+    )?;
     match Beacon::first(alloc, kind, timestamp, beta0, entry) {
         Ok(beacon) => Ok(beacon),
         Err(OrMemory::Memory) => Err(OrMemory::Memory),

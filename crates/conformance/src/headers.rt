@@ -1,5 +1,5 @@
-use path_header::{Header, HeaderFault, HopField, InfoField, decode, encode};
 use isd_as::IfId;
+use path_header::{Header, HeaderFault, HopField, InfoField, decode, encode};
 use std::test::Fail;
 
 /// A path of one segment of two hop fields, travelled in construction direction, at its second hop.

@@ -1,7 +1,7 @@
-use path_verifier::{Piece, PieceKind, Pieces, VerifyFault, verify};
 use isd_as::{IfId, IsdAs};
 use path_header::{Header, HopField, InfoField, decode};
 use path_segment::{Entry, SegKind, Segment};
+use path_verifier::{Piece, PieceKind, Pieces, VerifyFault, verify};
 use policy_expr::{AclText, Denied, Policy, PolicyText, WalkHop};
 use std::alloc::{AllocError, Global};
 use std::test::Fail;

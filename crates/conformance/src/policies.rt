@@ -1,9 +1,9 @@
+use bumpalo::Bump;
+use isd_as::{IfId, IsdAs};
 use policy_expr::{
     Acl, AclText, Denied, HopPred, Interfaces, Policy, PolicyError, PolicyFault, PolicyText, Seq,
     WalkHop,
 };
-use bumpalo::Bump;
-use isd_as::{IfId, IsdAs};
 use std::alloc::{AllocError, Allocator, Global};
 use std::process::Abort;
 use std::test::Fail;

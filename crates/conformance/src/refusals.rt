@@ -142,10 +142,7 @@ fn of_beacons(rt: HostRuntime) -> Result<(), Fail> {
     let rows = [
         (BeaconFault::TooLong, "a beacon has at most 62 entries"),
         (BeaconFault::Loop, "the AS stands in the beacon already"),
-        (
-            BeaconFault::NotCore,
-            "the AS is no core AS of the topology",
-        ),
+        (BeaconFault::NotCore, "the AS is no core AS of the topology"),
         (
             BeaconFault::NoInterface,
             "the AS has no interface of this number",
@@ -155,10 +152,7 @@ fn of_beacons(rt: HostRuntime) -> Result<(), Fail> {
             BeaconFault::WrongKind,
             "a beacon of this kind does not follow this link",
         ),
-        (
-            BeaconFault::NotHere,
-            "the beacon does not come to this AS",
-        ),
+        (BeaconFault::NotHere, "the beacon does not come to this AS"),
     ];
     for (fault, sentence) in rows {
         assert!(rt; is_sentence(rt.alloc(), fault, sentence)?);
@@ -182,10 +176,7 @@ fn of_routers(rt: HostRuntime) -> Result<(), Fail> {
             "the packet did not come in where its hop field says",
         ),
         (Refusal::Expired, "the hop has expired"),
-        (
-            Refusal::BadMac,
-            "the authenticator of the hop is not right",
-        ),
+        (Refusal::BadMac, "the authenticator of the hop is not right"),
         (
             Refusal::SourceAs,
             "the source AS does not fit how the packet came",
@@ -202,10 +193,7 @@ fn of_routers(rt: HostRuntime) -> Result<(), Fail> {
             Refusal::UnknownEgress,
             "the AS has no interface of the way out",
         ),
-        (
-            Refusal::LinkKinds,
-            "the links in and out can't be joined",
-        ),
+        (Refusal::LinkKinds, "the links in and out can't be joined"),
         (Refusal::LinkDown, "the link at the way out is down"),
     ];
     for (fault, sentence) in rows {

@@ -1,7 +1,7 @@
-use router_step::{Arrival, Outcome, Refusal, step};
 use hop_mac::{hop_mac, next_beta};
 use isd_as::{IfId, IsdAs};
 use path_header::{Header, HeaderFault, HopField, InfoField, encode};
+use router_step::{Arrival, Outcome, Refusal, step};
 use scion_topology::{IfEntry, LinkKind, RouterView, Topology};
 use std::test::Fail;
 

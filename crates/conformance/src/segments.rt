@@ -1,5 +1,5 @@
-use path_segment::{Beacon, Entry, SegKind, Segment, SegmentError, SegmentFault};
 use isd_as::{IfId, IsdAs};
+use path_segment::{Beacon, Entry, SegKind, Segment, SegmentError, SegmentFault};
 use refusal::OrMemory;
 use std::alloc::Global;
 use std::test::Fail;

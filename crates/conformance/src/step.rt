@@ -1,8 +1,8 @@
-use step_line::{StepFault, step_line};
 use hex::encode;
 use hop_mac::hop_mac;
 use std::alloc::{AllocError, Global};
 use std::test::Fail;
+use step_line::{StepFault, step_line};
 
 /// The words of a router of 1-ff00:0:111 and a packet of a host, but for the second and the interface.
 const FRONT: [&str; 7] = [

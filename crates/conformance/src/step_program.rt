@@ -1,7 +1,7 @@
-use step_line::{RunFault, Status, StepFault, end, run};
 use std::io;
 use std::io::{Read, Write};
 use std::test::Fail;
+use step_line::{RunFault, Status, StepFault, end, run};
 
 /// The words of the stored command, with this second.
 fn words<'a>(now: &'a str) -> [&'a str; 12] {

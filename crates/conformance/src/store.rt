@@ -1,6 +1,6 @@
-use path_server::{PathStore, StoreFault};
 use isd_as::{IfId, IsdAs};
 use path_segment::{Entry, SegKind, Segment};
+use path_server::{PathStore, StoreFault};
 use refusal::OrMemory;
 use std::alloc::{AllocError, Global};
 use std::test::Fail;

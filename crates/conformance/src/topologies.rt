@@ -1,9 +1,9 @@
 ghost use Rattle.std.specs.Prelude.{◌<◌};
 
-use scion_topology::{AsInfo, IfEntry, LinkKind, RouterView, Topology, TopologyFault};
 use hop_mac::hop_mac;
 use isd_as::{IfId, IsdAs};
 use refusal::OrMemory;
+use scion_topology::{AsInfo, IfEntry, LinkKind, RouterView, Topology, TopologyFault};
 use std::test::Fail;
 
 const IA: u64 = 0x0001_ff00_0000_0111;

@@ -42,7 +42,9 @@ fn segment_of(alloc: Global, value: &Value) -> Result<Segment, SegmentError>
     ensures { Reads (λ s. s) result (judged (chain_at (view value.now))) }
 {
     let kind = kind(value, "kind").ok_or(OrMemory::Refused(SegmentFault::NotJson))?;
-    let timestamp = whole(value, "timestamp", 4_294_967_295).ok_or(OrMemory::Refused(SegmentFault::NotJson))?;
+    let timestamp = whole(value, "timestamp", 4_294_967_295).ok_or(OrMemory::Refused(
+        SegmentFault::NotJson,
+    ))?;
     let beta0 = whole(value, "beta0", 65535).ok_or(OrMemory::Refused(SegmentFault::NotJson))?;
     let values = list(value, "entries").ok_or(OrMemory::Refused(SegmentFault::NotJson))?;
     let entries = entries_of(alloc, values)?;

@@ -34,7 +34,7 @@ end_agrees (outer ∷ levels) level (Some item) =
 module _ (ts : List Token) (rest : Agrees ts) where
   open_agrees : (levels : List Level) (level : Level) (room : Bool)
       → cond room (fault_at (length levels + 1) false ts) (Some faults.TooDeep)
-        ≡ result_err (cond room (Ok (wants (level ∷ levels) new_level)) (Err faults.TooDeep) >>= λ r. read_on r ts)
+      ≡ result_err (cond room (Ok (wants (level ∷ levels) new_level)) (Err faults.TooDeep) >>= λ r. read_on r ts)
   open_agrees levels level true = rw add-one (rest (level ∷ levels) new_level None)
   open_agrees levels level false = refl
 

@@ -112,4 +112,4 @@ unfolding packet_step
 frame_stepped view now arrival packet addresses text rest header f =
     rw (read_in packet addresses text rest header f)
     (again (step_of view now arrival (source_of packet) (destination_of packet) header) (take 16 packet) addresses (drop (16 + header_len header) packet) rest
-      (in_front packet addresses text rest header f) (rest_of packet addresses text rest header f))
+    (in_front packet addresses text rest header f) (rest_of packet addresses text rest header f))
