@@ -31,7 +31,7 @@ ases-entered_by : (way : ℕ) (hops : List WalkHop) → ases (entered_by way hop
 ases-entered_by way [] = refl
 ases-entered_by way (hop ∷ later) = refl
 
-joined_none : (hops : List WalkHop) → joined [] hops ≡ hops
+pub joined_none : (hops : List WalkHop) → joined [] hops ≡ hops
 joined_none [] = refl
 joined_none (hop ∷ later) = refl
 
@@ -66,7 +66,7 @@ ends piece =
     ap last_in (ases-hops_of piece) ∙ ap (λ n. get_or (map (λ (entry : Entry). entry.ia) (travelled piece)) (n - 1) 0) (length-map (travelled piece) (λ entry. entry.ia))
     ∙ at_map (travelled piece) (length (travelled piece) - 1)
 
-two_ases : (piece : PieceValue) → HasRange piece → 2 ≤ length (ases (hops_of piece))
+pub two_ases : (piece : PieceValue) → HasRange piece → 2 ≤ length (ases (hops_of piece))
 two_ases piece range =
     let count = length_travelled piece range in
     let order = range.order in

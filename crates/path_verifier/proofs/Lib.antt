@@ -5,3 +5,4 @@ pub mod Headers
 pub mod Plain
 pub mod Course
 pub mod Expiry
+pub mod Lengths

@@ -4,7 +4,8 @@ use Rattle.hop_mac.specs.Lifetime.{expiry_of, IsLive}
 use Rattle.path_header.specs.Value.{HeaderValue}
 use Rattle.policy_expr.specs.declared.hop.WalkHop.{WalkHop}
 use Rattle.policy_expr.specs.Policy.{Rules, AllowsHops, HasWord}
-use Rattle.path_verifier.specs.declared.kind.PieceKind.TheVariants.{Core}
+use Rattle.path_verifier.specs.declared.kind.PieceKind.{PieceKind}
+use Rattle.path_verifier.specs.declared.kind.PieceKind.TheVariants.{Up, Core, Down}
 use Rattle.path_verifier.specs.Piece.{PieceValue, HasRange, kind_of, stretch, begins_in, ends_in}
 use Rattle.path_verifier.specs.Walk.{walk_of}
 use Rattle.path_verifier.specs.Header.{hop_count, header_of}
@@ -13,6 +14,13 @@ use Rattle.path_verifier.specs.Shape.{are_kinds}
 -- the piece is a core piece
 abbrev pub IsCore : PieceValue → Type 0
 IsCore piece = kind_of piece ≡ Core
+
+-- a piece of the second kind may come right behind one of the first
+abbrev pub MayAdjoin : PieceKind → PieceKind → Type 0
+MayAdjoin Up Core = Unit {0}
+MayAdjoin Up Down = Unit {0}
+MayAdjoin Core Down = Unit {0}
+MayAdjoin one next = ⊥
 
 -- where there is a core piece it is whole, and each other piece begins where its segment does; where there is none all pieces
 -- do, or none does

@@ -37,7 +37,7 @@ impl<'s, 'p, A: Allocator + Clone> Model for VerifiedPath<'s, 'p, A> {
 }
 
 impl<'s, 'p, A: Allocator + Clone> VerifiedPath<'s, 'p, A> {
-    ghost use Rattle.std.specs.Prelude.{◌≡◌};
+    ghost use Rattle.std.specs.Prelude.{◌≡◌, ◌≤◌, length};
     ghost use Rattle.path_verifier.specs.Walk.{walk_of};
     ghost use Rattle.path_verifier.specs.Accepted.{IsAccepted, IsExpiry};
 
@@ -56,9 +56,10 @@ impl<'s, 'p, A: Allocator + Clone> VerifiedPath<'s, 'p, A> {
     }
 
     /// Its walk: the ASes that it passes, each with the interface by which the walk comes in and the
-    /// one by which it leaves, 0 at both ends.
+    /// one by which it leaves, 0 at both ends. It has 2 to 64 hops.
     pub fn walk(&self) -> &[WalkHop]
-        ensures { result.now ≡ walk_of self.entry.now.pieces }
+        ensures value { result.now ≡ walk_of self.entry.now.pieces }
+        ensures count { (2 ≤ length result.now) × (length result.now ≤ 64) }
     {
         self.walk.as_slice()
     }

@@ -113,7 +113,6 @@ fn walk_of(held: &Held<'_>, src: IsdAs, dst: IsdAs, now: u32) -> Result<Walk, Ve
 
 /// Whether a policy allows a walk, or why not.
 fn judge<A: Allocator + Clone>(walk: &[WalkHop], policy: &Policy<A>) -> Result<(), VerifyFault>
-    requires { length walk.now ≤ 64 }
     ensures found { OnOk result (AllowsHops policy.now.acl walk.now × HasWord policy.now.sequence walk.now) }
     ensures only { AllowsHops policy.now.acl walk.now → HasWord policy.now.sequence walk.now → IsOk result }
     ensures exact { IfErr result (IsForbidden policy.now walk.now) }

@@ -6,7 +6,8 @@ use Rattle.policy_expr.specs.declared.token.Token.{Token}
 use Rattle.policy_expr.specs.declared.token.Token.TheVariants as signs
 use Rattle.policy_expr.specs.Tree.{Tree, hop, followed, either, optional, repeated, once_or_more}
 use Rattle.policy_expr.specs.Reading.{Level, Reading, new_level, wants, has, with_left, whole, took, ended, read_on}
-use Rattle.policy_expr.specs.Printing.{strength, nested, depth}
+use Rattle.policy_expr.specs.Printing.{strength}
+use Rattle.policy_expr.proofs.Readable.{nested, depth}
 
 -- tokens in parentheses, or not
 abbrev pub closed_in : Bool → List Token → List Token

@@ -1,11 +1,13 @@
 -- Judging the texts of a list finds what reading it answers.
-use Rattle.std.proofs.Common.{◌≡◌, ℕ, zero, suc, ◌+◌, ◌<◌, Bool, true, false, not, ◌||◌, cond, List, [], ◌∷◌, ◌++◌, length, Option, None, Some, Result, Ok, Err, refl, sym, ◌∙◌, ap, arith, append_assoc, length-append}
-use Rattle.std.specs.Prelude.{nat_lt, IsOk}
+use Rattle.std.proofs.Common.{◌≤◌, is_none, slice_get, subst, ◌≡◌, ℕ, zero, suc, ◌+◌, ◌<◌, Bool, true, false, not, ◌||◌, cond, List, [], ◌∷◌, ◌++◌, length, Option, None, Some, Result, Ok, Err, refl, sym, ◌∙◌, ap, arith, append_assoc, length-append}
+use Rattle.std.specs.Prelude.{nat_lt, IsOk, IsSome}
 use Rattle.std.proofs.lemmas.List.{append-nil}
+use Rattle.std.proofs.lemmas.Bool.{ltb-false, le-ltb, not-false}
 use Rattle.refusal.specs.Refusal.{◌>>=◌, unless}
+use Rattle.policy_expr.specs.declared.hop.HopPred.{HopPred}
 use Rattle.policy_expr.specs.declared.acl.AclEntry.{AclEntry}
 use Rattle.policy_expr.specs.declared.fault.PolicyFault.{PolicyFault}
-use Rattle.policy_expr.specs.Acl.{entry_at, entries_at, is_bare, ends_bare, is_bare_before_last, acl_fault, acl_at}
+use Rattle.policy_expr.specs.Acl.{entry_at, entries_at, is_bare, ends_bare, is_bare_before_last, acl_fault, acl_at, IsAcl}
 use Rattle.policy_expr.specs.Checking.{check_on}
 use Rattle.policy_expr.specs.Counting.{Judges}
 use Rattle.policy_expr.proofs.Front.{with_front}
@@ -82,13 +84,85 @@ judges_forgotten (Err fault) told e = rw e refl
 pub check_judges : (texts : List (List ℕ)) (n : ℕ) (told : Result (Unit {0}) PolicyFault) → n ≡ length texts → told ≡ check_on n false false texts → Judges told (acl_at texts)
 check_judges texts n told count e = judges_forgotten (acl_at texts) told (e ∙ ap (λ m. check_on m false false texts) count ∙ check_is_acl texts)
 
+-- ---- the rules of a list in plain facts
+
+guard : (b : Bool) (f : PolicyFault) (r : Option PolicyFault) → cond b (Some f) r ≡ None → (b ≡ false) × (r ≡ None)
+guard true f r e = absurd cc
+guard false f r e = (refl, e)
+
+none_of : (pred : Option HopPred) → is_none pred ≡ true → pred ≡ None
+none_of None e = refl
+none_of (Some p) e = absurd (let f : false ≡ true = e in cc)
+
+some_of : (pred : Option HopPred) → is_none pred ≡ false → IsSome pred
+some_of None e = absurd (let f : true ≡ false = e in cc)
+some_of (Some p) e = refl
+
+or_neither : (a b : Bool) → (a || b) ≡ false → (a ≡ false) × (b ≡ false)
+or_neither true b e = absurd (let f : true ≡ false = e in cc)
+or_neither false b e = (refl, e)
+
+-- the entries before the last, and the last
+record Parted (entries : List AclEntry) : Type 0 where
+  front : List AclEntry
+  last : AclEntry
+  parts : entries ≡ front ++ last ∷ []
+  bare : last.pred ≡ None
+  others : (k : ℕ) (entry : AclEntry) → slice_get front k ≡ Some entry → IsSome entry.pred
+
+parted : (entries : List AclEntry) → ends_bare entries ≡ true → is_bare_before_last entries ≡ false → Parted entries
+parted [] ends before = absurd (let f : false ≡ true = ends in cc)
+parted (e ∷ []) ends before = record {
+  front = []; last = e; parts = refl; bare = none_of e.pred ends;
+  others = λ k entry there. absurd (let f : None ≡ Some entry = there in cc);
+}
+parted (e ∷ next ∷ later) ends before =
+    let both = or_neither (is_bare e) (is_bare_before_last (next ∷ later)) before in
+    let p = parted (next ∷ later) ends both.1 in
+    record {
+      front = e ∷ p.front; last = p.last; parts = ap (λ (xs : List AclEntry). e ∷ xs) p.parts; bare = p.bare;
+      others = in_front e p.front (some_of e.pred both.0) p.others;
+    }
+  where
+    in_front : (e : AclEntry) (front : List AclEntry) → IsSome e.pred → ((k : ℕ) (entry : AclEntry) → slice_get front k ≡ Some entry → IsSome entry.pred)
+        → (k : ℕ) (entry : AclEntry) → slice_get (e ∷ front) k ≡ Some entry → IsSome entry.pred
+    in_front e front here there zero entry is = let same : e ≡ entry = cc in subst (λ (x : AclEntry). IsSome x.pred) same here
+    in_front e front here there (suc k) entry is = there k entry is
+
+pub plain_of : (entries : List AclEntry) → acl_fault entries ≡ None → IsAcl entries
+unfolding acl_fault
+plain_of entries none =
+    let a = guard (nat_lt 256 (length entries)) _ _ none in
+    let b = guard (not (ends_bare entries)) _ _ a.1 in
+    let c = guard (is_bare_before_last entries) _ _ b.1 in
+    let p = parted entries (not-false _ b.0) c.0 in
+    record { few = ltb-false 256 (length entries) a.0; front = p.front; last = p.last; parts = p.parts; bare = p.bare; others = p.others }
+
+bare_of : (pred : Option HopPred) → IsSome pred → is_none pred ≡ false
+bare_of None some = absurd (let f : false ≡ true = some in cc)
+bare_of (Some p) some = refl
+
+none_before : (front : List AclEntry) (last : AclEntry) → ((k : ℕ) (entry : AclEntry) → slice_get front k ≡ Some entry → IsSome entry.pred)
+    → is_bare_before_last (front ++ last ∷ []) ≡ false
+none_before [] last others = refl
+none_before (x ∷ []) last others = rw (bare_of x.pred (others zero x refl)) refl
+none_before (x ∷ y ∷ later) last others = rw (bare_of x.pred (others zero x refl)) (none_before (y ∷ later) last (λ k entry there. others (suc k) entry there))
+
+pub fault_of_plain : (entries : List AclEntry) → IsAcl entries → acl_fault entries ≡ None
+unfolding acl_fault
+fault_of_plain entries acl =
+    let few : nat_lt 256 (length entries) ≡ false = le-ltb 256 (length entries) acl.few in
+    let ends : ends_bare entries ≡ true = ap ends_bare acl.parts ∙ ends_pushed acl.front acl.last ∙ ap is_none acl.bare in
+    let before : is_bare_before_last entries ≡ false = ap is_bare_before_last acl.parts ∙ none_before acl.front acl.last acl.others in
+    rw (few, ends, before) refl
+
 -- what was judged to be a list is one once it is read
 passed : (fault : Option PolicyFault) (entries : List AclEntry) → IsOk (unless fault entries) → fault ≡ None
 passed None entries ok = refl
 passed (Some fault) entries ok = absurd (let f : false ≡ true = ok in cc)
 
-pub read_judged : (texts : List (List ℕ)) (entries : List AclEntry) → IsOk (acl_at texts) → entries_at texts ≡ Ok entries → (acl_fault entries ≡ None) × (acl_at texts ≡ Ok entries)
+pub read_judged : (texts : List (List ℕ)) (entries : List AclEntry) → IsOk (acl_at texts) → entries_at texts ≡ Ok entries → IsAcl entries × (acl_at texts ≡ Ok entries)
 read_judged texts entries ok read =
     let ok' : IsOk (judged entries) = rw read at ok in
     let none = passed (acl_fault entries) entries ok' in
-    (none, rw (read, none) refl)
+    (plain_of entries none, rw (read, none) refl)

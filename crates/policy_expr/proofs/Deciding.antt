@@ -1,5 +1,5 @@
 -- Each hop is decided by one entry of a list whose last entry is bare.
-use Rattle.std.proofs.Common.{◌≡◌, ℕ, suc, ◌<◌, ◌≤◌, true, false, List, [], ◌∷◌, length, Option, Some, None, is_none, slice_get, inl, inr, refl, sym, ◌∙◌, ap, arith}
+use Rattle.std.proofs.Common.{◌≡◌, ℕ, suc, ◌<◌, ◌≤◌, true, false, List, [], ◌∷◌, ◌++◌, length, Option, Some, None, is_none, slice_get, inl, inr, refl, sym, ◌∙◌, ap, arith}
 use Rattle.std.proofs.lemmas.Option.{slice_get_within}
 use Rattle.std.proofs.lemmas.Bool.{cases_order}
 use Rattle.std.proofs.lemmas.Bool.Decides.{nat_tests}
@@ -7,18 +7,16 @@ use Rattle.policy_expr.specs.declared.hop.HopPred.{HopPred}
 use Rattle.policy_expr.specs.declared.hop.WalkHop.{WalkHop}
 use Rattle.policy_expr.specs.declared.acl.AclEntry.{AclEntry}
 use Rattle.policy_expr.specs.declared.acl.Denied.{Denied}
-use Rattle.policy_expr.specs.Acl.{MatchesBy, Decides, AllowsWalk, IsDenial, is_bare, ends_bare, acl_fault, IsAcl}
-
-acl_ends_bare : (entries : List AclEntry) → IsAcl entries → ends_bare entries ≡ true
-unfolding acl_fault
-acl_ends_bare entries acl = grind (arith, nat_tests)
+use Rattle.policy_expr.specs.Acl.{MatchesBy, Decides, AllowsWalk, IsDenial, is_bare, IsAcl}
 
 -- a bare entry stands somewhere
-bare_there : (entries : List AclEntry) → ends_bare entries ≡ true → (k : ℕ) × (entry : AclEntry) × (slice_get entries k ≡ Some entry) × (is_bare entry ≡ true)
-bare_there [] ends = absurd (let f : false ≡ true = ends in cc)
-bare_there (entry ∷ []) ends = (0, entry, refl, ends)
-bare_there (entry ∷ next ∷ later) ends =
-    let r = bare_there (next ∷ later) ends in (suc r.0, r.1, r.2, r.3)
+get_last : (front : List AclEntry) (last : AclEntry) → slice_get (front ++ last ∷ []) (length front) ≡ Some last
+get_last [] last = refl
+get_last (x ∷ front) last = get_last front last
+
+bare_there : (entries : List AclEntry) → IsAcl entries → (k : ℕ) × (entry : AclEntry) × (slice_get entries k ≡ Some entry) × (is_bare entry ≡ true)
+bare_there entries acl =
+    (length acl.front, acl.last, ap (λ (xs : List AclEntry). slice_get xs (length acl.front)) acl.parts ∙ get_last acl.front acl.last, ap is_none acl.bare)
 
 matches_when_bare : (pred : Option HopPred) (hop : WalkHop) → is_none pred ≡ true → MatchesBy pred hop
 matches_when_bare None hop bare = tt
@@ -28,7 +26,7 @@ matches_when_bare (Some p) hop bare = absurd (let f : false ≡ true = bare in c
 pub one_decides : (entries : List AclEntry) (hop : WalkHop) (place : ℕ) → IsAcl entries → length entries ≤ place
     → ((earlier : ℕ) (other : AclEntry) → earlier < place → slice_get entries earlier ≡ Some other → MatchesBy other.pred hop → ⊥) → ⊥
 one_decides entries hop place acl past none =
-    let b = bare_there entries (acl_ends_bare entries acl) in
+    let b = bare_there entries acl in
     let within = slice_get_within entries b.0 b.1 b.2 in
     none b.0 b.1 (omega (arith, within)) b.2 (matches_when_bare b.1.pred hop b.3)
 

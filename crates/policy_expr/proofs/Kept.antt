@@ -21,7 +21,8 @@ use Rattle.policy_expr.specs.Predicate.{hash, one_interface, two_interfaces, as_
 use Rattle.policy_expr.specs.Tokens.{is_mark, pieces, token_of, read_token, sign_token, tokens}
 use Rattle.policy_expr.specs.Tree.{Tree, hop, followed, either, optional, repeated, once_or_more}
 use Rattle.policy_expr.specs.Reading.{Level, Reading, new_level, wants, has, with_left, with_before, whole, item_begun, item_followed, level_closed, took, took_at, ended, ended_at, read_on, tree_at, sequence_at, within_size, node_count}
-use Rattle.policy_expr.specs.Printing.{strength, nested, depth, AreInterfaces, IsPredicate, ArePredicates, IsSequence}
+use Rattle.policy_expr.specs.Printing.{strength, AreInterfaces, IsPredicate}
+use Rattle.policy_expr.proofs.Readable.{nested, depth, ArePredicates, IsReadable}
 
 -- a step that gave a value
 pub bind_ok : {A B : Type 0} (r : Result A PolicyFault) (f : A → Result B PolicyFault) (y : B) → (r >>= f) ≡ Ok y → (x : A) × (r ≡ Ok x) × (f x ≡ Ok y)
@@ -264,20 +265,20 @@ tokens_good [] = tt
 tokens_good (text ∷ texts) = (token_good text, tokens_good texts)
 
 -- the tree of a text is a sequence where it has not too many nodes
-pub tree_is_sequence : (text : List ℕ) (t : Tree) → tree_at text ≡ Ok t → node_count t ≤ 256 → IsSequence t
+pub tree_is_sequence : (text : List ℕ) (t : Tree) → tree_at text ≡ Ok t → node_count t ≤ 256 → IsReadable t
 tree_is_sequence text t e small =
     let room = read_good (wants [] new_level) (tokens text) t (record { outer = tt; level = (tt, tt); item = tt }) (tokens_good (pieces text)) e in
     record { small = small; shallow = plain_room 32 t room; predicates = room.0 }
 
 -- the same where the number of nodes is known of the tree alone
-pub told_is_sequence : (text : List ℕ) (t told : Tree) → tree_at text ≡ Ok t → tree_at text ≡ Ok told → node_count told ≤ 256 → IsSequence t
+pub told_is_sequence : (text : List ℕ) (t told : Tree) → tree_at text ≡ Ok t → tree_at text ≡ Ok told → node_count told ≤ 256 → IsReadable t
 told_is_sequence text t told e told_is small =
     let same : told ≡ t = ok_is told t (sym told_is ∙ e) in
     tree_is_sequence text t e (subst (λ (x : Tree). node_count x ≤ 256) same small)
 
 -- what is read of a text is a sequence
-pub read_is_sequence : (text : List ℕ) (t : Tree) → sequence_at text ≡ Ok t → IsSequence t
+pub read_is_sequence : (text : List ℕ) (t : Tree) → sequence_at text ≡ Ok t → IsReadable t
 read_is_sequence text t e =
     let read = bind_ok (tree_at text) within_size t e in
     let passed = guard_not faults.TooLarge (nat_lt 256 (node_count read.0)) (Ok read.0) t read.2 in
-    subst IsSequence (ok_is read.0 t passed.1) (tree_is_sequence text read.0 read.1 (ltb-false 256 (node_count read.0) passed.0))
+    subst IsReadable (ok_is read.0 t passed.1) (tree_is_sequence text read.0 read.1 (ltb-false 256 (node_count read.0) passed.0))

@@ -1,3 +1,4 @@
+pub mod Readable
 pub mod Sets
 pub mod Runs
 pub mod Tables
@@ -17,3 +18,4 @@ pub mod Spelling
 pub mod Spelled
 pub mod Found
 pub mod Refusing
+pub mod Sequences

@@ -10,7 +10,8 @@ use Rattle.policy_expr.specs.Predicate.{predicate_at}
 use Rattle.policy_expr.specs.Tokens.{is_mark, begins_with_mark, pieces, token_of, read_token, tokens}
 use Rattle.policy_expr.specs.Next.{after_marks}
 use Rattle.policy_expr.specs.Tree.{Tree, hop, followed, either, optional, repeated, once_or_more}
-use Rattle.policy_expr.specs.Printing.{strength, in_parentheses, predicate_text, printed, ArePredicates, IsSequence}
+use Rattle.policy_expr.specs.Printing.{strength, in_parentheses, predicate_text, printed}
+use Rattle.policy_expr.proofs.Readable.{ArePredicates, IsReadable}
 use Rattle.policy_expr.proofs.Cutting.{marks_of, pieces_of_run}
 use Rattle.policy_expr.specs.Reading.{new_level, wants, read_on, tree_at, sequence_at, node_count}
 use Rattle.policy_expr.proofs.Again.{closed_in, tokens_of, tokens_read}
@@ -108,7 +109,7 @@ unfolding pieces
 printed_tokens t are = ap tokens (sym (append-nil (printed t))) ∙ prints t are [] refl ∙ append-nil (tokens_of t)
 
 -- what is printed of a sequence is read as it
-pub printed_again : (t : Tree) → IsSequence t → sequence_at (printed t) ≡ Ok t
+pub printed_again : (t : Tree) → IsReadable t → sequence_at (printed t) ≡ Ok t
 printed_again t is =
     let whole : tree_at (printed t) ≡ Ok t = ap (read_on (wants [] new_level)) (printed_tokens t is.predicates) ∙ tokens_read t is.shallow in
     let small : nat_lt 256 (node_count t) ≡ false = le-ltb 256 (node_count t) is.small in

@@ -1,5 +1,5 @@
 -- Access control lists (path policy language): the first entry that matches a hop decides it.
-use Rattle.std.specs.Prelude.{◌≡◌, ℕ, ◌<◌, Bool, true, false, not, ◌&&◌, ◌||◌, ◌==◌, nat_lt, if◌then◌else◌, List, [], ◌∷◌, reverse, length, Option, Some, None, is_none, slice_get, Result, Ok, Err}
+use Rattle.std.specs.Prelude.{◌≡◌, ℕ, ◌<◌, ◌≤◌, ◌++◌, IsSome, Bool, true, false, not, ◌&&◌, ◌||◌, ◌==◌, nat_lt, if◌then◌else◌, List, [], ◌∷◌, reverse, length, Option, Some, None, is_none, slice_get, Result, Ok, Err}
 use Rattle.policy_expr.specs.declared.fault.PolicyFault.{PolicyFault}
 use Rattle.policy_expr.specs.declared.fault.PolicyFault.TheVariants as faults
 use Rattle.policy_expr.specs.declared.hop.HopPred.{HopPred}
@@ -107,9 +107,14 @@ acl_fault entries =
     else if is_bare_before_last entries then Some faults.AfterDefault
     else None
 
--- what is never false of an access control list
-abbrev pub IsAcl : List AclEntry → Type 0
-IsAcl entries = acl_fault entries ≡ None
+-- what is never false of an access control list: at most 256 entries, of which the last has no predicate and each other has one
+pub record IsAcl (entries : List AclEntry) : Type 0 where
+  pub few : length entries ≤ 256
+  pub front : List AclEntry
+  pub last : AclEntry
+  pub parts : entries ≡ front ++ last ∷ []
+  pub bare : last.pred ≡ None
+  pub others : (k : ℕ) (entry : AclEntry) → slice_get front k ≡ Some entry → IsSome entry.pred
 
 -- the access control list of texts
 abbrev pub acl_at : List (List ℕ) → Result (List AclEntry) PolicyFault

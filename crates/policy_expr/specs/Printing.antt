@@ -6,6 +6,7 @@ use Rattle.policy_expr.specs.declared.hop.HopPred.{HopPred}
 use Rattle.policy_expr.specs.declared.hop.Interfaces.{Interfaces}
 use Rattle.policy_expr.specs.declared.hop.Interfaces.TheVariants.{Any, Either, Both}
 use Rattle.policy_expr.specs.Acl.{says_nothing}
+use Rattle.policy_expr.specs.Grammar.{SpellsSequence}
 use Rattle.policy_expr.specs.Reading.{node_count}
 use Rattle.policy_expr.specs.Tree.{Tree, hop, followed, either, optional, repeated, once_or_more}
 
@@ -43,19 +44,6 @@ printed (optional a) = in_parentheses (nat_lt (strength a) 2) (printed a) ++ cod
 printed (repeated a) = in_parentheses (nat_lt (strength a) 2) (printed a) ++ codes "*"
 printed (once_or_more a) = in_parentheses (nat_lt (strength a) 2) (printed a) ++ codes "+"
 
--- one more where the text stands in parentheses
-abbrev pub nested : Bool → ℕ → ℕ
-nested wanted depth = if wanted then depth + 1 else depth
-
--- how deep the parentheses of a tree's text are
-abbrev pub depth : Tree → ℕ
-depth (hop pred) = 0
-depth (followed a b) = max (depth a) (nested (nat_lt (strength b) 1) (depth b))
-depth (either a b) = max (nested (nat_lt (strength a) 1) (depth a)) (nested (nat_lt (strength b) 2) (depth b))
-depth (optional a) = nested (nat_lt (strength a) 2) (depth a)
-depth (repeated a) = nested (nat_lt (strength a) 2) (depth a)
-depth (once_or_more a) = nested (nat_lt (strength a) 2) (depth a)
-
 -- interfaces as they are read: of 16 bits, and none where all are 0
 abbrev pub AreInterfaces : Interfaces → Type 0
 AreInterfaces Any = Unit {0}
@@ -66,16 +54,7 @@ AreInterfaces (Both m n) = (0 < m + n) × (m < 2 ^ 16) × (n < 2 ^ 16)
 abbrev pub IsPredicate : HopPred → Type 0
 IsPredicate pred = (pred.ia < 2 ^ 64) × AreInterfaces pred.interfaces
 
-abbrev pub ArePredicates : Tree → Type 0
-ArePredicates (hop pred) = IsPredicate pred
-ArePredicates (followed a b) = ArePredicates a × ArePredicates b
-ArePredicates (either a b) = ArePredicates a × ArePredicates b
-ArePredicates (optional a) = ArePredicates a
-ArePredicates (repeated a) = ArePredicates a
-ArePredicates (once_or_more a) = ArePredicates a
-
--- what is never false of a sequence: at most 256 nodes, 32 parentheses open at once, predicates as they are read
+-- what is never false of a sequence: at most 256 nodes, and its text spells it, so that it is read as it again
 pub record IsSequence (tree : Tree) : Type 0 where
   pub small : node_count tree ≤ 256
-  pub shallow : depth tree ≤ 32
-  pub predicates : ArePredicates tree
+  pub spelled : SpellsSequence (printed tree) tree

@@ -1,7 +1,9 @@
 //! Laws of the texts of sequences: each is the contract of a function that does nothing.
 
-ghost use Rattle.std.specs.Prelude.{◌≡◌, ◌↔◌, ◌≤◌, ℕ, List, Ok};
+ghost use Rattle.std.specs.Prelude.{◌≡◌, ◌↔◌, ◌≤◌, ℕ, List, None, Ok};
 ghost use Rattle.policy_expr.specs.declared.hop.HopPred.{HopPred};
+ghost use Rattle.policy_expr.specs.declared.acl.AclEntry.{AclEntry};
+ghost use Rattle.policy_expr.specs.Acl.{IsAcl, acl_fault};
 ghost use Rattle.policy_expr.specs.Predicate.{predicate_at};
 ghost use Rattle.policy_expr.specs.Tree.{Tree};
 ghost use Rattle.policy_expr.specs.Grammar.{SpellsSequence};
@@ -23,4 +25,9 @@ pub fn printed_is_read()
 pub fn read_is_kept()
     ensures sequence { (text : List ℕ) (tree : Tree) → sequence_at text ≡ Ok tree → IsSequence tree }
     ensures predicate { (text : List ℕ) (pred : HopPred) → predicate_at text ≡ Ok pred → IsPredicate pred }
+{}
+
+/// The rules of a list find no fault exactly where it is one in plain facts.
+pub fn lists_are_plain()
+    ensures { (entries : List AclEntry) → (acl_fault entries ≡ None) ↔ IsAcl entries }
 {}

@@ -1,0 +1,145 @@
+-- How many hops the walk of a path has, and of which kinds its pieces are.
+use Rattle.std.proofs.Common.{◌≡◌, ℕ, ◌+◌, ◌<◌, ◌≤◌, true, List, [], ◌∷◌, ◌++◌, length, map, IsTrue, sym, ap, ◌∙◌, subst, arith, refl, length-append}
+use Rattle.std.specs.List.{fold, sum_by, AllByRecursion}
+use Rattle.std.proofs.lemmas.List.{length-map}
+use Rattle.std.proofs.lemmas.List.Elements.{recursion_from_All}
+use Rattle.std.proofs.lemmas.List.Sums.{sum_by-cons}
+use Rattle.policy_expr.specs.declared.hop.WalkHop.{WalkHop}
+use Rattle.path_verifier.specs.declared.kind.PieceKind.{PieceKind}
+use Rattle.path_verifier.specs.declared.kind.PieceKind.TheVariants.{Up, Core, Down}
+use Rattle.path_verifier.specs.Piece.{PieceValue, HasRange, kind_of}
+use Rattle.path_verifier.specs.Walk.{hops_of, left_by, entered_by, joined, walk_of}
+use Rattle.path_verifier.specs.Header.{len_of, hop_count}
+use Rattle.path_verifier.specs.Shape.{are_kinds}
+use Rattle.path_verifier.specs.Accepted.{MayAdjoin, MakesPath}
+use Rattle.path_verifier.proofs.Course.{ases, two_ases, joined_none}
+use Rattle.path_verifier.proofs.Hops.{length_left_by, length_hops_of}
+
+-- ---- at most as many hops as hop fields
+
+length_joined : (walk hops : List WalkHop) → length (joined walk hops) ≤ length walk + length hops
+length_joined walk [] = omega arith
+length_joined [] (hop ∷ later) = omega arith
+length_joined (first ∷ rest) (hop ∷ later) =
+    let same = length_left_by hop.egress (first ∷ rest) in
+    let count = length-append (left_by hop.egress (first ∷ rest)) later in
+    omega arith
+
+length_folded : (walk : List WalkHop) (pieces : List PieceValue) → length (fold joined walk (map hops_of pieces)) ≤ length walk + hop_count pieces
+length_folded walk [] = omega arith
+length_folded walk (piece ∷ pieces) =
+    let more = length_folded (joined walk (hops_of piece)) pieces in
+    let one = length_joined walk (hops_of piece) in
+    let count = length_hops_of piece in
+    let total = sum_by-cons len_of piece pieces in
+    omega arith
+
+length_entered : (way : ℕ) (hops : List WalkHop) → length (entered_by way hops) ≡ length hops
+length_entered way [] = refl
+length_entered way (hop ∷ later) = refl
+
+length_walk_of : (pieces : List PieceValue) → length (walk_of pieces) ≡ length (fold joined [] (map hops_of pieces))
+unfolding walk_of
+length_walk_of pieces =
+    let hops = fold joined [] (map hops_of pieces) in
+    length_left_by 0 (entered_by 0 hops) ∙ length_entered 0 hops
+
+pub walk_is_short : (pieces : List PieceValue) → length (walk_of pieces) ≤ hop_count pieces
+walk_is_short pieces =
+    let a = length_walk_of pieces in
+    let c = length_folded [] pieces in
+    omega arith
+
+-- ---- at least two
+
+longer_joined : (walk hops : List WalkHop) → length walk ≤ length (joined walk hops)
+longer_joined walk [] = omega arith
+longer_joined [] (hop ∷ later) = omega arith
+longer_joined (first ∷ rest) (hop ∷ later) =
+    let same = length_left_by hop.egress (first ∷ rest) in
+    let count = length-append (left_by hop.egress (first ∷ rest)) later in
+    omega arith
+
+longer_folded : (walk : List WalkHop) (pieces : List PieceValue) → length walk ≤ length (fold joined walk (map hops_of pieces))
+longer_folded walk [] = omega arith
+longer_folded walk (piece ∷ pieces) =
+    let more = longer_folded (joined walk (hops_of piece)) pieces in
+    let one = longer_joined walk (hops_of piece) in
+    omega arith
+
+some_pieces : (pieces : List PieceValue) → 0 < length pieces → AllByRecursion HasRange pieces → 2 ≤ length (fold joined [] (map hops_of pieces))
+some_pieces [] some ranges = absurd (omega arith)
+some_pieces (piece ∷ pieces) some ranges =
+    let two = two_ases piece ranges.0 in
+    let long = length-map (hops_of piece) (λ (h : WalkHop). h.ia) in
+    let first = ap (λ (hops : List WalkHop). length hops) (joined_none (hops_of piece)) in
+    let more = longer_folded (joined [] (hops_of piece)) pieces in
+    omega arith
+
+pub walk_is_long : (pieces : List PieceValue) (src dst now : ℕ) → MakesPath pieces src dst now → 2 ≤ length (walk_of pieces)
+walk_is_long pieces src dst now path =
+    let a = length_walk_of pieces in
+    let two = some_pieces pieces path.some (recursion_from_All HasRange pieces path.ranges) in
+    omega arith
+
+-- ---- kinds
+
+two_kinds : (a b : PieceKind) → are_kinds (a ∷ b ∷ []) ≡ true → MayAdjoin a b
+two_kinds Up Up e = absurd cc
+two_kinds Up Core e = tt
+two_kinds Up Down e = tt
+two_kinds Core Up e = absurd cc
+two_kinds Core Core e = absurd cc
+two_kinds Core Down e = tt
+two_kinds Down Up e = absurd cc
+two_kinds Down Core e = absurd cc
+two_kinds Down Down e = absurd cc
+
+three_kinds : (a b c : PieceKind) → are_kinds (a ∷ b ∷ c ∷ []) ≡ true → MayAdjoin a b × MayAdjoin b c
+three_kinds Up Core Down e = (tt, tt)
+three_kinds Up Core Up e = absurd cc
+three_kinds Up Core Core e = absurd cc
+three_kinds Up Up c e = absurd cc
+three_kinds Up Down c e = absurd cc
+three_kinds Core Up c e = absurd cc
+three_kinds Core Core c e = absurd cc
+three_kinds Core Down c e = absurd cc
+three_kinds Down b c e = absurd cc
+
+no_four : (a b c d : PieceKind) (more : List PieceKind) → are_kinds (a ∷ b ∷ c ∷ d ∷ more) ≡ true → ⊥
+no_four Up Core Down d more e = absurd cc
+no_four Up Core Up d more e = absurd cc
+no_four Up Core Core d more e = absurd cc
+no_four Up Up c d more e = absurd cc
+no_four Up Down c d more e = absurd cc
+no_four Core Up c d more e = absurd cc
+no_four Core Core c d more e = absurd cc
+no_four Core Down c d more e = absurd cc
+no_four Down b c d more e = absurd cc
+
+three_at_most : (pieces : List PieceValue) → are_kinds (map kind_of pieces) ≡ true → length pieces ≤ 3
+three_at_most [] e = omega arith
+three_at_most (a ∷ []) e = omega arith
+three_at_most (a ∷ b ∷ []) e = omega arith
+three_at_most (a ∷ b ∷ c ∷ []) e = omega arith
+three_at_most (a ∷ b ∷ c ∷ d ∷ more) e = absurd (no_four (kind_of a) (kind_of b) (kind_of c) (kind_of d) (map kind_of more) e)
+
+adjoin_in : (past later : List PieceValue) (piece next : PieceValue) → are_kinds (map kind_of (past ++ (piece ∷ (next ∷ later)))) ≡ true → MayAdjoin (kind_of piece) (kind_of next)
+adjoin_in [] [] piece next e = two_kinds (kind_of piece) (kind_of next) e
+adjoin_in [] (c ∷ []) piece next e = (three_kinds (kind_of piece) (kind_of next) (kind_of c) e).0
+adjoin_in [] (c ∷ d ∷ more) piece next e = absurd (no_four (kind_of piece) (kind_of next) (kind_of c) (kind_of d) (map kind_of more) e)
+adjoin_in (a ∷ []) [] piece next e = (three_kinds (kind_of a) (kind_of piece) (kind_of next) e).1
+adjoin_in (a ∷ []) (d ∷ more) piece next e = absurd (no_four (kind_of a) (kind_of piece) (kind_of next) (kind_of d) (map kind_of more) e)
+adjoin_in (a ∷ b ∷ []) later piece next e = absurd (no_four (kind_of a) (kind_of b) (kind_of piece) (kind_of next) (map kind_of later) e)
+adjoin_in (a ∷ b ∷ c ∷ []) later piece next e = absurd (no_four (kind_of a) (kind_of b) (kind_of c) (kind_of piece) (map kind_of (next ∷ later)) e)
+adjoin_in (a ∷ b ∷ c ∷ d ∷ past) later piece next e =
+    absurd (no_four (kind_of a) (kind_of b) (kind_of c) (kind_of d) (map kind_of (past ++ (piece ∷ (next ∷ later)))) e)
+
+-- ---- the laws
+
+pub path_is_short : (pieces : List PieceValue) (src dst now : ℕ) → MakesPath pieces src dst now → length pieces ≤ 3
+path_is_short pieces src dst now path = three_at_most pieces path.kinds
+
+pub pieces_adjoin : (past later : List PieceValue) (piece next : PieceValue) (src dst now : ℕ) → MakesPath (past ++ (piece ∷ (next ∷ later))) src dst now
+    → MayAdjoin (kind_of piece) (kind_of next)
+pieces_adjoin past later piece next src dst now path = adjoin_in past later piece next path.kinds
