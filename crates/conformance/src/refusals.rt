@@ -4,7 +4,6 @@ use path_header::HeaderFault;
 use path_segment::SegmentFault;
 use refusal::OrMemory;
 use router_step::Refusal;
-use scion_topology::TopologyFault;
 use std::alloc::Global;
 use std::fmt::Display;
 use std::test::Fail;
@@ -74,43 +73,6 @@ fn of_headers(rt: HostRuntime) -> Result<(), Fail> {
         (
             HeaderFault::RoomTooSmall,
             "the room is shorter than the header",
-        ),
-    ];
-    for (fault, sentence) in rows {
-        assert!(rt; is_sentence(rt.alloc(), fault, sentence)?);
-    }
-    Ok(())
-}
-
-#[test]
-fn of_topologies(rt: HostRuntime) -> Result<(), Fail> {
-    let rows = [
-        (TopologyFault::NotJson, "the text is not JSON"),
-        (
-            TopologyFault::BadField,
-            "a field is missing, of another type or out of its range",
-        ),
-        (TopologyFault::DuplicateAs, "an AS is listed twice"),
-        (
-            TopologyFault::DuplicateIf,
-            "an interface stands at two ends of links",
-        ),
-        (TopologyFault::UnknownAs, "an AS is not listed"),
-        (
-            TopologyFault::BadKind,
-            "a link joins ASes that its kind does not join",
-        ),
-        (
-            TopologyFault::NoRouter,
-            "an AS has no router of this number",
-        ),
-        (
-            TopologyFault::NoLink,
-            "an AS has no interface of this number",
-        ),
-        (
-            TopologyFault::TooMany,
-            "there are 1 to 1024 ASes and at most 4096 links",
         ),
     ];
     for (fault, sentence) in rows {
