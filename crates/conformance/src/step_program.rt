@@ -134,7 +134,8 @@ fn bad_words(rt: HostRuntime) -> Result<(), Fail> {
     let signed = ran(&rt, &words("+1"), Broken(io::ErrorKind::Other));
     assert!(rt; signed.is(2, "", "scionet: usage\n"));
     let help = ran(&rt, &["step", "--help"], Broken(io::ErrorKind::Other));
-    assert!(rt; help.is_refused_with("Usage: scionet step --ia <IA> --router <N>"));
+    assert!(rt; help.is_refused_with("Usage: scionet step [OPTIONS] --ia <IA> --router <N>"));
+    assert!(rt; help.is_refused_with("--previous <HEX>"));
     assert!(rt; help.is_refused_with("in seconds since 1970"));
     Ok(())
 }
