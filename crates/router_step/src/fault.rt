@@ -21,7 +21,7 @@ pub enum Refusal {
     /// The hop is past its expiry.
     #[error("the hop has expired")]
     Expired,
-    /// The hop's authenticator is not one that this AS made.
+    /// The hop's authenticator is right under none of the keys that this AS accepts.
     #[error("the authenticator of the hop is not right")]
     BadMac,
     /// A host's packet names another AS as its source, or one from outside names this one.
