@@ -1,6 +1,6 @@
 -- How many hops the walk of a path has, and of which kinds its pieces are.
-use Rattle.std.proofs.Common.{◌≡◌, ℕ, ◌+◌, ◌<◌, ◌≤◌, true, List, [], ◌∷◌, ◌++◌, length, map, IsTrue, sym, ap, ◌∙◌, subst, arith, refl, length-append}
-use Rattle.std.specs.List.{fold, sum_by, AllByRecursion}
+use Rattle.std.proofs.Common.{◌≡◌, ℕ, ◌+◌, ◌<◌, ◌≤◌, true, List, [], ◌∷◌, ◌++◌, length, map, ap, ◌∙◌, arith, refl, length-append}
+use Rattle.std.specs.List.{fold, AllByRecursion}
 use Rattle.std.proofs.lemmas.List.{length-map}
 use Rattle.std.proofs.lemmas.List.Elements.{recursion_from_All}
 use Rattle.std.proofs.lemmas.List.Sums.{sum_by-cons}
@@ -12,7 +12,7 @@ use Rattle.path_verifier.specs.Walk.{hops_of, left_by, entered_by, joined, walk_
 use Rattle.path_verifier.specs.Header.{len_of, hop_count}
 use Rattle.path_verifier.specs.Shape.{are_kinds}
 use Rattle.path_verifier.specs.Accepted.{MayAdjoin, MakesPath}
-use Rattle.path_verifier.proofs.Course.{ases, two_ases, joined_none}
+use Rattle.path_verifier.proofs.Course.{two_ases, joined_none}
 use Rattle.path_verifier.proofs.Hops.{length_left_by, length_hops_of}
 
 -- ---- at most as many hops as hop fields

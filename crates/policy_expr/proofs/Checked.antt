@@ -1,5 +1,5 @@
 -- Judging the texts of a list finds what reading it answers.
-use Rattle.std.proofs.Common.{◌≤◌, is_none, slice_get, subst, ◌≡◌, ℕ, zero, suc, ◌+◌, ◌<◌, Bool, true, false, not, ◌||◌, cond, List, [], ◌∷◌, ◌++◌, length, Option, None, Some, Result, Ok, Err, refl, sym, ◌∙◌, ap, arith, append_assoc, length-append}
+use Rattle.std.proofs.Common.{is_none, slice_get, subst, ◌≡◌, ℕ, zero, suc, ◌+◌, Bool, true, false, not, ◌||◌, cond, List, [], ◌∷◌, ◌++◌, length, Option, None, Some, Result, Ok, Err, refl, sym, ◌∙◌, ap, arith, append_assoc, length-append}
 use Rattle.std.specs.Prelude.{nat_lt, IsOk, IsSome}
 use Rattle.std.proofs.lemmas.List.{append-nil}
 use Rattle.std.proofs.lemmas.Bool.{ltb-false, le-ltb, not-false}
@@ -113,14 +113,20 @@ record Parted (entries : List AclEntry) : Type 0 where
 parted : (entries : List AclEntry) → ends_bare entries ≡ true → is_bare_before_last entries ≡ false → Parted entries
 parted [] ends before = absurd (let f : false ≡ true = ends in cc)
 parted (e ∷ []) ends before = record {
-  front = []; last = e; parts = refl; bare = none_of e.pred ends;
+  front = [];
+  last = e;
+  parts = refl;
+  bare = none_of e.pred ends;
   others = λ k entry there. absurd (let f : None ≡ Some entry = there in cc);
 }
 parted (e ∷ next ∷ later) ends before =
     let both = or_neither (is_bare e) (is_bare_before_last (next ∷ later)) before in
     let p = parted (next ∷ later) ends both.1 in
     record {
-      front = e ∷ p.front; last = p.last; parts = ap (λ (xs : List AclEntry). e ∷ xs) p.parts; bare = p.bare;
+      front = e ∷ p.front;
+      last = p.last;
+      parts = ap (λ (xs : List AclEntry). e ∷ xs) p.parts;
+      bare = p.bare;
       others = in_front e p.front (some_of e.pred both.0) p.others;
     }
   where

@@ -1,6 +1,6 @@
 -- Reading a sequence answers the first fault of its tokens.
-use Rattle.std.proofs.Common.{IfOk, IfErr, ◌≡◌, ◌≢◌, ℕ, suc, ◌+◌, ◌-◌, ◌≤◌, Bool, true, false, cond, List, [], ◌∷◌, length, Option, Some, None, is_some, Result, Ok, Err, IsOk, refl, sym, ◌∙◌, ap, subst, arith, add-one, unwrap_or}
-use Rattle.std.specs.Prelude.{nat_lt, nat_eq}
+use Rattle.std.proofs.Common.{IfOk, IfErr, ◌≡◌, ◌≢◌, ℕ, ◌+◌, ◌-◌, ◌≤◌, Bool, true, false, cond, List, [], ◌∷◌, length, Option, Some, None, is_some, Result, Ok, Err, IsOk, refl, sym, arith, add-one, unwrap_or}
+use Rattle.std.specs.Prelude.{nat_lt}
 use Rattle.std.specs.Result.{result_err}
 use Rattle.std.proofs.lemmas.Bool.{ne_eqb}
 use Rattle.refusal.specs.Refusal.{◌>>=◌, Answers}
@@ -11,9 +11,9 @@ use Rattle.policy_expr.specs.declared.fault.PolicyFault.TheVariants as faults
 use Rattle.policy_expr.specs.declared.token.Token.{Token}
 use Rattle.policy_expr.specs.declared.token.Token.TheVariants as signs
 use Rattle.policy_expr.specs.Tokens.{tokens}
-use Rattle.policy_expr.specs.Tree.{Tree, hop, followed, either, optional, repeated, once_or_more}
+use Rattle.policy_expr.specs.Tree.{Tree, hop, optional, repeated, once_or_more}
 use Rattle.policy_expr.specs.Grammar.{SpellsSequence}
-use Rattle.policy_expr.specs.Reading.{Level, Reading, new_level, with_left, whole, wants, has, item_begun, level_closed, item_followed, took, ended, read_on, tree_at, node_count, within_size, sequence_at}
+use Rattle.policy_expr.specs.Reading.{Level, new_level, with_left, whole, wants, item_begun, level_closed, item_followed, took, ended, read_on, tree_at, node_count, within_size, sequence_at}
 use Rattle.policy_expr.specs.Refusing.{fault_at, IsRefusal, Gets}
 use Rattle.policy_expr.proofs.Found.{sequence_is_spelled, spelled_is_sequence}
 

@@ -1,5 +1,5 @@
 -- How a sequence is printed: with the fewest parentheses that keep its tree, one space for following and nothing round `|`.
-use Rattle.std.specs.Prelude.{ℕ, ◌+◌, ◌<◌, ◌≤◌, max, Bool, ◌%◌, ◌/◌, ◌^◌, ◌==◌, ◌&&◌, nat_lt, if◌then◌else◌, codes, List, [], ◌++◌}
+use Rattle.std.specs.Prelude.{ℕ, ◌+◌, ◌<◌, ◌≤◌, Bool, ◌%◌, ◌/◌, ◌^◌, ◌==◌, ◌&&◌, nat_lt, if◌then◌else◌, codes, List, [], ◌++◌}
 use Rattle.std.specs.Fmt.{decimal}
 use Rattle.isd_as.specs.Address.{canonical}
 use Rattle.policy_expr.specs.declared.hop.HopPred.{HopPred}

@@ -1,4 +1,4 @@
-use Rattle.std.proofs.Common.{◌≤◌, List, length, ap, ◌∙◌, arith}
+use Rattle.std.proofs.Common.{◌≤◌, List, length, ap, arith}
 use Rattle.policy_expr.specs.declared.hop.WalkHop.{WalkHop}
 use Rattle.path_verifier.specs.Walk.{walk_of}
 use Rattle.path_verifier.proofs.Lengths.{walk_is_long}
