@@ -1,8 +1,9 @@
 -- The header of pieces.
-use Rattle.std.proofs.Common.{◌≡◌, ℕ, ◌+◌, ◌<◌, ◌≤◌, List, [], ◌∷◌, length, map, Some, refl, sym, ap, ◌∙◌, arith, length-append}
+use Rattle.std.proofs.Common.{◌≡◌, ℕ, ◌+◌, ◌<◌, ◌≤◌, List, [], ◌∷◌, length, map, Some, All, refl, sym, ap, ◌∙◌, arith, length-append}
 use Rattle.std.specs.Prelude.{slice_get, option_map}
 use Rattle.std.specs.List.{AllByRecursion, flat_map}
 use Rattle.std.proofs.lemmas.List.{length-map, append-nil}
+use Rattle.std.proofs.lemmas.List.Elements.{recursion_from_All}
 use Rattle.std.proofs.lemmas.Option.{slice_get-map}
 use Rattle.path_segment.specs.declared.entry.Entry.{Entry}
 use Rattle.path_header.specs.declared.fields.HopField.{HopField}
@@ -12,8 +13,10 @@ use Rattle.path_verifier.specs.declared.pieces.Held.{Held}
 use Rattle.path_verifier.specs.declared.pieces.Held.TheVariants.{Zero, One, Two, Three}
 use Rattle.path_verifier.specs.Held.{pieces_in}
 use Rattle.path_verifier.specs.Piece.{PieceValue, HasRange, travelled}
-use Rattle.path_verifier.specs.Header.{field_of, fields_of, info_of, len_of, hop_count, HaveSixBits}
+use Rattle.path_verifier.specs.Header.{field_of, fields_of, info_of, len_of, hop_count, header_of, HaveSixBits}
+use Rattle.path_verifier.specs.Accepted.{MakesPath}
 use Rattle.path_verifier.proofs.Stretch.{length_travelled}
+use Rattle.path_verifier.proofs.Lengths.{path_is_short}
 
 pub field_there : (piece : PieceValue) (i : ℕ) (entry : Entry) (field : HopField) → slice_get (travelled piece) i ≡ Some entry → field ≡ field_of entry
     → slice_get (fields_of piece) i ≡ Some field
@@ -77,3 +80,28 @@ is_header (a ∷ b ∷ c ∷ []) some three ranges few bits =
       curr_hf = omega arith;
     }
 is_header (a ∷ b ∷ c ∷ d ∷ more) some three ranges few bits = absurd (omega arith)
+
+-- ---- the header of a path
+
+-- a piece of a segment of at most 63 entries has fewer than 64 hop fields
+small_of : (piece : PieceValue) → HasRange piece → length piece.segment.entries ≤ 63 → len_of piece < 64
+small_of piece range small =
+    let count = length_travelled piece range in
+    let order = range.order in
+    let within = range.within in
+    omega arith
+
+six_bits : (pieces : List PieceValue) → length pieces ≤ 3 → AllByRecursion HasRange pieces → AllByRecursion (λ piece. length piece.segment.entries ≤ 63) pieces
+    → HaveSixBits (lens_from (map len_of pieces))
+six_bits [] three ranges small = (omega arith, omega arith, omega arith)
+six_bits (a ∷ []) three ranges small = (small_of a ranges.0 small.0, omega arith, omega arith)
+six_bits (a ∷ b ∷ []) three ranges small = (small_of a ranges.0 small.0, small_of b ranges.1.0 small.1.0, omega arith)
+six_bits (a ∷ b ∷ c ∷ []) three ranges small = (small_of a ranges.0 small.0, small_of b ranges.1.0 small.1.0, small_of c ranges.1.1.0 small.1.1.0)
+six_bits (a ∷ b ∷ c ∷ d ∷ more) three ranges small = absurd (omega arith)
+
+pub header_is_one : (pieces : List PieceValue) (src dst now : ℕ) → MakesPath pieces src dst now → All (λ piece. length piece.segment.entries ≤ 63) pieces → IsHeader (header_of pieces)
+unfolding header_of
+header_is_one pieces src dst now path small =
+    let ranges = recursion_from_All HasRange pieces path.ranges in
+    let three = path_is_short pieces src dst now path in
+    is_header pieces path.some three ranges path.few (six_bits pieces three ranges (recursion_from_All (λ (piece : PieceValue). length piece.segment.entries ≤ 63) pieces small))

@@ -1,8 +1,9 @@
 //! Laws of paths: each is the contract of a function that does nothing.
 
-ghost use Rattle.std.specs.Prelude.{◌≡◌, ◌↔◌, ℕ, ◌-◌, ◌*◌, ◌≤◌, List, ◌∷◌, ◌++◌, Some, None, length, map, slice_get};
+ghost use Rattle.std.specs.Prelude.{◌≡◌, ◌↔◌, ℕ, ◌-◌, ◌*◌, ◌≤◌, List, ◌∷◌, ◌++◌, Some, None, length, map, slice_get, All};
+ghost use Rattle.path_header.specs.Value.{IsHeader};
 ghost use Rattle.path_verifier.specs.Piece.{PieceValue, kind_of};
-ghost use Rattle.path_verifier.specs.Header.{hop_count};
+ghost use Rattle.path_verifier.specs.Header.{header_of, hop_count};
 ghost use Rattle.path_verifier.specs.Walk.{walk_of};
 ghost use Rattle.path_verifier.specs.Shape.{path_fault};
 ghost use Rattle.path_verifier.specs.Accepted.{AreLive, IsExpiry, MakesPath, MayAdjoin};
@@ -40,4 +41,10 @@ pub fn pieces_adjoin()
     ensures most { (pieces : List PieceValue) (src dst now : ℕ) → MakesPath pieces src dst now → length pieces ≤ 3 }
     ensures kinds { (past later : List PieceValue) (piece next : PieceValue) (src dst now : ℕ)
         → MakesPath (past ++ (piece ∷ (next ∷ later))) src dst now → MayAdjoin (kind_of piece) (kind_of next) }
+{}
+
+/// The header of a path of segments is one of the grammar. A segment has at most 63 entries.
+pub fn headers_are_of_the_grammar()
+    ensures { (pieces : List PieceValue) (src dst now : ℕ) → MakesPath pieces src dst now
+        → All (λ piece. length piece.segment.entries ≤ 63) pieces → IsHeader (header_of pieces) }
 {}
