@@ -1,5 +1,5 @@
 -- Which entries are a segment, and which a beacon under way (draft-dekater-scion-controlplane, path segments).
-use Rattle.std.specs.Prelude.{◌≡◌, ◌≢◌, ◌↔◌, ℕ, ◌+◌, ◌≤◌, ◌==◌, ◌&&◌, ◌||◌, not, nat_lt, nat_le, Bool, true, false, if◌then◌else◌, List, [], ◌∷◌, length, Option, Some, None, slice_get, Result, Ok, Err}
+use Rattle.std.specs.Prelude.{◌≡◌, ◌≢◌, ◌↔◌, ℕ, ◌+◌, ◌≤◌, ◌==◌, ◌&&◌, ◌||◌, not, nat_lt, nat_le, Bool, true, false, if◌then◌else◌, List, [], ◌∷◌, length, Option, Some, None, slice_get, Result}
 use Rattle.std.specs.List.{list_any, list_all}
 use Rattle.refusal.specs.Refusal.{unless}
 use Rattle.path_segment.specs.declared.entry.Entry.{Entry}

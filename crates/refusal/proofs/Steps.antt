@@ -1,5 +1,5 @@
 -- What steps that gave a value say of each step.
-use Rattle.std.proofs.Common.{◌≡◌, Bool, true, false, cond, Option, Some, None, Result, Ok, Err, IfOk, refl, sym, ◌∙◌}
+use Rattle.std.proofs.Common.{◌≡◌, Bool, true, false, cond, Option, Some, None, Result, Ok, Err, IfOk, refl}
 use Rattle.std.specs.Option.{ok_or}
 use Rattle.refusal.specs.Refusal.{◌>>=◌, check, unless}
 

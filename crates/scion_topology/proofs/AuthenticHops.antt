@@ -1,11 +1,10 @@
 -- The test of an authenticator under a list of keys.
-use Rattle.std.proofs.Common.{◌≡◌, ℕ, Bool, true, false, ◌||◌, List, [], ◌∷◌, Decides, refl, sym}
+use Rattle.std.proofs.Common.{◌≡◌, ℕ, Bool, List, Decides}
 use Rattle.std.specs.Prelude.{IsTrue, ◌↔◌}
 use Rattle.std.specs.Str.{bytes_eq}
 use Rattle.std.proofs.lemmas.Bool.Decides.{Decides-at}
 use Rattle.std.proofs.lemmas.Slice.Eq.{bytes_eq-Decides}
-use Rattle.hop_mac.specs.Hmac.{padded}
-use Rattle.hop_mac.specs.Hop.{authenticator, authenticator_under}
+use Rattle.hop_mac.specs.Hop.{authenticator}
 use Rattle.scion_topology.specs.View.{View, IsAuthentic, is_authentic}
 use Rattle.scion_topology.proofs.Deciding.{Decides-list_any}
 

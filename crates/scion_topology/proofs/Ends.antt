@@ -1,13 +1,11 @@
 -- The two ends of a link: which is far, who owns them, and as what they see each other.
-use Rattle.std.proofs.Common.{◌≡◌, ℕ, ◌<◌, Bool, true, false, cond, eqb, leb, not, List, [], ◌∷◌, Option, Some, None, Result, Ok, refl, sym, ap, ◌∙◌, inl, inr, ◌⊎◌, ◌||◌, IfSome, IsSome}
+use Rattle.std.proofs.Common.{◌≡◌, ℕ, ◌<◌, Bool, true, false, cond, eqb, not, List, [], ◌∷◌, Option, Some, None, Result, Ok, refl, sym, ap, ◌∙◌, inl, inr, ◌⊎◌, ◌||◌, IfSome, IsSome}
 use Rattle.std.specs.List.{list_any}
-use Rattle.std.specs.Option.{option_map_or}
-use Rattle.std.proofs.lemmas.Bool.{cases_Bool, or_parts, or_cases, and_parts, and_from, or_left, or_right, not-false, eqb-true, eq-eqb, leb-false, true≢false}
+use Rattle.std.proofs.lemmas.Bool.{cases_Bool, or_parts, or_cases, and_parts, and_from, or_left, or_right, not-false, eqb-true, eq-eqb, true≢false}
 use Rattle.scion_topology.specs.declared.entry.IfEntry.{IfEntry}
 use Rattle.scion_topology.specs.declared.fault.TopologyFault.{TopologyFault}
 use Rattle.scion_topology.specs.declared.fault.TopologyFault.TheVariants as faults
 use Rattle.scion_topology.specs.declared.network.AsEntry.{AsEntry}
-use Rattle.scion_topology.specs.declared.network.End.{End}
 use Rattle.scion_topology.specs.declared.network.Link.{Link}
 use Rattle.scion_topology.specs.declared.network.LinkClass.{LinkClass}
 use Rattle.scion_topology.specs.declared.network.LinkClass.TheVariants.{Core, Child}

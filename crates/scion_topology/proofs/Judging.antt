@@ -1,9 +1,9 @@
 -- The rules of a network hold exactly where its tests find no cause against it.
-use Rattle.std.proofs.Common.{◌≡◌, ◌≢◌, ℕ, zero, suc, ◌/◌, ◌%◌, ◌^◌, ◌<◌, ◌≤◌, Bool, true, false, cond, eqb, ltb, leb, not, ◌&&◌, ◌||◌, List, [], ◌∷◌, length, get_or, All, AllPairs, Contains, Any, Option, Some, None, refl, sym, ap, ◌∙◌, subst, arith, inl, inr, ◌⊎◌}
+use Rattle.std.proofs.Common.{◌≡◌, ◌≢◌, ℕ, zero, suc, ◌/◌, ◌%◌, ◌^◌, ◌<◌, ◌≤◌, Bool, true, false, cond, eqb, ltb, leb, not, ◌||◌, List, [], ◌∷◌, length, get_or, All, AllPairs, Contains, Option, Some, None, refl, sym, ap, ◌∙◌, arith, inl, inr}
 use Rattle.std.specs.List.{list_all, list_any}
 use Rattle.std.specs.Option.{option_map_or}
 use Rattle.std.proofs.lemmas.Bool.{cases_Bool, or_parts, or_from, and_parts, and_from, not-true, not-false, not_from_true, not_from_false, eqb-true, eq-eqb, ne_eqb, ltb-true, ltb-false, lt-ltb, le-ltb, leb-true, leb-false, le-leb, lt-leb, true≢false, false_from_ne_true}
-use Rattle.std.proofs.lemmas.List.Folds.{list_any_none, list_any-from_Any}
+use Rattle.std.proofs.lemmas.List.Folds.{list_any_none}
 use Rattle.std.proofs.lemmas.List.Kept.{AllPairs-cons}
 use Rattle.scion_topology.specs.declared.fault.TopologyFault.{TopologyFault}
 use Rattle.scion_topology.specs.declared.network.AsEntry.{AsEntry}
@@ -13,7 +13,7 @@ use Rattle.scion_topology.specs.declared.network.LinkClass.{LinkClass}
 use Rattle.scion_topology.specs.declared.network.LinkClass.TheVariants.{Core, Child}
 use Rattle.scion_topology.specs.Keys.{are_keys}
 use Rattle.scion_topology.specs.Network.{Network, IsPlain, is_wildcard, as_named, has_end, is_end}
-use Rattle.scion_topology.specs.Rules.{IsAs, IsEnd, Joins, IsLink, ends_of, AreTwo, IsNetwork, IsNumbered}
+use Rattle.scion_topology.specs.Rules.{IsAs, Joins, IsLink, ends_of, AreTwo, IsNetwork, IsNumbered}
 use Rattle.scion_topology.specs.Causes.{is_as, is_link, is_too_many, is_listed, lists_twice, has_unknown_end, lacks_router, has_no_router, is_core, is_ill_classed, is_ill_joined, stands, joins_twice, cause_of}
 use Rattle.scion_topology.proofs.Deciding.{apart, apart_test, each_fails, All-cons, All-rest, All-first, All-from_list_all, list_all-from_All}
 use Rattle.scion_topology.proofs.KeyTests.{AreKeys-are_keys, are_keys-AreKeys}

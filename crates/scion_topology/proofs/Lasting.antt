@@ -1,7 +1,7 @@
 -- What outlasts a link that goes up or down, and a new key.
-use Rattle.std.proofs.Common.{◌≡◌, ◌≢◌, ℕ, zero, suc, ◌+◌, ◌<◌, ◌⊎◌, Bool, true, false, cond, eqb, not, ◌&&◌, ◌||◌, List, [], ◌∷◌, length, get_or, Contains, Option, Some, None, Result, Ok, Err, refl, sym, ap, ◌∙◌, subst, arith, inl, inr}
+use Rattle.std.proofs.Common.{◌≡◌, ◌≢◌, ℕ, zero, suc, ◌+◌, ◌<◌, Bool, true, false, cond, eqb, not, ◌||◌, List, [], ◌∷◌, length, get_or, Contains, Option, Some, None, Result, Ok, Err, refl, sym, ap, ◌∙◌, subst, arith, inl, inr}
 use Rattle.std.specs.Prelude.{position}
-use Rattle.std.specs.List.{list_all, position_or_len}
+use Rattle.std.specs.List.{position_or_len}
 use Rattle.std.specs.Option.{ok_or}
 use Rattle.std.proofs.lemmas.Bool.{cases_Bool, or_cases, and_parts, eqb-true, ne_eqb, true≢false, false_from_ne_true}
 use Rattle.std.proofs.lemmas.Option.{same_Some}
@@ -18,7 +18,7 @@ use Rattle.scion_topology.specs.Topology.{IsNetwork, known, joined, near_end, fa
 use Rattle.scion_topology.specs.Ends.{IsAt, IsShown, at_a, at_b, IsUp, IsStill, IsSame}
 use Rattle.scion_topology.specs.Index.{place_in, set_from}
 use Rattle.scion_topology.proofs.Steps.{bind_ok, ok_is, ok_or_ok}
-use Rattle.scion_topology.proofs.Judging.{IsFree-IsNetwork, ia_of_named}
+use Rattle.scion_topology.proofs.Judging.{IsFree-IsNetwork}
 use Rattle.scion_topology.proofs.Places.{is_numbered, are_apart, ends_there, network_apart}
 use Rattle.scion_topology.proofs.Marking.{with_up-set_from}
 use Rattle.scion_topology.proofs.Relinked.{set_up-none, IsNetwork-relinked}

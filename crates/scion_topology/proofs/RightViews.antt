@@ -1,5 +1,5 @@
 -- A view is made exactly of parts that are right.
-use Rattle.std.proofs.Common.{◌≡◌, ◌≢◌, ℕ, zero, suc, ◌/◌, ◌%◌, ◌^◌, ◌<◌, ◌≤◌, Bool, true, false, ◌||◌, not, ◌==◌, if◌then◌else◌, List, [], ◌∷◌, length, get_or, All, AllPairs, Contains, Option, Some, Ok, Err, IfOk, find, refl, sym, ◌∙◌, ap, subst, arith}
+use Rattle.std.proofs.Common.{◌≡◌, ◌≢◌, ℕ, zero, suc, ◌<◌, Bool, true, false, ◌||◌, not, ◌==◌, if◌then◌else◌, List, [], ◌∷◌, length, get_or, All, AllPairs, Contains, Option, Some, Ok, Err, IfOk, find, refl, sym, ◌∙◌, ap, arith}
 use Rattle.std.specs.List.{list_all}
 use Rattle.std.proofs.lemmas.List.Folds.{list_any_none}
 use Rattle.std.proofs.lemmas.List.Kept.{AllPairs-cons}
@@ -13,7 +13,7 @@ use Rattle.scion_topology.specs.Network.{is_wildcard}
 use Rattle.scion_topology.specs.Building.{has_bad_field, is_named, names_twice, view_of}
 use Rattle.scion_topology.proofs.KeyTests.{is_key-IsKey, AreKeys-accepted}
 use Rattle.scion_topology.proofs.Judging.{IsPlain-is_wildcard, is_wildcard-IsPlain}
-use Rattle.scion_topology.proofs.Deciding.{list_all-from_All, false_unless, or_false, false_or, apart, apart_test, each_fails}
+use Rattle.scion_topology.proofs.Deciding.{list_all-from_All, or_false, false_or, apart, apart_test, each_fails}
 
 named_once : (table : List IfEntry) → names_twice table ≡ false → AllPairs (λ one other. one.number ≢ other.number) table
 unfolding names_twice

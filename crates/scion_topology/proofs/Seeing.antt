@@ -1,9 +1,8 @@
 -- What a router sees of a network is a view: no wildcard, and each interface named once, none 0.
-use Rattle.std.proofs.Common.{◌≡◌, ℕ, Bool, true, false, cond, eqb, ltb, not, List, [], ◌∷◌, Option, Some, None, Ok, Err, refl, sym, ap, ◌∙◌, subst, arith, inl, inr, ◌⊎◌, ◌||◌, length}
+use Rattle.std.proofs.Common.{◌≡◌, ℕ, Bool, true, false, cond, eqb, ltb, not, List, [], ◌∷◌, Option, Some, None, Ok, refl, sym, ap, ◌∙◌, subst, arith, inl, inr, ◌⊎◌, ◌||◌}
 use Rattle.std.specs.List.{list_all, list_any}
 use Rattle.std.proofs.lemmas.Bool.{cases_Bool, or_parts, or_from, and_parts, not-true, eqb-true, ltb-true, ne_eqb}
 use Rattle.scion_topology.specs.declared.entry.IfEntry.{IfEntry}
-use Rattle.scion_topology.specs.declared.fault.TopologyFault.{TopologyFault}
 use Rattle.scion_topology.specs.declared.network.AsEntry.{AsEntry}
 use Rattle.scion_topology.specs.declared.network.Link.{Link}
 use Rattle.scion_topology.specs.Building.{is_named, names_twice}

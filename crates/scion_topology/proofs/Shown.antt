@@ -1,18 +1,17 @@
 -- What a network shows of its links: each at both ends, and each interface as an end of one.
-use Rattle.std.proofs.Common.{◌≡◌, ℕ, zero, suc, ◌<◌, Bool, true, false, cond, eqb, ◌&&◌, ◌||◌, List, [], ◌∷◌, length, get_or, Contains, Option, Some, None, Ok, Err, refl, sym, ap, ◌∙◌, subst, inl, inr, ◌⊎◌, arith}
+use Rattle.std.proofs.Common.{◌≡◌, ℕ, zero, suc, ◌<◌, Bool, true, false, cond, eqb, ◌||◌, List, [], ◌∷◌, length, get_or, Contains, Option, Some, None, Ok, refl, sym, ap, ◌∙◌, subst, inl, inr, ◌⊎◌, arith}
 use Rattle.std.specs.List.{list_any}
-use Rattle.std.proofs.lemmas.Bool.{cases_Bool, or_parts, or_cases, and_parts, and_from, or_left, or_right, eqb-true, eq-eqb, true≢false}
+use Rattle.std.proofs.lemmas.Bool.{cases_Bool, or_parts, or_cases, and_parts, and_from, eqb-true, eq-eqb, true≢false}
 use Rattle.std.proofs.lemmas.Option.{same_Some}
 use Rattle.std.proofs.lemmas.List.Folds.{list_any-from_Any}
 use Rattle.scion_topology.specs.declared.entry.IfEntry.{IfEntry}
-use Rattle.scion_topology.specs.declared.entry.LinkKind.{LinkKind}
 use Rattle.scion_topology.specs.declared.fault.TopologyFault.TheVariants as faults
 use Rattle.scion_topology.specs.declared.network.AsEntry.{AsEntry}
 use Rattle.scion_topology.specs.declared.network.Link.{Link}
-use Rattle.scion_topology.specs.Network.{Network, as_named, is_end, has_end, link_named, kind_at_a, kind_at_b, end_as_interface, interface_of, with_first, table_of, interface_in}
+use Rattle.scion_topology.specs.Network.{Network, as_named, is_end, has_end, link_named, interface_of, with_first, table_of, interface_in}
 use Rattle.scion_topology.specs.Rules.{IsAs, IsLink}
 use Rattle.scion_topology.specs.Causes.{stands, joins_twice}
-use Rattle.scion_topology.specs.Topology.{IsNetwork, known, joined, near_end, far_end, interface_at, far_end_in, owner_in}
+use Rattle.scion_topology.specs.Topology.{IsNetwork, known, joined, far_end, interface_at, far_end_in, owner_in}
 use Rattle.scion_topology.specs.Ends.{IsAt, ShowsBothEnds, AreJoined, IsEndOf, at_a, at_b}
 use Rattle.scion_topology.proofs.Steps.{bind_ok, ok_is, ok_or_ok}
 use Rattle.scion_topology.proofs.Judging.{IsFree-IsNetwork, are_named, listed_of_named, ia_of_named}
