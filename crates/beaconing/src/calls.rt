@@ -93,7 +93,13 @@ fn first_entry(
     timestamp: u32,
     beta0: u16,
 ) -> Result<(SegKind, Entry), BeaconFault>
-    ensures value { Gives (λ x. record { kind = x.0; timestamp = timestamp; beta0 = beta0; entries = x.1 ∷ [] }) result
+    ensures value { Gives
+        (λ x. record {
+          kind = x.0;
+          timestamp = timestamp;
+          beta0 = beta0;
+          entries = x.1 ∷ [];
+        }) result
         (originated topology.now ia egress timestamp beta0) }
     ensures fits { IfOk result (λ x. first_fault x.1 ≡ None) }
 {
@@ -119,7 +125,8 @@ fn next_entry(
     ia: IsdAs,
     egress: IfId,
 ) -> Result<Entry, BeaconFault>
-    ensures value { Gives (λ entry. with_last beacon.now entry) result (extended topology.now beacon.now ia egress) }
+    ensures value { Gives (λ entry. with_last beacon.now entry) result
+        (extended topology.now beacon.now ia egress) }
     ensures fits { IfOk result (λ entry. next_fault beacon.now.entries entry ≡ None) }
 {
     let Ok(one) = topology.as_entry(ia) else {
@@ -145,7 +152,8 @@ fn next_entry(
 /// The entry by which an AS ends a beacon.
 #[tactic(auto, unfolding(crate::specs::Calls::terminated, path_segment::specs::Rules::last_fault))]
 fn last_entry(topology: &Topology, beacon: &Beacon, ia: IsdAs) -> Result<Entry, BeaconFault>
-    ensures value { Gives (λ entry. with_last beacon.now entry) result (terminated topology.now beacon.now ia) }
+    ensures value { Gives (λ entry. with_last beacon.now entry) result
+        (terminated topology.now beacon.now ia) }
     ensures fits { IfOk result (λ entry. last_fault beacon.now.entries entry ≡ None) }
 {
     let Ok(one) = topology.as_entry(ia) else {

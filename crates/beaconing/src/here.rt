@@ -69,7 +69,8 @@ pub(crate) fn goes_on(kind: SegKind, link: LinkKind) -> bool
 
 /// An interface by which a beacon is to go out.
 pub(crate) fn way_out(topology: &Topology, ia: IsdAs, number: IfId) -> Result<&IfEntry, BeaconFault>
-    ensures value { Gives (λ out. out.now) result (or_else BeaconFault.NoInterface (interface_at topology.now ia number)) }
+    ensures value { Gives (λ out. out.now) result
+        (or_else BeaconFault.NoInterface (interface_at topology.now ia number)) }
     ensures above { IfOk result (λ _. number ≢ 0) }
 {
     topology.known();

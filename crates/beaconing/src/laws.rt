@@ -52,17 +52,21 @@ pub fn chains_grow_by_one()
 
 /// A beacon under way stays so where a link goes up or down, and where an AS takes another key.
 pub fn beacons_outlast_changes()
-    ensures links { (n m : Network) (up : Bool) (ia number : ℕ) (keys : List (List ℕ)) (beacon : Chain)
+    ensures links { (n m : Network) (up : Bool) (ia number : ℕ) (keys : List (List ℕ))
+        (beacon : Chain)
         → set_up up ia number n ≡ Ok m → IsUnderWay n keys beacon → IsUnderWay m keys beacon }
-    ensures rotations { (n m : Network) (ia : ℕ) (key : List ℕ) (keys : List (List ℕ)) (beacon : Chain)
+    ensures rotations { (n m : Network) (ia : ℕ) (key : List ℕ) (keys : List (List ℕ))
+        (beacon : Chain)
         → rotated ia key n ≡ Ok m → IsUnderWay n keys beacon → IsUnderWay m keys beacon }
 {}
 
 /// A segment that a network has issued stays so where a link goes up or down, and where an AS takes
 /// another key.
 pub fn segments_outlast_changes()
-    ensures links { (n m : Network) (up : Bool) (ia number : ℕ) (keys : List (List ℕ)) (segment : Chain)
+    ensures links { (n m : Network) (up : Bool) (ia number : ℕ) (keys : List (List ℕ))
+        (segment : Chain)
         → set_up up ia number n ≡ Ok m → IsIssued n keys segment → IsIssued m keys segment }
-    ensures rotations { (n m : Network) (ia : ℕ) (key : List ℕ) (keys : List (List ℕ)) (segment : Chain)
+    ensures rotations { (n m : Network) (ia : ℕ) (key : List ℕ) (keys : List (List ℕ))
+        (segment : Chain)
         → rotated ia key n ≡ Ok m → IsIssued n keys segment → IsIssued m keys segment }
 {}

@@ -33,7 +33,8 @@ impl Model for MacKey {
 
     ghost view = { λ key. key.block };
 
-    ghost invariant = { λ key. Holds256 key.inner (masked 0x36 key.block) × Holds256 key.outer (masked 0x5c key.block) };
+    ghost invariant = { λ key. Holds256 key.inner (masked 0x36 key.block)
+        × Holds256 key.outer (masked 0x5c key.block) };
 }
 
 impl Clone for MacKey {
@@ -89,7 +90,8 @@ impl MacKey {
         cons_ingress: u16,
         cons_egress: u16,
     ) -> [u8; 6]
-        ensures { result ≡ authenticator_under self.now beta timestamp exp_time cons_ingress cons_egress }
+        ensures { result
+            ≡ authenticator_under self.now beta timestamp exp_time cons_ingress cons_egress }
     {
         let input = mac_input(beta, timestamp, exp_time, cons_ingress, cons_egress);
         first_six(&self.mac(input.as_slice()))

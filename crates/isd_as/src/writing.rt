@@ -108,7 +108,8 @@ fn push_digits(text: &mut Text, number: u64, radix: u64)
     requires high { radix ≤ 16 }
     requires room { array_vec_len text.old + length (digits radix false number) ≤ MAX_TEXT_LEN }
     ensures added { text.new.items ≡ text.old.items ++ digits radix false number }
-    ensures len { array_vec_len text.new ≡ array_vec_len text.old + length (digits radix false number) }
+    ensures len { array_vec_len text.new
+        ≡ array_vec_len text.old + length (digits radix false number) }
 {
     if number < radix {
         text.push(glyph(number));

@@ -32,7 +32,8 @@ pub struct HopField {
 
 /// A hop field of zeros, which stands for no hop.
 impl Default for HopField {
-    ghost is_default = { λ x. x ≡ record { exp_time = 0; cons_ingress = 0; cons_egress = 0; mac = replicate 6 0 } };
+    ghost is_default = { λ x. x
+        ≡ record { exp_time = 0; cons_ingress = 0; cons_egress = 0; mac = replicate 6 0 } };
 
     fn default() -> HopField {
         HopField {

@@ -26,11 +26,30 @@ impl Model for Header {
 
     ghost Value = { HeaderValue };
 
-    ghost view = { λ a. record { curr_inf = a.curr_inf; curr_hf = a.curr_hf; lens = a.lens; infos = a.infos.items; hops = a.hops.items } };
+    ghost view = { λ a. record {
+      curr_inf = a.curr_inf;
+      curr_hf = a.curr_hf;
+      lens = a.lens;
+      infos = a.infos.items;
+      hops = a.hops.items;
+    } };
 
-    ghost invariant = { λ a. IsHeader (record { curr_inf = a.curr_inf; curr_hf = a.curr_hf; lens = a.lens; infos = a.infos.items; hops = a.hops.items }) };
+    ghost invariant = { λ a. IsHeader
+        (record {
+          curr_inf = a.curr_inf;
+          curr_hf = a.curr_hf;
+          lens = a.lens;
+          infos = a.infos.items;
+          hops = a.hops.items;
+        }) };
 
-    ghost inverse = { λ v. record { curr_inf = v.curr_inf; curr_hf = v.curr_hf; lens = v.lens; infos = record { items = v.infos }; hops = record { items = v.hops } } };
+    ghost inverse = { λ v. record {
+      curr_inf = v.curr_inf;
+      curr_hf = v.curr_hf;
+      lens = v.lens;
+      infos = record { items = v.infos };
+      hops = record { items = v.hops };
+    } };
 }
 
 impl Header {
@@ -44,7 +63,8 @@ impl Header {
         // What is built has these lengths and fields.
         ensures found { IfOk result (λ h. h ≡ first_header (lens_from lens) infos.now hops.now) }
         // Where these lengths and fields are a header, it is built.
-        ensures only { let header = first_header (lens_from lens) infos.now hops.now in IsHeader header → result ≡ Ok header }
+        ensures only { let header = first_header (lens_from lens) infos.now hops.now in
+            IsHeader header → result ≡ Ok header }
         // Which refusal it is.
         ensures exact { result ≡ new_header (lens_from lens) infos.now hops.now }
     {
@@ -181,7 +201,11 @@ impl Header {
     /// Sets the accumulator of this info field, and nothing else.
     pub fn set_seg_id(&mut self, info: usize, seg_id: u16)
         requires { info < length self.old.infos }
-        ensures { (x : InfoField) → slice_get self.old.infos info ≡ Some x → self.new ≡ record self.old { infos = slice_set self.old.infos info (record x { seg_id = seg_id }) } }
+        ensures { (x : InfoField) → slice_get self.old.infos info ≡ Some x → self.new
+            ≡ record self.old {
+              infos = slice_set self.old.infos info
+                  (record x { seg_id = seg_id });
+            } }
     {
         self.infos[info].seg_id = seg_id;
     }

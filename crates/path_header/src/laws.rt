@@ -9,15 +9,19 @@ ghost use Rattle.path_header.specs.Reversal.{reversed};
 
 /// Each header has one spelling, each spelling is of one header, and none begins another.
 pub fn one_spelling()
-    ensures same_text { (v : HeaderValue) (text other : List ℕ) → Spells text v → Spells other v → text ≡ other }
-    ensures no_prefix { (v w : HeaderValue) (text more : List ℕ) → Spells text v → Spells (text ++ more) w → (v ≡ w) × (more ≡ []) }
+    ensures same_text { (v : HeaderValue) (text other : List ℕ) → Spells text v → Spells other v
+        → text ≡ other }
+    ensures no_prefix { (v w : HeaderValue) (text more : List ℕ) → Spells text v
+        → Spells (text ++ more) w → (v ≡ w) × (more ≡ []) }
 {}
 
 /// Each hop field stands in one segment, which is found by the sums of the lengths before it
 /// and up to it.
 pub fn one_segment()
-    ensures stands { (l : SegLens) (hop : ℕ) → hop < hop_count l → IsInSegment l hop (segment_at l hop) }
-    ensures alone { (l : SegLens) (hop segment : ℕ) → IsInSegment l hop segment → segment ≡ segment_at l hop }
+    ensures stands { (l : SegLens) (hop : ℕ) → hop < hop_count l
+        → IsInSegment l hop (segment_at l hop) }
+    ensures alone { (l : SegLens) (hop segment : ℕ) → IsInSegment l hop segment → segment
+        ≡ segment_at l hop }
 {}
 
 /// The way back of a header is one, and the way back of the way back is the header.

@@ -26,7 +26,8 @@ pub fn decode(bytes: &[u8]) -> Result<(Header, usize), HeaderFault>
     ensures found { IfOk result (λ r. (r.1 ≤ length bytes.now) × Spells (take r.1 bytes.now) r.0) }
     ensures len { IfOk result (λ r. r.1 ≡ header_len r.0) }
     // What the bytes in front spell is read, whatever follows.
-    ensures only { (v : HeaderValue) (text rest : List ℕ) → Spells text v → bytes.now ≡ text ++ rest → result ≡ Ok (v, header_len v) }
+    ensures only { (v : HeaderValue) (text rest : List ℕ) → Spells text v → bytes.now ≡ text ++ rest
+        → result ≡ Ok (v, header_len v) }
     // Which refusal it is.
     ensures exact { result ≡ read_at bytes.now }
 {
@@ -131,7 +132,8 @@ fn infos_of(bytes: &[u8], count: usize) -> Result<ArrayVec<InfoField, 3>, Header
     requires few { count ≤ 3 }
     requires long { 8 * count ≤ length bytes.now }
     ensures len { IfOk result (λ v. length v.items ≡ count) }
-    ensures read { let read = fields_at info_at 8 count bytes.now in MatchResult result (λ v. read ≡ Ok v.items) (λ e. read ≡ Err e) }
+    ensures read { let read = fields_at info_at 8 count bytes.now in
+        MatchResult result (λ v. read ≡ Ok v.items) (λ e. read ≡ Err e) }
 {
     let mut infos = ArrayVec::new();
     for i in 0..count {
@@ -146,7 +148,8 @@ fn hops_of(bytes: &[u8], count: usize) -> Result<ArrayVec<HopField, 64>, HeaderF
     requires few { count ≤ 64 }
     requires long { 12 * count ≤ length bytes.now }
     ensures len { IfOk result (λ v. length v.items ≡ count) }
-    ensures read { let read = fields_at hop_at 12 count bytes.now in MatchResult result (λ v. read ≡ Ok v.items) (λ e. read ≡ Err e) }
+    ensures read { let read = fields_at hop_at 12 count bytes.now in
+        MatchResult result (λ v. read ≡ Ok v.items) (λ e. read ≡ Err e) }
 {
     let mut hops = ArrayVec::new();
     for i in 0..count {

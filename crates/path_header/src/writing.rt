@@ -103,7 +103,9 @@ fn hop_bytes(hop: HopField) -> [u8; 12]
 /// Writes the spellings of info fields into the room, at this place.
 fn put_infos(room: &mut [u8], at: usize, infos: &[InfoField])
     requires { at + 8 * length infos.now ≤ length room.old }
-    ensures text { room.new ≡ take at room.old ++ (flat_map info_spelling infos.now ++ drop (at + 8 * length infos.now) room.old) }
+    ensures text { room.new
+        ≡ take at room.old ++
+        (flat_map info_spelling infos.now ++ drop (at + 8 * length infos.now) room.old) }
     ensures len { length (flat_map info_spelling infos.now) ≡ 8 * length infos.now }
     ensures fits { AllByRecursion InfoFits infos.now }
 {
@@ -115,7 +117,9 @@ fn put_infos(room: &mut [u8], at: usize, infos: &[InfoField])
 /// Writes the spellings of hop fields into the room, at this place.
 fn put_hops(room: &mut [u8], at: usize, hops: &[HopField])
     requires { at + 12 * length hops.now ≤ length room.old }
-    ensures text { room.new ≡ take at room.old ++ (flat_map hop_spelling hops.now ++ drop (at + 12 * length hops.now) room.old) }
+    ensures text { room.new
+        ≡ take at room.old ++
+        (flat_map hop_spelling hops.now ++ drop (at + 12 * length hops.now) room.old) }
     ensures len { length (flat_map hop_spelling hops.now) ≡ 12 * length hops.now }
     ensures fits { AllByRecursion HopFits hops.now }
 {

@@ -22,14 +22,17 @@ pub fn accumulators_are_chained()
 /// The tests of the rules find no fault exactly where the rules hold in plain facts.
 pub fn rules_are_kept()
     ensures beacon { (entries : List Entry) → (beacon_fault entries ≡ None) ↔ AreOfBeacon entries }
-    ensures segment { (entries : List Entry) → (segment_fault entries ≡ None) ↔ AreOfSegment entries }
+    ensures segment { (entries : List Entry) → (segment_fault entries ≡ None)
+        ↔ AreOfSegment entries }
 {}
 
 /// Entries have one least expiry, and all are live exactly up to it.
 pub fn live_up_to_least_expiry()
     ensures one { (timestamp least other : ℕ) (entries : List Entry)
-        → IsLeastExpiry timestamp entries least → IsLeastExpiry timestamp entries other → least ≡ other }
-    ensures live { (timestamp least now : ℕ) (entries : List Entry) → IsLeastExpiry timestamp entries least
+        → IsLeastExpiry timestamp entries least → IsLeastExpiry timestamp entries other → least
+        ≡ other }
+    ensures live { (timestamp least now : ℕ) (entries : List Entry)
+        → IsLeastExpiry timestamp entries least
         → All (λ entry. IsLive timestamp entry.exp_time now) entries ↔ (2 * now ≤ least) }
 {}
 

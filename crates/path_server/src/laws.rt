@@ -9,12 +9,14 @@ ghost use Rattle.path_server.specs.Lookup.{segments_for, LeadsTo, IsReached, Lea
 /// Which segments are counted together, in plain facts.
 pub fn alike_is_plain()
     ensures { (one other : Chain) → IsTrue (is_alike one other)
-        ↔ ((one.kind ≡ other.kind) × (first_as one ≡ first_as other) × (last_as one ≡ last_as other)) }
+        ↔ ((one.kind ≡ other.kind) × (first_as one ≡ first_as other)
+        × (last_as one ≡ last_as other)) }
 {}
 
 /// What registering a segment answers, in plain facts.
 pub fn answers_are_plain()
-    ensures { (segments : List Chain) (segment : Chain) (now : ℕ) → IsAnswer segments segment now (answer_to segments segment now) }
+    ensures { (segments : List Chain) (segment : Chain) (now : ℕ)
+        → IsAnswer segments segment now (answer_to segments segment now) }
 {}
 
 /// Registering a segment keeps all that is there and adds nothing else.
@@ -22,36 +24,45 @@ pub fn registering_adds_the_segment_alone()
     ensures kept { (segments : List Chain) (segment : Chain) (now : ℕ) (other : Chain)
         → Contains segments other → Contains (registered segments segment now) other }
     ensures added { (segments : List Chain) (segment : Chain) (now : ℕ) (other : Chain)
-        → Contains (registered segments segment now) other → Contains segments other ⊎ (segment ≡ other) }
+        → Contains (registered segments segment now) other → Contains segments other
+        ⊎ (segment ≡ other) }
 {}
 
 /// What a sweep keeps is what is live, and a further one at the same second takes nothing out.
 pub fn sweeps_keep_the_live()
     ensures kept { (segments : List Chain) (now : ℕ) (segment : Chain)
-        → Contains (swept segments now) segment ↔ (Contains segments segment × AreLive segment now) }
-    ensures again { (segments : List Chain) (now : ℕ) → swept (swept segments now) now ≡ swept segments now }
+        → Contains (swept segments now) segment
+        ↔ (Contains segments segment × AreLive segment now) }
+    ensures again { (segments : List Chain) (now : ℕ) → swept (swept segments now) now
+        ≡ swept segments now }
     ensures none { (segments : List Chain) (now : ℕ) → expired_count (swept segments now) now ≡ 0 }
 {}
 
 /// In a store that operations made no two segments are equal, and at most 32 are of one kind, first AS
 /// and last AS.
 pub fn stores_are_bounded()
-    ensures distinct { (operations : List Operation) → AllPairs (λ one other. one ≢ other) (store_of operations) }
-    ensures few { (operations : List Operation) (segment : Chain) → count_by (is_alike segment) (store_of operations) ≤ 32 }
+    ensures distinct { (operations : List Operation)
+        → AllPairs (λ one other. one ≢ other) (store_of operations) }
+    ensures few { (operations : List Operation) (segment : Chain)
+        → count_by (is_alike segment) (store_of operations) ≤ 32 }
 {}
 
 /// Further operations go on from the store that those before made.
 pub fn stores_go_on()
-    ensures { (operations more : List Operation) → store_of (operations ++ more) ≡ fold after (store_of operations) more }
+    ensures { (operations more : List Operation) → store_of (operations ++ more)
+        ≡ fold after (store_of operations) more }
 {}
 
 /// What a look-up gives, in plain facts.
 pub fn selections_are_plain()
     ensures ups { (segments : List Chain) (src dst now : ℕ) (segment : Chain)
-        → Contains (segments_for segments src dst now).ups segment ↔ LeadsTo segments src now segment }
+        → Contains (segments_for segments src dst now).ups segment
+        ↔ LeadsTo segments src now segment }
     ensures downs { (segments : List Chain) (src dst now : ℕ) (segment : Chain)
-        → Contains (segments_for segments src dst now).downs segment ↔ LeadsTo segments dst now segment }
+        → Contains (segments_for segments src dst now).downs segment
+        ↔ LeadsTo segments dst now segment }
     ensures cores { (segments : List Chain) (src dst now : ℕ) (segment : Chain)
         → Contains (segments_for segments src dst now).cores segment
-        ↔ LeadsBetween segments (IsReached src (segments_for segments src dst now).ups) (IsReached dst (segments_for segments src dst now).downs) now segment }
+        ↔ LeadsBetween segments (IsReached src (segments_for segments src dst now).ups)
+        (IsReached dst (segments_for segments src dst now).downs) now segment }
 {}

@@ -20,7 +20,12 @@ impl Model for SegmentSet {
 
     ghost Value = { Selection };
 
-    ghost view = { λ s. record { ups = s.ups.items; cores = s.cores.items; downs = s.downs.items; moment = s.moment } };
+    ghost view = { λ s. record {
+      ups = s.ups.items;
+      cores = s.cores.items;
+      downs = s.downs.items;
+      moment = s.moment;
+    } };
 }
 
 impl SegmentSet {

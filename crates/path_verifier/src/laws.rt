@@ -19,7 +19,8 @@ pub fn walks_lead_on()
     ensures begins { (pieces : List PieceValue) (src dst now : ℕ) → MakesPath pieces src dst now
         → slice_get (map (λ hop. hop.ia) (walk_of pieces)) 0 ≡ Some src }
     ensures ends { (pieces : List PieceValue) (src dst now : ℕ) → MakesPath pieces src dst now
-        → slice_get (map (λ hop. hop.ia) (walk_of pieces)) (length (walk_of pieces) - 1) ≡ Some dst }
+        → slice_get (map (λ hop. hop.ia) (walk_of pieces)) (length (walk_of pieces) - 1)
+        ≡ Some dst }
 {}
 
 /// The hops of pieces are live exactly up to the moment at which the first of them expires.
@@ -38,9 +39,11 @@ pub fn walks_are_short()
 /// A path has at most three pieces, and behind an up piece comes a core or a down piece, behind a core
 /// piece a down piece, and behind a down piece nothing.
 pub fn pieces_adjoin()
-    ensures most { (pieces : List PieceValue) (src dst now : ℕ) → MakesPath pieces src dst now → length pieces ≤ 3 }
+    ensures most { (pieces : List PieceValue) (src dst now : ℕ) → MakesPath pieces src dst now
+        → length pieces ≤ 3 }
     ensures kinds { (past later : List PieceValue) (piece next : PieceValue) (src dst now : ℕ)
-        → MakesPath (past ++ (piece ∷ (next ∷ later))) src dst now → MayAdjoin (kind_of piece) (kind_of next) }
+        → MakesPath (past ++ (piece ∷ (next ∷ later))) src dst now
+        → MayAdjoin (kind_of piece) (kind_of next) }
 {}
 
 /// The header of a path of segments is one of the grammar. A segment has at most 63 entries.

@@ -33,7 +33,9 @@ impl<'s, 'p, A: Allocator + Clone> Model for VerifiedPath<'s, 'p, A> {
 
     ghost view = { λ v. request_of v.pieces v.header v.src v.dst v.now v.policy.now };
 
-    ghost invariant = { λ v. IsAccepted (request_of v.pieces v.header v.src v.dst v.now v.policy.now) × (v.walk ≡ walk_of v.pieces) };
+    ghost invariant = { λ v. IsAccepted
+        (request_of v.pieces v.header v.src v.dst v.now v.policy.now)
+        × (v.walk ≡ walk_of v.pieces) };
 }
 
 impl<'s, 'p, A: Allocator + Clone> VerifiedPath<'s, 'p, A> {

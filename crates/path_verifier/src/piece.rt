@@ -30,7 +30,12 @@ impl<'s> Model for Piece<'s> {
 
     ghost Value = { PieceValue };
 
-    ghost view = { λ p. record { segment = p.segment.now; from = p.from; to = p.to; along = p.along } };
+    ghost view = { λ p. record {
+      segment = p.segment.now;
+      from = p.from;
+      to = p.to;
+      along = p.along;
+    } };
 }
 
 impl<'s> Piece<'s> {
@@ -211,7 +216,8 @@ fn cut(entries: &[Entry], from: usize, to: usize) -> &[Entry]
 
 /// Whether each of these entries is live at the second `now`.
 fn are_live(timestamp: u32, entries: &[Entry], now: u32) -> bool
-    ensures { result ≡ list_all (λ entry. nat_le (2 * now) (expiry_of timestamp entry.exp_time)) entries.now }
+    ensures { result ≡ list_all
+        (λ entry. nat_le (2 * now) (expiry_of timestamp entry.exp_time)) entries.now }
 {
     entries
         .iter()

@@ -49,9 +49,11 @@ pub fn verify<'s, 'p, A: Allocator + Clone>(
     ensures found { let request = request_of pieces.now header.now src dst now policy.entry.now in
         IfOk result (λ path. (path ≡ request) × IsAccepted request) }
     // What may be sent is given.
-    ensures only { IsAccepted (request_of pieces.now header.now src dst now policy.entry.now) → IsOk result }
+    ensures only { IsAccepted (request_of pieces.now header.now src dst now policy.entry.now)
+        → IsOk result }
     // Which refusal it is.
-    ensures exact { IfErr result (IsRefused (request_of pieces.now header.now src dst now policy.entry.now)) }
+    ensures exact { IfErr result
+        (IsRefused (request_of pieces.now header.now src dst now policy.entry.now)) }
 {
     let (walk, own) = judged(pieces, header, src, dst, now, policy)?;
     Ok(VerifiedPath {
@@ -76,9 +78,12 @@ fn judged<A: Allocator + Clone>(
 ) -> Result<(Walk, Header), VerifyFault>
     ensures walk { IfOk result (λ own. own.0 ≡ walk_of pieces.now) }
     ensures header { IfOk result (λ own. own.1 ≡ header.now) }
-    ensures found { OnOk result (IsAccepted (request_of pieces.now header.now src dst now policy.now)) }
-    ensures only { IsAccepted (request_of pieces.now header.now src dst now policy.now) → IsOk result }
-    ensures exact { IfErr result (IsRefused (request_of pieces.now header.now src dst now policy.now)) }
+    ensures found { OnOk result
+        (IsAccepted (request_of pieces.now header.now src dst now policy.now)) }
+    ensures only { IsAccepted (request_of pieces.now header.now src dst now policy.now)
+        → IsOk result }
+    ensures exact { IfErr result
+        (IsRefused (request_of pieces.now header.now src dst now policy.now)) }
 {
     let walk = walk_of(&pieces.held, src, dst, now)?;
     let own = header_of(&pieces.held);
@@ -113,8 +118,10 @@ fn walk_of(held: &Held<'_>, src: IsdAs, dst: IsdAs, now: u32) -> Result<Walk, Ve
 
 /// Whether a policy allows a walk, or why not.
 fn judge<A: Allocator + Clone>(walk: &[WalkHop], policy: &Policy<A>) -> Result<(), VerifyFault>
-    ensures found { OnOk result (AllowsHops policy.now.acl walk.now × HasWord policy.now.sequence walk.now) }
-    ensures only { AllowsHops policy.now.acl walk.now → HasWord policy.now.sequence walk.now → IsOk result }
+    ensures found { OnOk result
+        (AllowsHops policy.now.acl walk.now × HasWord policy.now.sequence walk.now) }
+    ensures only { AllowsHops policy.now.acl walk.now → HasWord policy.now.sequence walk.now
+        → IsOk result }
     ensures exact { IfErr result (IsForbidden policy.now walk.now) }
 {
     if let Err(denied) = policy.verdict(walk) {

@@ -8,7 +8,8 @@ use crate::hop::WalkHop;
 /// The first hop of the walk that is denied, and the entry that decides it.
 pub(crate) fn denial_of(entries: &[AclEntry], walk: &[WalkHop]) -> Option<Denied>
     requires { IsAcl entries.now }
-    ensures { MatchOption result (AllowsWalk entries.now walk.now) (λ denied. IsDenial entries.now walk.now denied) }
+    ensures { MatchOption result (AllowsWalk entries.now walk.now)
+        (λ denied. IsDenial entries.now walk.now denied) }
 {
     for (place, hop) in walk.iter().enumerate() {
         let entry = decider_of(entries, hop);

@@ -12,19 +12,23 @@ ghost use Rattle.policy_expr.specs.Printing.{IsPredicate, IsSequence, predicate_
 
 /// What is read as a sequence is what the grammar spells, of at most 256 nodes, and nothing else is.
 pub fn reading_is_the_grammar()
-    ensures { (text : List ℕ) (tree : Tree) → (sequence_at text ≡ Ok tree) ↔ (SpellsSequence text tree × (node_count tree ≤ 256)) }
+    ensures { (text : List ℕ) (tree : Tree) → (sequence_at text ≡ Ok tree)
+        ↔ (SpellsSequence text tree × (node_count tree ≤ 256)) }
 {}
 
 /// What is printed of a sequence or of a predicate is read as it again.
 pub fn printed_is_read()
     ensures sequence { (tree : Tree) → IsSequence tree → sequence_at (printed tree) ≡ Ok tree }
-    ensures predicate { (pred : HopPred) → IsPredicate pred → predicate_at (predicate_text pred) ≡ Ok pred }
+    ensures predicate { (pred : HopPred) → IsPredicate pred → predicate_at (predicate_text pred)
+        ≡ Ok pred }
 {}
 
 /// What is read of a text is a sequence or a predicate of that kind.
 pub fn read_is_kept()
-    ensures sequence { (text : List ℕ) (tree : Tree) → sequence_at text ≡ Ok tree → IsSequence tree }
-    ensures predicate { (text : List ℕ) (pred : HopPred) → predicate_at text ≡ Ok pred → IsPredicate pred }
+    ensures sequence { (text : List ℕ) (tree : Tree) → sequence_at text ≡ Ok tree
+        → IsSequence tree }
+    ensures predicate { (text : List ℕ) (pred : HopPred) → predicate_at text ≡ Ok pred
+        → IsPredicate pred }
 {}
 
 /// The rules of a list find no fault exactly where it is one in plain facts.

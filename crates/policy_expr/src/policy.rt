@@ -151,7 +151,8 @@ fn read_sequence<A: Allocator + Clone>(
     alloc: A,
     text: Option<&str>,
 ) -> Result<Option<Seq<A>>, PolicyError>
-    ensures { Answers (λ sequence. sequence) result (sequence_part_at (option_map (λ t. t.now) text.entry)) }
+    ensures { Answers (λ sequence. sequence) result
+        (sequence_part_at (option_map (λ t. t.now) text.entry)) }
 {
     match text {
         None => Ok(None),

@@ -57,7 +57,8 @@ impl<A: Allocator> SeqNode<A> {
     /// Adds its text at the end.
     #[cycle(printing)]
     pub(crate) fn print_to<B: Allocator>(&self, out: &mut String<B>) -> Result<(), AllocError>
-        ensures { OnOk result (string_bytes out.new ≡ string_bytes out.old ++ printed (tree_of self.now)) }
+        ensures { OnOk result
+            (string_bytes out.new ≡ string_bytes out.old ++ printed (tree_of self.now)) }
     {
         match self {
             SeqNode::Hop(pred) => write!(out, "{pred}"),

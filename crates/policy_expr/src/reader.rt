@@ -101,7 +101,8 @@ fn begin_item<A: Allocator + Clone>(
     level: Level<A>,
     token: Token,
 ) -> Result<Reader<A>, PolicyError>
-    ensures { Reads (λ reader. reading_of reader) result (item_begun (levels_of levels.items) (level_of level) token) }
+    ensures { Reads (λ reader. reading_of reader) result
+        (item_begun (levels_of levels.items) (level_of level) token) }
 {
     match token {
         Token::Hop(pred) => Ok(Reader {
@@ -134,7 +135,8 @@ fn follow_item<A: Allocator + Clone>(
     item: SeqNode<A>,
     token: Token,
 ) -> Result<Reader<A>, PolicyError>
-    ensures { Reads (λ reader. reading_of reader) result (item_followed (levels_of levels.items) (level_of level) (tree_of item) token) }
+    ensures { Reads (λ reader. reading_of reader) result
+        (item_followed (levels_of levels.items) (level_of level) (tree_of item) token) }
 {
     match token {
         Token::Optional => {
@@ -213,7 +215,8 @@ fn join_left<A: Allocator + Clone>(
     left: Option<SeqNode<A>>,
     item: SeqNode<A>,
 ) -> Result<SeqNode<A>, AllocError>
-    ensures { IfOk result (λ node. tree_of node ≡ with_left (option_map tree_of left) (tree_of item)) }
+    ensures { IfOk result
+        (λ node. tree_of node ≡ with_left (option_map tree_of left) (tree_of item)) }
 {
     match left {
         None => Ok(item),
@@ -227,7 +230,8 @@ fn join_before<A: Allocator + Clone>(
     before: Option<SeqNode<A>>,
     item: SeqNode<A>,
 ) -> Result<SeqNode<A>, AllocError>
-    ensures { IfOk result (λ node. tree_of node ≡ with_before (option_map tree_of before) (tree_of item)) }
+    ensures { IfOk result
+        (λ node. tree_of node ≡ with_before (option_map tree_of before) (tree_of item)) }
 {
     match before {
         None => Ok(item),

@@ -37,7 +37,8 @@ impl<A: Allocator> Table<A> {
 
     /// The same table under another allocator.
     pub(crate) fn clone_in<B: Allocator>(&self, alloc: B) -> Result<Table<B>, AllocError>
-        ensures { IfOk result (λ table. (table.lines.items ≡ self.now.lines.items) × (table.ends ≡ self.now.ends)) }
+        ensures { IfOk result
+            (λ table. (table.lines.items ≡ self.now.lines.items) × (table.ends ≡ self.now.ends)) }
     {
         let mut lines = Vec::with_capacity(alloc, self.lines.len())?;
         lines.extend_from_slice(&self.lines)?;
@@ -83,7 +84,8 @@ impl<A: Allocator> Table<A> {
     /// Whether one of these predicates matches the hop.
     fn does_one_match(&self, wanted: PredSet, hop: &WalkHop) -> bool
         requires { (k : ℕ) → Has wanted k → k < vec_len self.now.lines }
-        ensures { IsTrue result ↔ ((k : ℕ) × Has wanted k × MeetsAt self.now.lines.items k hop.now) }
+        ensures { IsTrue result
+            ↔ ((k : ℕ) × Has wanted k × MeetsAt self.now.lines.items k hop.now) }
     {
         let mut rest = wanted;
         while let Some(number) = rest.first() {
@@ -103,7 +105,8 @@ impl<A: Allocator> SeqNode<A> {
         lines: &mut Vec<Line, B>,
     ) -> Result<Ends, AllocError>
         requires { vec_len lines.old + pred_count (tree_of self.now) ≤ 128 }
-        ensures { IfOk result (λ ends. Adds (tree_of self.now) lines.old.items lines.new.items ends) }
+        ensures { IfOk result
+            (λ ends. Adds (tree_of self.now) lines.old.items lines.new.items ends) }
     {
         match self {
             SeqNode::Hop(pred) => {

@@ -59,7 +59,8 @@ pub fn step(
     // they spell the new one; the addresses and what follows the header stay.
     ensures spelled { (addresses text rest : List ℕ) (header : HeaderValue)
         → IsFrame packet.old addresses text rest header
-        → let step = step_of view.now now arrival (source_of packet.old) (destination_of packet.old) header
+        → let step = step_of view.now now arrival (source_of packet.old)
+        (destination_of packet.old) header
         in StepsFrame step addresses text rest packet.new result }
     // A packet has a path header, or it is refused for the reason that it has none.
     ensures bad_header { MatchResult (header_in packet.old)
@@ -116,7 +117,8 @@ fn source_in(packet: &[u8]) -> IsdAs
 fn write_header(header: &Header, packet: &mut [u8])
     requires { 16 + header_len header.now ≤ length packet.old }
     ensures written { packet.new
-        ≡ take 16 packet.old ++ (spelling header.now ++ drop (16 + header_len header.now) packet.old) }
+        ≡ take 16 packet.old ++
+        (spelling header.now ++ drop (16 + header_len header.now) packet.old) }
     ensures spells { Spells (spelling header.now) header.now }
     ensures len { length (spelling header.now) ≡ header_len header.now }
 {

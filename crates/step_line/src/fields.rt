@@ -122,7 +122,8 @@ pub(crate) fn number_of_router(text: &str) -> Option<u8>
 /// The table of these interfaces.
 #[tactic(auto, unfolding(crate::specs::Fields::interfaces_at))]
 pub(crate) fn interfaces(alloc: Global, texts: &[&str]) -> Result<Option<Vec<IfEntry>>, AllocError>
-    ensures { IfOk result (λ o. option_map (λ v. v.items) o ≡ interfaces_at (map (λ t. t.now) texts.now)) }
+    ensures { IfOk result
+        (λ o. option_map (λ v. v.items) o ≡ interfaces_at (map (λ t. t.now) texts.now)) }
 {
     let mut table = Vec::new(alloc);
     for text in texts {

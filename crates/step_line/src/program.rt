@@ -32,7 +32,8 @@ static STORED: [&str; 12] = [
 
 /// The words that count: the stored command's where none are given.
 fn words_or_stored<'a>(words: &'a [&'a str]) -> &'a [&'a str]
-    ensures { map (λ word. word.now) result.now ≡ words_that_count (map (λ word. word.now) words.now) }
+    ensures { map (λ word. word.now) result.now
+        ≡ words_that_count (map (λ word. word.now) words.now) }
 {
     if words.is_empty() {
         return STORED.as_slice();
@@ -46,7 +47,8 @@ fn line_for<'a, R: Read + Drop>(
     words: &'a [&'a str],
     input: R,
 ) -> Result<String, RunFault>
-    ensures { Runs result (asked (words_that_count (map (λ word. word.now) words.entry.now))) (R.remaining input) }
+    ensures { Runs result (asked (words_that_count (map (λ word. word.now) words.entry.now)))
+        (R.remaining input) }
 {
     let command = StepCommand::parse(alloc, words_or_stored(words))?;
     let packet = read_input(alloc, input)?;
@@ -55,7 +57,8 @@ fn line_for<'a, R: Read + Drop>(
 
 /// Prints a line and its end.
 fn print<W: Write>(line: &str, output: &mut W) -> io::Result<()>
-    ensures { OnOk result (Appends (W.contents output.old) (W.contents output.new) (whole_line line.now)) }
+    ensures { OnOk result
+        (Appends (W.contents output.old) (W.contents output.new) (whole_line line.now)) }
 {
     output.write_all(line.as_bytes())?;
     output.write_all(b"\n")
@@ -63,7 +66,8 @@ fn print<W: Write>(line: &str, output: &mut W) -> io::Result<()>
 
 /// Tells of a fault on standard error.
 fn tell<E: Write>(fault: &RunFault, errors: &mut E) -> io::Result<()>
-    ensures { OnOk result (Appends (E.contents errors.old) (E.contents errors.new) (told_of fault.now)) }
+    ensures { OnOk result
+        (Appends (E.contents errors.old) (E.contents errors.new) (told_of fault.now)) }
 {
     errors.write_all(fault.told().as_bytes())
 }
@@ -88,7 +92,8 @@ pub fn run<'a, R: Read + Drop, W: Write, E: Write>(
     output: &mut W,
     errors: &mut E,
 ) -> Status
-    ensures ends { Ends result (asked (words_that_count (map (λ word. word.now) words.entry.now))) (R.remaining input) (W.contents output.old) (W.contents output.new) }
+    ensures ends { Ends result (asked (words_that_count (map (λ word. word.now) words.entry.now)))
+        (R.remaining input) (W.contents output.old) (W.contents output.new) }
     ensures quiet { result ≡ Done → errors.new ≡ errors.old }
     ensures silent { result ≡ Refused → output.new ≡ output.old }
 {

@@ -173,7 +173,8 @@ fn text_of<'a>(matches: &ArgMatches<'a>, id: &str) -> Option<&'a str>
 /// The texts of the interfaces, where any is given.
 #[tactic(auto, using(crate::proofs::Matches::all_of_rows))]
 fn interfaces_of<'m, 'a>(matches: &'m ArgMatches<'a>) -> Option<&'m [&'a str]>
-    ensures { option_map (λ s. map (λ t. t.now) s.now) result ≡ all_of (codes "interface") (rows_of (found_of matches.entry.now)) }
+    ensures { option_map (λ s. map (λ t. t.now) s.now) result
+        ≡ all_of (codes "interface") (rows_of (found_of matches.entry.now)) }
 {
     matches.get_strs("interface")
 }
