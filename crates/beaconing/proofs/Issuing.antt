@@ -6,6 +6,7 @@ use Rattle.std.specs.Option.{ok_or}
 use Rattle.std.proofs.lemmas.Bool.{not-true, eqb-true, ne_eqb}
 use Rattle.std.proofs.lemmas.Bool.Decides.{nat_tests}
 use Rattle.std.proofs.lemmas.Option.{same_Some}
+use Rattle.scion_topology.specs.declared.entry.IfEntry.{IfEntry}
 use Rattle.scion_topology.specs.declared.fault.TopologyFault.{TopologyFault}
 use Rattle.scion_topology.specs.declared.network.AsEntry.{AsEntry}
 use Rattle.scion_topology.specs.Network.{Network, as_named}
@@ -146,13 +147,16 @@ begun n ia egress timestamp beta0 one b network named found =
 -- ---- a later entry
 
 -- the way by which a beacon comes to an AS
-record Comes (n : Network) (b : Chain) (ia ingress : ℕ) : Type 0 where
+pub record Comes (n : Network) (b : Chain) (ia ingress : ℕ) : Type 0 where
   pub last : Entry
   pub is_last : last_of b ≡ Some last
   pub leads : far_end_in n last.ia last.cons_egress ≡ Ok (ia, ingress)
   pub some : ingress ≢ 0
+  pub entry : IfEntry
+  pub shown : interface_at n ia ingress ≡ Ok entry
+  pub up : entry.up ≡ true
 
-Comes-come_to : (n : Network) (b : Chain) (ia ingress : ℕ) → IsNetwork n → come_to n b ia ≡ Ok ingress → Comes n b ia ingress
+pub Comes-come_to : (n : Network) (b : Chain) (ia ingress : ℕ) → IsNetwork n → come_to n b ia ≡ Ok ingress → Comes n b ia ingress
 unfolding come_to
 Comes-come_to n b ia ingress network found =
     let s1 = bind_ok (ok_or (last_of b) NotHere) _ ingress found in
@@ -162,14 +166,17 @@ Comes-come_to n b ia ingress network found =
     let s3 = bind_ok (check (eqb s2.0.0 ia) NotHere) _ ingress s2.2 in
     let here = eqb-true s2.0.0 ia (check_ok (eqb s2.0.0 ia) NotHere s3.0 s3.1) in
     let s4 = bind_ok (or_else NotHere (interface_at n ia s2.0.1)) _ ingress s3.2 in
-    let into = answered NotHere (interface_at n ia s2.0.1) s4.0 s4.1 in
+    let there = answered NotHere (interface_at n ia s2.0.1) s4.0 s4.1 in
     let s5 = bind_ok (check s4.0.up LinkDown) _ ingress s4.2 in
     let is : s2.0.1 ≡ ingress = ok_is s2.0.1 ingress s5.2 in
     record {
       last = last;
       is_last = ok_or_ok (last_of b) NotHere last s1.1;
       leads = far ∙ ap (λ (x : ℕ). at x s2.0.1) here ∙ ap (at ia) is;
-      some = rw (← is) (no_zero n ia s2.0.1 s4.0 network into);
+      some = rw (← is) (no_zero n ia s2.0.1 s4.0 network there);
+      entry = s4.0;
+      shown = ap (interface_at n ia) (sym is) ∙ there;
+      up = check_ok s4.0.up LinkDown s5.0 s5.1;
     }
   where
     at : ℕ → ℕ → Result (ℕ × ℕ) TopologyFault

@@ -1,4 +1,5 @@
--- What each call adds to a chain, and that the calls of one network make a segment under the keys that its ASes have in use.
+-- What each call adds to a chain, and that the calls of one network make a segment under the keys
+-- that its ASes have in use.
 use Rattle.std.proofs.Common.{◌≡◌, ℕ, List, [], ◌∷◌, ◌++◌, length, Some, Ok, refl, sym, ap, subst, ◌∙◌}
 use Rattle.std.specs.Prelude.{map, nat_lt}
 use Rattle.std.specs.Option.{ok_or}

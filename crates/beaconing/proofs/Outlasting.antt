@@ -12,7 +12,7 @@ use Rattle.scion_topology.specs.Keys.{key_of, renewed}
 use Rattle.scion_topology.specs.Network.{Network, as_named, has_end, interface_of, with_first, table_of, interface_in}
 use Rattle.scion_topology.specs.Causes.{is_core}
 use Rattle.scion_topology.specs.Topology.{known, joined, interface_at, with_up, with_key, set_up, rotated}
-use Rattle.scion_topology.proofs.Steps.{bind_ok, ok_is, ok_or_ok}
+use Rattle.refusal.proofs.Steps.{bind_ok, ok_is, ok_or_ok}
 use Rattle.path_segment.specs.declared.entry.Entry.{Entry}
 use Rattle.path_segment.specs.declared.kind.SegKind.{SegKind}
 use Rattle.path_segment.specs.declared.kind.SegKind.TheVariants.{Core, Intra}

@@ -15,7 +15,7 @@ use Rattle.scion_topology.specs.Network.{Network, as_named, is_end, has_end, lin
 use Rattle.scion_topology.specs.Network as net
 use Rattle.scion_topology.specs.Causes.{is_core, is_ill_classed, is_ill_joined}
 use Rattle.scion_topology.specs.Topology.{IsNetwork, known, joined, interface_at, far_end, far_end_in}
-use Rattle.scion_topology.proofs.Steps.{bind_ok, ok_is, ok_or_ok}
+use Rattle.refusal.proofs.Steps.{bind_ok, ok_is, ok_or_ok}
 use Rattle.scion_topology.proofs.Judging.{IsFree-IsNetwork}
 use Rattle.scion_topology.proofs.Places.{network_apart}
 use Rattle.scion_topology.proofs.Ends.{IsJoined-joined, interface_in-table_of}

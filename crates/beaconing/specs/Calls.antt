@@ -1,4 +1,5 @@
--- What the calls of beaconing give, or the first cause why not (draft-dekater-scion-controlplane, path construction).
+-- What the calls of beaconing give, or the first cause why not (draft-dekater-scion-controlplane,
+-- path construction).
 use Rattle.std.specs.Prelude.{ℕ, ◌-◌, Bool, ◌==◌, not, nat_lt, [], ◌∷◌, length, slice_get, Option, Result, Ok, Err}
 use Rattle.std.specs.List.{list_any}
 use Rattle.std.specs.Option.{ok_or}

@@ -19,7 +19,8 @@ key_of one = unwrap_or (slice_get one.keys 0) []
 abbrev pub key_in : Network → ℕ → List ℕ
 key_in n ia = option_map_or key_of (as_named n.ases ia) []
 
--- the entry of an AS between two of its interfaces, authenticated under its key and this accumulator
+-- the entry of an AS between two of its interfaces, authenticated under its key and this
+-- accumulator
 abbrev pub entry_by : AsEntry → ℕ → ℕ → ℕ → ℕ → Entry
 entry_by one timestamp beta ingress egress = record {
   ia = one.ia;

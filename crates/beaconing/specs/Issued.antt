@@ -42,8 +42,8 @@ LeadsOn Core entry next link =
     (link.class ≡ classes.Core) × (AreWays entry next link.a link.b ⊎ AreWays entry next link.b link.a)
 LeadsOn Intra entry next link = (link.class ≡ classes.Child) × AreWays entry next link.a link.b
 
--- entries as the network makes them, each under the key at its place: the first is of a core AS, and
--- a link leads from each to the next
+-- entries as the network makes them, each under the key at its place: the first is of a core AS,
+-- and a link leads from each to the next
 pub record IsMade (n : Network) (keys : List (List ℕ)) (chain : Chain) : Type 0 where
   pub keyed : length keys ≡ length chain.entries
   pub core : (first : Entry) → slice_get chain.entries 0 ≡ Some first → is_core n.ases first.ia ≡ true

@@ -43,8 +43,8 @@ pub fn originate(
 /// The first of these refusals: [`BeaconFault::NotHere`] where the last way out does not lead to
 /// this AS, [`BeaconFault::LinkDown`] where that link is down, [`BeaconFault::Loop`] where the AS
 /// stands in the beacon already, [`BeaconFault::TooLong`] where the beacon has 62 entries,
-/// [`BeaconFault::NoInterface`] where the AS has no such interface, [`BeaconFault::WrongKind`] where
-/// the link is no core link, or none to a child, as the beacon's kind asks, and
+/// [`BeaconFault::NoInterface`] where the AS has no such interface, [`BeaconFault::WrongKind`]
+/// where the link is no core link, or none to a child, as the beacon's kind asks, and
 /// [`BeaconFault::LinkDown`] where it is down.
 pub fn extend(
     alloc: Global,

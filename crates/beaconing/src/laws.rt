@@ -15,15 +15,16 @@ pub fn begun_is_under_way()
         → IsUnderWay n (key_in n ia ∷ []) beacon }
 {}
 
-/// A beacon under way that an AS passes on is under way, with the key that the AS has in use besides.
+/// A beacon under way that an AS passes on is under way, with the key that the AS has in use
+/// besides.
 pub fn passed_on_is_under_way()
     ensures { (n : Network) (keys : List (List ℕ)) (beacon : Chain) (ia egress : ℕ) (next : Chain)
         → IsNetwork n → IsUnderWay n keys beacon → extended n beacon ia egress ≡ Ok next
         → IsUnderWay n (keys ++ (key_in n ia ∷ [])) next }
 {}
 
-/// A beacon under way that ends in an AS becomes a segment that the network issues, with the key that
-/// the AS has in use besides.
+/// A beacon under way that ends in an AS becomes a segment that the network issues, with the key
+/// that the AS has in use besides.
 pub fn ended_is_issued()
     ensures { (n : Network) (keys : List (List ℕ)) (beacon : Chain) (ia : ℕ) (segment : Chain)
         → IsNetwork n → IsUnderWay n keys beacon → terminated n beacon ia ≡ Ok segment

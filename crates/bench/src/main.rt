@@ -6,6 +6,7 @@
 
 ghost use Rattle.std.specs.Prelude.{◌<◌};
 
+mod answers;
 mod network;
 
 use anyhow::{Context, Result, anyhow};
@@ -69,22 +70,34 @@ fn views(alloc: Global, count: u32) -> Result<u64> {
     Ok(sum)
 }
 
+/// Does the work of this name so many times. Answers are of up to so many paths, the first three of
+/// 32 paths that there are and the others of 2048.
+fn work(alloc: Global, name: &str, count: u32) -> Result<u64> {
+    match name {
+        "read" => read(alloc, count),
+        "far-ends" => far_ends(alloc, count),
+        "views" => views(alloc, count),
+        "answers-1" => answers::answers(alloc, 32, 1, count),
+        "answers-8" => answers::answers(alloc, 32, 8, count),
+        "answers-64" => answers::answers(alloc, 32, 64, count),
+        "answers-1-of-2048" => answers::answers(alloc, 4, 1, count),
+        "answers-8-of-2048" => answers::answers(alloc, 4, 8, count),
+        "answers-64-of-2048" => answers::answers(alloc, 4, 64, count),
+        _ => Err(anyhow!("there is no work of this name")),
+    }
+}
+
 fn main(rt: HostRuntime) -> Result<()> {
     let alloc = rt.alloc();
     let mut words = env::args(&rt)?.skip(1);
     let name = words
         .next()
-        .context("give the name of the work: read, far-ends or views")?;
+        .context("give the name of the work, as far-ends")?;
     let times = words.next().context("give how many times it is done")?;
     let count = times
         .parse::<u32>()
         .context("reading how many times it is done")?;
-    let sum = match name.as_str() {
-        "read" => read(alloc, count)?,
-        "far-ends" => far_ends(alloc, count)?,
-        "views" => views(alloc, count)?,
-        _ => return Err(anyhow!("the work is one of read, far-ends and views")),
-    };
+    let sum = work(alloc, name.as_str(), count)?;
     println!(rt; "{} {count} {sum}", name.as_str())?;
     Ok(())
 }

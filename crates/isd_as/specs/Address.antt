@@ -1,6 +1,6 @@
--- Addresses of autonomous systems as text (draft-dekater-scion-controlplane, the text form of ISD-AS numbers).
--- The relations say which texts stand for a number: leading zeros and letters of either case are fine.
--- `canonical` is the one text of them that is printed.
+-- Addresses of autonomous systems as text (draft-dekater-scion-controlplane, the text form of
+-- ISD-AS numbers). The relations say which texts stand for a number: leading zeros and letters of
+-- either case are fine. `canonical` is the one text of them that is printed.
 use Rattle.std.specs.Prelude.{◌≡◌, ℕ, ◌+◌, ◌*◌, ◌/◌, ◌%◌, ◌^◌, ◌<◌, ◌≤◌, ◌⊎◌, false, nat_lt, if◌then◌else◌, List, ◌∷◌, ◌++◌, length}
 use Rattle.std.specs.Fmt.{decimal, digits}
 use Rattle.std.specs.Str.Parse.{IsNumeral, digits_value}
@@ -67,7 +67,8 @@ pub record SpellsDecimal (text : List ℕ) (n : ℕ) : Type 0 where
 abbrev pub SpellsAs : List ℕ → ℕ → Type 0
 SpellsAs text n = SpellsDecimal text n ⊎ SpellsGroups text n
 
--- the text of an address: an ISD, '-' and an AS number, the high 16 and the low 48 bits of the address
+-- the text of an address: an ISD, '-' and an AS number, the high 16 and the low 48 bits of the
+-- address
 pub record Spells (text : List ℕ) (address : ℕ) : Type 0 where
   pub isd : ℕ
   pub as_number : ℕ

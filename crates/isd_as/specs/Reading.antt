@@ -1,6 +1,6 @@
--- What reading an address answers: its number, or the first refusal in this order.
--- Without a '-' it is NoDash. Then the ISD: BadDigit before IsdRange. Then the AS number: without a ':'
--- BadDigit before AsRange, and with one BadGroups before BadDigit.
+-- What reading an address answers: its number, or the first refusal in this order. Without a '-' it
+-- is NoDash. Then the ISD: BadDigit before IsdRange. Then the AS number: without a ':' BadDigit
+-- before AsRange, and with one BadGroups before BadDigit.
 use Rattle.std.specs.Prelude.{◌≡◌, ℕ, ◌+◌, ◌*◌, ◌^◌, Bool, ◌&&◌, nat_lt, ◌==◌, if◌then◌else◌, List, length, Result, Ok, Err}
 use Rattle.std.specs.Char.{digit_value}
 use Rattle.std.specs.List.{position_or_len, before_first, after_first, list_all, list_any}
@@ -27,7 +27,8 @@ GivesParts (Err e) read = read ≡ Err e
 abbrev pub all_digits : ℕ → List ℕ → Bool
 all_digits radix text = list_all (λ b. nat_lt (digit_value b) radix) text
 
--- the number of a text of digits: BadDigit comes before the refusal of one that is not below the limit
+-- the number of a text of digits: BadDigit comes before the refusal of one that is not below the
+-- limit
 unfoldable pub number_at : ℕ → ℕ → AddrFault → List ℕ → Result ℕ AddrFault
 number_at radix limit too_large text = if nat_lt 0 (length text) && all_digits radix text
     then (if nat_lt (digits_value radix text) limit then Ok (digits_value radix text) else Err too_large)
@@ -41,7 +42,8 @@ isd_at text = number_at 10 (2 ^ 16) fault.IsdRange text
 abbrev pub is_group : List ℕ → Bool
 is_group text = nat_lt 0 (length (chars text)) && nat_lt (length (chars text)) 5
 
--- the number of three groups: how many they are and their lengths come before their digits, which then always fit
+-- the number of three groups: how many they are and their lengths come before their digits, which
+-- then always fit
 unfoldable pub groups_at : List ℕ → Result ℕ AddrFault
 groups_at text = do
   first ← cut_at colon fault.BadGroups text

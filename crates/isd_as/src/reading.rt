@@ -13,9 +13,9 @@ impl IsdAs {
     /// 4294967295 or as three groups of 1 to 4 hexadecimal digits joined by `:`. Leading zeros and
     /// letters of either case are accepted, and so is a small number in groups.
     ///
-    /// The first of these refusals is given: [`NoDash`] without a `-`; for the ISD [`BadDigit`], then
-    /// [`IsdRange`]; for an AS number without `:` [`BadDigit`], then [`AsRange`]; for one with `:`
-    /// [`BadGroups`], then [`BadDigit`].
+    /// The first of these refusals is given: [`NoDash`] without a `-`; for the ISD [`BadDigit`],
+    /// then [`IsdRange`]; for an AS number without `:` [`BadDigit`], then [`AsRange`]; for one with
+    /// `:` [`BadGroups`], then [`BadDigit`].
     ///
     /// [`NoDash`]: AddrFault::NoDash
     /// [`BadDigit`]: AddrFault::BadDigit
@@ -49,9 +49,10 @@ impl Isd {
 }
 
 impl AsNumber {
-    /// The AS number that a text spells: decimal digits, at most 4294967295, or three groups of 1 to
-    /// 4 hexadecimal digits joined by `:`. Without a `:` the refusals are [`AddrFault::BadDigit`],
-    /// then [`AddrFault::AsRange`]; with one [`AddrFault::BadGroups`], then [`AddrFault::BadDigit`].
+    /// The AS number that a text spells: decimal digits, at most 4294967295, or three groups of 1
+    /// to 4 hexadecimal digits joined by `:`. Without a `:` the refusals are
+    /// [`AddrFault::BadDigit`], then [`AddrFault::AsRange`]; with one [`AddrFault::BadGroups`],
+    /// then [`AddrFault::BadDigit`].
     pub fn parse(text: &str) -> Result<AsNumber, AddrFault>
         ensures found { IfOk result (λ as_number. SpellsAs text.now as_number) }
         ensures only { (as_number : ℕ) → SpellsAs text.now as_number → result ≡ Ok as_number }

@@ -56,8 +56,8 @@ pub const MAX_TEXT_LEN: usize = 20;
 type Text = ArrayVec<u8, MAX_TEXT_LEN>;
 
 impl IsdAs {
-    /// Writes the canonical text at the front of the room and says its length. The bytes of the room
-    /// behind it stay as they were.
+    /// Writes the canonical text at the front of the room and says its length. The bytes of the
+    /// room behind it stay as they were.
     pub fn write_text(&self, room: &mut [u8; MAX_TEXT_LEN]) -> usize
         ensures written { take result room.new ≡ canonical self.now }
         ensures len { result ≡ length (canonical self.now) }

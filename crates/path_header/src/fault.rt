@@ -8,7 +8,8 @@ use thiserror::Error;
 /// Each call that refuses says in which order it looks for these causes.
 #[derive(Clone, Copy, Debug, PartialEq, Eq, Error)]
 pub enum HeaderFault {
-    /// The bytes end before the header does, or the fields given are not as many as the lengths say.
+    /// The bytes end before the header does, or the fields given are not as many as the lengths
+    /// say.
     #[error("the header is cut off")]
     Short,
     /// A bit that has no meaning is set.

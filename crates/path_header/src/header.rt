@@ -53,12 +53,14 @@ impl Model for Header {
 }
 
 impl Header {
-    /// The header of segments of these lengths and of these fields, at its first info and hop field.
+    /// The header of segments of these lengths and of these fields, at its first info and hop
+    /// field.
     ///
-    /// The first of these that holds is the refusal: [`HeaderFault::SegLens`] where the first length
-    /// is 0, a length behind a 0 is not, or a length is above 63; [`HeaderFault::TooManyHops`] where
-    /// their sum is above 64; [`HeaderFault::Short`] where there are not as many info fields as
-    /// lengths that are not 0, or not as many hop fields as their sum.
+    /// The first of these that holds is the refusal: [`HeaderFault::SegLens`] where the first
+    /// length is 0, a length behind a 0 is not, or a length is above 63;
+    /// [`HeaderFault::TooManyHops`] where their sum is above 64; [`HeaderFault::Short`] where there
+    /// are not as many info fields as lengths that are not 0, or not as many hop fields as their
+    /// sum.
     pub fn new(lens: [u8; 3], infos: &[InfoField], hops: &[HopField]) -> Result<Header, HeaderFault>
         // What is built has these lengths and fields.
         ensures found { IfOk result (λ h. h ≡ first_header (lens_from lens) infos.now hops.now) }

@@ -16,8 +16,8 @@ use isd_as::IfId;
 /// Bytes after the header play no part. The first of these that holds is the refusal:
 /// [`HeaderFault::Short`] where there are fewer than 4 bytes; [`HeaderFault::Reserved`] where a
 /// reserved bit of the meta field is set; [`HeaderFault::SegLens`] where the first length is 0 or a
-/// length behind a 0 is not; [`HeaderFault::TooManyHops`] where their sum is above 64; `Short` where
-/// there are fewer bytes than the fields need; for each info field in order
+/// length behind a 0 is not; [`HeaderFault::TooManyHops`] where their sum is above 64; `Short`
+/// where there are fewer bytes than the fields need; for each info field in order
 /// [`HeaderFault::PeerFlag`] where its flag P is set, and `Reserved`; for each hop field in order
 /// [`HeaderFault::AlertFlag`] where its flag I or E is set, and `Reserved`;
 /// [`HeaderFault::BadIndex`] where the current info or hop field is none of the header's.

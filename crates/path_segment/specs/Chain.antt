@@ -1,4 +1,5 @@
--- What a beacon and a segment show, the chain of authenticators and the expiry (draft-dekater-scion-dataplane).
+-- What a beacon and a segment show, the chain of authenticators and the expiry
+-- (draft-dekater-scion-dataplane).
 use Rattle.std.specs.Prelude.{◌≡◌, ℕ, ◌+◌, ◌-◌, ◌≤◌, List, ◌∷◌, [], ◌++◌, All, Any, take, drop, length, slice_get}
 use Rattle.std.specs.List.{fold}
 use Rattle.std.specs.Option.{option_map_or}
@@ -26,7 +27,8 @@ with_last chain entry = record chain { entries = chain.entries ++ entry ∷ [] }
 abbrev pub beta_over : ℕ → List Entry → ℕ
 beta_over beta entries = fold (λ b entry. beta_after b entry.mac) beta entries
 
--- the accumulator with which the entry at this place is authenticated: the first i authenticators are in it
+-- the accumulator with which the entry at this place is authenticated: the first i authenticators
+-- are in it
 abbrev pub beta_of : Chain → ℕ → ℕ
 beta_of chain i = beta_over chain.beta0 (take i chain.entries)
 

@@ -1,5 +1,5 @@
--- Reading a segment from JSON: an object with the named members and any others, in any order. A whole number is
--- one that is written as such.
+-- Reading a segment from JSON: an object with the named members and any others, in any order. A
+-- whole number is one that is written as such.
 use Rattle.std.specs.Prelude.{ℕ, nat_le, if◌then◌else◌, codes, List, [], ◌∷◌, Option, Some, None, option_and_then, Result, Err}
 use Rattle.std.specs.Result.{result_ok}
 use Rattle.std.specs.Str.{bytes_eq}

@@ -1,4 +1,5 @@
--- Which entries are a segment, and which a beacon under way (draft-dekater-scion-controlplane, path segments).
+-- Which entries are a segment, and which a beacon under way (draft-dekater-scion-controlplane, path
+-- segments).
 use Rattle.std.specs.Prelude.{◌≡◌, ◌≢◌, ◌↔◌, ℕ, ◌+◌, ◌≤◌, ◌==◌, ◌&&◌, ◌||◌, not, nat_lt, nat_le, Bool, true, false, if◌then◌else◌, List, [], ◌∷◌, length, Option, Some, None, slice_get, Result}
 use Rattle.std.specs.List.{list_any, list_all}
 use Rattle.refusal.specs.Refusal.{unless}
@@ -68,7 +69,8 @@ last_fault entries entry =
     else if list_any (λ other. other.ia == entry.ia) entries then Some faults.Loop
     else None
 
--- the rules in plain facts: 0 is the way in of the first entry alone, and no AS stands in two places
+-- the rules in plain facts: 0 is the way in of the first entry alone, and no AS stands in two
+-- places
 pub record KeepsRules (entries : List Entry) : Type 0 where
   pub ways_in : (k : ℕ) (entry : Entry) → slice_get entries k ≡ Some entry → (entry.cons_ingress ≡ 0) ↔ (k ≡ 0)
   pub once : (j k : ℕ) (one other : Entry) → slice_get entries j ≡ Some one → slice_get entries k ≡ Some other → one.ia ≡ other.ia → j ≡ k

@@ -51,7 +51,8 @@ pub fn the_new_entry_alone_is_judged()
         → last_fault entries entry ≡ segment_fault (entries ++ (entry ∷ [])) }
 {}
 
-/// Every accumulator of a chain has 16 bits, where the first has and the authenticators are of bytes.
+/// Every accumulator of a chain has 16 bits, where the first has and the authenticators are of
+/// bytes.
 pub fn accumulators_are_small()
     ensures { (chain : Chain) (i : ℕ) → chain.beta0 < 2 ^ 16
         → All (λ entry. (k : ℕ) → slice_index entry.mac k < 256) chain.entries

@@ -18,9 +18,10 @@ use std::alloc::Global;
 impl Segment {
     /// The segment that a JSON text describes.
     ///
-    /// An object with `kind` (`core` or `intra`), `timestamp` (0 to 4294967295), `beta0` (0 to 65535)
-    /// and the list `entries`. An entry has `ia` (an address), `ingress` and `egress` (0 to 65535),
-    /// `exp` (0 to 255) and `mac` (12 hexadecimal digits). Members beside these are ignored.
+    /// An object with `kind` (`core` or `intra`), `timestamp` (0 to 4294967295), `beta0` (0 to
+    /// 65535) and the list `entries`. An entry has `ia` (an address), `ingress` and `egress` (0 to
+    /// 65535), `exp` (0 to 255) and `mac` (12 hexadecimal digits). Members beside these are
+    /// ignored.
     ///
     /// [`SegmentFault::NotJson`] where the text is not of this form, and then the refusals of
     /// [`Segment::new`]. Want of memory is [`OrMemory::Memory`].

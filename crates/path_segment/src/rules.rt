@@ -68,8 +68,8 @@ fn fault_at_next(entries: &[Entry], entry: &Entry) -> Option<SegmentFault>
     }
 }
 
-/// The first rule that a beacon of these entries would break if it ended with this entry. Of a beacon
-/// only the new entry is left to look at.
+/// The first rule that a beacon of these entries would break if it ended with this entry. Of a
+/// beacon only the new entry is left to look at.
 pub(crate) fn fault_of_last(entries: &[Entry], entry: &Entry) -> Option<SegmentFault>
     requires { beacon_fault entries.now ≡ None }
     ensures step { result ≡ last_fault entries.now entry.now }

@@ -14,8 +14,8 @@ use std::marker::Model;
 
 /// A path segment: 2 to 63 entries, in the direction in which it was made.
 ///
-/// Its type keeps the rules: only the first entry has no way in, only the last no way out, and no AS
-/// stands in it twice.
+/// Its type keeps the rules: only the first entry has no way in, only the last no way out, and no
+/// AS stands in it twice.
 #[derive(Debug, Drop)]
 pub struct Segment {
     pub(crate) kind: SegKind,
@@ -36,12 +36,12 @@ impl Model for Segment {
 }
 
 impl Segment {
-    /// The segment of these parts: `timestamp` is in seconds, and `beta0` the accumulator with which
-    /// the first hop is authenticated.
+    /// The segment of these parts: `timestamp` is in seconds, and `beta0` the accumulator with
+    /// which the first hop is authenticated.
     ///
     /// The first of these refusals: [`SegmentFault::TooShort`] for fewer than 2 entries,
-    /// [`SegmentFault::TooLong`] for more than 63, [`SegmentFault::BadEnds`] where the first entry has
-    /// a way in or a later one none, or the last a way out or an earlier one none,
+    /// [`SegmentFault::TooLong`] for more than 63, [`SegmentFault::BadEnds`] where the first entry
+    /// has a way in or a later one none, or the last a way out or an earlier one none,
     /// [`SegmentFault::Loop`] where an AS stands in two entries.
     pub fn new(
         kind: SegKind,

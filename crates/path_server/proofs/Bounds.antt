@@ -1,4 +1,5 @@
--- What holds of every store that operations made: no two segments are equal, and of each kind and ends there are few.
+-- What holds of every store that operations made: no two segments are equal, and of each kind and
+-- ends there are few.
 use Rattle.std.proofs.Common.{◌≡◌, ◌≢◌, ℕ, ◌+◌, ◌<◌, ◌≤◌, Bool, true, false, cond, not, List, [], ◌∷◌, ◌++◌, length, get_or, filter, count_by, fold, AllPairs, Contains, Result, Ok, Err, refl, subst, sym, ◌∙◌, inl, inr, arith}
 use Rattle.std.proofs.lemmas.Bool.{cases_Bool}
 use Rattle.std.proofs.lemmas.List.Elements.{Contains-get_or, filter_agree}

@@ -1,4 +1,5 @@
--- The refusals of a path store, as lines of text report them, and what registering a segment answers.
+-- The refusals of a path store, as lines of text report them, and what registering a segment
+-- answers.
 use Rattle.std.specs.Prelude.{◌≡◌, ℕ, Bool, true, List, codes, Result, Ok, Err}
 use Rattle.refusal.specs.declared.fault.OrMemory.{OrMemory}
 use Rattle.refusal.specs.declared.fault.OrMemory.TheVariants.{Memory, Refused}
@@ -16,12 +17,14 @@ abbrev pub name_of : StoreFault → List ℕ
 name_of Full = codes "Full"
 name_of Expired = codes "Expired"
 
--- an error that fits what was to come: the refusal, or want of memory where a new segment was to be taken in
+-- an error that fits what was to come: the refusal, or want of memory where a new segment was to be
+-- taken in
 abbrev pub FailsToTake : OrMemory StoreFault → Result Bool StoreFault → Type 0
 FailsToTake Memory wanted = wanted ≡ Ok true
 FailsToTake (Refused fault) wanted = wanted ≡ Err fault
 
--- what registering this segment answers: whether it is new, or an error, with the segment handed back
+-- what registering this segment answers: whether it is new, or an error, with the segment handed
+-- back
 abbrev pub Registers : Chain → Result Bool (Chain × OrMemory StoreFault) → Result Bool StoreFault → Type 0
 Registers segment (Ok is_new) wanted = wanted ≡ Ok is_new
 Registers segment (Err error) wanted = (error.0 ≡ segment) × FailsToTake error.1 wanted

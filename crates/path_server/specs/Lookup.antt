@@ -1,4 +1,5 @@
--- Looking segments up for a source and a destination (draft-dekater-scion-controlplane, path lookup).
+-- Looking segments up for a source and a destination (draft-dekater-scion-controlplane, path
+-- lookup).
 use Rattle.std.specs.Prelude.{◌≡◌, ◌⊎◌, ℕ, ◌==◌, ◌&&◌, ◌||◌, Bool, List, filter, Any, Contains}
 use Rattle.std.specs.List.{list_any}
 use Rattle.path_segment.specs.declared.kind.SegKind.TheVariants.{Core, Intra}
@@ -20,7 +21,8 @@ ends_in ia now segment = same_kind segment.kind Intra && (is_live now segment &&
 unfoldable pub is_reached : ℕ → List Chain → ℕ → Bool
 is_reached ia segments other = (other == ia) || list_any (λ segment. first_as segment == other) segments
 
--- a live core segment with one end among the ASes that are reached on the near side, and the other among those on the far side
+-- a live core segment with one end among the ASes that are reached on the near side, and the other
+-- among those on the far side
 unfoldable pub joins : (ℕ → Bool) → (ℕ → Bool) → ℕ → Chain → Bool
 joins near far now segment =
     same_kind segment.kind Core && (is_live now segment

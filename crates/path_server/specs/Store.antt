@@ -1,4 +1,5 @@
--- A path store, as a list of segments in order of registration (draft-dekater-scion-controlplane, registration of path segments).
+-- A path store, as a list of segments in order of registration (draft-dekater-scion-controlplane,
+-- registration of path segments).
 use Rattle.std.specs.Prelude.{ℕ, ◌<◌, ◌≤◌, Bool, true, false, not, nat_le, if◌then◌else◌, List, [], ◌∷◌, ◌++◌, filter, count_by, fold, Contains, Result, Ok, Err}
 use Rattle.std.specs.List.{list_any}
 use Rattle.path_segment.specs.Chain.{Chain, AreLive}
@@ -7,7 +8,8 @@ use Rattle.path_server.specs.declared.fault.StoreFault.TheVariants.{Full, Expire
 use Rattle.path_segment.specs.Tests.{is_live, is_same}
 use Rattle.path_server.specs.Segment.{is_alike}
 
--- what registering a segment answers at this second: whether it is new, or the first cause why it is refused
+-- what registering a segment answers at this second: whether it is new, or the first cause why it
+-- is refused
 unfoldable pub answer_to : List Chain → Chain → ℕ → Result Bool StoreFault
 answer_to segments segment now =
     if not (is_live now segment) then Err Expired

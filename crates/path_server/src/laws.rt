@@ -38,8 +38,8 @@ pub fn sweeps_keep_the_live()
     ensures none { (segments : List Chain) (now : ℕ) → expired_count (swept segments now) now ≡ 0 }
 {}
 
-/// In a store that operations made no two segments are equal, and at most 32 are of one kind, first AS
-/// and last AS.
+/// In a store that operations made no two segments are equal, and at most 32 are of one kind, first
+/// AS and last AS.
 pub fn stores_are_bounded()
     ensures distinct { (operations : List Operation)
         → AllPairs (λ one other. one ≢ other) (store_of operations) }

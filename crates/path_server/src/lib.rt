@@ -1,8 +1,8 @@
 //! A path store: the path segments that are known, and which of them a look-up gives.
 //!
-//! The store is a list in order of registration. It takes in no segment that has expired, none twice
-//! and at most 32 of one kind from one AS to another. A look-up copies the live segments by which
-//! paths between two ASes can be made.
+//! The store is a list in order of registration. It takes in no segment that has expired, none
+//! twice and at most 32 of one kind from one AS to another. A look-up copies the live segments by
+//! which paths between two ASes can be made.
 #![tactic(auto)]
 
 mod fault;

@@ -36,8 +36,9 @@ impl SegmentSet {
         &self.ups
     }
 
-    /// The core segments, either way round, with one end in the source or where one of [`Self::ups`]
-    /// begins, and the other in the destination or where one of [`Self::downs`] begins.
+    /// The core segments, either way round, with one end in the source or where one of
+    /// [`Self::ups`] begins, and the other in the destination or where one of [`Self::downs`]
+    /// begins.
     pub fn cores(&self) -> &[Segment]
         ensures { result.now ≡ self.now.cores }
     {

@@ -64,13 +64,13 @@ impl PathStore {
         &self.segments
     }
 
-    /// Takes a segment in at the second `now`, behind the others, and says whether it is new. Where an
-    /// equal one is there nothing changes.
+    /// Takes a segment in at the second `now`, behind the others, and says whether it is new. Where
+    /// an equal one is there nothing changes.
     ///
-    /// The first of these refusals, with the segment handed back: [`StoreFault::Expired`] where it is
-    /// not live at `now`, [`StoreFault::Full`] where it is new and 32 segments of its kind, first AS
-    /// and last AS are there. Want of memory hands it back too, and comes
-    /// only where the segment was to be taken in.
+    /// The first of these refusals, with the segment handed back: [`StoreFault::Expired`] where it
+    /// is not live at `now`, [`StoreFault::Full`] where it is new and 32 segments of its kind,
+    /// first AS and last AS are there. Want of memory hands it back too, and comes only where the
+    /// segment was to be taken in.
     #[tactic(auto, unfolding(crate::specs::Store::registered))]
     pub fn register(&mut self, segment: Segment, now: u32) -> Result<bool, (Segment, StoreError)>
         ensures answer { Registers segment result (answer_to self.old segment now) }
@@ -98,9 +98,9 @@ impl PathStore {
         before - self.segments.len()
     }
 
-    /// Copies of the segments of which paths from `src` to `dst` can be made, all live at the second
-    /// `now`: the intra segments that end in `src`, those that end in `dst`, and the core segments
-    /// that join the two sides, either way round.
+    /// Copies of the segments of which paths from `src` to `dst` can be made, all live at the
+    /// second `now`: the intra segments that end in `src`, those that end in `dst`, and the core
+    /// segments that join the two sides, either way round.
     ///
     /// To the side of `src` belong it and the ASes in which the segments to it begin, and likewise
     /// for `dst`.

@@ -11,7 +11,7 @@ use Rattle.policy_expr.specs.declared.hop.WalkHop.{WalkHop}
 use Rattle.path_verifier.specs.Piece.{PieceValue, HasRange, as_at, travelled, begins_in, ends_in}
 use Rattle.path_verifier.specs.Walk.{hop_of, hops_of, left_by, entered_by, joined, walk_of}
 use Rattle.path_verifier.specs.Accepted.{DoBeginIn, DoEndIn, MakesPath}
-use Rattle.path_verifier.proofs.Stretch.{length_travelled}
+use Rattle.path_verifier.proofs.Entries.{length_travelled}
 
 abbrev pub ases : List WalkHop → List ℕ
 ases hops = map (λ hop. hop.ia) hops

@@ -15,7 +15,7 @@ use Rattle.path_verifier.specs.Held.{pieces_in}
 use Rattle.path_verifier.specs.Piece.{PieceValue, HasRange, travelled}
 use Rattle.path_verifier.specs.Header.{field_of, fields_of, info_of, len_of, hop_count, header_of, HaveSixBits}
 use Rattle.path_verifier.specs.Accepted.{MakesPath}
-use Rattle.path_verifier.proofs.Stretch.{length_travelled}
+use Rattle.path_verifier.proofs.Entries.{length_travelled}
 use Rattle.path_verifier.proofs.Lengths.{path_is_short}
 
 pub field_there : (piece : PieceValue) (i : ℕ) (entry : Entry) (field : HopField) → slice_get (travelled piece) i ≡ Some entry → field ≡ field_of entry

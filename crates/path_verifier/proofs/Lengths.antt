@@ -106,7 +106,7 @@ three_kinds Core Core c e = absurd cc
 three_kinds Core Down c e = absurd cc
 three_kinds Down b c e = absurd cc
 
-no_four : (a b c d : PieceKind) (more : List PieceKind) → are_kinds (a ∷ b ∷ c ∷ d ∷ more) ≡ true → ⊥
+pub no_four : (a b c d : PieceKind) (more : List PieceKind) → are_kinds (a ∷ b ∷ c ∷ d ∷ more) ≡ true → ⊥
 no_four Up Core Down d more e = absurd cc
 no_four Up Core Up d more e = absurd cc
 no_four Up Core Core d more e = absurd cc

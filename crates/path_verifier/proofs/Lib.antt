@@ -1,4 +1,4 @@
-pub mod Stretch
+pub mod Entries
 pub mod Ends
 pub mod Hops
 pub mod Headers
@@ -6,3 +6,8 @@ pub mod Plain
 pub mod Course
 pub mod Expiry
 pub mod Lengths
+pub mod Turned
+pub mod TurnedCounts
+pub mod TurnedWalk
+pub mod TurnedPath
+pub mod TurnedLate

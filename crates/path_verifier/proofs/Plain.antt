@@ -12,9 +12,9 @@ use Rattle.policy_expr.specs.declared.hop.WalkHop.{WalkHop}
 use Rattle.path_verifier.specs.declared.fault.VerifyFault.{VerifyFault}
 use Rattle.path_verifier.specs.declared.kind.PieceKind.{PieceKind}
 use Rattle.path_verifier.specs.declared.kind.PieceKind.TheVariants.{Up, Core, Down}
-use Rattle.path_verifier.specs.Piece.{PieceValue, HasRange, kind_of, stretch, begins_in, ends_in}
+use Rattle.path_verifier.specs.Piece.{PieceValue, HasRange, kind_of, entries_of, begins_in, ends_in}
 use Rattle.path_verifier.specs.Walk.{walk_of}
-use Rattle.path_verifier.specs.Shape.{has_range, are_kinds, is_core_kind, is_core, begins_first, ends_last, fits_core, are_cut_well, do_meet, do_begin_in, do_end_in, shape_fault, names_twice, is_live, walk_fault, first_of, path_fault}
+use Rattle.path_verifier.specs.Shape.{has_range, are_kinds, is_core_kind, is_core, begins_first, ends_last, fits_core, are_cut_well, all_meet, starts_in, finishes_in, shape_fault, names_twice, is_live, walk_fault, first_of, path_fault}
 use Rattle.path_verifier.specs.Header.{hop_count, header_of}
 use Rattle.path_verifier.specs.Accepted.{IsCore, AreCutWell, DoMeet, DoBeginIn, DoEndIn, NamesOnce, AreLive, MakesPath, Request, IsAccepted}
 use Rattle.policy_expr.specs.Policy.{AllowsHops, HasWord}
@@ -102,17 +102,17 @@ cuts-Decides pieces =
 
 -- ---- ends
 
-meet-Decides : (pieces : List PieceValue) → Decides (do_meet pieces) (DoMeet pieces)
+meet-Decides : (pieces : List PieceValue) → Decides (all_meet pieces) (DoMeet pieces)
 meet-Decides [] = (λ _. tt, λ _. refl)
 meet-Decides (piece ∷ []) = (λ _. tt, λ _. refl)
 meet-Decides (piece ∷ next ∷ later) =
-    Decides-and (ends_in piece == begins_in next) (do_meet (next ∷ later)) (eq-Decides (ends_in piece) (begins_in next)) (meet-Decides (next ∷ later))
+    Decides-and (ends_in piece == begins_in next) (all_meet (next ∷ later)) (eq-Decides (ends_in piece) (begins_in next)) (meet-Decides (next ∷ later))
 
-begin-Decides : (src : ℕ) (pieces : List PieceValue) → Decides (do_begin_in src pieces) (DoBeginIn src pieces)
+begin-Decides : (src : ℕ) (pieces : List PieceValue) → Decides (starts_in src pieces) (DoBeginIn src pieces)
 begin-Decides src [] = (λ e. cc, λ h. absurd h)
 begin-Decides src (piece ∷ later) = eq-Decides (begins_in piece) src
 
-end-Decides : (dst : ℕ) (pieces : List PieceValue) → Decides (do_end_in dst pieces) (DoEndIn dst pieces)
+end-Decides : (dst : ℕ) (pieces : List PieceValue) → Decides (finishes_in dst pieces) (DoEndIn dst pieces)
 end-Decides dst [] = (λ e. cc, λ h. absurd h)
 end-Decides dst (piece ∷ []) = eq-Decides (ends_in piece) dst
 end-Decides dst (piece ∷ next ∷ later) = end-Decides dst (next ∷ later)
@@ -157,13 +157,13 @@ once_from (x ∷ xs) once =
 
 -- ---- lifetimes
 
-piece-Decides : (now : ℕ) (piece : PieceValue) → Decides (is_live now piece) (All (λ entry. IsLive piece.segment.timestamp entry.exp_time now) (stretch piece))
+piece-Decides : (now : ℕ) (piece : PieceValue) → Decides (is_live now piece) (All (λ entry. IsLive piece.segment.timestamp entry.exp_time now) (entries_of piece))
 piece-Decides now piece =
-    all-Decides (λ (entry : Entry). nat_le (2 * now) (expiry_of piece.segment.timestamp entry.exp_time)) (λ entry. IsLive piece.segment.timestamp entry.exp_time now) (λ entry. (leb-true _ _, le-leb _ _)) (stretch piece)
+    all-Decides (λ (entry : Entry). nat_le (2 * now) (expiry_of piece.segment.timestamp entry.exp_time)) (λ entry. IsLive piece.segment.timestamp entry.exp_time now) (λ entry. (leb-true _ _, le-leb _ _)) (entries_of piece)
 
 live-Decides : (now : ℕ) (pieces : List PieceValue) → Decides (list_all (is_live now) pieces) (AreLive now pieces)
 live-Decides now pieces =
-    all-Decides (is_live now) (λ piece. All (λ entry. IsLive piece.segment.timestamp entry.exp_time now) (stretch piece)) (piece-Decides now) pieces
+    all-Decides (is_live now) (λ piece. All (λ entry. IsLive piece.segment.timestamp entry.exp_time now) (entries_of piece)) (piece-Decides now) pieces
 
 -- ---- together
 
@@ -175,9 +175,9 @@ path_of pieces src dst now none =
     let b = guard (not (list_all has_range pieces)) _ _ a.1 in
     let c = guard (not (are_kinds (map kind_of pieces))) _ _ b.1 in
     let d = guard (not (are_cut_well pieces)) _ _ c.1 in
-    let e = guard (not (do_meet pieces)) _ _ d.1 in
-    let f = guard (not (do_begin_in src pieces)) _ _ e.1 in
-    let g = guard (not (do_end_in dst pieces)) _ _ f.1 in
+    let e = guard (not (all_meet pieces)) _ _ d.1 in
+    let f = guard (not (starts_in src pieces)) _ _ e.1 in
+    let g = guard (not (finishes_in dst pieces)) _ _ f.1 in
     let h = guard (nat_lt 64 (hop_count pieces)) _ _ g.1 in
     let i = guard (names_twice (walk_of pieces)) _ _ both.1 in
     let j = guard (not (list_all (is_live now) pieces)) _ _ i.1 in

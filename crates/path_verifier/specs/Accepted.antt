@@ -1,4 +1,5 @@
--- Which paths may be sent, in plain facts (draft-dekater-scion-dataplane, segment combinations, without peering).
+-- Which paths may be sent, in plain facts (draft-dekater-scion-dataplane, segment combinations,
+-- without peering).
 use Rattle.std.specs.Prelude.{◌≡◌, ◌⊎◌, ℕ, ◌+◌, ◌<◌, ◌≤◌, List, [], ◌∷◌, length, map, All, Any, IsTrue, Some, slice_get}
 use Rattle.hop_mac.specs.Lifetime.{expiry_of, IsLive}
 use Rattle.path_header.specs.Value.{HeaderValue}
@@ -6,7 +7,7 @@ use Rattle.policy_expr.specs.declared.hop.WalkHop.{WalkHop}
 use Rattle.policy_expr.specs.Policy.{Rules, AllowsHops, HasWord}
 use Rattle.path_verifier.specs.declared.kind.PieceKind.{PieceKind}
 use Rattle.path_verifier.specs.declared.kind.PieceKind.TheVariants.{Up, Core, Down}
-use Rattle.path_verifier.specs.Piece.{PieceValue, HasRange, kind_of, stretch, begins_in, ends_in}
+use Rattle.path_verifier.specs.Piece.{PieceValue, HasRange, kind_of, entries_of, begins_in, ends_in}
 use Rattle.path_verifier.specs.Walk.{walk_of}
 use Rattle.path_verifier.specs.Header.{hop_count, header_of}
 use Rattle.path_verifier.specs.Shape.{are_kinds}
@@ -22,8 +23,8 @@ MayAdjoin Up Down = Unit {0}
 MayAdjoin Core Down = Unit {0}
 MayAdjoin one next = ⊥
 
--- where there is a core piece it is whole, and each other piece begins where its segment does; where there is none all pieces
--- do, or none does
+-- where there is a core piece it is whole, and each other piece begins where its segment does;
+-- where there is none all pieces do, or none does
 pub record AreCutWell (pieces : List PieceValue) : Type 0 where
   pub with_core : Any IsCore pieces → All (λ piece. (piece.from ≡ 0) × (IsCore piece → piece.to + 1 ≡ length piece.segment.entries)) pieces
   pub without : ¬ (Any IsCore pieces) → All (λ piece. piece.from ≡ 0) pieces ⊎ All (λ piece. 0 < piece.from) pieces
@@ -51,12 +52,12 @@ NamesOnce walk = (j k : ℕ) (one other : WalkHop) → slice_get walk j ≡ Some
 
 -- each hop of the pieces is live at this second
 abbrev pub AreLive : ℕ → List PieceValue → Type 0
-AreLive now pieces = All (λ piece. All (λ entry. IsLive piece.segment.timestamp entry.exp_time now) (stretch piece)) pieces
+AreLive now pieces = All (λ piece. All (λ entry. IsLive piece.segment.timestamp entry.exp_time now) (entries_of piece)) pieces
 
 -- the half second at which the first hop of the pieces expires: one expires then, and none before
 pub record IsExpiry (pieces : List PieceValue) (least : ℕ) : Type 0 where
-  pub reached : Any (λ piece. Any (λ entry. least ≡ expiry_of piece.segment.timestamp entry.exp_time) (stretch piece)) pieces
-  pub lower : All (λ piece. All (λ entry. least ≤ expiry_of piece.segment.timestamp entry.exp_time) (stretch piece)) pieces
+  pub reached : Any (λ piece. Any (λ entry. least ≡ expiry_of piece.segment.timestamp entry.exp_time) (entries_of piece)) pieces
+  pub lower : All (λ piece. All (λ entry. least ≤ expiry_of piece.segment.timestamp entry.exp_time) (entries_of piece)) pieces
 
 -- the pieces are a path from one AS to another, and live at this second
 pub record MakesPath (pieces : List PieceValue) (src dst now : ℕ) : Type 0 where

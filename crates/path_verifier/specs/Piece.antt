@@ -1,4 +1,5 @@
--- Pieces of segments, of which paths are made (draft-dekater-scion-dataplane, segment combinations).
+-- Pieces of segments, of which paths are made (draft-dekater-scion-dataplane, segment
+-- combinations).
 use Rattle.std.specs.Prelude.{ℕ, ◌-◌, ◌<◌, Bool, true, false, if◌then◌else◌, List, length, reverse, slice_get}
 use Rattle.std.specs.Option.{option_map_or}
 use Rattle.path_segment.specs.declared.entry.Entry.{Entry}
@@ -8,7 +9,8 @@ use Rattle.path_segment.specs.Chain.{Chain, between}
 use Rattle.path_verifier.specs.declared.kind.PieceKind.{PieceKind}
 use Rattle.path_verifier.specs.declared.kind.PieceKind.TheVariants as kinds
 
--- a segment, the places of two of its entries, and whether it is travelled in construction direction
+-- a segment, the places of two of its entries, and whether it is travelled in construction
+-- direction
 pub record PieceValue : Type 0 where
   pub segment : Chain
   pub from : ℕ
@@ -20,7 +22,8 @@ pub record HasRange (piece : PieceValue) : Type 0 where
   pub order : piece.from < piece.to
   pub within : piece.to < length piece.segment.entries
 
--- an intra segment is travelled up against its direction and down along it, a core segment either way
+-- an intra segment is travelled up against its direction and down along it, a core segment either
+-- way
 abbrev pub kind_in : SegKind → Bool → PieceKind
 kind_in Core along = kinds.Core
 kind_in Intra true = kinds.Down
@@ -30,8 +33,8 @@ abbrev pub kind_of : PieceValue → PieceKind
 kind_of piece = kind_in piece.segment.kind piece.along
 
 -- the entries between both places, both included, in construction order
-abbrev pub stretch : PieceValue → List Entry
-stretch piece = between piece.from piece.to piece.segment.entries
+abbrev pub entries_of : PieceValue → List Entry
+entries_of piece = between piece.from piece.to piece.segment.entries
 
 -- entries in construction order, or the other way round
 abbrev pub in_order : Bool → List Entry → List Entry
@@ -40,7 +43,7 @@ in_order false entries = reverse entries
 
 -- the entries that are travelled, in order of travel
 abbrev pub travelled : PieceValue → List Entry
-travelled piece = in_order piece.along (stretch piece)
+travelled piece = in_order piece.along (entries_of piece)
 
 -- the place in the segment of the entry that is travelled first
 abbrev pub first_place : PieceValue → ℕ

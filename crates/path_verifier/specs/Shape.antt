@@ -7,7 +7,7 @@ use Rattle.path_verifier.specs.declared.fault.VerifyFault.{VerifyFault}
 use Rattle.path_verifier.specs.declared.fault.VerifyFault.TheVariants as faults
 use Rattle.path_verifier.specs.declared.kind.PieceKind.{PieceKind}
 use Rattle.path_verifier.specs.declared.kind.PieceKind.TheVariants.{Up, Core, Down}
-use Rattle.path_verifier.specs.Piece.{PieceValue, kind_of, stretch, begins_in, ends_in}
+use Rattle.path_verifier.specs.Piece.{PieceValue, kind_of, entries_of, begins_in, ends_in}
 use Rattle.path_verifier.specs.Walk.{walk_of}
 use Rattle.path_verifier.specs.Header.{hop_count}
 
@@ -45,28 +45,29 @@ ends_last piece = piece.to + 1 == length piece.segment.entries
 abbrev pub fits_core : PieceValue → Bool
 fits_core piece = begins_first piece && (not (is_core piece) || ends_last piece)
 
--- where there is a core piece all fit it; where there is none all begin where their segments do, or none does
+-- where there is a core piece all fit it; where there is none all begin where their segments do, or
+-- none does
 unfoldable pub are_cut_well : List PieceValue → Bool
 are_cut_well pieces =
     if list_any is_core pieces then list_all fits_core pieces
     else list_all begins_first pieces || list_all (λ piece. nat_lt 0 piece.from) pieces
 
 -- each piece ends in the AS in which the next begins
-abbrev pub do_meet : List PieceValue → Bool
-do_meet [] = true
-do_meet (piece ∷ []) = true
-do_meet (piece ∷ next ∷ later) = (ends_in piece == begins_in next) && do_meet (next ∷ later)
+abbrev pub all_meet : List PieceValue → Bool
+all_meet [] = true
+all_meet (piece ∷ []) = true
+all_meet (piece ∷ next ∷ later) = (ends_in piece == begins_in next) && all_meet (next ∷ later)
 
 -- the first piece begins in this AS
-abbrev pub do_begin_in : ℕ → List PieceValue → Bool
-do_begin_in src [] = false
-do_begin_in src (piece ∷ later) = begins_in piece == src
+abbrev pub starts_in : ℕ → List PieceValue → Bool
+starts_in src [] = false
+starts_in src (piece ∷ later) = begins_in piece == src
 
 -- the last piece ends in this AS
-abbrev pub do_end_in : ℕ → List PieceValue → Bool
-do_end_in dst [] = false
-do_end_in dst (piece ∷ []) = ends_in piece == dst
-do_end_in dst (piece ∷ next ∷ later) = do_end_in dst (next ∷ later)
+abbrev pub finishes_in : ℕ → List PieceValue → Bool
+finishes_in dst [] = false
+finishes_in dst (piece ∷ []) = ends_in piece == dst
+finishes_in dst (piece ∷ next ∷ later) = finishes_in dst (next ∷ later)
 
 -- the first rule that the pieces break, before their walk is looked at
 unfoldable pub shape_fault : List PieceValue → ℕ → ℕ → Option VerifyFault
@@ -75,9 +76,9 @@ shape_fault pieces src dst =
     else if not (list_all has_range pieces) then Some faults.Range
     else if not (are_kinds (map kind_of pieces)) then Some faults.Kinds
     else if not (are_cut_well pieces) then Some faults.CutAtCore
-    else if not (do_meet pieces) then Some faults.NotJoined
-    else if not (do_begin_in src pieces) then Some faults.Source
-    else if not (do_end_in dst pieces) then Some faults.Destination
+    else if not (all_meet pieces) then Some faults.NotJoined
+    else if not (starts_in src pieces) then Some faults.Source
+    else if not (finishes_in dst pieces) then Some faults.Destination
     else if nat_lt 64 (hop_count pieces) then Some faults.TooManyHops
     else None
 
@@ -88,7 +89,7 @@ names_twice (hop ∷ later) = list_any (λ other. other.ia == hop.ia) later || n
 
 -- each hop of the piece is live at this second
 abbrev pub is_live : ℕ → PieceValue → Bool
-is_live now piece = list_all (λ entry. nat_le (2 * now) (expiry_of piece.segment.timestamp entry.exp_time)) (stretch piece)
+is_live now piece = list_all (λ entry. nat_le (2 * now) (expiry_of piece.segment.timestamp entry.exp_time)) (entries_of piece)
 
 -- the first rule that the walk or the hops of pieces of this shape break
 unfoldable pub walk_fault : List PieceValue → ℕ → Option VerifyFault

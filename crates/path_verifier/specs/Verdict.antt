@@ -9,14 +9,15 @@ use Rattle.path_verifier.specs.Header.{header_of}
 use Rattle.path_verifier.specs.Shape.{path_fault}
 use Rattle.path_verifier.specs.Accepted.{Request}
 
--- the policy forbids the walk by this fault: its list denies a hop, or, where it denies none, the walk is no word of its sequence
+-- the policy forbids the walk by this fault: its list denies a hop, or, where it denies none, the
+-- walk is no word of its sequence
 abbrev pub IsForbidden : Rules → List WalkHop → VerifyFault → Type 0
 IsForbidden rules walk (AclDenied denied) = DeniesHop rules.acl walk denied
 IsForbidden rules walk SequenceMismatch = AllowsHops rules.acl walk × ¬ HasWord rules.sequence walk
 IsForbidden rules walk fault = ⊥
 
--- the path is refused by this fault, where this is the first rule that it breaks, if any: its header is another, or it is
--- forbidden
+-- the path is refused by this fault, where this is the first rule that it breaks, if any: its
+-- header is another, or it is forbidden
 abbrev pub IsRefusedAfter : Option VerifyFault → Request → VerifyFault → Type 0
 IsRefusedAfter (Some first) request fault = fault ≡ first
 IsRefusedAfter None request HeaderDiffers = request.header ≢ header_of request.pieces

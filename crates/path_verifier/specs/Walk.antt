@@ -1,12 +1,13 @@
--- The walk of a path: the ASes that it passes, each with its way in and its way out (draft-dekater-scion-dataplane,
--- path construction). No index and no byte occurs in it.
+-- The walk of a path: the ASes that it passes, each with its way in and its way out
+-- (draft-dekater-scion-dataplane, path construction). No index and no byte occurs in it.
 use Rattle.std.specs.Prelude.{ℕ, Bool, if◌then◌else◌, List, [], ◌∷◌, ◌++◌, map}
 use Rattle.std.specs.List.{fold}
 use Rattle.path_segment.specs.declared.entry.Entry.{Entry}
 use Rattle.policy_expr.specs.declared.hop.WalkHop.{WalkHop}
 use Rattle.path_verifier.specs.Piece.{PieceValue, travelled}
 
--- the hop of an entry: in construction direction it goes in by ConsIngress and out by ConsEgress, else the other way round
+-- the hop of an entry: in construction direction it goes in by ConsIngress and out by ConsEgress,
+-- else the other way round
 unfoldable pub hop_of : Bool → Entry → WalkHop
 hop_of along entry = record {
   ia = entry.ia;
@@ -34,8 +35,8 @@ abbrev pub met : List WalkHop → WalkHop → List WalkHop
 met [] hop = hop ∷ []
 met (first ∷ later) hop = left_by hop.egress (first ∷ later)
 
--- a walk that goes on with these hops: the AS in which both meet stands once, with the way in of the walk and the way out of
--- the hops
+-- a walk that goes on with these hops: the AS in which both meet stands once, with the way in of
+-- the walk and the way out of the hops
 abbrev pub joined : List WalkHop → List WalkHop → List WalkHop
 joined walk [] = walk
 joined walk (hop ∷ later) = met walk hop ++ later

@@ -10,14 +10,15 @@ pub enum VerifyFault {
     /// There is no piece, or a fourth one.
     #[error("a path has one to three pieces")]
     PieceCount,
-    /// The places of a piece are not those of two entries of its segment, the first before the second.
+    /// The places of a piece are not those of two entries of its segment, the first before the
+    /// second.
     #[error("a piece is not from one entry of its segment to a later one")]
     Range,
     /// The pieces are not up, core and down pieces in this order, at most one of each.
     #[error("the pieces are not up, core and down in this order")]
     Kinds,
-    /// A core piece is not whole, a piece beside it doesn't begin where its segment does, or of an up
-    /// and a down piece one does and the other does not.
+    /// A core piece is not whole, a piece beside it doesn't begin where its segment does, or of an
+    /// up and a down piece one does and the other does not.
     #[error("a piece is cut where it may not be")]
     CutAtCore,
     /// A piece doesn't begin in the AS in which the one before it ends.
@@ -41,7 +42,8 @@ pub enum VerifyFault {
     /// The header is not that of the pieces.
     #[error("the header is not that of the pieces")]
     HeaderDiffers,
-    /// The policy's list denies a hop of the walk: the first that is denied, and the entry that decides it.
+    /// The policy's list denies a hop of the walk: the first that is denied, and the entry that
+    /// decides it.
     #[error("the policy denies a hop of the walk")]
     AclDenied(Denied),
     /// The walk is not a word of the policy's sequence.

@@ -85,9 +85,9 @@ fn info_of(piece: &Piece<'_>) -> InfoField
     ensures { result ≡ info_of piece.now }
 {
     InfoField {
-        construction: piece.along(),
-        seg_id: piece.segment().beta_at(piece.first_place()),
-        timestamp: piece.segment().timestamp(),
+        construction: piece.along,
+        seg_id: piece.segment.beta_at(piece.first_place()),
+        timestamp: piece.segment.timestamp(),
     }
 }
 

@@ -1,12 +1,15 @@
 //! Laws of paths: each is the contract of a function that does nothing.
 
-ghost use Rattle.std.specs.Prelude.{◌≡◌, ◌↔◌, ℕ, ◌-◌, ◌*◌, ◌≤◌, List, ◌∷◌, ◌++◌, Some, None, length, map, slice_get, All};
+ghost use Rattle.std.specs.Prelude.{◌≡◌, ◌↔◌, ℕ, ◌+◌, ◌-◌, ◌*◌, ◌≤◌, List, ◌∷◌, ◌++◌, Some, None, length, map, reverse, slice_get, All};
+ghost use Rattle.path_segment.specs.declared.entry.Entry.{Entry};
 ghost use Rattle.path_header.specs.Value.{IsHeader};
-ghost use Rattle.path_verifier.specs.Piece.{PieceValue, kind_of};
-ghost use Rattle.path_verifier.specs.Header.{header_of, hop_count};
-ghost use Rattle.path_verifier.specs.Walk.{walk_of};
+ghost use Rattle.path_verifier.specs.declared.fault.VerifyFault.TheVariants.{Expired};
+ghost use Rattle.path_verifier.specs.Piece.{PieceValue, HasRange, kind_of, travelled};
+ghost use Rattle.path_verifier.specs.Header.{field_of, fields_of, len_of, header_of, hop_count};
+ghost use Rattle.path_verifier.specs.Walk.{hop_of, hops_of, walk_of};
 ghost use Rattle.path_verifier.specs.Shape.{path_fault};
 ghost use Rattle.path_verifier.specs.Accepted.{AreLive, IsExpiry, MakesPath, MayAdjoin};
+ghost use Rattle.path_verifier.specs.Turned.{turned_piece, turned_pieces, turned_walk};
 
 /// The tests of pieces find no fault exactly where the pieces make a path in plain facts.
 pub fn paths_are_plain()
@@ -36,8 +39,8 @@ pub fn walks_are_short()
     ensures most { (pieces : List PieceValue) → length (walk_of pieces) ≤ hop_count pieces }
 {}
 
-/// A path has at most three pieces, and behind an up piece comes a core or a down piece, behind a core
-/// piece a down piece, and behind a down piece nothing.
+/// A path has at most three pieces, and behind an up piece comes a core or a down piece, behind a
+/// core piece a down piece, and behind a down piece nothing.
 pub fn pieces_adjoin()
     ensures most { (pieces : List PieceValue) (src dst now : ℕ) → MakesPath pieces src dst now
         → length pieces ≤ 3 }
@@ -50,4 +53,42 @@ pub fn pieces_adjoin()
 pub fn headers_are_of_the_grammar()
     ensures { (pieces : List PieceValue) (src dst now : ℕ) → MakesPath pieces src dst now
         → All (λ piece. length piece.segment.entries ≤ 63) pieces → IsHeader (header_of pieces) }
+{}
+
+/// A piece is travelled entry by entry: it has as many of them as lie between its places, both
+/// included, and as many hops and hop fields, each that of its entry.
+pub fn pieces_go_by_entries()
+    ensures entries { (piece : PieceValue) → HasRange piece
+        → length (travelled piece) ≡ piece.to + 1 - piece.from }
+    ensures hops { (piece : PieceValue) → length (hops_of piece) ≡ len_of piece }
+    ensures fields { (piece : PieceValue) → length (fields_of piece) ≡ len_of piece }
+    ensures hop { (piece : PieceValue) (i : ℕ) (entry : Entry)
+        → slice_get (travelled piece) i ≡ Some entry
+        → slice_get (hops_of piece) i ≡ Some (hop_of piece.along entry) }
+    ensures field { (piece : PieceValue) (i : ℕ) (entry : Entry)
+        → slice_get (travelled piece) i ≡ Some entry
+        → slice_get (fields_of piece) i ≡ Some (field_of entry) }
+{}
+
+/// The way back of a path, its pieces from the last to the first and each travelled the other way,
+/// is a path at each second at which its hops are live, through the same ASes, with the ways in and
+/// out exchanged; and it expires when the path does. A path of which a hop has expired is refused
+/// for that alone.
+pub fn paths_turn_back()
+    ensures path { (pieces : List PieceValue) (src dst now moment : ℕ)
+        → MakesPath pieces src dst now → AreLive moment pieces
+        → MakesPath (turned_pieces pieces) dst src moment }
+    ensures walk { (pieces : List PieceValue) (src dst now : ℕ) → MakesPath pieces src dst now
+        → walk_of (turned_pieces pieces) ≡ turned_walk (walk_of pieces) }
+    ensures expiry { (pieces : List PieceValue) (least : ℕ) → IsExpiry pieces least
+        → IsExpiry (turned_pieces pieces) least }
+    ensures late { (pieces : List PieceValue) (src dst now moment : ℕ)
+        → MakesPath pieces src dst now → ¬ (AreLive moment pieces)
+        → path_fault pieces src dst moment ≡ Some Expired }
+
+    // The entries of a piece, and its hop fields, are travelled from the last to the first.
+    ensures entries { (piece : PieceValue) → travelled (turned_piece piece)
+        ≡ reverse (travelled piece) }
+    ensures fields { (piece : PieceValue) → fields_of (turned_piece piece)
+        ≡ reverse (fields_of piece) }
 {}

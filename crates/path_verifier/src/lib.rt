@@ -2,13 +2,15 @@
 //! its ends, a moment and a policy.
 //!
 //! A path is one to three pieces of segments, up to the core, over it and down from it. Its walk is
-//! the list of ASes that it passes, and its header what routers go by. No call takes memory.
+//! the list of ASes that it passes, and its header what routers go by. No call of
+//! the verifier takes memory.
 #![tactic(auto)]
 
 mod fault;
 mod header;
 mod kind;
 pub mod laws;
+mod owned;
 mod path;
 mod piece;
 mod pieces;
@@ -18,7 +20,8 @@ mod walk;
 
 pub use fault::VerifyFault;
 pub use kind::PieceKind;
+pub use owned::{OwnedPiece, lend_all, own_all};
 pub use path::VerifiedPath;
 pub use piece::Piece;
 pub use pieces::Pieces;
-pub use verification::verify;
+pub use verification::{accept, verify};

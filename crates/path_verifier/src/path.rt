@@ -57,8 +57,8 @@ impl<'s, 'p, A: Allocator + Clone> VerifiedPath<'s, 'p, A> {
         &self.header
     }
 
-    /// Its walk: the ASes that it passes, each with the interface by which the walk comes in and the
-    /// one by which it leaves, 0 at both ends. It has 2 to 64 hops.
+    /// Its walk: the ASes that it passes, each with the interface by which the walk comes in and
+    /// the one by which it leaves, 0 at both ends. It has 2 to 64 hops.
     pub fn walk(&self) -> &[WalkHop]
         ensures value { result.now ≡ walk_of self.entry.now.pieces }
         ensures count { (2 ≤ length result.now) × (length result.now ≤ 64) }

@@ -2,8 +2,9 @@ ghost use Rattle.std.specs.Prelude.{◌≡◌, ◌+◌, ◌-◌, ◌<◌, ◌≤
 ghost use Rattle.std.specs.List.{list_all};
 ghost use Rattle.hop_mac.specs.Lifetime.{expiry_of};
 ghost use Rattle.path_segment.specs.Chain.{between, IsLeastExpiry};
-ghost use Rattle.path_verifier.specs.Piece.{HasRange, kind_of, stretch, travelled, first_place, begins_in, ends_in};
+ghost use Rattle.path_verifier.specs.Piece.{HasRange, kind_of, entries_of, travelled, first_place, begins_in, ends_in};
 ghost use Rattle.path_verifier.specs.Shape.{has_range, is_core, begins_first, ends_last, is_live};
+ghost use Rattle.path_verifier.specs.Turned.{turned_piece};
 
 use crate::kind::PieceKind;
 use hop_mac::hop_is_live;
@@ -50,6 +51,18 @@ impl<'s> Piece<'s> {
         }
     }
 
+    /// The same entries of the same segment, travelled the other way.
+    pub fn turned(&self) -> Piece<'s>
+        ensures { result ≡ turned_piece self.now }
+    {
+        Piece {
+            segment: self.segment,
+            from: self.from,
+            to: self.to,
+            along: !self.along,
+        }
+    }
+
     /// Whether its places are those of two entries, the first before the second.
     pub(crate) fn has_range(&self) -> bool
         ensures value { result ≡ has_range self.now }
@@ -90,7 +103,7 @@ impl<'s> Piece<'s> {
 
     /// The AS in which the travel along it begins.
     #[tactic(auto, unfolding(crate::specs::Piece::begins_in))]
-    pub(crate) fn begins_in(&self) -> IsdAs
+    pub fn begins_in(&self) -> IsdAs
         requires { HasRange self.now }
         ensures { result ≡ begins_in self.now }
     {
@@ -99,7 +112,7 @@ impl<'s> Piece<'s> {
 
     /// The AS in which it ends.
     #[tactic(auto, unfolding(crate::specs::Piece::ends_in))]
-    pub(crate) fn ends_in(&self) -> IsdAs
+    pub fn ends_in(&self) -> IsdAs
         requires { HasRange self.now }
         ensures { result ≡ ends_in self.now }
     {
@@ -111,13 +124,13 @@ impl<'s> Piece<'s> {
         requires { HasRange self.now }
         ensures { result ≡ is_live now self.now }
     {
-        are_live(self.segment().timestamp(), self.stretch(), now)
+        are_live(self.segment.timestamp(), self.entries(), now)
     }
 
     /// Its entries, in construction order.
-    pub(crate) fn stretch(&self) -> &'s [Entry]
+    pub(crate) fn entries(&self) -> &'s [Entry]
         requires { HasRange self.now }
-        ensures { result.now ≡ stretch self.now }
+        ensures { result.now ≡ entries_of self.now }
     {
         let segment = self.segment;
         let (from, to) = (self.from, self.to);
@@ -127,23 +140,9 @@ impl<'s> Piece<'s> {
     /// The moment, in half seconds, at which the first of its hops expires.
     pub(crate) fn expiry(&self) -> u64
         requires { HasRange self.now }
-        ensures { IsLeastExpiry self.now.segment.timestamp (stretch self.now) result }
+        ensures { IsLeastExpiry self.now.segment.timestamp (entries_of self.now) result }
     {
         self.segment.least_expiry(self.from, self.to)
-    }
-
-    /// The segment.
-    pub(crate) fn segment(&self) -> &'s Segment
-        ensures { result.now ≡ self.now.segment }
-    {
-        self.segment
-    }
-
-    /// Whether it is travelled in the direction in which the segment was made.
-    pub(crate) fn along(&self) -> bool
-        ensures { result ≡ self.now.along }
-    {
-        self.along
     }
 
     /// The place in the segment of the entry that is travelled first.
@@ -154,7 +153,7 @@ impl<'s> Piece<'s> {
     }
 
     /// How many entries are travelled, which is at most 63.
-    #[tactic(auto, using(crate::proofs::Stretch::length_travelled))]
+    #[tactic(auto, using(crate::proofs::Entries::length_travelled))]
     pub(crate) fn len(&self) -> usize
         requires { HasRange self.now }
         ensures value { result ≡ length (travelled self.now) }
@@ -205,7 +204,7 @@ fn count(entries: &[Entry], from: usize, to: usize) -> usize
 }
 
 /// The entries from one place to another, both included.
-#[tactic(auto, using(crate::proofs::Stretch::take_between))]
+#[tactic(auto, using(crate::proofs::Entries::take_between))]
 fn cut(entries: &[Entry], from: usize, to: usize) -> &[Entry]
     requires order { from < to }
     requires within { to < length entries.now }

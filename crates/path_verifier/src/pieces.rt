@@ -1,5 +1,6 @@
-ghost use Rattle.std.specs.Prelude.{◌≡◌, ◌<◌, ◌↔◌, [], ◌∷◌, ◌++◌, length, slice_get, option_map, IsOk, IsTrue, OnOk, OnErr, IfErr};
+ghost use Rattle.std.specs.Prelude.{◌≡◌, ◌==◌, ◌<◌, ◌↔◌, [], ◌∷◌, ◌++◌, length, slice_get, option_map, IsOk, IsTrue, OnOk, OnErr, IfErr};
 ghost use Rattle.path_verifier.specs.Held.{pieces_in};
+ghost use Rattle.path_verifier.specs.Turned.{turned_pieces};
 
 use crate::fault::VerifyFault;
 use crate::piece::Piece;
@@ -85,7 +86,7 @@ impl<'s> Pieces<'s> {
     pub fn is_empty(&self) -> bool
         ensures { IsTrue result ↔ (self.now ≡ []) }
     {
-        self.len() == 0
+        self.held.is_empty()
     }
 
     /// The piece at this place in order of travel, from 0.
@@ -103,6 +104,16 @@ impl<'s> Pieces<'s> {
         }
     }
 
+    /// The pieces of the way back: the same from the last to the first, each travelled the other
+    /// way. It takes no memory.
+    pub fn turned(&self) -> Pieces<'s>
+        ensures { result ≡ turned_pieces self.now }
+    {
+        Pieces {
+            held: self.held.turned(),
+        }
+    }
+
     /// The same pieces once more.
     pub(crate) fn again(&self) -> Pieces<'s>
         ensures { result ≡ self.now }
@@ -114,6 +125,30 @@ impl<'s> Pieces<'s> {
 }
 
 impl<'s> Held<'s> {
+    /// Whether there is no piece.
+    pub(crate) fn is_empty(&self) -> bool
+        ensures { result ≡ (length (pieces_in self.now) == 0) }
+    {
+        match self {
+            Held::Zero => true,
+            _ => false,
+        }
+    }
+
+    /// The pieces of the way back.
+    fn turned(&self) -> Held<'s>
+        ensures { pieces_in result ≡ turned_pieces (pieces_in self.now) }
+    {
+        match self {
+            Held::Zero => Held::Zero,
+            Held::One(first) => Held::One(first.turned()),
+            Held::Two(first, second) => Held::Two(second.turned(), first.turned()),
+            Held::Three(first, second, third) => {
+                Held::Three(third.turned(), second.turned(), first.turned())
+            }
+        }
+    }
+
     /// The same pieces once more.
     fn again(&self) -> Held<'s>
         ensures { pieces_in result ≡ pieces_in self.now }

@@ -6,7 +6,7 @@ ghost use Rattle.path_verifier.specs.Piece.{HasRange, kind_of, begins_in, ends_i
 ghost use Rattle.path_verifier.specs.Held.{pieces_in};
 ghost use Rattle.path_verifier.specs.Header.{hop_count};
 ghost use Rattle.path_verifier.specs.Accepted.{IsExpiry};
-ghost use Rattle.path_verifier.specs.Shape.{has_range, are_kinds, is_core, begins_first, fits_core, are_cut_well, do_meet, do_begin_in, do_end_in, shape_fault, is_live};
+ghost use Rattle.path_verifier.specs.Shape.{has_range, are_kinds, is_core, begins_first, fits_core, are_cut_well, all_meet, starts_in, finishes_in, shape_fault, is_live};
 
 use crate::fault::VerifyFault;
 use crate::kind::PieceKind::{Core, Down, Up};
@@ -23,7 +23,7 @@ pub(crate) fn shape_fault(held: &Held<'_>, src: IsdAs, dst: IsdAs) -> Option<Ver
     ensures ranges { IfNone result (AllByRecursion HasRange (pieces_in held.now)) }
     ensures few { IfNone result (hop_count (pieces_in held.now) ≤ 64) }
 {
-    if is_empty(held) {
+    if held.is_empty() {
         Some(VerifyFault::PieceCount)
     } else if !are_in_range(held) {
         Some(VerifyFault::Range)
@@ -31,26 +31,16 @@ pub(crate) fn shape_fault(held: &Held<'_>, src: IsdAs, dst: IsdAs) -> Option<Ver
         Some(VerifyFault::Kinds)
     } else if !are_cut_well(held) {
         Some(VerifyFault::CutAtCore)
-    } else if !do_meet(held) {
+    } else if !all_meet(held) {
         Some(VerifyFault::NotJoined)
-    } else if !do_begin_in(held, src) {
+    } else if !starts_in(held, src) {
         Some(VerifyFault::Source)
-    } else if !do_end_in(held, dst) {
+    } else if !finishes_in(held, dst) {
         Some(VerifyFault::Destination)
     } else if hop_count(held) > MAX_HOPS {
         Some(VerifyFault::TooManyHops)
     } else {
         None
-    }
-}
-
-/// Whether there is no piece.
-fn is_empty(held: &Held<'_>) -> bool
-    ensures { result ≡ (length (pieces_in held.now) == 0) }
-{
-    match held {
-        Held::Zero => true,
-        _ => false,
     }
 }
 
@@ -96,9 +86,9 @@ fn are_cut_well(held: &Held<'_>) -> bool
     ensures { result ≡ are_cut_well (pieces_in held.now) }
 {
     if has_core(held) {
-        do_all_fit_core(held)
+        all_fit_core(held)
     } else {
-        do_all_begin_first(held) || do_all_begin_later(held)
+        all_begin_first(held) || all_begin_later(held)
     }
 }
 
@@ -125,7 +115,7 @@ fn fits_core(piece: &Piece<'_>) -> bool
 }
 
 /// Whether each piece is as it must be in a path with a core piece.
-fn do_all_fit_core(held: &Held<'_>) -> bool
+fn all_fit_core(held: &Held<'_>) -> bool
     requires { AllByRecursion HasRange (pieces_in held.now) }
     ensures { result ≡ list_all fits_core (pieces_in held.now) }
 {
@@ -140,7 +130,7 @@ fn do_all_fit_core(held: &Held<'_>) -> bool
 }
 
 /// Whether each piece begins where its segment does.
-fn do_all_begin_first(held: &Held<'_>) -> bool
+fn all_begin_first(held: &Held<'_>) -> bool
     ensures { result ≡ list_all begins_first (pieces_in held.now) }
 {
     match held {
@@ -154,7 +144,7 @@ fn do_all_begin_first(held: &Held<'_>) -> bool
 }
 
 /// Whether each piece begins behind the entry in which its segment begins.
-fn do_all_begin_later(held: &Held<'_>) -> bool
+fn all_begin_later(held: &Held<'_>) -> bool
     ensures { result ≡ list_all (λ piece. nat_lt 0 piece.from) (pieces_in held.now) }
 {
     match held {
@@ -177,9 +167,9 @@ fn meets(piece: &Piece<'_>, next: &Piece<'_>) -> bool
 }
 
 /// Whether each piece ends in the AS in which the next one begins.
-fn do_meet(held: &Held<'_>) -> bool
+fn all_meet(held: &Held<'_>) -> bool
     requires { AllByRecursion HasRange (pieces_in held.now) }
-    ensures { result ≡ do_meet (pieces_in held.now) }
+    ensures { result ≡ all_meet (pieces_in held.now) }
 {
     match held {
         Held::Zero | Held::One(_) => true,
@@ -189,9 +179,9 @@ fn do_meet(held: &Held<'_>) -> bool
 }
 
 /// Whether the first piece begins in this AS.
-fn do_begin_in(held: &Held<'_>, src: IsdAs) -> bool
+fn starts_in(held: &Held<'_>, src: IsdAs) -> bool
     requires { AllByRecursion HasRange (pieces_in held.now) }
-    ensures { result ≡ do_begin_in src (pieces_in held.now) }
+    ensures { result ≡ starts_in src (pieces_in held.now) }
 {
     match held {
         Held::Zero => false,
@@ -202,9 +192,9 @@ fn do_begin_in(held: &Held<'_>, src: IsdAs) -> bool
 }
 
 /// Whether the last piece ends in this AS.
-fn do_end_in(held: &Held<'_>, dst: IsdAs) -> bool
+fn finishes_in(held: &Held<'_>, dst: IsdAs) -> bool
     requires { AllByRecursion HasRange (pieces_in held.now) }
-    ensures { result ≡ do_end_in dst (pieces_in held.now) }
+    ensures { result ≡ finishes_in dst (pieces_in held.now) }
 {
     match held {
         Held::Zero => false,

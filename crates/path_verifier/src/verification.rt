@@ -3,7 +3,7 @@ ghost use Rattle.std.specs.Result.{result_err};
 ghost use Rattle.std.specs.List.{AllByRecursion};
 ghost use Rattle.policy_expr.specs.Policy.{AllowsHops, HasWord};
 ghost use Rattle.path_verifier.specs.Piece.{HasRange};
-ghost use Rattle.path_verifier.specs.Header.{hop_count};
+ghost use Rattle.path_verifier.specs.Header.{header_of, hop_count};
 ghost use Rattle.path_verifier.specs.Held.{pieces_in};
 ghost use Rattle.path_verifier.specs.Walk.{walk_of};
 ghost use Rattle.path_verifier.specs.Shape.{path_fault};
@@ -15,28 +15,28 @@ use crate::header::header_of;
 use crate::path::VerifiedPath;
 use crate::pieces::{Held, Pieces};
 use crate::shape::{are_live, shape_fault};
-use crate::walk::{Walk, do_name_twice};
+use crate::walk::{Walk, names_twice};
 use isd_as::IsdAs;
 use path_header::Header;
 use policy_expr::{Policy, WalkHop};
 use std::alloc::Allocator;
 
-/// The path of these pieces with this header, where it may be sent from `src` to `dst` at the second
-/// `now` under a policy.
+/// The path of these pieces with this header, where it may be sent from `src` to `dst` at the
+/// second `now` under a policy.
 ///
 /// The first of these refusals: [`VerifyFault::PieceCount`] for no pieces; [`VerifyFault::Range`]
 /// where a piece is not from one entry of its segment to a later one; [`VerifyFault::Kinds`] where
 /// they are not up, core and down pieces in this order, at most one of each;
-/// [`VerifyFault::CutAtCore`] where a core piece is not whole, a piece beside it doesn't begin where
-/// its segment does, or of an up and a down piece alone one does and the other does not;
-/// [`VerifyFault::NotJoined`] where a piece doesn't begin in the AS in which the one before it ends;
-/// [`VerifyFault::Source`] and [`VerifyFault::Destination`] where the path has other ends;
+/// [`VerifyFault::CutAtCore`] where a core piece is not whole, a piece beside it doesn't begin
+/// where its segment does, or of an up and a down piece alone one does and the other does not;
+/// [`VerifyFault::NotJoined`] where a piece doesn't begin in the AS in which the one before it
+/// ends; [`VerifyFault::Source`] and [`VerifyFault::Destination`] where the path has other ends;
 /// [`VerifyFault::TooManyHops`] for more than 64 hop fields; [`VerifyFault::Loop`] where the walk
 /// names an AS twice; [`VerifyFault::Expired`] where a hop is not live at `now`;
-/// [`VerifyFault::HeaderDiffers`] where the header is not that of the pieces, the packet standing at
-/// its beginning; [`VerifyFault::AclDenied`] where the policy's list denies a hop, with the first
-/// such hop and the entry that decides it; [`VerifyFault::SequenceMismatch`] where the walk is no
-/// word of the policy's sequence.
+/// [`VerifyFault::HeaderDiffers`] where the header is not that of the pieces, the packet standing
+/// at its beginning; [`VerifyFault::AclDenied`] where the policy's list denies a hop, with the
+/// first such hop and the entry that decides it; [`VerifyFault::SequenceMismatch`] where the walk
+/// is no word of the policy's sequence.
 pub fn verify<'s, 'p, A: Allocator + Clone>(
     pieces: &Pieces<'s>,
     header: &Header,
@@ -55,7 +55,7 @@ pub fn verify<'s, 'p, A: Allocator + Clone>(
     ensures exact { IfErr result
         (IsRefused (request_of pieces.now header.now src dst now policy.entry.now)) }
 {
-    let (walk, own) = judged(pieces, header, src, dst, now, policy)?;
+    let (walk, own) = walk_and_header(pieces, header, src, dst, now, policy)?;
     Ok(VerifiedPath {
         pieces: pieces.again(),
         header: own,
@@ -67,8 +67,68 @@ pub fn verify<'s, 'p, A: Allocator + Clone>(
     })
 }
 
+/// The path of these pieces with the header that they make, where it may be sent from `src` to
+/// `dst` at the second `now` under a policy.
+///
+/// The refusals are those of [`verify`], in their order; [`VerifyFault::HeaderDiffers`] never
+/// comes.
+pub fn accept<'s, 'p, A: Allocator + Clone>(
+    pieces: &Pieces<'s>,
+    src: IsdAs,
+    dst: IsdAs,
+    now: u32,
+    policy: &'p Policy<A>,
+) -> Result<VerifiedPath<'s, 'p, A>, VerifyFault>
+    // What is given may be sent, and shows what was asked.
+    ensures found { let request = request_of pieces.now (header_of pieces.now) src dst now policy.entry.now in
+        IfOk result (λ path. (path ≡ request) × IsAccepted request) }
+    // What may be sent is given.
+    ensures only { IsAccepted
+        (request_of pieces.now (header_of pieces.now) src dst now policy.entry.now)
+        → IsOk result }
+    // Which refusal it is.
+    ensures exact { IfErr result (IsRefused
+        (request_of pieces.now (header_of pieces.now) src dst now policy.entry.now)) }
+{
+    let (walk, header) = made(pieces, src, dst, now, policy)?;
+    Ok(VerifiedPath {
+        pieces: pieces.again(),
+        header,
+        walk,
+        src,
+        dst,
+        now,
+        policy,
+    })
+}
+
 /// The walk and the header of these pieces, or the first rule that the path breaks.
-fn judged<A: Allocator + Clone>(
+fn made<A: Allocator + Clone>(
+    pieces: &Pieces<'_>,
+    src: IsdAs,
+    dst: IsdAs,
+    now: u32,
+    policy: &Policy<A>,
+) -> Result<(Walk, Header), VerifyFault>
+    ensures walk { IfOk result (λ own. own.0 ≡ walk_of pieces.now) }
+    ensures header { IfOk result (λ own. own.1 ≡ header_of pieces.now) }
+    ensures found { OnOk result (IsAccepted
+        (request_of pieces.now (header_of pieces.now) src dst now policy.now)) }
+    ensures only { IsAccepted
+        (request_of pieces.now (header_of pieces.now) src dst now policy.now)
+        → IsOk result }
+    ensures exact { IfErr result (IsRefused
+        (request_of pieces.now (header_of pieces.now) src dst now policy.now)) }
+{
+    let walk = checked_walk(&pieces.held, src, dst, now)?;
+    let header = header_of(&pieces.held);
+    check_policy(walk.as_slice(), policy)?;
+    Ok((walk, header))
+}
+
+/// The walk of these pieces and this header, which is theirs, or the first rule that the path
+/// breaks.
+fn walk_and_header<A: Allocator + Clone>(
     pieces: &Pieces<'_>,
     header: &Header,
     src: IsdAs,
@@ -85,18 +145,18 @@ fn judged<A: Allocator + Clone>(
     ensures exact { IfErr result
         (IsRefused (request_of pieces.now header.now src dst now policy.now)) }
 {
-    let walk = walk_of(&pieces.held, src, dst, now)?;
+    let walk = checked_walk(&pieces.held, src, dst, now)?;
     let own = header_of(&pieces.held);
     if !own.is_same(header) {
         return Err(VerifyFault::HeaderDiffers);
     }
-    judge(walk.as_slice(), policy)?;
+    check_policy(walk.as_slice(), policy)?;
     Ok((walk, own))
 }
 
 /// The walk of the pieces, or the first rule that they break.
 #[tactic(auto, unfolding(crate::specs::Shape::walk_fault))]
-fn walk_of(held: &Held<'_>, src: IsdAs, dst: IsdAs, now: u32) -> Result<Walk, VerifyFault>
+fn checked_walk(held: &Held<'_>, src: IsdAs, dst: IsdAs, now: u32) -> Result<Walk, VerifyFault>
     ensures walk { IfOk result (λ walk. walk ≡ walk_of (pieces_in held.now)) }
     ensures fault { path_fault (pieces_in held.now) src dst now ≡ result_err result }
     ensures some { OnOk result (0 < length (pieces_in held.now)) }
@@ -107,7 +167,7 @@ fn walk_of(held: &Held<'_>, src: IsdAs, dst: IsdAs, now: u32) -> Result<Walk, Ve
         return Err(fault);
     }
     let walk = Walk::of(held);
-    if do_name_twice(walk.as_slice()) {
+    if names_twice(walk.as_slice()) {
         return Err(VerifyFault::Loop);
     }
     if !are_live(held, now) {
@@ -117,7 +177,10 @@ fn walk_of(held: &Held<'_>, src: IsdAs, dst: IsdAs, now: u32) -> Result<Walk, Ve
 }
 
 /// Whether a policy allows a walk, or why not.
-fn judge<A: Allocator + Clone>(walk: &[WalkHop], policy: &Policy<A>) -> Result<(), VerifyFault>
+fn check_policy<A: Allocator + Clone>(
+    walk: &[WalkHop],
+    policy: &Policy<A>,
+) -> Result<(), VerifyFault>
     ensures found { OnOk result
         (AllowsHops policy.now.acl walk.now × HasWord policy.now.sequence walk.now) }
     ensures only { AllowsHops policy.now.acl walk.now → HasWord policy.now.sequence walk.now

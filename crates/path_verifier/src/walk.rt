@@ -122,7 +122,7 @@ fn hop_at(piece: &Piece<'_>, place: usize) -> WalkHop
     requires within { place < len_of piece.now }
     ensures { slice_get (hops_of piece.now) place ≡ Some result }
 {
-    hop_of(piece.along(), piece.entry(place))
+    hop_of(piece.along, piece.entry(place))
 }
 
 impl Walk {
@@ -190,7 +190,7 @@ impl Walk {
 }
 
 /// Whether an AS stands in two of these hops.
-pub(crate) fn do_name_twice(hops: &[WalkHop]) -> bool
+pub(crate) fn names_twice(hops: &[WalkHop]) -> bool
     ensures { result ≡ names_twice hops.now }
 {
     let mut rest = hops;

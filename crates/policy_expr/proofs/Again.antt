@@ -5,7 +5,7 @@ use Rattle.std.proofs.lemmas.Bool.Decides.{nat_tests}
 use Rattle.policy_expr.specs.declared.token.Token.{Token}
 use Rattle.policy_expr.specs.declared.token.Token.TheVariants as signs
 use Rattle.policy_expr.specs.Tree.{Tree, hop, followed, either, optional, repeated, once_or_more}
-use Rattle.policy_expr.specs.Reading.{Level, Reading, new_level, wants, has, with_left, whole, took, ended, read_on}
+use Rattle.policy_expr.specs.Reading.{Level, Reading, new_level, wants, has, with_choices, whole, took, ended, read_on}
 use Rattle.policy_expr.specs.Printing.{strength}
 use Rattle.policy_expr.proofs.Readable.{nested, depth}
 
@@ -33,8 +33,8 @@ ReadsItem t tokens deep = (levels : List Level) (level : Level) → length level
 -- the tree is read as alternatives
 abbrev pub ReadsAlternatives : Tree → List Token → ℕ → Type 0
 ReadsAlternatives t tokens deep = (levels : List Level) (before : Option Tree) → length levels + deep ≤ 32
-    → (left : Option Tree) × (item : Tree) × (with_left left item ≡ t)
-    × Leads (wants levels (record { before = before; left = None })) tokens (has levels (record { before = before; left = left }) item)
+    → (left : Option Tree) × (item : Tree) × (with_choices left item ≡ t)
+    × Leads (wants levels (record { before = before; choices = None })) tokens (has levels (record { before = before; choices = left }) item)
 
 -- the tree is read as a whole
 abbrev pub ReadsWhole : Tree → List Token → ℕ → Type 0
@@ -65,12 +65,12 @@ in_parentheses_reads t tokens deep all levels level within later =
 
 -- what is read as an item is read as alternatives
 alternatives_of_item : (t : Tree) (tokens : List Token) (deep : ℕ) → ReadsItem t tokens deep → ReadsAlternatives t tokens deep
-alternatives_of_item t tokens deep item levels before within = (None, t, refl, item levels (record { before = before; left = None }) within)
+alternatives_of_item t tokens deep item levels before within = (None, t, refl, item levels (record { before = before; choices = None }) within)
 
 -- what is read as alternatives is read as a whole
 whole_of_alternatives : (t : Tree) (tokens : List Token) (deep : ℕ) → ReadsAlternatives t tokens deep → ReadsWhole t tokens deep
 whole_of_alternatives t tokens deep alternatives levels within =
-    let r = alternatives levels None within in (record { before = None; left = r.0 }, r.1, r.2, r.3)
+    let r = alternatives levels None within in (record { before = None; choices = r.0 }, r.1, r.2, r.3)
 
 begins_more : (tokens more : List Token) → BeginsItem tokens → BeginsItem (tokens ++ more)
 begins_more [] more begins = absurd begins
@@ -89,7 +89,7 @@ begins_closed false tokens begins = begins
 
 -- an item that follows another begins a new following
 followed_begins : (levels : List Level) (level : Level) (item : Tree) (tokens : List Token) → BeginsItem tokens
-    → read_on (has levels level item) tokens ≡ read_on (wants levels (record { before = Some (whole level item); left = None })) tokens
+    → read_on (has levels level item) tokens ≡ read_on (wants levels (record { before = Some (whole level item); choices = None })) tokens
 unfolding read_on took
 followed_begins levels level item [] begins = absurd begins
 followed_begins levels level item (signs.Hop pred ∷ later) begins = refl
@@ -107,13 +107,13 @@ followed_reads a b reads_a reads_b levels within =
     let s = reads_b.alternatives levels (Some a) (omega arith) in
     let tokens = closed_in (nat_lt (strength b) 1) (tokens_of b) in
     let begins = begins_closed (nat_lt (strength b) 1) (tokens_of b) reads_b.begins in (
-      record { before = Some a; left = s.0 },
+      record { before = Some a; choices = s.0 },
       s.1,
       ap (followed a) s.2,
       λ later.
           rw append_assoc (r.3 (tokens ++ later)
           ∙ followed_begins levels r.0 r.1 (tokens ++ later) (begins_more tokens later begins)
-          ∙ ap (λ (t : Tree). read_on (wants levels (record { before = Some t; left = None })) (tokens ++ later)) r.2
+          ∙ ap (λ (t : Tree). read_on (wants levels (record { before = Some t; choices = None })) (tokens ++ later)) r.2
           ∙ s.3 later),
     )
 
@@ -127,8 +127,8 @@ either_reads a b reads_a reads_b levels before within =
       refl,
       λ later.
           rw append_assoc (r.3 (signs.Or ∷ (second ++ later))
-          ∙ ap (λ (t : Tree). read_on (wants levels (record { before = before; left = Some t })) (second ++ later)) r.2
-          ∙ reads_b.item levels (record { before = before; left = Some a }) (omega arith) later),
+          ∙ ap (λ (t : Tree). read_on (wants levels (record { before = before; choices = Some t })) (second ++ later)) r.2
+          ∙ reads_b.item levels (record { before = before; choices = Some a }) (omega arith) later),
     )
 
 -- an item and a postfix sign

@@ -10,7 +10,7 @@ use Rattle.policy_expr.specs.declared.token.Token.TheVariants as signs
 use Rattle.refusal.specs.Refusal.{◌>>=◌}
 use Rattle.policy_expr.specs.Tokens.{tokens}
 use Rattle.policy_expr.specs.Tree.{Tree}
-use Rattle.policy_expr.specs.Reading.{Level, Reading, new_level, wants, has, with_left, with_before, whole, item_begun, item_followed, level_closed, took, took_at, ended, ended_at, read_on, tree_at, sequence_at, node_count}
+use Rattle.policy_expr.specs.Reading.{Level, Reading, new_level, wants, has, with_choices, with_before, whole, item_begun, item_followed, level_closed, took, took_at, ended, ended_at, read_on, tree_at, sequence_at, node_count}
 use Rattle.policy_expr.specs.Counting.{one_more, counter, begun_count, followed_count, count_at, counted}
 
 -- what a tree counts that a node is still to join with the next item
@@ -19,7 +19,7 @@ waiting None = 0
 waiting (Some t) = node_count t + 1
 
 abbrev pub level_nodes : Level → ℕ
-level_nodes level = waiting level.before + waiting level.left
+level_nodes level = waiting level.before + waiting level.choices
 
 abbrev pub levels_nodes : List Level → ℕ
 levels_nodes [] = 0
@@ -44,16 +44,16 @@ Follows (Err e) (Ok c) = ⊥
 one_more_is : (n k : ℕ) → n ≡ min 257 k → one_more n ≡ min 257 (k + 1)
 one_more_is n k e = grind (arith, nat_tests)
 
-with_left_nodes : (left : Option Tree) (item : Tree) → node_count (with_left left item) ≡ waiting left + node_count item
-with_left_nodes None item = omega arith
-with_left_nodes (Some left) item = omega arith
+with_choices_nodes : (left : Option Tree) (item : Tree) → node_count (with_choices left item) ≡ waiting left + node_count item
+with_choices_nodes None item = omega arith
+with_choices_nodes (Some left) item = omega arith
 
 with_before_nodes : (before : Option Tree) (item : Tree) → node_count (with_before before item) ≡ waiting before + node_count item
 with_before_nodes None item = omega arith
 with_before_nodes (Some before) item = omega arith
 
 whole_nodes : (level : Level) (item : Tree) → node_count (whole level item) ≡ level_nodes level + node_count item
-whole_nodes level item = omega (arith, with_before_nodes level.before (with_left level.left item), with_left_nodes level.left item)
+whole_nodes level item = omega (arith, with_before_nodes level.before (with_choices level.choices item), with_choices_nodes level.choices item)
 
 if_follows : (test : Bool) (r : Reading) (c : Counter) (e : PolicyFault) → Stands r c → Follows (if test then Ok r else Err e) (if test then Ok c else Err e)
 if_follows true r c e stands = stands
@@ -91,14 +91,14 @@ followed_follows levels level item signs.OnceOrMore nodes e =
 followed_follows levels level item signs.Repeated nodes e =
     record { depth = refl; item = refl; nodes = (let n = one_more_is nodes _ e in omega (arith, n)) }
 followed_follows levels level item signs.Or nodes e =
-    record { depth = refl; item = refl; nodes = (let n = one_more_is nodes _ e in let l = with_left_nodes level.left item in omega (arith, n, l)) }
+    record { depth = refl; item = refl; nodes = (let n = one_more_is nodes _ e in let l = with_choices_nodes level.choices item in omega (arith, n, l)) }
 followed_follows levels level item signs.Close nodes e = closed_follows levels level item nodes e
 followed_follows levels level item signs.Other nodes e = refl
 followed_follows levels level item (signs.Hop pred) nodes e =
-    begun_follows levels (record { before = Some (whole level item); left = None }) (signs.Hop pred) (one_more nodes)
+    begun_follows levels (record { before = Some (whole level item); choices = None }) (signs.Hop pred) (one_more nodes)
     (let n = one_more_is nodes _ e in let w = whole_nodes level item in omega (arith, n, w))
 followed_follows levels level item signs.Open nodes e =
-    begun_follows levels (record { before = Some (whole level item); left = None }) signs.Open (one_more nodes)
+    begun_follows levels (record { before = Some (whole level item); choices = None }) signs.Open (one_more nodes)
     (let n = one_more_is nodes _ e in let w = whole_nodes level item in omega (arith, n, w))
 
 follows_at : (levels : List Level) (level : Level) (item : Option Tree) (token : Token) (nodes : ℕ)

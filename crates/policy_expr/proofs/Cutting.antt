@@ -7,7 +7,7 @@ use Rattle.std.proofs.lemmas.Str.Ascii.{IsAscii-nil, IsAscii-cons}
 use Rattle.std.specs.Str.{IsAscii}
 use Rattle.policy_expr.specs.declared.token.Token.{Token}
 use Rattle.policy_expr.specs.Predicate.{predicate_at}
-use Rattle.policy_expr.specs.Tokens.{is_blank, is_mark, with_byte, pieces, read_token, sign_token, token_of, tokens}
+use Rattle.policy_expr.specs.Tokens.{is_blank, is_mark, with_byte, token_texts, read_token, sign_token, token_of, tokens}
 use Rattle.policy_expr.specs.Next.{after_blanks, after_marks}
 
 -- a mark is below 128, and no blank
@@ -40,17 +40,17 @@ unfolding after_marks
 marks_and_rest [] = refl
 marks_and_rest (b ∷ rest) = split_step b rest (is_mark b) (marks_and_rest rest)
 
--- a text without its blanks in front: its pieces, its length, and its first byte
-blank_step : (b : ℕ) (rest : List ℕ) (test : Bool) → is_blank b ≡ test → pieces rest ≡ pieces (after_blanks rest)
-    → pieces (b ∷ rest) ≡ pieces (if test then after_blanks rest else b ∷ rest)
-unfolding pieces
+-- a text without its blanks in front: the texts of its tokens, its length, and its first byte
+blank_step : (b : ℕ) (rest : List ℕ) (test : Bool) → is_blank b ≡ test → token_texts rest ≡ token_texts (after_blanks rest)
+    → token_texts (b ∷ rest) ≡ token_texts (if test then after_blanks rest else b ∷ rest)
+unfolding token_texts
 blank_step b rest true blank e = rw blank e
 blank_step b rest false blank e = refl
 
-pub pieces_after_blanks : (text : List ℕ) → pieces text ≡ pieces (after_blanks text)
+pub texts_after_blanks : (text : List ℕ) → token_texts text ≡ token_texts (after_blanks text)
 unfolding after_blanks
-pieces_after_blanks [] = refl
-pieces_after_blanks (b ∷ rest) = blank_step b rest (is_blank b) refl (pieces_after_blanks rest)
+texts_after_blanks [] = refl
+texts_after_blanks (b ∷ rest) = blank_step b rest (is_blank b) refl (texts_after_blanks rest)
 
 short_step : (b : ℕ) (rest : List ℕ) (test : Bool) → length (after_blanks rest) ≤ length rest
     → length (if test then after_blanks rest else b ∷ rest) ≤ length (b ∷ rest)
@@ -74,26 +74,26 @@ first_is_no_blank (b ∷ rest) c more e = first_step b rest (is_blank b) refl c 
 
 -- a run of marks is the first piece
 run_step : (b c : ℕ) (rest : List ℕ) (test : Bool) → is_blank b ≡ false → is_mark b ≡ true → is_mark c ≡ test
-    → (is_mark c ≡ true → pieces (c ∷ rest) ≡ marks_of (c ∷ rest) ∷ pieces (after_marks (c ∷ rest)))
-    → with_byte b test (pieces (c ∷ rest)) ≡ (b ∷ marks_of (c ∷ rest)) ∷ pieces (after_marks (c ∷ rest))
+    → (is_mark c ≡ true → token_texts (c ∷ rest) ≡ marks_of (c ∷ rest) ∷ token_texts (after_marks (c ∷ rest)))
+    → with_byte b test (token_texts (c ∷ rest)) ≡ (b ∷ marks_of (c ∷ rest)) ∷ token_texts (after_marks (c ∷ rest))
 unfolding after_marks
 run_step b c rest true no_blank mark next later = rw (no_blank, mark, later next) refl
 run_step b c rest false no_blank mark next later = rw (no_blank, mark, next) refl
 
 run_joined : (b : ℕ) (rest : List ℕ) → is_mark b ≡ true
-    → marks_of (b ∷ rest) ∷ pieces (after_marks (b ∷ rest)) ≡ (b ∷ marks_of rest) ∷ pieces (after_marks rest)
+    → marks_of (b ∷ rest) ∷ token_texts (after_marks (b ∷ rest)) ≡ (b ∷ marks_of rest) ∷ token_texts (after_marks rest)
 unfolding after_marks
 run_joined b rest mark = rw mark refl
 
-pub pieces_of_run : (b : ℕ) (rest : List ℕ) → is_mark b ≡ true → pieces (b ∷ rest) ≡ marks_of (b ∷ rest) ∷ pieces (after_marks (b ∷ rest))
-unfolding pieces after_marks
-pieces_of_run b [] mark = rw (mark_is_no_blank b mark, mark) refl
-pieces_of_run b (c ∷ rest) mark =
-    run_step b c rest (is_mark c) (mark_is_no_blank b mark) mark refl (pieces_of_run c rest) ∙ sym (run_joined b (c ∷ rest) mark)
+pub texts_of_run : (b : ℕ) (rest : List ℕ) → is_mark b ≡ true → token_texts (b ∷ rest) ≡ marks_of (b ∷ rest) ∷ token_texts (after_marks (b ∷ rest))
+unfolding token_texts after_marks
+texts_of_run b [] mark = rw (mark_is_no_blank b mark, mark) refl
+texts_of_run b (c ∷ rest) mark =
+    run_step b c rest (is_mark c) (mark_is_no_blank b mark) mark refl (texts_of_run c rest) ∙ sym (run_joined b (c ∷ rest) mark)
 
-pieces_of_sign : (b : ℕ) (rest : List ℕ) → is_blank b ≡ false → is_mark b ≡ false → pieces (b ∷ rest) ≡ (b ∷ []) ∷ pieces rest
-unfolding pieces
-pieces_of_sign b rest no_blank no_mark = rw (no_blank, no_mark) refl
+texts_of_sign : (b : ℕ) (rest : List ℕ) → is_blank b ≡ false → is_mark b ≡ false → token_texts (b ∷ rest) ≡ (b ∷ []) ∷ token_texts rest
+unfolding token_texts
+texts_of_sign b rest no_blank no_mark = rw (no_blank, no_mark) refl
 
 token_of_other : (b : ℕ) → is_mark b ≡ false → token_of (b ∷ []) ≡ sign_token b
 token_of_other b no_mark = rw no_mark refl
@@ -105,8 +105,8 @@ token_of_marks b rest mark = rw (mark, mark) refl
 pub first_sign : (text : List ℕ) (b : ℕ) (rest : List ℕ) → after_blanks text ≡ b ∷ rest → is_mark b ≡ false
     → (tokens text ≡ sign_token b ∷ tokens rest) × (length rest < length text)
 first_sign text b rest e no_mark =
-    let cut : pieces text ≡ (b ∷ []) ∷ pieces rest =
-    pieces_after_blanks text ∙ ap pieces e ∙ pieces_of_sign b rest (first_is_no_blank text b rest e) no_mark in
+    let cut : token_texts text ≡ (b ∷ []) ∷ token_texts rest =
+    texts_after_blanks text ∙ ap token_texts e ∙ texts_of_sign b rest (first_is_no_blank text b rest e) no_mark in
     let short = length_after_blanks text in
     let l = ap (λ (t : List ℕ). length t) e in
     (ap (map token_of) cut ∙ ap (λ (t : Token). t ∷ tokens rest) (token_of_other b no_mark), omega (arith, short, l))
@@ -123,7 +123,7 @@ shorter_behind_run b rest mark = rw mark (omega (arith, length_after_marks rest)
 pub first_run : (text : List ℕ) (b : ℕ) (rest : List ℕ) → after_blanks text ≡ b ∷ rest → is_mark b ≡ true
     → (tokens text ≡ read_token (predicate_at (marks_of (b ∷ rest))) ∷ tokens (after_marks (b ∷ rest))) × (length (after_marks (b ∷ rest)) < length text)
 first_run text b rest e mark =
-    let cut : pieces text ≡ marks_of (b ∷ rest) ∷ pieces (after_marks (b ∷ rest)) = pieces_after_blanks text ∙ ap pieces e ∙ pieces_of_run b rest mark in
+    let cut : token_texts text ≡ marks_of (b ∷ rest) ∷ token_texts (after_marks (b ∷ rest)) = texts_after_blanks text ∙ ap token_texts e ∙ texts_of_run b rest mark in
     let short = length_after_blanks text in
     let l = ap (λ (t : List ℕ). length t) e in (
       ap (map token_of) cut ∙ ap (λ (t : Token). t ∷ tokens (after_marks (b ∷ rest))) (token_of_marks b rest mark),
@@ -157,6 +157,6 @@ sign_taken text trimmed behind b token is_trimmed begins no_mark is_token = rw i
 
 -- a text of blanks has no tokens
 pub none_taken : (text trimmed : List ℕ) → trimmed ≡ after_blanks text → length trimmed ≡ 0 → tokens text ≡ []
-unfolding pieces
+unfolding token_texts
 none_taken text trimmed is_trimmed none =
-    ap (map token_of) (pieces_after_blanks text ∙ ap pieces (sym is_trimmed ∙ nil_from_length trimmed none))
+    ap (map token_of) (texts_after_blanks text ∙ ap token_texts (sym is_trimmed ∙ nil_from_length trimmed none))

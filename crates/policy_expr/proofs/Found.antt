@@ -8,7 +8,7 @@ use Rattle.policy_expr.specs.declared.fault.PolicyFault.{PolicyFault}
 use Rattle.policy_expr.specs.declared.fault.PolicyFault.TheVariants as faults
 use Rattle.policy_expr.specs.Tree.{Tree, optional, repeated, once_or_more}
 use Rattle.policy_expr.specs.Grammar.{following, alternatives, item, Spells, predicate, in_parentheses, with_optional, with_repeated, with_once_or_more, one_alternative, one_more, one_part, behind}
-use Rattle.policy_expr.specs.Reading.{Level, Reading, new_level, with_left, with_before, whole, wants, took, read_on, ended, item_begun, item_followed, level_closed, node_count, sequence_at, tree_at, within_size}
+use Rattle.policy_expr.specs.Reading.{Level, Reading, new_level, with_choices, with_before, whole, wants, took, read_on, ended, item_begun, item_followed, level_closed, node_count, sequence_at, tree_at, within_size}
 use Rattle.policy_expr.specs.Grammar.{SpellsSequence}
 use Rattle.policy_expr.specs.Tokens.{tokens}
 use Rattle.policy_expr.proofs.Spelled.{spelled_is_read}
@@ -32,7 +32,7 @@ record IsLevel (depth : ℕ) (level : Level) (ts : List Token) : Type 0 where
   back : List Token
   cut : ts ≡ front ++ back
   before : IsBefore depth level.before front
-  left : IsLeft depth level.left back
+  left : IsLeft depth level.choices back
 
 -- each level that is open, the last one first, and the parenthesis behind it
 abbrev AreLevels : List Level → ℕ → List Token → Type 0
@@ -51,10 +51,10 @@ record IsReading (levels : List Level) (level : Level) (x : Option Tree) (ts : L
   last : IsItem depth x back
 
 -- the alternatives with the item, and all parts with it
-with_left_spelled : (depth : ℕ) (left : Option Tree) (x : Tree) (ts us : List Token) → IsLeft depth left ts → Spells depth item us x
-    → Spells depth alternatives (ts ++ us) (with_left left x)
-with_left_spelled depth None x ts us kept s = rw kept (one_alternative depth us x s)
-with_left_spelled depth (Some a) x ts us kept s =
+with_choices_spelled : (depth : ℕ) (left : Option Tree) (x : Tree) (ts us : List Token) → IsLeft depth left ts → Spells depth item us x
+    → Spells depth alternatives (ts ++ us) (with_choices left x)
+with_choices_spelled depth None x ts us kept s = rw kept (one_alternative depth us x s)
+with_choices_spelled depth (Some a) x ts us kept s =
     rw (kept.1, append_assoc kept.0 (signs.Or ∷ []) us) (one_more depth kept.0 us a x kept.2 s)
 
 with_before_spelled : (depth : ℕ) (before : Option Tree) (x : Tree) (ts us : List Token) → IsBefore depth before ts → Spells depth alternatives us x
@@ -66,8 +66,8 @@ whole_spelled : (depth : ℕ) (level : Level) (x : Tree) (ts us : List Token) �
     → Spells depth following (ts ++ us) (whole level x)
 whole_spelled depth level x ts us kept s =
     rw (kept.cut, append_assoc kept.front kept.back us)
-    (with_before_spelled depth level.before (with_left level.left x) kept.front (kept.back ++ us) kept.before
-    (with_left_spelled depth level.left x kept.back us kept.left s))
+    (with_before_spelled depth level.before (with_choices level.choices x) kept.front (kept.back ++ us) kept.before
+    (with_choices_spelled depth level.choices x kept.back us kept.left s))
 
 -- so many parentheses may be opened as are not open
 depth_left : (levels : List Level) (depth : ℕ) (ts : List Token) → AreLevels levels depth ts → depth + length levels ≡ 32
@@ -150,7 +150,7 @@ signed levels level x y token ts kept sign = record {
 
 -- a `|` behind an item
 or_read : (levels : List Level) (level : Level) (x : Tree) (ts : List Token) → IsReading levels level (Some x) ts
-    → IsReading levels (record { before = level.before; left = Some (with_left level.left x) }) None (ts ++ (signs.Or ∷ []))
+    → IsReading levels (record { before = level.before; choices = Some (with_choices level.choices x) }) None (ts ++ (signs.Or ∷ []))
 or_read levels level x ts kept = record {
   depth = kept.depth;
   front = kept.front;
@@ -163,7 +163,7 @@ or_read levels level x ts kept = record {
     back = (kept.here.back ++ kept.back) ++ (signs.Or ∷ []);
     cut = ap (λ x. x ++ (kept.back ++ (signs.Or ∷ []))) kept.here.cut ∙ simp append_assoc;
     before = kept.here.before;
-    left = (kept.here.back ++ kept.back, refl, with_left_spelled kept.depth level.left x kept.here.back kept.back kept.here.left kept.last);
+    left = (kept.here.back ++ kept.back, refl, with_choices_spelled kept.depth level.choices x kept.here.back kept.back kept.here.left kept.last);
   };
   last = refl;
 }
@@ -194,9 +194,9 @@ closed (outer ∷ levels) level x ts kept =
 
 -- an item begins behind an item
 begun_behind : (levels : List Level) (level : Level) (x : Tree) (token : Token) (ts : List Token) → IsReading levels level (Some x) ts
-    → IsNext (item_begun levels (record { before = Some (whole level x); left = None }) token) (ts ++ (token ∷ []))
+    → IsNext (item_begun levels (record { before = Some (whole level x); choices = None }) token) (ts ++ (token ∷ []))
 begun_behind levels level x token ts kept =
-    begun levels (record { before = Some (whole level x); left = None }) token ts kept.front (kept.middle ++ kept.back) kept.depth
+    begun levels (record { before = Some (whole level x); choices = None }) token ts kept.front (kept.middle ++ kept.back) kept.depth
     (kept.cut ∙ ap (λ x. kept.front ++ x) (sym (append-nil (kept.middle ++ kept.back))))
     kept.outer
     (record {

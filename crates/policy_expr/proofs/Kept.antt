@@ -1,4 +1,5 @@
--- What is read of a text is a sequence: its predicates are as they are read, and its parentheses nest no deeper than the text's.
+-- What is read of a text is a sequence: its predicates are as they are read, and its parentheses
+-- nest no deeper than the text's.
 use Rattle.std.proofs.Common.{◌≡◌, ℕ, ◌+◌, ◌*◌, ◌-◌, ◌^◌, ◌<◌, ◌≤◌, Bool, true, false, ◌&&◌, eqb, nat_lt, cond, if◌then◌else◌, List, [], ◌∷◌, length, map, Option, Some, None, Result, Ok, Err, refl, sym, ◌∙◌, ap, subst, arith, inl, inr}
 use Rattle.std.specs.List.{AllByRecursion}
 use Rattle.std.proofs.lemmas.Bool.{ltb-true, ltb-false}
@@ -16,36 +17,18 @@ use Rattle.policy_expr.specs.declared.hop.Interfaces.{Interfaces}
 use Rattle.policy_expr.specs.declared.hop.Interfaces.TheVariants.{Any, Either, Both}
 use Rattle.policy_expr.specs.declared.token.Token.{Token}
 use Rattle.policy_expr.specs.declared.token.Token.TheVariants as signs
-use Rattle.refusal.specs.Refusal.{◌>>=◌}
+use Rattle.refusal.proofs.Steps.{bind_ok, guard_ok, guard_not, ok_is}
 use Rattle.policy_expr.specs.Predicate.{hash, one_interface, two_interfaces, as_part, cut_at, interface_at, cut_interfaces_at, interfaces_at, cut_plain_at, plain_at, cut_predicate_at, predicate_at}
-use Rattle.policy_expr.specs.Tokens.{is_mark, pieces, token_of, read_token, sign_token, tokens}
+use Rattle.policy_expr.specs.Tokens.{is_mark, token_texts, token_of, read_token, sign_token, tokens}
 use Rattle.policy_expr.specs.Tree.{Tree, hop, followed, either, optional, repeated, once_or_more}
-use Rattle.policy_expr.specs.Reading.{Level, Reading, new_level, wants, has, with_left, with_before, whole, item_begun, item_followed, level_closed, took, took_at, ended, ended_at, read_on, tree_at, sequence_at, within_size, node_count}
+use Rattle.policy_expr.specs.Reading.{Level, Reading, new_level, wants, has, with_choices, with_before, whole, item_begun, item_followed, level_closed, took, took_at, ended, ended_at, read_on, tree_at, sequence_at, within_size, node_count}
 use Rattle.policy_expr.specs.Printing.{strength, AreInterfaces, IsPredicate}
 use Rattle.policy_expr.proofs.Readable.{nested, depth, ArePredicates, IsReadable}
 
--- a step that gave a value
-pub bind_ok : {A B : Type 0} (r : Result A PolicyFault) (f : A → Result B PolicyFault) (y : B) → (r >>= f) ≡ Ok y → (x : A) × (r ≡ Ok x) × (f x ≡ Ok y)
-bind_ok (Ok x) f y e = (x, refl, e)
-bind_ok (Err d) f y e = absurd cc
-
-abbrev pub done : {A : Type 0} → A → Result A PolicyFault
-done x = Ok x
-
-pub ok_is : {A : Type 0} (x y : A) → done x ≡ done y → x ≡ y
-ok_is x y e = cc
-
-guard_ok : {A : Type 0} (d : PolicyFault) (b : Bool) (r : Result A PolicyFault) (y : A) → cond b r (Err d) ≡ Ok y → (b ≡ true) × (r ≡ Ok y)
-guard_ok d true r y e = (refl, e)
-guard_ok d false r y e = absurd cc
-
-guard_not : {A : Type 0} (d : PolicyFault) (b : Bool) (r : Result A PolicyFault) (y : A) → cond b (Err d) r ≡ Ok y → (b ≡ false) × (r ≡ Ok y)
-guard_not d true r y e = absurd cc
-guard_not d false r y e = (refl, e)
-
 -- ---- levels, with room for parentheses
 
--- the tree stands with no more parentheses than there is room for, in parentheses where it binds less than that
+-- the tree stands with no more parentheses than there is room for, in parentheses where it binds
+-- less than that
 abbrev pub HasRoom : ℕ → ℕ → Tree → Type 0
 HasRoom least room t = ArePredicates t × (nested (nat_lt (strength t) least) (depth t) ≤ room)
 
@@ -54,7 +37,7 @@ AnyHasRoom least room None = Unit {0}
 AnyHasRoom least room (Some t) = HasRoom least room t
 
 abbrev pub LevelHasRoom : ℕ → Level → Type 0
-LevelHasRoom room level = AnyHasRoom 0 room level.before × AnyHasRoom 1 room level.left
+LevelHasRoom room level = AnyHasRoom 0 room level.before × AnyHasRoom 1 room level.choices
 
 abbrev pub LevelsHaveRoom : List Level → Type 0
 LevelsHaveRoom [] = Unit {0}
@@ -79,16 +62,16 @@ looser j k room t le good = (good.0, grind (arith, nat_tests, good.1))
 plain_room : (room : ℕ) (t : Tree) → HasRoom 0 room t → depth t ≤ room
 plain_room room t good = grind (arith, nat_tests, good.1)
 
-with_left_room : (room : ℕ) (left : Option Tree) (item : Tree) → AnyHasRoom 1 room left → HasRoom 2 room item → HasRoom 1 room (with_left left item)
-with_left_room room None item l i = looser 1 2 room item (omega arith) i
-with_left_room room (Some left) item l i = ((l.0, i.0), omega (arith, l.1, i.1))
+with_choices_room : (room : ℕ) (left : Option Tree) (item : Tree) → AnyHasRoom 1 room left → HasRoom 2 room item → HasRoom 1 room (with_choices left item)
+with_choices_room room None item l i = looser 1 2 room item (omega arith) i
+with_choices_room room (Some left) item l i = ((l.0, i.0), omega (arith, l.1, i.1))
 
 with_before_room : (room : ℕ) (before : Option Tree) (item : Tree) → AnyHasRoom 0 room before → HasRoom 1 room item → HasRoom 0 room (with_before before item)
 with_before_room room None item b i = looser 0 1 room item (omega arith) i
 with_before_room room (Some before) item b i = ((b.0, i.0), (let p = plain_room room before b in omega (arith, p, i.1)))
 
 whole_room : (room : ℕ) (level : Level) (item : Tree) → LevelHasRoom room level → HasRoom 2 room item → HasRoom 0 room (whole level item)
-whole_room room level item l i = with_before_room room level.before (with_left level.left item) l.0 (with_left_room room level.left item l.1 i)
+whole_room room level item l i = with_before_room room level.before (with_choices level.choices item) l.0 (with_choices_room room level.choices item l.1 i)
 
 -- in parentheses there is room for one less
 closed_room : (least room : ℕ) (t : Tree) → HasRoom 0 room t → HasRoom least (room + 1) t
@@ -180,7 +163,7 @@ item_begun_good : (levels : List Level) (level : Level) (token : Token) (r : Rea
 item_begun_good levels level (signs.Hop pred) r outer here good e =
     subst IsGood (ok_is (has levels level (hop pred)) r e) (record { outer = outer; level = here; item = (good, omega arith) })
 item_begun_good levels level signs.Open r outer here good e =
-    let passed = guard_ok faults.TooDeep (nat_lt (length levels) 32) (Ok (wants (level ∷ levels) new_level)) r e in
+    let passed = guard_ok (nat_lt (length levels) 32) (Ok (wants (level ∷ levels) new_level)) faults.TooDeep r e in
     subst IsGood (ok_is (wants (level ∷ levels) new_level) r passed.1)
     (record { outer = (here, ltb-true (length levels) 32 passed.0, outer); level = (tt, tt); item = tt })
 item_begun_good levels level signs.Optional r outer here good e = absurd cc
@@ -207,16 +190,16 @@ item_followed_good levels level item signs.OnceOrMore r outer here good token e 
 item_followed_good levels level item signs.Repeated r outer here good token e =
     subst IsGood (ok_is (has levels level (repeated item)) r e) (record { outer = outer; level = here; item = good })
 item_followed_good levels level item signs.Or r outer here good token e =
-    subst IsGood (ok_is (wants levels (record { before = level.before; left = Some (with_left level.left item) })) r e)
-    (record { outer = outer; level = (here.0, with_left_room (32 - length levels) level.left item here.1 good); item = tt })
+    subst IsGood (ok_is (wants levels (record { before = level.before; choices = Some (with_choices level.choices item) })) r e)
+    (record { outer = outer; level = (here.0, with_choices_room (32 - length levels) level.choices item here.1 good); item = tt })
 item_followed_good levels level item signs.Close r outer here good token e =
     level_closed_good levels (whole level item) r outer (whole_room (32 - length levels) level item here good) e
 item_followed_good levels level item signs.Other r outer here good token e = absurd cc
 item_followed_good levels level item (signs.Hop pred) r outer here good token e =
-    item_begun_good levels (record { before = Some (whole level item); left = None }) (signs.Hop pred) r outer
+    item_begun_good levels (record { before = Some (whole level item); choices = None }) (signs.Hop pred) r outer
     (whole_room (32 - length levels) level item here good, tt) token e
 item_followed_good levels level item signs.Open r outer here good token e =
-    item_begun_good levels (record { before = Some (whole level item); left = None }) signs.Open r outer
+    item_begun_good levels (record { before = Some (whole level item); choices = None }) signs.Open r outer
     (whole_room (32 - length levels) level item here good, tt) token e
 
 took_good_at : (levels : List Level) (level : Level) (item : Option Tree) (token : Token) (r : Reading) → LevelsHaveRoom levels
@@ -267,7 +250,7 @@ tokens_good (text ∷ texts) = (token_good text, tokens_good texts)
 -- the tree of a text is a sequence where it has not too many nodes
 pub tree_is_sequence : (text : List ℕ) (t : Tree) → tree_at text ≡ Ok t → node_count t ≤ 256 → IsReadable t
 tree_is_sequence text t e small =
-    let room = read_good (wants [] new_level) (tokens text) t (record { outer = tt; level = (tt, tt); item = tt }) (tokens_good (pieces text)) e in
+    let room = read_good (wants [] new_level) (tokens text) t (record { outer = tt; level = (tt, tt); item = tt }) (tokens_good (token_texts text)) e in
     record { small = small; shallow = plain_room 32 t room; predicates = room.0 }
 
 -- the same where the number of nodes is known of the tree alone
@@ -280,5 +263,5 @@ told_is_sequence text t told e told_is small =
 pub read_is_sequence : (text : List ℕ) (t : Tree) → sequence_at text ≡ Ok t → IsReadable t
 read_is_sequence text t e =
     let read = bind_ok (tree_at text) within_size t e in
-    let passed = guard_not faults.TooLarge (nat_lt 256 (node_count read.0)) (Ok read.0) t read.2 in
+    let passed = guard_not (nat_lt 256 (node_count read.0)) (Ok read.0) faults.TooLarge t read.2 in
     subst IsReadable (ok_is read.0 t passed.1) (tree_is_sequence text read.0 read.1 (ltb-false 256 (node_count read.0) passed.0))

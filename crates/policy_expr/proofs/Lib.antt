@@ -19,3 +19,4 @@ pub mod Spelled
 pub mod Found
 pub mod Refusing
 pub mod Sequences
+pub mod Weighed

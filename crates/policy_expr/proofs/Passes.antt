@@ -1,4 +1,5 @@
--- One pass over the hops of a walk: what is wanted behind each hop, and what the visits of a set find.
+-- One pass over the hops of a walk: what is wanted behind each hop, and what the visits of a set
+-- find.
 use Rattle.std.proofs.Common.{◌≡◌, ◌⊎◌, ◌↔◌, ℕ, ◌+◌, ◌<◌, List, [], ◌∷◌, ◌++◌, length, get_or, drop, suc, add-one, Some, slice_get, inl, inr, sym, ◌∙◌, ap, refl, subst}
 use Rattle.std.proofs.lemmas.Bool.Decides.{eqb_tells}
 use Rattle.std.proofs.Math.Seq.{drop-cons}

@@ -7,12 +7,12 @@ use Rattle.policy_expr.specs.declared.hop.HopPred.{HopPred}
 use Rattle.policy_expr.specs.declared.token.Token.{Token}
 use Rattle.policy_expr.specs.declared.token.Token.TheVariants as signs
 use Rattle.policy_expr.specs.Predicate.{predicate_at}
-use Rattle.policy_expr.specs.Tokens.{is_mark, begins_with_mark, pieces, token_of, read_token, tokens}
+use Rattle.policy_expr.specs.Tokens.{is_mark, begins_with_mark, token_texts, token_of, read_token, tokens}
 use Rattle.policy_expr.specs.Next.{after_marks}
 use Rattle.policy_expr.specs.Tree.{Tree, hop, followed, either, optional, repeated, once_or_more}
 use Rattle.policy_expr.specs.Printing.{strength, in_parentheses, predicate_text, printed}
 use Rattle.policy_expr.proofs.Readable.{ArePredicates, IsReadable}
-use Rattle.policy_expr.proofs.Cutting.{marks_of, pieces_of_run}
+use Rattle.policy_expr.proofs.Cutting.{marks_of, texts_of_run}
 use Rattle.policy_expr.specs.Reading.{new_level, wants, read_on, tree_at, sequence_at, node_count}
 use Rattle.policy_expr.proofs.Again.{closed_in, tokens_of, tokens_read}
 use Rattle.policy_expr.proofs.Texts.{IsMark, predicate_again, predicate_is_marks, predicate_is_some}
@@ -31,8 +31,8 @@ tokens_of_run : (b : ℕ) (run rest : List ℕ) → AllByRecursion IsMark (b ∷
     → tokens ((b ∷ run) ++ rest) ≡ read_token (predicate_at (b ∷ run)) ∷ tokens rest
 tokens_of_run b run rest marks ends =
     let r = run_parts (b ∷ run) rest marks ends in
-    let cut : pieces ((b ∷ run) ++ rest) ≡ (b ∷ run) ∷ pieces rest =
-    pieces_of_run b (run ++ rest) marks.0 ∙ ap (λ (t : List ℕ). t ∷ pieces (after_marks ((b ∷ run) ++ rest))) r.0 ∙ ap (λ (t : List ℕ). (b ∷ run) ∷ pieces t) r.1 in
+    let cut : token_texts ((b ∷ run) ++ rest) ≡ (b ∷ run) ∷ token_texts rest =
+    texts_of_run b (run ++ rest) marks.0 ∙ ap (λ (t : List ℕ). t ∷ token_texts (after_marks ((b ∷ run) ++ rest))) r.0 ∙ ap (λ (t : List ℕ). (b ∷ run) ∷ token_texts t) r.1 in
     ap (map token_of) cut ∙ ap (λ (t : Token). t ∷ tokens rest) (rw marks.0 refl)
 
 -- the tokens of a predicate's text
@@ -47,7 +47,7 @@ pub sign_first : (rest : List ℕ) → (tokens (40 ∷ rest) ≡ signs.Open ∷ 
     × (tokens (124 ∷ rest) ≡ signs.Or ∷ tokens rest) × (tokens (63 ∷ rest) ≡ signs.Optional ∷ tokens rest)
     × (tokens (42 ∷ rest) ≡ signs.Repeated ∷ tokens rest) × (tokens (43 ∷ rest) ≡ signs.OnceOrMore ∷ tokens rest)
     × (tokens (32 ∷ rest) ≡ tokens rest)
-unfolding pieces
+unfolding token_texts
 sign_first rest = (refl, refl, refl, refl, refl, refl, refl)
 
 -- what is printed, and then a text that goes on with no mark
@@ -105,7 +105,7 @@ prints (once_or_more a) are =
 
 -- the tokens of a printed tree
 pub printed_tokens : (t : Tree) → ArePredicates t → tokens (printed t) ≡ tokens_of t
-unfolding pieces
+unfolding token_texts
 printed_tokens t are = ap tokens (sym (append-nil (printed t))) ∙ prints t are [] refl ∙ append-nil (tokens_of t)
 
 -- what is printed of a sequence is read as it

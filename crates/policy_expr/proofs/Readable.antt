@@ -1,4 +1,5 @@
--- Trees whose texts are read again: how deep the parentheses of their texts are, and their predicates as they are read.
+-- Trees whose texts are read again: how deep the parentheses of their texts are, and their
+-- predicates as they are read.
 use Rattle.std.proofs.Common.{ℕ, ◌+◌, ◌≤◌, max, Bool}
 use Rattle.std.specs.Prelude.{nat_lt, if◌then◌else◌}
 use Rattle.policy_expr.specs.Reading.{node_count}

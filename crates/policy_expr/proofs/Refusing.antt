@@ -13,7 +13,7 @@ use Rattle.policy_expr.specs.declared.token.Token.TheVariants as signs
 use Rattle.policy_expr.specs.Tokens.{tokens}
 use Rattle.policy_expr.specs.Tree.{Tree, hop, optional, repeated, once_or_more}
 use Rattle.policy_expr.specs.Grammar.{SpellsSequence}
-use Rattle.policy_expr.specs.Reading.{Level, new_level, with_left, whole, wants, item_begun, level_closed, item_followed, took, ended, read_on, tree_at, node_count, within_size, sequence_at}
+use Rattle.policy_expr.specs.Reading.{Level, new_level, with_choices, whole, wants, item_begun, level_closed, item_followed, took, ended, read_on, tree_at, node_count, within_size, sequence_at}
 use Rattle.policy_expr.specs.Refusing.{fault_at, IsRefusal, Gets}
 use Rattle.policy_expr.proofs.Found.{sequence_is_spelled, spelled_is_sequence}
 
@@ -62,11 +62,11 @@ module _ (ts : List Token) (rest : Agrees ts) where
   followed_agrees levels level item signs.Optional = rest levels level (Some (optional item))
   followed_agrees levels level item signs.OnceOrMore = rest levels level (Some (once_or_more item))
   followed_agrees levels level item signs.Repeated = rest levels level (Some (repeated item))
-  followed_agrees levels level item signs.Or = rest levels (record { before = level.before; left = Some (with_left level.left item) }) None
+  followed_agrees levels level item signs.Or = rest levels (record { before = level.before; choices = Some (with_choices level.choices item) }) None
   followed_agrees levels level item signs.Close = closed_agrees levels (whole level item)
   followed_agrees levels level item signs.Other = refl
-  followed_agrees levels level item (signs.Hop pred) = begun_agrees levels (record { before = Some (whole level item); left = None }) (signs.Hop pred)
-  followed_agrees levels level item signs.Open = begun_agrees levels (record { before = Some (whole level item); left = None }) signs.Open
+  followed_agrees levels level item (signs.Hop pred) = begun_agrees levels (record { before = Some (whole level item); choices = None }) (signs.Hop pred)
+  followed_agrees levels level item signs.Open = begun_agrees levels (record { before = Some (whole level item); choices = None }) signs.Open
 
   one_agrees : (token : Token) → Agrees (token ∷ ts)
   unfolding read_on took

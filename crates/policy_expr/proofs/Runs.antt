@@ -1,5 +1,5 @@
--- The words of a sequence are those that go from one predicate to the next, by which of them may come first, last and
--- one behind the other.
+-- The words of a sequence are those that go from one predicate to the next, by which of them may
+-- come first, last and one behind the other.
 use Rattle.std.proofs.Common.{◌≡◌, ◌⊎◌, ℕ, ◌+◌, ◌<◌, ◌≤◌, Bool, true, false, ◌||◌, ◌&&◌, List, [], ◌∷◌, ◌++◌, length, inl, inr, sym, ap, refl, subst, arith}
 use Rattle.std.specs.List.{AllByRecursion}
 use Rattle.policy_expr.specs.declared.hop.HopPred.{HopPred}
@@ -181,7 +181,8 @@ module _ (a b : Tree) (from : ℕ) where
     | inr back ↦ (meets.0, back, meets.2)
   ]
 
-  -- what ends a word behind a predicate of the first part ends one of that part, and then a word of the second comes
+  -- what ends a word behind a predicate of the first part ends one of that part, and then a word of
+  -- the second comes
   abbrev Parts : (List WalkHop → Type 0) → List WalkHop → Type 0
   Parts P w = (u : List WalkHop) × (v : List WalkHop) × (w ≡ u ++ v) × P u × IsWord b (from + pred_count a) v
 

@@ -7,7 +7,7 @@ use Rattle.policy_expr.specs.declared.token.Token.{Token}
 use Rattle.policy_expr.specs.declared.token.Token.TheVariants as signs
 use Rattle.policy_expr.specs.Tree.{Tree, hop, followed, optional, repeated, once_or_more}
 use Rattle.policy_expr.specs.Grammar.{Part, following, alternatives, item, Spells, predicate, in_parentheses, with_optional, with_repeated, with_once_or_more, one_alternative, one_more, one_part, behind}
-use Rattle.policy_expr.specs.Reading.{Level, new_level, with_left, with_before, whole, wants, has, took, read_on, ended}
+use Rattle.policy_expr.specs.Reading.{Level, new_level, with_choices, with_before, whole, wants, has, took, read_on, ended}
 
 -- tokens with which an item begins
 pub data Begins : List Token → Type 0 where
@@ -31,7 +31,7 @@ begins _ _ _ _ (behind depth ts us a b s r) = begins_longer ts us (begins depth 
 
 -- such a token behind an item begins what follows it
 goes_behind : (levels : List Level) (level : Level) (x : Tree) (ts : List Token) → Begins ts
-    → read_on (has levels level x) ts ≡ read_on (wants levels (record { before = Some (whole level x); left = None })) ts
+    → read_on (has levels level x) ts ≡ read_on (wants levels (record { before = Some (whole level x); choices = None })) ts
 unfolding read_on took
 goes_behind levels level x _ (by_hop p ts) = refl
 goes_behind levels level x _ (by_open ts) = refl
@@ -45,9 +45,9 @@ ReadsItem depth ts t = (levels : List Level) (level : Level) (rest : List Token)
 record ReachesAlternatives (levels : List Level) (before : Option Tree) (ts rest : List Token) (t : Tree) : Type 0 where
   level : Level
   last : Tree
-  reads : read_on (wants levels (record { before = before; left = None })) (ts ++ rest) ≡ read_on (has levels level last) rest
+  reads : read_on (wants levels (record { before = before; choices = None })) (ts ++ rest) ≡ read_on (has levels level last) rest
   same : level.before ≡ before
-  gives : with_left level.left last ≡ t
+  gives : with_choices level.choices last ≡ t
 
 -- all parts at a level were read
 record ReachesAll (levels : List Level) (ts rest : List Token) (t : Tree) : Type 0 where
@@ -79,7 +79,7 @@ once_or_more_behind levels level t rest = refl
 
 -- a `|` behind an item
 or_behind : (levels : List Level) (level : Level) (x : Tree) (rest : List Token)
-    → read_on (has levels level x) (signs.Or ∷ rest) ≡ read_on (wants levels (record { before = level.before; left = Some (with_left level.left x) })) rest
+    → read_on (has levels level x) (signs.Or ∷ rest) ≡ read_on (wants levels (record { before = level.before; choices = Some (with_choices level.choices x) })) rest
 unfolding read_on took
 or_behind levels level x rest = refl
 
@@ -124,19 +124,19 @@ reads _ _ _ _ (with_once_or_more depth ts t s) = λ levels level rest fits.
     ap (read_on (wants levels level)) (append_assoc ts (signs.OnceOrMore ∷ []) rest)
     ∙ reads depth item ts t s levels level (signs.OnceOrMore ∷ rest) fits ∙ once_or_more_behind levels level t rest
 reads _ _ _ _ (one_alternative depth ts t s) = λ levels before rest fits. record {
-  level = record { before = before; left = None };
+  level = record { before = before; choices = None };
   last = t;
-  reads = reads depth item ts t s levels (record { before = before; left = None }) rest fits;
+  reads = reads depth item ts t s levels (record { before = before; choices = None }) rest fits;
   same = refl;
   gives = refl;
 }
 reads _ _ _ _ (one_more depth ts us a b s r) = λ levels before rest fits.
     let first = reads depth alternatives ts a s levels before (signs.Or ∷ (us ++ rest)) fits in
-    let level : Level = record { before = before; left = Some a } in
-    let to_or = ap (read_on (wants levels (record { before = before; left = None }))) (append_assoc ts (signs.Or ∷ us) rest) ∙ first.reads in
+    let level : Level = record { before = before; choices = Some a } in
+    let to_or = ap (read_on (wants levels (record { before = before; choices = None }))) (append_assoc ts (signs.Or ∷ us) rest) ∙ first.reads in
     let behind_or = or_behind levels first.level first.last (us ++ rest)
-    ∙ ap (λ x. read_on (wants levels (record { before = x; left = Some (with_left first.level.left first.last) })) (us ++ rest)) first.same
-    ∙ ap (λ x. read_on (wants levels (record { before = before; left = Some x })) (us ++ rest)) first.gives in
+    ∙ ap (λ x. read_on (wants levels (record { before = x; choices = Some (with_choices first.level.choices first.last) })) (us ++ rest)) first.same
+    ∙ ap (λ x. read_on (wants levels (record { before = before; choices = Some x })) (us ++ rest)) first.gives in
     record {
       level = level;
       last = b;
@@ -150,7 +150,7 @@ reads _ _ _ _ (one_part depth ts t s) = λ levels rest fits.
       level = all.level;
       last = all.last;
       reads = all.reads;
-      gives = ap (λ x. with_before x (with_left all.level.left all.last)) all.same ∙ all.gives;
+      gives = ap (λ x. with_before x (with_choices all.level.choices all.last)) all.same ∙ all.gives;
     }
 reads _ _ _ _ (behind depth ts us a b s r) = λ levels rest fits.
     let first = reads depth following ts a s levels (us ++ rest) fits in
@@ -160,9 +160,9 @@ reads _ _ _ _ (behind depth ts us a b s r) = λ levels rest fits.
       last = later.last;
       reads = ap (read_on (wants levels new_level)) (append_assoc ts us rest) ∙ first.reads
           ∙ goes_behind levels first.level first.last (us ++ rest) (begins_longer us rest (begins depth alternatives us b r))
-          ∙ ap (λ x. read_on (wants levels (record { before = Some x; left = None })) (us ++ rest)) first.gives
+          ∙ ap (λ x. read_on (wants levels (record { before = Some x; choices = None })) (us ++ rest)) first.gives
           ∙ later.reads;
-      gives = ap (λ x. with_before x (with_left later.level.left later.last)) later.same ∙ ap (followed a) later.gives;
+      gives = ap (λ x. with_before x (with_choices later.level.choices later.last)) later.same ∙ ap (followed a) later.gives;
     }
 
 ends : (level : Level) (x : Tree) → read_on (has [] level x) [] ≡ Ok (whole level x)

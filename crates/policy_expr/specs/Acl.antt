@@ -107,7 +107,8 @@ acl_fault entries =
     else if is_bare_before_last entries then Some faults.AfterDefault
     else None
 
--- what is never false of an access control list: at most 256 entries, of which the last has no predicate and each other has one
+-- what is never false of an access control list: at most 256 entries, of which the last has no
+-- predicate and each other has one
 pub record IsAcl (entries : List AclEntry) : Type 0 where
   pub few : length entries ≤ 256
   pub front : List AclEntry

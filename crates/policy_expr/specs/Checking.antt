@@ -11,8 +11,8 @@ bare_at text = do
   entry ← entry_at text
   Ok (is_bare entry)
 
--- the first refusal of a list of so many entries, of which these texts are left: whether the last one so far is bare, and
--- whether one before it is
+-- the first refusal of a list of so many entries, of which these texts are left: whether the last
+-- one so far is bare, and whether one before it is
 abbrev pub check_on : ℕ → Bool → Bool → List (List ℕ) → Result (Unit {0}) PolicyFault
 check_on count last other [] =
     if nat_lt 256 count then Err faults.TooLarge

@@ -1,5 +1,5 @@
--- Reading a sequence without its tree: the parentheses that are open, whether an item stands at the end, and the nodes,
--- which are counted up to 257.
+-- Reading a sequence without its tree: the parentheses that are open, whether an item stands at the
+-- end, and the nodes, which are counted up to 257.
 use Rattle.std.specs.Prelude.{◌≡◌, ℕ, ◌+◌, ◌-◌, ◌≤◌, ◌==◌, true, false, Bool, nat_lt, if◌then◌else◌, List, Result, Ok, Err, IsOk}
 use Rattle.policy_expr.specs.declared.counting.Counter.{Counter}
 use Rattle.policy_expr.specs.declared.fault.PolicyFault.{PolicyFault}

@@ -1,5 +1,5 @@
--- The grammar of sequences over tokens (path policy language): which tokens spell which tree. Postfix signs bind tightest,
--- then `|`, then following, and the last two to the left.
+-- The grammar of sequences over tokens (path policy language): which tokens spell which tree.
+-- Postfix signs bind tightest, then `|`, then following, and the last two to the left.
 use Rattle.std.specs.Prelude.{ℕ, ◌+◌, List, [], ◌∷◌, ◌++◌}
 use Rattle.policy_expr.specs.declared.hop.HopPred.{HopPred}
 use Rattle.policy_expr.specs.declared.token.Token.{Token}

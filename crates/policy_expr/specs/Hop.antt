@@ -1,4 +1,5 @@
--- Hop predicates (path policy language): which hops of a walk an `ISD-AS#IN,OUT` means. 0 stands for any number.
+-- Hop predicates (path policy language): which hops of a walk an `ISD-AS#IN,OUT` means. 0 stands
+-- for any number.
 use Rattle.std.specs.Prelude.{◌≡◌, ◌⊎◌, ℕ, ◌/◌, ◌%◌, ◌^◌}
 use Rattle.policy_expr.specs.declared.hop.HopPred.{HopPred}
 use Rattle.policy_expr.specs.declared.hop.Interfaces.{Interfaces}

@@ -1,4 +1,5 @@
--- The language of a sequence (path policy language): the words of hops that it allows, a word being a list of hops.
+-- The language of a sequence (path policy language): the words of hops that it allows, a word being
+-- a list of hops.
 use Rattle.std.specs.Prelude.{◌≡◌, ◌⊎◌, ◌<◌, List, [], ◌∷◌, ◌++◌, length}
 use Rattle.std.specs.List.{AllByRecursion}
 use Rattle.policy_expr.specs.declared.hop.WalkHop.{WalkHop}
@@ -10,8 +11,9 @@ abbrev pub joined : List (List WalkHop) → List WalkHop
 joined [] = []
 joined (word ∷ words) = word ++ joined words
 
--- a predicate has the words of one hop that it matches, following the words that some split cuts into one of each,
--- and `*` and `+` the words that are some of the item one after another, for `+` at least one
+-- a predicate has the words of one hop that it matches, following the words that some split cuts
+-- into one of each, and `*` and `+` the words that are some of the item one after another, for `+`
+-- at least one
 abbrev pub Lang : Tree → List WalkHop → Type 0
 Lang (hop pred) word = (h : WalkHop) × (word ≡ h ∷ []) × Matches pred h
 Lang (followed a b) word = (front : List WalkHop) × (back : List WalkHop) × (word ≡ front ++ back) × Lang a front × Lang b back

@@ -17,3 +17,4 @@ pub mod Checking
 pub mod Sets
 pub mod Table
 pub mod Code
+pub mod Options

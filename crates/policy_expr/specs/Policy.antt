@@ -1,4 +1,5 @@
--- Policies: an access control list and a sequence, of which either may be absent and then allows all.
+-- Policies: an access control list and a sequence, of which either may be absent and then allows
+-- all.
 use Rattle.std.specs.Prelude.{ℕ, List, [], ◌∷◌, Option, Some, None, Result, Ok}
 use Rattle.policy_expr.specs.declared.fault.PolicyFault.{PolicyFault}
 use Rattle.policy_expr.specs.declared.hop.WalkHop.{WalkHop}

@@ -1,5 +1,5 @@
--- Reading a hop predicate (path policy language): `ISD`, `ISD-AS`, `ISD-AS#IF` or `ISD-AS#IN,OUT`. The relation says
--- which texts stand for a predicate, and `predicate_at` is what reading answers.
+-- Reading a hop predicate (path policy language): `ISD`, `ISD-AS`, `ISD-AS#IF` or `ISD-AS#IN,OUT`.
+-- The relation says which texts stand for a predicate, and `predicate_at` is what reading answers.
 use Rattle.std.specs.Prelude.{◌≡◌, ℕ, ◌*◌, ◌^◌, ◌==◌, ◌&&◌, nat_lt, if◌then◌else◌, List, ◌∷◌, ◌++◌, length, Option, Some, None, Result, Ok, Err}
 use Rattle.std.specs.List.{position_or_len, before_first, after_first}
 use Rattle.std.specs.Borrow.{Bor}

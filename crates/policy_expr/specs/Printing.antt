@@ -1,4 +1,5 @@
--- How a sequence is printed: with the fewest parentheses that keep its tree, one space for following and nothing round `|`.
+-- How a sequence is printed: with the fewest parentheses that keep its tree, one space for
+-- following and nothing round `|`.
 use Rattle.std.specs.Prelude.{ℕ, ◌+◌, ◌<◌, ◌≤◌, Bool, ◌%◌, ◌/◌, ◌^◌, ◌==◌, ◌&&◌, nat_lt, if◌then◌else◌, codes, List, [], ◌++◌}
 use Rattle.std.specs.Fmt.{decimal}
 use Rattle.isd_as.specs.Address.{canonical}
@@ -54,7 +55,8 @@ AreInterfaces (Both m n) = (0 < m + n) × (m < 2 ^ 16) × (n < 2 ^ 16)
 abbrev pub IsPredicate : HopPred → Type 0
 IsPredicate pred = (pred.ia < 2 ^ 64) × AreInterfaces pred.interfaces
 
--- what is never false of a sequence: at most 256 nodes, and its text spells it, so that it is read as it again
+-- what is never false of a sequence: at most 256 nodes, and its text spells it, so that it is read
+-- as it again
 pub record IsSequence (tree : Tree) : Type 0 where
   pub small : node_count tree ≤ 256
   pub spelled : SpellsSequence (printed tree) tree

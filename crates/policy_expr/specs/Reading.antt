@@ -1,5 +1,5 @@
--- What reading a sequence answers: its tree, or the first refusal from left to right. Postfix signs bind tightest, then `|`,
--- then following, and the last two to the left.
+-- What reading a sequence answers: its tree, or the first refusal from left to right. Postfix signs
+-- bind tightest, then `|`, then following, and the last two to the left.
 use Rattle.std.specs.Prelude.{ℕ, ◌+◌, nat_lt, if◌then◌else◌, List, [], ◌∷◌, length, Option, Some, None, Result, Ok, Err}
 use Rattle.policy_expr.specs.declared.fault.PolicyFault.{PolicyFault}
 use Rattle.policy_expr.specs.declared.fault.PolicyFault.TheVariants as faults
@@ -13,14 +13,14 @@ use Rattle.policy_expr.specs.Tree.{Tree, hop, followed, either, optional, repeat
 -- and behind that the alternatives to which it will be one more
 pub record Level : Type 0 where
   pub before : Option Tree
-  pub left : Option Tree
+  pub choices : Option Tree
 
 abbrev pub new_level : Level
-new_level = record { before = None; left = None }
+new_level = record { before = None; choices = None }
 
-abbrev pub with_left : Option Tree → Tree → Tree
-with_left None item = item
-with_left (Some left) item = either left item
+abbrev pub with_choices : Option Tree → Tree → Tree
+with_choices None item = item
+with_choices (Some choices) item = either choices item
 
 abbrev pub with_before : Option Tree → Tree → Tree
 with_before None item = item
@@ -28,10 +28,10 @@ with_before (Some before) item = followed before item
 
 -- all that was read since the last open parenthesis, with this item at its end
 abbrev pub whole : Level → Tree → Tree
-whole level item = with_before level.before (with_left level.left item)
+whole level item = with_before level.before (with_choices level.choices item)
 
--- how far the reading is: a level for each parenthesis that is open, the last one first, the level now,
--- and the item at its end, or none where one must come
+-- how far the reading is: a level for each parenthesis that is open, the last one first, the level
+-- now, and the item at its end, or none where one must come
 pub record Reading : Type 0 where
   pub open_levels : List Level
   pub level : Level
@@ -59,10 +59,10 @@ abbrev pub item_followed : List Level → Level → Tree → Token → Result Re
 item_followed levels level item signs.Optional = Ok (has levels level (optional item))
 item_followed levels level item signs.OnceOrMore = Ok (has levels level (once_or_more item))
 item_followed levels level item signs.Repeated = Ok (has levels level (repeated item))
-item_followed levels level item signs.Or = Ok (wants levels (record { before = level.before; left = Some (with_left level.left item) }))
+item_followed levels level item signs.Or = Ok (wants levels (record { before = level.before; choices = Some (with_choices level.choices item) }))
 item_followed levels level item signs.Close = level_closed levels (whole level item)
 item_followed levels level item signs.Other = Err faults.BadPredicate
-item_followed levels level item token = item_begun levels (record { before = Some (whole level item); left = None }) token
+item_followed levels level item token = item_begun levels (record { before = Some (whole level item); choices = None }) token
 
 abbrev pub took_at : List Level → Level → Option Tree → Token → Result Reading PolicyFault
 took_at levels level None token = item_begun levels level token

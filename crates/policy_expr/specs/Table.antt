@@ -1,5 +1,5 @@
--- Sequences as tables: the predicates of a sequence, numbered from left to right, and which of them may come first, last
--- and one behind the other.
+-- Sequences as tables: the predicates of a sequence, numbered from left to right, and which of them
+-- may come first, last and one behind the other.
 use Rattle.std.specs.Prelude.{◌≡◌, ◌⊎◌, ◌↔◌, ℕ, ◌+◌, ◌<◌, Bool, true, false, ◌&&◌, ◌||◌, List, [], ◌∷◌, length, Some, slice_get}
 use Rattle.policy_expr.specs.declared.hop.HopPred.{HopPred}
 use Rattle.policy_expr.specs.declared.hop.WalkHop.{WalkHop}

@@ -1,4 +1,5 @@
--- The tokens of a sequence's text: predicates, signs, and blanks between them, which only part tokens.
+-- The tokens of a sequence's text: predicates, signs, and blanks between them, which only part
+-- tokens.
 use Rattle.std.specs.Prelude.{ℕ, Bool, false, ◌&&◌, ◌||◌, ◌==◌, nat_le, if◌then◌else◌, List, [], ◌∷◌, map, Result, Ok, Err}
 use Rattle.policy_expr.specs.declared.fault.PolicyFault.{PolicyFault}
 use Rattle.policy_expr.specs.declared.hop.HopPred.{HopPred}
@@ -25,15 +26,16 @@ abbrev pub lengthened : ℕ → List (List ℕ) → List (List ℕ)
 lengthened b [] = (b ∷ []) ∷ []
 lengthened b (first ∷ later) = (b ∷ first) ∷ later
 
--- a byte before the texts of later tokens, which begin with a mark that stands right behind it or not
+-- a byte before the texts of later tokens, which begin with a mark that stands right behind it or
+-- not
 abbrev pub with_byte : ℕ → Bool → List (List ℕ) → List (List ℕ)
 with_byte b mark_follows later =
     if is_blank b then later else if is_mark b && mark_follows then lengthened b later else (b ∷ []) ∷ later
 
 -- the texts of the tokens: the longest runs of marks, and each other byte that is no blank
-unfoldable pub pieces : List ℕ → List (List ℕ)
-pieces [] = []
-pieces (b ∷ rest) = with_byte b (begins_with_mark rest) (pieces rest)
+unfoldable pub token_texts : List ℕ → List (List ℕ)
+token_texts [] = []
+token_texts (b ∷ rest) = with_byte b (begins_with_mark rest) (token_texts rest)
 
 -- the token of a text that is read as a predicate, and of any other
 abbrev pub read_token : Result HopPred PolicyFault → Token
@@ -53,4 +55,4 @@ token_of (b ∷ rest) = if is_mark b then read_token (predicate_at (b ∷ rest))
 
 -- the tokens of a text
 abbrev pub tokens : List ℕ → List Token
-tokens text = map token_of (pieces text)
+tokens text = map token_of (token_texts text)

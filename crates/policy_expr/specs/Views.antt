@@ -7,7 +7,7 @@ use Rattle.policy_expr.specs.Reading as reading
 use Rattle.policy_expr.specs.Reading.{Reading}
 
 abbrev pub level_of : {A : _} → Level A → reading.Level
-level_of level = record { before = option_map tree_of level.before; left = option_map tree_of level.left }
+level_of level = record { before = option_map tree_of level.before; choices = option_map tree_of level.choices }
 
 -- the last one first
 abbrev pub levels_of : {A : _} → List (Level A) → List reading.Level

@@ -59,12 +59,12 @@ impl<A: Allocator + Clone> Model for Acl<A> {
 }
 
 impl<A: Allocator + Clone> Acl<A> {
-    /// The list of these texts, each `+` or `-` and then a predicate or nothing, with blanks anywhere
-    /// round them. A predicate of wildcards alone counts as none.
+    /// The list of these texts, each `+` or `-` and then a predicate or nothing, with blanks
+    /// anywhere round them. A predicate of wildcards alone counts as none.
     ///
     /// The first of these refusals: [`PolicyFault::BadPredicate`] for an entry that can't be read,
-    /// [`PolicyFault::TooLarge`] for more than 256 entries, [`PolicyFault::NoDefault`] where there is
-    /// none or the last is not bare, [`PolicyFault::AfterDefault`] where another is.
+    /// [`PolicyFault::TooLarge`] for more than 256 entries, [`PolicyFault::NoDefault`] where there
+    /// is none or the last is not bare, [`PolicyFault::AfterDefault`] where another is.
     pub fn parse(alloc: A, text: &AclText) -> Result<Acl<A>, PolicyError>
         ensures { Answers (λ acl. acl) result (acl_at text.now) }
     {
@@ -89,8 +89,8 @@ impl<A: Allocator + Clone> Acl<A> {
         &self.entries
     }
 
-    /// Whether each hop of the walk is allowed, or the first that is denied and the entry that decides
-    /// it. Takes no memory.
+    /// Whether each hop of the walk is allowed, or the first that is denied and the entry that
+    /// decides it. Takes no memory.
     pub fn verdict(&self, walk: &[WalkHop]) -> Result<(), Denied>
         ensures ok { IsOk result ↔ AllowsWalk self.now walk.now }
         ensures denied { IfErr result (λ denied. IsDenial self.now walk.now denied) }

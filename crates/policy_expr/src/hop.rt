@@ -25,7 +25,8 @@ pub enum Interfaces {
     Both(IfId, IfId),
 }
 
-/// A hop predicate: which ISD, AS and interfaces a hop has. The number 0 is a wildcard in each place.
+/// A hop predicate: which ISD, AS and interfaces a hop has. The number 0 is a wildcard in each
+/// place.
 #[derive(Clone, Copy, Debug, PartialEq, Eq)]
 pub struct HopPred {
     /// The ISD and the AS.
@@ -53,10 +54,12 @@ impl Interfaces {
         match self {
             Interfaces::Any => true,
             Interfaces::Either(wanted) => {
-                fits_interface(wanted, hop.ingress) || fits_interface(wanted, hop.egress)
+                fits(wanted.0.into(), hop.ingress.0.into())
+                    || fits(wanted.0.into(), hop.egress.0.into())
             }
             Interfaces::Both(ingress, egress) => {
-                fits_interface(ingress, hop.ingress) && fits_interface(egress, hop.egress)
+                fits(ingress.0.into(), hop.ingress.0.into())
+                    && fits(egress.0.into(), hop.egress.0.into())
             }
         }
     }
@@ -67,11 +70,4 @@ fn fits(wanted: u64, number: u64) -> bool
     ensures { IsTrue result ↔ Fits wanted number }
 {
     wanted == 0 || wanted == number
-}
-
-/// Whether an interface fits the one that is wanted, where 0 wants any.
-fn fits_interface(wanted: IfId, interface: IfId) -> bool
-    ensures { IsTrue result ↔ Fits wanted interface }
-{
-    wanted.is_none() || wanted == interface
 }

@@ -10,7 +10,8 @@ ghost use Rattle.policy_expr.specs.Grammar.{SpellsSequence};
 ghost use Rattle.policy_expr.specs.Reading.{node_count, sequence_at};
 ghost use Rattle.policy_expr.specs.Printing.{IsPredicate, IsSequence, predicate_text, printed};
 
-/// What is read as a sequence is what the grammar spells, of at most 256 nodes, and nothing else is.
+/// What is read as a sequence is what the grammar spells, of at most 256 nodes, and nothing else
+/// is.
 pub fn reading_is_the_grammar()
     ensures { (text : List ℕ) (tree : Tree) → (sequence_at text ≡ Ok tree)
         ↔ (SpellsSequence text tree × (node_count tree ≤ 256)) }

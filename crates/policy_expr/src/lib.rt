@@ -1,8 +1,8 @@
 //! Path policies: which walks over autonomous systems are allowed.
 //!
 //! A policy has an access control list, which decides each hop of a walk by its first entry that
-//! matches, and a sequence, a regular expression over hops of which the walk must be a word. Both are
-//! read from text and are kept under any allocator.
+//! matches, and a sequence, a regular expression over hops of which the walk must be a word. Both
+//! are read from text and are kept under any allocator.
 #![tactic(auto)]
 
 mod acl;
@@ -15,6 +15,8 @@ mod fault;
 mod hop;
 pub mod laws;
 mod node;
+mod option_fault;
+mod options;
 mod policy;
 mod pred_set;
 mod predicate;
@@ -29,5 +31,7 @@ pub use acl_text::AclText;
 pub use fault::{PolicyError, PolicyFault};
 pub use hop::{HopPred, Interfaces, WalkHop};
 pub use node::SeqNode;
+pub use option_fault::{OptionError, OptionFault};
+pub use options::{OptionText, PolicyOption};
 pub use policy::{Policy, PolicyText};
 pub use sequence::Seq;

@@ -4,7 +4,8 @@ ghost use Rattle.policy_expr.specs.Tree.{tree_of};
 use crate::hop::HopPred;
 use std::alloc::{AllocError, Allocator};
 
-/// A node of a sequence: a regular expression over hops, whose parts lie in boxes over an allocator.
+/// A node of a sequence: a regular expression over hops, whose parts lie in boxes over an
+/// allocator.
 #[derive(Drop)]
 pub enum SeqNode<A: Allocator> {
     /// One hop that the predicate matches.

@@ -1,4 +1,4 @@
-ghost use Rattle.std.specs.Prelude.{◌≡◌, ◌↔◌, length, option_map, IsOk, IsTrue, IfErr, IfOk};
+ghost use Rattle.std.specs.Prelude.{◌≡◌, ◌↔◌, None, length, option_map, IsOk, IsTrue, IfErr, IfOk};
 ghost use Rattle.refusal.specs.Refusal.{Answers};
 ghost use Rattle.policy_expr.specs.Counting.{Judges};
 ghost use Rattle.policy_expr.specs.Next.{after_blanks};
@@ -24,8 +24,8 @@ pub struct PolicyText<'a> {
     pub sequence: Option<&'a str>,
 }
 
-/// A path policy: an access control list and a sequence, of which either may be absent and then allows
-/// every walk.
+/// A path policy: an access control list and a sequence, of which either may be absent and then
+/// allows every walk.
 #[derive(Drop)]
 pub struct Policy<A: Allocator + Clone> {
     acl: Option<Acl<A>>,
@@ -45,6 +45,16 @@ impl<A: Allocator + Clone> Model for Policy<A> {
 }
 
 impl<A: Allocator + Clone> Policy<A> {
+    /// The policy that allows every walk. Takes no memory.
+    pub fn any() -> Policy<A>
+        ensures { result ≡ record { acl = None; sequence = None } }
+    {
+        Policy {
+            acl: None,
+            sequence: None,
+        }
+    }
+
     /// The policy of these texts. A sequence of blanks alone is read as none.
     ///
     /// The refusals are those of [`Acl::parse`], and then those of [`Seq::parse`].
@@ -86,8 +96,8 @@ impl<A: Allocator + Clone> Policy<A> {
         }
     }
 
-    /// Whether the walk is a word of the sequence. Tries each hop with each predicate at most once, so
-    /// that a walk of 64 hops takes at most 8,192 tries. Takes no memory.
+    /// Whether the walk is a word of the sequence. Tries each hop with each predicate at most once,
+    /// so that a walk of 64 hops takes at most 8,192 tries. Takes no memory.
     pub fn matches(&self, walk: &[WalkHop]) -> bool
         ensures { IsTrue result ↔ HasWord self.now.sequence walk.now }
     {
@@ -100,7 +110,7 @@ impl<A: Allocator + Clone> Policy<A> {
 
 /// The first refusal of a policy's texts. Takes no memory.
 #[tactic(auto, unfolding(crate::specs::Policy::policy_at))]
-fn check_policy(text: &PolicyText<'_>) -> Result<(), PolicyFault>
+pub(crate) fn check_policy(text: &PolicyText<'_>) -> Result<(), PolicyFault>
     ensures { Judges result
         (policy_at (option_map (λ t. t.now) text.now.acl) (option_map (λ t. t.now) text.now.sequence)) }
 {

@@ -7,9 +7,9 @@ use crate::hop::{HopPred, Interfaces};
 use isd_as::{AsNumber, IfId, Isd, IsdAs};
 
 impl HopPred {
-    /// The predicate that a text spells: `ISD`, `ISD-AS`, `ISD-AS#IF` or `ISD-AS#IN,OUT`. ISD and AS
-    /// are those of addresses, and an interface is decimal digits up to 65535. `#0` and `#0,0` are read
-    /// as no interfaces.
+    /// The predicate that a text spells: `ISD`, `ISD-AS`, `ISD-AS#IF` or `ISD-AS#IN,OUT`. ISD and
+    /// AS are those of addresses, and an interface is decimal digits up to 65535. `#0` and `#0,0`
+    /// are read as no interfaces.
     ///
     /// Any other text is [`PolicyFault::BadPredicate`].
     pub fn parse(text: &str) -> Result<HopPred, PolicyFault>

@@ -1,7 +1,7 @@
 ghost use Rattle.std.specs.Prelude.{◌≡◌, [], IfOk, option_map};
 ghost use Rattle.refusal.specs.Refusal.{Reads};
 ghost use Rattle.policy_expr.specs.Tree.{tree_of};
-ghost use Rattle.policy_expr.specs.Reading.{ended, item_begun, item_followed, new_level, took, tree_at, wants, whole, with_before, with_left};
+ghost use Rattle.policy_expr.specs.Reading.{ended, item_begun, item_followed, new_level, took, tree_at, wants, whole, with_before, with_choices};
 ghost use Rattle.policy_expr.specs.Views.{level_of, levels_of, reading_of};
 
 use crate::counting::MAX_OPEN;
@@ -16,7 +16,7 @@ pub(crate) struct Level<A: Allocator> {
     /// What the item will follow.
     before: Option<SeqNode<A>>,
     /// The alternatives to which the item will be one more.
-    left: Option<SeqNode<A>>,
+    choices: Option<SeqNode<A>>,
 }
 
 impl<A: Allocator> Level<A> {
@@ -26,7 +26,7 @@ impl<A: Allocator> Level<A> {
     {
         Level {
             before: None,
-            left: None,
+            choices: None,
         }
     }
 }
@@ -167,12 +167,12 @@ fn follow_item<A: Allocator + Clone>(
             })
         }
         Token::Or => {
-            let Level { before, left } = level;
-            let left = Some(join_left(&alloc, left, item)?);
+            let Level { before, choices } = level;
+            let choices = Some(join_choices(&alloc, choices, item)?);
             Ok(Reader {
                 alloc,
                 levels,
-                level: Level { before, left },
+                level: Level { before, choices },
                 item: None,
             })
         }
@@ -191,7 +191,15 @@ fn follow_item<A: Allocator + Clone>(
         Token::Other => Err(PolicyError::Refused(PolicyFault::BadPredicate)),
         Token::Hop(_) | Token::Open => {
             let before = Some(join_level(&alloc, level, item)?);
-            begin_item(alloc, levels, Level { before, left: None }, token)
+            begin_item(
+                alloc,
+                levels,
+                Level {
+                    before,
+                    choices: None,
+                },
+                token,
+            )
         }
     }
 }
@@ -204,23 +212,23 @@ fn join_level<A: Allocator + Clone>(
 ) -> Result<SeqNode<A>, AllocError>
     ensures { IfOk result (λ node. tree_of node ≡ whole (level_of level) (tree_of item)) }
 {
-    let Level { before, left } = level;
-    let item = join_left(alloc, left, item)?;
+    let Level { before, choices } = level;
+    let item = join_choices(alloc, choices, item)?;
     join_before(alloc, before, item)
 }
 
 /// The item as one alternative more.
-fn join_left<A: Allocator + Clone>(
+fn join_choices<A: Allocator + Clone>(
     alloc: &A,
-    left: Option<SeqNode<A>>,
+    choices: Option<SeqNode<A>>,
     item: SeqNode<A>,
 ) -> Result<SeqNode<A>, AllocError>
     ensures { IfOk result
-        (λ node. tree_of node ≡ with_left (option_map tree_of left) (tree_of item)) }
+        (λ node. tree_of node ≡ with_choices (option_map tree_of choices) (tree_of item)) }
 {
-    match left {
+    match choices {
         None => Ok(item),
-        Some(left) => Ok(SeqNode::Or(boxed(alloc, left)?, boxed(alloc, item)?)),
+        Some(choices) => Ok(SeqNode::Or(boxed(alloc, choices)?, boxed(alloc, item)?)),
     }
 }
 

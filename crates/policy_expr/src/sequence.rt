@@ -19,8 +19,8 @@ use std::marker::Model;
 
 /// A sequence: a regular expression over hops, of which walks are words.
 ///
-/// Its type keeps that it has at most 256 nodes, and that its text has at most 32 parentheses open at
-/// once.
+/// Its type keeps that it has at most 256 nodes, and that its text has at most 32 parentheses open
+/// at once.
 #[derive(Drop)]
 pub struct Seq<A: Allocator + Clone> {
     root: SeqNode<A>,
@@ -47,11 +47,11 @@ impl<A: Allocator + Clone> Seq<A> {
     /// The sequence of a text.
     ///
     /// The text is read from left to right. Where an item must come, its end is
-    /// [`PolicyFault::UnexpectedEnd`], a `(` with 32 open [`PolicyFault::TooDeep`], and any token but a
-    /// predicate [`PolicyFault::BadPredicate`]. Behind an item, a `)` with none open and the end with
-    /// some open are [`PolicyFault::Unbalanced`], and an unknown character is
-    /// [`PolicyFault::BadPredicate`]. A text without these faults is [`PolicyFault::TooLarge`] where it
-    /// has more than 256 nodes.
+    /// [`PolicyFault::UnexpectedEnd`], a `(` with 32 open [`PolicyFault::TooDeep`], and any token
+    /// but a predicate [`PolicyFault::BadPredicate`]. Behind an item, a `)` with none open and the
+    /// end with some open are [`PolicyFault::Unbalanced`], and an unknown character is
+    /// [`PolicyFault::BadPredicate`]. A text without these faults is [`PolicyFault::TooLarge`]
+    /// where it has more than 256 nodes.
     pub fn parse(alloc: A, text: &str) -> Result<Seq<A>, PolicyError>
         // What is read is spelled so.
         ensures found { IfOk result (λ s. SpellsSequence text.now s × (node_count s ≤ 256)) }
@@ -84,8 +84,9 @@ impl<A: Allocator + Clone> Seq<A> {
         let _ = &self.root;
     }
 
-    /// Its text, with the fewest parentheses that keep the tree: one space for following, nothing round
-    /// `|`, addresses in their canonical text, and the ISD alone where AS and interfaces are wildcards.
+    /// Its text, with the fewest parentheses that keep the tree: one space for following, nothing
+    /// round `|`, addresses in their canonical text, and the ISD alone where AS and interfaces are
+    /// wildcards.
     pub fn print<B: Allocator>(&self, alloc: B) -> Result<String<B>, AllocError>
         ensures { IfOk result (λ text. string_bytes text ≡ printed self.now) }
     {
@@ -103,8 +104,8 @@ impl<A: Allocator + Clone> Seq<A> {
         Ok(Seq { root, table })
     }
 
-    /// Whether the walk is a word of this sequence. Tries each hop with each predicate at most once, so
-    /// that a walk of 64 hops takes at most 8,192 tries. Takes no memory.
+    /// Whether the walk is a word of this sequence. Tries each hop with each predicate at most
+    /// once, so that a walk of 64 hops takes at most 8,192 tries. Takes no memory.
     pub fn matches(&self, walk: &[WalkHop]) -> bool
         ensures { IsTrue result ↔ Lang self.now walk.now }
     {

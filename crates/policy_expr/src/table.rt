@@ -16,8 +16,8 @@ pub(crate) struct Line {
     pub(crate) next: PredSet,
 }
 
-/// A sequence as a table: a line for each predicate, numbered from left to right, the predicates that
-/// may come first and last, and whether the walk of no hops is a word.
+/// A sequence as a table: a line for each predicate, numbered from left to right, the predicates
+/// that may come first and last, and whether the walk of no hops is a word.
 #[derive(Drop)]
 pub(crate) struct Table<A: Allocator> {
     pub(crate) lines: Vec<Line, A>,
@@ -48,8 +48,8 @@ impl<A: Allocator> Table<A> {
         })
     }
 
-    /// Whether the walk is a word of the table. One pass over its hops, each of which is tried with each
-    /// predicate at most once. Takes no memory.
+    /// Whether the walk is a word of the table. One pass over its hops, each of which is tried with
+    /// each predicate at most once. Takes no memory.
     pub(crate) fn matches(&self, walk: &[WalkHop]) -> bool
         requires { IsWithin self.now.lines.items self.now.ends }
         ensures { IsTrue result ↔ Accepts self.now.lines.items self.now.ends walk.now }

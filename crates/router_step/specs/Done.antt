@@ -33,7 +33,8 @@ on_arrival at = arrived at.arrival at.header
 abbrev pub at_the_way_out : Situation → HeaderValue
 at_the_way_out at = moved_on (changes_segment at.header) (arrived at.arrival at.header)
 
--- the hop at which the packet stands is live, and its authenticator is right under a key that the AS accepts
+-- the hop at which the packet stands is live, and its authenticator is right under a key that the
+-- AS accepts
 pub record IsOwnHop (view : View) (now : ℕ) (header : HeaderValue) : Type 0 where
   pub live : IsLive (info_of header).timestamp (hop_of header).exp_time now
   pub authentic : IsAuthentic view (hop_of header).mac (info_of header).seg_id (info_of header).timestamp
@@ -48,7 +49,8 @@ pub record StaysOnSegment (old new : HeaderValue) : Type 0 where
   pub hops : new.hops ≡ old.hops
 
 -- the packet goes on in the next segment: the segment that it leaves keeps the accumulator of the
--- arrival, and the next one's is, before the way out, as it was; of the rest both indices alone differ
+-- arrival, and the next one's is, before the way out, as it was; of the rest both indices alone
+-- differ
 pub record ChangesSegment (at : Situation) (new : HeaderValue) : Type 0 where
   pub curr_inf : new.curr_inf ≡ at.header.curr_inf + 1
   pub curr_hf : (at_the_way_out at).curr_hf ≡ at.header.curr_hf + 1

@@ -14,10 +14,10 @@ ghost use Rattle.router_step.specs.Packet.{IsFrame, frame_step, packet_step};
 ghost use Rattle.router_step.specs.Done.{Situation, Does, on_arrival, at_the_way_out, IsOwnHop, IsOwnLink, StaysOnSegment, ChangesSegment};
 ghost use Rattle.router_step.specs.Forward.{IsAdmitted, MayLeave, goes};
 
-/// A packet that is not refused stands at a hop that is live and whose authenticator is right under a
-/// key that this AS accepts and the accumulator that the packet has after its arrival; and where the
-/// path goes on to another segment, at such a hop there too. So it is with each that leaves over a
-/// link and each that is delivered.
+/// A packet that is not refused stands at a hop that is live and whose authenticator is right under
+/// a key that this AS accepts and the accumulator that the packet has after its arrival; and where
+/// the path goes on to another segment, at such a hop there too. So it is with each that leaves
+/// over a link and each that is delivered.
 pub fn own_hops_alone()
     ensures here { (at : Situation) (outcome : Outcome) (new : HeaderValue)
         → Does at outcome new → IsOwnHop at.view at.now (on_arrival at) }

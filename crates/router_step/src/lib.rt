@@ -17,4 +17,4 @@ mod route;
 pub use arrival::Arrival;
 pub use fault::Refusal;
 pub use outcome::Outcome;
-pub use packet::step;
+pub use packet::{destination_in, read_header, source_in, step};

@@ -75,8 +75,9 @@ pub fn step(
     Ok(outcome)
 }
 
-/// The path header behind the addresses, and its length.
-fn read_header(packet: &[u8]) -> Result<(Header, usize), Refusal>
+/// The path header behind a packet's addresses, and its length in bytes; or [`Refusal::BadHeader`]
+/// with the reason why there is none.
+pub fn read_header(packet: &[u8]) -> Result<(Header, usize), Refusal>
     ensures exact { result ≡ header_in packet.now }
     ensures len { IfOk result (λ front. front.1 ≡ header_len front.0) }
     ensures within { IfOk result (λ front. 16 + front.1 ≤ length packet.now) }
@@ -94,8 +95,8 @@ fn read_header(packet: &[u8]) -> Result<(Header, usize), Refusal>
     }
 }
 
-/// The address of the AS for which the packet is.
-fn destination_in(packet: &[u8]) -> IsdAs
+/// The address of the AS for which the packet is: its first 8 bytes.
+pub fn destination_in(packet: &[u8]) -> IsdAs
     requires { 8 ≤ length packet.now }
     ensures { result ≡ destination_of packet.now }
 {
@@ -104,8 +105,8 @@ fn destination_in(packet: &[u8]) -> IsdAs
     IsdAs::from_bytes(bytes)
 }
 
-/// The address of the AS that sent it.
-fn source_in(packet: &[u8]) -> IsdAs
+/// The address of the AS that sent it: the 8 bytes behind.
+pub fn source_in(packet: &[u8]) -> IsdAs
     requires { 16 ≤ length packet.now }
     ensures { result ≡ source_of packet.now }
 {

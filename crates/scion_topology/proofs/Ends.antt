@@ -12,7 +12,7 @@ use Rattle.scion_topology.specs.declared.network.LinkClass.TheVariants.{Core, Ch
 use Rattle.scion_topology.specs.Network.{Network, as_named, is_end, has_end, link_named, kind_at_a, kind_at_b, end_as_interface, interface_of, with_first, table_of, mirrored, interface_in}
 use Rattle.scion_topology.specs.Causes.{is_listed, has_unknown_end, lacks_router, has_no_router, is_ill_joined, stands, joins_twice}
 use Rattle.scion_topology.specs.Topology.{IsNetwork, known, joined, near_end, far_end, far_end_in, owner_in}
-use Rattle.scion_topology.proofs.Steps.{bind_ok, ok_is, ok_or_ok}
+use Rattle.refusal.proofs.Steps.{bind_ok, ok_is, ok_or_ok}
 use Rattle.scion_topology.proofs.Judging.{IsFree-IsNetwork, listed_known, has_router}
 use Rattle.scion_topology.proofs.Places.{are_apart, is_numbered, ends_there, network_apart}
 

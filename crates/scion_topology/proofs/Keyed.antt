@@ -17,7 +17,7 @@ use Rattle.scion_topology.specs.Network.{Network, is_wildcard, as_named}
 use Rattle.scion_topology.specs.Causes.{is_as, lists_twice, has_unknown_end, lacks_router, has_no_router, is_core, is_ill_classed, is_ill_joined, cause_of}
 use Rattle.scion_topology.specs.Topology.{IsNetwork, known, with_key, rotated}
 use Rattle.scion_topology.specs.Index.{IndexValue, index_at, index_from, index_in, keyed_at}
-use Rattle.scion_topology.proofs.Steps.{bind_ok, ok_is, ok_or_ok}
+use Rattle.refusal.proofs.Steps.{bind_ok, ok_is, ok_or_ok}
 use Rattle.scion_topology.proofs.Judging.{judged, rules_from}
 use Rattle.scion_topology.proofs.KeyTests.{are_keys_renewed}
 use Rattle.scion_topology.proofs.Indexes.{slice_get-bound}

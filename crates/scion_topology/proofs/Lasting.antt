@@ -17,7 +17,7 @@ use Rattle.scion_topology.specs.Network.{Network, as_named, is_end, has_end, lin
 use Rattle.scion_topology.specs.Topology.{IsNetwork, known, joined, near_end, far_end, interface_at, far_end_in, owner_in, with_up, with_key, set_up, rotated}
 use Rattle.scion_topology.specs.Ends.{IsAt, IsShown, at_a, at_b, IsUp, IsStill, IsSame}
 use Rattle.scion_topology.specs.Index.{place_in, set_from}
-use Rattle.scion_topology.proofs.Steps.{bind_ok, ok_is, ok_or_ok}
+use Rattle.refusal.proofs.Steps.{bind_ok, ok_is, ok_or_ok}
 use Rattle.scion_topology.proofs.Judging.{IsFree-IsNetwork}
 use Rattle.scion_topology.proofs.Places.{is_numbered, are_apart, ends_there, network_apart}
 use Rattle.scion_topology.proofs.Marking.{with_up-set_from}

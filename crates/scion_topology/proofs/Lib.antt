@@ -1,6 +1,5 @@
 pub mod Deciding
 pub mod KeyTests
-pub mod Steps
 pub mod Judging
 pub mod RightViews
 pub mod AuthenticHops

@@ -1,5 +1,5 @@
--- A link that goes up or down changes the two tables that it stands in, and nothing that a network is
--- judged by.
+-- A link that goes up or down changes the two tables that it stands in, and nothing that a network
+-- is judged by.
 use Rattle.std.proofs.Common.{◌≡◌, ℕ, zero, suc, ◌+◌, ◌<◌, ◌≤◌, Bool, true, false, cond, eqb, List, [], ◌∷◌, length, Option, Some, None, refl, sym, ap, ◌∙◌, arith, inl, inr, ◌||◌, option_map, min, take, drop, ◌++◌, get_or, length-drop}
 use Rattle.std.proofs.lemmas.List.{take-append-drop}
 use Rattle.std.proofs.lemmas.Option.{slice_get-get_or}

@@ -6,7 +6,7 @@ use Rattle.scion_topology.specs.declared.entry.IfEntry.{IfEntry}
 use Rattle.scion_topology.specs.declared.fault.TopologyFault.TheVariants as faults
 use Rattle.scion_topology.specs.Network.{Network, table_of, interface_in}
 use Rattle.scion_topology.specs.Topology.{IsNetwork, known, interface_at}
-use Rattle.scion_topology.proofs.Steps.{bind_ok, ok_or_ok}
+use Rattle.refusal.proofs.Steps.{bind_ok, ok_or_ok}
 use Rattle.scion_topology.proofs.Seeing.{IsSeen-known}
 
 find_none : {A : Type 0} (p : A → Bool) (xs : List A) → list_any p xs ≡ false → find p xs ≡ None

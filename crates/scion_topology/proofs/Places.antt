@@ -17,7 +17,7 @@ use Rattle.scion_topology.specs.Topology.{IsNetwork, known, joined}
 use Rattle.scion_topology.specs.Index.{IndexValue, places_of, index_at, place_beside, index_in, place_in}
 use Rattle.std.proofs.lemmas.Option.{slice_get-get_or}
 use Rattle.scion_topology.proofs.Indexes.{slice_get-past}
-use Rattle.scion_topology.proofs.Steps.{bind_ok, ok_is, ok_or_ok, ok_or_err}
+use Rattle.refusal.proofs.Steps.{bind_ok, ok_is, ok_or_ok}
 use Rattle.scion_topology.proofs.Judging.{IsFree-IsNetwork}
 
 -- the first place in a list, one element at a time
@@ -182,6 +182,11 @@ joined-place_in n ia number k link e is =
     let first = IsFirst-place_in n ia number k e in
     let found : link_named n.links ia number ≡ Some link = first.found link is in
     rw (at.1, found) refl
+
+-- what was not there is refused so
+ok_or_err : {A : Type 0} (o : Option A) (f d : TopologyFault) → ok_or o f ≡ Err d → (o ≡ None) × (f ≡ d)
+ok_or_err (Some y) f d e = absurd cc
+ok_or_err None f d e = (refl, cc)
 
 joined_err : (r : Result AsEntry TopologyFault) (links : List Link) (ia number : ℕ) (d : TopologyFault) → (r >>= λ _. ok_or (position (λ link. has_end link ia number) links) faults.NoLink) ≡ Err d → (r >>= λ _. ok_or (link_named links ia number) faults.NoLink) ≡ Err d
 joined_err (Ok x) links ia number d e =

@@ -10,7 +10,7 @@ use Rattle.scion_topology.specs.declared.network.Link.{Link}
 use Rattle.scion_topology.specs.Network.{Network, has_end}
 use Rattle.scion_topology.specs.Topology.{IsNetwork, known, set_up, with_up}
 use Rattle.scion_topology.specs.Index.{IndexValue, index_at, index_from, place_in, marked, set_from}
-use Rattle.scion_topology.proofs.Steps.{bind_ok, ok_or_ok}
+use Rattle.refusal.proofs.Steps.{bind_ok, ok_or_ok}
 use Rattle.scion_topology.proofs.Judging.{judged, rules_from}
 use Rattle.scion_topology.proofs.Places.{network_apart, are_apart, joined-place_in, joined-place_in_err}
 use Rattle.scion_topology.proofs.Marking.{index_at-set_from, marked_table-misses, Misses, with_up-set_from, cause_of-set_from, is_link-set_from}
@@ -77,7 +77,8 @@ misses_others place x links link found not_a not_b k other at same =
     let is : other ≡ link = cc in
     rw (is, ne_eqb link.a.ia x (λ e. not_a (sym e)), ne_eqb link.b.ia x (λ e. not_b (sym e))) refl
 
--- the indexes after the two ends of the link were marked are those of the network with the link changed
+-- the indexes after the two ends of the link were marked are those of the network with the link
+-- changed
 pub marked_twice : (place : ℕ) (up : Bool) (n : Network) (link : Link) (first second third : ℕ → Option IndexValue)
     → IsNetwork n → slice_get n.links place ≡ Some link
     → ((x : ℕ) → first x ≡ index_from 0 n.ases n.links x)

@@ -13,7 +13,7 @@ use Rattle.scion_topology.specs.Rules.{IsAs, IsLink}
 use Rattle.scion_topology.specs.Causes.{stands, joins_twice}
 use Rattle.scion_topology.specs.Topology.{IsNetwork, known, joined, far_end, interface_at, far_end_in, owner_in}
 use Rattle.scion_topology.specs.Ends.{IsAt, ShowsBothEnds, AreJoined, IsEndOf, at_a, at_b}
-use Rattle.scion_topology.proofs.Steps.{bind_ok, ok_is, ok_or_ok}
+use Rattle.refusal.proofs.Steps.{bind_ok, ok_is, ok_or_ok}
 use Rattle.scion_topology.proofs.Judging.{IsFree-IsNetwork, are_named, listed_of_named, ia_of_named}
 use Rattle.scion_topology.proofs.Seeing.{entry_is}
 use Rattle.scion_topology.proofs.Deciding.{apart_test}

@@ -33,7 +33,8 @@ impl Topology {
     }
 
     /// The AS and the interface at the far end of the link at an interface:
-    /// [`TopologyFault::UnknownAs`], then [`TopologyFault::NoLink`] where the AS has no such interface.
+    /// [`TopologyFault::UnknownAs`], then [`TopologyFault::NoLink`] where the AS has no such
+    /// interface.
     #[tactic(auto, unfolding(crate::specs::Topology::far_end_in))]
     pub fn far_end(&self, ia: IsdAs, number: IfId) -> Result<(IsdAs, IfId), TopologyFault>
         ensures { result ≡ far_end_in self.now ia number }
@@ -60,8 +61,9 @@ impl Topology {
         }
     }
 
-    /// The view of a router of an AS: [`TopologyFault::UnknownAs`], then [`TopologyFault::NoRouter`]
-    /// where the AS has no router of this number. The key and the table are lent.
+    /// The view of a router of an AS: [`TopologyFault::UnknownAs`], then
+    /// [`TopologyFault::NoRouter`] where the AS has no router of this number. The key and the table
+    /// are lent.
     #[tactic(auto, unfolding(crate::specs::Topology::view_in))]
     pub fn view(&self, ia: IsdAs, router: u8) -> Result<RouterView<'_>, TopologyFault>
         ensures { result ≡ view_in self.now ia router }

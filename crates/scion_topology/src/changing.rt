@@ -30,9 +30,9 @@ impl Topology {
         self.set_link(ia, number, true)
     }
 
-    /// Takes another key of an AS into use; the one that was in use is the one before, and the older
-    /// one is gone. [`TopologyFault::UnknownAs`], then [`TopologyFault::BadField`] where the key has
-    /// no byte or more than 64.
+    /// Takes another key of an AS into use; the one that was in use is the one before, and the
+    /// older one is gone. [`TopologyFault::UnknownAs`], then [`TopologyFault::BadField`] where the
+    /// key has no byte or more than 64.
     pub fn rotate_key(&mut self, ia: IsdAs, key: &[u8]) -> Result<(), TopologyFault>
         ensures { Becomes (rotated ia key.now self.old) self.old self.new result }
     {

@@ -137,7 +137,8 @@ impl Keys {
         self.previous.as_ref()
     }
 
-    /// Takes another key into use. The one that was in use is the one before; the older one is gone.
+    /// Takes another key into use. The one that was in use is the one before; the older one is
+    /// gone.
     pub(crate) fn renew(&mut self, key: Key)
         ensures { self.new ≡ renewed key self.old }
     {

@@ -1,9 +1,9 @@
 //! The network of a SCION process: its ASes, its links, and what each router knows of them.
 //!
-//! A [`Topology`] is read from JSON with exact refusals, asked by address and interface, and changed
-//! by cutting and mending links and by new keys. A [`RouterView`] is what one router needs for its
-//! steps: the address of its AS, its own number, the key under which the AS authenticates its hops
-//! and the one before it, and the table of the AS's interfaces. Only reading takes memory.
+//! A [`Topology`] is read from JSON with exact refusals, asked by address and interface, and
+//! changed by cutting and mending links and by new keys. A [`RouterView`] is what one router needs
+//! for its steps: the address of its AS, its own number, the key under which the AS authenticates
+//! its hops and the one before it, and the table of the AS's interfaces. Only reading takes memory.
 #![tactic(auto)]
 
 mod asking;

@@ -21,8 +21,8 @@ pub struct End {
     pub router: u8,
 }
 
-/// A link between two ASes. What a [`Topology`](crate::Topology) keeps of its ASes and links is said
-/// there.
+/// A link between two ASes. What a [`Topology`](crate::Topology) keeps of its ASes and links is
+/// said there.
 #[derive(Clone, Copy, Debug, PartialEq, Eq)]
 pub struct Link {
     /// What it joins.

@@ -55,14 +55,16 @@ impl Topology {
     /// The network that a JSON text describes, each link up.
     ///
     /// An object with the lists `ases` and `links`. An AS has `ia` (an address without a wildcard),
-    /// `core` (true or false), `exp` (0 to 255), `key` (2 to 128 hexadecimal digits, an even number)
-    /// and `routers` (1 to 64). A link has `kind` (`core` or `child`) and the ends `a` and `b`; an end
-    /// has `ia`, `if` (1 to 65535) and `router` (0 to 63). Members beside these are ignored.
+    /// `core` (true or false), `exp` (0 to 255), `key` (2 to 128 hexadecimal digits, an even
+    /// number) and `routers` (1 to 64). A link has `kind` (`core` or `child`) and the ends `a` and
+    /// `b`; an end has `ia`, `if` (1 to 65535) and `router` (0 to 63). Members beside these are
+    /// ignored.
     ///
-    /// The refusals, each looked for in all of the text before the next: [`TopologyFault::NotJson`],
-    /// [`TopologyFault::BadField`], [`TopologyFault::TooMany`], [`TopologyFault::DuplicateAs`],
-    /// [`TopologyFault::UnknownAs`], [`TopologyFault::NoRouter`], [`TopologyFault::BadKind`],
-    /// [`TopologyFault::DuplicateIf`]. Want of memory is [`OrMemory::Memory`].
+    /// The refusals, each looked for in all of the text before the next:
+    /// [`TopologyFault::NotJson`], [`TopologyFault::BadField`], [`TopologyFault::TooMany`],
+    /// [`TopologyFault::DuplicateAs`], [`TopologyFault::UnknownAs`], [`TopologyFault::NoRouter`],
+    /// [`TopologyFault::BadKind`], [`TopologyFault::DuplicateIf`]. Want of memory is
+    /// [`OrMemory::Memory`].
     pub fn from_json(alloc: Global, bytes: &[u8]) -> Result<Topology, ReadError>
         ensures text { IsUtf8 bytes.now → Reads (λ n. n) result (network_in bytes.now) }
         ensures no_text { ¬ IsUtf8 bytes.now → Reads (λ n. n) result (Err TopologyFault.NotJson) }

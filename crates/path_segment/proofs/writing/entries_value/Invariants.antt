@@ -1,4 +1,5 @@
--- The values so far are those of the front; the front and what the rest is read as are what all is read as.
+-- The values so far are those of the front; the front and what the rest is read as are what all is
+-- read as.
 use Rattle.std.proofs.Common.{◌≡◌, map, take, drop}
 use Rattle.serde_json.specs.View.{view, items_of}
 use Rattle.path_segment.specs.Reading.{entries_at}

@@ -1,6 +1,6 @@
 use Rattle.std.proofs.Common.{arith}
 use Rattle.path_verifier.proofs.Hops.{length_later}
-use Rattle.path_verifier.proofs.Stretch.{length_travelled}
+use Rattle.path_verifier.proofs.Entries.{length_travelled}
 use Rattle.path_verifier.proofs.walk.Walk.go_on.Goals as goal
 
 pub returns-clause-few : goal.returns-clause-few

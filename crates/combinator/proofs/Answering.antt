@@ -1,0 +1,221 @@
+-- What was found, settled and put in order is the answer.
+use Rattle.std.proofs.Common.{◌≡◌, ℕ, zero, suc, ◌+◌, ◌<◌, ◌≤◌, Bool, true, false, cond, List, [], ◌∷◌, length, get_or, All, Any, AllPairs, Contains, refl, sym, ap, subst, ◌∙◌, inl, inr, arith}
+use Rattle.std.specs.Prelude.{◌⊎◌}
+use Rattle.std.specs.declared.cmp.Ordering.TheVariants.{Less}
+use Rattle.std.proofs.lemmas.Bool.{cases_lt}
+use Rattle.std.proofs.lemmas.List.Elements.{All-from_recursion}
+use Rattle.std.proofs.lemmas.List.Kept.{AllPairs-cons}
+use Rattle.path_segment.specs.declared.kind.SegKind.{SegKind}
+use Rattle.path_segment.specs.declared.kind.SegKind.TheVariants as segs
+use Rattle.policy_expr.specs.declared.hop.WalkHop.{WalkHop}
+use Rattle.path_verifier.specs.declared.kind.PieceKind.{PieceKind}
+use Rattle.path_verifier.specs.declared.kind.PieceKind.TheVariants.{Up, Core, Down}
+use Rattle.path_verifier.specs.Piece.{PieceValue, HasRange, kind_in, kind_of, begins_in, ends_in}
+use Rattle.path_verifier.specs.Walk.{walk_of}
+use Rattle.path_verifier.specs.Accepted.{IsCore, MayAdjoin}
+use Rattle.path_verifier.proofs.Lengths.{path_is_short, pieces_adjoin}
+use Rattle.combinator.specs.Candidate.{Question, IsOf, segments_of, PathValue, IsCandidate, path_with}
+use Rattle.combinator.specs.Order.{path_cmp, HaveOneWalk}
+use Rattle.combinator.specs.Answer.{IsBest, IsLeftOut, IsAnswer}
+use Rattle.combinator.specs.Placed.{Tied, InOrder, Met}
+use Rattle.combinator.specs.Kept.{IsNoWorse, IsMet, walks_of, AreApart, AreSettled}
+use Rattle.combinator.specs.Legs.{outer_of, IsCut, IsWhole}
+use Rattle.combinator.proofs.Ranks.{same_shown, tied_shown}
+use Rattle.combinator.proofs.Agreeing.{best_is_one}
+
+-- ---- each piece of a candidate is listed
+
+up_parts : (kind : SegKind) (along : Bool) → kind_in kind along ≡ Up → (kind ≡ segs.Intra) × (along ≡ false)
+up_parts segs.Core along e = absurd cc
+up_parts segs.Intra true e = absurd cc
+up_parts segs.Intra false e = (refl, refl)
+
+core_part : (kind : SegKind) (along : Bool) → kind_in kind along ≡ Core → kind ≡ segs.Core
+core_part segs.Core along e = refl
+core_part segs.Intra true e = absurd cc
+core_part segs.Intra false e = absurd cc
+
+down_parts : (kind : SegKind) (along : Bool) → kind_in kind along ≡ Down → (kind ≡ segs.Intra) × (along ≡ true)
+down_parts segs.Core along e = absurd cc
+down_parts segs.Intra true e = (refl, refl)
+down_parts segs.Intra false e = absurd cc
+
+outer_up : (piece : PieceValue) (at : ℕ) → piece.along ≡ false → begins_in piece ≡ at → outer_of piece ≡ at
+outer_up piece at e begins = ap (λ (b : Bool). cond b (ends_in piece) (begins_in piece)) e ∙ begins
+
+outer_down : (piece : PieceValue) (at : ℕ) → piece.along ≡ true → ends_in piece ≡ at → outer_of piece ≡ at
+outer_down piece at e ends = ap (λ (b : Bool). cond b (ends_in piece) (begins_in piece)) e ∙ ends
+
+module _ (question : Question) (legs : List PieceValue)
+    (ups : (piece : PieceValue) → IsCut question.set.ups false question.src piece → Contains legs piece)
+    (cores : (piece : PieceValue) → IsWhole question.set.cores piece → Contains legs piece)
+    (downs : (piece : PieceValue) → IsCut question.set.downs true question.dst piece → Contains legs piece) where
+  listed : (kind : PieceKind) (piece : PieceValue) → kind_of piece ≡ kind → IsOf question.set piece → HasRange piece
+      → (IsCore piece → (piece.from ≡ 0) × (piece.to + 1 ≡ length piece.segment.entries))
+      → (kind ≡ Up → begins_in piece ≡ question.src) → (kind ≡ Down → ends_in piece ≡ question.dst) → Contains legs piece
+  listed Up piece is own range whole up down =
+      let parts = up_parts piece.segment.kind piece.along is in
+      ups piece (record {
+        there = subst (λ (kind : PieceKind). Contains (segments_of question.set kind) piece.segment) is own;
+        range = range;
+        kind = parts.0;
+        direction = parts.1;
+        end = outer_up piece question.src parts.1 (up refl);
+      })
+  listed Core piece is own range whole up down =
+      let cut = whole is in
+      cores piece (record {
+        there = subst (λ (kind : PieceKind). Contains (segments_of question.set kind) piece.segment) is own;
+        kind = core_part piece.segment.kind piece.along is;
+        first = cut.0;
+        last = cut.1;
+      })
+  listed Down piece is own range whole up down =
+      let parts = down_parts piece.segment.kind piece.along is in
+      downs piece (record {
+        there = subst (λ (kind : PieceKind). Contains (segments_of question.set kind) piece.segment) is own;
+        range = range;
+        kind = parts.0;
+        direction = parts.1;
+        end = outer_down piece question.dst parts.1 (down refl);
+      })
+
+  module _ (kept : List PathValue)
+      (one : (first : PieceValue) → Contains legs first → begins_in first ≡ question.src → AreSettled question kept (first ∷ []))
+      (two : (first second : PieceValue) → Contains legs first → begins_in first ≡ question.src → Contains legs second → begins_in second ≡ ends_in first → AreSettled question kept (first ∷ second ∷ []))
+      (three : (first second third : PieceValue) → Contains legs first → begins_in first ≡ question.src → Contains legs second → begins_in second ≡ ends_in first
+      → Contains legs third → begins_in third ≡ ends_in second → AreSettled question kept (first ∷ second ∷ third ∷ [])) where
+    -- a piece at a place of a candidate
+    at_place : (path : PathValue) (is : IsCandidate question path) (k : ℕ) (piece : PieceValue) → k < length path.pieces → get_or path.pieces k piece ≡ piece
+        → (kind_of piece ≡ Up → begins_in piece ≡ question.src) → (kind_of piece ≡ Down → ends_in piece ≡ question.dst) → Contains legs piece
+    at_place path is k piece within at up down =
+        let own : IsOf question.set piece = subst (IsOf question.set) at (is.own k piece within) in
+        let range : HasRange piece = subst HasRange at (is.accepted.path.ranges k piece within) in
+        let whole : IsCore piece → (piece.from ≡ 0) × (piece.to + 1 ≡ length piece.segment.entries) = λ core. (
+        let cut = subst (λ (p : PieceValue). (p.from ≡ 0) × (IsCore p → p.to + 1 ≡ length p.segment.entries)) at (is.accepted.path.cuts.with_core (k, piece, within, at, core) k piece within) in
+        (cut.0, cut.1 core)) in
+        listed (kind_of piece) piece refl own range whole up down
+
+    no_up : (kind : PieceKind) → MayAdjoin kind Up → ⊥
+    no_up Up h = h
+    no_up Core h = h
+    no_up Down h = h
+
+    not_up : (one next : PieceKind) → MayAdjoin one next → next ≡ Up → ⊥
+    not_up one next may is = no_up one (subst (MayAdjoin one) is may)
+
+    not_down : (one next : PieceKind) → MayAdjoin one next → one ≡ Down → ⊥
+    not_down one next may is = (let h : MayAdjoin Down next = subst (λ (kind : PieceKind). MayAdjoin kind next) is may in h)
+
+    met_of : (pieces : List PieceValue) (header : _) → (is : IsCandidate question (path_with pieces header)) → IsMet kept (path_with pieces header)
+    met_of [] header is = absurd (let some = is.accepted.path.some in omega arith)
+    met_of (a ∷ []) header is =
+        let path = is.accepted.path in
+        one a (at_place (path_with (a ∷ []) header) is 0 a (omega arith) refl (λ _. path.source) (λ _. path.destination)) path.source header is
+    met_of (a ∷ b ∷ []) header is =
+        let path = is.accepted.path in
+        let may = pieces_adjoin [] [] a b question.src question.dst question.set.moment path in
+        two a b
+        (at_place (path_with (a ∷ b ∷ []) header) is 0 a (omega arith) refl (λ _. path.source) (λ down. absurd (not_down (kind_of a) (kind_of b) may down))) path.source
+        (at_place (path_with (a ∷ b ∷ []) header) is 1 b (omega arith) refl (λ up. absurd (not_up (kind_of a) (kind_of b) may up)) (λ _. path.destination)) (sym path.meet.0)
+        header is
+    met_of (a ∷ b ∷ c ∷ []) header is =
+        let path = is.accepted.path in
+        let may = pieces_adjoin [] (c ∷ []) a b question.src question.dst question.set.moment path in
+        let also = pieces_adjoin (a ∷ []) [] b c question.src question.dst question.set.moment path in
+        three a b c
+        (at_place (path_with (a ∷ b ∷ c ∷ []) header) is 0 a (omega arith) refl (λ _. path.source) (λ down. absurd (not_down (kind_of a) (kind_of b) may down))) path.source
+        (at_place (path_with (a ∷ b ∷ c ∷ []) header) is 1 b (omega arith) refl (λ up. absurd (not_up (kind_of a) (kind_of b) may up)) (λ down. absurd (not_down (kind_of b) (kind_of c) also down))) (sym path.meet.0)
+        (at_place (path_with (a ∷ b ∷ c ∷ []) header) is 2 c (omega arith) refl (λ up. absurd (not_up (kind_of b) (kind_of c) also up)) (λ _. path.destination)) (sym path.meet.1.0)
+        header is
+    met_of (a ∷ b ∷ c ∷ d ∷ more) header is =
+        absurd (let few = path_is_short (a ∷ b ∷ c ∷ d ∷ more) question.src question.dst question.set.moment is.accepted.path in omega arith)
+
+    pub all_met : (path : PathValue) → IsCandidate question path → IsMet kept path
+    all_met path is = met_of path.pieces path.header is
+
+-- ---- each path that is kept stands for its walk
+
+walk_at : (paths : List PathValue) (k : ℕ) (d : PathValue) (walk : List WalkHop) → k < length paths → get_or (walks_of paths) k walk ≡ walk_of (get_or paths k d).pieces
+walk_at [] k d walk within = absurd (omega arith)
+walk_at (path ∷ paths) zero d walk within = refl
+walk_at (path ∷ paths) (suc k) d walk within = walk_at paths k d walk (omega arith)
+
+walks_long : (paths : List PathValue) → length (walks_of paths) ≡ length paths
+walks_long [] = refl
+walks_long (path ∷ paths) = let rest = walks_long paths in omega arith
+
+apart_at : (paths : List PathValue) (j k : ℕ) (d e : PathValue) → AreApart paths → j < k → k < length paths → walk_of (get_or paths j d).pieces ≡ walk_of (get_or paths k e).pieces → ⊥
+apart_at paths j k d e apart less within same =
+    let long = walks_long paths in
+    apart j k [] less (omega arith) (walk_at paths j d [] (omega arith) ∙ same ∙ sym (walk_at paths k e [] within))
+
+default_of : (paths : List PathValue) (k : ℕ) (d e : PathValue) → k < length paths → get_or paths k d ≡ get_or paths k e
+default_of [] k d e within = absurd (omega arith)
+default_of (path ∷ paths) zero d e within = refl
+default_of (path ∷ paths) (suc k) d e within = default_of paths k d e (omega arith)
+
+same_one : (paths : List PathValue) (j k : ℕ) (d e : PathValue) → AreApart paths → j < length paths → k < length paths
+    → walk_of (get_or paths j d).pieces ≡ walk_of (get_or paths k e).pieces → get_or paths j d ≡ get_or paths k e
+same_one paths j k d e apart inside within same = elim (cases_lt j k) [
+  | inl less ↦ absurd (apart_at paths j k d e apart less within same)
+  | inr upto ↦ elim (cases_lt k j) [
+    | inl more ↦ absurd (apart_at paths k j e d apart more inside (sym same))
+    | inr equal ↦ (let place : j ≡ k = omega arith in ap (λ (i : ℕ). get_or paths i d) place ∙ default_of paths k d e within)
+  ]
+]
+
+module _ (question : Question) (limit : ℕ) (kept ordered : List PathValue) (sound : All (IsCandidate question) kept) (apart : AreApart kept)
+    (met : (path : PathValue) → IsCandidate question path → IsMet kept path) where
+  no_worse_than_any : (k : ℕ) (d : PathValue) → k < length kept → (other : PathValue) → IsCandidate question other → HaveOneWalk other (get_or kept k d) → IsNoWorse (get_or kept k d) other
+  no_worse_than_any k d within other is same =
+      let some = met other is in
+      let walks : walk_of (get_or kept some.0 some.1).pieces ≡ walk_of (get_or kept k d).pieces = ap (λ (p : PathValue). walk_of p.pieces) some.3 ∙ some.4.0 ∙ same in
+      let one : some.1 ≡ get_or kept k d = sym some.3 ∙ same_one kept some.0 k some.1 d apart some.2 within walks in
+      subst (λ (p : PathValue). IsNoWorse p other) one some.4.1
+
+  all_best : All (IsBest question) kept
+  all_best k d within = record {
+    candidate = sound k d within;
+    latest = λ other is same. (no_worse_than_any k d within other is same).latest;
+    least = λ other is same. (no_worse_than_any k d within other is same).least;
+  }
+
+  module _ (order : InOrder path_cmp ordered) (few : length ordered ≤ limit) (taken : (path : PathValue) → Contains kept path → Met path_cmp limit ordered path)
+      (best_too : All (IsBest question) kept → All (IsBest question) ordered) where
+    best : All (IsBest question) ordered
+    best = best_too all_best
+
+    pairs : (paths : List PathValue) → InOrder path_cmp paths → AllPairs (λ one other. path_cmp one other ≡ Less) paths
+    pairs [] is = λ i j d less within. absurd (omega arith)
+    pairs (path ∷ paths) is =
+        AllPairs-cons (λ one other. path_cmp one other ≡ Less) path paths (All-from_recursion (λ other. path_cmp path other ≡ Less) paths is.0) (pairs paths is.1)
+
+    once : AllPairs (λ one other. ¬ (HaveOneWalk one other)) ordered
+    once i j d less within same =
+        let first = best i d (omega arith) in
+        let second = best j d within in
+        let tie = tied_shown (get_or ordered i d) (get_or ordered j d) (best_is_one question (get_or ordered i d) (get_or ordered j d) first second same) in
+        let both = sym (pairs ordered order i j d less within) ∙ tie in
+        cc
+
+    tied_walk : (paths : List PathValue) (one path : PathValue) → All (IsBest question) paths → IsCandidate question one → HaveOneWalk one path → Tied path_cmp one paths → Any (λ p. HaveOneWalk p path) paths
+    tied_walk [] one path all is same tied = absurd tied
+    tied_walk (first ∷ paths) one path all is same (inl tie) =
+        let shows = same_shown one first is.spelled (all 0 first (omega arith)).candidate.spelled tie in
+        (0, first, omega arith, refl, sym (ap (λ (s : _ × List WalkHop). s.1) shows) ∙ same)
+    tied_walk (first ∷ paths) one path all is same (inr tied) =
+        let some = tied_walk paths one path (λ k d within. all (suc k) d (omega arith)) is same tied in
+        (suc some.0, some.1, (let within = some.2 in omega arith), some.3, some.4)
+
+    whole : (path : PathValue) → IsCandidate question path → Any (λ one. HaveOneWalk one path) ordered ⊎ IsLeftOut question limit ordered path
+    whole path is =
+        let some = met path is in
+        let here : IsBest question some.1 = subst (IsBest question) some.3 (all_best some.0 some.1 some.2) in
+        elim (taken some.1 (some.0, some.2, some.3)) [
+          | inl tied ↦ inl (tied_walk ordered some.1 path best here.candidate some.4.0 tied)
+          | inr full ↦ inr (record { full = full.0; best = some.1; is_best = here; same = some.4.0; behind = All-from_recursion (λ one. path_cmp one some.1 ≡ Less) ordered full.1 })
+        ]
+
+    pub answer : IsAnswer question limit ordered
+    answer = record { best = best; once = once; ordered = pairs ordered order; few = few; whole = whole }

@@ -1,0 +1,123 @@
+-- What loops collect.
+use Rattle.std.proofs.Common.{◌≡◌, ℕ, zero, suc, ◌+◌, ◌<◌, ◌≤◌, Bool, List, [], ◌∷◌, ◌++◌, length, get_or, take, All, Contains, Option, Some, None, MatchOption, refl, sym, ap, subst, ◌∙◌, inl, inr, arith, add-one}
+use Rattle.std.specs.Prelude.{◌⊎◌}
+use Rattle.std.proofs.lemmas.List.Elements.{All-pop, Contains-push_cases}
+use Rattle.path_segment.specs.declared.kind.SegKind.TheVariants as kinds
+use Rattle.path_segment.specs.Chain.{Chain}
+use Rattle.path_verifier.specs.Piece.{PieceValue, HasRange}
+use Rattle.combinator.specs.Candidate.{Question, PathValue}
+use Rattle.combinator.specs.Order.{path_cmp}
+use Rattle.combinator.specs.Answer.{IsBest}
+use Rattle.combinator.specs.Placed.{Met}
+use Rattle.combinator.specs.Legs.{piece_of, outer_of, IsCut, IsWhole, AreIn}
+
+-- ---- paths taken into an answer one by one
+
+pub step_met : (limit : ℕ) (kept rest rest' ordered ordered' : List PathValue) (found : PathValue) → rest ≡ rest' ++ found ∷ [] → Met path_cmp limit ordered' found
+    → ((path : PathValue) → Met path_cmp limit ordered path → Met path_cmp limit ordered' path)
+    → ((path : PathValue) → Contains kept path → Contains rest path ⊎ Met path_cmp limit ordered path)
+    → (path : PathValue) → Contains kept path → Contains rest' path ⊎ Met path_cmp limit ordered' path
+step_met limit kept rest rest' ordered ordered' found is new others so_far path there = elim (so_far path there) [
+  | inl left ↦ elim (Contains-push_cases rest' found path (subst (λ (paths : List PathValue). Contains paths path) is left)) [
+    | inl still ↦ inl still
+    | inr same ↦ inr (subst (λ (one : PathValue). Met path_cmp limit ordered' one) same new)
+  ]
+  | inr met ↦ inr (others path met)
+]
+
+pub step_best : (question : Question) (rest rest' ordered ordered' : List PathValue) (found : PathValue) → rest ≡ rest' ++ found ∷ []
+    → (All (IsBest question) ordered → IsBest question found → All (IsBest question) ordered')
+    → All (IsBest question) rest × All (IsBest question) ordered → All (IsBest question) rest' × All (IsBest question) ordered'
+step_best question rest rest' ordered ordered' found is more both =
+    let parts = All-pop (IsBest question) rest rest' (Some found) is both.0 in
+    (parts.0, more both.1 parts.1)
+
+pub none_left : (limit : ℕ) (kept rest ordered : List PathValue) → length rest ≡ 0 → ((path : PathValue) → Contains kept path → Contains rest path ⊎ Met path_cmp limit ordered path)
+    → (path : PathValue) → Contains kept path → Met path_cmp limit ordered path
+none_left limit kept rest ordered none so_far path there = elim (so_far path there) [
+  | inl left ↦ absurd (let within = left.1 in omega arith)
+  | inr met ↦ met
+]
+
+pub popped : (result : Option PathValue) (n m : ℕ) → MatchOption result ((n ≡ 0) × (m ≡ 0)) (λ _. m + 1 ≡ n) → ((x : PathValue) → result ≡ Some x → ⊥) → n ≡ 0
+popped None n m cases never = cases.0
+popped (Some x) n m cases never = absurd (never x refl)
+
+-- ---- pieces of segments
+
+pub item_in : (list segments : List Chain) (i : ℕ) (segment : Chain) → i < length segments → segment ≡ get_or segments i segment → All (Contains list) segments → Contains list segment
+item_in list segments i segment within is all = subst (Contains list) (sym is) (all i segment within)
+
+front_suc : {X : Type 0} (xs : List X) (k : ℕ) (x : X) → k < length xs → take (suc k) xs ≡ take k xs ++ get_or xs k x ∷ []
+front_suc [] k x inside = absurd (omega arith)
+front_suc (y ∷ []) zero x inside = refl
+front_suc (y ∷ z ∷ ys) zero x inside = refl
+front_suc (y ∷ ys) (suc k) x inside = ap (λ zs. y ∷ zs) (front_suc ys k x (omega arith))
+
+front : {X : Type 0} (xs : List X) (k : ℕ) (x : X) → k < length xs → take (k + 1) xs ≡ take k xs ++ get_or xs k x ∷ []
+front xs k x inside = rw add-one (front_suc xs k x inside)
+
+take_past : {X : Type 0} (xs : List X) (n : ℕ) → length xs ≤ n → take n xs ≡ xs
+take_past [] zero past = refl
+take_past [] (suc n) past = refl
+take_past (x ∷ xs) zero past = absurd (omega arith)
+take_past (x ∷ xs) (suc n) past = ap (λ ys. x ∷ ys) (take_past xs n (omega arith))
+
+pub taken_more : {X : Type 0} (xs : List X) (i : ℕ) (x other : X) → i < length xs → x ≡ get_or xs i x → Contains (take (i + 1) xs) other → Contains (take i xs) other ⊎ (x ≡ other)
+taken_more {X} xs i x other within is there =
+    Contains-push_cases (take i xs) x other
+    (subst (λ (ys : List X). Contains ys other) (front xs i x within ∙ ap (λ (y : X). take i xs ++ y ∷ []) (sym is)) there)
+
+-- what holds of the elements before a place, in a form that lasts, and of the one there, holds up
+-- to it
+pub by_items : {X : Type 0} (P Q : X → Type 0) (xs : List X) (i : ℕ) (x : X) → i < length xs → x ≡ get_or xs i x → ((y : X) → P y → Q y)
+    → ((y : X) → Contains (take i xs) y → P y) → Q x → (y : X) → Contains (take (i + 1) xs) y → Q y
+by_items P Q xs i x within is lasts so_far here y there = elim (taken_more xs i x y within is there) [ inl before ↦ lasts y (so_far y before) | inr same ↦ subst Q same here ]
+
+pub at_end : {X : Type 0} (P : X → Type 0) (xs : List X) (i : ℕ) → length xs ≤ i → ((y : X) → Contains (take i xs) y → P y) → (y : X) → Contains xs y → P y
+at_end {X} P xs i past so_far y there = so_far y (subst (λ (ys : List X). Contains ys y) (sym (take_past xs i past)) there)
+
+-- a piece of this segment is among what was collected of it
+cut_here : (segment : Chain) (along : Bool) (outer : ℕ) (legs : List PieceValue)
+    → (segment.kind ≡ kinds.Intra → (from to : ℕ) → from < to → to < length segment.entries → outer_of (piece_of segment from to along) ≡ outer → Contains legs (piece_of segment from to along))
+    → (piece : PieceValue) → segment ≡ piece.segment → HasRange piece → piece.segment.kind ≡ kinds.Intra → piece.along ≡ along → outer_of piece ≡ outer → Contains legs piece
+cut_here segment along outer legs all piece same range kind direction end =
+    let Q : Chain → Bool → Type 0 = λ s a. (s.kind ≡ kinds.Intra → (from to : ℕ) → from < to → to < length s.entries → outer_of (piece_of s from to a) ≡ outer → Contains legs (piece_of s from to a)) in
+    let own : Q piece.segment piece.along = subst (λ (a : Bool). Q piece.segment a) (sym direction) (subst (λ (s : Chain). Q s along) same all) in
+    own kind piece.from piece.to range.order range.within end
+
+pub cut_more : (segments : List Chain) (i : ℕ) (segment : Chain) (along : Bool) (outer : ℕ) (legs more : List PieceValue) → i < length segments → segment ≡ get_or segments i segment
+    → AreIn legs more → ((piece : PieceValue) → IsCut (take i segments) along outer piece → Contains legs piece)
+    → (segment.kind ≡ kinds.Intra → (from to : ℕ) → from < to → to < length segment.entries → outer_of (piece_of segment from to along) ≡ outer → Contains more (piece_of segment from to along))
+    → (piece : PieceValue) → IsCut (take (i + 1) segments) along outer piece → Contains more piece
+cut_more segments i segment along outer legs more within is grown so_far all piece cut = elim (taken_more segments i segment piece.segment within is cut.there) [
+  | inl before ↦ grown piece (so_far piece (record { there = before; range = cut.range; kind = cut.kind; direction = cut.direction; end = cut.end }))
+  | inr same ↦ cut_here segment along outer more all piece same cut.range cut.kind cut.direction cut.end
+]
+
+pub cut_all : (segments : List Chain) (i : ℕ) (along : Bool) (outer : ℕ) (legs : List PieceValue) → length segments ≤ i
+    → ((piece : PieceValue) → IsCut (take i segments) along outer piece → Contains legs piece) → (piece : PieceValue) → IsCut segments along outer piece → Contains legs piece
+cut_all segments i along outer legs past so_far piece cut =
+    so_far piece (record { there = subst (λ (xs : List Chain). Contains xs piece.segment) (sym (take_past segments i past)) cut.there; range = cut.range; kind = cut.kind; direction = cut.direction; end = cut.end })
+
+whole_here : (segment : Chain) (legs : List PieceValue)
+    → (segment.kind ≡ kinds.Core → (to : ℕ) (along : Bool) → to + 1 ≡ length segment.entries → Contains legs (piece_of segment 0 to along))
+    → (piece : PieceValue) → segment ≡ piece.segment → piece.segment.kind ≡ kinds.Core → piece.from ≡ 0 → piece.to + 1 ≡ length piece.segment.entries → Contains legs piece
+whole_here segment legs all piece same kind first last =
+    let Q : Chain → Type 0 = λ s. (s.kind ≡ kinds.Core → (to : ℕ) (along : Bool) → to + 1 ≡ length s.entries → Contains legs (piece_of s 0 to along)) in
+    let own : Q piece.segment = subst Q same all in
+    subst (λ (from : ℕ). Contains legs (piece_of piece.segment from piece.to piece.along)) (sym first) (own kind piece.to piece.along last)
+
+pub whole_more : (segments : List Chain) (i : ℕ) (segment : Chain) (legs more : List PieceValue) → i < length segments → segment ≡ get_or segments i segment
+    → AreIn legs more → ((piece : PieceValue) → IsWhole (take i segments) piece → Contains legs piece)
+    → (segment.kind ≡ kinds.Core → (to : ℕ) (along : Bool) → to + 1 ≡ length segment.entries → Contains more (piece_of segment 0 to along))
+    → (piece : PieceValue) → IsWhole (take (i + 1) segments) piece → Contains more piece
+whole_more segments i segment legs more within is grown so_far all piece whole = elim (taken_more segments i segment piece.segment within is whole.there) [
+  | inl before ↦ grown piece (so_far piece (record { there = before; kind = whole.kind; first = whole.first; last = whole.last }))
+  | inr same ↦ whole_here segment more all piece same whole.kind whole.first whole.last
+]
+
+pub whole_all : (segments : List Chain) (i : ℕ) (legs : List PieceValue) → length segments ≤ i
+    → ((piece : PieceValue) → IsWhole (take i segments) piece → Contains legs piece) → (piece : PieceValue) → IsWhole segments piece → Contains legs piece
+whole_all segments i legs past so_far piece whole =
+    so_far piece (record { there = subst (λ (xs : List Chain). Contains xs piece.segment) (sym (take_past segments i past)) whole.there; kind = whole.kind; first = whole.first; last = whole.last })

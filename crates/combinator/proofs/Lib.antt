@@ -1,0 +1,13 @@
+pub mod Tied
+pub mod Inserted
+pub mod Ranks
+pub mod Agreeing
+pub mod TakingIn
+pub mod Moments
+pub mod Lasting
+pub mod Keeping
+pub mod Collected
+pub mod Tried
+pub mod Answering
+pub mod Choosing
+pub mod Preferring

@@ -1,0 +1,5 @@
+use Rattle.combinator.proofs.Tried.{own_three}
+use Rattle.combinator.proofs.search.try_third.Goals as goal
+
+pub consider-requires : goal.consider-requires
+consider-requires g c = own_three c.args.ask.now.set c.args.first.now c.args.second.now c.args.third.now c.three_of.result c.three_of.ensures c.requires.first c.requires.second c.requires.third

@@ -1,0 +1,72 @@
+-- The answer to a question: which paths it has, and in which order.
+use Rattle.std.specs.Prelude.{◌≡◌, ◌≢◌, ◌⊎◌, ℕ, ◌<◌, ◌≤◌, List, [], length, All, AllPairs, Any, Option, Some, None, slice_get}
+use Rattle.std.specs.declared.cmp.Ordering.TheVariants.{Less}
+use Rattle.path_server.specs.Lookup.{Selection}
+use Rattle.policy_expr.specs.Options.{WeighedRules}
+use Rattle.combinator.specs.Candidate.{Question, question_of, PathValue, IsCandidate, HasNone}
+use Rattle.combinator.specs.Order.{bytes_cmp, path_cmp, LastAsLong, HaveOneWalk}
+
+-- the path stands for its walk: of the candidates of this walk none expires later, and of those
+-- that expire as late none has lesser header bytes
+pub record IsBest (question : Question) (path : PathValue) : Type 0 where
+  pub candidate : IsCandidate question path
+  pub latest : (other : PathValue) → IsCandidate question other → HaveOneWalk other path
+      → LastAsLong path.pieces other.pieces
+  pub least : (other : PathValue) → IsCandidate question other → HaveOneWalk other path
+      → LastAsLong other.pieces path.pieces → bytes_cmp other.header path.header ≢ Less
+
+-- the path is left out: the answer has as many as it may, and all stand before the one that stands
+-- for its walk
+pub record IsLeftOut (question : Question) (limit : ℕ) (paths : List PathValue) (path : PathValue)
+    : Type 0 where
+  pub full : length paths ≡ limit
+  pub best : PathValue
+  pub is_best : IsBest question best
+  pub same : HaveOneWalk best path
+  pub behind : All (λ one. path_cmp one best ≡ Less) paths
+
+-- each path of the answer stands for its walk, no two have one walk, they stand in their order,
+-- they are no more than the limit, and a candidate's walk is in the answer unless as many as the
+-- limit stand before it
+pub record IsAnswer (question : Question) (limit : ℕ) (paths : List PathValue) : Type 0 where
+  pub best : All (IsBest question) paths
+  pub once : AllPairs (λ one other. ¬ (HaveOneWalk one other)) paths
+  pub ordered : AllPairs (λ one other. path_cmp one other ≡ Less) paths
+  pub few : length paths ≤ limit
+  pub whole : (path : PathValue) → IsCandidate question path
+      → Any (λ one. HaveOneWalk one path) paths ⊎ IsLeftOut question limit paths path
+
+-- what is answered: which policy option was used, and the paths
+pub record AnswerValue : Type 0 where
+  pub used : Option ℕ
+  pub paths : List PathValue
+
+-- ---- policy options
+
+-- what is asked under one of the options
+abbrev pub asked : Selection → ℕ → ℕ → WeighedRules → Question
+asked set src dst option = question_of set src dst option.rules
+
+-- an option goes before another: it is heavier, or as heavy and listed before
+abbrev pub GoesBefore : ℕ → WeighedRules → ℕ → WeighedRules → Type 0
+GoesBefore i option j other =
+    (other.weight < option.weight) ⊎ ((other.weight ≡ option.weight) × (i < j))
+
+-- this option is used: it leaves a path, and none that goes before it does
+pub record IsUsed (set : Selection) (src dst : ℕ) (options : List WeighedRules) (limit : ℕ)
+    (used : ℕ) (paths : List PathValue) : Type 0 where
+  pub option : WeighedRules
+  pub there : slice_get options used ≡ Some option
+  pub some : 0 < length paths
+  pub answer : IsAnswer (asked set src dst option) limit paths
+  pub first : (j : ℕ) (other : WeighedRules) → slice_get options j ≡ Some other
+      → GoesBefore j other used option → HasNone (asked set src dst other)
+
+-- the answer under several options: that of the one that is used, or no path where no option leaves
+-- one
+abbrev pub AnswersWith : Selection → ℕ → ℕ → List WeighedRules → ℕ → Option ℕ → List PathValue
+    → Type 0
+AnswersWith set src dst options limit None paths =
+    (paths ≡ []) × All (λ option. HasNone (asked set src dst option)) options
+AnswersWith set src dst options limit (Some used) paths =
+    IsUsed set src dst options limit used paths

@@ -1,0 +1,17 @@
+-- The refusal of a request for paths, as lines of text report it.
+use Rattle.std.specs.Prelude.{ℕ, ◌==◌, not, List, Result, codes}
+use Rattle.refusal.specs.Refusal.{check}
+use Rattle.combinator.specs.declared.fault.CombineFault.{CombineFault}
+use Rattle.combinator.specs.declared.fault.CombineFault.TheVariants.{SameAs}
+
+-- the number of a refusal
+abbrev pub code_of : CombineFault → ℕ
+code_of SameAs = 85
+
+-- the name of a refusal
+abbrev pub name_of : CombineFault → List ℕ
+name_of SameAs = codes "SameAs"
+
+-- the ends of a request are two ASes, or it is refused
+abbrev pub ends_at : ℕ → ℕ → Result (Unit {0}) CombineFault
+ends_at src dst = check (not (src == dst)) SameAs

@@ -1,0 +1,38 @@
+-- How candidates are settled, a path for each walk (words of private functions' contracts).
+use Rattle.std.specs.Prelude.{◌≢◌, List, map, All, AllPairs, Any}
+use Rattle.std.specs.declared.cmp.Ordering.TheVariants.{Less}
+use Rattle.policy_expr.specs.declared.hop.WalkHop.{WalkHop}
+use Rattle.path_header.specs.Value.{HeaderValue}
+use Rattle.path_verifier.specs.Piece.{PieceValue}
+use Rattle.path_verifier.specs.Walk.{walk_of}
+use Rattle.combinator.specs.Candidate.{Question, PathValue, path_with, IsCandidate}
+use Rattle.combinator.specs.Order.{bytes_cmp, LastAsLong, HaveOneWalk}
+
+-- the first path expires no earlier than the other, and where it expires no later its header's
+-- bytes are no greater
+pub record IsNoWorse (one other : PathValue) : Type 0 where
+  pub latest : LastAsLong one.pieces other.pieces
+  pub least : LastAsLong other.pieces one.pieces → bytes_cmp other.header one.header ≢ Less
+
+-- a path of the list has this one's walk and is no worse
+abbrev pub IsMet : List PathValue → PathValue → Type 0
+IsMet paths path = Any (λ one. HaveOneWalk one path × IsNoWorse one path) paths
+
+-- the walks of paths
+abbrev pub walks_of : List PathValue → List (List WalkHop)
+walks_of paths = map (λ path. walk_of path.pieces) paths
+
+-- no two have one walk
+abbrev pub AreApart : List PathValue → Type 0
+AreApart paths = AllPairs (λ one other. one ≢ other) (walks_of paths)
+
+-- what is kept after more was found: candidates alone, no two with one walk, and for each walk
+-- something as good as before
+pub record GoesOn (question : Question) (old new : List PathValue) : Type 0 where
+  pub sound : All (IsCandidate question) old → All (IsCandidate question) new
+  pub apart : AreApart old → AreApart new
+  pub met : (path : PathValue) → IsMet old path → IsMet new path
+
+-- whatever candidate has these pieces, one of its walk is there that is no worse
+abbrev pub AreSettled : Question → List PathValue → List PieceValue → Type 0
+AreSettled question paths pieces = (header : HeaderValue) → IsCandidate question (path_with pieces header) → IsMet paths (path_with pieces header)

@@ -1,0 +1,9 @@
+pub mod Fault
+pub mod Candidate
+pub mod Order
+pub mod Answer
+pub mod Lasting
+pub mod Placed
+pub mod Kept
+pub mod Legs
+pub mod Choice

@@ -1,0 +1,112 @@
+ghost use Rattle.std.specs.Prelude.{◌≡◌, ◌↔◌, [], length, option_map, slice_get, IfOk, IsTrue};
+ghost use Rattle.combinator.specs.Candidate.{question_of};
+ghost use Rattle.combinator.specs.Answer.{IsAnswer};
+
+use crate::ask::Ask;
+use crate::found::Found;
+use crate::legs::legs_of;
+use crate::ordered::in_order;
+use crate::search::settled;
+use isd_as::IsdAs;
+use path_server::SegmentSet;
+use path_verifier::VerifiedPath;
+use policy_expr::Policy;
+use std::alloc::{AllocError, Allocator, Global};
+use std::marker::Model;
+
+/// Paths that may be sent, in the order of an answer. They lend the segments of which they are
+/// made.
+#[derive(Drop)]
+pub struct Paths<'s, 'p, A: Allocator + Clone> {
+    pub(crate) found: Vec<Found<'s, 'p, A>>,
+}
+
+impl<'s, 'p, A: Allocator + Clone> Model for Paths<'s, 'p, A> {
+    ghost use Rattle.std.specs.Prelude.{List};
+    ghost use Rattle.combinator.specs.Candidate.{PathValue};
+
+    ghost Value = { List PathValue };
+
+    ghost view = { λ p. p.found.items };
+}
+
+impl<'s, 'p, A: Allocator + Clone> Paths<'s, 'p, A> {
+    /// No paths.
+    pub(crate) fn none(alloc: Global) -> Paths<'s, 'p, A>
+        ensures { result ≡ [] }
+    {
+        Paths {
+            found: Vec::new(alloc),
+        }
+    }
+
+    /// How many paths there are.
+    pub fn len(&self) -> usize
+        ensures { result ≡ length self.now }
+    {
+        self.found.len()
+    }
+
+    /// Whether there is no path.
+    pub fn is_empty(&self) -> bool
+        ensures { IsTrue result ↔ (self.now ≡ []) }
+    {
+        self.found.is_empty()
+    }
+
+    /// The path at this place, from 0.
+    pub fn get(&self, place: usize) -> Option<&VerifiedPath<'s, 'p, A>>
+        ensures { option_map (λ path. record {
+          pieces = path.now.pieces;
+          header = path.now.header;
+        }) result ≡ slice_get self.now place }
+    {
+        match self.found.get(place) {
+            None => None,
+            Some(found) => Some(found.path()),
+        }
+    }
+}
+
+/// The paths from `src` to `dst` that can be made of the segments of a set and may be sent at its
+/// second under a policy: for each walk the one that expires last, of these the one whose header
+/// has the least bytes; ordered by number of hop fields, bytes of the header and walk; the first
+/// `limit` of them.
+///
+/// Pieces are joined by the ASes in which they meet. With n pieces that begin in the source or end
+/// in the destination, or are whole core segments, and m lists of them that meet, it takes time in
+/// proportion to n for each such list, and to the number of walks for each path that may be sent,
+/// and it keeps a path for each walk.
+pub fn paths_between<'s, 'p, A: Allocator + Clone>(
+    alloc: Global,
+    set: &'s SegmentSet,
+    src: IsdAs,
+    dst: IsdAs,
+    policy: &'p Policy<A>,
+    limit: usize,
+) -> Result<Paths<'s, 'p, A>, AllocError>
+    ensures { IfOk result
+        (IsAnswer (question_of set.entry.now src dst policy.entry.now) limit) }
+{
+    let ask = Ask {
+        set,
+        src,
+        dst,
+        policy,
+    };
+    answered(alloc, &ask, limit)
+}
+
+/// The answer to what is asked.
+fn answered<'s, 'p, A: Allocator + Clone>(
+    alloc: Global,
+    ask: &Ask<'s, 'p, A>,
+    limit: usize,
+) -> Result<Paths<'s, 'p, A>, AllocError>
+    ensures { IfOk result (IsAnswer ask.now limit) }
+{
+    let legs = legs_of(alloc, ask)?;
+    let kept = settled(alloc, ask, &legs)?;
+    let found = in_order(alloc, kept, limit)?;
+    Ok(Paths { found })
+}

@@ -1,0 +1,101 @@
+ghost use Rattle.std.specs.Prelude.{◌≡◌, ◌+◌, ◌<◌, List, Some, slice_get, IfOk};
+ghost use Rattle.policy_expr.specs.Options.{WeighedRules};
+ghost use Rattle.combinator.specs.Answer.{AnswersWith};
+ghost use Rattle.combinator.specs.Choice.{IsChosen};
+
+use crate::answer::{Paths, paths_between};
+use isd_as::IsdAs;
+use path_server::SegmentSet;
+use policy_expr::PolicyOption;
+use std::alloc::{AllocError, Allocator, Global};
+use std::marker::Model;
+
+/// The paths under the policy option that is used, and which one that is.
+#[derive(Drop)]
+pub struct Choice<'s, 'p, A: Allocator + Clone> {
+    option: Option<usize>,
+    weight: u32,
+    paths: Paths<'s, 'p, A>,
+}
+
+impl<'s, 'p, A: Allocator + Clone> Model for Choice<'s, 'p, A> {
+    ghost use Rattle.combinator.specs.Choice.{ChosenValue};
+
+    ghost Value = { ChosenValue };
+
+    ghost view = { λ c. record { used = c.option; weight = c.weight; paths = c.paths } };
+}
+
+impl<'s, 'p, A: Allocator + Clone> Choice<'s, 'p, A> {
+    /// The option that is used, by its place in the list, and `None` where none leaves a path.
+    pub fn option(&self) -> Option<usize>
+        ensures { result ≡ self.now.used }
+    {
+        self.option
+    }
+
+    /// The paths that it leaves, none where no option leaves one.
+    pub fn paths(&self) -> &Paths<'s, 'p, A>
+        ensures { result.now ≡ self.now.paths }
+    {
+        &self.paths
+    }
+}
+
+/// The paths of [`paths_between`] under the heaviest of several policy options that leaves one, of
+/// equal weights the first, and which option that is. An option that is no heavier than one that
+/// leaves a path is not asked.
+pub fn paths_with<'s, 'p, A: Allocator + Clone>(
+    alloc: Global,
+    set: &'s SegmentSet,
+    src: IsdAs,
+    dst: IsdAs,
+    options: &'p [PolicyOption<A>],
+    limit: usize,
+) -> Result<Choice<'s, 'p, A>, AllocError>
+    requires { 0 < limit }
+    ensures { IfOk result (λ choice.
+        AnswersWith set.entry.now src dst options.entry.now limit choice.used choice.paths) }
+{
+    let mut choice = Choice {
+        option: None,
+        weight: 0,
+        paths: Paths::none(alloc),
+    };
+    for (place, option) in options.iter().enumerate() {
+        choice = chosen(alloc, set, src, dst, choice, place, option, limit)?;
+    }
+    Ok(choice)
+}
+
+/// The choice after one option more.
+fn chosen<'s, 'p, A: Allocator + Clone>(
+    alloc: Global,
+    set: &'s SegmentSet,
+    src: IsdAs,
+    dst: IsdAs,
+    choice: Choice<'s, 'p, A>,
+    place: usize,
+    option: &'p PolicyOption<A>,
+    limit: usize,
+) -> Result<Choice<'s, 'p, A>, AllocError>
+    requires { 0 < limit }
+    ensures { IfOk result (λ next. let last = choice.entry in (options : List WeighedRules)
+        → slice_get options place ≡ Some option.entry.now
+        → IsChosen set.entry.now src dst options limit place last.used last.weight last.paths
+        → IsChosen set.entry.now src dst options limit (place + 1) next.used next.weight
+        next.paths) }
+{
+    if choice.option.is_some() && option.weight <= choice.weight {
+        return Ok(choice);
+    }
+    let paths = paths_between(alloc, set, src, dst, &option.policy, limit)?;
+    if paths.is_empty() {
+        return Ok(choice);
+    }
+    Ok(Choice {
+        option: Some(place),
+        weight: option.weight,
+        paths,
+    })
+}

@@ -1,0 +1,33 @@
+//! Laws of answers: each is the contract of a function that does nothing.
+
+ghost use Rattle.std.specs.Prelude.{◌≡◌, ◌↔◌, ℕ, List, map, Option};
+ghost use Rattle.path_server.specs.Lookup.{Selection};
+ghost use Rattle.policy_expr.specs.Policy.{Rules};
+ghost use Rattle.policy_expr.specs.Options.{WeighedRules};
+ghost use Rattle.combinator.specs.Candidate.{Question, question_of, PathValue};
+ghost use Rattle.combinator.specs.Order.{shown};
+ghost use Rattle.combinator.specs.Answer.{IsAnswer, AnswersWith};
+ghost use Rattle.combinator.specs.Lasting.{IsSameSet, AreAllLive};
+
+/// Two answers to one question have the same headers and walks, in one order; and under several
+/// options they use one option.
+pub fn answers_agree()
+    ensures paths { (question : Question) (limit : ℕ) (paths others : List PathValue)
+        → IsAnswer question limit paths → IsAnswer question limit others
+        → map shown paths ≡ map shown others }
+    ensures options { (set : Selection) (src dst : ℕ) (options : List WeighedRules) (limit : ℕ)
+        (used also : Option ℕ) (paths others : List PathValue)
+        → AnswersWith set src dst options limit used paths
+        → AnswersWith set src dst options limit also others
+        → (used ≡ also) × (map shown paths ≡ map shown others) }
+{}
+
+/// Where two sets have the same segments, all live at the moments of both, what answers a question
+/// over one of them answers it over the other.
+pub fn answers_outlast_moments()
+    ensures { (set other : Selection) (src dst : ℕ) (rules : Rules) (limit : ℕ)
+        (paths : List PathValue) → IsSameSet set other → AreAllLive set set.moment
+        → AreAllLive other other.moment
+        → IsAnswer (question_of set src dst rules) limit paths
+        ↔ IsAnswer (question_of other src dst rules) limit paths }
+{}

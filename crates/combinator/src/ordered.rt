@@ -1,0 +1,82 @@
+//! The paths of an answer in their order, up to a limit.
+
+ghost use Rattle.std.specs.Prelude.{◌≡◌, ◌<◌, ◌≤◌, ℕ, length, slice_index_or, All, Contains, IfSome, IfNone, IfOk, OnOk};
+ghost use Rattle.std.specs.declared.cmp.Ordering.TheVariants.{Less, Greater};
+ghost use Rattle.combinator.specs.Candidate.{Question, PathValue};
+ghost use Rattle.combinator.specs.Order.{path_cmp};
+ghost use Rattle.combinator.specs.Answer.{IsBest};
+ghost use Rattle.combinator.specs.Placed.{Tied, InOrder, Met};
+
+use crate::found::Found;
+use std::alloc::{AllocError, Allocator, Global};
+use std::cmp::Ordering;
+
+/// The first `limit` of these paths in the order of answers.
+pub(crate) fn in_order<'s, 'p, A: Allocator + Clone>(
+    alloc: Global,
+    kept: Vec<Found<'s, 'p, A>>,
+    limit: usize,
+) -> Result<Vec<Found<'s, 'p, A>>, AllocError>
+    ensures order { IfOk result (λ ordered. InOrder path_cmp ordered.items) }
+    ensures few { IfOk result (λ ordered. length ordered.items ≤ limit) }
+    ensures met { IfOk result (λ ordered. (path : PathValue) → Contains kept.entry.items path
+        → Met path_cmp limit ordered.items path) }
+    ensures best { IfOk result (λ ordered. (question : Question)
+        → All (IsBest question) kept.entry.items → All (IsBest question) ordered.items) }
+{
+    let mut rest = kept;
+    let mut ordered = Vec::new(alloc);
+    while let Some(found) = rest.pop() {
+        take_in(&mut ordered, found, limit)?;
+    }
+    Ok(ordered)
+}
+
+/// Takes a path into those that are in order, of which at most `limit` are kept.
+fn take_in<'s, 'p, A: Allocator + Clone>(
+    ordered: &mut Vec<Found<'s, 'p, A>>,
+    found: Found<'s, 'p, A>,
+    limit: usize,
+) -> Result<(), AllocError>
+    requires order { InOrder path_cmp ordered.old.items }
+    requires few { length ordered.old.items ≤ limit }
+    ensures order { OnOk result (InOrder path_cmp ordered.new.items) }
+    ensures few { OnOk result (length ordered.new.items ≤ limit) }
+    ensures met { OnOk result (Met path_cmp limit ordered.new.items found.entry) }
+    ensures others { OnOk result ((path : PathValue) → Met path_cmp limit ordered.old.items path
+        → Met path_cmp limit ordered.new.items path) }
+    ensures best { OnOk result ((question : Question) → All (IsBest question) ordered.old.items
+        → IsBest question found.entry → All (IsBest question) ordered.new.items) }
+{
+    let Some(place) = place_in(ordered, &found) else {
+        return Ok(());
+    };
+    if place >= limit {
+        return Ok(());
+    }
+    ordered.insert(place, found)?;
+    ordered.truncate(limit);
+    Ok(())
+}
+
+/// The place at which a path belongs, and nothing where one is there already that shows the same.
+fn place_in<'s, 'p, A: Allocator + Clone>(
+    ordered: &[Found<'s, 'p, A>],
+    found: &Found<'s, 'p, A>,
+) -> Option<usize>
+    ensures tied { IfNone result (Tied path_cmp found.now ordered.now) }
+    ensures within { IfSome result (λ place. place ≤ length ordered.now) }
+    ensures before { IfSome result (λ place. (k : ℕ) (d : PathValue) → k < place
+        → path_cmp (slice_index_or ordered.now k d) found.now ≡ Less) }
+    ensures behind { IfSome result (λ place. (d : PathValue) → place < length ordered.now
+        → path_cmp (slice_index_or ordered.now place d) found.now ≡ Greater) }
+{
+    for (place, one) in ordered.iter().enumerate() {
+        match one.compare(found) {
+            Ordering::Less => {}
+            Ordering::Equal => return None,
+            Ordering::Greater => return Some(place),
+        }
+    }
+    Some(ordered.len())
+}

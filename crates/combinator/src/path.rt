@@ -1,0 +1,172 @@
+ghost use Rattle.std.specs.Prelude.{◌≡◌, ◌↔◌, ◌≤◌, [], length, option_map, slice_get, IfOk, IsTrue};
+ghost use Rattle.path_verifier.specs.Walk.{walk_of};
+
+use crate::choice::Choice;
+use crate::found::Found;
+use path_header::Header;
+use path_verifier::{OwnedPiece, lend_all, own_all};
+use policy_expr::WalkHop;
+use std::alloc::{AllocError, Allocator, Global};
+use std::marker::Model;
+
+/// A path that owns what it is made of: its pieces, each with a segment of its own, its header and
+/// its walk. Its type keeps that the verifier's rules accept it, at some second and under some
+/// policy.
+#[derive(Drop)]
+pub struct Path {
+    pieces: Vec<OwnedPiece>,
+    header: Header,
+    walk: Vec<WalkHop>,
+}
+
+impl Model for Path {
+    ghost use Rattle.std.specs.Prelude.{◌≡◌};
+    ghost use Rattle.path_verifier.specs.Walk.{walk_of};
+    ghost use Rattle.combinator.specs.Candidate.{PathValue, path_with, MaySend};
+
+    ghost Value = { PathValue };
+
+    ghost view = { λ p. path_with p.pieces.items p.header };
+
+    ghost invariant = { λ p. MaySend (path_with p.pieces.items p.header)
+        × (p.walk.items ≡ walk_of p.pieces.items) };
+}
+
+impl Path {
+    /// The pieces, in order of travel.
+    pub fn pieces(&self) -> &[OwnedPiece]
+        ensures value { result.now ≡ self.now.pieces }
+        ensures few { length result.now ≤ 3 }
+    {
+        &self.pieces
+    }
+
+    /// The header of a packet that is sent on it.
+    pub fn header(&self) -> &Header
+        ensures { result.now ≡ self.now.header }
+    {
+        &self.header
+    }
+
+    /// The walk: its hops in order of travel, at most 64.
+    pub fn walk(&self) -> &[WalkHop]
+        ensures { result.now ≡ walk_of self.now.pieces }
+    {
+        &self.walk
+    }
+
+    /// The same path once more; or memory runs out.
+    pub fn try_clone(&self, alloc: Global) -> Result<Path, AllocError>
+        ensures { IfOk result (λ own. own ≡ self.now) }
+    {
+        Ok(Path {
+            pieces: own_all(alloc, &lend_all(&self.pieces))?,
+            header: self.header.clone()?,
+            walk: Vec::from_slice(alloc, &self.walk)?,
+        })
+    }
+}
+
+/// The answer to a request: the paths in their order, and which policy option was used.
+#[derive(Drop)]
+pub struct PathList {
+    option: Option<usize>,
+    paths: Vec<Path>,
+}
+
+impl Model for PathList {
+    ghost use Rattle.combinator.specs.Answer.{AnswerValue};
+
+    ghost Value = { AnswerValue };
+
+    ghost view = { λ l. record { used = l.option; paths = l.paths.items } };
+}
+
+impl PathList {
+    /// Copies of what was chosen; or memory runs out.
+    pub(crate) fn of<A: Allocator + Clone>(
+        alloc: Global,
+        choice: &Choice<'_, '_, A>,
+    ) -> Result<PathList, AllocError>
+        ensures used { IfOk result (λ list. list.used ≡ choice.now.used) }
+        ensures paths { IfOk result (λ list. list.paths ≡ choice.now.paths) }
+    {
+        Ok(PathList {
+            option: choice.option(),
+            paths: own_found(alloc, &choice.paths().found)?,
+        })
+    }
+
+    /// How many paths there are.
+    pub fn len(&self) -> usize
+        ensures { result ≡ length self.now.paths }
+    {
+        self.paths.len()
+    }
+
+    /// Whether there is no path.
+    pub fn is_empty(&self) -> bool
+        ensures { IsTrue result ↔ (self.now.paths ≡ []) }
+    {
+        self.paths.is_empty()
+    }
+
+    /// The path at this place, from 0.
+    pub fn get(&self, place: usize) -> Option<&Path>
+        ensures { option_map (λ path. path.now) result ≡ slice_get self.now.paths place }
+    {
+        self.paths.get(place)
+    }
+
+    /// The policy option that was used, by its place in the list of options, and `None` where none
+    /// leaves a path.
+    pub fn option(&self) -> Option<usize>
+        ensures { result ≡ self.now.used }
+    {
+        self.option
+    }
+
+    /// The same answer once more; or memory runs out.
+    pub fn try_clone(&self, alloc: Global) -> Result<PathList, AllocError>
+        ensures { IfOk result (λ own. own ≡ self.now) }
+    {
+        let mut paths = Vec::with_capacity(alloc, self.paths.len())?;
+        for path in &self.paths {
+            paths.push(path.try_clone(alloc)?)?;
+        }
+        Ok(PathList {
+            option: self.option,
+            paths,
+        })
+    }
+}
+
+/// Copies of the paths that were found; or memory runs out.
+fn own_found<A: Allocator + Clone>(
+    alloc: Global,
+    found: &[Found<'_, '_, A>],
+) -> Result<Vec<Path>, AllocError>
+    ensures { IfOk result (λ paths. paths.items ≡ found.now) }
+{
+    let mut paths = Vec::with_capacity(alloc, found.len())?;
+    for one in found {
+        paths.push(own_path(alloc, one)?)?;
+    }
+    Ok(paths)
+}
+
+/// A copy of a path that was found; or memory runs out.
+fn own_path<A: Allocator + Clone>(
+    alloc: Global,
+    found: &Found<'_, '_, A>,
+) -> Result<Path, AllocError>
+    ensures { IfOk result (λ own. own ≡ found.now) }
+{
+    let path = found.path();
+    path.known();
+    Ok(Path {
+        pieces: own_all(alloc, path.pieces())?,
+        header: path.header().clone()?,
+        walk: Vec::from_slice(alloc, path.walk())?,
+    })
+}

@@ -1,0 +1,463 @@
+use bumpalo::Bump;
+use combinator::{CombineError, Path, PathList, combine, paths_with};
+use isd_as::{IfId, IsdAs};
+use path_header::encode;
+use path_segment::{Entry, SegKind, Segment};
+use path_server::{PathStore, SegmentSet};
+use policy_expr::{AclText, OptionText, PolicyOption, PolicyText, WalkHop};
+use std::alloc::Global;
+use std::test::Fail;
+use worked::{at, policy};
+
+/// An entry: its AS, its ways in and out, and the digits of its authenticator.
+type Row = (IsdAs, u16, u16, u64);
+
+/// The segment of these entries, each with the lifetime 63.
+fn segment(
+    alloc: Global,
+    kind: SegKind,
+    timestamp: u32,
+    beta0: u16,
+    rows: &[Row],
+) -> Result<Segment, Fail> {
+    let mut entries = Vec::new(alloc);
+    for (ia, cons_ingress, cons_egress, digits) in rows {
+        let [_, _, a, b, c, d, e, f] = digits.to_be_bytes();
+        entries.push(Entry {
+            ia: *ia,
+            cons_ingress: IfId(*cons_ingress),
+            cons_egress: IfId(*cons_egress),
+            exp_time: 63,
+            mac: [a, b, c, d, e, f],
+        })?;
+    }
+    Ok(Segment::new(kind, timestamp, beta0, entries)?)
+}
+
+/// What a store of copies of these segments, registered one after another, has for two ends.
+fn set_of(
+    alloc: Global,
+    segments: &[Segment],
+    src: IsdAs,
+    dst: IsdAs,
+    now: u32,
+) -> Result<SegmentSet, Fail> {
+    let mut store = PathStore::new(alloc);
+    for segment in segments {
+        if store.register(segment.try_clone(alloc)?, now).is_err() {
+            return Err(Fail::new("the segment is not taken in"));
+        }
+    }
+    Ok(store.segments_for(alloc, src, dst, now)?)
+}
+
+/// Adds a walk as lines of text print it.
+fn add_walk(alloc: Global, told: &mut String, walk: &[WalkHop]) -> Result<(), Fail> {
+    let mut front = "; ";
+    for hop in walk {
+        let hop = format!(in alloc; "{front}{}#{},{}", hop.ia, hop.ingress, hop.egress)?;
+        told.push_str(hop.as_str())?;
+        front = " ";
+    }
+    Ok(())
+}
+
+/// An answer as lines of text print it: how many paths there are, and the walk of each.
+fn told_of(alloc: Global, list: &PathList) -> Result<String, Fail> {
+    let mut told = format!(in alloc; "{}", list.len())?;
+    for place in 0..list.len() {
+        if let Some(path) = list.get(place) {
+            add_walk(alloc, &mut told, path.walk())?;
+        }
+    }
+    Ok(told)
+}
+
+/// The answer of up to 8 paths under one policy, or its refusal, as lines of text print it.
+fn ask(
+    alloc: Global,
+    set: &SegmentSet,
+    src: IsdAs,
+    dst: IsdAs,
+    acl: &[&str],
+    sequence: &str,
+) -> Result<String, Fail> {
+    let policy = policy(alloc, acl, sequence)?;
+    let options = [PolicyOption { policy, weight: 0 }];
+    match combine(alloc, set, src, dst, &options, 8) {
+        Ok(list) => told_of(alloc, &list),
+        Err(CombineError::Memory) => Err(Fail::new("memory ran out")),
+        Err(CombineError::Refused(fault)) => {
+            Ok(format!(in alloc; "no {} {}", fault.code(), fault.name())?)
+        }
+    }
+}
+
+/// The digits of the header of a path.
+fn digits_of(alloc: Global, path: &Path) -> Result<String, Fail> {
+    let mut room = [0; 796];
+    let len = encode(path.header(), &mut room)?;
+    Ok(hex::encode(alloc, &room[..len])?)
+}
+
+/// The digits of these fields of a header.
+fn joined(alloc: Global, fields: &[&str]) -> Result<String, Fail> {
+    let mut digits = String::new(alloc);
+    for field in fields {
+        digits.push_str(field)?;
+    }
+    Ok(digits)
+}
+
+/// The digits of the header of the one path of an answer, of copies of the answer and of the path.
+fn header_of_one(alloc: Global, list: &PathList) -> Result<String, Fail> {
+    let copy = list.try_clone(alloc)?;
+    if copy.len() != 1 {
+        return Err(Fail::new("another number of paths"));
+    }
+    let Some(path) = copy.get(0) else {
+        return Err(Fail::new("no path"));
+    };
+    digits_of(alloc, &path.try_clone(alloc)?)
+}
+
+/// The header of the only path over these segments under no policy.
+fn only_header(
+    alloc: Global,
+    segments: &[Segment],
+    src: IsdAs,
+    dst: IsdAs,
+    now: u32,
+) -> Result<String, Fail> {
+    let set = set_of(alloc, segments, src, dst, now)?;
+    let policy = policy(alloc, &[], "")?;
+    let options = [PolicyOption { policy, weight: 0 }];
+    let list = combine(alloc, &set, src, dst, &options, 8)?;
+    header_of_one(alloc, &list)
+}
+
+/// The worked segment of two ASes, made at a second with a first accumulator.
+fn two_ases(alloc: Global, timestamp: u32, beta0: u16) -> Result<Segment, Fail> {
+    let rows = [
+        (at(1, 0x110), 0, 1, 0xa1a2_a3a4_a5a6),
+        (at(1, 0x111), 2, 0, 0xb1b2_b3b4_b5b6),
+    ];
+    segment(alloc, SegKind::Intra, timestamp, beta0, &rows)
+}
+
+/// Of two segments of one walk the later one stands for it, and of two that expire at one moment
+/// the one with the lesser bytes, in either order of registration.
+#[test]
+fn one_header_for_a_walk(rt: HostRuntime) -> Result<(), Fail> {
+    let alloc = rt.alloc();
+    let (src, dst) = (at(1, 0x111), at(1, 0x110));
+    let rows = [
+        (100, 4660, 100, 4660, "00000064"),
+        (100, 4660, 200, 4660, "000000c8"),
+        (200, 4660, 100, 4660, "000000c8"),
+        (100, 4660, 100, 4661, "00000064"),
+        (100, 4661, 100, 4660, "00000064"),
+    ];
+    for (first, beta, second, other, timestamp) in rows {
+        let segments = vec![in alloc;
+            two_ases(alloc, first, beta)?,
+            two_ases(alloc, second, other)?,
+        ]?;
+        let header = only_header(alloc, &segments, src, dst, 100)?;
+        let fields = [
+            "00002000",
+            "0000b396",
+            timestamp,
+            "003f00020000b1b2b3b4b5b6",
+            "003f00000001a1a2a3a4a5a6",
+        ];
+        assert_eq!(rt; header.as_str(), joined(alloc, &fields)?.as_str());
+    }
+    Ok(())
+}
+
+/// The segment of three ASes in a row, with the keys `a0`, `a1` and `a2`.
+fn three_ases(alloc: Global) -> Result<Segment, Fail> {
+    let rows = [
+        (at(1, 0x110), 0, 1, 0xaef5_22c4_1890),
+        (at(1, 0x111), 1, 2, 0x39b9_48f8_a321),
+        (at(1, 0x112), 1, 0, 0xad8a_52e6_ab61),
+    ];
+    segment(alloc, SegKind::Intra, 1000, 4660, &rows)
+}
+
+/// The way up all three ASes.
+fn way_up() -> &'static str {
+    "1; 1-ff00:0:112#0,1 1-ff00:0:111#2,1 1-ff00:0:110#1,0"
+}
+
+/// Paths that end and begin inside a segment, and paths that a policy denies or asks for.
+#[test]
+fn three_ases_in_a_row(rt: HostRuntime) -> Result<(), Fail> {
+    let alloc = rt.alloc();
+    let segments = vec![in alloc; three_ases(alloc)?]?;
+    let deny = ["- 1-ff00:0:111", "+"];
+    let rows = [
+        (0x112, 0x110, false, "", way_up()),
+        (
+            0x112,
+            0x111,
+            false,
+            "",
+            "1; 1-ff00:0:112#0,1 1-ff00:0:111#2,0",
+        ),
+        (
+            0x111,
+            0x112,
+            false,
+            "",
+            "1; 1-ff00:0:111#0,2 1-ff00:0:112#1,0",
+        ),
+        (0x111, 0x111, false, "", "no 85 SameAs"),
+        (0x112, 0x110, true, "", "0"),
+        (0x112, 0x110, false, "0* 1-ff00:0:110", way_up()),
+    ];
+    for (src, dst, denies, sequence, told) in rows {
+        let (src, dst) = (at(1, src), at(1, dst));
+        let acl: &[&str] = if denies { &deny } else { &[] };
+        let set = set_of(alloc, &segments, src, dst, 1000)?;
+        let answer = ask(alloc, &set, src, dst, acl, sequence)?;
+        assert_eq!(rt; answer.as_str(), told);
+    }
+    Ok(())
+}
+
+/// A segment in each of two ISDs, and one between their core ASes, with the key `k` everywhere.
+fn two_isds(alloc: Global) -> Result<Vec<Segment>, Fail> {
+    let near = [
+        (at(1, 0x110), 0, 1, 0x2e9d_e5c5_b109),
+        (at(1, 0x111), 1, 2, 0x8056_246d_36ce),
+        (at(1, 0x112), 1, 0, 0x742b_ee8b_4703),
+    ];
+    let over = [
+        (at(1, 0x110), 0, 2, 0x191f_1366_1794),
+        (at(2, 0x210), 1, 0, 0x4cae_81f6_9029),
+    ];
+    let far = [
+        (at(2, 0x210), 0, 2, 0xeade_7541_0d70),
+        (at(2, 0x211), 1, 2, 0xd3b7_021b_bb48),
+        (at(2, 0x212), 1, 0, 0xeb37_7de2_cb1b),
+    ];
+    Ok(vec![in alloc;
+        segment(alloc, SegKind::Intra, 1000, 1, &near)?,
+        segment(alloc, SegKind::Core, 1000, 2, &over)?,
+        segment(alloc, SegKind::Intra, 1000, 3, &far)?,
+    ]?)
+}
+
+/// The answer over these segments, under no policy, between ASes that are given by their texts.
+fn ask_plainly(alloc: Global, segments: &[Segment], src: &str, dst: &str) -> Result<String, Fail> {
+    let (src, dst) = (IsdAs::parse(src)?, IsdAs::parse(dst)?);
+    let set = set_of(alloc, segments, src, dst, 1000)?;
+    ask(alloc, &set, src, dst, &[], "")
+}
+
+/// Paths of one core segment either way, beside an up and a down segment, and between both.
+#[test]
+fn two_core_ases(rt: HostRuntime) -> Result<(), Fail> {
+    let alloc = rt.alloc();
+    let segments = two_isds(alloc)?;
+    let up = "1-ff00:0:112#0,1 1-ff00:0:111#2,1 1-ff00:0:110#1,2 ";
+    let down = "2-ff00:0:210#1,2 2-ff00:0:211#1,2 2-ff00:0:212#1,0";
+    let (near, far) = ("1-ff00:0:110", "2-ff00:0:210");
+    let rows = [
+        ("1-ff00:0:112", "2-ff00:0:212", ["1; ", up, down]),
+        (near, far, ["1; ", "1-ff00:0:110#0,2 ", "2-ff00:0:210#1,0"]),
+        (far, near, ["1; ", "2-ff00:0:210#0,1 ", "1-ff00:0:110#2,0"]),
+        ("1-ff00:0:112", far, ["1; ", up, "2-ff00:0:210#1,0"]),
+        (near, "2-ff00:0:212", ["1; ", "1-ff00:0:110#0,2 ", down]),
+        ("1-ff00:0:112", "3-1", ["0", "", ""]),
+    ];
+    for (src, dst, told) in rows {
+        let answer = ask_plainly(alloc, &segments, src, dst)?;
+        assert_eq!(rt; answer.as_str(), joined(alloc, &told)?.as_str());
+    }
+    Ok(())
+}
+
+/// The header of a path of three pieces has their info fields, and their hop fields in order of
+/// travel.
+#[test]
+fn header_of_three_pieces(rt: HostRuntime) -> Result<(), Fail> {
+    let alloc = rt.alloc();
+    let segments = two_isds(alloc)?;
+    let header = only_header(alloc, &segments, at(1, 0x112), at(2, 0x212), 1000)?;
+    let fields = [
+        "00003083",
+        "0000aeca000003e8",
+        "01000002000003e8",
+        "01000003000003e8",
+        "003f00010000742bee8b4703",
+        "003f000100028056246d36ce",
+        "003f000000012e9de5c5b109",
+        "003f00000002191f13661794",
+        "003f000100004cae81f69029",
+        "003f00000002eade75410d70",
+        "003f00010002d3b7021bbb48",
+        "003f00010000eb377de2cb1b",
+    ];
+    assert_eq!(rt; header.as_str(), joined(alloc, &fields)?.as_str());
+    Ok(())
+}
+
+/// Two children of one AS: the path between them turns there, and not in the core AS, where its
+/// walk would name that AS twice.
+#[test]
+fn two_children(rt: HostRuntime) -> Result<(), Fail> {
+    let alloc = rt.alloc();
+    let (core, middle) = (at(1, 0x110), at(1, 0x111));
+    let one = [
+        (core, 0, 1, 0x332c_9785_f7e4),
+        (middle, 1, 2, 0x46d1_cd6f_4cfc),
+        (at(1, 0x112), 1, 0, 0xe1c6_339d_c915),
+    ];
+    let other = [
+        (core, 0, 1, 0x332c_9785_f7e4),
+        (middle, 1, 3, 0xb3a2_9c66_42fc),
+        (at(1, 0x113), 1, 0, 0x85de_5807_e161),
+    ];
+    let segments = vec![in alloc;
+        segment(alloc, SegKind::Intra, 1000, 7, &one)?,
+        segment(alloc, SegKind::Intra, 1000, 7, &other)?,
+    ]?;
+    let answer = ask_plainly(alloc, &segments, "1-ff00:0:112", "1-ff00:0:113")?;
+    let told = "1; 1-ff00:0:112#0,1 1-ff00:0:111#2,3 1-ff00:0:113#1,0";
+    assert_eq!(rt; answer.as_str(), told);
+    let header = only_header(alloc, &segments, at(1, 0x112), at(1, 0x113), 1000)?;
+    let fields = [
+        "00002080",
+        "000075fa000003e8",
+        "0100332b000003e8",
+        "003f00010000e1c6339dc915",
+        "003f0001000246d1cd6f4cfc",
+        "003f00010003b3a29c6642fc",
+        "003f0001000085de5807e161",
+    ];
+    assert_eq!(rt; header.as_str(), joined(alloc, &fields)?.as_str());
+    Ok(())
+}
+
+/// Of the three ASes in a row a segment over each of two links between the first two, whose first
+/// accumulators are these or those.
+fn two_links(alloc: Global, turned: bool) -> Result<Vec<Segment>, Fail> {
+    let (core, middle, leaf) = (at(1, 0x110), at(1, 0x111), at(1, 0x112));
+    let (beta0, other) = if turned { (4660, 4660) } else { (1, 2) };
+    let (first, second) = if turned {
+        (
+            [0xaef5_22c4_1890, 0x39b9_48f8_a321, 0xad8a_52e6_ab61],
+            [0xb718_628b_e670, 0xfd45_748a_1a33, 0x608a_a57a_ea0a],
+        )
+    } else {
+        (
+            [0xae5c_fed2_47da, 0xe2c8_cd82_12a6, 0xdae2_cb3f_f025],
+            [0xc769_a349_c588, 0x7855_a0f8_ada6, 0xa3be_4800_bfea],
+        )
+    };
+    let [a, b, c] = first;
+    let first = [(core, 0, 1, a), (middle, 1, 2, b), (leaf, 1, 0, c)];
+    let [a, b, c] = second;
+    let second = [(core, 0, 2, a), (middle, 3, 2, b), (leaf, 1, 0, c)];
+    Ok(vec![in alloc;
+        segment(alloc, SegKind::Intra, 1000, beta0, &first)?,
+        segment(alloc, SegKind::Intra, 1000, other, &second)?,
+    ]?)
+}
+
+/// Paths over two links stand in the order of their headers' bytes, whatever their walks and in
+/// whichever order their segments came.
+#[test]
+fn order_of_two_links(rt: HostRuntime) -> Result<(), Fail> {
+    let alloc = rt.alloc();
+    let one = "1-ff00:0:112#0,1 1-ff00:0:111#2,1 1-ff00:0:110#1,0";
+    let other = "1-ff00:0:112#0,1 1-ff00:0:111#2,3 1-ff00:0:110#2,0";
+    for (turned, first, second) in [(false, one, other), (true, other, one)] {
+        let mut segments = two_links(alloc, turned)?;
+        let told = joined(alloc, &["2; ", first, "; ", second])?;
+        for _ in 0..2 {
+            let answer = ask_plainly(alloc, &segments, "1-ff00:0:112", "1-ff00:0:110")?;
+            assert_eq!(rt; answer.as_str(), told.as_str());
+            segments.reverse();
+        }
+    }
+    Ok(())
+}
+
+/// A limit of 1 leaves the path that stands first.
+#[test]
+fn first_of_two_links(rt: HostRuntime) -> Result<(), Fail> {
+    let alloc = rt.alloc();
+    let (src, dst) = (at(1, 0x112), at(1, 0x110));
+    let rows = [
+        (
+            false,
+            "1; 1-ff00:0:112#0,1 1-ff00:0:111#2,1 1-ff00:0:110#1,0",
+        ),
+        (
+            true,
+            "1; 1-ff00:0:112#0,1 1-ff00:0:111#2,3 1-ff00:0:110#2,0",
+        ),
+    ];
+    for (turned, told) in rows {
+        let segments = two_links(alloc, turned)?;
+        let set = set_of(alloc, &segments, src, dst, 1000)?;
+        let policy = policy(alloc, &[], "")?;
+        let options = [PolicyOption { policy, weight: 0 }];
+        let list = combine(alloc, &set, src, dst, &options, 1)?;
+        assert_eq!(rt; told_of(alloc, &list)?.as_str(), told);
+    }
+    Ok(())
+}
+
+/// A heavier option that denies an AS of every path gives way to a lighter one; and an answer stays
+/// when the arena of the options is gone.
+#[test]
+fn lighter_option(rt: HostRuntime) -> Result<(), Fail> {
+    let alloc = rt.alloc();
+    let (src, dst) = (at(1, 0x112), at(1, 0x110));
+    let segments = vec![in alloc; three_ases(alloc)?]?;
+    let set = set_of(alloc, &segments, src, dst, 1000)?;
+    let mut acl = AclText::new(alloc);
+    acl.push(alloc, "- 1-ff00:0:111")?;
+    acl.push(alloc, "+")?;
+    let texts = [option_of(None, 1), option_of(Some(&acl), 5)];
+    let list = combine_in_arena(alloc, &set, src, dst, &texts)?;
+    assert_eq!(rt; told_of(alloc, &list)?.as_str(), way_up());
+    assert!(rt; list.option() == Some(0));
+    Ok(())
+}
+
+/// The option of a list alone, with this weight.
+fn option_of<'a>(acl: Option<&'a AclText>, weight: u32) -> OptionText<'a> {
+    OptionText {
+        text: PolicyText {
+            acl,
+            sequence: None,
+        },
+        weight,
+    }
+}
+
+/// The answer under options that are read in an arena and dropped with it; the same as that which
+/// lends its segments.
+fn combine_in_arena(
+    alloc: Global,
+    set: &SegmentSet,
+    src: IsdAs,
+    dst: IsdAs,
+    texts: &[OptionText<'_>],
+) -> Result<PathList, Fail> {
+    let arena = Bump::new(alloc);
+    let options = PolicyOption::parse_all(&arena, texts)?;
+    let list = combine(alloc, set, src, dst, &options, 4)?;
+    let choice = paths_with(alloc, set, src, dst, &options, 4)?;
+    if choice.option() == list.option() && choice.paths().len() == list.len() {
+        Ok(list)
+    } else {
+        Err(Fail::new("the lent answer is another one"))
+    }
+}

@@ -1,0 +1,78 @@
+use bumpalo::Bump;
+use policy_expr::{OptionError, OptionFault, OptionText, PolicyFault, PolicyOption, PolicyText};
+use std::alloc::{AllocError, Allocator, Global};
+use std::process::Abort;
+use std::test::Fail;
+
+/// The texts of options of these sequences, each as heavy as its place says.
+fn texts_of<'a>(alloc: Global, sequences: &[&'a str]) -> Result<Vec<OptionText<'a>>, AllocError> {
+    let mut texts = Vec::new(alloc);
+    let mut weight = 0;
+    for sequence in sequences {
+        texts.push(OptionText {
+            text: PolicyText {
+                acl: None,
+                sequence: Some(*sequence),
+            },
+            weight,
+        })?;
+        weight = if weight < 100 { weight + 1 } else { weight };
+    }
+    Ok(texts)
+}
+
+/// What a refusal of options is reported by, 1 for want of memory, and their number where there is
+/// none.
+fn told_of<A: Allocator + Clone>(
+    answer: Result<Vec<PolicyOption<A>, A>, OptionError>,
+) -> (u16, usize) {
+    match answer {
+        Ok(options) => (0, options.len()),
+        Err(OptionError::Memory) => (1, 0),
+        Err(OptionError::Refused(fault)) => (fault.code(), 0),
+    }
+}
+
+/// Options are counted before any is read, and the first that can't be read is the refusal, under
+/// either allocator.
+#[test]
+fn options_are_counted_and_read(rt: HostRuntime) -> Result<(), Fail> {
+    let alloc = rt.alloc();
+    let rows: [(&[&str], (u16, usize)); 6] = [
+        (&[], (67, 0)),
+        (&["0*"], (0, 1)),
+        (&["0*", "", "1 | 2"], (0, 3)),
+        (&["0*", "1 |", "("], (60, 0)),
+        (&["0*", "1)", "1 |"], (62, 0)),
+        (&["1 |"; 17], (67, 0)),
+    ];
+    for (sequences, told) in rows {
+        let texts = texts_of(alloc, sequences)?;
+        assert!(rt; told_of(PolicyOption::parse_all(alloc, &texts)) == told);
+        let bump = Bump::new(alloc);
+        assert!(rt; told_of(PolicyOption::parse_all(&bump, &texts)) == told);
+    }
+    Ok(())
+}
+
+/// The sentence of each refusal of options, and its name.
+#[test]
+fn refusals_of_options(rt: HostRuntime) -> Result<(), Fail> {
+    let rows = [
+        (
+            OptionFault::OptionCount,
+            "OptionCount",
+            "a request has 1 to 16 policy options",
+        ),
+        (
+            OptionFault::Unread(PolicyFault::BadPredicate),
+            "BadPredicate",
+            "a hop predicate can't be read",
+        ),
+    ];
+    for (fault, name, sentence) in rows {
+        let told = format!(in rt.alloc(); "{fault}")?;
+        assert!(rt; told.as_str() == sentence && fault.name() == name);
+    }
+    Ok(())
+}

@@ -1,0 +1,10 @@
+//! Tests of the command `scionet step`.
+//!
+//! Outside vectors, worked rows and sentences: what no clause says. Tests stand in crates of their
+//! own, over public calls alone, since a crate with tests is proved twice.
+#![tactic(auto)]
+
+#[cfg(test)]
+mod step;
+#[cfg(test)]
+mod step_program;

@@ -1,0 +1,253 @@
+use hex::encode;
+use hop_mac::hop_mac;
+use std::alloc::{AllocError, Global};
+use std::test::Fail;
+use step_line::{StepFault, step_line};
+
+/// The words of a router of 1-ff00:0:111 and a packet of a host, but for the second and the
+/// interface.
+const FRONT: [&str; 7] = [
+    "step",
+    "--ia",
+    "1-ff00:0:111",
+    "--router",
+    "0",
+    "--key",
+    "6b",
+];
+
+/// A packet of two hops from 1-ff00:0:111 to 1-ff00:0:110, up to its first hop's authenticator.
+const UP: &str = "0001ff00000001100001ff0000000111000020000000b39600000064003f00020000";
+
+/// The same front with the second hop as the current one.
+const MOVED: &str = "0001ff00000001100001ff0000000111010020000000b39600000064003f00020000";
+
+/// The hop behind that authenticator.
+const BEHIND: &str = "003f00000001a1a2a3a4a5a6";
+
+/// The same packet with a wrong authenticator.
+const WRONG: &str =
+    "0001ff00000001100001ff0000000111000020000000b39600000064003f00020000b1b2b3b4b5b6003f00000001a1a2a3a4a5a6";
+
+/// The same packet cut off by a byte.
+const CUT: &str =
+    "0001ff00000001100001ff0000000111000020000000b39600000064003f00020000b1b2b3b4b5b6003f00000001a1a2a3a4a5";
+
+/// The words of a turn at this second.
+fn words<'a>(now: &'a str, from: &'a str, interface: &'a str) -> [&'a str; 12] {
+    let [step, ia, address, router, number, key, hex] = FRONT;
+    [
+        step, ia, address, router, number, key, hex, "--now", now, "--from", from, interface,
+    ]
+}
+
+/// Each form of a refusal, and what a packet's text may look like.
+#[test]
+fn refusals(rt: HostRuntime) -> Result<(), Fail> {
+    let late = words("21701", "host", "2,parent,0,up");
+    let upper = format!(in rt.alloc(); " \t\r\n{UP}B1B2B3B4B5B6{BEHIND}\r\n")?;
+    let rows = [
+        (WRONG, "refused 93 Expired"),
+        (upper.as_str(), "refused 93 Expired"),
+        (CUT, "refused 90 BadHeader 20 Short"),
+        ("", "refused 90 BadHeader 20 Short"),
+        (" \n", "refused 90 BadHeader 20 Short"),
+    ];
+    for (packet, line) in rows {
+        assert_eq!(rt; step_line(rt.alloc(), &late, packet)?.as_str(), line);
+    }
+    Ok(())
+}
+
+/// The packet with this front, up to the first hop's authenticator, and that authenticator.
+fn up_packet(alloc: Global, front: &str, mac: [u8; 6]) -> Result<String, AllocError> {
+    let digits = encode(alloc, mac.as_slice())?;
+    format!(in alloc; "{front}{}{BEHIND}", digits.as_str())
+}
+
+/// A packet sent on over a link and inside the AS, and two with a wrong authenticator.
+#[test]
+fn sent_on(rt: HostRuntime) -> Result<(), Fail> {
+    let alloc = rt.alloc();
+    let mac = hop_mac(b"k", 0xb396, 100, 63, 2, 0);
+    let packet = up_packet(alloc, UP, mac)?;
+    let own = words("100", "host", "2,parent,0,up");
+    let line = format!(in alloc; "link 2 {}", up_packet(alloc, MOVED, mac)?.as_str())?;
+    assert_eq!(rt;
+        step_line(alloc, &own, packet.as_str())?.as_str(),
+        line.as_str()
+    );
+    let mut changed = mac;
+    changed[5] ^= 1;
+    for wrong in [up_packet(alloc, UP, changed)?.as_str(), WRONG] {
+        assert_eq!(rt;
+            step_line(alloc, &own, wrong)?.as_str(),
+            "refused 94 BadMac"
+        );
+    }
+    let other = words("100", "host", "2,parent,63,up");
+    let line = format!(in alloc; "router 63 {}", packet.as_str())?;
+    assert_eq!(rt;
+        step_line(alloc, &other, packet.as_str())?.as_str(),
+        line.as_str()
+    );
+    let down = words("100", "host", "2,parent,0,down");
+    assert_eq!(rt;
+        step_line(alloc, &down, packet.as_str())?.as_str(),
+        "refused 100 LinkDown"
+    );
+    Ok(())
+}
+
+/// A packet at its last hop is delivered.
+#[test]
+fn delivered(rt: HostRuntime) -> Result<(), Fail> {
+    let alloc = rt.alloc();
+    let mac = encode(alloc, hop_mac(b"k", 0xb396, 100, 63, 0, 1).as_slice())?;
+    let front = "0001ff00000001100001ff0000000111010020000000";
+    let middle = "00000064003f00020000b1b2b3b4b5b6003f00000001";
+    let packet = format!(in alloc; "{front}b396{middle}{}", mac.as_str())?;
+    let words = [
+        "step",
+        "--ia=1-ff00:0:110",
+        "--router=0",
+        "--key=6b",
+        "--now=100",
+        "--from=inside",
+    ];
+    let line = format!(in alloc; "deliver {}", packet.as_str())?;
+    assert_eq!(rt;
+        step_line(alloc, &words, packet.as_str())?.as_str(),
+        line.as_str()
+    );
+    Ok(())
+}
+
+/// Text that is no packet.
+#[test]
+fn bad_packets(rt: HostRuntime) -> Result<(), Fail> {
+    let right = words("100", "host", "2,parent,0,up");
+    for packet in ["0", "0g", "00 00", "\u{c}00", "0x00", "é"] {
+        let answer = step_line(rt.alloc(), &right, packet);
+        assert!(rt; matches!(answer, Err(StepFault::PacketText)));
+    }
+    Ok(())
+}
+
+/// A key of 65 bytes, one too many.
+fn long_key() -> &'static str {
+    "6b6b6b6b6b6b6b6b6b6b6b6b6b6b6b6b6b6b6b6b6b6b6b6b6b6b6b6b6b6b6b6b6b6b6b6b6b6b6b6b6b6b6b6b6b6b6b6b6b6b6b6b6b6b6b6b6b6b6b6b6b6b6b6b6b"
+}
+
+/// Whether the words are refused.
+fn is_refused(rt: &HostRuntime, words: &[&str]) -> bool {
+    matches!(step_line(rt.alloc(), words, "zz"), Err(StepFault::Usage(_)))
+}
+
+/// Each way in which a word can be wrong; the words come before the packet.
+#[test]
+fn bad_words(rt: HostRuntime) -> Result<(), Fail> {
+    for now in ["4294967296", "-1", "x", "", "+5", "1.0"] {
+        assert!(rt; is_refused(&rt, &words(now, "host", "2,parent,0,up")));
+    }
+    for from in ["0", "65536", "hosts", "HOST", "", "+1"] {
+        assert!(rt; is_refused(&rt, &words("1", from, "2,parent,0,up")));
+    }
+    for interface in [
+        "0,parent,0,up",
+        "65536,parent,0,up",
+        "2,peer,0,up",
+        "2,parent,64,up",
+        "2,parent,0,on",
+        "2,parent,0",
+        "2,parent,0,up,",
+        "",
+        "+2,parent,0,up",
+        "2,parent,+0,up",
+        " 2,parent,0,up",
+    ] {
+        assert!(rt; is_refused(&rt, &words("1", "host", interface)));
+    }
+    let now = "--now=1";
+    let from = "--from=host";
+    for (ia, router, key) in [
+        ("1-0", "0", "6b"),
+        ("ff00", "0", "6b"),
+        ("1-ff00:0:111", "64", "6b"),
+        ("1-ff00:0:111", "+1", "6b"),
+        ("1-ff00:0:111", "x", "6b"),
+        ("1-ff00:0:111", "0", "6"),
+        ("1-ff00:0:111", "0", "zz"),
+        ("1-ff00:0:111", "0", ""),
+        ("1-ff00:0:111", "0", long_key()),
+    ] {
+        let given = [
+            "step", "--ia", ia, "--router", router, "--key", key, now, from,
+        ];
+        assert!(rt; is_refused(&rt, &given));
+    }
+    let [step, ia, address, router, number, key, hex] = FRONT;
+    let core = "7,core,0,up";
+    let lists: [&[&str]; 12] = [
+        &[step, ia, address, router, number, key, hex, now],
+        &[step, ia, address, router, number, key, hex, now, now, from],
+        &[
+            step, ia, address, router, number, key, hex, now, from, core, core,
+        ],
+        &[
+            step, ia, address, router, number, key, hex, now, from, "--up",
+        ],
+        &[step, ia, address, router, number, key, hex, now, "--from"],
+        &[step, "--help"],
+        &["--help"],
+        &["help"],
+        &["run"],
+        &[""],
+        &["--"],
+        &[],
+    ];
+    for words in lists {
+        assert!(rt; is_refused(&rt, words));
+    }
+    Ok(())
+}
+
+/// A key before the one in use: under which the authenticator is right, another one, and one that
+/// can't be read.
+#[test]
+fn previous_key(rt: HostRuntime) -> Result<(), Fail> {
+    let alloc = rt.alloc();
+    let mac = encode(alloc, hop_mac(b"k", 0xb396, 100, 63, 2, 0))?;
+    let packet = format!(in alloc; "{UP}{mac}{BEHIND}")?;
+    let moved = format!(in alloc; "link 2 {MOVED}{mac}{BEHIND}")?;
+    let rows = [
+        ("6b", Some(moved.as_str())),
+        ("6c", Some("refused 94 BadMac")),
+        ("6", None),
+    ];
+    for (previous, line) in rows {
+        let [step, ia, address, router, number, key, _] = FRONT;
+        let words = [
+            step,
+            ia,
+            address,
+            router,
+            number,
+            key,
+            "6a",
+            "--previous",
+            previous,
+            "--now",
+            "100",
+            "--from",
+            "host",
+            "2,parent,0,up",
+        ];
+        let printed = step_line(alloc, &words, &packet);
+        match line {
+            Some(line) => assert_eq!(rt; printed?.as_str(), line),
+            None => assert!(rt; matches!(&printed, Err(StepFault::Usage(_)))),
+        }
+    }
+    Ok(())
+}

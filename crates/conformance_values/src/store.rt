@@ -1,0 +1,195 @@
+use isd_as::{IfId, IsdAs};
+use path_segment::{Entry, SegKind, Segment};
+use path_server::{PathStore, StoreFault};
+use refusal::OrMemory;
+use std::alloc::{AllocError, Global};
+use std::test::Fail;
+
+/// An AS of ISD 1: `110` stands for `1-ff00:0:110`.
+fn ia(number: u64) -> IsdAs {
+    IsdAs::from_number(0x0001_ff00_0000_0000 | number)
+}
+
+fn entry(ia: IsdAs, cons_ingress: u16, cons_egress: u16, mac: [u8; 6]) -> Entry {
+    Entry {
+        ia,
+        cons_ingress: IfId(cons_ingress),
+        cons_egress: IfId(cons_egress),
+        exp_time: 63,
+        mac,
+    }
+}
+
+/// A segment of two ASes, made at the second 100.
+fn segment(
+    alloc: Global,
+    kind: SegKind,
+    beta0: u16,
+    first: IsdAs,
+    last: IsdAs,
+) -> Result<Segment, Fail> {
+    let entries = vec![in alloc;
+        entry(first, 0, 1, [0xa1, 0xa2, 0xa3, 0xa4, 0xa5, 0xa6]),
+        entry(last, 2, 0, [0xb1, 0xb2, 0xb3, 0xb4, 0xb5, 0xb6]),
+    ]?;
+    Ok(Segment::new(kind, 100, beta0, entries)?)
+}
+
+/// The worked segment, from 1-ff00:0:110 down to 1-ff00:0:111, with another first accumulator.
+fn worked(alloc: Global, beta0: u16) -> Result<Segment, Fail> {
+    segment(alloc, SegKind::Intra, beta0, ia(0x110), ia(0x111))
+}
+
+/// What registering a copy of a segment answers: 1 where it is new, 0 where it is known, or the
+/// code of the refusal; 2 where memory ran out, and 3 where another segment is handed back.
+fn answer_to(
+    alloc: Global,
+    store: &mut PathStore,
+    segment: &Segment,
+    now: u32,
+) -> Result<u16, AllocError> {
+    Ok(match store.register(segment.try_clone(alloc)?, now) {
+        Ok(is_new) => u16::from(is_new),
+        Err((back, _)) if !back.is_same(segment) => 3,
+        Err((_, OrMemory::Memory)) => 2,
+        Err((_, OrMemory::Refused(fault))) => fault.code(),
+    })
+}
+
+/// Whether these are the same segments in the same order.
+fn are_same(segments: &[Segment], others: &[&Segment]) -> bool {
+    segments.len() == others.len()
+        && segments
+            .iter()
+            .zip(others)
+            .all(|(segment, other)| segment.is_same(other))
+}
+
+/// The worked segment is taken in once, found from its last AS, and swept when it has expired.
+#[test]
+fn one_segment(rt: HostRuntime) -> Result<(), Fail> {
+    let alloc = rt.alloc();
+    let s = worked(alloc, 4660)?;
+    let mut store = PathStore::new(alloc);
+    assert!(rt; store.is_empty());
+    assert_eq!(rt; answer_to(alloc, &mut store, &s, 100)?, 1);
+    assert_eq!(rt; answer_to(alloc, &mut store, &s, 100)?, 0);
+    assert_eq!(rt; answer_to(alloc, &mut store, &s, 21_701)?, 51);
+    assert!(rt; store.len() == 1 && are_same(store.segments(), &[&s]));
+
+    let set = store.segments_for(alloc, ia(0x111), ia(0x110), 100)?;
+    assert!(rt; are_same(set.ups(), &[&s]) && set.now() == 100);
+    assert!(rt; set.cores().is_empty() && set.downs().is_empty());
+    let copy = set.try_clone(alloc)?;
+    assert!(rt; are_same(copy.ups(), &[&s]) && copy.now() == 100);
+    let back = store.segments_for(alloc, ia(0x110), ia(0x111), 21_700)?;
+    assert!(rt; back.ups().is_empty() && are_same(back.downs(), &[&s]));
+    let late = store.segments_for(alloc, ia(0x111), ia(0x110), 21_701)?;
+    assert!(rt; late.ups().is_empty() && late.downs().is_empty());
+
+    assert_eq!(rt; store.sweep(21_700), 0);
+    assert_eq!(rt; store.sweep(21_701), 1);
+    assert_eq!(rt; store.sweep(21_701), 0);
+    assert!(rt; store.is_empty());
+    Ok(())
+}
+
+/// A store of the worked segment with the first accumulators 1 to `count`.
+fn store_of(alloc: Global, count: u16) -> Result<PathStore, Fail> {
+    let mut store = PathStore::new(alloc);
+    for beta0 in 1..=count {
+        answer_to(alloc, &mut store, &worked(alloc, beta0)?, 100)?;
+    }
+    Ok(store)
+}
+
+/// Of one kind and ends 32 segments are taken in, and of others still more.
+#[test]
+fn thirty_two_segments(rt: HostRuntime) -> Result<(), Fail> {
+    let alloc = rt.alloc();
+    let mut store = store_of(alloc, 32)?;
+    assert_eq!(rt; store.len(), 32);
+    let rows = [
+        (SegKind::Intra, 33, 0x110, 0x111, 100, 50),
+        (SegKind::Intra, 32, 0x110, 0x111, 100, 0),
+        (SegKind::Intra, 33, 0x110, 0x111, 21_701, 51),
+        (SegKind::Core, 33, 0x110, 0x111, 100, 1),
+        (SegKind::Intra, 33, 0x110, 0x112, 100, 1),
+        (SegKind::Intra, 33, 0x112, 0x111, 100, 1),
+    ];
+    for (kind, beta0, first, last, now, answer) in rows {
+        let one = segment(alloc, kind, beta0, ia(first), ia(last))?;
+        assert_eq!(rt; answer_to(alloc, &mut store, &one, now)?, answer);
+    }
+    Ok(())
+}
+
+/// Core segments both ways round, one aside, and a segment down from each end.
+fn core_store(alloc: Global) -> Result<PathStore, Fail> {
+    let rows = [
+        (SegKind::Core, 0x110, 0x120),
+        (SegKind::Intra, 0x110, 0x111),
+        (SegKind::Core, 0x110, 0x130),
+        (SegKind::Core, 0x120, 0x110),
+        (SegKind::Intra, 0x120, 0x121),
+    ];
+    let mut store = PathStore::new(alloc);
+    for (kind, first, last) in rows {
+        let one = segment(alloc, kind, 0, ia(first), ia(last))?;
+        answer_to(alloc, &mut store, &one, 100)?;
+    }
+    Ok(store)
+}
+
+/// Core segments are found from either end, between the ASes themselves and between those in which
+/// their up and down segments begin.
+#[test]
+fn core_segments(rt: HostRuntime) -> Result<(), Fail> {
+    let alloc = rt.alloc();
+    let store = core_store(alloc)?;
+    assert_eq!(rt; store.len(), 5);
+    let (to, fro) = (&store.segments()[0], &store.segments()[3]);
+    let ends = [
+        (0x111, 0x121, 1, 1),
+        (0x111, 0x120, 1, 0),
+        (0x110, 0x121, 0, 1),
+        (0x110, 0x120, 0, 0),
+        (0x120, 0x110, 0, 0),
+    ];
+    for (src, dst, ups, downs) in ends {
+        let set = store.segments_for(alloc, ia(src), ia(dst), 100)?;
+        assert!(rt; are_same(set.cores(), &[to, fro]));
+        assert!(rt; set.ups().len() == ups && set.downs().len() == downs);
+    }
+    let none = store.segments_for(alloc, ia(0x111), ia(0x140), 100)?;
+    assert!(rt; none.cores().is_empty() && none.downs().is_empty());
+    Ok(())
+}
+
+/// Each refusal has its number, its name and its sentence.
+#[test]
+fn refusals(rt: HostRuntime) -> Result<(), Fail> {
+    let alloc = rt.alloc();
+    let rows = [
+        (
+            StoreFault::Full,
+            50,
+            "Full",
+            "the store has 32 segments of this kind between these ASes",
+        ),
+        (
+            StoreFault::Expired,
+            51,
+            "Expired",
+            "the segment has expired",
+        ),
+    ];
+    for (fault, code, name, text) in rows {
+        assert!(rt; fault.code() == code && fault.name() == name);
+        assert_eq!(rt;
+            format!(in alloc; "{}", OrMemory::Refused(fault))?.as_str(),
+            text
+        );
+    }
+    Ok(())
+}

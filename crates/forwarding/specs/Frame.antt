@@ -1,0 +1,23 @@
+-- A packet of these parts as bytes (draft-dekater-scion-dataplane).
+use Rattle.std.specs.Prelude.{ℕ, ◌^◌, ◌<◌, List, ◌++◌}
+use Rattle.std.specs.Int.{w64, to_be_bytes}
+use Rattle.path_header.specs.Value.{HeaderValue, IsHeader}
+use Rattle.path_header.specs.Spelling.{Fits, spelling}
+use Rattle.path_verifier.specs.Piece.{PieceValue}
+use Rattle.path_verifier.specs.Header.{header_of}
+
+-- the addresses in front of a packet
+abbrev pub addresses : ℕ → ℕ → List ℕ
+addresses source destination = to_be_bytes w64 destination ++ to_be_bytes w64 source
+
+-- the bytes of a packet: both addresses, its path header, its payload
+unfoldable pub framed : ℕ → ℕ → HeaderValue → List ℕ → List ℕ
+framed source destination header payload =
+    addresses source destination ++ (spelling header ++ payload)
+
+-- both addresses, and the numbers in the header of these pieces, have a place for their bits
+pub record HasFrame (source destination : ℕ) (pieces : List PieceValue) : Type 0 where
+  pub source_fits : source < 2 ^ 64
+  pub destination_fits : destination < 2 ^ 64
+  pub is_header : IsHeader (header_of pieces)
+  pub fits : Fits (header_of pieces)

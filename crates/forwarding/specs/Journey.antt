@@ -1,0 +1,62 @@
+-- What of its walk lies before a packet, and how many turns that takes.
+use Rattle.std.specs.Prelude.{ℕ, ◌+◌, ◌==◌, Bool, false, if◌then◌else◌, List, [], ◌∷◌, ◌++◌, drop, Result, Ok, Err}
+use Rattle.scion_topology.specs.declared.fault.TopologyFault.{TopologyFault}
+use Rattle.scion_topology.specs.Network.{Network}
+use Rattle.scion_topology.specs.Topology.{owner_in}
+use Rattle.policy_expr.specs.declared.hop.WalkHop.{WalkHop}
+use Rattle.path_verifier.specs.Piece.{PieceValue}
+use Rattle.path_verifier.specs.Walk.{hops_of, entered_by, left_by}
+use Rattle.router_step.specs.declared.arrival.Arrival.{Arrival}
+use Rattle.router_step.specs.declared.arrival.Arrival.TheVariants.{FromHost, Inside, Link}
+use Rattle.forwarding.specs.Spot.{Spot}
+
+-- the way out of the first of these hops, 0 where there is none
+abbrev pub first_out : List WalkHop → ℕ
+first_out [] = 0
+first_out (hop ∷ later) = hop.egress
+
+-- the way out of a piece's last AS onto the pieces behind it, 0 where there is none
+abbrev pub way_beyond : List PieceValue → ℕ
+way_beyond [] = 0
+way_beyond (piece ∷ later) = first_out (hops_of piece)
+
+-- the walk behind a piece's last AS
+abbrev pub walk_beyond : List PieceValue → List WalkHop
+walk_beyond [] = []
+walk_beyond (piece ∷ later) =
+    left_by (way_beyond later) (drop 1 (hops_of piece)) ++ walk_beyond later
+
+-- the walk from a spot on, for a packet that came into its AS by this interface
+abbrev pub to_come : ℕ → Spot → List WalkHop
+to_come came spot =
+    entered_by came (left_by (way_beyond spot.later) (drop spot.reached (hops_of spot.piece)))
+    ++ walk_beyond spot.later
+
+-- one router owns both
+abbrev pub is_one : Result ℕ TopologyFault → Result ℕ TopologyFault → Bool
+is_one (Ok one) (Ok other) = one == other
+is_one (Ok one) (Err fault) = false
+is_one (Err fault) other = false
+
+-- the turns that an AS takes between the ends of a walk: 1 where its two interfaces have one owner,
+-- else 2
+abbrev pub turns_through : Network → WalkHop → ℕ
+turns_through n hop =
+    if is_one (owner_in n hop.ia hop.ingress) (owner_in n hop.ia hop.egress) then 1 else 2
+
+-- the turns that these hops take, of which the last is the walk's
+abbrev pub turns_over : Network → List WalkHop → ℕ
+turns_over n [] = 0
+turns_over n (last ∷ []) = 1
+turns_over n (hop ∷ next ∷ later) = turns_through n hop + turns_over n (next ∷ later)
+
+-- the turns that are left to a packet that came so into the first of these hops
+abbrev pub turns_left : Network → Arrival → List WalkHop → ℕ
+turns_left n (Link interface) hops = turns_over n hops
+turns_left n Inside hops = 1 + turns_over n (drop 1 hops)
+turns_left n FromHost hops = 1 + turns_over n (drop 1 hops)
+
+-- the turns that a whole walk takes: one in its first AS, one in its last, and those of the ASes
+-- between them
+abbrev pub turns_for : Network → List WalkHop → ℕ
+turns_for n walk = 1 + turns_over n (drop 1 walk)

@@ -1,0 +1,120 @@
+-- One turn of a packet in a network: the router at which it stands makes its step over the packet's
+-- bytes, and the packet is placed where that leads (draft-dekater-scion-dataplane).
+use Rattle.std.specs.Prelude.{ℕ, List, [], ◌∷◌, ◌++◌, length, nat_lt, if◌then◌else◌, bit_xor, slice_index, slice_set, Result, Ok, Err}
+use Rattle.scion_topology.specs.declared.fault.TopologyFault.{TopologyFault}
+use Rattle.scion_topology.specs.View.{View}
+use Rattle.scion_topology.specs.Network.{Network}
+use Rattle.scion_topology.specs.Topology.{view_in, far_end_in, owner_in}
+use Rattle.policy_expr.specs.declared.hop.WalkHop.{WalkHop}
+use Rattle.router_step.specs.declared.arrival.Arrival.TheVariants.{FromHost, Inside, Link}
+use Rattle.router_step.specs.declared.outcome.Outcome.{Outcome}
+use Rattle.router_step.specs.declared.outcome.Outcome.TheVariants.{ToLink, ToRouter, Deliver}
+use Rattle.router_step.specs.declared.fault.Refusal.{Refusal}
+use Rattle.router_step.specs.Packet.{packet_step}
+use Rattle.forwarding.specs.declared.place.Stop.{Stop}
+use Rattle.forwarding.specs.declared.place.Place.{Place}
+use Rattle.forwarding.specs.declared.place.Place.TheVariants.{AtRouter, Delivered, Refused, Lost}
+use Rattle.forwarding.specs.declared.reply.TurnReply.{TurnReply}
+use Rattle.forwarding.specs.declared.reply.TurnReply.TheVariants as replies
+
+-- a packet: its bytes, where it is, and the hops that it has passed
+pub record Packet : Type 0 where
+  pub bytes : List ℕ
+  pub place : Place
+  pub passed : List WalkHop
+
+-- a packet of these bytes that a host sends, put at this router of its AS
+abbrev pub put_at : List ℕ → ℕ → ℕ → Packet
+put_at bytes ia router = record {
+  bytes = bytes;
+  place = AtRouter (record { ia = ia; router = router; arrival = FromHost; came = 0 });
+  passed = [];
+}
+
+-- the hops with one more, of which a packet keeps the first 64
+abbrev pub noted : List WalkHop → WalkHop → List WalkHop
+noted passed hop = if nat_lt (length passed) 64 then passed ++ hop ∷ [] else passed
+
+-- the hop of the AS in which the packet stands, left by this interface
+abbrev pub hop_by : Stop → ℕ → WalkHop
+hop_by stop out = record { ia = stop.ia; ingress = stop.came; egress = out }
+
+-- at the router that owns the far end of a link; where there is none, nothing is done
+abbrev pub at_owner : Packet → Stop → ℕ → ℕ → ℕ → Result ℕ TopologyFault → Packet
+at_owner packet stop out ia number (Ok router) = record packet {
+  place = AtRouter (record { ia = ia; router = router; arrival = Link number; came = number });
+  passed = noted packet.passed (hop_by stop out);
+}
+at_owner packet stop out ia number (Err fault) = packet
+
+abbrev pub over_link : Network → Packet → Stop → ℕ → Result (ℕ × ℕ) TopologyFault → Packet
+over_link n packet stop out (Ok end) =
+    at_owner packet stop out end.0 end.1 (owner_in n end.0 end.1)
+over_link n packet stop out (Err fault) = packet
+
+-- where a router's outcome puts the packet
+abbrev pub put : Network → Packet → Stop → Outcome → Packet
+put n packet stop (ToLink out) = over_link n packet stop out (far_end_in n stop.ia out)
+put n packet stop (ToRouter router) =
+    record packet { place = AtRouter (record stop { router = router; arrival = Inside }) }
+put n packet stop Deliver =
+    record packet { place = Delivered; passed = noted packet.passed (hop_by stop 0) }
+
+-- what a router's step makes of the packet: new bytes and a new place, or the refusal; and the
+-- reply of the turn
+abbrev pub stepped : Network → Packet → Stop → Result (Outcome × List ℕ) Refusal
+    → TurnReply × Packet
+stepped n packet stop (Ok done) =
+    (replies.Went done.0, put n (record packet { bytes = done.1 }) stop done.0)
+stepped n packet stop (Err refusal) =
+    (replies.Refused refusal, record packet { place = Refused stop.ia stop.router refusal })
+
+-- nothing is done
+abbrev pub still : Packet → TurnReply × Packet
+still packet = (replies.Still, packet)
+
+-- the turn of the router of this view, where the packet stands at a router
+abbrev pub at_place : Network → View → ℕ → Packet → Place → TurnReply × Packet
+at_place n view now packet (AtRouter stop) =
+    stepped n packet stop (packet_step view now stop.arrival packet.bytes)
+at_place n view now packet Delivered = still packet
+at_place n view now packet (Refused ia router refusal) = still packet
+at_place n view now packet Lost = still packet
+
+unfoldable pub turn_under : Network → View → ℕ → Packet → TurnReply × Packet
+turn_under n view now packet = at_place n view now packet packet.place
+
+-- the same by the view that the network has of the packet's place; where it has none, nothing is
+-- done
+abbrev pub by_view : Network → ℕ → Packet → Result View TopologyFault → TurnReply × Packet
+by_view n now packet (Ok view) = turn_under n view now packet
+by_view n now packet (Err fault) = still packet
+
+abbrev pub by_place : Network → ℕ → Packet → Place → TurnReply × Packet
+by_place n now packet (AtRouter stop) = by_view n now packet (view_in n stop.ia stop.router)
+by_place n now packet Delivered = still packet
+by_place n now packet (Refused ia router refusal) = still packet
+by_place n now packet Lost = still packet
+
+-- one turn: the reply and the packet after it; a packet that is at no router stays as it is
+unfoldable pub turn_of : Network → ℕ → Packet → TurnReply × Packet
+turn_of n now packet = by_place n now packet packet.place
+
+-- the packet after a turn
+abbrev pub turned : Network → ℕ → Packet → Packet
+turned n now packet = (turn_of n now packet).1
+
+-- the packet after a turn at each of these moments
+abbrev pub after : Network → Packet → List ℕ → Packet
+after n packet [] = packet
+after n packet (now ∷ later) = after n (turned n now packet) later
+
+-- a packet that was lost on its way
+abbrev pub lost : Packet → Packet
+lost packet = record packet { place = Lost }
+
+-- a packet with this byte changed by exclusive or
+abbrev pub altered : Packet → ℕ → ℕ → Packet
+altered packet at change = record packet {
+  bytes = slice_set packet.bytes at (bit_xor (slice_index packet.bytes at) change);
+}

@@ -1,0 +1,217 @@
+//! Laws of packets on their way: each is the contract of a function that does nothing. What a law
+//! says may be cited by the lemma of `proofs/` that its answer names.
+
+ghost use Rattle.std.specs.Prelude.{◌≡◌, ◌≢◌, ◌↔◌, ◌⊎◌, ℕ, ◌-◌, ◌*◌, ◌<◌, ◌≤◌, Bool, true, false, List, [], ◌∷◌, ◌++◌, length, All, Ok};
+ghost use Rattle.scion_topology.specs.Network.{Network};
+ghost use Rattle.scion_topology.specs.View.{View};
+ghost use Rattle.scion_topology.specs.Topology.{IsNetwork, owner_in, rotated, set_up, view_in};
+ghost use Rattle.path_segment.specs.Chain.{Chain};
+ghost use Rattle.path_verifier.specs.Piece.{PieceValue};
+ghost use Rattle.path_verifier.specs.Header.{header_of, hop_count};
+ghost use Rattle.path_verifier.specs.Walk.{walk_of};
+ghost use Rattle.path_verifier.specs.declared.fault.VerifyFault.{VerifyFault};
+ghost use Rattle.path_verifier.specs.Accepted.{AreLive, IsExpiry, MakesPath, request_of, IsAccepted};
+ghost use Rattle.path_verifier.specs.Verdict.{IsRefused};
+ghost use Rattle.path_verifier.specs.Turned.{turned_piece, turned_pieces};
+ghost use Rattle.path_header.specs.Value.{HeaderValue, header_len};
+ghost use Rattle.router_step.specs.Packet.{destination_of, source_of, header_in};
+ghost use Rattle.path_header.specs.Reversal.{reversed};
+ghost use Rattle.policy_expr.specs.Policy.{Rules};
+ghost use Rattle.forwarding.specs.Turned.{header_behind, no_rules};
+ghost use Rattle.beaconing.specs.Entry.{key_in};
+ghost use Rattle.beaconing.specs.Calls.{originated, extended, terminated};
+ghost use Rattle.beaconing.specs.Issued.{IsMade, IsUnderWay};
+ghost use Rattle.forwarding.specs.declared.place.Place.{Place};
+ghost use Rattle.forwarding.specs.declared.place.Stop.{Stop};
+ghost use Rattle.forwarding.specs.Frame.{framed, HasFrame};
+ghost use Rattle.forwarding.specs.Turn.{Packet, put_at, still, turn_under, turn_of, after};
+ghost use Rattle.forwarding.specs.Journey.{first_out, turns_for};
+ghost use Rattle.forwarding.specs.Open.{IsOpen, LetsThrough};
+ghost use Rattle.forwarding.specs.Standing.{Standing, GoesOn, arrived_with, Arrives};
+ghost use Rattle.forwarding.specs.Sound.{Holds, InUse, IsSound, PassesBy, LeavesAlone};
+
+/// One turn of a packet that stands on a path that the network lets through leads on: no router
+/// refuses it, and it stands at the next place of its path, one turn nearer to its end; or it is
+/// delivered with its whole walk passed, the header behind all pieces, and the payload as it was
+/// sent.
+pub fn one_turn_leads_on()
+    ensures { (n : Network) (now source destination : ℕ) (payload : List ℕ)
+        (pieces : List PieceValue) (left : ℕ) (packet : Packet)
+        → LetsThrough n now source destination pieces
+        → Standing n source destination payload pieces left packet
+        → GoesOn n now source destination payload pieces left packet
+        ⊎ Arrives n now source destination payload pieces left packet }
+{}
+
+/// In a network that does not change, a packet that stands on its path has so many turns before it
+/// as is said: after fewer turns, at moments at which the network lets the path through, it stands
+/// on its path still, and after as many or more it is delivered.
+pub fn journeys_end()
+    ensures before { (n : Network) (source destination : ℕ) (payload : List ℕ)
+        (pieces : List PieceValue) (left : ℕ) (packet : Packet) (moments : List ℕ)
+        → All (λ now. LetsThrough n now source destination pieces) moments
+        → Standing n source destination payload pieces left packet → length moments < left
+        → Standing n source destination payload pieces (left - length moments)
+        (after n packet moments) }
+    ensures then { (n : Network) (source destination : ℕ) (payload : List ℕ)
+        (pieces : List PieceValue) (left : ℕ) (packet : Packet) (moments : List ℕ)
+        → All (λ now. LetsThrough n now source destination pieces) moments
+        → Standing n source destination payload pieces left packet → left ≤ length moments
+        → after n packet moments ≡ arrived_with source destination payload pieces }
+{}
+
+/// A packet that is sent on a path, at the router that owns the way out of the path's first AS,
+/// stands at its beginning, with the turns of its whole walk before it.
+pub fn sent_packets_stand()
+    ensures { (n : Network) (source destination moment router : ℕ) (payload : List ℕ)
+        (pieces : List PieceValue) → MakesPath pieces source destination moment
+        → HasFrame source destination pieces
+        → owner_in n source (first_out (walk_of pieces)) ≡ Ok router
+        → Standing n source destination payload pieces (turns_for n (walk_of pieces))
+        (put_at (framed source destination (header_of pieces) payload) source router) }
+{}
+
+/// The turns of a path's walk are at most two for each of its hop fields.
+pub fn turns_are_few()
+    ensures { (n : Network) (pieces : List PieceValue) (source destination moment : ℕ)
+        → MakesPath pieces source destination moment
+        → turns_for n (walk_of pieces) ≤ 2 * hop_count pieces }
+{}
+
+/// A packet stands where it stands, whatever link goes up or down and whatever AS takes another
+/// key.
+pub fn packets_stand_through_changes()
+    ensures links { (n m : Network) (up : Bool) (ia number source destination : ℕ)
+        (payload : List ℕ) (pieces : List PieceValue) (left : ℕ) (packet : Packet)
+        → set_up up ia number n ≡ Ok m → Standing n source destination payload pieces left packet
+        → Standing m source destination payload pieces left packet }
+    ensures keys { (n m : Network) (ia : ℕ) (key : List ℕ) (source destination : ℕ)
+        (payload : List ℕ) (pieces : List PieceValue) (left : ℕ) (packet : Packet)
+        → rotated ia key n ≡ Ok m → Standing n source destination payload pieces left packet
+        → Standing m source destination payload pieces left packet }
+{}
+
+/// A packet that is at no router stays as it is, at any moment and whatever the network.
+pub fn ended_packets_stay()
+    ensures { (n : Network) (now : ℕ) (packet : Packet)
+        → ((stop : Stop) → packet.place ≢ Place.AtRouter stop)
+        → turn_of n now packet ≡ still packet }
+{}
+
+/// The turn by the view that the network has of the packet's place is the packet's turn.
+pub fn views_are_of_the_place()
+    ensures { (n : Network) (now : ℕ) (packet : Packet) (stop : Stop) (view : View)
+        → packet.place ≡ Place.AtRouter stop → view_in n stop.ia stop.router ≡ Ok view
+        → turn_under n view now packet ≡ turn_of n now packet }
+{}
+
+/// What a network has made under keys that its ASes still accept, over links that are up, it lets
+/// through, travelled either way; and so a path of such pieces while its hops are live.
+pub fn sound_pieces_are_open()
+    ensures piece { (n : Network) (keys : List (List ℕ)) (piece : PieceValue)
+        → IsSound n keys piece → IsOpen n piece }
+    ensures path { (n : Network) (now source destination moment : ℕ) (pieces : List PieceValue)
+        → IsNetwork n → MakesPath pieces source destination moment → AreLive now pieces
+        → All (λ piece. (keys : List (List ℕ)) × IsSound n keys piece) pieces
+        → LetsThrough n now source destination pieces }
+{}
+
+/// A piece stays sound where a link is mended; where one is cut that is none of its own; where an
+/// AS takes another key that is none of its own; and where one of its own does, if the key under
+/// which that AS made its entry was in use until then.
+pub fn sound_pieces_outlast_changes()
+    ensures mended { (n m : Network) (ia number : ℕ) (keys : List (List ℕ)) (piece : PieceValue)
+        → set_up true ia number n ≡ Ok m → IsSound n keys piece → IsSound m keys piece }
+    ensures cut { (n m : Network) (ia number : ℕ) (keys : List (List ℕ)) (piece : PieceValue)
+        → set_up false ia number n ≡ Ok m
+        → LeavesAlone piece.segment piece.from piece.to ia number
+        → IsSound n keys piece → IsSound m keys piece }
+    ensures others { (n m : Network) (ia : ℕ) (key : List ℕ) (keys : List (List ℕ))
+        (piece : PieceValue) → rotated ia key n ≡ Ok m
+        → PassesBy piece.segment piece.from piece.to ia
+        → IsSound n keys piece → IsSound m keys piece }
+    ensures own { (n m : Network) (ia : ℕ) (key : List ℕ) (keys : List (List ℕ))
+        (piece : PieceValue) → rotated ia key n ≡ Ok m
+        → InUse n keys piece.segment piece.from piece.to ia
+        → IsSound n keys piece → IsSound m keys piece }
+{}
+
+/// Between two places of a chain, be it a beacon under way or a segment, the keys of its entries
+/// are accepted and its links are up: when it is made, call by call; and after each change that
+/// would leave a piece of it sound.
+pub fn chains_hold()
+    ensures begun { (n : Network) (ia egress timestamp beta0 : ℕ) (beacon : Chain) (from to : ℕ)
+        → IsNetwork n → originated n ia egress timestamp beta0 ≡ Ok beacon
+        → Holds n (key_in n ia ∷ []) beacon from to }
+    ensures passed_on { (n : Network) (keys : List (List ℕ)) (beacon : Chain) (ia egress : ℕ)
+        (next : Chain) (from to : ℕ) → IsNetwork n → IsUnderWay n keys beacon
+        → Holds n keys beacon from to → extended n beacon ia egress ≡ Ok next
+        → Holds n (keys ++ (key_in n ia ∷ [])) next from to }
+    ensures ended { (n : Network) (keys : List (List ℕ)) (beacon : Chain) (ia : ℕ)
+        (segment : Chain) (from to : ℕ) → IsNetwork n → IsUnderWay n keys beacon
+        → Holds n keys beacon from to → terminated n beacon ia ≡ Ok segment
+        → Holds n (keys ++ (key_in n ia ∷ [])) segment from to }
+    ensures mended { (n m : Network) (ia number : ℕ) (keys : List (List ℕ)) (chain : Chain)
+        (from to : ℕ) → set_up true ia number n ≡ Ok m → Holds n keys chain from to
+        → Holds m keys chain from to }
+    ensures cut { (n m : Network) (ia number : ℕ) (keys : List (List ℕ)) (chain : Chain)
+        (from to : ℕ) → IsNetwork n → IsMade n keys chain → set_up false ia number n ≡ Ok m
+        → LeavesAlone chain from to ia number → Holds n keys chain from to
+        → Holds m keys chain from to }
+    ensures others { (n m : Network) (ia : ℕ) (key : List ℕ) (keys : List (List ℕ))
+        (chain : Chain) (from to : ℕ) → rotated ia key n ≡ Ok m → PassesBy chain from to ia
+        → Holds n keys chain from to → Holds m keys chain from to }
+    ensures own { (n m : Network) (ia : ℕ) (key : List ℕ) (keys : List (List ℕ)) (chain : Chain)
+        (from to : ℕ) → rotated ia key n ≡ Ok m → InUse n keys chain from to ia
+        → Holds n keys chain from to → Holds m keys chain from to }
+{}
+
+/// The key under which an AS made an entry is in use from then on until that AS takes another.
+pub fn keys_stay_in_use()
+    ensures begun { (n : Network) (ia egress timestamp beta0 : ℕ) (beacon : Chain)
+        (from to x : ℕ) → IsNetwork n → originated n ia egress timestamp beta0 ≡ Ok beacon
+        → InUse n (key_in n ia ∷ []) beacon from to x }
+    ensures passed_on { (n : Network) (keys : List (List ℕ)) (beacon : Chain) (ia egress : ℕ)
+        (next : Chain) (from to x : ℕ) → IsUnderWay n keys beacon
+        → InUse n keys beacon from to x → extended n beacon ia egress ≡ Ok next
+        → InUse n (keys ++ (key_in n ia ∷ [])) next from to x }
+    ensures ended { (n : Network) (keys : List (List ℕ)) (beacon : Chain) (ia : ℕ)
+        (segment : Chain) (from to x : ℕ) → IsUnderWay n keys beacon
+        → InUse n keys beacon from to x → terminated n beacon ia ≡ Ok segment
+        → InUse n (keys ++ (key_in n ia ∷ [])) segment from to x }
+    ensures links { (n m : Network) (up : Bool) (x number : ℕ) (keys : List (List ℕ))
+        (chain : Chain) (from to ia : ℕ) → set_up up x number n ≡ Ok m
+        → InUse n keys chain from to ia → InUse m keys chain from to ia }
+    ensures others { (n m : Network) (x : ℕ) (key : List ℕ) (keys : List (List ℕ)) (chain : Chain)
+        (from to ia : ℕ) → rotated x key n ≡ Ok m → x ≢ ia → InUse n keys chain from to ia
+        → InUse m keys chain from to ia }
+{}
+
+/// Of the bytes of a delivered packet both addresses are read as they were sent, and the header
+/// behind all pieces.
+pub fn delivered_packets_are_read()
+    ensures { (source destination moment : ℕ) (payload : List ℕ) (pieces : List PieceValue)
+        → MakesPath pieces source destination moment → HasFrame source destination pieces
+        → let bytes = framed source destination (header_behind pieces) payload
+        in (source_of bytes ≡ source) × (destination_of bytes ≡ destination)
+        × (header_in bytes ≡ Ok (header_behind pieces, header_len (header_behind pieces))) }
+{}
+
+/// The header of a delivered packet, reversed, is that of its path's pieces turned; with it the way
+/// back may be sent without a policy at each second up to the path's expiry, and past it is refused
+/// as Expired, whatever its header and its policy. What was sound one way is sound the other.
+pub fn delivered_packets_are_answered()
+    ensures header { (pieces : List PieceValue) (src dst now : ℕ) → MakesPath pieces src dst now
+        → reversed (header_behind pieces) ≡ header_of (turned_pieces pieces) }
+    ensures in_time { (pieces : List PieceValue) (src dst now moment least : ℕ)
+        → MakesPath pieces src dst now → IsExpiry pieces least → 2 * moment ≤ least
+        → IsAccepted (request_of (turned_pieces pieces) (reversed (header_behind pieces)) dst src
+        moment no_rules) }
+    ensures late { (pieces : List PieceValue) (src dst now moment least : ℕ) (header : HeaderValue)
+        (rules : Rules) → MakesPath pieces src dst now → IsExpiry pieces least
+        → least < 2 * moment → (fault : VerifyFault)
+        → IsRefused (request_of (turned_pieces pieces) header dst src moment rules) fault
+        ↔ (fault ≡ VerifyFault.Expired) }
+    ensures sound { (n : Network) (keys : List (List ℕ)) (piece : PieceValue) → IsSound n keys piece
+        → IsSound n keys (turned_piece piece) }
+{}

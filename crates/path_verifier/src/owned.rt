@@ -1,0 +1,88 @@
+ghost use Rattle.std.specs.Prelude.{◌≡◌, ◌≤◌, length, IfOk};
+
+use crate::piece::Piece;
+use crate::pieces::{Held, Pieces};
+use path_segment::Segment;
+use std::alloc::{AllocError, Global};
+use std::marker::Model;
+
+/// A piece that owns its segment.
+#[derive(Drop)]
+pub struct OwnedPiece {
+    /// The segment.
+    pub segment: Segment,
+    /// The place in the segment of the piece's first entry, in construction order.
+    pub from: usize,
+    /// The place of its last entry.
+    pub to: usize,
+    /// Whether it is travelled in the direction in which the segment was made.
+    pub along: bool,
+}
+
+impl Model for OwnedPiece {
+    ghost use Rattle.path_verifier.specs.Piece.{PieceValue};
+
+    ghost Value = { PieceValue };
+
+    ghost view = { λ p. record { segment = p.segment; from = p.from; to = p.to; along = p.along } };
+}
+
+impl OwnedPiece {
+    /// A copy of a piece, with a segment of its own; or memory runs out.
+    pub fn of(alloc: Global, piece: &Piece<'_>) -> Result<OwnedPiece, AllocError>
+        ensures { IfOk result (λ own. own ≡ piece.now) }
+    {
+        Ok(OwnedPiece {
+            segment: piece.segment.try_clone(alloc)?,
+            from: piece.from,
+            to: piece.to,
+            along: piece.along,
+        })
+    }
+
+    /// The piece, of the segment that is lent.
+    pub fn lend(&self) -> Piece<'_>
+        ensures { result ≡ self.now }
+    {
+        Piece {
+            segment: &self.segment,
+            from: self.from,
+            to: self.to,
+            along: self.along,
+        }
+    }
+}
+
+/// Copies of the pieces of a path, each with a segment of its own; or memory runs out.
+pub fn own_all(alloc: Global, pieces: &Pieces<'_>) -> Result<Vec<OwnedPiece>, AllocError>
+    ensures { IfOk result (λ own. own.items ≡ pieces.now) }
+{
+    match &pieces.held {
+        Held::Zero => Ok(Vec::new(alloc)),
+        Held::One(first) => Ok(vec![in alloc; OwnedPiece::of(alloc, first)?]?),
+        Held::Two(first, second) => Ok(vec![in alloc;
+            OwnedPiece::of(alloc, first)?,
+            OwnedPiece::of(alloc, second)?,
+        ]?),
+        Held::Three(first, second, third) => Ok(vec![in alloc;
+            OwnedPiece::of(alloc, first)?,
+            OwnedPiece::of(alloc, second)?,
+            OwnedPiece::of(alloc, third)?,
+        ]?),
+    }
+}
+
+/// The pieces, lent in their order.
+pub fn lend_all(pieces: &[OwnedPiece]) -> Pieces<'_>
+    requires { length pieces.now ≤ 3 }
+    ensures { result ≡ pieces.now }
+{
+    let held = match pieces {
+        [] => Held::Zero,
+        [first] => Held::One(first.lend()),
+        [first, second] => Held::Two(first.lend(), second.lend()),
+        [first, second, third] => Held::Three(first.lend(), second.lend(), third.lend()),
+        _ => unreachable!(),
+    };
+    Pieces { held }
+}

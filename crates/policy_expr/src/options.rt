@@ -1,0 +1,136 @@
+ghost use Rattle.std.specs.Prelude.{◌≡◌, map, option_map};
+ghost use Rattle.refusal.specs.Refusal.{Answers, Reads};
+ghost use Rattle.policy_expr.specs.Options.{option_at, each_at, options_at, AreJudged};
+
+use crate::option_fault::{OptionError, OptionFault};
+use crate::policy::{Policy, PolicyText, check_policy};
+use refusal::OrMemory;
+use std::alloc::Allocator;
+use std::marker::Model;
+
+/// The most options of a request.
+const MAX_OPTIONS: usize = 16;
+
+/// The texts of a policy, and its weight among the options of a request.
+#[derive(Drop)]
+pub struct OptionText<'a> {
+    /// The texts.
+    pub text: PolicyText<'a>,
+    /// The weight: of the options that leave a path the heaviest is used.
+    pub weight: u32,
+}
+
+impl<'a> Model for OptionText<'a> {
+    ghost use Rattle.std.specs.Prelude.{option_map};
+    ghost use Rattle.policy_expr.specs.Options.{OptionTexts};
+
+    ghost Value = { OptionTexts };
+
+    ghost view = { λ o. record {
+      acl = option_map (λ t. t.now) o.text.acl;
+      sequence = option_map (λ t. t.now) o.text.sequence;
+      weight = o.weight;
+    } };
+}
+
+/// A policy, and its weight among the options of a request.
+#[derive(Drop)]
+pub struct PolicyOption<A: Allocator + Clone> {
+    /// The policy.
+    pub policy: Policy<A>,
+    /// The weight: of the options that leave a path the heaviest is used.
+    pub weight: u32,
+}
+
+impl<A: Allocator + Clone> Model for PolicyOption<A> {
+    ghost use Rattle.policy_expr.specs.Options.{WeighedRules};
+    ghost use Rattle.policy_expr.specs.Code.{coded_tree};
+    ghost use Rattle.std.specs.Coded.{codes};
+
+    ghost Value = { WeighedRules };
+
+    ghost coded = { Prim.hlevel (codes, coded_tree) };
+
+    ghost view = { λ o. record { rules = o.policy; weight = o.weight } };
+}
+
+impl<A: Allocator + Clone> PolicyOption<A> {
+    /// The options of these texts, in their order.
+    ///
+    /// The first of these refusals: [`OptionFault::OptionCount`] where there are not 1 to 16; then
+    /// those of [`Policy::parse`], of the first text that has one.
+    #[tactic(auto, using(crate::proofs::Weighed::judged_read))]
+    pub fn parse_all(
+        alloc: A,
+        texts: &[OptionText<'_>],
+    ) -> Result<Vec<PolicyOption<A>, A>, OptionError>
+        ensures { Answers (λ options. options.items) result (options_at texts.now) }
+    {
+        check_options(texts)?;
+        read_each(alloc, texts)
+    }
+}
+
+/// The first refusal of the texts of options. Takes no memory.
+#[tactic(auto, unfolding(crate::specs::Options::options_at))]
+fn check_options(texts: &[OptionText<'_>]) -> Result<(), OptionFault>
+    ensures { AreJudged result (options_at texts.now) }
+{
+    if texts.is_empty() || texts.len() > MAX_OPTIONS {
+        return Err(OptionFault::OptionCount);
+    }
+    check_each(texts)
+}
+
+/// The first refusal of these texts, one after another.
+fn check_each(texts: &[OptionText<'_>]) -> Result<(), OptionFault>
+    ensures { AreJudged result (each_at texts.now) }
+{
+    for text in texts {
+        check_option(text)?;
+    }
+    Ok(())
+}
+
+/// The refusal of the texts of one option, if there is one.
+#[tactic(auto, unfolding(crate::specs::Options::option_at))]
+fn check_option(text: &OptionText<'_>) -> Result<(), OptionFault>
+    ensures { AreJudged result (option_at text.now) }
+{
+    match check_policy(&text.text) {
+        Ok(()) => Ok(()),
+        Err(fault) => Err(OptionFault::Unread(fault)),
+    }
+}
+
+/// The options of these texts, or the refusal of the first that can't be read.
+fn read_each<A: Allocator + Clone>(
+    alloc: A,
+    texts: &[OptionText<'_>],
+) -> Result<Vec<PolicyOption<A>, A>, OptionError>
+    ensures { Reads (λ options. options.items) result (each_at texts.now) }
+{
+    let mut options = Vec::new(alloc.clone()?);
+    for text in texts {
+        options.push(read_option(alloc.clone()?, text)?)?;
+    }
+    Ok(options)
+}
+
+/// The option of these texts.
+#[tactic(auto, unfolding(crate::specs::Options::option_at))]
+fn read_option<A: Allocator + Clone>(
+    alloc: A,
+    text: &OptionText<'_>,
+) -> Result<PolicyOption<A>, OptionError>
+    ensures { Answers (λ option. option) result (option_at text.now) }
+{
+    match Policy::parse(alloc, &text.text) {
+        Ok(policy) => Ok(PolicyOption {
+            policy,
+            weight: text.weight,
+        }),
+        Err(OrMemory::Memory) => Err(OrMemory::Memory),
+        Err(OrMemory::Refused(fault)) => Err(OrMemory::Refused(OptionFault::Unread(fault))),
+    }
+}

@@ -1,0 +1,114 @@
+//! Worked examples that tests of several crates share: topologies, addresses, and paths in their
+//! parts.
+#![tactic(auto)]
+
+use isd_as::{IfId, IsdAs};
+use path_header::{Header, HopField, InfoField};
+use path_segment::Segment;
+use path_verifier::{Piece, Pieces};
+use policy_expr::{AclText, Policy, PolicyText, WalkHop};
+use std::alloc::Global;
+use std::test::Fail;
+
+/// A core AS, its child, and the child of that, with one router each.
+pub fn row() -> &'static str {
+    r#"{"ases":[{"ia":"1-ff00:0:110","core":true,"exp":63,"key":"6130","routers":1},{"ia":"1-ff00:0:111","core":false,"exp":63,"key":"6131","routers":1},{"ia":"1-ff00:0:112","core":false,"exp":63,"key":"6132","routers":1}],"links":[{"kind":"child","a":{"ia":"1-ff00:0:110","if":1,"router":0},"b":{"ia":"1-ff00:0:111","if":1,"router":0}},{"kind":"child","a":{"ia":"1-ff00:0:111","if":2,"router":0},"b":{"ia":"1-ff00:0:112","if":1,"router":0}}]}"#
+}
+
+/// Two core ASes with a link between them, each with a child, and that with another.
+pub fn pair() -> &'static str {
+    r#"{"ases":[{"ia":"1-ff00:0:110","core":true,"exp":63,"key":"6b","routers":2},{"ia":"1-ff00:0:111","core":false,"exp":63,"key":"6b","routers":2},{"ia":"1-ff00:0:112","core":false,"exp":63,"key":"6b","routers":2},{"ia":"2-ff00:0:210","core":true,"exp":63,"key":"6b","routers":2},{"ia":"2-ff00:0:211","core":false,"exp":63,"key":"6b","routers":2},{"ia":"2-ff00:0:212","core":false,"exp":63,"key":"6b","routers":2}],"links":[{"kind":"child","a":{"ia":"1-ff00:0:110","if":1,"router":0},"b":{"ia":"1-ff00:0:111","if":1,"router":0}},{"kind":"child","a":{"ia":"1-ff00:0:111","if":2,"router":1},"b":{"ia":"1-ff00:0:112","if":1,"router":0}},{"kind":"core","a":{"ia":"1-ff00:0:110","if":2,"router":1},"b":{"ia":"2-ff00:0:210","if":1,"router":0}},{"kind":"child","a":{"ia":"2-ff00:0:210","if":2,"router":1},"b":{"ia":"2-ff00:0:211","if":1,"router":0}},{"kind":"child","a":{"ia":"2-ff00:0:211","if":2,"router":1},"b":{"ia":"2-ff00:0:212","if":1,"router":0}}]}"#
+}
+
+/// The address of this ISD and AS number, of three groups, the first of them ff00.
+pub fn at(isd: u64, last: u64) -> IsdAs {
+    IsdAs::from_number((isd % 4 << 48) + 0xff00_0000_0000 + last % 0x1_0000)
+}
+
+/// A hop of a walk.
+pub fn hop(ia: IsdAs, ingress: u16, egress: u16) -> WalkHop {
+    WalkHop {
+        ia,
+        ingress: IfId(ingress),
+        egress: IfId(egress),
+    }
+}
+
+/// A piece of a segment.
+pub fn piece(segment: &Segment, from: usize, to: usize, along: bool) -> Piece<'_> {
+    Piece {
+        segment,
+        from,
+        to,
+        along,
+    }
+}
+
+/// Pieces that are each from a place of a segment to its end, in a direction.
+pub fn pieces_of<'s>(parts: &[(&'s Segment, usize, bool)]) -> Result<Pieces<'s>, Fail> {
+    let mut pieces = Pieces::new();
+    for (segment, from, along) in parts {
+        let last = segment.entries().len().saturating_sub(1);
+        pieces.push(piece(segment, *from, last, *along))?;
+    }
+    Ok(pieces)
+}
+
+/// The header of pieces that are each from a place of a segment to its end, in a direction.
+pub fn header_of(
+    alloc: Global,
+    lens: [u8; 3],
+    pieces: &[(&Segment, usize, bool)],
+) -> Result<Header, Fail> {
+    let mut infos = Vec::new(alloc);
+    let mut hops = Vec::new(alloc);
+    for (segment, from, along) in pieces {
+        let mut fields = Vec::new(alloc);
+        for entry in segment.entries().iter().skip(*from) {
+            fields.push(HopField {
+                exp_time: entry.exp_time,
+                cons_ingress: entry.cons_ingress,
+                cons_egress: entry.cons_egress,
+                mac: entry.mac,
+            })?;
+        }
+        let last = segment.entries().len().saturating_sub(1);
+        let first = if *along { *from } else { last };
+        if !*along {
+            fields.reverse();
+        }
+        infos.push(InfoField {
+            construction: *along,
+            seg_id: beta_at(segment, first),
+            timestamp: segment.timestamp(),
+        })?;
+        for field in fields {
+            hops.push(field)?;
+        }
+    }
+    Ok(Header::new(lens, &infos, &hops)?)
+}
+
+/// The policy of a list of texts, none where there are none, and of a sequence, none where it is
+/// blank.
+pub fn policy(alloc: Global, acl: &[&str], sequence: &str) -> Result<Policy<Global>, Fail> {
+    let mut texts = AclText::new(alloc);
+    for text in acl {
+        texts.push(alloc, text)?;
+    }
+    let acl = if acl.is_empty() { None } else { Some(&texts) };
+    let text = PolicyText {
+        acl,
+        sequence: Some(sequence),
+    };
+    Ok(Policy::parse(alloc, &text)?)
+}
+
+/// The accumulator at a place of a segment.
+fn beta_at(segment: &Segment, place: usize) -> u16 {
+    if place < segment.entries().len() {
+        segment.beta_at(place)
+    } else {
+        0
+    }
+}
