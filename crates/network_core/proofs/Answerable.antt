@@ -1,0 +1,91 @@
+-- A packet that was delivered may be answered.
+use Rattle.std.proofs.Common.{◌≡◌, ℕ, ◌≤◌, List, length, Some, Result, Ok, refl, ap, ◌∙◌}
+use Rattle.std.specs.Prelude.{slice_get, nat_le}
+use Rattle.std.specs.Option.{ok_or}
+use Rattle.std.proofs.lemmas.Bool.{le-leb}
+use Rattle.refusal.specs.Refusal.{check}
+use Rattle.refusal.proofs.Steps.{bind_from}
+use Rattle.path_header.specs.Value.{HeaderValue}
+use Rattle.path_header.specs.Reversal.{reversed}
+use Rattle.path_verifier.specs.Piece.{PieceValue}
+use Rattle.path_verifier.specs.Accepted.{MakesPath}
+use Rattle.path_verifier.specs.Turned.{turned_pieces}
+use Rattle.router_step.specs.Packet.{destination_of, source_of}
+use Rattle.forwarding.specs.Frame.{HasFrame}
+use Rattle.forwarding.specs.Turn.{Packet}
+use Rattle.forwarding.specs.Turned.{header_behind, no_rules}
+use Rattle.forwarding.specs.Standing.{arrived_with}
+use Rattle.forwarding.proofs.Received.{received}
+use Rattle.forwarding.proofs.Replies.{back_in_time, back_expired}
+use Rattle.network_core.specs.declared.fault.EventFault.{EventFault}
+use Rattle.network_core.specs.declared.fault.EventFault.TheVariants as faults
+use Rattle.network_core.specs.Value.{Way, SentValue, PacketValue, NetValue}
+use Rattle.network_core.specs.Step.{packet_at, turned_round, header_back, way_back, sent_with, replied}
+use Rattle.network_core.specs.Headline.{IsAnswerable}
+
+abbrev okay : SentValue → Result SentValue EventFault
+okay sent = Ok sent
+
+module _ (net : NetValue) (p moment : ℕ) (sent : SentValue) (one : PacketValue)
+    (there : slice_get net.packets p ≡ Some one) (holds : one.sent ≡ sent)
+    (arrived : one.packet
+    ≡ arrived_with sent.way.source sent.way.destination sent.payload sent.way.pieces)
+    (path : MakesPath sent.way.pieces sent.way.source sent.way.destination moment)
+    (frame : HasFrame sent.way.source sent.way.destination sent.way.pieces) (payload : List ℕ)
+    (few : length payload ≤ 1024) where
+  abbrev header : HeaderValue
+  header = reversed (header_behind sent.way.pieces)
+
+  abbrev way : ℕ → ℕ → List PieceValue → Way
+  way source destination pieces = record {
+    source = source;
+    destination = destination;
+    pieces = pieces;
+    header = header;
+    rules = no_rules;
+  }
+
+  abbrev back : SentValue
+  back = record {
+    way = way sent.way.destination sent.way.source (turned_pieces sent.way.pieces);
+    payload = payload;
+  }
+
+  header_is : header_back one.packet one.packet.place ≡ Ok header
+  header_is =
+      let read = received sent.way.source sent.way.destination moment sent.payload sent.way.pieces path frame in
+      ap (λ (packet : Packet). header_back packet packet.place) arrived ∙ ap turned_round read.2
+
+  way_is : way_back one header ≡ back.way
+  way_is =
+      let read = received sent.way.source sent.way.destination moment sent.payload sent.way.pieces path frame in
+      let source = ap (λ (packet : Packet). destination_of packet.bytes) arrived ∙ read.1 in
+      let destination = ap (λ (packet : Packet). source_of packet.bytes) arrived ∙ read.0 in
+      let pieces = ap (λ (s : SentValue). turned_pieces s.way.pieces) holds in
+      ap (λ s. way s (source_of one.packet.bytes) (turned_pieces one.sent.way.pieces)) source
+      ∙ ap (λ d. way sent.way.destination d (turned_pieces one.sent.way.pieces)) destination
+      ∙ ap (λ ps. way sent.way.destination sent.way.source ps) pieces
+
+  checked : check (nat_le (length payload) 1024) faults.PayloadTooLong ≡ Ok tt
+  checked = ap (λ b. check b faults.PayloadTooLong) (le-leb (length payload) 1024 few)
+
+  sent_is : sent_with (way_back one header) payload ≡ Ok back
+  sent_is = bind_from (check (nat_le (length payload) 1024) faults.PayloadTooLong) _ tt (Ok back) checked
+      (ap (λ (w : Way). okay (record { way = w; payload = payload })) way_is)
+
+  replied_is : replied net p payload ≡ Ok back
+  replied_is = bind_from (packet_at net p) _ one (Ok back) (ap (λ o. ok_or o faults.NoPacket) there)
+      (bind_from (header_back one.packet one.packet.place) _ header (Ok back) header_is sent_is)
+
+  pub answerable : IsAnswerable net p sent payload
+  answerable = record {
+    back = back;
+    replies = replied_is;
+    source = refl;
+    destination = refl;
+    pieces = refl;
+    in_time = λ at expiry least low. back_in_time sent.way.pieces sent.way.source
+        sent.way.destination moment at expiry path least low;
+    late = λ at expiry least past. back_expired sent.way.pieces sent.way.source
+        sent.way.destination moment at expiry header no_rules path least past;
+  }

@@ -1,0 +1,15 @@
+pub mod Effects
+pub mod Numbers
+pub mod Issuing
+pub mod Readied
+pub mod Keeping
+pub mod Carrying
+pub mod Steadying
+pub mod Delivering
+pub mod Rotating
+pub mod Chained
+pub mod Headlines
+pub mod Runs
+pub mod Accepting
+pub mod Answerable
+pub mod Asked

@@ -1,0 +1,71 @@
+-- A packet that is not ready to depart: the event is refused, or memory ran out.
+use Rattle.std.proofs.Common.{◌≡◌, [], ◌∷◌, ◌++◌, length, Result, Ok, Err, IsOk, refl, ap, ◌∙◌, inl, inr}
+use Rattle.refusal.specs.declared.fault.OrMemory.{OrMemory}
+use Rattle.refusal.specs.declared.fault.OrMemory.TheVariants.{Memory, Refused}
+use Rattle.network_core.specs.declared.fault.EventFault.{EventFault}
+use Rattle.network_core.specs.declared.reply.Reply.{Reply}
+use Rattle.network_core.specs.declared.reply.Reply.TheVariants as replies
+use Rattle.network_core.specs.Value.{SentValue, PacketValue, NetValue}
+use Rattle.network_core.specs.Step.{Made, Leads, departs}
+use Rattle.network_core.specs.Doing.{DoesSend, Keeps, ReadiesFrom}
+
+leads_refused : (made : Made) (fault : EventFault) (old new : NetValue) → made ≡ Err fault
+    → new ≡ old → Leads made old (replies.Refused fault) new
+leads_refused (Ok done) fault old new is same = absurd cc
+leads_refused (Err other) fault old new is same = (cc, same)
+
+-- the call's answer is that of the event
+pub not_ready : {X : Type 0} (view : X → PacketValue) (old new : NetValue)
+    (sent : Result SentValue EventFault) (error : OrMemory EventFault) → new ≡ old
+    → ReadiesFrom view old sent (Err error) → DoesSend sent old new (Err error)
+not_ready view old new (Ok sent) Memory same ready = (ready, same)
+not_ready view old new (Ok sent) (Refused fault) same ready = elim ready [
+  | inl path ↦ inr (path.0, (path.1.0, (ap (λ f. replies.Refused f) path.1.1, same)))
+  | inr late ↦ inl (
+    late.0,
+    (
+      leads_refused (departs old sent) fault old new late.1 same,
+      λ p e. (let no_such : ⊥ = cc in absurd no_such),
+    ),
+  )
+]
+not_ready view old new (Err other) Memory same ready = absurd cc
+not_ready view old new (Err other) (Refused fault) same ready = (cc, same)
+
+-- ---- a packet that was ready, and was taken in
+
+leads_made : (made : Made) (old new : NetValue) (reply : Reply) (done : Reply × NetValue)
+    → made ≡ Ok done → reply ≡ done.0 → new ≡ done.1 → Leads made old reply new
+leads_made (Ok x) old new reply done is replied left =
+    let same : done ≡ x = cc in
+    (replied ∙ ap (λ (d : Reply × NetValue). d.0) same, left ∙ ap (λ (d : Reply × NetValue). d.1) same)
+leads_made (Err fault) old new reply done is replied left = absurd cc
+
+is_ok_of : (made : Made) (done : Reply × NetValue) → made ≡ Ok done → IsOk made
+is_ok_of (Ok x) done is = refl
+is_ok_of (Err fault) done is = absurd cc
+
+pub ready_kept : {X : Type 0} (view : X → PacketValue) (old new : NetValue)
+    (sent : Result SentValue EventFault) (packet : X) (answer : Result Reply (OrMemory EventFault))
+    → ReadiesFrom view old sent (Ok packet) → Keeps (view packet) old new answer
+    → DoesSend sent old new answer
+ready_kept view old new (Ok sent) packet (Ok reply) ready keeps =
+    inl (
+      ready.0,
+      (
+        leads_made (departs old sent) old new reply
+            (replies.Sent (length old.packets), record old { packets = old.packets ++ view packet ∷ [] })
+            ready.1.0 keeps.0 keeps.1,
+        λ p e. ready.1.1,
+      ),
+    )
+ready_kept view old new (Ok sent) packet (Err Memory) ready keeps = (
+  (
+    ready.0,
+    is_ok_of (departs old sent)
+        (replies.Sent (length old.packets), record old { packets = old.packets ++ view packet ∷ [] }) ready.1.0,
+  ),
+  keeps,
+)
+ready_kept view old new (Ok sent) packet (Err (Refused fault)) ready keeps = absurd keeps
+ready_kept view old new (Err other) packet answer ready keeps = absurd cc

@@ -1,0 +1,179 @@
+-- What the network has made stays sound through events that leave it undisturbed, so each turn of a
+-- packet finds that the network lets its path through.
+use Rattle.std.proofs.Common.{◌≡◌, ℕ, ◌⊎◌, true, false, ltb, leb, List, [], ◌∷◌, length, Ok, Err, Result, refl, sym, ap, subst, inl, inr}
+use Rattle.refusal.specs.Refusal.{check}
+use Rattle.scion_topology.specs.declared.fault.TopologyFault.{TopologyFault}
+use Rattle.scion_topology.specs.Network.{Network}
+use Rattle.scion_topology.specs.Topology.{IsNetwork, owner_in, set_up, rotated}
+use Rattle.path_server.specs.Store.{answer_to}
+use Rattle.path_verifier.specs.Walk.{walk_of}
+use Rattle.path_verifier.specs.Accepted.{MakesPath}
+use Rattle.forwarding.specs.Journey.{first_out}
+use Rattle.forwarding.proofs.Made.{sound_is_let_through}
+use Rattle.forwarding.proofs.Steady.{mended_sound, cut_sound, rotated_sound}
+use Rattle.network_core.specs.declared.fault.EventFault.{EventFault}
+use Rattle.network_core.specs.declared.fault.EventFault.TheVariants as faults
+use Rattle.network_core.specs.declared.reply.Reply.{Reply}
+use Rattle.network_core.specs.Event.{EventValue, Tick, Originate, Extend, Terminate, Sweep, Ask, Send, Turn, Lose, Alter, Back, CutLink, MendLink, RotateKey}
+use Rattle.network_core.specs.Value.{SentValue, NetValue}
+use Rattle.policy_expr.specs.Options.{WeighedRules}
+use Rattle.network_core.specs.Step.{refused_as, ticked, originates, extends, terminates, cleared, with_beacon, with_segment, begun, passed_on, ended, with_network, flying_at, turns, loses, alters, options_asked, sent_by, replied, departs, Leads, Asks, Sends, Step}
+use Rattle.network_core.specs.History.{Moment, IsHistory}
+use Rattle.network_core.specs.Delivery.{is_done, AllLetGoOn, AreSound, LeavesUndisturbed, AllLeaveUndisturbed}
+use Rattle.network_core.proofs.Keeping.{In, by_leads, then_in}
+use Rattle.network_core.proofs.Numbers.{network_on}
+
+-- ---- events that are not about the topology leave it
+
+abbrev Same : NetValue → NetValue → Type 0
+Same old new = new.network ≡ old.network
+
+beacon_same : (old : NetValue) (c : _) → In (Same old) (with_beacon old c)
+beacon_same old c =
+    then_in (Same old) (check (ltb (length old.beacons) 1_000_000) faults.TooMany) _ (λ _. refl)
+
+send_same : (old new : NetValue) (reply : Reply) (sent : Result SentValue EventFault)
+    → Sends sent old reply new → Same old new
+send_same old new reply (Err fault) is = ap (λ (net : NetValue). net.network) is.1
+send_same old new reply (Ok sent) is = elim is [
+  | inl done ↦ by_leads (Same old) old new reply (departs old sent) refl
+      (then_in (Same old) (refused_as faults.Topology (owner_in old.network sent.way.source (first_out (walk_of sent.way.pieces)))) _
+      (λ router. then_in (Same old) (check (ltb (length old.packets) 1_000_000) faults.TooMany) _ (λ _. refl))) done.1.0
+  | inr none ↦ ap (λ (net : NetValue). net.network) none.1.1.1
+]
+
+ask_same : (old new : NetValue) (reply : Reply) (options : Result (List WeighedRules) EventFault)
+    (src dst limit : ℕ) → Asks options src dst limit old reply new → Same old new
+ask_same old new reply (Err fault) src dst limit is = ap (λ (net : NetValue). net.network) is.1
+ask_same old new reply (Ok options) src dst limit is = ap (λ (net : NetValue). net.network) is.kept
+
+-- a change of the topology was done, or nothing was changed
+changed : (made : Result Network TopologyFault) (old new : NetValue) (reply : Reply)
+    → Leads (with_network old made) old reply new
+    → (Same old new) ⊎ ((made ≡ Ok new.network) × (is_done reply ≡ true))
+changed (Ok network) old new reply is =
+    inr (ap (λ (net : NetValue). okay net.network) (sym is.1), ap is_done is.0)
+  where
+    okay : Network → Result Network TopologyFault
+    okay n = Ok n
+changed (Err fault) old new reply is = inl (ap (λ (net : NetValue). net.network) is.1)
+
+-- ---- what an event does to the topology
+
+-- a link is cut, or mended, or an AS takes another key, and the event was done
+pub record IsCut (old : NetValue) (event : EventValue) (reply : Reply) (new : NetValue) : Type 0 where
+  pub ia : ℕ
+  pub number : ℕ
+  pub event_is : event ≡ CutLink ia number
+  pub done : is_done reply ≡ true
+  pub change : set_up false ia number old.network ≡ Ok new.network
+
+pub record IsMended (old : NetValue) (event : EventValue) (reply : Reply) (new : NetValue) : Type 0 where
+  pub ia : ℕ
+  pub number : ℕ
+  pub change : set_up true ia number old.network ≡ Ok new.network
+
+pub record IsRotated (old : NetValue) (event : EventValue) (reply : Reply) (new : NetValue) : Type 0 where
+  pub ia : ℕ
+  pub key : List ℕ
+  pub event_is : event ≡ RotateKey ia key
+  pub done : is_done reply ≡ true
+  pub change : rotated ia key old.network ≡ Ok new.network
+
+abbrev pub Changes : NetValue → EventValue → Reply → NetValue → Type 0
+Changes old event reply new = (new.network ≡ old.network)
+    ⊎ (IsCut old event reply new ⊎ (IsMended old event reply new ⊎ IsRotated old event reply new))
+
+pub changes : (old new : NetValue) (event : EventValue) (reply : Reply) → Step old event reply new
+    → Changes old event reply new
+changes old new (Tick to) reply is =
+    inl (by_leads (Same old) old new reply (ticked old to) refl
+    (then_in (Same old) (check (leb old.moment to) faults.TimeBack) _ (λ _. refl)) is)
+changes old new (Originate ia egress beta0) reply is =
+    inl (by_leads (Same old) old new reply (originates old ia egress beta0) refl
+    (then_in (Same old) (begun old ia egress beta0) (with_beacon old) (beacon_same old)) is)
+changes old new (Extend beacon ia egress) reply is =
+    inl (by_leads (Same old) old new reply (extends old beacon ia egress) refl
+    (then_in (Same old) (passed_on old beacon ia egress) (with_beacon old) (beacon_same old)) is)
+changes old new (Terminate beacon ia) reply is =
+    inl (by_leads (Same old) old new reply (terminates old beacon ia) refl
+    (then_in (Same old) (ended old beacon ia) (with_segment old) (λ c.
+    then_in (Same old) (refused_as faults.Store (answer_to old.segments c old.moment)) _ (λ _. refl))) is)
+changes old new Sweep reply is =
+    inl (by_leads (Same old) old new reply (cleared old) refl refl is)
+changes old new (Ask src dst texts limit) reply is =
+    inl (ask_same old new reply (options_asked old src dst texts limit) src dst limit is)
+changes old new (Send route payload) reply is =
+    inl (send_same old new reply (sent_by old route payload) is)
+changes old new (Back q payload) reply is =
+    inl (send_same old new reply (replied old q payload) is)
+changes old new (Turn q) reply is =
+    inl (by_leads (Same old) old new reply (turns old q) refl
+    (then_in (Same old) (flying_at old q) _ (λ one. refl)) is)
+changes old new (Lose q) reply is =
+    inl (by_leads (Same old) old new reply (loses old q) refl
+    (then_in (Same old) (flying_at old q) _ (λ one. refl)) is)
+changes old new (Alter q at change) reply is =
+    inl (by_leads (Same old) old new reply (alters old q at change) refl
+    (then_in (Same old) (flying_at old q) _ (λ one.
+    then_in (Same old) (check (ltb at (length one.packet.bytes)) faults.BadOffset) _ (λ _. refl))) is)
+changes old new (CutLink ia number) reply is =
+    elim (changed (set_up false ia number old.network) old new reply is) [
+      | inl same ↦ inl same
+      | inr made ↦ inr (inl (record { ia = ia; number = number; event_is = refl; done = made.1; change = made.0 }))
+    ]
+changes old new (MendLink ia number) reply is =
+    elim (changed (set_up true ia number old.network) old new reply is) [
+      | inl same ↦ inl same
+      | inr made ↦ inr (inr (inl (record { ia = ia; number = number; change = made.0 })))
+    ]
+changes old new (RotateKey ia key) reply is =
+    elim (changed (rotated ia key old.network) old new reply is) [
+      | inl same ↦ inl same
+      | inr made ↦ inr (inr (inr (record { ia = ia; key = key; event_is = refl; done = made.1; change = made.0 })))
+    ]
+
+-- ---- sound pieces
+
+-- each event that leaves the packet undisturbed leaves its pieces sound
+pub sound_on : (p : ℕ) (sent : SentValue) (old new : NetValue) (event : EventValue) (reply : Reply)
+    → Step old event reply new → LeavesUndisturbed p sent old event reply
+    → AreSound old.network sent.way.pieces → AreSound new.network sent.way.pieces
+sound_on p sent old new event reply is quiet sound = elim (changes old new event reply is) [
+  | inl same ↦ subst (λ n. AreSound n sent.way.pieces) (sym same) sound
+  | inr some ↦ elim some [
+    | inl c ↦ (λ k d within. (
+        let one = sound k d within in
+        let alone = quiet.links c.ia c.number c.event_is c.done k d within in
+        (one.0, cut_sound old.network new.network c.ia c.number one.0 _ c.change alone one.1)))
+    | inr more ↦ elim more [
+      | inl m ↦ (λ k d within. (
+          let one = sound k d within in
+          (one.0, mended_sound old.network new.network m.ia m.number one.0 _ m.change one.1)))
+      | inr r ↦ (λ k d within. (
+          let one = sound k d within in
+          let past = quiet.keys r.ia r.key r.event_is r.done k d within in
+          (one.0, rotated_sound old.network new.network r.ia r.key one.0 _ r.change past one.1)))
+    ]
+  ]
+]
+
+-- ---- any events
+
+pub let_all : (p : ℕ) (sent : SentValue) (moment : ℕ) (net : NetValue) (later : List Moment)
+    → MakesPath sent.way.pieces sent.way.source sent.way.destination moment → IsHistory net later
+    → IsNetwork net.network → AreSound net.network sent.way.pieces
+    → AllLeaveUndisturbed p sent net later → AllLetGoOn p sent net later
+let_all p sent moment net [] path is network sound quiet = tt
+let_all p sent moment net (m ∷ later) path is network sound quiet =
+    let now = quiet.0 in (
+      record {
+        unlost = now.unlost;
+        unaltered = now.unaltered;
+        let_through = λ event done. sound_is_let_through net.network net.moment sent.way.source
+            sent.way.destination moment sent.way.pieces network path (now.in_time event done) sound;
+      },
+      let_all p sent moment m.net later path is.1
+          (network_on net m.net m.event m.reply is.0 network)
+          (sound_on p sent net m.net m.event m.reply is.0 now sound) quiet.1,
+    )

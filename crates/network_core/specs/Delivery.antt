@@ -1,0 +1,93 @@
+-- What is asked of the events that follow a packet, and what is then true of it
+-- (draft-dekater-scion-dataplane).
+use Rattle.std.specs.Prelude.{◌≡◌, ◌↔◌, ℕ, ◌+◌, ◌<◌, ◌≤◌, ◌==◌, Bool, true, false, if◌then◌else◌, List, [], ◌∷◌, ◌++◌, Some, slice_get, All}
+use Rattle.policy_expr.specs.declared.hop.WalkHop.{WalkHop}
+use Rattle.scion_topology.specs.Network.{Network}
+use Rattle.path_verifier.specs.Piece.{PieceValue}
+use Rattle.path_verifier.specs.Walk.{walk_of}
+use Rattle.path_verifier.specs.Accepted.{AreLive}
+use Rattle.forwarding.specs.declared.place.Place.{Place}
+use Rattle.forwarding.specs.declared.place.Place.TheVariants as places
+use Rattle.forwarding.specs.Open.{LetsThrough}
+use Rattle.forwarding.specs.Standing.{arrived_with}
+use Rattle.forwarding.specs.Sound.{IsSound, PassesBy, LeavesAlone}
+use Rattle.network_core.specs.declared.reply.Reply.{Reply}
+use Rattle.network_core.specs.declared.reply.Reply.TheVariants as replies
+use Rattle.network_core.specs.Event.{EventValue, Turn, Lose, Alter, CutLink, RotateKey}
+use Rattle.network_core.specs.Value.{SentValue, PacketValue, NetValue}
+use Rattle.network_core.specs.History.{Moment}
+
+-- the event was done
+abbrev pub is_done : Reply → Bool
+is_done (replies.Refused fault) = false
+is_done reply = true
+
+-- the event, if it was done, neither loses the packet nor alters it, and a turn of the packet finds
+-- that the network lets its path through
+pub record LetsGoOn (p : ℕ) (sent : SentValue) (old : NetValue) (event : EventValue) (reply : Reply)
+    : Type 0 where
+  pub unlost : event ≡ Lose p → is_done reply ≡ true → ⊥
+  pub unaltered : (at change : ℕ) → event ≡ Alter p at change → is_done reply ≡ true → ⊥
+  pub let_through : event ≡ Turn p → is_done reply ≡ true
+      → LetsThrough old.network old.moment sent.way.source sent.way.destination sent.way.pieces
+
+abbrev pub AllLetGoOn : ℕ → SentValue → NetValue → List Moment → Type 0
+AllLetGoOn p sent net [] = Unit {0}
+AllLetGoOn p sent net (moment ∷ later) =
+    LetsGoOn p sent net moment.event moment.reply × AllLetGoOn p sent moment.net later
+
+-- how many of these events are turns of the packet
+abbrev pub is_turn_of : ℕ → EventValue → Bool
+is_turn_of p (Turn other) = other == p
+is_turn_of p event = false
+
+abbrev pub turns_of : ℕ → List Moment → ℕ
+turns_of p [] = 0
+turns_of p (moment ∷ later) = (if is_turn_of p moment.event then 1 else 0) + turns_of p later
+
+abbrev pub IsRefusedAt : Place → Type 0
+IsRefusedAt (places.Refused ia router refusal) = Unit {0}
+IsRefusedAt place = ⊥
+
+abbrev pub IsAtRouter : Place → Type 0
+IsAtRouter (places.AtRouter stop) = Unit {0}
+IsAtRouter place = ⊥
+
+-- the packet, with so many turns to its walk's end and so many had: no router has refused it; the
+-- hops that it has passed are the beginning of its walk; it is delivered exactly once it has had
+-- its turns, and stands at a router before; and it is delivered with its whole walk passed, the
+-- header behind all pieces and the payload as it was sent
+pub record IsForwarded (net : NetValue) (p total done : ℕ) (sent : SentValue) : Type 0 where
+  pub packet : PacketValue
+  pub there : slice_get net.packets p ≡ Some packet
+  pub holds : packet.sent ≡ sent
+  pub unrefused : ¬ (IsRefusedAt packet.packet.place)
+  pub rest : List WalkHop
+  pub so_far : packet.packet.passed ++ rest ≡ walk_of sent.way.pieces
+  pub exact : packet.packet.place ≡ places.Delivered ↔ (total ≤ done)
+  pub waits : done < total → IsAtRouter packet.packet.place
+  pub whole : packet.packet.place ≡ places.Delivered → packet.packet
+      ≡ arrived_with sent.way.source sent.way.destination sent.payload sent.way.pieces
+
+-- each piece is of a segment that the network has made under some keys, which are accepted now,
+-- over links that are up now
+abbrev pub AreSound : Network → List PieceValue → Type 0
+AreSound n pieces = All (λ piece. (keys : List (List ℕ)) × IsSound n keys piece) pieces
+
+-- the event, if it was done, neither loses the packet nor alters it, cuts no link of its path and
+-- changes no key of its ASes, and a turn of the packet comes while its path is live
+pub record LeavesUndisturbed (p : ℕ) (sent : SentValue) (old : NetValue) (event : EventValue)
+    (reply : Reply) : Type 0 where
+  pub unlost : event ≡ Lose p → is_done reply ≡ true → ⊥
+  pub unaltered : (at change : ℕ) → event ≡ Alter p at change → is_done reply ≡ true → ⊥
+  pub in_time : event ≡ Turn p → is_done reply ≡ true → AreLive old.moment sent.way.pieces
+  pub links : (ia number : ℕ) → event ≡ CutLink ia number → is_done reply ≡ true
+      → All (λ piece. LeavesAlone piece.segment piece.from piece.to ia number) sent.way.pieces
+  pub keys : (ia : ℕ) (key : List ℕ) → event ≡ RotateKey ia key → is_done reply ≡ true
+      → All (λ piece. PassesBy piece.segment piece.from piece.to ia) sent.way.pieces
+
+abbrev pub AllLeaveUndisturbed : ℕ → SentValue → NetValue → List Moment → Type 0
+AllLeaveUndisturbed p sent net [] = Unit {0}
+AllLeaveUndisturbed p sent net (moment ∷ later) =
+    LeavesUndisturbed p sent net moment.event moment.reply
+    × AllLeaveUndisturbed p sent moment.net later

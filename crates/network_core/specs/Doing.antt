@@ -1,0 +1,107 @@
+-- What private calls answer that do one event (words of no public clause).
+use Rattle.std.specs.Prelude.{◌≡◌, ◌⊎◌, List, ◌∷◌, ◌++◌, [], length, slice_get, ℕ, Some, Result, Ok, Err, IsOk}
+use Rattle.refusal.specs.declared.fault.OrMemory.{OrMemory}
+use Rattle.refusal.specs.declared.fault.OrMemory.TheVariants.{Memory, Refused}
+use Rattle.policy_expr.specs.Options.{WeighedRules}
+use Rattle.forwarding.specs.Frame.{HasFrame}
+use Rattle.network_core.specs.declared.fault.EventFault.{EventFault}
+use Rattle.network_core.specs.declared.reply.Reply.{Reply}
+use Rattle.network_core.specs.declared.fault.EventFault.TheVariants.{Path}
+use Rattle.network_core.specs.declared.reply.Reply.TheVariants as replies
+use Rattle.network_core.specs.Event.{EventValue}
+use Rattle.network_core.specs.Value.{KeptAnswer, asked_at, SentValue, PacketValue, NetValue}
+use Rattle.network_core.specs.Step.{Made, flying_at, departs, IsAnswerTo, Asks, Sends, Departs, Step, TakesMemory}
+use Rattle.path_verifier.specs.declared.fault.VerifyFault.{VerifyFault}
+use Rattle.path_verifier.specs.Accepted.{IsAccepted}
+use Rattle.path_verifier.specs.Verdict.{IsRefused}
+
+-- what was to be made was made, or its refusal or want of memory is told and nothing is changed
+abbrev pub Does : Made → Type 0 → NetValue → NetValue → Result Reply (OrMemory EventFault) → Type 0
+Does made takes old new (Ok reply) = made ≡ Ok (reply, new)
+Does made takes old new (Err (Refused fault)) = (made ≡ Err fault) × (new ≡ old)
+Does made takes old new (Err Memory) = takes × (new ≡ old)
+
+-- the error of a lower call as the event's
+abbrev pub error_as : {F : Type 0} → (F → EventFault) → OrMemory F → OrMemory EventFault
+error_as of_fault Memory = Memory
+error_as of_fault (Refused fault) = Refused (of_fault fault)
+
+-- one event was done so, or its refusal or want of memory is told
+abbrev pub DoesEvent : NetValue → EventValue → NetValue → Result Reply (OrMemory EventFault)
+    → Type 0
+DoesEvent old event new (Ok reply) = Step old event reply new
+DoesEvent old event new (Err (Refused fault)) = Step old event (replies.Refused fault) new
+DoesEvent old event new (Err Memory) = TakesMemory old event × (new ≡ old)
+
+-- what was to be sent departed, or its refusal or want of memory is told
+abbrev pub DoesSend : Result SentValue EventFault → NetValue → NetValue
+    → Result Reply (OrMemory EventFault) → Type 0
+DoesSend sent old new (Ok reply) = Sends sent old reply new
+DoesSend sent old new (Err (Refused fault)) = Sends sent old (replies.Refused fault) new
+DoesSend sent old new (Err Memory) = Departs old sent × (new ≡ old)
+
+-- what was asked was answered, or its refusal or want of memory is told
+abbrev pub DoesAsk : Result (List WeighedRules) EventFault → ℕ → ℕ → ℕ → NetValue → NetValue
+    → Result Reply (OrMemory EventFault) → Type 0
+DoesAsk options src dst limit old new (Ok reply) = Asks options src dst limit old reply new
+DoesAsk options src dst limit old new (Err (Refused fault)) =
+    Asks options src dst limit old (replies.Refused fault) new
+DoesAsk options src dst limit old new (Err Memory) = IsOk options × (new ≡ old)
+
+-- an answer is ready to be kept, or memory ran out
+abbrev pub AnswersTo : {X : Type 0} → (X → KeptAnswer) → NetValue → ℕ → ℕ → List WeighedRules → ℕ
+    → Result X (OrMemory EventFault) → Type 0
+AnswersTo view net src dst options limit (Ok x) = IsAnswerTo net src dst options limit (view x)
+AnswersTo view net src dst options limit (Err Memory) = Unit {0}
+AnswersTo view net src dst options limit (Err (Refused fault)) = ⊥
+
+-- an answer was taken in, behind the others, or memory ran out
+abbrev pub KeepsAnswer : KeptAnswer → NetValue → NetValue → Result Reply (OrMemory EventFault)
+    → Type 0
+KeepsAnswer one old new (Ok reply) =
+    (reply ≡ replies.Answered (length old.answers))
+    × (new ≡ record old { answers = old.answers ++ one ∷ [] })
+KeepsAnswer one old new (Err Memory) = new ≡ old
+KeepsAnswer one old new (Err (Refused fault)) = ⊥
+
+-- a packet is ready that would depart so, or its refusal or want of memory is told
+abbrev pub Readies : {X : Type 0} → (X → PacketValue) → NetValue → SentValue
+    → Result X (OrMemory EventFault) → Type 0
+Readies view net sent (Ok packet) =
+    IsAccepted (asked_at net.moment sent.way)
+    × ((departs net sent
+    ≡ Ok (replies.Sent (length net.packets), record net { packets = net.packets ++ view packet ∷ [] }))
+    × HasFrame sent.way.source sent.way.destination sent.way.pieces)
+Readies view net sent (Err Memory) =
+    IsAccepted (asked_at net.moment sent.way) × IsOk (departs net sent)
+Readies view net sent (Err (Refused fault)) =
+    ((first : VerifyFault) × (IsRefused (asked_at net.moment sent.way) first × (fault ≡ Path first)))
+    ⊎ (IsAccepted (asked_at net.moment sent.way) × (departs net sent ≡ Err fault))
+
+-- the same where there may be nothing to be sent
+abbrev pub ReadiesFrom : {X : Type 0} → (X → PacketValue) → NetValue
+    → Result SentValue EventFault → Result X (OrMemory EventFault) → Type 0
+ReadiesFrom view net (Ok sent) answer = Readies view net sent answer
+ReadiesFrom view net (Err fault) answer = answer ≡ Err (Refused fault)
+
+-- what was judged, or its refusal
+abbrev pub Judges : {X Y : Type 0} → (X → Y) → Result X (OrMemory EventFault)
+    → Result Y EventFault → Type 0
+Judges view (Ok x) wanted = wanted ≡ Ok (view x)
+Judges view (Err (Refused fault)) wanted = wanted ≡ Err fault
+Judges view (Err Memory) wanted = ⊥
+
+-- a packet was taken in, behind the others, or memory ran out
+abbrev pub Keeps : PacketValue → NetValue → NetValue → Result Reply (OrMemory EventFault) → Type 0
+Keeps packet old new (Ok reply) =
+    (reply ≡ replies.Sent (length old.packets))
+    × (new ≡ record old { packets = old.packets ++ packet ∷ [] })
+Keeps packet old new (Err Memory) = new ≡ old
+Keeps packet old new (Err (Refused fault)) = ⊥
+
+-- the place in the list of a packet that is in flight, or why there is none
+abbrev pub Flies : NetValue → ℕ → Result ℕ (OrMemory EventFault) → Type 0
+Flies net number (Ok place) = (place ≡ number) × ((one : PacketValue)
+    × ((slice_get net.packets number ≡ Some one) × (flying_at net number ≡ Ok one)))
+Flies net number (Err (Refused fault)) = flying_at net number ≡ Err fault
+Flies net number (Err Memory) = ⊥

@@ -1,0 +1,100 @@
+-- The headline: what is asked of a packet that a history sends, and what is then true of it, by the
+-- numbers of the events (draft-dekater-scion-dataplane; draft-dekater-scion-controlplane).
+use Rattle.std.specs.Prelude.{◌≡◌, ◌↔◌, ℕ, ◌+◌, ◌*◌, ◌<◌, ◌≤◌, true, List, length, All, Any, take, drop, Ok}
+use Rattle.path_verifier.specs.Piece.{PieceValue}
+use Rattle.path_verifier.specs.Walk.{walk_of}
+use Rattle.path_verifier.specs.Header.{hop_count}
+use Rattle.path_verifier.specs.declared.fault.VerifyFault.{VerifyFault}
+use Rattle.path_verifier.specs.declared.fault.VerifyFault.TheVariants.{Expired}
+use Rattle.path_verifier.specs.Turned.{turned_pieces}
+use Rattle.path_verifier.specs.Accepted.{IsExpiry, IsAccepted}
+use Rattle.path_verifier.specs.Verdict.{IsRefused}
+use Rattle.forwarding.specs.declared.place.Place.TheVariants.{Delivered}
+use Rattle.forwarding.specs.Journey.{turns_for}
+use Rattle.forwarding.specs.Sound.{PassesBy, LeavesAlone}
+use Rattle.network_core.specs.declared.reply.Reply.{Reply}
+use Rattle.network_core.specs.Event.{EventValue, Turn, Lose, Alter, CutLink, RotateKey}
+use Rattle.network_core.specs.Value.{asked_at, SentValue, NetValue}
+use Rattle.network_core.specs.Step.{replied}
+use Rattle.network_core.specs.History.{Moment, net_at, Answers, IssuedIn}
+use Rattle.network_core.specs.Delivery.{is_done, turns_of, IsForwarded}
+
+-- event number k is this one, and was done
+pub record IsDone (history : List Moment) (k : ℕ) (event : EventValue) : Type 0 where
+  pub reply : Reply
+  pub answers : Answers history k event reply
+  pub done : is_done reply ≡ true
+
+-- each piece is of a segment that was issued by events from number `begin` on and before number
+-- `sent`
+abbrev pub AreIssuedFrom : NetValue → List Moment → ℕ → ℕ → List PieceValue → Type 0
+AreIssuedFrom start history begin sent pieces =
+    All (λ piece. (first last : ℕ) × ((begin ≤ first) × ((last < sent)
+    × IssuedIn start history first last piece.segment))) pieces
+
+-- and event number `begin` is the first of all these events
+pub record HaveBeginning (start : NetValue) (history : List Moment) (sent : ℕ)
+    (pieces : List PieceValue) : Type 0 where
+  pub begin : ℕ
+  pub each : AreIssuedFrom start history begin sent pieces
+  pub earliest : Any (λ piece. (last : ℕ) × ((last < sent)
+      × IssuedIn start history begin last piece.segment)) pieces
+
+-- the pieces are issued from number `begin` on; and from there on no AS of their travelled entries
+-- has taken another key twice, and no link between two of them was cut
+pub record Kept (start : NetValue) (history : List Moment) (sent : ℕ) (pieces : List PieceValue)
+    : Type 0 where
+  pub begin : ℕ
+  pub issued : AreIssuedFrom start history begin sent pieces
+  pub keys : (i j ia : ℕ) (key other : List ℕ) → begin ≤ i → i < j
+      → IsDone history i (RotateKey ia key) → IsDone history j (RotateKey ia other)
+      → All (λ piece. PassesBy piece.segment piece.from piece.to ia) pieces
+  pub links : (k ia number : ℕ) → begin ≤ k → IsDone history k (CutLink ia number)
+      → All (λ piece. LeavesAlone piece.segment piece.from piece.to ia number) pieces
+
+-- and nobody alters the packet, nothing loses it, and each of its turns comes at a second not past
+-- the expiry of its path
+pub record Undisturbed (start : NetValue) (history : List Moment) (sent p : ℕ)
+    (pieces : List PieceValue) : Type 0 where
+  pub kept : Kept start history sent pieces
+  pub unaltered : (k at change : ℕ) → ¬ (IsDone history k (Alter p at change))
+  pub unlost : (k : ℕ) → ¬ (IsDone history k (Lose p))
+  pub expiry : ℕ
+  pub least : IsExpiry pieces expiry
+  pub in_time : (k : ℕ) → IsDone history k (Turn p) → 2 * (net_at start history k).moment ≤ expiry
+
+-- the turns of a packet in the first k events that come after number sent
+abbrev pub turns_since : List Moment → ℕ → ℕ → ℕ → ℕ
+turns_since history sent p k = turns_of p (drop (sent + 1) (take k history))
+
+-- what answers a delivered packet is sent by the way back: from its destination to its source, with
+-- its pieces in reversed order and direction; this way is accepted at each second up to the expiry
+-- of the path, and refused as Expired after it
+pub record IsAnswerable (net : NetValue) (p : ℕ) (sent : SentValue) (payload : List ℕ) : Type 0 where
+  pub back : SentValue
+  pub replies : replied net p payload ≡ Ok back
+  pub source : back.way.source ≡ sent.way.destination
+  pub destination : back.way.destination ≡ sent.way.source
+  pub pieces : back.way.pieces ≡ turned_pieces sent.way.pieces
+  pub in_time : (moment expiry : ℕ) → IsExpiry sent.way.pieces expiry → 2 * moment ≤ expiry
+      → IsAccepted (asked_at moment back.way)
+  pub late : (moment expiry : ℕ) → IsExpiry sent.way.pieces expiry → expiry < 2 * moment
+      → (fault : VerifyFault) → IsRefused (asked_at moment back.way) fault ↔ (fault ≡ Expired)
+
+-- what event number `sent` sent: its path was accepted; and where the packet is undisturbed, after
+-- each later number of events it is forwarded, it is delivered once it has had two turns for each
+-- hop field, and a delivered one may be answered with up to 1,024 bytes
+pub record Headline (start : NetValue) (history : List Moment) (number p : ℕ) (sent : SentValue)
+    : Type 0 where
+  pub accepted : IsAccepted (asked_at (net_at start history number).moment sent.way)
+  pub forwarded : (k : ℕ) → Undisturbed start history number p sent.way.pieces → number < k
+      → IsForwarded (net_at start history k) p
+      (turns_for (net_at start history number).network (walk_of sent.way.pieces))
+      (turns_since history number p k) sent
+  pub in_time : (k : ℕ) → (quiet : Undisturbed start history number p sent.way.pieces)
+      → (after : number < k) → 2 * hop_count sent.way.pieces ≤ turns_since history number p k
+      → (forwarded k quiet after).packet.packet.place ≡ Delivered
+  pub answerable : (k : ℕ) → (quiet : Undisturbed start history number p sent.way.pieces)
+      → (after : number < k) → (forwarded k quiet after).packet.packet.place ≡ Delivered
+      → (payload : List ℕ) → length payload ≤ 1024
+      → IsAnswerable (net_at start history k) p sent payload

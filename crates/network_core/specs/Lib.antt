@@ -1,0 +1,10 @@
+pub mod Fault
+pub mod Event
+pub mod Seen
+pub mod Value
+pub mod Step
+pub mod History
+pub mod Delivery
+pub mod Headline
+pub mod Ran
+pub mod Doing

@@ -1,0 +1,319 @@
+-- One event: what it is answered, and the network after it (draft-dekater-scion-controlplane,
+-- beaconing and registration of path segments; draft-dekater-scion-dataplane).
+use Rattle.std.specs.Prelude.{◌≡◌, ◌⊎◌, ℕ, true, false, nat_lt, nat_le, ◌&&◌, List, [], ◌∷◌, ◌++◌, length, slice_get, slice_set, Option, Some, None, Result, Ok, Err, IsOk}
+use Rattle.std.specs.Option.{ok_or, option_map_or}
+use Rattle.refusal.specs.Refusal.{◌>>=◌, check}
+use Rattle.scion_topology.specs.declared.fault.TopologyFault.{TopologyFault}
+use Rattle.scion_topology.specs.Network.{Network}
+use Rattle.scion_topology.specs.Topology.{owner_in, set_up, rotated}
+use Rattle.path_segment.specs.Chain.{Chain}
+use Rattle.beaconing.specs.Calls.{originated, extended, terminated}
+use Rattle.path_server.specs.Store.{answer_to, registered, swept, expired_count}
+use Rattle.path_server.specs.Lookup.{segments_for}
+use Rattle.policy_expr.specs.Policy.{Rules}
+use Rattle.policy_expr.specs.Options.{OptionTexts, WeighedRules, options_at}
+use Rattle.path_header.specs.Value.{HeaderValue}
+use Rattle.path_header.specs.Reversal.{reversed}
+use Rattle.path_verifier.specs.declared.fault.VerifyFault.{VerifyFault}
+use Rattle.path_verifier.specs.Walk.{walk_of}
+use Rattle.path_verifier.specs.Turned.{turned_pieces}
+use Rattle.path_verifier.specs.Accepted.{IsAccepted}
+use Rattle.path_verifier.specs.Verdict.{IsRefused}
+use Rattle.combinator.specs.Answer.{AnswersWith}
+use Rattle.combinator.specs.Fault.{ends_at}
+use Rattle.router_step.specs.declared.fault.Refusal.{Refusal}
+use Rattle.router_step.specs.Packet.{destination_of, source_of, header_in}
+use Rattle.forwarding.specs.declared.place.Place.{Place}
+use Rattle.forwarding.specs.declared.place.Place.TheVariants as places
+use Rattle.forwarding.specs.Frame.{framed, HasFrame}
+use Rattle.forwarding.specs.Turn.{Packet, put_at, turn_of, lost, altered}
+use Rattle.forwarding.specs.Turned.{no_rules}
+use Rattle.forwarding.specs.Journey.{first_out}
+use Rattle.network_core.specs.declared.fault.EventFault.{EventFault}
+use Rattle.network_core.specs.declared.fault.EventFault.TheVariants as faults
+use Rattle.network_core.specs.declared.reply.Reply.{Reply}
+use Rattle.network_core.specs.declared.reply.Reply.TheVariants.{Done, Begun, Registered, Swept, Answered, Sent, Turned, Refused}
+use Rattle.network_core.specs.Event.{RouteValue, ByAnswer, ByWay, EventValue, Tick, Originate, Extend, Terminate, Sweep, Ask, Send, Turn, Lose, Alter, Back, CutLink, MendLink, RotateKey}
+use Rattle.network_core.specs.Value.{Way, KeptAnswer, way_on, asked_at, SentValue, PacketValue, NetValue}
+
+-- what a lower call answers, its refusal as the event's
+abbrev pub refused_as : {A F : Type 0} → (F → EventFault) → Result A F → Result A EventFault
+refused_as of_fault (Ok x) = Ok x
+refused_as of_fault (Err fault) = Err (of_fault fault)
+
+-- what an event that is done makes of a network
+abbrev pub Made : Type 0
+Made = Result (Reply × NetValue) EventFault
+
+-- the moment goes on: TimeBack
+abbrev pub ticked : NetValue → ℕ → Made
+ticked net to = do
+  _ ← check (nat_le net.moment to) faults.TimeBack
+  Ok (Done, record net { moment = to })
+
+-- one beacon more, of at most a million: TooMany
+abbrev pub with_beacon : NetValue → Chain → Made
+with_beacon net beacon = do
+  _ ← check (nat_lt (length net.beacons) 1_000_000) faults.TooMany
+  Ok (Begun (length net.beacons), record net { beacons = net.beacons ++ beacon ∷ [] })
+
+-- a beacon of this number: NoBeacon
+abbrev pub beacon_at : NetValue → ℕ → Result Chain EventFault
+beacon_at net beacon = ok_or (slice_get net.beacons beacon) faults.NoBeacon
+
+-- what an AS begins, with the moment as its timestamp
+abbrev pub begun : NetValue → ℕ → ℕ → ℕ → Result Chain EventFault
+begun net ia egress beta0 =
+    refused_as faults.Beacon (originated net.network ia egress net.moment beta0)
+
+-- what an AS makes of a beacon by passing it on
+abbrev pub passed_on : NetValue → ℕ → ℕ → ℕ → Result Chain EventFault
+passed_on net beacon ia egress = do
+  old ← beacon_at net beacon
+  refused_as faults.Beacon (extended net.network old ia egress)
+
+-- what an AS makes of a beacon by ending it
+abbrev pub ended : NetValue → ℕ → ℕ → Result Chain EventFault
+ended net beacon ia = do
+  old ← beacon_at net beacon
+  refused_as faults.Beacon (terminated net.network old ia)
+
+-- a segment is registered at the moment
+abbrev pub with_segment : NetValue → Chain → Made
+with_segment net segment = do
+  is_new ← refused_as faults.Store (answer_to net.segments segment net.moment)
+  Ok (Registered is_new, record net { segments = registered net.segments segment net.moment })
+
+-- a beacon more, begun or passed on, and a segment more
+abbrev pub originates : NetValue → ℕ → ℕ → ℕ → Made
+originates net ia egress beta0 = begun net ia egress beta0 >>= with_beacon net
+
+abbrev pub extends : NetValue → ℕ → ℕ → ℕ → Made
+extends net beacon ia egress = passed_on net beacon ia egress >>= with_beacon net
+
+abbrev pub terminates : NetValue → ℕ → ℕ → Made
+terminates net beacon ia = ended net beacon ia >>= with_segment net
+
+-- the store without the segments that are not live at the moment
+abbrev pub cleared : NetValue → Made
+cleared net = Ok (
+  Swept (expired_count net.segments net.moment),
+  record net { segments = swept net.segments net.moment },
+)
+
+-- another topology, where the change of it is done
+abbrev pub with_network : NetValue → Result Network TopologyFault → Made
+with_network net changed = do
+  network ← refused_as faults.Topology changed
+  Ok (Done, record net { network = network })
+
+-- ---- asking for paths
+
+-- the options under which up to so many paths are asked for: BadLimit; the refusals of reading the
+-- options; that of one AS at both ends; TooMany
+abbrev pub options_asked : NetValue → ℕ → ℕ → List OptionTexts → ℕ
+    → Result (List WeighedRules) EventFault
+options_asked net src dst texts limit = do
+  _ ← check (nat_le 1 limit && nat_le limit 64) faults.BadLimit
+  options ← refused_as faults.Policy (options_at texts)
+  _ ← refused_as faults.Combination (ends_at src dst)
+  _ ← check (nat_lt (length net.answers) 1_000_000) faults.TooMany
+  Ok options
+
+-- the policy of the option that is used; where none is, the one that allows every walk
+abbrev pub rules_used : List WeighedRules → Option ℕ → Rules
+rules_used options None = no_rules
+rules_used options (Some used) =
+    option_map_or (λ (option : WeighedRules). option.rules) (slice_get options used) no_rules
+
+-- what is kept is what these segments answer at the moment, with the policy of the option that is
+-- used
+pub record IsAnswerTo (net : NetValue) (src dst : ℕ) (options : List WeighedRules) (limit : ℕ)
+    (one : KeptAnswer) : Type 0 where
+  pub source : one.source ≡ src
+  pub destination : one.destination ≡ dst
+  pub answers : AnswersWith (segments_for net.segments src dst net.moment) src dst options limit
+      one.answer.used one.answer.paths
+  pub rules : one.rules ≡ rules_used options one.answer.used
+
+-- an answer more, and it is told by its number
+pub record GivesAnswer (options : List WeighedRules) (src dst limit : ℕ) (old : NetValue)
+    (reply : Reply) (new : NetValue) : Type 0 where
+  pub one : KeptAnswer
+  pub is : IsAnswerTo old src dst options limit one
+  pub told : reply ≡ Answered (length old.answers)
+  pub kept : new ≡ record old { answers = old.answers ++ one ∷ [] }
+
+-- the request is answered, or refused
+abbrev pub Asks : Result (List WeighedRules) EventFault → ℕ → ℕ → ℕ → NetValue → Reply → NetValue
+    → Type 0
+Asks (Ok options) src dst limit old reply new =
+    GivesAnswer options src dst limit old reply new
+Asks (Err fault) src dst limit old reply new = (reply ≡ Refused fault) × (new ≡ old)
+
+-- ---- packets on their way
+
+-- a packet of this number: NoPacket
+abbrev pub packet_at : NetValue → ℕ → Result PacketValue EventFault
+packet_at net number = ok_or (slice_get net.packets number) faults.NoPacket
+
+-- the packet is at a router: NotInFlight
+abbrev pub is_in_flight : Place → Result (Unit {0}) EventFault
+is_in_flight (places.AtRouter stop) = Ok tt
+is_in_flight places.Delivered = Err faults.NotInFlight
+is_in_flight (places.Refused ia router refusal) = Err faults.NotInFlight
+is_in_flight places.Lost = Err faults.NotInFlight
+
+abbrev pub flying_at : NetValue → ℕ → Result PacketValue EventFault
+flying_at net number = do
+  one ← packet_at net number
+  _ ← is_in_flight one.packet.place
+  Ok one
+
+-- the network with this packet of this number changed
+abbrev pub with_packet : NetValue → ℕ → PacketValue → Packet → NetValue
+with_packet net number one packet =
+    record net { packets = slice_set net.packets number (record one { packet = packet }) }
+
+-- a turn of a packet at the moment
+abbrev pub turns : NetValue → ℕ → Made
+turns net number = do
+  one ← flying_at net number
+  Ok (
+    Turned (turn_of net.network net.moment one.packet).0,
+    with_packet net number one (turn_of net.network net.moment one.packet).1,
+  )
+
+-- a packet is lost
+abbrev pub loses : NetValue → ℕ → Made
+loses net number = do
+  one ← flying_at net number
+  Ok (Done, with_packet net number one (lost one.packet))
+
+-- a byte of a packet is changed by exclusive or: BadOffset
+abbrev pub alters : NetValue → ℕ → ℕ → ℕ → Made
+alters net number at change = do
+  one ← flying_at net number
+  _ ← check (nat_lt at (length one.packet.bytes)) faults.BadOffset
+  Ok (Done, with_packet net number one (altered one.packet at change))
+
+-- ---- sending
+
+-- the way of a route: NoAnswer, where there is no such answer or it has no such path
+abbrev pub way_by : NetValue → RouteValue → Result Way EventFault
+way_by net (ByAnswer ask path) = do
+  answered ← ok_or (slice_get net.answers ask) faults.NoAnswer
+  one ← ok_or (slice_get answered.answer.paths path) faults.NoAnswer
+  Ok (way_on answered one)
+way_by net (ByWay way) = Ok way
+
+-- what is sent, of at most 1,024 bytes: PayloadTooLong
+abbrev pub sent_with : Way → List ℕ → Result SentValue EventFault
+sent_with way payload = do
+  _ ← check (nat_le (length payload) 1024) faults.PayloadTooLong
+  Ok (record { way = way; payload = payload })
+
+abbrev pub sent_by : NetValue → RouteValue → List ℕ → Result SentValue EventFault
+sent_by net route payload = do
+  way ← way_by net route
+  sent_with way payload
+
+-- the packet of it, at this router of its source
+abbrev pub packet_of : SentValue → ℕ → PacketValue
+packet_of sent router = record {
+  sent = sent;
+  packet = put_at (framed sent.way.source sent.way.destination sent.way.header sent.payload)
+      sent.way.source router;
+}
+
+-- a path that may be sent departs: the packet stands at the router that owns the way out of the
+-- walk's first hop, and there are at most a million packets
+abbrev pub departs : NetValue → SentValue → Made
+departs net sent = do
+  router ← refused_as faults.Topology
+      (owner_in net.network sent.way.source (first_out (walk_of sent.way.pieces)))
+  _ ← check (nat_lt (length net.packets) 1_000_000) faults.TooMany
+  Ok (Sent (length net.packets), record net { packets = net.packets ++ packet_of sent router ∷ [] })
+
+-- the header of a packet that was delivered, reversed: NotDelivered
+abbrev pub turned_round : Result (HeaderValue × ℕ) Refusal → Result HeaderValue EventFault
+turned_round (Ok read) = Ok (reversed read.0)
+turned_round (Err refusal) = Err faults.NotDelivered
+
+abbrev pub header_back : Packet → Place → Result HeaderValue EventFault
+header_back packet places.Delivered = turned_round (header_in packet.bytes)
+header_back packet (places.AtRouter stop) = Err faults.NotDelivered
+header_back packet (places.Refused ia router refusal) = Err faults.NotDelivered
+header_back packet places.Lost = Err faults.NotDelivered
+
+-- the way back of a delivered packet: source and destination exchanged, as its bytes have them,
+-- with this header, the pieces of what was sent in reversed order and direction, and no policy
+abbrev pub way_back : PacketValue → HeaderValue → Way
+way_back one header = record {
+  source = destination_of one.packet.bytes;
+  destination = source_of one.packet.bytes;
+  pieces = turned_pieces one.sent.way.pieces;
+  header = header;
+  rules = no_rules;
+}
+
+abbrev pub replied : NetValue → ℕ → List ℕ → Result SentValue EventFault
+replied net number payload = do
+  one ← packet_at net number
+  header ← header_back one.packet one.packet.place
+  sent_with (way_back one header) payload
+
+-- ---- each event
+
+-- what each event but Ask, Send and Back makes of a network, or the first cause why it is refused
+abbrev pub stepped : NetValue → EventValue → Made
+stepped net (Tick to) = ticked net to
+stepped net (Originate ia egress beta0) = originates net ia egress beta0
+stepped net (Extend beacon ia egress) = extends net beacon ia egress
+stepped net (Terminate beacon ia) = terminates net beacon ia
+stepped net Sweep = cleared net
+stepped net (Turn packet) = turns net packet
+stepped net (Lose packet) = loses net packet
+stepped net (Alter packet at change) = alters net packet at change
+stepped net (CutLink ia interface) = with_network net (set_up false ia interface net.network)
+stepped net (MendLink ia interface) = with_network net (set_up true ia interface net.network)
+stepped net (RotateKey ia key) = with_network net (rotated ia key net.network)
+stepped net event = Ok (Done, net)
+
+-- an event is answered so and leads to this network; one that is refused changes nothing
+abbrev pub Leads : Made → NetValue → Reply → NetValue → Type 0
+Leads (Ok made) old reply new = (reply ≡ made.0) × (new ≡ made.1)
+Leads (Err fault) old reply new = (reply ≡ Refused fault) × (new ≡ old)
+
+-- a path that the verifier accepts at the moment departs, and another is refused by its fault; of a
+-- packet that departs, both addresses and the numbers of the header have a place for their bits
+abbrev pub Sends : Result SentValue EventFault → NetValue → Reply → NetValue → Type 0
+Sends (Ok sent) old reply new =
+    (IsAccepted (asked_at old.moment sent.way) × (Leads (departs old sent) old reply new
+    × ((p : ℕ) → reply ≡ Sent p → HasFrame sent.way.source sent.way.destination sent.way.pieces)))
+    ⊎ ((fault : VerifyFault) × (IsRefused (asked_at old.moment sent.way) fault
+    × ((reply ≡ Refused (faults.Path fault)) × (new ≡ old))))
+Sends (Err fault) old reply new = (reply ≡ Refused fault) × (new ≡ old)
+
+-- one event
+abbrev pub Step : NetValue → EventValue → Reply → NetValue → Type 0
+Step old (Ask src dst texts limit) reply new =
+    Asks (options_asked old src dst texts limit) src dst limit old reply new
+Step old (Send route payload) reply new = Sends (sent_by old route payload) old reply new
+Step old (Back packet payload) reply new = Sends (replied old packet payload) old reply new
+Step old event reply new = Leads (stepped old event) old reply new
+
+-- a path that the verifier accepts departs
+abbrev pub Departs : NetValue → Result SentValue EventFault → Type 0
+Departs net (Ok sent) = IsAccepted (asked_at net.moment sent.way) × IsOk (departs net sent)
+Departs net (Err fault) = ⊥
+
+-- want of memory is possible: the event makes a beacon, a segment, an answer or a packet
+abbrev pub TakesMemory : NetValue → EventValue → Type 0
+TakesMemory net (Originate ia egress beta0) = IsOk (begun net ia egress beta0)
+TakesMemory net (Extend beacon ia egress) = IsOk (passed_on net beacon ia egress)
+TakesMemory net (Terminate beacon ia) = IsOk (ended net beacon ia)
+TakesMemory net (Ask src dst texts limit) = IsOk (options_asked net src dst texts limit)
+TakesMemory net (Send route payload) = Departs net (sent_by net route payload)
+TakesMemory net (Back packet payload) = Departs net (replied net packet payload)
+TakesMemory net event = ⊥

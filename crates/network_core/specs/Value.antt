@@ -1,0 +1,73 @@
+-- The whole network as one value.
+use Rattle.std.specs.Prelude.{ℕ, List, []}
+use Rattle.scion_topology.specs.Network.{Network}
+use Rattle.path_segment.specs.Chain.{Chain}
+use Rattle.path_header.specs.Value.{HeaderValue}
+use Rattle.policy_expr.specs.Policy.{Rules}
+use Rattle.path_verifier.specs.Piece.{PieceValue}
+use Rattle.path_verifier.specs.Accepted.{Request, request_of}
+use Rattle.combinator.specs.Candidate.{PathValue}
+use Rattle.combinator.specs.Answer.{AnswerValue}
+use Rattle.forwarding.specs.Turn.{Packet}
+
+-- a path with its ends, and the policy under which it is sent
+pub record Way : Type 0 where
+  pub source : ℕ
+  pub destination : ℕ
+  pub pieces : List PieceValue
+  pub header : HeaderValue
+  pub rules : Rules
+
+-- what the verifier is asked of it at a second
+abbrev pub asked_at : ℕ → Way → Request
+asked_at moment way =
+    request_of way.pieces way.header way.source way.destination moment way.rules
+
+-- what was accepted for sending
+pub record SentValue : Type 0 where
+  pub way : Way
+  pub payload : List ℕ
+
+-- a packet: what was sent, and the packet on its way
+pub record PacketValue : Type 0 where
+  pub sent : SentValue
+  pub packet : Packet
+
+-- an answer that is kept: the ends of the request, what was answered, and the policy of the option
+-- that is used
+pub record KeptAnswer : Type 0 where
+  pub source : ℕ
+  pub destination : ℕ
+  pub answer : AnswerValue
+  pub rules : Rules
+
+-- the way of one of its paths
+abbrev pub way_on : KeptAnswer → PathValue → Way
+way_on answered path = record {
+  source = answered.source;
+  destination = answered.destination;
+  pieces = path.pieces;
+  header = path.header;
+  rules = answered.rules;
+}
+
+-- the topology, the moment in seconds, the beacons by number, the segments of the store in order of
+-- registration, and the answers and the packets by number
+pub record NetValue : Type 0 where
+  pub network : Network
+  pub moment : ℕ
+  pub beacons : List Chain
+  pub segments : List Chain
+  pub answers : List KeptAnswer
+  pub packets : List PacketValue
+
+-- a network at moment 0 with nothing in it
+abbrev pub new_net : Network → NetValue
+new_net network = record {
+  network = network;
+  moment = 0;
+  beacons = [];
+  segments = [];
+  answers = [];
+  packets = [];
+}

@@ -1,0 +1,53 @@
+ghost use Rattle.std.specs.Prelude.{slice_get};
+ghost use Rattle.std.specs.Option.{ok_or};
+ghost use Rattle.network_core.specs.declared.fault.EventFault.TheVariants as faults;
+ghost use Rattle.network_core.specs.Doing.{Judges};
+
+use crate::fault::EventFault;
+use crate::net::EventError;
+use combinator::{Path, PathList};
+use isd_as::IsdAs;
+use policy_expr::Policy;
+use refusal::OrMemory;
+use std::alloc::Global;
+use std::marker::Model;
+
+/// An answer that is kept: the ends of its request, its paths, and the policy of the option that is
+/// used.
+#[derive(Drop)]
+pub(crate) struct Answer {
+    pub(crate) source: IsdAs,
+    pub(crate) destination: IsdAs,
+    pub(crate) paths: PathList,
+    pub(crate) policy: Policy<Global>,
+}
+
+impl Model for Answer {
+    ghost use Rattle.std.specs.Coded.{codes};
+    ghost use Rattle.policy_expr.specs.Code.{coded_tree};
+    ghost use Rattle.network_core.specs.Value.{KeptAnswer};
+
+    ghost Value = { KeptAnswer };
+
+    ghost coded = { Prim.hlevel (codes, coded_tree) };
+
+    ghost view = { λ a. record {
+      source = a.source;
+      destination = a.destination;
+      answer = a.paths;
+      rules = a.policy;
+    } };
+}
+
+impl Answer {
+    /// The path of this number.
+    pub(crate) fn path_numbered(&self, number: u32) -> Result<&Path, EventError>
+        ensures { Judges (λ path. path.now) result
+            (ok_or (slice_get self.now.answer.paths number) faults.NoAnswer) }
+    {
+        match self.paths.get(number as usize) {
+            Some(path) => Ok(path),
+            None => Err(OrMemory::Refused(EventFault::NoAnswer)),
+        }
+    }
+}

@@ -1,0 +1,144 @@
+//! Asking for paths.
+
+ghost use Rattle.std.specs.Prelude.{◌≡◌, ◌<◌, slice_get, Ok, IfOk, OnOk};
+ghost use Rattle.std.specs.Option.{ok_or};
+ghost use Rattle.refusal.specs.Refusal.{Answers};
+ghost use Rattle.combinator.specs.Fault.{ends_at};
+ghost use Rattle.network_core.specs.declared.fault.EventFault.TheVariants as faults;
+ghost use Rattle.network_core.specs.Doing.{AnswersTo, DoesAsk, Judges, KeepsAnswer};
+ghost use Rattle.network_core.specs.Step.{options_asked, rules_used};
+
+use crate::answer::Answer;
+use crate::beacons::MOST;
+use crate::fault::EventFault;
+use crate::net::{EventError, Net};
+use crate::reply::Reply;
+use combinator::{CombineFault, combine};
+use isd_as::IsdAs;
+use policy_expr::{OptionText, Policy, PolicyOption};
+use refusal::OrMemory;
+use std::alloc::{AllocError, Global};
+
+/// The most paths of an answer.
+const MAX_LIMIT: u32 = 64;
+
+impl Net {
+    /// Asks for paths.
+    pub(crate) fn ask(
+        &mut self,
+        alloc: Global,
+        src: IsdAs,
+        dst: IsdAs,
+        texts: &[OptionText<'_>],
+        limit: u32,
+    ) -> Result<Reply, EventError>
+        ensures { DoesAsk (options_asked self.old src dst texts.now limit) src dst limit
+            self.old self.new result }
+    {
+        let options = self.options_asked(alloc, src, dst, texts, limit)?;
+        let answer = self.answer_to(alloc, src, dst, &options, limit)?;
+        self.keep_answer(answer)
+    }
+
+    /// The options of a request, or the first cause why it is refused. Want of memory stands only
+    /// where there is no cause.
+    fn options_asked(
+        &self,
+        alloc: Global,
+        src: IsdAs,
+        dst: IsdAs,
+        texts: &[OptionText<'_>],
+        limit: u32,
+    ) -> Result<Vec<PolicyOption<Global>>, EventError>
+        ensures read { Answers (λ options. options.items) result
+            (options_asked self.now src dst texts.now limit) }
+        ensures some { OnOk result (0 < limit) }
+        ensures ends { OnOk result (ends_at src dst ≡ Ok tt) }
+    {
+        if limit == 0 || limit > MAX_LIMIT {
+            return Err(OrMemory::Refused(EventFault::BadLimit));
+        }
+        let options = PolicyOption::parse_all(alloc, texts);
+        if let Err(OrMemory::Refused(fault)) = options {
+            return Err(OrMemory::Refused(EventFault::Policy(fault)));
+        }
+        if src == dst {
+            return Err(OrMemory::Refused(EventFault::Combination(CombineFault::SameAs)));
+        }
+        if self.answers.len() >= MOST {
+            return Err(OrMemory::Refused(EventFault::TooMany));
+        }
+        match options {
+            Ok(options) => Ok(options),
+            Err(_) => Err(OrMemory::Memory),
+        }
+    }
+
+    /// The answer to a request between two ASes; or memory runs out.
+    fn answer_to(
+        &self,
+        alloc: Global,
+        src: IsdAs,
+        dst: IsdAs,
+        options: &[PolicyOption<Global>],
+        limit: u32,
+    ) -> Result<Answer, EventError>
+        requires some { 0 < limit }
+        requires ends { ends_at src dst ≡ Ok tt }
+        ensures { AnswersTo (λ one. one) self.now src dst options.now limit result }
+    {
+        let set = self.store.segments_for(alloc, src, dst, self.moment)?;
+        let paths = match combine(alloc, &set, src, dst, options, limit as usize) {
+            Ok(paths) => paths,
+            Err(OrMemory::Memory) => return Err(OrMemory::Memory),
+            Err(OrMemory::Refused(fault)) => {
+                return Err(OrMemory::Refused(EventFault::Combination(fault)));
+            }
+        };
+        let policy = policy_used(alloc, options, paths.option())?;
+        Ok(Answer {
+            source: src,
+            destination: dst,
+            paths,
+            policy,
+        })
+    }
+
+    /// Takes in an answer.
+    fn keep_answer(&mut self, answer: Answer) -> Result<Reply, EventError>
+        ensures { KeepsAnswer answer self.old self.new result }
+    {
+        let number = self.answers.len();
+        self.answers.push(answer)?;
+        Ok(Reply::Answered(number))
+    }
+
+    /// The answer of this number.
+    pub(crate) fn answer_numbered(&self, number: u32) -> Result<&Answer, EventError>
+        ensures { Judges (λ one. one.now) result
+            (ok_or (slice_get self.now.answers number) faults.NoAnswer) }
+    {
+        match self.answers.get(number as usize) {
+            Some(answer) => Ok(answer),
+            None => Err(OrMemory::Refused(EventFault::NoAnswer)),
+        }
+    }
+}
+
+/// The policy of the option that is used, or the one that allows every walk where none is; or
+/// memory runs out.
+fn policy_used(
+    alloc: Global,
+    options: &[PolicyOption<Global>],
+    used: Option<usize>,
+) -> Result<Policy<Global>, AllocError>
+    ensures { IfOk result (λ policy. policy ≡ rules_used options.now used) }
+{
+    match used {
+        None => Ok(Policy::any()),
+        Some(place) => match options.get(place) {
+            None => Ok(Policy::any()),
+            Some(option) => option.policy.clone_in(alloc),
+        },
+    }
+}

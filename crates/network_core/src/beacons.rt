@@ -1,0 +1,175 @@
+//! Events of the control plane: beaconing, registration, and changes of links and keys.
+
+ghost use Rattle.std.specs.Prelude.{◌≡◌, IsOk, Ok, false, true};
+ghost use Rattle.refusal.specs.declared.fault.OrMemory.TheVariants.{Refused};
+ghost use Rattle.scion_topology.specs.Topology.{set_up, rotated};
+ghost use Rattle.network_core.specs.declared.fault.EventFault.TheVariants as faults;
+ghost use Rattle.network_core.specs.Doing.{Does, Judges, error_as};
+ghost use Rattle.network_core.specs.Step.{ticked, beacon_at, begun, passed_on, ended, originates, extends, terminates, with_beacon, with_segment, with_network, cleared};
+
+use crate::fault::EventFault;
+use crate::net::{EventError, Net};
+use crate::reply::Reply;
+use beaconing::{BeaconError, extend, originate, terminate};
+use isd_as::{IfId, IsdAs};
+use path_segment::{Beacon, Segment};
+use path_server::StoreError;
+use refusal::OrMemory;
+use scion_topology::TopologyFault;
+use std::alloc::Global;
+
+/// The most beacons, the most answers, and the most packets.
+pub(crate) const MOST: usize = 1_000_000;
+
+impl Net {
+    /// The moment goes on.
+    pub(crate) fn tick(&mut self, to: u32) -> Result<Reply, EventError>
+        ensures { Does (ticked self.old to) ⊥ self.old self.new result }
+    {
+        if to < self.moment {
+            return Err(OrMemory::Refused(EventFault::TimeBack));
+        }
+        self.moment = to;
+        Ok(Reply::Done)
+    }
+
+    /// An AS begins a beacon.
+    pub(crate) fn originate(
+        &mut self,
+        alloc: Global,
+        ia: IsdAs,
+        egress: IfId,
+        beta0: u16,
+    ) -> Result<Reply, EventError>
+        ensures { Does (originates self.old ia egress beta0)
+            (IsOk (begun self.old ia egress beta0)) self.old self.new result }
+    {
+        let begun = originate(alloc, &self.topology, ia, egress, self.moment, beta0);
+        self.keep_beacon(begun.map_err(of_beacon)?)
+    }
+
+    /// An AS passes a beacon on.
+    pub(crate) fn extend(
+        &mut self,
+        alloc: Global,
+        beacon: u32,
+        ia: IsdAs,
+        egress: IfId,
+    ) -> Result<Reply, EventError>
+        ensures { Does (extends self.old beacon ia egress)
+            (IsOk (passed_on self.old beacon ia egress)) self.old self.new result }
+    {
+        let old = self.beacon(beacon)?;
+        let passed_on = extend(alloc, &self.topology, old, ia, egress);
+        self.keep_beacon(passed_on.map_err(of_beacon)?)
+    }
+
+    /// An AS ends a beacon, and the segment is registered.
+    pub(crate) fn terminate(
+        &mut self,
+        alloc: Global,
+        beacon: u32,
+        ia: IsdAs,
+    ) -> Result<Reply, EventError>
+        ensures { Does (terminates self.old beacon ia)
+            (IsOk (ended self.old beacon ia)) self.old self.new result }
+    {
+        let old = self.beacon(beacon)?;
+        let segment = terminate(alloc, &self.topology, old, ia);
+        self.register(segment.map_err(of_beacon)?)
+    }
+
+    /// The beacon of a number.
+    fn beacon(&self, beacon: u32) -> Result<&Beacon, EventError>
+        ensures { Judges (λ b. b.now) result (beacon_at self.now beacon) }
+    {
+        self.beacons
+            .get(beacon as usize)
+            .ok_or(OrMemory::Refused(EventFault::NoBeacon))
+    }
+}
+
+impl Net {
+    /// Takes in a beacon that was made.
+    fn keep_beacon(&mut self, beacon: Beacon) -> Result<Reply, EventError>
+        ensures { Does (with_beacon self.old beacon) (Unit {0}) self.old self.new result }
+    {
+        let number = self.beacons.len();
+        if number >= MOST {
+            return Err(OrMemory::Refused(EventFault::TooMany));
+        }
+        self.beacons.push(beacon)?;
+        Ok(Reply::Begun(number))
+    }
+
+    /// Registers a segment at the moment.
+    fn register(&mut self, segment: Segment) -> Result<Reply, EventError>
+        ensures { Does (with_segment self.old segment) (Unit {0}) self.old self.new result }
+    {
+        match self.store.register(segment, self.moment) {
+            Ok(is_new) => Ok(Reply::Registered(is_new)),
+            Err((_, error)) => Err(of_store(error)),
+        }
+    }
+
+    /// Takes out of the store what is not live.
+    pub(crate) fn sweep(&mut self) -> Reply
+        ensures { cleared self.old ≡ Ok (result, self.new) }
+    {
+        Reply::Swept(self.store.sweep(self.moment))
+    }
+
+    /// Cuts a link.
+    pub(crate) fn cut_link(&mut self, ia: IsdAs, interface: IfId) -> Result<Reply, EventError>
+        ensures { Does (with_network self.old (set_up false ia interface self.old.network)) ⊥
+            self.old self.new result }
+    {
+        self.topology.cut_link(ia, interface).map_err(of_topology)?;
+        Ok(Reply::Done)
+    }
+
+    /// Mends a link.
+    pub(crate) fn mend_link(&mut self, ia: IsdAs, interface: IfId) -> Result<Reply, EventError>
+        ensures { Does (with_network self.old (set_up true ia interface self.old.network)) ⊥
+            self.old self.new result }
+    {
+        self.topology.mend_link(ia, interface).map_err(of_topology)?;
+        Ok(Reply::Done)
+    }
+
+    /// Takes another key of an AS into use.
+    pub(crate) fn rotate_key(&mut self, ia: IsdAs, key: &[u8]) -> Result<Reply, EventError>
+        ensures { Does (with_network self.old (rotated ia key.now self.old.network)) ⊥
+            self.old self.new result }
+    {
+        self.topology.rotate_key(ia, key).map_err(of_topology)?;
+        Ok(Reply::Done)
+    }
+}
+
+/// The error of beaconing as that of an event.
+fn of_beacon(error: BeaconError) -> EventError
+    ensures { result ≡ error_as faults.Beacon error }
+{
+    match error {
+        OrMemory::Memory => OrMemory::Memory,
+        OrMemory::Refused(fault) => OrMemory::Refused(EventFault::Beacon(fault)),
+    }
+}
+
+/// The error of the path store as that of an event.
+fn of_store(error: StoreError) -> EventError
+    ensures { result ≡ error_as faults.Store error }
+{
+    match error {
+        OrMemory::Memory => OrMemory::Memory,
+        OrMemory::Refused(fault) => OrMemory::Refused(EventFault::Store(fault)),
+    }
+}
+
+/// The refusal of the topology as that of an event.
+fn of_topology(fault: TopologyFault) -> EventError
+    ensures { result ≡ Refused (faults.Topology fault) }
+{
+    OrMemory::Refused(EventFault::Topology(fault))
+}

@@ -1,0 +1,172 @@
+ghost use Rattle.std.specs.Prelude.{◌≡◌, IfOk, OnErr, option_map, slice_get};
+ghost use Rattle.network_core.specs.Doing.{DoesEvent, Keeps};
+ghost use Rattle.network_core.specs.Seen.{seen};
+ghost use Rattle.network_core.specs.Step.{Step, TakesMemory};
+ghost use Rattle.network_core.specs.Value.{new_net};
+
+use crate::answer::Answer;
+use crate::event::Event;
+use crate::fault::EventFault;
+use crate::packet::Packet;
+use crate::reply::Reply;
+use combinator::PathList;
+use path_segment::{Beacon, Segment};
+use path_server::PathStore;
+use refusal::OrMemory;
+use scion_topology::Topology;
+use std::alloc::{AllocError, Global};
+use std::marker::Model;
+
+/// A network of one process: its topology, the moment that it has reached, the beacons that were
+/// made in it, its path store, and the answers that were given and the packets that were sent in it.
+#[derive(Drop)]
+pub struct Net {
+    pub(crate) topology: Topology,
+    pub(crate) moment: u32,
+    pub(crate) beacons: Vec<Beacon>,
+    pub(crate) store: PathStore,
+    pub(crate) answers: Vec<Answer>,
+    pub(crate) packets: Vec<Packet>,
+}
+
+impl Model for Net {
+    ghost use Rattle.std.specs.Coded.{codes};
+    ghost use Rattle.policy_expr.specs.Code.{coded_tree};
+    ghost use Rattle.network_core.specs.Value.{NetValue};
+
+    ghost Value = { NetValue };
+
+    ghost coded = { Prim.hlevel (codes, coded_tree) };
+
+    ghost view = { λ n. record {
+      network = n.topology;
+      moment = n.moment;
+      beacons = n.beacons.items;
+      segments = n.store;
+      answers = n.answers.items;
+      packets = n.packets.items;
+    } };
+}
+
+/// Why an event was not done: memory ran out, or it is refused.
+pub(crate) type EventError = OrMemory<EventFault>;
+
+impl Net {
+    /// The network of a topology at moment 0, with nothing in it.
+    pub fn new(alloc: Global, topology: Topology) -> Net
+        ensures { result ≡ new_net topology }
+    {
+        Net {
+            topology,
+            moment: 0,
+            beacons: Vec::new(alloc),
+            store: PathStore::new(alloc),
+            answers: Vec::new(alloc),
+            packets: Vec::new(alloc),
+        }
+    }
+
+    /// The topology.
+    pub fn topology(&self) -> &Topology
+        ensures { result.now ≡ self.now.network }
+    {
+        &self.topology
+    }
+
+    /// The moment, in seconds.
+    pub fn moment(&self) -> u32
+        ensures { result ≡ self.now.moment }
+    {
+        self.moment
+    }
+
+    /// The beacons, by their numbers.
+    pub fn beacons(&self) -> &[Beacon]
+        ensures { result.now ≡ self.now.beacons }
+    {
+        &self.beacons
+    }
+
+    /// The segments of the path store, in order of registration.
+    pub fn segments(&self) -> &[Segment]
+        ensures { result.now ≡ self.now.segments }
+    {
+        self.store.segments()
+    }
+
+    /// The answer of this number, if there is one: its paths, and which option was used.
+    pub fn answer(&self, number: u32) -> Option<&PathList>
+        ensures { option_map (λ list. list.now) result
+            ≡ option_map (λ one. one.answer) (slice_get self.now.answers number) }
+    {
+        match self.answers.get(number as usize) {
+            None => None,
+            Some(answer) => Some(&answer.paths),
+        }
+    }
+
+    /// The packet of this number, if there is one: what was sent, and where it is.
+    pub fn packet(&self, number: u32) -> Option<&Packet>
+        ensures { option_map (λ p. p.now) result ≡ slice_get self.now.packets number }
+    {
+        self.packets.get(number as usize)
+    }
+
+    /// One event: what it is answered, and the network after it. One that is refused changes
+    /// nothing, and so does want of memory, which comes only where a beacon, a segment, an answer or
+    /// a packet was to be made.
+    ///
+    /// Takes time for the entries of the beacon that is named, for the segments of the store where
+    /// one is registered or the store is swept, and for the bytes of the packet that is named; where
+    /// paths are asked for, that of [`combinator::combine`] over the segments that may lead there.
+    pub fn step(&mut self, alloc: Global, event: &Event<'_>) -> Result<Reply, AllocError>
+        ensures step { IfOk result (λ reply. Step self.old (seen event.now) reply self.new) }
+        ensures short { OnErr result (TakesMemory self.old (seen event.now)) }
+        ensures kept { OnErr result (self.new ≡ self.old) }
+    {
+        match self.attempt(alloc, event) {
+            Ok(reply) => Ok(reply),
+            Err(OrMemory::Refused(fault)) => Ok(Reply::Refused(fault)),
+            Err(OrMemory::Memory) => Err(AllocError),
+        }
+    }
+
+    /// Does an event, or says why not.
+    fn attempt(&mut self, alloc: Global, event: &Event<'_>) -> Result<Reply, EventError>
+        ensures { DoesEvent self.old (seen event.now) self.new result }
+    {
+        match event {
+            Event::Tick { to } => self.tick(*to),
+            Event::Originate { ia, egress, beta0 } => self.originate(alloc, *ia, *egress, *beta0),
+            Event::Extend { beacon, ia, egress } => self.extend(alloc, *beacon, *ia, *egress),
+            Event::Terminate { beacon, ia } => self.terminate(alloc, *beacon, *ia),
+            Event::Sweep => Ok(self.sweep()),
+            Event::Ask {
+                src,
+                dst,
+                options,
+                limit,
+            } => self.ask(alloc, *src, *dst, options, *limit),
+            Event::Send { ask, path, payload } => self.send(alloc, *ask, *path, payload),
+            Event::SendGiven { way, payload } => self.send_given(alloc, way, payload),
+            Event::Turn { packet } => self.turn(*packet),
+            Event::Lose { packet } => self.lose(*packet),
+            Event::Alter { packet, at, xor } => self.alter(*packet, *at, *xor),
+            Event::Back { packet, payload } => self.back(alloc, *packet, payload),
+            Event::CutLink { ia, interface } => self.cut_link(*ia, *interface),
+            Event::MendLink { ia, interface } => self.mend_link(*ia, *interface),
+            Event::RotateKey { ia, key } => self.rotate_key(*ia, key),
+        }
+    }
+}
+
+impl Net {
+    /// Takes in a packet that is ready to depart.
+    pub(crate) fn keep_packet(&mut self, packet: Packet) -> Result<Reply, EventError>
+        ensures { Keeps packet self.old self.new result }
+    {
+        let number = self.packets.len();
+        self.packets.push(packet)?;
+        Ok(Reply::Sent(number))
+    }
+}

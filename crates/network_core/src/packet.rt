@@ -1,0 +1,141 @@
+ghost use Rattle.std.specs.Prelude.{◌≡◌, ◌≤◌, length};
+
+use forwarding::{Place, Transit};
+use isd_as::IsdAs;
+use path_header::Header;
+use path_verifier::OwnedPiece;
+use policy_expr::{Policy, WalkHop};
+use std::alloc::Global;
+use std::marker::Model;
+
+/// What was accepted for sending: a path with its ends, its header and its policy, and a payload.
+/// Its type keeps that the verifier's rules accepted the path at some moment.
+#[derive(Drop)]
+pub struct Sent {
+    pub(crate) source: IsdAs,
+    pub(crate) destination: IsdAs,
+    pub(crate) pieces: Vec<OwnedPiece>,
+    pub(crate) header: Header,
+    pub(crate) policy: Policy<Global>,
+    pub(crate) payload: Vec<u8>,
+}
+
+impl Model for Sent {
+    ghost use Rattle.std.specs.Prelude.{ℕ};
+    ghost use Rattle.std.specs.Coded.{codes};
+    ghost use Rattle.policy_expr.specs.Code.{coded_tree};
+    ghost use Rattle.path_verifier.specs.Accepted.{request_of, IsAccepted};
+    ghost use Rattle.network_core.specs.Value.{SentValue};
+
+    ghost Value = { SentValue };
+
+    ghost coded = { Prim.hlevel (codes, coded_tree) };
+
+    ghost view = { λ s. record {
+      way = record {
+        source = s.source;
+        destination = s.destination;
+        pieces = s.pieces.items;
+        header = s.header;
+        rules = s.policy;
+      };
+      payload = s.payload.items;
+    } };
+
+    ghost invariant = { λ s. (moment : ℕ)
+        × IsAccepted (request_of s.pieces.items s.header s.source s.destination moment s.policy) };
+}
+
+impl Sent {
+    /// The AS that sent it.
+    pub fn source(&self) -> IsdAs
+        ensures { result ≡ self.now.way.source }
+    {
+        self.source
+    }
+
+    /// The AS to which it was sent.
+    pub fn destination(&self) -> IsdAs
+        ensures { result ≡ self.now.way.destination }
+    {
+        self.destination
+    }
+
+    /// The pieces of its path, in order of travel.
+    pub fn pieces(&self) -> &[OwnedPiece]
+        ensures { result.now ≡ self.now.way.pieces }
+    {
+        &self.pieces
+    }
+
+    /// The header with which it was sent.
+    pub fn header(&self) -> &Header
+        ensures { result.now ≡ self.now.way.header }
+    {
+        &self.header
+    }
+
+    /// The policy under which it was sent.
+    pub fn policy(&self) -> &Policy<Global>
+        ensures { result.now ≡ self.now.way.rules }
+    {
+        &self.policy
+    }
+
+    /// Its payload.
+    pub fn payload(&self) -> &[u8]
+        ensures { result.now ≡ self.now.payload }
+    {
+        &self.payload
+    }
+}
+
+/// A packet: what was sent, and where it is.
+#[derive(Drop)]
+pub struct Packet {
+    pub(crate) sent: Sent,
+    pub(crate) transit: Transit,
+}
+
+impl Model for Packet {
+    ghost use Rattle.std.specs.Coded.{codes};
+    ghost use Rattle.policy_expr.specs.Code.{coded_tree};
+    ghost use Rattle.network_core.specs.Value.{PacketValue};
+
+    ghost Value = { PacketValue };
+
+    ghost coded = { Prim.hlevel (codes, coded_tree) };
+
+    ghost view = { λ p. record { sent = p.sent; packet = p.transit } };
+}
+
+impl Packet {
+    /// What was sent.
+    pub fn sent(&self) -> &Sent
+        ensures { result.now ≡ self.now.sent }
+    {
+        &self.sent
+    }
+
+    /// Its bytes.
+    pub fn bytes(&self) -> &[u8]
+        ensures { result.now ≡ self.now.packet.bytes }
+    {
+        self.transit.bytes()
+    }
+
+    /// Where it is.
+    pub fn place(&self) -> Place
+        ensures { result ≡ self.now.packet.place }
+    {
+        self.transit.place()
+    }
+
+    /// The hops that it has passed, in order, of which the first 64 are kept.
+    pub fn passed(&self) -> &[WalkHop]
+        ensures value { result.now ≡ self.now.packet.passed }
+        ensures few { length result.now ≤ 64 }
+    {
+        self.transit.passed()
+    }
+}

@@ -1,0 +1,43 @@
+ghost use Rattle.std.specs.Prelude.{◌<◌, IfErr, IfOk, length, map, take};
+ghost use Rattle.network_core.specs.Ran.{Ran};
+ghost use Rattle.network_core.specs.Seen.{seen};
+
+use crate::event::Event;
+use crate::net::Net;
+use scion_topology::Topology;
+use std::alloc::Global;
+
+/// What a run left where memory ran out.
+#[derive(Drop)]
+pub struct Stopped {
+    /// The network after the events before.
+    pub net: Net,
+    /// How many events those are.
+    pub done: usize,
+}
+
+/// Runs events in order over a topology, in a network that begins with nothing in it. Where memory
+/// runs out, the network after the events before is handed back.
+///
+/// Each segment that is stored on the way was issued by events of the run. And what a Send or a
+/// Back of it sent, on a path of segments that were issued before, is refused by no router, passes
+/// exactly the hops of its path in order, and is delivered exactly once it has had its turns, at
+/// most two for each hop field: where, from the first event that issued them on, no AS of the path
+/// takes another key twice and no link of it is cut, nobody alters the packet, nothing loses it,
+/// and each of its turns comes at a second not past the path's expiry. Its hops are a word of the
+/// policy under which it was sent, and pass its list.
+pub fn run(alloc: Global, topology: Topology, events: &[Event<'_>]) -> Result<Net, Stopped>
+    ensures ran { IfOk result (λ net. Ran topology (map seen events.now) net) }
+    ensures stopped { IfErr result (λ s. (s.done < length events.now)
+        × Ran topology (take s.done (map seen events.now)) s.net) }
+{
+    topology.known();
+    let mut net = Net::new(alloc, topology);
+    for (done, event) in events.iter().enumerate() {
+        match net.step(alloc, event) {
+            Ok(_) => {}
+            Err(_) => return Err(Stopped { net, done }),
+        }
+    }
+    Ok(net)
+}

@@ -1,0 +1,68 @@
+//! Packets on their way: they have their turns, are lost and altered.
+
+ghost use Rattle.std.specs.Prelude.{◌<◌, IfOk, length};
+ghost use Rattle.network_core.specs.Doing.{Does, Flies, Judges};
+ghost use Rattle.network_core.specs.Step.{packet_at, turns, loses, alters};
+
+use crate::fault::EventFault;
+use crate::net::{EventError, Net};
+use crate::packet::Packet;
+use crate::reply::Reply;
+use forwarding::Place;
+use refusal::OrMemory;
+
+impl Net {
+    /// A packet has its turn.
+    pub(crate) fn turn(&mut self, packet: u32) -> Result<Reply, EventError>
+        ensures { Does (turns self.old packet) ⊥ self.old self.new result }
+    {
+        let place = self.place_in_flight(packet)?;
+        let turned = self.packets[place]
+            .transit
+            .turn(&self.topology, self.moment);
+        Ok(Reply::Turned(turned))
+    }
+
+    /// A packet is lost.
+    pub(crate) fn lose(&mut self, packet: u32) -> Result<Reply, EventError>
+        ensures { Does (loses self.old packet) ⊥ self.old self.new result }
+    {
+        let place = self.place_in_flight(packet)?;
+        self.packets[place].transit.lose();
+        Ok(Reply::Done)
+    }
+
+    /// A byte of a packet is changed.
+    pub(crate) fn alter(&mut self, packet: u32, at: u32, xor: u8) -> Result<Reply, EventError>
+        ensures { Does (alters self.old packet at xor) ⊥ self.old self.new result }
+    {
+        let place = self.place_in_flight(packet)?;
+        let at = at as usize;
+        if at >= self.packets[place].bytes().len() {
+            return Err(OrMemory::Refused(EventFault::BadOffset));
+        }
+        self.packets[place].transit.alter(at, xor);
+        Ok(Reply::Done)
+    }
+
+    /// The packet of a number.
+    pub(crate) fn packet_numbered(&self, packet: u32) -> Result<&Packet, EventError>
+        ensures { Judges (λ p. p.now) result (packet_at self.now packet) }
+    {
+        self.packets
+            .get(packet as usize)
+            .ok_or(OrMemory::Refused(EventFault::NoPacket))
+    }
+
+    /// The place in the list of a packet that is at a router.
+    fn place_in_flight(&self, packet: u32) -> Result<usize, EventError>
+        ensures judged { Flies self.now packet result }
+        ensures place { IfOk result (λ place. place < length self.now.packets) }
+    {
+        let one = self.packet_numbered(packet)?;
+        match one.place() {
+            Place::AtRouter(_) => Ok(packet as usize),
+            _ => Err(OrMemory::Refused(EventFault::NotInFlight)),
+        }
+    }
+}
