@@ -14,6 +14,9 @@ use std::alloc::{Allocator, Global};
 
 /// What [`paths_with`] gives, as a list that owns its paths, where the ends are two ASes; else
 /// [`CombineFault::SameAs`]. Want of memory stands in place of an answer alone.
+///
+/// Takes the time of [`crate::paths_between`] for each option that is asked, and time and room for
+/// the segments of the paths that are answered.
 pub fn combine<A: Allocator + Clone>(
     alloc: Global,
     set: &SegmentSet,

@@ -8,27 +8,24 @@ use Rattle.std.proofs.lemmas.List.Elements.{All-nil, All-cons, All-head, All-tai
 use Rattle.refusal.specs.Refusal.{check}
 use Rattle.refusal.proofs.Steps.{ok_is, ok_or_ok}
 use Rattle.scion_topology.specs.Network.{Network}
-use Rattle.scion_topology.specs.Topology.{IsNetwork, owner_in, set_up, rotated}
+use Rattle.scion_topology.specs.Topology.{IsNetwork, set_up, rotated}
 use Rattle.beaconing.proofs.Reaching.{any_here, any_there}
-use Rattle.path_server.specs.Store.{answer_to}
 use Rattle.policy_expr.specs.declared.option_fault.OptionFault.{OptionFault}
 use Rattle.policy_expr.specs.Options.{OptionTexts, WeighedRules, options_at}
 use Rattle.path_verifier.specs.Piece.{PieceValue}
-use Rattle.path_verifier.specs.Walk.{walk_of}
 use Rattle.combinator.specs.Candidate.{PathValue}
 use Rattle.combinator.specs.Fault.{ends_at}
-use Rattle.forwarding.specs.Journey.{first_out}
 use Rattle.network_core.specs.declared.fault.EventFault.{EventFault}
 use Rattle.network_core.specs.declared.fault.EventFault.TheVariants as faults
 use Rattle.network_core.specs.declared.reply.Reply.{Reply}
 use Rattle.network_core.specs.declared.reply.Reply.TheVariants as replies
 use Rattle.network_core.specs.Event.{ByAnswer, EventValue, Tick, Originate, Extend, Terminate, Sweep, Ask, Send, Turn, Lose, Alter, Back, CutLink, MendLink, RotateKey}
 use Rattle.network_core.specs.Value.{Way, KeptAnswer, way_on, SentValue, NetValue, new_net}
-use Rattle.network_core.specs.Step.{refused_as, ticked, originates, extends, terminates, cleared, with_beacon, with_segment, begun, passed_on, ended, with_network, flying_at, turns, loses, alters, options_asked, sent_by, way_by, sent_with, replied, departs, IsAnswerTo, GivesAnswer, Asks, Sends, Step}
+use Rattle.network_core.specs.Step.{refused_as, with_network, options_asked, sent_by, way_by, sent_with, IsAnswerTo, GivesAnswer, Asks, Step}
 use Rattle.network_core.specs.History.{Moment, IsHistory, net_at, Answers, IssuedIn, IssuedBefore, IsAskedBefore}
 use Rattle.network_core.specs.Headline.{HaveBeginning}
 use Rattle.network_core.proofs.Effects.{done_below, both_done}
-use Rattle.network_core.proofs.Keeping.{In, by_leads, then_in}
+use Rattle.network_core.proofs.Keeping.{by_leads, then_in, IsApart, stays}
 use Rattle.network_core.proofs.Numbers.{becomes_at, event_or_none}
 use Rattle.network_core.proofs.Issuing.{answers_at, last_or, stored_all}
 use Rattle.network_core.proofs.Headlines.{of_send}
@@ -50,19 +47,13 @@ pub record IsAsk (old : NetValue) (event : EventValue) (reply : Reply) (new : Ne
   pub read : options_at texts ≡ Ok options
   pub gives : GivesAnswer options src dst limit old reply new
 
-beacon_same : (old : NetValue) (c : _) → In (Same old) (with_beacon old c)
-beacon_same old c =
-    then_in (Same old) (check (ltb (length old.beacons) 1_000_000) faults.TooMany) _ (λ _. refl)
-
-send_same : (old new : NetValue) (reply : Reply) (sent : Result SentValue EventFault)
-    → Sends sent old reply new → Same old new
-send_same old new reply (Err fault) is = ap (λ (net : NetValue). net.answers) is.1
-send_same old new reply (Ok sent) is = elim is [
-  | inl done ↦ by_leads (Same old) old new reply (departs old sent) refl
-      (then_in (Same old) (refused_as faults.Topology (owner_in old.network sent.way.source (first_out (walk_of sent.way.pieces)))) _
-      (λ router. then_in (Same old) (check (ltb (length old.packets) 1_000_000) faults.TooMany) _ (λ _. refl))) done.1.0
-  | inr none ↦ ap (λ (net : NetValue). net.answers) none.1.1.1
-]
+apart : IsApart (λ (net : NetValue). net.answers)
+apart = record {
+  moment = λ net m. refl;
+  beacons = λ net cs. refl;
+  segments = λ net cs. refl;
+  packets = λ net ps. refl;
+}
 
 abbrev are_read : List WeighedRules → Result (List WeighedRules) OptionFault
 are_read options = Ok options
@@ -97,35 +88,18 @@ given old new src dst texts limit reply (Ok options) are is = inr (record {
 
 pub asks : (old new : NetValue) (event : EventValue) (reply : Reply) → Step old event reply new
     → Same old new ⊎ IsAsk old event reply new
-asks old new (Tick to) reply is =
-    inl (by_leads (Same old) old new reply (ticked old to) refl
-    (then_in (Same old) (check (leb old.moment to) faults.TimeBack) _ (λ _. refl)) is)
-asks old new (Originate ia egress beta0) reply is =
-    inl (by_leads (Same old) old new reply (originates old ia egress beta0) refl
-    (then_in (Same old) (begun old ia egress beta0) (with_beacon old) (beacon_same old)) is)
-asks old new (Extend beacon ia egress) reply is =
-    inl (by_leads (Same old) old new reply (extends old beacon ia egress) refl
-    (then_in (Same old) (passed_on old beacon ia egress) (with_beacon old) (beacon_same old)) is)
-asks old new (Terminate beacon ia) reply is =
-    inl (by_leads (Same old) old new reply (terminates old beacon ia) refl
-    (then_in (Same old) (ended old beacon ia) (with_segment old) (λ c.
-    then_in (Same old) (refused_as faults.Store (answer_to old.segments c old.moment)) _ (λ _. refl))) is)
-asks old new Sweep reply is = inl (by_leads (Same old) old new reply (cleared old) refl refl is)
+asks old new (Tick to) reply is = inl (stays (λ net. net.answers) apart old new (Tick to) reply tt is)
+asks old new (Originate ia egress beta0) reply is = inl (stays (λ net. net.answers) apart old new (Originate ia egress beta0) reply tt is)
+asks old new (Extend beacon ia egress) reply is = inl (stays (λ net. net.answers) apart old new (Extend beacon ia egress) reply tt is)
+asks old new (Terminate beacon ia) reply is = inl (stays (λ net. net.answers) apart old new (Terminate beacon ia) reply tt is)
+asks old new Sweep reply is = inl (stays (λ net. net.answers) apart old new Sweep reply tt is)
+asks old new (Send route payload) reply is = inl (stays (λ net. net.answers) apart old new (Send route payload) reply tt is)
+asks old new (Back q payload) reply is = inl (stays (λ net. net.answers) apart old new (Back q payload) reply tt is)
+asks old new (Turn q) reply is = inl (stays (λ net. net.answers) apart old new (Turn q) reply tt is)
+asks old new (Lose q) reply is = inl (stays (λ net. net.answers) apart old new (Lose q) reply tt is)
+asks old new (Alter q at change) reply is = inl (stays (λ net. net.answers) apart old new (Alter q at change) reply tt is)
 asks old new (Ask src dst texts limit) reply is =
     given old new src dst texts limit reply (options_asked old src dst texts limit) refl is
-asks old new (Send route payload) reply is =
-    inl (send_same old new reply (sent_by old route payload) is)
-asks old new (Back q payload) reply is = inl (send_same old new reply (replied old q payload) is)
-asks old new (Turn q) reply is =
-    inl (by_leads (Same old) old new reply (turns old q) refl
-    (then_in (Same old) (flying_at old q) _ (λ one. refl)) is)
-asks old new (Lose q) reply is =
-    inl (by_leads (Same old) old new reply (loses old q) refl
-    (then_in (Same old) (flying_at old q) _ (λ one. refl)) is)
-asks old new (Alter q at change) reply is =
-    inl (by_leads (Same old) old new reply (alters old q at change) refl
-    (then_in (Same old) (flying_at old q) _ (λ one.
-    then_in (Same old) (check (ltb at (length one.packet.bytes)) faults.BadOffset) _ (λ _. refl))) is)
 asks old new (CutLink ia number) reply is =
     inl (by_leads (Same old) old new reply (with_network old (set_up false ia number old.network)) refl
     (then_in (Same old) (refused_as faults.Topology (set_up false ia number old.network)) _ (λ m. refl)) is)

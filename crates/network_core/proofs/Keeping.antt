@@ -3,6 +3,7 @@ use Rattle.std.proofs.Common.{◌≡◌, ◌≢◌, ℕ, zero, suc, ◌<◌, tru
 use Rattle.std.specs.Prelude.{slice_get}
 use Rattle.refusal.specs.Refusal.{◌>>=◌, check}
 use Rattle.scion_topology.specs.Topology.{owner_in, set_up, rotated}
+use Rattle.path_segment.specs.Chain.{Chain}
 use Rattle.path_server.specs.Store.{answer_to}
 use Rattle.path_verifier.specs.Walk.{walk_of}
 use Rattle.forwarding.specs.Journey.{first_out}
@@ -11,7 +12,7 @@ use Rattle.network_core.specs.declared.fault.EventFault.{EventFault}
 use Rattle.network_core.specs.declared.fault.EventFault.TheVariants as faults
 use Rattle.network_core.specs.declared.reply.Reply.{Reply}
 use Rattle.network_core.specs.Event.{EventValue, Tick, Originate, Extend, Terminate, Sweep, Ask, Send, Turn, Lose, Alter, Back, CutLink, MendLink, RotateKey}
-use Rattle.network_core.specs.Value.{SentValue, NetValue}
+use Rattle.network_core.specs.Value.{SentValue, PacketValue, NetValue}
 use Rattle.policy_expr.specs.Options.{WeighedRules}
 use Rattle.network_core.specs.Step.{refused_as, Made, ticked, originates, extends, terminates, cleared, with_beacon, with_segment, begun, passed_on, ended, with_network, flying_at, turns, loses, alters, options_asked, sent_by, replied, packet_of, departs, Leads, Asks, Sends, Step}
 
@@ -30,6 +31,75 @@ pub then_in : {A : Type 0} (P : NetValue → Type 0) (r : Result A EventFault) (
     → ((x : A) → In P (f x)) → In P (r >>= f)
 then_in P (Ok x) f each = each x
 then_in P (Err fault) f each = tt
+
+-- ---- a part of the network that most events leave
+
+-- the moment, beacons, segments and packets are no part of it
+pub record IsApart {A : Type 0} (part : NetValue → A) : Type 0 where
+  pub moment : (net : NetValue) (m : ℕ) → part (record net { moment = m }) ≡ part net
+  pub beacons : (net : NetValue) (cs : List Chain) → part (record net { beacons = cs }) ≡ part net
+  pub segments : (net : NetValue) (cs : List Chain) → part (record net { segments = cs }) ≡ part net
+  pub packets : (net : NetValue) (ps : List PacketValue)
+      → part (record net { packets = ps }) ≡ part net
+
+-- the event asks for no path and changes no topology
+abbrev pub IsPlain : EventValue → Type 0
+IsPlain (Ask src dst texts limit) = ⊥
+IsPlain (CutLink ia number) = ⊥
+IsPlain (MendLink ia number) = ⊥
+IsPlain (RotateKey ia key) = ⊥
+IsPlain event = Unit {0}
+
+module _ {A : Type 0} (part : NetValue → A) (apart : IsApart part) (old new : NetValue) where
+  abbrev Stays : NetValue → Type 0
+  Stays net = part net ≡ part old
+
+  beacon_stays : (c : Chain) → In Stays (with_beacon old c)
+  beacon_stays c = then_in Stays (check (ltb (length old.beacons) 1_000_000) faults.TooMany) _
+      (λ _. apart.beacons old _)
+
+  send_stays : (reply : Reply) (sent : Result SentValue EventFault) → Sends sent old reply new
+      → Stays new
+  send_stays reply (Err fault) is = ap part is.1
+  send_stays reply (Ok sent) is = elim is [
+    | inl done ↦ by_leads Stays old new reply (departs old sent) refl
+        (then_in Stays (refused_as faults.Topology (owner_in old.network sent.way.source (first_out (walk_of sent.way.pieces)))) _
+        (λ router. then_in Stays (check (ltb (length old.packets) 1_000_000) faults.TooMany) _
+        (λ _. apart.packets old _))) done.1.0
+    | inr none ↦ ap part none.1.1.1
+  ]
+
+  pub stays : (event : EventValue) (reply : Reply) → IsPlain event → Step old event reply new
+      → Stays new
+  stays (Tick to) reply plain is = by_leads Stays old new reply (ticked old to) refl
+      (then_in Stays (check (leb old.moment to) faults.TimeBack) _ (λ _. apart.moment old _)) is
+  stays (Originate ia egress beta0) reply plain is =
+      by_leads Stays old new reply (originates old ia egress beta0) refl
+      (then_in Stays (begun old ia egress beta0) (with_beacon old) beacon_stays) is
+  stays (Extend beacon ia egress) reply plain is =
+      by_leads Stays old new reply (extends old beacon ia egress) refl
+      (then_in Stays (passed_on old beacon ia egress) (with_beacon old) beacon_stays) is
+  stays (Terminate beacon ia) reply plain is =
+      by_leads Stays old new reply (terminates old beacon ia) refl
+      (then_in Stays (ended old beacon ia) (with_segment old) (λ c.
+      then_in Stays (refused_as faults.Store (answer_to old.segments c old.moment)) _
+      (λ _. apart.segments old _))) is
+  stays Sweep reply plain is =
+      by_leads Stays old new reply (cleared old) refl (apart.segments old _) is
+  stays (Send route payload) reply plain is = send_stays reply (sent_by old route payload) is
+  stays (Back q payload) reply plain is = send_stays reply (replied old q payload) is
+  stays (Turn q) reply plain is = by_leads Stays old new reply (turns old q) refl
+      (then_in Stays (flying_at old q) _ (λ one. apart.packets old _)) is
+  stays (Lose q) reply plain is = by_leads Stays old new reply (loses old q) refl
+      (then_in Stays (flying_at old q) _ (λ one. apart.packets old _)) is
+  stays (Alter q at change) reply plain is = by_leads Stays old new reply (alters old q at change) refl
+      (then_in Stays (flying_at old q) _ (λ one.
+      then_in Stays (check (ltb at (length one.packet.bytes)) faults.BadOffset) _
+      (λ _. apart.packets old _))) is
+  stays (Ask src dst texts limit) reply plain is = absurd plain
+  stays (CutLink ia number) reply plain is = absurd plain
+  stays (MendLink ia number) reply plain is = absurd plain
+  stays (RotateKey ia key) reply plain is = absurd plain
 
 -- ---- lists
 

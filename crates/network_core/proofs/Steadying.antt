@@ -1,26 +1,21 @@
 -- What the network has made stays sound through events that leave it undisturbed, so each turn of a
 -- packet finds that the network lets its path through.
-use Rattle.std.proofs.Common.{◌≡◌, ℕ, ◌⊎◌, true, false, ltb, leb, List, [], ◌∷◌, length, Ok, Err, Result, refl, sym, ap, subst, inl, inr}
-use Rattle.refusal.specs.Refusal.{check}
+use Rattle.std.proofs.Common.{◌≡◌, ℕ, ◌⊎◌, true, false, List, [], ◌∷◌, Ok, Err, Result, refl, sym, ap, subst, inl, inr}
 use Rattle.scion_topology.specs.declared.fault.TopologyFault.{TopologyFault}
 use Rattle.scion_topology.specs.Network.{Network}
-use Rattle.scion_topology.specs.Topology.{IsNetwork, owner_in, set_up, rotated}
-use Rattle.path_server.specs.Store.{answer_to}
-use Rattle.path_verifier.specs.Walk.{walk_of}
+use Rattle.scion_topology.specs.Topology.{IsNetwork, set_up, rotated}
 use Rattle.path_verifier.specs.Accepted.{MakesPath}
-use Rattle.forwarding.specs.Journey.{first_out}
 use Rattle.forwarding.proofs.Made.{sound_is_let_through}
 use Rattle.forwarding.proofs.Steady.{mended_sound, cut_sound, rotated_sound}
 use Rattle.network_core.specs.declared.fault.EventFault.{EventFault}
-use Rattle.network_core.specs.declared.fault.EventFault.TheVariants as faults
 use Rattle.network_core.specs.declared.reply.Reply.{Reply}
 use Rattle.network_core.specs.Event.{EventValue, Tick, Originate, Extend, Terminate, Sweep, Ask, Send, Turn, Lose, Alter, Back, CutLink, MendLink, RotateKey}
 use Rattle.network_core.specs.Value.{SentValue, NetValue}
 use Rattle.policy_expr.specs.Options.{WeighedRules}
-use Rattle.network_core.specs.Step.{refused_as, ticked, originates, extends, terminates, cleared, with_beacon, with_segment, begun, passed_on, ended, with_network, flying_at, turns, loses, alters, options_asked, sent_by, replied, departs, Leads, Asks, Sends, Step}
+use Rattle.network_core.specs.Step.{with_network, options_asked, Leads, Asks, Step}
 use Rattle.network_core.specs.History.{Moment, IsHistory}
 use Rattle.network_core.specs.Delivery.{is_done, AllLetGoOn, AreSound, LeavesUndisturbed, AllLeaveUndisturbed}
-use Rattle.network_core.proofs.Keeping.{In, by_leads, then_in}
+use Rattle.network_core.proofs.Keeping.{IsApart, stays}
 use Rattle.network_core.proofs.Numbers.{network_on}
 
 -- ---- events that are not about the topology leave it
@@ -28,19 +23,13 @@ use Rattle.network_core.proofs.Numbers.{network_on}
 abbrev Same : NetValue → NetValue → Type 0
 Same old new = new.network ≡ old.network
 
-beacon_same : (old : NetValue) (c : _) → In (Same old) (with_beacon old c)
-beacon_same old c =
-    then_in (Same old) (check (ltb (length old.beacons) 1_000_000) faults.TooMany) _ (λ _. refl)
-
-send_same : (old new : NetValue) (reply : Reply) (sent : Result SentValue EventFault)
-    → Sends sent old reply new → Same old new
-send_same old new reply (Err fault) is = ap (λ (net : NetValue). net.network) is.1
-send_same old new reply (Ok sent) is = elim is [
-  | inl done ↦ by_leads (Same old) old new reply (departs old sent) refl
-      (then_in (Same old) (refused_as faults.Topology (owner_in old.network sent.way.source (first_out (walk_of sent.way.pieces)))) _
-      (λ router. then_in (Same old) (check (ltb (length old.packets) 1_000_000) faults.TooMany) _ (λ _. refl))) done.1.0
-  | inr none ↦ ap (λ (net : NetValue). net.network) none.1.1.1
-]
+apart : IsApart (λ (net : NetValue). net.network)
+apart = record {
+  moment = λ net m. refl;
+  beacons = λ net cs. refl;
+  segments = λ net cs. refl;
+  packets = λ net ps. refl;
+}
 
 ask_same : (old new : NetValue) (reply : Reply) (options : Result (List WeighedRules) EventFault)
     (src dst limit : ℕ) → Asks options src dst limit old reply new → Same old new
@@ -86,37 +75,18 @@ Changes old event reply new = (new.network ≡ old.network)
 
 pub changes : (old new : NetValue) (event : EventValue) (reply : Reply) → Step old event reply new
     → Changes old event reply new
-changes old new (Tick to) reply is =
-    inl (by_leads (Same old) old new reply (ticked old to) refl
-    (then_in (Same old) (check (leb old.moment to) faults.TimeBack) _ (λ _. refl)) is)
-changes old new (Originate ia egress beta0) reply is =
-    inl (by_leads (Same old) old new reply (originates old ia egress beta0) refl
-    (then_in (Same old) (begun old ia egress beta0) (with_beacon old) (beacon_same old)) is)
-changes old new (Extend beacon ia egress) reply is =
-    inl (by_leads (Same old) old new reply (extends old beacon ia egress) refl
-    (then_in (Same old) (passed_on old beacon ia egress) (with_beacon old) (beacon_same old)) is)
-changes old new (Terminate beacon ia) reply is =
-    inl (by_leads (Same old) old new reply (terminates old beacon ia) refl
-    (then_in (Same old) (ended old beacon ia) (with_segment old) (λ c.
-    then_in (Same old) (refused_as faults.Store (answer_to old.segments c old.moment)) _ (λ _. refl))) is)
-changes old new Sweep reply is =
-    inl (by_leads (Same old) old new reply (cleared old) refl refl is)
+changes old new (Tick to) reply is = inl (stays (λ net. net.network) apart old new (Tick to) reply tt is)
+changes old new (Originate ia egress beta0) reply is = inl (stays (λ net. net.network) apart old new (Originate ia egress beta0) reply tt is)
+changes old new (Extend beacon ia egress) reply is = inl (stays (λ net. net.network) apart old new (Extend beacon ia egress) reply tt is)
+changes old new (Terminate beacon ia) reply is = inl (stays (λ net. net.network) apart old new (Terminate beacon ia) reply tt is)
+changes old new Sweep reply is = inl (stays (λ net. net.network) apart old new Sweep reply tt is)
+changes old new (Send route payload) reply is = inl (stays (λ net. net.network) apart old new (Send route payload) reply tt is)
+changes old new (Back q payload) reply is = inl (stays (λ net. net.network) apart old new (Back q payload) reply tt is)
+changes old new (Turn q) reply is = inl (stays (λ net. net.network) apart old new (Turn q) reply tt is)
+changes old new (Lose q) reply is = inl (stays (λ net. net.network) apart old new (Lose q) reply tt is)
+changes old new (Alter q at change) reply is = inl (stays (λ net. net.network) apart old new (Alter q at change) reply tt is)
 changes old new (Ask src dst texts limit) reply is =
     inl (ask_same old new reply (options_asked old src dst texts limit) src dst limit is)
-changes old new (Send route payload) reply is =
-    inl (send_same old new reply (sent_by old route payload) is)
-changes old new (Back q payload) reply is =
-    inl (send_same old new reply (replied old q payload) is)
-changes old new (Turn q) reply is =
-    inl (by_leads (Same old) old new reply (turns old q) refl
-    (then_in (Same old) (flying_at old q) _ (λ one. refl)) is)
-changes old new (Lose q) reply is =
-    inl (by_leads (Same old) old new reply (loses old q) refl
-    (then_in (Same old) (flying_at old q) _ (λ one. refl)) is)
-changes old new (Alter q at change) reply is =
-    inl (by_leads (Same old) old new reply (alters old q at change) refl
-    (then_in (Same old) (flying_at old q) _ (λ one.
-    then_in (Same old) (check (ltb at (length one.packet.bytes)) faults.BadOffset) _ (λ _. refl))) is)
 changes old new (CutLink ia number) reply is =
     elim (changed (set_up false ia number old.network) old new reply is) [
       | inl same ↦ inl same

@@ -32,7 +32,7 @@ AreIssuedFrom start history begin sent pieces =
     All (λ piece. (first last : ℕ) × ((begin ≤ first) × ((last < sent)
     × IssuedIn start history first last piece.segment))) pieces
 
--- and event number `begin` is the first of all these events
+-- and the first of all these events has number `begin`
 pub record HaveBeginning (start : NetValue) (history : List Moment) (sent : ℕ)
     (pieces : List PieceValue) : Type 0 where
   pub begin : ℕ
@@ -70,7 +70,8 @@ turns_since history sent p k = turns_of p (drop (sent + 1) (take k history))
 -- what answers a delivered packet is sent by the way back: from its destination to its source, with
 -- its pieces in reversed order and direction; this way is accepted at each second up to the expiry
 -- of the path, and refused as Expired after it
-pub record IsAnswerable (net : NetValue) (p : ℕ) (sent : SentValue) (payload : List ℕ) : Type 0 where
+pub record IsAnswerable (net : NetValue) (p : ℕ) (sent : SentValue) (payload : List ℕ)
+    : Type 0 where
   pub back : SentValue
   pub replies : replied net p payload ≡ Ok back
   pub source : back.way.source ≡ sent.way.destination
@@ -81,9 +82,9 @@ pub record IsAnswerable (net : NetValue) (p : ℕ) (sent : SentValue) (payload :
   pub late : (moment expiry : ℕ) → IsExpiry sent.way.pieces expiry → expiry < 2 * moment
       → (fault : VerifyFault) → IsRefused (asked_at moment back.way) fault ↔ (fault ≡ Expired)
 
--- what event number `sent` sent: its path was accepted; and where the packet is undisturbed, after
--- each later number of events it is forwarded, it is delivered once it has had two turns for each
--- hop field, and a delivered one may be answered with up to 1,024 bytes
+-- what event number `number` sent: its path was accepted; and where the packet is undisturbed,
+-- after each later number of events it is forwarded, it is delivered once it has had two turns for
+-- each hop field, and a delivered one may be answered with up to 1,024 bytes
 pub record Headline (start : NetValue) (history : List Moment) (number p : ℕ) (sent : SentValue)
     : Type 0 where
   pub accepted : IsAccepted (asked_at (net_at start history number).moment sent.way)

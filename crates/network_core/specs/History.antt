@@ -95,8 +95,8 @@ AreIssued start history =
     (k : ℕ) → All (IssuedBefore start history k) (net_at start history k).segments
 
 -- the answer of this number was given by an Ask before event number k: it is what the network's
--- segments answered then; each of its paths was accepted then, for the ends of the request and under
--- the policy of the option that is used; and their segments were issued by events before
+-- segments answered then; each of its paths was accepted then, for the ends of the request and
+-- under the policy of the option that is used; and their segments were issued by events before
 pub record IsAskedBefore (start : NetValue) (history : List Moment) (k number : ℕ)
     (one : KeptAnswer) : Type 0 where
   pub at : ℕ

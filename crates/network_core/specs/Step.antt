@@ -126,8 +126,8 @@ rules_used options None = no_rules
 rules_used options (Some used) =
     option_map_or (λ (option : WeighedRules). option.rules) (slice_get options used) no_rules
 
--- what is kept is what these segments answer at the moment, with the policy of the option that is
--- used
+-- what is kept is what the network's segments answer at the moment, with the policy of the option
+-- that is used
 pub record IsAnswerTo (net : NetValue) (src dst : ℕ) (options : List WeighedRules) (limit : ℕ)
     (one : KeptAnswer) : Type 0 where
   pub source : one.source ≡ src

@@ -57,8 +57,8 @@ pub enum Event<'a> {
     },
     /// The segments that are not live at the moment are taken out of the store.
     Sweep,
-    /// Paths are asked for, of the segments of the store that are live at the moment, and the answer
-    /// is kept with the policy of the option that is used.
+    /// Paths are asked for, of the segments of the store that are live at the moment, and the
+    /// answer is kept with the policy of the option that is used.
     Ask {
         /// The AS that asks.
         src: IsdAs,

@@ -22,9 +22,9 @@ pub fn stored_segments_are_issued()
 {}
 
 /// In every history of a new network, after each number of its events, each answer was given by an
-/// Ask before: its paths were accepted then, between the ends of the request and under the policy of
-/// the option that is used, and their segments were issued by events before. So what is sent by an
-/// answer was issued before it is sent.
+/// Ask before: its paths were accepted then, between the ends of the request and under the policy
+/// of the option that is used, and their segments were issued by events before. So what is sent by
+/// an answer was issued before it is sent.
 pub fn answers_are_accepted()
     ensures asked { (network : Network) (history : List Moment) → IsNetwork network
         → IsHistory (new_net network) history → AreAsked (new_net network) history }

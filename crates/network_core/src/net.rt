@@ -18,7 +18,8 @@ use std::alloc::{AllocError, Global};
 use std::marker::Model;
 
 /// A network of one process: its topology, the moment that it has reached, the beacons that were
-/// made in it, its path store, and the answers that were given and the packets that were sent in it.
+/// made in it, its path store, and the answers that were given and the packets that were sent in
+/// it.
 #[derive(Drop)]
 pub struct Net {
     pub(crate) topology: Topology,
@@ -113,12 +114,13 @@ impl Net {
     }
 
     /// One event: what it is answered, and the network after it. One that is refused changes
-    /// nothing, and so does want of memory, which comes only where a beacon, a segment, an answer or
-    /// a packet was to be made.
+    /// nothing, and so does want of memory, which comes only where a beacon, a segment, an answer
+    /// or a packet was to be made.
     ///
     /// Takes time for the entries of the beacon that is named, for the segments of the store where
-    /// one is registered or the store is swept, and for the bytes of the packet that is named; where
-    /// paths are asked for, that of [`combinator::combine`] over the segments that may lead there.
+    /// one is registered or the store is swept, and for the bytes of the packet that is named;
+    /// where paths are asked for, that of [`combinator::combine`] over the segments that may lead
+    /// there.
     pub fn step(&mut self, alloc: Global, event: &Event<'_>) -> Result<Reply, AllocError>
         ensures step { IfOk result (λ reply. Step self.old (seen event.now) reply self.new) }
         ensures short { OnErr result (TakesMemory self.old (seen event.now)) }

@@ -19,13 +19,14 @@ pub struct Stopped {
 /// Runs events in order over a topology, in a network that begins with nothing in it. Where memory
 /// runs out, the network after the events before is handed back.
 ///
-/// Each segment that is stored on the way was issued by events of the run. And what a Send or a
-/// Back of it sent, on a path of segments that were issued before, is refused by no router, passes
-/// exactly the hops of its path in order, and is delivered exactly once it has had its turns, at
-/// most two for each hop field: where, from the first event that issued them on, no AS of the path
-/// takes another key twice and no link of it is cut, nobody alters the packet, nothing loses it,
-/// and each of its turns comes at a second not past the path's expiry. Its hops are a word of the
-/// policy under which it was sent, and pass its list.
+/// Each segment that is stored on the way was issued by events of the run, and the paths of each
+/// answer were accepted when it was given, so what is sent by an answer was issued before. And what
+/// a Send or a Back of it sent, on a path of segments that were issued before, is refused by no
+/// router, passes exactly the hops of its path in order, and is delivered exactly once it has had
+/// its turns, at most two for each hop field, and stands at a router before: where, from the first
+/// event that issued them on, no AS of the path takes another key twice and no link of it is cut,
+/// nobody alters the packet, nothing loses it, and each of its turns comes at a second not past the
+/// path's expiry. Its hops are a word of the policy under which it was sent, and pass its list.
 pub fn run(alloc: Global, topology: Topology, events: &[Event<'_>]) -> Result<Net, Stopped>
     ensures ran { IfOk result (λ net. Ran topology (map seen events.now) net) }
     ensures stopped { IfErr result (λ s. (s.done < length events.now)
