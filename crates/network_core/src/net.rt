@@ -96,21 +96,21 @@ impl Net {
     }
 
     /// The answer of this number, if there is one: its paths, and which option was used.
-    pub fn answer(&self, number: u32) -> Option<&PathList>
+    pub fn answer(&self, number: usize) -> Option<&PathList>
         ensures { option_map (λ list. list.now) result
             ≡ option_map (λ one. one.answer) (slice_get self.now.answers number) }
     {
-        match self.answers.get(number as usize) {
+        match self.answers.get(number) {
             None => None,
             Some(answer) => Some(&answer.paths),
         }
     }
 
     /// The packet of this number, if there is one: what was sent, and where it is.
-    pub fn packet(&self, number: u32) -> Option<&Packet>
+    pub fn packet(&self, number: usize) -> Option<&Packet>
         ensures { option_map (λ p. p.now) result ≡ slice_get self.now.packets number }
     {
-        self.packets.get(number as usize)
+        self.packets.get(number)
     }
 
     /// One event: what it is answered, and the network after it. One that is refused changes
