@@ -1,0 +1,45 @@
+-- Reading the fields of a JSON object, which has the named members and any others, in any order. A
+-- whole number is one that is written as such.
+use Rattle.std.specs.Prelude.{ℕ, ◌&&◌, nat_le, Bool, if◌then◌else◌, List, [], ◌∷◌, Option, Some, None, option_and_then}
+use Rattle.std.specs.Str.{is_utf8}
+use Rattle.serde_json.specs.Data.{Data, Items, no_items, item}
+use Rattle.serde_json.specs.Find.{get, as_number, as_u64, as_bool, as_str, as_array}
+use Rattle.serde_json.specs.Read.{read}
+use Rattle.refusal.specs.Optional.{◌>>=◌}
+
+-- the value that a text says; bytes that are not UTF-8 say none
+unfoldable pub document_in : List ℕ → Option Data
+document_in bytes = if is_utf8 bytes then read bytes else None
+
+-- a text
+unfoldable pub text_at : List ℕ → Data → Option (List ℕ)
+text_at name d = do
+  v ← get name d
+  as_str v
+
+-- true or false
+unfoldable pub truth_at : List ℕ → Data → Option Bool
+truth_at name d = do
+  v ← get name d
+  as_bool v
+
+-- a whole number from low to high
+unfoldable pub whole_at : ℕ → ℕ → List ℕ → Data → Option ℕ
+whole_at low high name d = do
+  v ← get name d
+  n ← option_and_then as_u64 (as_number v)
+  if nat_le low n && nat_le n high then Some n else None
+
+-- the items of a list
+unfoldable pub list_at : List ℕ → Data → Option Items
+list_at name d = do
+  v ← get name d
+  as_array v
+
+-- each item of a list
+abbrev pub items_at : {A : Type 0} → (Data → Option A) → Items → Option (List A)
+items_at one no_items = Some []
+items_at one (item d ds) = do
+  x ← one d
+  xs ← items_at one ds
+  Some (x ∷ xs)
