@@ -111,6 +111,13 @@ impl PathList {
         self.paths.is_empty()
     }
 
+    /// The paths, in their order.
+    pub fn paths(&self) -> &[Path]
+        ensures { result.now ≡ self.now.paths }
+    {
+        &self.paths
+    }
+
     /// The path at this place, from 0.
     pub fn get(&self, place: usize) -> Option<&Path>
         ensures { option_map (λ path. path.now) result ≡ slice_get self.now.paths place }
