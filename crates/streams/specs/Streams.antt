@@ -1,0 +1,39 @@
+-- What calls on sources and sinks answer.
+use Rattle.std.specs.Prelude.{◌≡◌, ℕ, ◌+◌, ◌<◌, ◌≤◌, ◌&&◌, ◌==◌, nat_lt, Bool, true, false, List, ◌++◌, length, take, Option, Result, Ok, Err}
+use Rattle.std.specs.Io.KnownBytes.{Appends, Consumes, IsAtEnd}
+use Rattle.streams.specs.declared.fault.InputFault.{InputFault}
+use Rattle.streams.specs.declared.fault.InputFault.TheVariants.{Read, TooLong}
+
+-- whether a write failed: it answered a fault, or took none of some bytes
+abbrev pub is_failed_write : {E : Type 0} → Result ℕ E → List ℕ → Bool
+is_failed_write (Ok n) bytes = (n == 0) && nat_lt 0 (length bytes)
+is_failed_write (Err error) bytes = true
+
+-- a beginning of the bytes was written: all of them, some or none
+abbrev pub AppendsFront : Option (List ℕ) → Option (List ℕ) → List ℕ → Type 0
+AppendsFront old new bytes = (n : ℕ) × Appends old new (take n bytes)
+
+-- whether a read failed
+abbrev pub is_failed_read : {A : Type 0} → Result A InputFault → Bool
+is_failed_read (Err Read) = true
+is_failed_read result = false
+
+-- so many bytes were consumed as the fact says
+abbrev pub ConsumesSome : Option (List ℕ) → Option (List ℕ) → (ℕ → Type 0) → Type 0
+ConsumesSome old new fits = (bytes : List ℕ) × (Consumes old new bytes × fits (length bytes))
+
+-- all bytes up to the end were read, at most so many; or one more than that, or fewer, were consumed
+abbrev pub ReadsAll : {A : Type 0} → (A → List ℕ) → ℕ → Result A InputFault → Option (List ℕ) → Option (List ℕ) → Type 0
+ReadsAll items most (Ok bytes) old new =
+    (Consumes old new (items bytes) × IsAtEnd new) × (length (items bytes) ≤ most)
+ReadsAll items most (Err TooLong) old new = ConsumesSome old new (λ n. n ≡ most + 1)
+ReadsAll items most (Err fault) old new = ConsumesSome old new (λ n. n ≤ most)
+
+-- one read of at most so many bytes, behind which there are some already: how many came, none at the
+-- end alone, or why they are not among them
+abbrev pub ReadsOn : ℕ → ℕ → Result ℕ InputFault → Option (List ℕ) → Option (List ℕ) → List ℕ → List ℕ → Type 0
+ReadsOn most room (Ok n) old new before after = (bytes : List ℕ) × ((Consumes old new bytes
+    × (n ≡ 0 → IsAtEnd new)) × ((after ≡ before ++ bytes) × ((length bytes ≡ n) × (length after ≤ most))))
+ReadsOn most room (Err TooLong) old new before after =
+    ConsumesSome old new (λ n. (most < length before + n) × (n ≤ room))
+ReadsOn most room (Err fault) old new before after = ConsumesSome old new (λ n. length before + n ≤ most)

@@ -1,0 +1,55 @@
+//! Reading a source to its end.
+
+ghost use Rattle.std.specs.Prelude.{◌≡◌, ◌||◌, ◌+◌, ◌<◌, ◌≤◌, length, vec_len};
+ghost use Rattle.streams.specs.Streams.{ReadsAll, ReadsOn, is_failed_read};
+
+use crate::fault::InputFault;
+use crate::stream::Source;
+use std::alloc::Global;
+
+/// The most bytes that one read asks for.
+const ROOM_LEN: usize = 8_192;
+
+/// One read, into the front of `room` and from there behind the bytes: how many came, none at the end
+/// alone.
+fn read_on<S: Source>(
+    source: &mut S,
+    most: u64,
+    room: &mut [u8],
+    bytes: &mut Vec<u8>,
+) -> Result<usize, InputFault>
+    requires some { 0 < length room.old }
+    requires few { vec_len bytes.old ≤ most }
+    ensures bytes { ReadsOn most (length room.old) result (S.left source.old) (S.left source.new)
+        bytes.old.items bytes.new.items }
+    ensures flag { S.failed source.new ≡ (S.failed source.old || is_failed_read result) }
+{
+    let Ok(count) = source.read(room) else {
+        return Err(InputFault::Read);
+    };
+    if count as u64 > most - bytes.len() as u64 {
+        return Err(InputFault::TooLong);
+    }
+    bytes.extend_from_slice(&room[..count])?;
+    Ok(count)
+}
+
+/// All bytes that the source has left, at most `most`.
+///
+/// [`InputFault::TooLong`] where it has more, found where byte `most + 1` is read;
+/// [`InputFault::Read`] where a read fails; [`InputFault::Memory`] where there is no room for what was
+/// read.
+pub fn read_all<S: Source>(alloc: Global, source: &mut S, most: u64) -> Result<Vec<u8>, InputFault>
+    ensures bytes { ReadsAll (λ bytes. bytes.items) most result
+        (S.left source.old) (S.left source.new) }
+    ensures flag { S.failed source.new ≡ (S.failed source.old || is_failed_read result) }
+{
+    let mut bytes = Vec::new(alloc);
+    let mut room = [0u8; ROOM_LEN];
+    loop {
+        let wanted = (most - bytes.len() as u64).min(ROOM_LEN as u64 - 1) as usize + 1;
+        if read_on(source, most, &mut room[..wanted], &mut bytes)? == 0 {
+            return Ok(bytes);
+        }
+    }
+}

@@ -1,0 +1,26 @@
+//! Writing all of some bytes.
+
+ghost use Rattle.std.specs.Prelude.{◌≡◌, ◌||◌, OnOk, is_err};
+ghost use Rattle.std.specs.Io.KnownBytes.{Appends};
+ghost use Rattle.streams.specs.Streams.{AppendsFront};
+
+use crate::fault::WriteFailed;
+use crate::stream::Sink;
+
+/// Writes all of the bytes, in as many writes as that takes, at most one for each byte.
+///
+/// [`WriteFailed`] where a write fails or takes none of some bytes; those before it stay written.
+pub fn write_all<K: Sink>(sink: &mut K, bytes: &[u8]) -> Result<(), WriteFailed>
+    ensures written { OnOk result (Appends (K.held sink.old) (K.held sink.new) bytes.now) }
+    ensures front { AppendsFront (K.held sink.old) (K.held sink.new) bytes.now }
+    ensures flag { K.failed sink.new ≡ (K.failed sink.old || is_err result) }
+{
+    let mut rest = bytes;
+    while !rest.is_empty() {
+        match sink.write(rest) {
+            Ok(count) if count > 0 => rest = &rest[count..],
+            _ => return Err(WriteFailed),
+        }
+    }
+    Ok(())
+}
