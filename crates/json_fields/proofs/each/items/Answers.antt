@@ -1,5 +1,4 @@
-use Rattle.std.proofs.Common.{refl, sym, ◌∙◌, subst}
-use Rattle.std.specs.Fn.{FnReturnsAt}
+use Rattle.std.proofs.Common.{IfSome, IsTrue, refl, sym, ◌∙◌, subst}
 use Rattle.std.proofs.iter.Next.{says_at}
 use Rattle.json_fields.proofs.Front.{with_front-next, with_front-none, list_all-push}
 use Rattle.json_fields.proofs.each.items.Goals as goal
@@ -19,5 +18,5 @@ loop-value-preserved g c =
     let gave = says_at g.F.Fn c.one.ensures refl in
     rw c.in_ok-push.ensures.items (record {
       so_far = λ reader reads. (with_front-next reader l.items.items c.args.values.now l.value-index value item c.loop-value-test.true c.value-item.is (sym (reads _ _ gave) ∙ c.in-Some.is) ∙ l.invariant.so_far reader reads);
-      pass = λ test gives. list_all-push test l.items.items item (l.invariant.pass test gives) (gives _ item (subst (FnReturnsAt g.F.Fn c.args.one _) c.in-Some.is gave));
+      pass = λ test gives. list_all-push test l.items.items item (l.invariant.pass test gives) (subst (λ found. IfSome found (λ x. IsTrue (test x))) c.in-Some.is (gives _ _ gave));
     })
