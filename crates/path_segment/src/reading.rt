@@ -27,10 +27,8 @@ impl Segment {
     pub fn from_json(alloc: Global, bytes: &[u8]) -> Result<Segment, SegmentError>
         ensures { Reads (λ s. s) result (segment_in bytes.now) }
     {
-        match document(alloc, bytes)? {
-            Some(value) => segment_of(alloc, &value),
-            None => Err(OrMemory::Refused(SegmentFault::NotJson)),
-        }
+        let value = document(alloc, bytes)?.ok_or(SegmentFault::NotJson)?;
+        segment_of(alloc, &value)
     }
 }
 
@@ -39,14 +37,12 @@ impl Segment {
 fn segment_of(alloc: Global, value: &Value) -> Result<Segment, SegmentError>
     ensures { Reads (λ s. s) result (judged (chain_at (view value.now))) }
 {
-    let kind = kind(value, "kind").ok_or(OrMemory::Refused(SegmentFault::NotJson))?;
-    let timestamp = whole(value, "timestamp", 0, 4_294_967_295).ok_or(OrMemory::Refused(
-        SegmentFault::NotJson,
-    ))?;
-    let beta0 = whole(value, "beta0", 0, 65535).ok_or(OrMemory::Refused(SegmentFault::NotJson))?;
-    let values = list(value, "entries").ok_or(OrMemory::Refused(SegmentFault::NotJson))?;
-    let entries = items(alloc, values, entry_of)?.ok_or(OrMemory::Refused(SegmentFault::NotJson))?;
-    Segment::new(kind, timestamp as u32, beta0 as u16, entries).map_err(OrMemory::Refused)
+    let kind = kind(value, "kind").ok_or(SegmentFault::NotJson)?;
+    let timestamp = whole(value, "timestamp", 0, 4_294_967_295).ok_or(SegmentFault::NotJson)?;
+    let beta0 = whole(value, "beta0", 0, 65535).ok_or(SegmentFault::NotJson)?;
+    let values = list(value, "entries").ok_or(SegmentFault::NotJson)?;
+    let entries = items(alloc, values, entry_of)?.ok_or(SegmentFault::NotJson)?;
+    Ok(Segment::new(kind, timestamp as u32, beta0 as u16, entries)?)
 }
 
 /// An entry.

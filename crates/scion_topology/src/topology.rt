@@ -67,10 +67,8 @@ impl Topology {
     pub fn from_json(alloc: Global, bytes: &[u8]) -> Result<Topology, ReadError>
         ensures { Reads (λ n. n) result (network_in bytes.now) }
     {
-        match document(alloc, bytes)? {
-            Some(value) => Topology::from_value(alloc, &value),
-            None => Err(OrMemory::Refused(TopologyFault::NotJson)),
-        }
+        let value = document(alloc, bytes)?.ok_or(TopologyFault::NotJson)?;
+        Topology::from_value(alloc, &value)
     }
 
     /// The network of a JSON value.
