@@ -1,5 +1,5 @@
 -- The document of a text, by what is known of its bytes.
-use Rattle.std.proofs.Common.{◌≡◌, ℕ, List, Bool, true, false, cond, Option, Some, None, refl, sym, ◌∙◌}
+use Rattle.std.proofs.Common.{◌≡◌, ℕ, List, Bool, true, false, cond, Option, Some, None, refl, ◌∙◌}
 use Rattle.std.specs.Str.{IsUtf8, is_utf8}
 use Rattle.std.proofs.lemmas.Str.{IsUtf8-from_is_utf8, is_utf8-from_IsUtf8}
 use Rattle.serde_json.specs.Data.{Data}
@@ -16,11 +16,11 @@ none_behind true o none = none refl
 none_behind false o none = refl
 
 -- bytes that are UTF-8 say what is read of them
-pub is_document : (bytes : List ℕ) (d : Data) → IsUtf8 bytes → read bytes ≡ Some d → Some d ≡ document_in bytes
+pub is_document : (bytes : List ℕ) (d : Data) → IsUtf8 bytes → read bytes ≡ Some d → document_in bytes ≡ Some d
 unfolding document_in
-is_document bytes d text is = sym (behind (is_utf8 bytes) (read bytes) (is_utf8-from_IsUtf8 bytes text) ∙ is)
+is_document bytes d text is = behind (is_utf8 bytes) (read bytes) (is_utf8-from_IsUtf8 bytes text) ∙ is
 
 -- bytes of which nothing is read where they are UTF-8 say nothing
-pub no_document : (bytes : List ℕ) → (IsUtf8 bytes → read bytes ≡ None) → None ≡ document_in bytes
+pub no_document : (bytes : List ℕ) → (IsUtf8 bytes → read bytes ≡ None) → document_in bytes ≡ None
 unfolding document_in
-no_document bytes none = sym (none_behind (is_utf8 bytes) (read bytes) (λ e. none (IsUtf8-from_is_utf8 bytes e)))
+no_document bytes none = none_behind (is_utf8 bytes) (read bytes) (λ e. none (IsUtf8-from_is_utf8 bytes e))

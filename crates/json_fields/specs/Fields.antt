@@ -1,10 +1,15 @@
 -- Reading the fields of a JSON object, which has the named members and any others, in any order. A
 -- whole number is one that is written as such.
-use Rattle.std.specs.Prelude.{ℕ, ◌&&◌, nat_le, Bool, if◌then◌else◌, List, [], ◌∷◌, Option, Some, None, option_and_then}
+use Rattle.std.specs.Prelude.{ℕ, ◌≡◌, ◌&&◌, nat_le, Bool, IfSome, IsTrue, if◌then◌else◌, List, [], ◌∷◌, Option, Some, None, option_and_then}
+use Rattle.std.specs.Fn.{FnReturnsAt}
 use Rattle.std.specs.Str.{is_utf8}
+use denote.Ref.{Bor}
+use denote.Param.Members.{Shared}
 use Rattle.serde_json.specs.Data.{Data, Items, no_items, item}
 use Rattle.serde_json.specs.Find.{get, as_number, as_u64, as_bool, as_str, as_array}
 use Rattle.serde_json.specs.Read.{read}
+use Rattle.serde_json.specs.View.{view}
+use Rattle.serde_json.specs.declared.value.Value.{Value}
 use Rattle.refusal.specs.Optional.{◌>>=◌}
 
 -- the value that a text says; bytes that are not UTF-8 say none
@@ -43,3 +48,16 @@ items_at one (item d ds) = do
   x ← one d
   xs ← items_at one ds
   Some (x ∷ xs)
+
+-- what each call of one answers is what this reader says of the value
+abbrev pub IsReader : {F A : Type 0} → Shared F (Bor Value × Unit {0}) (Option A) → F
+    → (Data → Option A) → Type 0
+IsReader {F} {A} calls one reader =
+    (v : Value) (found : Option A) → FnReturnsAt calls one v found → found ≡ reader (view v)
+
+-- what each call of one gives passes this test
+abbrev pub GivesPassing : {F A : Type 0} → Shared F (Bor Value × Unit {0}) (Option A) → F
+    → (A → Bool) → Type 0
+GivesPassing {F} {A} calls one test =
+    (v : Value) (found : Option A) → FnReturnsAt calls one v found
+    → IfSome found (λ x. IsTrue (test x))

@@ -5,14 +5,14 @@ ghost use Rattle.json_fields.specs.Fields.{text_at, truth_at, whole_at, list_at}
 
 use serde_json::Value;
 
-/// The member of this name.
+/// The member of this name: `None` where there is none, or where the value is no object.
 pub fn member<'a>(value: &'a Value, name: &str) -> Option<&'a Value>
     ensures { option_map (λ v. view v.now) result ≡ get name.now (view value.now) }
 {
     value.get(name)
 }
 
-/// A member that is a text.
+/// The text at this name: `None` where there is no such member, or none that is a text.
 #[tactic(auto, unfolding(crate::specs::Fields::text_at))]
 pub fn text<'a>(value: &'a Value, name: &str) -> Option<&'a str>
     ensures { option_map (λ t. t.now) result ≡ text_at name.now (view value.now) }
@@ -21,7 +21,7 @@ pub fn text<'a>(value: &'a Value, name: &str) -> Option<&'a str>
     member.as_str()
 }
 
-/// A member that is true or false.
+/// True or false at this name: `None` where there is no such member, or none that is either.
 #[tactic(auto, unfolding(crate::specs::Fields::truth_at))]
 pub fn truth(value: &Value, name: &str) -> Option<bool>
     ensures { result ≡ truth_at name.now (view value.now) }
@@ -30,7 +30,8 @@ pub fn truth(value: &Value, name: &str) -> Option<bool>
     member.as_bool()
 }
 
-/// A member that is a whole number from `low` to `high`, both included.
+/// The whole number at this name: `None` where there is no such member, or none that is written as
+/// a whole number from `low` to `high`, both included.
 #[tactic(auto, unfolding(crate::specs::Fields::whole_at))]
 pub fn whole(value: &Value, name: &str, low: u64, high: u64) -> Option<u64>
     ensures value { result ≡ whole_at low high name.now (view value.now) }
@@ -46,7 +47,8 @@ pub fn whole(value: &Value, name: &str, low: u64, high: u64) -> Option<u64>
     }
 }
 
-/// A member that is the list of these values.
+/// The values of the list at this name: `None` where there is no such member, or none that is a
+/// list.
 #[tactic(auto, unfolding(crate::specs::Fields::list_at))]
 pub fn list<'a>(value: &'a Value, name: &str) -> Option<&'a [Value]>
     ensures { option_map (λ vs. items_view vs.now) result ≡ list_at name.now (view value.now) }

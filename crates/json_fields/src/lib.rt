@@ -5,8 +5,10 @@
 //! say. Members beside those that are asked for are ignored.
 #![tactic(auto)]
 
+mod each;
 mod fields;
 mod reading;
 
+pub use each::items;
 pub use fields::{list, member, text, truth, whole};
 pub use reading::document;

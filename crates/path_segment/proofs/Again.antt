@@ -1,6 +1,6 @@
 -- What is written of a segment is read as it again.
-use Rattle.std.proofs.Common.{◌≡◌, ◌≤◌, false, List, [], ◌∷◌, map, codes, Some, Ok, refl, arith}
-use Rattle.std.proofs.lemmas.Bool.{le-leb}
+use Rattle.std.proofs.Common.{◌≡◌, ℕ, ◌≤◌, ◌&&◌, nat_le, true, false, List, [], ◌∷◌, map, codes, Some, Ok, refl, arith}
+use Rattle.std.proofs.lemmas.Bool.{and_from, le-leb}
 use Rattle.hex.specs.Hex.{encode_lower, decode_sized}
 use Rattle.isd_as.specs.Address.{canonical}
 use Rattle.isd_as.specs.Reading.{address_at}
@@ -11,16 +11,21 @@ use Rattle.path_segment.specs.declared.entry.Entry.{Entry}
 use Rattle.path_segment.specs.declared.kind.SegKind.{SegKind}
 use Rattle.path_segment.specs.declared.kind.SegKind.TheVariants.{Core, Intra}
 use Rattle.path_segment.specs.Chain.{Chain}
-use Rattle.path_segment.specs.Reading.{text_at, whole_at, address_in, mac_at, kind_at, entry_at, entries_at, list_at, chain_at, judged}
+use Rattle.json_fields.specs.Fields.{text_at, whole_at, list_at, items_at}
+use Rattle.path_segment.specs.Reading.{address_in, mac_at, kind_at, entry_at, chain_at, judged}
 use Rattle.path_segment.specs.Rules.{IsSegment}
 use Rattle.path_segment.specs.Text.{kind_name, entry_data, segment_data}
+
+-- a number up to this one is a number from 0 to it
+from_zero : (n high : ℕ) → n ≤ high → (nat_le 0 n && nat_le n high) ≡ true
+from_zero n high small = and_from (nat_le 0 n) (nat_le n high) (le-leb 0 n (omega arith)) (le-leb n high small)
 
 -- what was written for an entry is read as it, where its parts are and its numbers fit
 pub entry_again : (e : Entry) → address_at (canonical e.ia) ≡ Ok e.ia → decode_sized (encode_lower e.mac) 6 ≡ Ok e.mac
     → e.cons_ingress ≤ 65535 → e.cons_egress ≤ 65535 → e.exp_time ≤ 255 → entry_at (entry_data e) ≡ Some e
 unfolding entry_at entry_data address_in text_at mac_at whole_at
 entry_again e ia mac ingress egress exp =
-    rw (ia, le-leb e.cons_ingress 65535 ingress, le-leb e.cons_egress 65535 egress, le-leb e.exp_time 255 exp, mac) refl
+    rw (ia, from_zero e.cons_ingress 65535 ingress, from_zero e.cons_egress 65535 egress, from_zero e.exp_time 255 exp, mac) refl
 
 kind_again : (k : SegKind) (d : Data) → text_at (codes "kind") d ≡ Some (kind_name k) → kind_at (codes "kind") d ≡ Some k
 unfolding kind_at
@@ -28,11 +33,11 @@ kind_again Core d text = rw text refl
 kind_again Intra d text = rw text refl
 
 -- what was written for a segment is read as it
-pub chain_again : (s : Chain) → entries_at (items_of (map entry_data s.entries)) ≡ Some s.entries → s.timestamp ≤ 4294967295 → s.beta0 ≤ 65535 → chain_at (segment_data s) ≡ Some s
+pub chain_again : (s : Chain) → items_at entry_at (items_of (map entry_data s.entries)) ≡ Some s.entries → s.timestamp ≤ 4294967295 → s.beta0 ≤ 65535 → chain_at (segment_data s) ≡ Some s
 unfolding chain_at segment_data text_at whole_at list_at
 chain_again s entries timestamp beta0 =
     let kind : kind_at (codes "kind") (segment_data s) ≡ Some s.kind = kind_again s.kind (segment_data s) refl in
-    rw (kind, le-leb s.timestamp 4294967295 timestamp, le-leb s.beta0 65535 beta0, entries) refl
+    rw (kind, from_zero s.timestamp 4294967295 timestamp, from_zero s.beta0 65535 beta0, entries) refl
 
 entries_no_float : (es : List Entry) → items_have_float (items_of (map entry_data es)) ≡ false
 unfolding entry_data

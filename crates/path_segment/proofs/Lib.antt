@@ -1,4 +1,3 @@
-pub mod Front
 pub mod Again
 pub mod Same
 pub mod Decided

@@ -1,14 +1,13 @@
 -- Reading a segment from JSON: an object with the named members and any others, in any order. A
 -- whole number is one that is written as such.
-use Rattle.std.specs.Prelude.{ℕ, nat_le, if◌then◌else◌, codes, List, [], ◌∷◌, Option, Some, None, option_and_then, Result, Err}
+use Rattle.std.specs.Prelude.{ℕ, if◌then◌else◌, codes, List, Option, Some, None, Result, Err}
 use Rattle.std.specs.Result.{result_ok}
 use Rattle.std.specs.Str.{bytes_eq}
 use Rattle.hex.specs.Hex.{decode_sized}
 use Rattle.refusal.specs.Optional.{◌>>=◌}
 use Rattle.isd_as.specs.Reading.{address_at}
-use Rattle.serde_json.specs.Data.{Data, Items, no_items, item}
-use Rattle.serde_json.specs.Find.{get, as_number, as_u64, as_str, as_array}
-use Rattle.serde_json.specs.Read.{read}
+use Rattle.serde_json.specs.Data.{Data}
+use Rattle.json_fields.specs.Fields.{document_in, text_at, whole_at, list_at, items_at}
 use Rattle.path_segment.specs.declared.entry.Entry.{Entry}
 use Rattle.path_segment.specs.declared.fault.SegmentFault.{SegmentFault}
 use Rattle.path_segment.specs.declared.fault.SegmentFault.TheVariants as faults
@@ -16,19 +15,6 @@ use Rattle.path_segment.specs.declared.kind.SegKind.{SegKind}
 use Rattle.path_segment.specs.declared.kind.SegKind.TheVariants.{Core, Intra}
 use Rattle.path_segment.specs.Chain.{Chain}
 use Rattle.path_segment.specs.Rules.{segment_of}
-
--- a text
-unfoldable pub text_at : List ℕ → Data → Option (List ℕ)
-text_at name d = do
-  v ← get name d
-  as_str v
-
--- a whole number up to this one
-unfoldable pub whole_at : ℕ → List ℕ → Data → Option ℕ
-whole_at high name d = do
-  v ← get name d
-  n ← option_and_then as_u64 (as_number v)
-  if nat_le n high then Some n else None
 
 -- an address, wildcards included
 unfoldable pub address_in : List ℕ → Data → Option ℕ
@@ -53,34 +39,20 @@ kind_at name d = do
 unfoldable pub entry_at : Data → Option Entry
 entry_at d = do
   ia ← address_in (codes "ia") d
-  cons_ingress ← whole_at 65535 (codes "ingress") d
-  cons_egress ← whole_at 65535 (codes "egress") d
-  exp_time ← whole_at 255 (codes "exp") d
+  cons_ingress ← whole_at 0 65535 (codes "ingress") d
+  cons_egress ← whole_at 0 65535 (codes "egress") d
+  exp_time ← whole_at 0 255 (codes "exp") d
   mac ← mac_at (codes "mac") d
   Some (record { ia = ia; cons_ingress = cons_ingress; cons_egress = cons_egress; exp_time = exp_time; mac = mac })
-
--- each entry of a list
-abbrev pub entries_at : Items → Option (List Entry)
-entries_at no_items = Some []
-entries_at (item d ds) = do
-  entry ← entry_at d
-  entries ← entries_at ds
-  Some (entry ∷ entries)
-
--- the items of a list
-unfoldable pub list_at : List ℕ → Data → Option Items
-list_at name d = do
-  v ← get name d
-  as_array v
 
 -- what an object of this form describes, whether it keeps the rules or not
 unfoldable pub chain_at : Data → Option Chain
 chain_at d = do
   kind ← kind_at (codes "kind") d
-  timestamp ← whole_at 4294967295 (codes "timestamp") d
-  beta0 ← whole_at 65535 (codes "beta0") d
+  timestamp ← whole_at 0 4294967295 (codes "timestamp") d
+  beta0 ← whole_at 0 65535 (codes "beta0") d
   items ← list_at (codes "entries") d
-  entries ← entries_at items
+  entries ← items_at entry_at items
   Some (record { kind = kind; timestamp = timestamp; beta0 = beta0; entries = entries })
 
 -- the segment, or the refusal: NotJson where the form is another, then that of the rules
@@ -90,4 +62,4 @@ judged (Some chain) = segment_of chain
 
 -- the segment of a text
 abbrev pub segment_in : List ℕ → Result Chain SegmentFault
-segment_in text = judged (read text >>= chain_at)
+segment_in bytes = judged (document_in bytes >>= chain_at)

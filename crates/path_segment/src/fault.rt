@@ -1,5 +1,6 @@
 ghost use Rattle.std.specs.Prelude.{◌≡◌};
 ghost use Rattle.path_segment.specs.Fault.{code_of, name_of};
+ghost use Rattle.refusal.specs.declared.fault.OrMemory.TheVariants.{Refused};
 
 use refusal::OrMemory;
 use thiserror::Error;
@@ -55,3 +56,11 @@ impl SegmentFault {
 
 /// Why a call that takes memory gave no beacon or segment.
 pub type SegmentError = OrMemory<SegmentFault>;
+
+impl From<SegmentFault> for OrMemory<SegmentFault> {
+    ghost from_gives = { λ fault e. e ≡ Refused fault };
+
+    fn from(fault: SegmentFault) -> OrMemory<SegmentFault> {
+        OrMemory::Refused(fault)
+    }
+}

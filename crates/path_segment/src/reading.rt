@@ -1,9 +1,7 @@
-ghost use Rattle.std.specs.Prelude.{◌≡◌, ℕ, ◌≤◌, IfSome, option_map, Err};
-ghost use Rattle.std.specs.Option.{ok_or};
-ghost use Rattle.std.specs.Str.{IsUtf8};
-ghost use Rattle.serde_json.specs.View.{view, items_view};
+ghost use Rattle.std.specs.Prelude.{◌≡◌};
+ghost use Rattle.serde_json.specs.View.{view};
 ghost use Rattle.refusal.specs.Refusal.{Reads};
-ghost use Rattle.path_segment.specs.Reading.{text_at, whole_at, address_in, mac_at, kind_at, entry_at, entries_at, list_at, chain_at, judged, segment_in};
+ghost use Rattle.path_segment.specs.Reading.{address_in, mac_at, kind_at, entry_at, chain_at, judged, segment_in};
 
 use crate::entry::Entry;
 use crate::fault::{SegmentError, SegmentFault};
@@ -11,6 +9,7 @@ use crate::kind::SegKind;
 use crate::segment::Segment;
 use hex::FromHex;
 use isd_as::{IfId, IsdAs};
+use json_fields::{document, items, list, text, whole};
 use refusal::OrMemory;
 use serde_json::Value;
 use std::alloc::Global;
@@ -26,14 +25,10 @@ impl Segment {
     /// [`SegmentFault::NotJson`] where the text is not of this form, and then the refusals of
     /// [`Segment::new`]. Want of memory is [`OrMemory::Memory`].
     pub fn from_json(alloc: Global, bytes: &[u8]) -> Result<Segment, SegmentError>
-        ensures text { IsUtf8 bytes.now → Reads (λ s. s) result (segment_in bytes.now) }
-        ensures no_text { ¬ IsUtf8 bytes.now → Reads (λ s. s) result (Err SegmentFault.NotJson) }
+        ensures { Reads (λ s. s) result (segment_in bytes.now) }
     {
-        match Value::from_slice(alloc, bytes) {
-            Ok(value) => segment_of(alloc, &value),
-            Err(error) if error.is_memory() => Err(OrMemory::Memory),
-            Err(_) => Err(OrMemory::Refused(SegmentFault::NotJson)),
-        }
+        let value = document(alloc, bytes)?.ok_or(SegmentFault::NotJson)?;
+        segment_of(alloc, &value)
     }
 }
 
@@ -42,27 +37,12 @@ impl Segment {
 fn segment_of(alloc: Global, value: &Value) -> Result<Segment, SegmentError>
     ensures { Reads (λ s. s) result (judged (chain_at (view value.now))) }
 {
-    let kind = kind(value, "kind").ok_or(OrMemory::Refused(SegmentFault::NotJson))?;
-    let timestamp = whole(value, "timestamp", 4_294_967_295).ok_or(OrMemory::Refused(
-        SegmentFault::NotJson,
-    ))?;
-    let beta0 = whole(value, "beta0", 65535).ok_or(OrMemory::Refused(SegmentFault::NotJson))?;
-    let values = list(value, "entries").ok_or(OrMemory::Refused(SegmentFault::NotJson))?;
-    let entries = entries_of(alloc, values)?;
-    Segment::new(kind, timestamp as u32, beta0 as u16, entries).map_err(OrMemory::Refused)
-}
-
-/// The entries of a list.
-fn entries_of(alloc: Global, values: &[Value]) -> Result<Vec<Entry>, SegmentError>
-    ensures { Reads (λ v. v.items) result
-        (ok_or (entries_at (items_view values.now)) SegmentFault.NotJson) }
-{
-    let mut entries = Vec::new(alloc);
-    for value in values {
-        let entry = entry_of(value).ok_or(OrMemory::Refused(SegmentFault::NotJson))?;
-        entries.push(entry)?;
-    }
-    Ok(entries)
+    let kind = kind(value, "kind").ok_or(SegmentFault::NotJson)?;
+    let timestamp = whole(value, "timestamp", 0, 4_294_967_295).ok_or(SegmentFault::NotJson)?;
+    let beta0 = whole(value, "beta0", 0, 65535).ok_or(SegmentFault::NotJson)?;
+    let values = list(value, "entries").ok_or(SegmentFault::NotJson)?;
+    let entries = items(alloc, values, entry_of)?.ok_or(SegmentFault::NotJson)?;
+    Ok(Segment::new(kind, timestamp as u32, beta0 as u16, entries)?)
 }
 
 /// An entry.
@@ -71,9 +51,9 @@ fn entry_of(value: &Value) -> Option<Entry>
     ensures { result ≡ entry_at (view value.now) }
 {
     let ia = address(value, "ia")?;
-    let cons_ingress = whole(value, "ingress", 65535)?;
-    let cons_egress = whole(value, "egress", 65535)?;
-    let exp_time = whole(value, "exp", 255)?;
+    let cons_ingress = whole(value, "ingress", 0, 65535)?;
+    let cons_egress = whole(value, "egress", 0, 65535)?;
+    let exp_time = whole(value, "exp", 0, 255)?;
     let mac = mac(value, "mac")?;
     Some(Entry {
         ia,
@@ -82,26 +62,6 @@ fn entry_of(value: &Value) -> Option<Entry>
         exp_time: exp_time as u8,
         mac,
     })
-}
-
-/// A member that is a text.
-#[tactic(auto, unfolding(crate::specs::Reading::text_at))]
-fn text<'a>(value: &'a Value, name: &str) -> Option<&'a str>
-    ensures { option_map (λ t. t.now) result ≡ text_at name.now (view value.now) }
-{
-    let member = value.get(name)?;
-    member.as_str()
-}
-
-/// A member that is a whole number up to `high`.
-#[tactic(auto, unfolding(crate::specs::Reading::whole_at))]
-fn whole(value: &Value, name: &str, high: u64) -> Option<u64>
-    ensures value { result ≡ whole_at high name.now (view value.now) }
-    ensures high { IfSome result (λ n. n ≤ high) }
-{
-    let member = value.get(name)?;
-    let number = member.as_u64()?;
-    if number <= high { Some(number) } else { None }
 }
 
 /// A member that is an address.
@@ -132,18 +92,5 @@ fn kind(value: &Value, name: &str) -> Option<SegKind>
         "core" => Some(SegKind::Core),
         "intra" => Some(SegKind::Intra),
         _ => None,
-    }
-}
-
-/// A member that is the list of these values.
-#[tactic(auto, unfolding(crate::specs::Reading::list_at))]
-fn list<'a>(value: &'a Value, name: &str) -> Option<&'a [Value]>
-    ensures { option_map (λ vs. items_view vs.now) result ≡ list_at name.now (view value.now) }
-{
-    let member = value.get(name)?;
-    // The list is lent as a slice, which `as_array()` alone is not.
-    match member.as_array() {
-        Some(values) => Some(values),
-        None => None,
     }
 }

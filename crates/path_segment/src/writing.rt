@@ -4,7 +4,8 @@ ghost use Rattle.isd_as.specs.Address.{canonical};
 ghost use Rattle.isd_as.specs.Reading.{address_at};
 ghost use Rattle.serde_json.specs.Data.{array};
 ghost use Rattle.serde_json.specs.View.{view, items_of};
-ghost use Rattle.path_segment.specs.Reading.{entry_at, entries_at, chain_at, judged, segment_in};
+ghost use Rattle.json_fields.specs.Fields.{items_at};
+ghost use Rattle.path_segment.specs.Reading.{entry_at, chain_at, judged, segment_in};
 ghost use Rattle.path_segment.specs.Text.{entry_data, kind_name, segment_data, segment_text};
 
 use crate::entry::Entry;
@@ -80,7 +81,7 @@ fn entry_value(alloc: Global, entry: &Entry) -> Result<Value, AllocError>
 fn entries_value(alloc: Global, entries: &[Entry]) -> Result<Value, AllocError>
     ensures value { IfOk result (λ v. view v ≡ array (items_of (map entry_data entries.now))) }
     ensures again { IfOk result
-        (λ _. entries_at (items_of (map entry_data entries.now)) ≡ Some entries.now) }
+        (λ _. items_at entry_at (items_of (map entry_data entries.now)) ≡ Some entries.now) }
 {
     let mut values = Vec::with_capacity(alloc, entries.len())?;
     for entry in entries {

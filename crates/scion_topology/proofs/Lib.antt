@@ -3,7 +3,6 @@ pub mod KeyTests
 pub mod Judging
 pub mod RightViews
 pub mod AuthenticHops
-pub mod Front
 pub mod Indexes
 pub mod Places
 pub mod Seeing

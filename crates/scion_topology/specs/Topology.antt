@@ -3,7 +3,7 @@ use Rattle.std.specs.Prelude.{◌≡◌, ℕ, ◌==◌, nat_lt, Bool, if◌then�
 use Rattle.std.specs.List.{position_or_len}
 use Rattle.std.specs.Option.{ok_or}
 use Rattle.serde_json.specs.Data.{Data}
-use Rattle.serde_json.specs.Read.{read}
+use Rattle.json_fields.specs.Fields.{document_in, list_at, items_at}
 use Rattle.refusal.specs.Refusal.{◌>>=◌, unless}
 use Rattle.scion_topology.specs.declared.entry.IfEntry.{IfEntry}
 use Rattle.scion_topology.specs.declared.fault.TopologyFault.{TopologyFault}
@@ -17,17 +17,17 @@ use Rattle.scion_topology.specs.Keys.{key_of, renewed}
 use Rattle.scion_topology.specs.Network.{Network, as_named, is_end, has_end, link_named, table_of, interface_in}
 use Rattle.scion_topology.specs.Causes.{cause_of}
 pub use Rattle.scion_topology.specs.Rules.{IsNetwork}
-use Rattle.scion_topology.specs.Reading.{list_at, items_at, as_at, link_at}
+use Rattle.scion_topology.specs.Reading.{as_at, link_at}
 
 -- ---- reading
 
 -- the network of a value: each field, and then each cause over the whole
 unfoldable pub network_of : Data → Result Network TopologyFault
 network_of d = do
-  as_items ← list_at (codes "ases") d
-  link_items ← list_at (codes "links") d
-  ases ← items_at as_at as_items
-  links ← items_at link_at link_items
+  as_items ← ok_or (list_at (codes "ases") d) faults.BadField
+  link_items ← ok_or (list_at (codes "links") d) faults.BadField
+  ases ← ok_or (items_at as_at as_items) faults.BadField
+  links ← ok_or (items_at link_at link_items) faults.BadField
   unless (cause_of ases links) (record { ases = ases; links = links })
 
 -- the network of a text
@@ -36,7 +36,7 @@ of_value (Some d) = network_of d
 of_value None = Err faults.NotJson
 
 abbrev pub network_in : List ℕ → Result Network TopologyFault
-network_in text = of_value (read text)
+network_in bytes = of_value (document_in bytes)
 
 -- ---- asking
 

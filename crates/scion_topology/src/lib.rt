@@ -16,7 +16,6 @@ mod index;
 mod keys;
 pub mod laws;
 mod network;
-mod reading;
 mod topology;
 mod view;
 

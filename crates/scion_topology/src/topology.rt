@@ -2,7 +2,6 @@ ghost use Rattle.std.specs.Prelude.{◌≡◌, ℕ, Err, IfOk, IfSome, IsTrue, o
 ghost use Rattle.std.specs.List.{list_all};
 ghost use Rattle.std.specs.Ordering.{nat_cmp};
 ghost use Rattle.std.specs.BTreeMap.{get};
-ghost use Rattle.std.specs.Str.{IsUtf8};
 ghost use Rattle.serde_json.specs.View.{view};
 ghost use Rattle.refusal.specs.Refusal.{Reads, unless};
 ghost use Rattle.scion_topology.specs.Causes.{is_as, is_link, cause_of};
@@ -11,11 +10,11 @@ ghost use Rattle.scion_topology.specs.Index.{seen, index_from};
 
 use crate::causes::first_cause;
 use crate::fault::{ReadError, TopologyFault};
-use crate::fields::list;
+use crate::fields::{as_of, link_of};
 use crate::index::AsIndex;
 use crate::network::{AsEntry, Link};
-use crate::reading::{ases_of, links_of};
 use isd_as::IsdAs;
+use json_fields::{document, items, list};
 use refusal::OrMemory;
 use serde_json::Value;
 use std::alloc::{AllocError, Global};
@@ -66,14 +65,10 @@ impl Topology {
     /// [`TopologyFault::BadKind`], [`TopologyFault::DuplicateIf`]. Want of memory is
     /// [`OrMemory::Memory`].
     pub fn from_json(alloc: Global, bytes: &[u8]) -> Result<Topology, ReadError>
-        ensures text { IsUtf8 bytes.now → Reads (λ n. n) result (network_in bytes.now) }
-        ensures no_text { ¬ IsUtf8 bytes.now → Reads (λ n. n) result (Err TopologyFault.NotJson) }
+        ensures { Reads (λ n. n) result (network_in bytes.now) }
     {
-        match Value::from_slice(alloc, bytes) {
-            Ok(value) => Topology::from_value(alloc, &value),
-            Err(error) if error.is_memory() => Err(OrMemory::Memory),
-            Err(_) => Err(OrMemory::Refused(TopologyFault::NotJson)),
-        }
+        let value = document(alloc, bytes)?.ok_or(TopologyFault::NotJson)?;
+        Topology::from_value(alloc, &value)
     }
 
     /// The network of a JSON value.
@@ -81,10 +76,10 @@ impl Topology {
     fn from_value(alloc: Global, value: &Value) -> Result<Topology, ReadError>
         ensures { Reads (λ n. n) result (network_of (view value.now)) }
     {
-        let as_items = list(value, "ases")?;
-        let link_items = list(value, "links")?;
-        let ases = ases_of(alloc, as_items)?;
-        let links = links_of(alloc, link_items)?;
+        let as_items = list(value, "ases").ok_or(TopologyFault::BadField)?;
+        let link_items = list(value, "links").ok_or(TopologyFault::BadField)?;
+        let ases = items(alloc, as_items, as_of)?.ok_or(TopologyFault::BadField)?;
+        let links = items(alloc, link_items, link_of)?.ok_or(TopologyFault::BadField)?;
         Topology::of_lists(alloc, ases, links)
     }
 

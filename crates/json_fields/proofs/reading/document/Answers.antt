@@ -1,3 +1,4 @@
+use Rattle.std.proofs.Common.{sym}
 use Rattle.serde_json.specs.Errors.{IsMemory}
 use Rattle.serde_json.specs.View.{view}
 use Rattle.json_fields.proofs.Documents.{is_document, no_document}
@@ -6,9 +7,9 @@ use Rattle.json_fields.proofs.reading.document.Goals as goal
 pub returns-in-Ok : goal.returns-in-Ok
 returns-in-Ok c =
     let ok = c.in-Ok.ensures.ok in
-    is_document c.args.bytes.now (view c.in-Ok.value) ok.0 ok.1
+    sym (is_document c.args.bytes.now (view c.in-Ok.value) ok.0 ok.1)
 
 pub returns-in-Err-2 : goal.returns-in-Err-2
 returns-in-Err-2 c =
     let other : ¬ IsMemory c.in-Err.error = λ memory. (let yes = c.is_memory.ensures.1 memory in let no = c.if-is_memory.false in absurd cc) in
-    no_document c.args.bytes.now (c.in-Err.ensures.err other)
+    sym (no_document c.args.bytes.now (c.in-Err.ensures.err other))

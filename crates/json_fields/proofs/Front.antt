@@ -1,0 +1,36 @@
+-- Reading a list, where a front of it has been read.
+use Rattle.std.proofs.Common.{◌≡◌, ℕ, suc, ◌+◌, ◌<◌, List, [], ◌∷◌, ◌++◌, length, get_or, drop, Option, Some, None, refl, sym, ap, ◌∙◌, append_assoc, add-one, drop-cons, Bool, true}
+use Rattle.std.specs.List.{list_all}
+use Rattle.std.proofs.lemmas.Bool.{and_parts, and_from}
+use Rattle.refusal.specs.Optional.{◌>>=◌}
+use Rattle.serde_json.specs.Data.{Data}
+use Rattle.serde_json.specs.View.{view, items_view}
+use Rattle.serde_json.specs.declared.value.Value.{Value}
+use Rattle.json_fields.specs.Fields.{items_at}
+
+-- what was read so far, and then the rest
+abbrev pub with_front : {A : Type 0} → List A → Option (List A) → Option (List A)
+with_front front reading = reading >>= λ xs. Some (front ++ xs)
+
+joined : {A : Type 0} (front : List A) (x : A) (rest : Option (List A)) → with_front (front ++ (x ∷ [])) rest ≡ with_front front (rest >>= λ xs. Some (x ∷ xs))
+joined front x (Some xs) = ap (λ (l : List _). Some l) (append_assoc front (x ∷ []) xs)
+joined front x None = refl
+
+cell : (values : List Value) (i : ℕ) (value : Value) → i < length values → value ≡ get_or values i value → drop i values ≡ value ∷ drop (i + 1) values
+cell values i value below is = drop-cons values i value below ∙ ap (λ v. v ∷ drop (suc i) values) (sym is) ∙ ap (λ n. value ∷ drop n values) (sym (add-one i))
+
+-- the next item goes to the front
+pub with_front-next : {A : Type 0} (reader : Data → Option A) (front : List A) (values : List Value) (i : ℕ) (value : Value) (x : A) → i < length values → value ≡ get_or values i value → reader (view value) ≡ Some x → with_front (front ++ (x ∷ [])) (items_at reader (items_view (drop (i + 1) values))) ≡ with_front front (items_at reader (items_view (drop i values)))
+with_front-next reader front values i value x below is read =
+    rw (cell values i value below is, read) (joined front x (items_at reader (items_view (drop (i + 1) values))))
+
+-- an item that is nothing ends the reading
+pub with_front-none : {A : Type 0} (reader : Data → Option A) (front : List A) (values : List Value) (i : ℕ) (value : Value) → i < length values → value ≡ get_or values i value → reader (view value) ≡ None → with_front front (items_at reader (items_view (drop i values))) ≡ None
+with_front-none reader front values i value below is read = rw (cell values i value below is, read) refl
+
+-- one more that passes
+pub list_all-push : {A : Type 0} (test : A → Bool) (xs : List A) (x : A) → list_all test xs ≡ true → test x ≡ true → list_all test (xs ++ (x ∷ [])) ≡ true
+list_all-push test [] x all one = and_from (test x) true one refl
+list_all-push test (y ∷ xs) x all one =
+    let parts = and_parts (test y) (list_all test xs) all in
+    and_from (test y) (list_all test (xs ++ (x ∷ []))) parts.0 (list_all-push test xs x parts.1 one)
