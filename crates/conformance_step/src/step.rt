@@ -1,8 +1,8 @@
+use commands::{CommandFault, step_line};
 use hex::encode;
 use hop_mac::hop_mac;
 use std::alloc::{AllocError, Global};
 use std::test::Fail;
-use step_line::{StepFault, step_line};
 
 /// The words of a router of 1-ff00:0:111 and a packet of a host, but for the second and the
 /// interface.
@@ -129,7 +129,7 @@ fn bad_packets(rt: HostRuntime) -> Result<(), Fail> {
     let right = words("100", "host", "2,parent,0,up");
     for packet in ["0", "0g", "00 00", "\u{c}00", "0x00", "é"] {
         let answer = step_line(rt.alloc(), &right, packet);
-        assert!(rt; matches!(answer, Err(StepFault::PacketText)));
+        assert!(rt; matches!(answer, Err(CommandFault::PacketText)));
     }
     Ok(())
 }
@@ -141,7 +141,10 @@ fn long_key() -> &'static str {
 
 /// Whether the words are refused.
 fn is_refused(rt: &HostRuntime, words: &[&str]) -> bool {
-    matches!(step_line(rt.alloc(), words, "zz"), Err(StepFault::Usage(_)))
+    matches!(
+        step_line(rt.alloc(), words, "zz"),
+        Err(CommandFault::Usage(_))
+    )
 }
 
 /// Each way in which a word can be wrong; the words come before the packet.
@@ -246,7 +249,7 @@ fn previous_key(rt: HostRuntime) -> Result<(), Fail> {
         let printed = step_line(alloc, &words, &packet);
         match line {
             Some(line) => assert_eq!(rt; printed?.as_str(), line),
-            None => assert!(rt; matches!(&printed, Err(StepFault::Usage(_)))),
+            None => assert!(rt; matches!(&printed, Err(CommandFault::Usage(_)))),
         }
     }
     Ok(())

@@ -1,9 +1,10 @@
+use commands::{CommandFault, Status, WordsFault, end, run};
 use std::io;
 use std::io::{Read, Write};
 use std::test::Fail;
-use step_line::{RunFault, Status, StepFault, end, run};
+use streams::{Reader, Writer};
 
-/// The words of the stored command, with this second.
+/// The words of a router's turn over a packet of a host, with this second.
 fn words<'a>(now: &'a str) -> [&'a str; 12] {
     [
         "step",
@@ -24,6 +25,23 @@ fn words<'a>(now: &'a str) -> [&'a str; 12] {
 /// A packet of two hops that expired at second 21700, in hexadecimal.
 fn late_packet() -> &'static [u8] {
     b"0001ff00000001100001ff0000000111000020000000b39600000064003f00020000b1b2b3b4b5b6003f00000001a1a2a3a4a5a6\n"
+}
+
+/// A reader that a signal interrupts before it gives these bytes.
+#[derive(Drop)]
+struct Interrupted<'a> {
+    bytes: &'a [u8],
+    is_over: bool,
+}
+
+impl<'a> Read for Interrupted<'a> {
+    fn read(&mut self, room: &mut [u8]) -> io::Result<usize> {
+        if !self.is_over {
+            self.is_over = true;
+            return Err(io::Error::from(io::ErrorKind::Interrupted));
+        }
+        self.bytes.read(room)
+    }
 }
 
 /// A stream whose reads and writes fail.
@@ -87,31 +105,40 @@ impl Ended {
 
 /// A run over this input.
 fn ran<'a, R: Read + Drop>(rt: &HostRuntime, words: &'a [&'a str], input: R) -> Ended {
-    let mut output = Vec::new(rt.alloc());
-    let mut errors = Vec::new(rt.alloc());
-    let status = run(rt.alloc(), words, input, &mut output, &mut errors);
+    let mut output = Writer::new(Vec::new(rt.alloc()));
+    let mut errors = Writer::new(Vec::new(rt.alloc()));
+    let mut source = Reader::new(input);
+    let status = run(rt.alloc(), words, &mut source, &mut output, &mut errors);
     Ended {
         status,
-        output,
-        errors,
+        output: output.into_inner(),
+        errors: errors.into_inner(),
     }
 }
 
 /// A run that writes to this stream.
-fn ran_into<W: Write>(rt: &HostRuntime, output: &mut W) -> Ended {
-    let mut errors = Vec::new(rt.alloc());
-    let status = run(rt.alloc(), &[], late_packet(), output, &mut errors);
+fn ran_into<W: Write + Drop>(rt: &HostRuntime, output: W) -> Ended {
+    let mut sink = Writer::new(output);
+    let mut errors = Writer::new(Vec::new(rt.alloc()));
+    let mut source = Reader::new(late_packet());
+    let status = run(
+        rt.alloc(),
+        &words("21701"),
+        &mut source,
+        &mut sink,
+        &mut errors,
+    );
     Ended {
         status,
         output: Vec::new(rt.alloc()),
-        errors,
+        errors: errors.into_inner(),
     }
 }
 
-/// A line that is printed, with the stored words and with others.
+/// A line that is printed, with these words and with others.
 #[test]
 fn printed(rt: HostRuntime) -> Result<(), Fail> {
-    assert!(rt; ran(&rt, &[], late_packet()).is(0, "refused 93 Expired\n", ""));
+    assert!(rt; ran(&rt, &words("21701"), late_packet()).is(0, "refused 93 Expired\n", ""));
     assert!(rt; ran(&rt, &words("21700"), late_packet()).is(0, "refused 94 BadMac\n", ""));
     Ok(())
 }
@@ -121,7 +148,7 @@ fn printed(rt: HostRuntime) -> Result<(), Fail> {
 fn bad_text(rt: HostRuntime) -> Result<(), Fail> {
     let texts: [&[u8]; 4] = [b"0", b"zz", b"\xff\xfe", b"00\xc3\xa9"];
     for text in texts {
-        assert!(rt; ran(&rt, &[], text).is(1, "", "scionet: bad packet text\n"));
+        assert!(rt; ran(&rt, &words("21701"), text).is(1, "", "scionet: bad packet text\n"));
     }
     Ok(())
 }
@@ -144,27 +171,38 @@ fn bad_words(rt: HostRuntime) -> Result<(), Fail> {
 #[test]
 fn bad_streams(rt: HostRuntime) -> Result<(), Fail> {
     let read_failed = "scionet: read failed\n";
-    let broken = ran(&rt, &[], Broken(io::ErrorKind::Other));
+    let broken = ran(&rt, &words("21701"), Broken(io::ErrorKind::Other));
     assert!(rt; broken.is(1, "", read_failed));
     let breaking = late_packet().chain(Broken(io::ErrorKind::Other));
-    assert!(rt; ran(&rt, &[], breaking).is(1, "", read_failed));
-    let no_memory = ran(&rt, &[], Broken(io::ErrorKind::OutOfMemory));
-    assert!(rt; no_memory.is(1, "", "scionet: out of memory\n"));
+    assert!(rt; ran(&rt, &words("21701"), breaking).is(1, "", read_failed));
+    let no_memory = ran(&rt, &words("21701"), Broken(io::ErrorKind::OutOfMemory));
+    assert!(rt; no_memory.is(1, "", read_failed));
     let write_failed = "scionet: write failed\n";
-    assert!(rt; ran_into(&rt, &mut Broken(io::ErrorKind::Other)).is(1, "", write_failed));
-    assert!(rt; ran_into(&rt, &mut Full).is(1, "", write_failed));
+    assert!(rt; ran_into(&rt, Broken(io::ErrorKind::Other)).is(1, "", write_failed));
+    assert!(rt; ran_into(&rt, Full).is(1, "", write_failed));
     Ok(())
 }
 
 /// As much input as is taken, which is blank and so a packet of no bytes, and a byte more.
 #[test]
 fn long_input(rt: HostRuntime) -> Result<(), Fail> {
-    let longest = ran(&rt, &[], io::repeat(b' ').take(67_108_864));
+    let longest = ran(&rt, &words("21701"), io::repeat(b' ').take(67_108_864));
     assert!(rt; longest.is(0, "refused 90 BadHeader 20 Short\n", ""));
-    let too_long = ran(&rt, &[], io::repeat(b' ').take(67_108_865));
+    let too_long = ran(&rt, &words("21701"), io::repeat(b' ').take(67_108_865));
     assert!(rt; too_long.is(1, "", "scionet: input too long\n"));
-    let endless = ran(&rt, &[], io::repeat(b'0'));
+    let endless = ran(&rt, &words("21701"), io::repeat(b'0'));
     assert!(rt; endless.is(1, "", "scionet: input too long\n"));
+    Ok(())
+}
+
+/// Reads that a signal interrupts are tried again.
+#[test]
+fn tried_again(rt: HostRuntime) -> Result<(), Fail> {
+    let input = Interrupted {
+        bytes: late_packet(),
+        is_over: false,
+    };
+    assert!(rt; ran(&rt, &words("21701"), input).is(0, "refused 93 Expired\n", ""));
     Ok(())
 }
 
@@ -172,15 +210,13 @@ fn long_input(rt: HostRuntime) -> Result<(), Fail> {
 #[test]
 fn faults_before(rt: HostRuntime) -> Result<(), Fail> {
     let unreadable = io::Error::from(io::ErrorKind::InvalidData);
-    let refused = RunFault::of_words(rt.alloc(), &unreadable);
-    let mut errors = Vec::new(rt.alloc());
+    let refused = CommandFault::from(WordsFault::unreadable(rt.alloc(), &unreadable));
+    let mut errors = Writer::new(Vec::new(rt.alloc()));
     assert_eq!(rt; end(&refused, &mut errors).code(), 2);
-    assert!(rt; errors.as_slice() == b"scionet: usage\n".as_slice());
-    let no_memory = RunFault::Step(StepFault::Memory);
-    assert_eq!(rt; end(&no_memory, &mut Full).code(), 1);
-    assert_eq!(rt;
-        end(&no_memory, &mut Broken(io::ErrorKind::Other)).code(),
-        1
-    );
+    assert!(rt; errors.into_inner().as_slice() == b"scionet: usage\n".as_slice());
+    let no_memory = CommandFault::Memory;
+    assert_eq!(rt; end(&no_memory, &mut Writer::new(Full)).code(), 1);
+    let mut broken = Writer::new(Broken(io::ErrorKind::Other));
+    assert_eq!(rt; end(&no_memory, &mut broken).code(), 1);
     Ok(())
 }

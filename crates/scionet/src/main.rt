@@ -1,41 +1,45 @@
-//! `scionet step`: one router's turn over a packet in hexadecimal on standard input.
+//! `scionet`: hands the process's words and streams to the commands.
 //!
-//! It prints one line. The status is 0 when it did, 2 when the words are refused or ask for help,
-//! and 1 after any other fault; the text of a fault goes to standard error.
+//! The status is 0 when the command was done, 2 when the words are refused or ask for help, and 1
+//! after any other fault; the text of a fault goes to standard error.
 #![tactic(auto)]
 
+use commands::{CommandFault, Status, WordsFault, end, run};
 use std::env;
 use std::process::ExitCode;
-use step_line::{RunFault, Status, end, run};
+use streams::{Reader, Writer};
 
 /// The words behind the program's name.
-fn words_behind(rt: &HostRuntime) -> Result<Vec<String>, RunFault> {
+fn words_behind(rt: &HostRuntime) -> Result<Vec<String>, CommandFault> {
     let args = match env::args(rt) {
         Ok(args) => args,
-        Err(error) => return Err(RunFault::of_words(rt.alloc(), &error)),
+        Err(error) => {
+            let fault = WordsFault::unreadable(rt.alloc(), &error);
+            return Err(CommandFault::from(fault));
+        }
     };
     let words = args.skip(1).collect(rt.alloc())?;
     Ok(words)
 }
 
 /// Runs the program's command with its words and its streams.
-fn run_command(rt: &HostRuntime) -> Result<Status, RunFault> {
+fn run_command(rt: &HostRuntime) -> Result<Status, CommandFault> {
     let alloc = rt.alloc();
     let given = words_behind(rt)?;
     let words: Vec<&str> = given.iter().map(|word| word.as_str()).collect(alloc)?;
     Ok(run(
         alloc,
         &words,
-        rt.stdin(),
-        &mut rt.stdout(),
-        &mut rt.stderr(),
+        &mut Reader::new(rt.stdin()),
+        &mut Writer::new(rt.stdout()),
+        &mut Writer::new(rt.stderr()),
     ))
 }
 
 fn main(rt: HostRuntime) -> ExitCode {
     let status = match run_command(&rt) {
         Ok(status) => status,
-        Err(fault) => end(&fault, &mut rt.stderr()),
+        Err(fault) => end(&fault, &mut Writer::new(rt.stderr())),
     };
     ExitCode::from(status.code())
 }

@@ -1,6 +1,4 @@
 pub mod Fields
 pub mod Turn
 pub mod Line
-pub mod Words
 pub mod Fault
-pub mod Run

@@ -14,7 +14,7 @@ use scion_topology::{IfEntry, RouterView};
 use std::alloc::{AllocError, Global};
 use std::marker::Model;
 
-/// One router's turn, read from the words of a command line: what the router knows of its AS, the
+/// One router's turn, read from texts: what the router knows of its AS, the
 /// second at which it works, and how the packet came to it.
 #[derive(Drop)]
 pub struct StepCommand {
@@ -45,9 +45,12 @@ impl Model for StepCommand {
 }
 
 impl StepCommand {
-    /// The turn that the texts describe, or `None` where one can't be read or the parts make no view.
+    /// The turn that the texts describe, or `None` where one can't be read or the parts make no
+    /// view.
     #[tactic(auto, unfolding(crate::specs::Turn::turn_of))]
-    pub(crate) fn from_texts(
+    ///
+    /// `AllocError` for want of memory.
+    pub fn from_texts(
         alloc: Global,
         texts: Texts<'_, '_>,
     ) -> Result<Option<StepCommand>, AllocError>
@@ -106,8 +109,8 @@ impl StepCommand {
     }
 
     /// The line, without its end, that the turn prints of the packet that the text writes in
-    /// hexadecimal, letters of either case, with spaces, tabs, CR and LF at both ends. The text comes
-    /// as bytes, which need not be UTF-8.
+    /// hexadecimal, letters of either case, with spaces, tabs, CR and LF at both ends. The text
+    /// comes as bytes, which need not be UTF-8.
     ///
     /// [`StepFault::PacketText`] where the text is not hexadecimal digits, two for each byte.
     #[tactic(auto, unfolding(crate::specs::Line::line_of))]

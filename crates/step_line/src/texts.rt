@@ -2,7 +2,7 @@ use std::marker::Model;
 
 /// The texts of the options and of the interfaces, as a command line gives them.
 #[derive(Drop)]
-pub(crate) struct Texts<'a, 'm> {
+pub struct Texts<'a, 'm> {
     /// The address of the router's AS.
     pub ia: &'a str,
     /// The router's number in its AS.

@@ -22,18 +22,23 @@ is_failed_read result = false
 abbrev pub ConsumesSome : Option (List ℕ) → Option (List ℕ) → (ℕ → Type 0) → Type 0
 ConsumesSome old new fits = (bytes : List ℕ) × (Consumes old new bytes × fits (length bytes))
 
--- all bytes up to the end were read, at most so many; or one more than that, or fewer, were consumed
-abbrev pub ReadsAll : {A : Type 0} → (A → List ℕ) → ℕ → Result A InputFault → Option (List ℕ) → Option (List ℕ) → Type 0
+-- all bytes up to the end were read, at most so many; or one more than that, or not more, were
+-- consumed
+abbrev pub ReadsAll : {A : Type 0} → (A → List ℕ) → ℕ → Result A InputFault
+    → Option (List ℕ) → Option (List ℕ) → Type 0
 ReadsAll items most (Ok bytes) old new =
     (Consumes old new (items bytes) × IsAtEnd new) × (length (items bytes) ≤ most)
 ReadsAll items most (Err TooLong) old new = ConsumesSome old new (λ n. n ≡ most + 1)
 ReadsAll items most (Err fault) old new = ConsumesSome old new (λ n. n ≤ most)
 
--- one read of at most so many bytes, behind which there are some already: how many came, none at the
--- end alone, or why they are not among them
-abbrev pub ReadsOn : ℕ → ℕ → Result ℕ InputFault → Option (List ℕ) → Option (List ℕ) → List ℕ → List ℕ → Type 0
-ReadsOn most room (Ok n) old new before after = (bytes : List ℕ) × ((Consumes old new bytes
-    × (n ≡ 0 → IsAtEnd new)) × ((after ≡ before ++ bytes) × ((length bytes ≡ n) × (length after ≤ most))))
+-- one read of at most so many bytes behind those that there are: how many came, none only at the
+-- end, or why they are not among them
+abbrev pub ReadsOn : ℕ → ℕ → Result ℕ InputFault → Option (List ℕ) → Option (List ℕ)
+    → List ℕ → List ℕ → Type 0
+ReadsOn most room (Ok n) old new before after = (bytes : List ℕ)
+    × ((Consumes old new bytes × (n ≡ 0 → IsAtEnd new))
+    × ((after ≡ before ++ bytes) × ((length bytes ≡ n) × (length after ≤ most))))
 ReadsOn most room (Err TooLong) old new before after =
     ConsumesSome old new (λ n. (most < length before + n) × (n ≤ room))
-ReadsOn most room (Err fault) old new before after = ConsumesSome old new (λ n. length before + n ≤ most)
+ReadsOn most room (Err fault) old new before after =
+    ConsumesSome old new (λ n. length before + n ≤ most)

@@ -10,8 +10,8 @@ use std::alloc::Global;
 /// The most bytes that one read asks for.
 const ROOM_LEN: usize = 8_192;
 
-/// One read, into the front of `room` and from there behind the bytes: how many came, none at the end
-/// alone.
+/// One read, into the front of `room` and from there behind the bytes: how many came, none only at
+/// the end.
 fn read_on<S: Source>(
     source: &mut S,
     most: u64,
@@ -37,8 +37,8 @@ fn read_on<S: Source>(
 /// All bytes that the source has left, at most `most`.
 ///
 /// [`InputFault::TooLong`] where it has more, found where byte `most + 1` is read;
-/// [`InputFault::Read`] where a read fails; [`InputFault::Memory`] where there is no room for what was
-/// read.
+/// [`InputFault::Read`] where a read fails; [`InputFault::Memory`] where there is no room for what
+/// was read.
 pub fn read_all<S: Source>(alloc: Global, source: &mut S, most: u64) -> Result<Vec<u8>, InputFault>
     ensures bytes { ReadsAll (λ bytes. bytes.items) most result
         (S.left source.old) (S.left source.new) }

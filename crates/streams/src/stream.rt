@@ -13,8 +13,8 @@ pub trait Source {
     /// Whether a read has failed.
     ghost failed: { Self → Bool };
 
-    /// Reads some bytes into the front of `room` and answers how many: none only at the end, or where
-    /// there is no room.
+    /// Reads some bytes into the front of `room` and answers how many: none only at the end, or
+    /// where there is no room.
     ///
     /// A fault sets the flag, and consumes nothing.
     fn read(&mut self, room: &mut [u8]) -> io::Result<usize>

@@ -5,7 +5,7 @@ use Rattle.clap.specs.Words.{App, with_subcommand}
 use Rattle.clap.specs.Simple.{app_of_fields, on_top}
 use Rattle.clap.specs.declared.builder.command.Command.{Command}
 use Rattle.clap.specs.declared.builder.command.Command.TheOpen.{Command-F}
-use Rattle.step_line.proofs.words.program.Goals as goal
+use Rattle.commands.proofs.words.program.Goals as goal
 
 pub returns : goal.returns
 returns c =
@@ -13,8 +13,9 @@ returns c =
     let local = ap (λ (f : Command-F Command). f.has_globals) c.after_long_help-step.ensures
     ∙ (ap (λ (f : Command-F Command). f.has_globals) c.about.ensures ∙ c.in_ok-step_command.ensures.local) in
     let top = ap app_of_fields c.after_long_help.ensures ∙ (ap app_of_fields c.about-2.ensures
-    ∙ (ap app_of_fields c.subcommand_required.ensures
-    ∙ (ap (λ (f : Command-F Command). app_of_fields (record f { subcommand_required = true })) c.no_binary_name.ensures
-    ∙ (ap (λ (f : Command-F Command). app_of_fields (record f { no_binary_name = true; subcommand_required = true })) c.in_ok-bin_name.ensures.0
-    ∙ ap (on_top (λ shape. record shape { no_binary_name = true; subcommand_required = true })) c.new.ensures.app)))) in
-    IfOk-weaker c.subcommand.result _ _ (λ r adds. adds.shape local ∙ ap₂ with_subcommand top (ap (λ (a : App). a.top) step)) c.subcommand.ensures
+    ∙ (ap app_of_fields c.no_binary_name.ensures
+    ∙ (ap (λ (f : Command-F Command). app_of_fields (record f { no_binary_name = true })) c.in_ok-bin_name.ensures.0
+    ∙ ap (on_top (λ shape. record shape { no_binary_name = true })) c.new.ensures.app))) in
+    let first = c.in_ok-subcommand.ensures.shape local ∙ ap₂ with_subcommand top (ap (λ (a : App). a.top) step) in
+    IfOk-weaker c.subcommand-2.result _ _ (λ r adds. adds.shape c.run_command.ensures.local
+    ∙ ap₂ with_subcommand first (ap (λ (a : App). a.top) c.run_command.ensures.app)) c.subcommand-2.ensures

@@ -1,10 +1,10 @@
 ghost use Rattle.std.specs.Prelude.{◌≡◌};
-ghost use Rattle.step_line.specs.Run.{code_of};
+ghost use Rattle.commands.specs.Fault.{code_of};
 
 /// How a run of the program ends.
 #[derive(Clone, Copy, Debug, PartialEq, Eq)]
 pub enum Status {
-    /// The line was printed.
+    /// What the words ask for was done.
     Done,
     /// The packet's text is none, a stream failed or held too much, or memory ran out.
     Failed,

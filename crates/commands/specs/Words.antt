@@ -1,5 +1,6 @@
--- The command line of `scionet step`, as `clap` reads it.
-use Rattle.std.specs.Prelude.{◌≡◌, ℕ, pos, false, true, codes, List, [], ◌∷◌, Option, Some, None, unwrap_or}
+-- The command line of `scionet`, as `clap` reads it.
+use Rattle.std.specs.Prelude.{◌≡◌, ℕ, pos, false, true, codes, if◌then◌else◌, List, [], ◌∷◌, Option, Some, None, option_map, unwrap_or}
+use Rattle.std.specs.Str.{bytes_eq}
 use Rattle.clap.specs.Words.{App, Row, Rule, Text, all_of, first_of, new_app, new_rule, subcommand_of, with_rule, with_subcommand}
 use Rattle.clap.specs.Kinds.{Kinds}
 use Rattle.clap.specs.Simple.{on_top}
@@ -10,6 +11,8 @@ use Rattle.clap.specs.declared.builder.command.Command.{Command}
 use Rattle.clap.specs.declared.builder.command.Command.TheViews.{out-Command}
 use Rattle.refusal.specs.Optional.{◌>>=◌}
 use Rattle.step_line.specs.Turn.{OptionTexts, Turn, turn_of}
+use Rattle.commands.specs.declared.command.Command.{Command as Asked}
+use Rattle.commands.specs.declared.command.Command.TheVariants.{Step, Run}
 
 -- an option that has a value and must be given
 abbrev pub option_rule : Text → Rule
@@ -35,12 +38,16 @@ step_app =
     (optional_rule (codes "previous"))) (number_rule 4294967295 (codes "now")))
     (option_rule (codes "from"))) interface_rule
 
--- `scionet`, which wants a command behind its name; the words begin behind that name
+-- `run`, without options
+abbrev pub run_app : App
+run_app = new_app (codes "run")
+
+-- `scionet` with its commands; the words begin behind its name
 abbrev pub program_app : App
 program_app =
-    with_subcommand
-    (on_top (λ shape. record shape { no_binary_name = true; subcommand_required = true }) (new_app (codes "scionet")))
-    step_app.top
+    with_subcommand (with_subcommand
+    (on_top (λ shape. record shape { no_binary_name = true }) (new_app (codes "scionet")))
+    step_app.top) run_app.top
 
 -- none of the command's arguments is one of its subcommands too
 abbrev pub IsLocal : Command → Type 0
@@ -70,14 +77,23 @@ turn_in rows = do
   texts ← texts_in rows
   turn_of texts
 
--- what is asked for, where `clap` finds no fault
-abbrev pub unless_faulty : Kinds → Option Turn → Option Turn
-unless_faulty [] turn = turn
-unless_faulty (kind ∷ kinds) turn = None
+-- what the words ask for that name this command, or none
+abbrev pub command_in : Option (Text × List Row) → Option Asked
+command_in None = Some Run
+command_in (Some named) =
+    if bytes_eq named.0 (codes "run") then Some Run else option_map Step (turn_in named.1)
 
--- the turn that the words behind the program's name ask for, where `clap` accepts them and they
--- describe one
-unfoldable pub asked : List Text → Option Turn
-asked words = unless_faulty (fault_of program_app words) (do
-  step ← subcommand_of program_app words
-  turn_in step.1)
+-- what is asked for, where `clap` finds no fault
+abbrev pub unless_faulty : Kinds → Option Asked → Option Asked
+unless_faulty [] command = command
+unless_faulty (kind ∷ kinds) command = None
+
+-- what the words behind the program's name ask for, where `clap` accepts them
+unfoldable pub asked : List Text → Option Asked
+asked words =
+    unless_faulty (fault_of program_app words) (command_in (subcommand_of program_app words))
+
+-- the turn among what may be asked for
+abbrev pub turn_asked : Option Asked → Option Turn
+turn_asked (Some (Step turn)) = Some turn
+turn_asked other = None

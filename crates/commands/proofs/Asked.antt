@@ -1,0 +1,51 @@
+-- What a parse of the words says of what they ask for.
+use Rattle.std.proofs.Common.{◌≡◌, ◌∙◌, sym, ap, refl, true, List, [], ◌∷◌, Option, None, inl, inr}
+use Rattle.std.specs.Prelude.{Err}
+use Rattle.clap.specs.Words.{Row, Text, is_simple, subcommand_of}
+use Rattle.clap.specs.Faults.{fault_of, is_simple_and_free}
+use Rattle.clap.specs.Kinds.{HasKind, IsAmong, Kinds}
+use Rattle.clap.specs.declared.error.Error.{Error}
+use Rattle.clap.specs.declared.error.kind.ErrorKind.{ErrorKind}
+use Rattle.clap.proofs.OnLiterals.{clap_on_literals}
+use Rattle.commands.specs.declared.command.Command.{Command}
+use Rattle.commands.specs.declared.fault.WordsFault.{WordsFault}
+use Rattle.commands.specs.declared.fault.WordsFault.TheVariants.{Usage, Memory}
+use Rattle.commands.specs.Words.{asked, command_in, program_app, unless_faulty}
+use Rattle.commands.specs.Fault.{Asks, Explains, IsWordsFault}
+
+-- the command line is one whose matches and faults `clap` states
+pub is_program_simple : is_simple program_app ≡ true
+unfolding clap_on_literals
+is_program_simple = refl
+
+pub is_program_free : is_simple_and_free program_app ≡ true
+unfolding clap_on_literals
+is_program_free = refl
+
+none_of : (kinds : Kinds) (kind : ErrorKind) (command : Option Command) → IsAmong kind kinds → unless_faulty kinds command ≡ None
+none_of [] kind command among = absurd among
+none_of (k ∷ ks) kind command among = refl
+
+-- words that `clap` refuses ask for nothing
+pub asked-refused : (words : List Text) (error : Error) (fault : WordsFault) → Explains fault error
+    → HasKind (fault_of program_app words) error → Asks (Err fault) (asked words)
+unfolding asked
+asked-refused words error (Usage text) differs has = elim has [
+  | inl memory ↦ absurd (differs memory)
+  | inr among ↦ none_of (fault_of program_app words) _ _ among
+]
+asked-refused words error Memory explained has = tt
+
+-- words that `clap` accepts ask for what the matches name
+pub asked-named : (words : List Text) (found : Option (Text × List Row)) (command : Option Command)
+    → fault_of program_app words ≡ [] → found ≡ subcommand_of program_app words → command ≡ command_in found
+    → asked words ≡ command
+unfolding asked
+asked-named words found command none is named =
+    ap (λ kinds. unless_faulty kinds (command_in (subcommand_of program_app words))) none
+    ∙ (ap command_in (sym is) ∙ sym named)
+
+-- a fault of words is right where they ask for nothing
+pub Asks-none : (fault : WordsFault) (asked : Option Command) → IsWordsFault fault → asked ≡ None → Asks (Err fault) asked
+Asks-none (Usage text) asked is none = none
+Asks-none Memory asked is none = tt

@@ -1,0 +1,85 @@
+-- What is answered of one router's turn, and of words that are refused.
+use Rattle.std.proofs.Common.{◌≡◌, sym, ap, subst, refl, true, false, ℕ, Bool, List, [], Option, Some, None, arith}
+use Rattle.std.proofs.Math.Bool.{or-false}
+use Rattle.std.specs.Prelude.{Result, Ok, Err, IsErrAnd}
+use Rattle.std.specs.Io.KnownBytes.{Appends, Consumes, Keeps}
+use Rattle.std.proofs.KnownBytes.{Keeps-refl}
+use Rattle.streams.specs.declared.fault.InputFault.{InputFault}
+use Rattle.streams.specs.declared.fault.InputFault.TheVariants as input
+use Rattle.streams.specs.Streams.{AppendsFront}
+use Rattle.step_line.specs.declared.fault.StepFault.{StepFault}
+use Rattle.step_line.specs.declared.fault.StepFault.TheVariants as step
+use Rattle.step_line.specs.Turn.{Turn}
+use Rattle.step_line.specs.Line.{line_of}
+use Rattle.step_line.specs.Fault.{Prints as StepPrints}
+use Rattle.commands.specs.declared.command.Command.{Command}
+use Rattle.commands.specs.declared.command.Command.TheVariants as command
+use Rattle.commands.specs.declared.fault.WordsFault.{WordsFault}
+use Rattle.commands.specs.declared.fault.WordsFault.TheVariants as words
+use Rattle.commands.specs.declared.fault.CommandFault.{CommandFault}
+use Rattle.commands.specs.declared.fault.CommandFault.TheVariants.{Write, Memory}
+use Rattle.commands.specs.Fault.{Asks, of_input, of_step, of_words}
+use Rattle.commands.specs.Run.{Change, Does, IsStill, Prints, ReadsInput, SetsFlag, Steps, change_of, whole_line}
+
+-- a stream that is left alone is still
+pub IsStill-same : {A : Type 0} (bytes : A → Option (List ℕ)) (failed : A → Bool) (stream : A)
+    → IsStill (change_of bytes failed stream stream)
+IsStill-same bytes failed stream = (Keeps-refl (bytes stream), sym (or-false (failed stream)))
+
+-- what was not read is answered
+pub Steps-unread : {A : Type 0} (answer : Result A CommandFault) (fault : InputFault) (turn : Turn) (source sink : Change)
+    → IsErrAnd answer (λ e. e ≡ of_input fault) → ReadsInput (Err fault) source → IsStill sink → Steps answer turn source sink
+Steps-unread (Ok x) fault turn source sink is read still = absurd is
+Steps-unread (Err e) fault turn source sink is read still = (Err fault, (read, (ap Err is, still)))
+
+-- so is a turn that gave no line
+pub Prints-fault : {A : Type 0} (answer : Result A CommandFault) (fault : StepFault) (line : Option (List ℕ)) (sink : Change)
+    → IsErrAnd answer (λ e. e ≡ of_step fault) → StepPrints {A = List ℕ} (Err fault) line → IsStill sink → Prints answer line sink
+Prints-fault (Ok x) fault line sink is none still = absurd is
+Prints-fault (Err e) step.PacketText line sink is none still = rw (is, none) still
+Prints-fault (Err e) step.Memory line sink is none still = rw is still
+
+-- so is want of memory for the line's end
+pub Prints-memory : {A : Type 0} (answer : Result A CommandFault) (line : Option (List ℕ)) (sink : Change)
+    → IsErrAnd answer (λ e. e ≡ Memory) → IsStill sink → Prints answer line sink
+Prints-memory (Ok x) line sink is still = absurd is
+Prints-memory (Err e) line sink is still = rw is still
+
+-- so is a write that failed
+pub Prints-unwritten : {A : Type 0} (answer : Result A CommandFault) (line : Option (List ℕ)) (text bytes : List ℕ) (sink : Change)
+    → IsErrAnd answer (λ e. e ≡ Write) → line ≡ Some text → bytes ≡ whole_line text → AppendsFront sink.old sink.new bytes
+    → SetsFlag sink true → Prints answer line sink
+Prints-unwritten (Ok x) line text bytes sink is some whole front flag = absurd is
+Prints-unwritten (Err e) line text bytes sink is some whole front flag = rw (is, some, ← whole) (front, flag)
+
+-- words that are refused are, before anything is read
+Consumes-none : (old new : Option (List ℕ)) → Keeps old new → Consumes old new []
+Consumes-none None new keeps = tt
+Consumes-none (Some x) None keeps = absurd keeps
+Consumes-none (Some x) (Some y) keeps = sym keeps
+
+Does-memory : (A : Type 0) (asked : Option Command) (source sink : Change) → IsStill source → IsStill sink
+    → Does {A = A} (Err Memory) asked source sink
+Does-memory A None source sink still quiet = (tt, (still, quiet))
+Does-memory A (Some command.Run) source sink still quiet = (tt, (still, quiet))
+Does-memory A (Some (command.Step turn)) source sink still quiet =
+    (Err input.Memory, ((([], (Consumes-none _ _ still.0, omega arith)), still.1), (refl, quiet)))
+
+pub Does-refused : {A : Type 0} (answer : Result A CommandFault) (fault : WordsFault) (asked : Option Command) (source sink : Change)
+    → IsErrAnd answer (λ e. e ≡ of_words fault) → Asks (Err fault) asked → IsStill source → IsStill sink
+    → Does answer asked source sink
+Does-refused (Ok x) fault asked source sink is refused still quiet = absurd is
+Does-refused (Err e) (words.Usage text) asked source sink is refused still quiet = rw (is, refused) (tt, (still, quiet))
+Does-refused (Err e) words.Memory asked source sink is refused still quiet = rw is (Does-memory _ asked source sink still quiet)
+
+-- a turn of which the input was read answers its line
+pub Steps-read : {A : Type 0} (answer : Result A CommandFault) (turn : Turn) (source sink : Change) (bytes text : List ℕ)
+    → ReadsInput (Ok bytes) source → text ≡ bytes → Prints answer (line_of turn text) sink → Steps answer turn source sink
+Steps-read answer turn source sink bytes text read same prints =
+    (Ok bytes, (read, subst (λ t. Prints answer (line_of turn t) sink) same prints))
+
+-- a line that was written is printed
+pub Prints-written : {A : Type 0} (x : A) (line : Option (List ℕ)) (text bytes : List ℕ) (sink : Change)
+    → line ≡ Some text → bytes ≡ whole_line text → Appends sink.old sink.new bytes → SetsFlag sink false
+    → Prints (Ok x) line sink
+Prints-written x line text bytes sink some whole appended flag = rw (some, ← whole) (appended, flag)

@@ -1,0 +1,91 @@
+-- What the words of a command line are answered, and what is told of faults.
+use Rattle.std.specs.Prelude.{◌≡◌, ◌≢◌, ℕ, codes, List, Option, Some, None, Result, Ok, Err, String}
+use Rattle.std.specs.String.{string_bytes}
+use Rattle.clap.specs.Words.{kind_of}
+use Rattle.clap.specs.declared.error.Error.{Error}
+use Rattle.clap.specs.declared.error.kind.ErrorKind.TheVariants.{OutOfMemory}
+use Rattle.streams.specs.declared.fault.InputFault.{InputFault}
+use Rattle.streams.specs.declared.fault.InputFault.TheVariants as input
+use Rattle.step_line.specs.declared.fault.StepFault.{StepFault}
+use Rattle.step_line.specs.declared.fault.StepFault.TheVariants as step
+use Rattle.step_line.specs.Turn.{Turn}
+use Rattle.step_line.specs.Line.{line_of}
+use Rattle.commands.specs.declared.command.Command.{Command}
+use Rattle.commands.specs.declared.fault.WordsFault.{WordsFault}
+use Rattle.commands.specs.declared.fault.WordsFault.TheVariants as words
+use Rattle.commands.specs.declared.fault.CommandFault.{CommandFault}
+use Rattle.commands.specs.declared.fault.CommandFault.TheVariants.{Usage, PacketText, Read, Write, InputTooLong, Memory}
+use Rattle.commands.specs.declared.status.Status.{Status}
+use Rattle.commands.specs.declared.status.Status.TheVariants.{Done, Failed, Refused}
+
+-- ---- words
+
+-- the text that is told of words that ask for nothing, where `clap` has none
+abbrev pub usage_text : List ℕ
+usage_text = codes "scionet: usage\n"
+
+-- the words ask for nothing, which is told in our own text, or memory ran out, of which nothing is
+-- said
+abbrev pub IsWordsFault : WordsFault → Type 0
+IsWordsFault (words.Usage text) = string_bytes text ≡ usage_text
+IsWordsFault words.Memory = Unit {0}
+
+-- a usage is of words that `clap` refuses
+abbrev pub Explains : WordsFault → Error → Type 0
+Explains (words.Usage text) error = kind_of error ≢ OutOfMemory
+Explains words.Memory error = Unit {0}
+
+-- the words ask for this, they are refused, or memory ran out
+abbrev pub Asks : Result Command WordsFault → Option Command → Type 0
+Asks (Ok command) asked = asked ≡ Some command
+Asks (Err (words.Usage text)) asked = asked ≡ None
+Asks (Err words.Memory) asked = Unit {0}
+
+-- the line of the turn that the words ask for was printed; they ask for none; they ask for one, and
+-- the packet's text is no packet; or memory ran out
+abbrev pub Answers : {A : Type 0} → Result (String A) CommandFault → Option Turn → List ℕ → Type 0
+Answers (Ok line) asked packet =
+    (turn : Turn) × ((asked ≡ Some turn) × (line_of turn packet ≡ Some (string_bytes line)))
+Answers (Err (Usage text)) asked packet = asked ≡ None
+Answers (Err PacketText) asked packet =
+    (turn : Turn) × ((asked ≡ Some turn) × (line_of turn packet ≡ None))
+Answers (Err Memory) asked packet = Unit {0}
+Answers (Err fault) asked packet = ⊥
+
+-- ---- faults
+
+-- the fault of words that are no command
+abbrev pub of_words : WordsFault → CommandFault
+of_words (words.Usage text) = Usage text
+of_words words.Memory = Memory
+
+-- the fault of input that was not read to its end
+abbrev pub of_input : InputFault → CommandFault
+of_input input.Read = Read
+of_input input.TooLong = InputTooLong
+of_input input.Memory = Memory
+
+-- the fault of a turn that gave no line
+abbrev pub of_step : StepFault → CommandFault
+of_step step.PacketText = PacketText
+of_step step.Memory = Memory
+
+-- what is told of a fault on standard error
+abbrev pub told_of : CommandFault → List ℕ
+told_of (Usage text) = string_bytes text
+told_of PacketText = codes "scionet: bad packet text\n"
+told_of Memory = codes "scionet: out of memory\n"
+told_of Read = codes "scionet: read failed\n"
+told_of Write = codes "scionet: write failed\n"
+told_of InputTooLong = codes "scionet: input too long\n"
+
+-- the status that a fault leads to
+abbrev pub status_of : CommandFault → Status
+status_of (Usage text) = Refused
+status_of fault = Failed
+
+-- the number by which the program's caller sees how it ended
+abbrev pub code_of : Status → ℕ
+code_of Done = 0
+code_of Failed = 1
+code_of Refused = 2

@@ -1,0 +1,119 @@
+-- What a run of the program makes of its words and of what stands on its standard input.
+use Rattle.std.specs.Prelude.{◌≡◌, ◌||◌, ℕ, Bool, true, false, codes, List, ◌++◌, Option, Some, None, Result, Ok, Err}
+use Rattle.std.specs.Io.KnownBytes.{Appends, Keeps}
+use Rattle.streams.specs.declared.fault.InputFault.{InputFault}
+use Rattle.streams.specs.Streams.{AppendsFront, ReadsAll, is_failed_read}
+use Rattle.step_line.specs.Turn.{Turn}
+use Rattle.step_line.specs.Line.{line_of}
+use Rattle.commands.specs.declared.command.Command.{Command}
+use Rattle.commands.specs.declared.command.Command.TheVariants as command
+use Rattle.commands.specs.declared.fault.CommandFault.{CommandFault}
+use Rattle.commands.specs.declared.fault.CommandFault.TheVariants.{Usage, PacketText, Write, Memory}
+use Rattle.commands.specs.declared.status.Status.{Status}
+use Rattle.commands.specs.declared.status.Status.TheVariants.{Done}
+use Rattle.commands.specs.Fault.{of_input, status_of, told_of}
+
+-- ---- streams
+
+-- what a call did to a stream: its bytes, where they are known, and its flag, before and after
+pub record Change : Type 0 where
+  pub old : Option (List ℕ)
+  pub new : Option (List ℕ)
+  pub had_failed : Bool
+  pub has_failed : Bool
+
+-- the change of a stream, by its bytes and its flag
+abbrev pub change_of : {A : Type 0} → (A → Option (List ℕ)) → (A → Bool) → A → A → Change
+change_of bytes failed before after = record {
+  old = bytes before;
+  new = bytes after;
+  had_failed = failed before;
+  has_failed = failed after;
+}
+
+-- the flag was set exactly where this holds
+abbrev pub SetsFlag : Change → Bool → Type 0
+SetsFlag change fails = change.has_failed ≡ (change.had_failed || fails)
+
+-- nothing was read or written, and nothing failed
+abbrev pub IsStill : Change → Type 0
+IsStill change = Keeps change.old change.new × SetsFlag change false
+
+-- ---- one router's turn
+
+-- the most bytes that standard input may give
+abbrev pub most_input : ℕ
+most_input = 67108864
+
+-- the input was read to its end, or why not
+abbrev pub ReadsInput : Result (List ℕ) InputFault → Change → Type 0
+ReadsInput read source =
+    ReadsAll (λ bytes. bytes) most_input read source.old source.new
+    × SetsFlag source (is_failed_read read)
+
+-- the line and its end
+abbrev pub whole_line : List ℕ → List ℕ
+whole_line line = line ++ codes "\n"
+
+-- the line was written; it was not, or a beginning of it, since a write failed; there is none; or
+-- memory ran out, and nothing was written
+abbrev pub Prints : {A : Type 0} → Result A CommandFault → Option (List ℕ) → Change → Type 0
+Prints (Ok x) (Some line) sink = Appends sink.old sink.new (whole_line line) × SetsFlag sink false
+Prints (Err Write) (Some line) sink =
+    AppendsFront sink.old sink.new (whole_line line) × SetsFlag sink true
+Prints (Err PacketText) None sink = IsStill sink
+Prints (Err Memory) line sink = IsStill sink
+Prints answer line sink = ⊥
+
+-- the line of the packet that was read is printed, or the fault of the read is answered
+abbrev pub PrintsOf : {A : Type 0} → Result A CommandFault → Turn
+    → Result (List ℕ) InputFault → Change → Type 0
+PrintsOf answer turn (Ok bytes) sink = Prints answer (line_of turn bytes) sink
+PrintsOf answer turn (Err fault) sink = (answer ≡ Err (of_input fault)) × IsStill sink
+
+-- one router's turn: the line of the packet on the whole input is printed, or why not
+abbrev pub Steps : {A : Type 0} → Result A CommandFault → Turn → Change → Change → Type 0
+Steps answer turn source sink =
+    (read : Result (List ℕ) InputFault) × (ReadsInput read source × PrintsOf answer turn read sink)
+
+-- ---- the program
+
+-- the words are refused, or memory ran out
+abbrev pub IsRefusal : {A : Type 0} → Result A CommandFault → Type 0
+IsRefusal (Err (Usage text)) = Unit {0}
+IsRefusal (Err Memory) = Unit {0}
+IsRefusal answer = ⊥
+
+-- the words are refused, and nothing was read or written
+abbrev pub Refuses : {A : Type 0} → Result A CommandFault → Change → Change → Type 0
+Refuses answer source sink = IsRefusal answer × (IsStill source × IsStill sink)
+
+-- what the words ask for was done, or why not; words that ask for nothing are refused, and the
+-- command `run`, which is not here yet, as they are
+abbrev pub Does : {A : Type 0} → Result A CommandFault → Option Command → Change → Change → Type 0
+Does answer None source sink = Refuses answer source sink
+Does answer (Some command.Run) source sink = Refuses answer source sink
+Does answer (Some (command.Step turn)) source sink = Steps answer turn source sink
+
+-- a fault is told of on standard error, whole where no write of it failed
+abbrev pub TellsOf : CommandFault → Change → Type 0
+TellsOf fault errors = AppendsFront errors.old errors.new (told_of fault)
+    × (errors.has_failed ≡ false → Appends errors.old errors.new (told_of fault))
+
+-- so is that of an answer, if it is one
+abbrev pub Tells : {A : Type 0} → Result A CommandFault → Change → Type 0
+Tells (Ok x) errors = IsStill errors
+Tells (Err fault) errors = TellsOf fault errors
+
+-- the status of an answer
+abbrev pub status_after : {A : Type 0} → Result A CommandFault → Status
+status_after (Ok x) = Done
+status_after (Err fault) = status_of fault
+
+-- how a run ends: what the words ask for is answered, a fault is told of, and the status is theirs
+pub record Ends (status : Status) (asked : Option Command) (source sink errors : Change)
+    : Type 0 where
+  pub answer : Result (Unit {0}) CommandFault
+  pub does : Does answer asked source sink
+  pub tells : Tells answer errors
+  pub ended : status ≡ status_after answer

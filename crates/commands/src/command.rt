@@ -1,0 +1,90 @@
+ghost use Rattle.std.specs.Prelude.{◌≡◌, IfOk, map};
+ghost use Rattle.clap.specs.Words.{subcommand_rows_of};
+ghost use Rattle.commands.specs.Words.{asked, command_in, turn_asked};
+ghost use Rattle.commands.specs.Fault.{Answers, Asks, Explains};
+
+use crate::fault::{CommandFault, WordsFault};
+use crate::matched::turn;
+use crate::words::program;
+use clap::error::ErrorKind;
+use clap::{ArgMatches, Error};
+use std::alloc::{AllocError, Global};
+use step_line::StepCommand;
+
+/// What the words of a command line ask for.
+#[derive(Drop)]
+pub enum Command {
+    /// `step`: one router's turn over the packet on standard input.
+    Step(StepCommand),
+    /// `run`, and no words at all: the network that the lines on standard input tell of.
+    Run,
+}
+
+/// The fault of words that `clap` refuses.
+fn explained(alloc: Global, error: &Error) -> WordsFault
+    ensures { Explains result error.now }
+{
+    if error.kind() == ErrorKind::OutOfMemory {
+        return WordsFault::Memory;
+    }
+    match error.to_string(alloc) {
+        Ok(text) => WordsFault::Usage(text),
+        Err(_) => WordsFault::Memory,
+    }
+}
+
+/// The command that the matches name, and [`Command::Run`] where they name none.
+fn named(alloc: Global, matches: &ArgMatches<'_>) -> Result<Option<Command>, AllocError>
+    ensures { IfOk result (λ o. o ≡ command_in (subcommand_rows_of matches.now)) }
+{
+    let Some((name, given)) = matches.subcommand() else {
+        return Ok(Some(Command::Run));
+    };
+    if name == "run" {
+        return Ok(Some(Command::Run));
+    }
+    let Some(command) = turn(alloc, given)? else {
+        return Ok(None);
+    };
+    Ok(Some(Command::Step(command)))
+}
+
+impl Command {
+    /// The command that the words behind the program's name ask for.
+    ///
+    /// [`WordsFault::Usage`] where `clap` refuses them or they ask for help, with its text, and
+    /// where those of `step` describe no turn; [`WordsFault::Memory`] for want of memory.
+    #[tactic(auto, unfolding(crate::specs::Words::asked))]
+    pub fn parse<'a>(alloc: Global, words: &'a [&'a str]) -> Result<Command, WordsFault>
+        ensures { Asks result (asked (map (λ word. word.now) words.entry.now)) }
+    {
+        let matches = match program(alloc)?.try_get_matches_from(words) {
+            Ok(matches) => matches,
+            Err(error) => return Err(explained(alloc, &error)),
+        };
+        match named(alloc, &matches)? {
+            Some(command) => Ok(command),
+            None => Err(WordsFault::no_command(alloc)),
+        }
+    }
+}
+
+/// The line, without its end, that `scionet step` prints when its words are these and this text
+/// comes on standard input. The words are those behind the program's name.
+///
+/// [`CommandFault::Usage`] as in [`Command::parse`], and where they ask for another command; then
+/// [`CommandFault::PacketText`] as in [`StepCommand::line`]; [`CommandFault::Memory`] for want of
+/// memory.
+pub fn step_line<'a>(
+    alloc: Global,
+    words: &'a [&'a str],
+    packet: &str,
+) -> Result<String, CommandFault>
+    ensures { Answers result (turn_asked (asked (map (λ word. word.now) words.entry.now)))
+        packet.now }
+{
+    match Command::parse(alloc, words)? {
+        Command::Step(command) => Ok(command.line(alloc, packet.as_bytes())?),
+        Command::Run => Err(CommandFault::from(WordsFault::no_command(alloc))),
+    }
+}

@@ -1,0 +1,154 @@
+ghost use Rattle.std.specs.Prelude.{◌≡◌};
+ghost use Rattle.commands.specs.Fault.{IsWordsFault, of_input, of_step, of_words, status_of, told_of};
+ghost use Rattle.commands.specs.declared.fault.CommandFault.TheVariants as command;
+ghost use Rattle.commands.specs.declared.fault.WordsFault.TheVariants as words;
+
+use crate::status::Status;
+use std::alloc::{AllocError, Global};
+use std::io;
+use std::io::ErrorKind;
+use step_line::StepFault;
+use streams::{InputFault, WriteFailed};
+use thiserror::Error;
+
+/// Why words ask for no command.
+#[derive(Debug, Drop, Error)]
+pub enum WordsFault {
+    /// The words are refused, or ask for help. It holds the text that the program prints.
+    #[error("{0}")]
+    Usage(String),
+    /// Memory ran out.
+    #[error("scionet: out of memory")]
+    Memory,
+}
+
+impl WordsFault {
+    /// The fault of words that `clap` accepts and that ask for nothing.
+    pub(crate) fn no_command(alloc: Global) -> WordsFault
+        ensures { IsWordsFault result }
+    {
+        match String::from_str(alloc, "scionet: usage\n") {
+            Ok(text) => WordsFault::Usage(text),
+            Err(_) => WordsFault::Memory,
+        }
+    }
+
+    /// The fault of words that can't be read: want of memory, or a refused command line, since
+    /// words that are no UTF-8 are no words of a command.
+    pub fn unreadable(alloc: Global, error: &io::Error) -> WordsFault
+        ensures { IsWordsFault result }
+    {
+        match error.kind() {
+            ErrorKind::OutOfMemory => WordsFault::Memory,
+            _ => WordsFault::no_command(alloc),
+        }
+    }
+}
+
+impl From<AllocError> for WordsFault {
+    ghost from_gives = { λ _ e. e ≡ words.Memory };
+
+    fn from(_error: AllocError) -> WordsFault {
+        WordsFault::Memory
+    }
+}
+
+/// Why a command was not done to its end.
+#[derive(Debug, Drop, Error)]
+pub enum CommandFault {
+    /// The words are refused, or ask for help. It holds the text that the program prints.
+    #[error("{0}")]
+    Usage(String),
+    /// The packet's text is not hexadecimal digits, two for each byte.
+    #[error("scionet: bad packet text")]
+    PacketText,
+    /// A read of standard input failed.
+    #[error("scionet: read failed")]
+    Read,
+    /// A write to standard output failed, or took nothing.
+    #[error("scionet: write failed")]
+    Write,
+    /// Standard input has more than 67,108,864 bytes.
+    #[error("scionet: input too long")]
+    InputTooLong,
+    /// Memory ran out.
+    #[error("scionet: out of memory")]
+    Memory,
+}
+
+impl CommandFault {
+    /// How a run with this fault ends: [`Status::Refused`] after words that are refused, else
+    /// [`Status::Failed`].
+    pub fn status(&self) -> Status
+        ensures { result ≡ status_of self.now }
+    {
+        match self {
+            CommandFault::Usage(_) => Status::Refused,
+            _ => Status::Failed,
+        }
+    }
+
+    /// What standard error says of the fault, line ends included.
+    pub fn told(&self) -> &str
+        ensures { result.now ≡ told_of self.now }
+    {
+        match self {
+            CommandFault::Usage(text) => text.as_str(),
+            CommandFault::PacketText => "scionet: bad packet text\n",
+            CommandFault::Read => "scionet: read failed\n",
+            CommandFault::Write => "scionet: write failed\n",
+            CommandFault::InputTooLong => "scionet: input too long\n",
+            CommandFault::Memory => "scionet: out of memory\n",
+        }
+    }
+}
+
+impl From<WordsFault> for CommandFault {
+    ghost from_gives = { λ fault e. e ≡ of_words fault };
+
+    fn from(fault: WordsFault) -> CommandFault {
+        match fault {
+            WordsFault::Usage(text) => CommandFault::Usage(text),
+            WordsFault::Memory => CommandFault::Memory,
+        }
+    }
+}
+
+impl From<InputFault> for CommandFault {
+    ghost from_gives = { λ fault e. e ≡ of_input fault };
+
+    fn from(fault: InputFault) -> CommandFault {
+        match fault {
+            InputFault::Read => CommandFault::Read,
+            InputFault::TooLong => CommandFault::InputTooLong,
+            InputFault::Memory => CommandFault::Memory,
+        }
+    }
+}
+
+impl From<StepFault> for CommandFault {
+    ghost from_gives = { λ fault e. e ≡ of_step fault };
+
+    fn from(fault: StepFault) -> CommandFault {
+        match fault {
+            StepFault::PacketText => CommandFault::PacketText,
+            StepFault::Memory => CommandFault::Memory,
+        }
+    }
+}
+
+impl From<WriteFailed> for CommandFault {
+    ghost from_gives = { λ _ e. e ≡ command.Write };
+
+    fn from(_fault: WriteFailed) -> CommandFault {
+        CommandFault::Write
+    }
+}
+
+impl From<AllocError> for CommandFault {
+    ghost from_gives = { λ _ e. e ≡ command.Memory };
+
+    fn from(_error: AllocError) -> CommandFault {
+        CommandFault::Memory
+    }
+}

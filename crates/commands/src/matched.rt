@@ -1,0 +1,73 @@
+//! What the matches of a command line describe.
+
+ghost use Rattle.std.specs.Prelude.{◌≡◌, IfOk, codes, map, option_map};
+ghost use Rattle.clap.specs.Words.{all_of, first_of, found_of, rows_of};
+ghost use Rattle.commands.specs.Words.{turn_in};
+
+use clap::ArgMatches;
+use std::alloc::{AllocError, Global};
+use step_line::{StepCommand, Texts};
+
+/// The first text that was given for this option.
+#[tactic(auto, using(crate::proofs::Matches::first_of_rows))]
+fn text_of<'a>(matches: &ArgMatches<'a>, id: &str) -> Option<&'a str>
+    ensures { option_map (λ t. t.now) result ≡ first_of id.now (rows_of (found_of matches.now)) }
+{
+    matches.get_str(id)
+}
+
+/// The texts of the interfaces, where any is given.
+#[tactic(auto, using(crate::proofs::Matches::all_of_rows))]
+fn interfaces_of<'m, 'a>(matches: &'m ArgMatches<'a>) -> Option<&'m [&'a str]>
+    ensures { option_map (λ s. map (λ t. t.now) s.now) result
+        ≡ all_of (codes "interface") (rows_of (found_of matches.entry.now)) }
+{
+    matches.get_strs("interface")
+}
+
+/// The turn that the matches of `step` describe.
+pub(crate) fn turn(
+    alloc: Global,
+    matches: &ArgMatches<'_>,
+) -> Result<Option<StepCommand>, AllocError>
+    ensures { IfOk result (λ o. o ≡ turn_in (rows_of (found_of matches.now))) }
+{
+    let Some(ia) = text_of(matches, "ia") else {
+        return Ok(None);
+    };
+    let Some(router) = text_of(matches, "router") else {
+        return Ok(None);
+    };
+    let Some(key) = text_of(matches, "key") else {
+        return Ok(None);
+    };
+    let previous = text_of(matches, "previous");
+    let Some(now) = text_of(matches, "now") else {
+        return Ok(None);
+    };
+    let Some(from) = text_of(matches, "from") else {
+        return Ok(None);
+    };
+    let Some(interfaces) = interfaces_of(matches) else {
+        let texts = Texts {
+            ia,
+            router,
+            key,
+            previous,
+            now,
+            from,
+            interfaces: &[],
+        };
+        return StepCommand::from_texts(alloc, texts);
+    };
+    let texts = Texts {
+        ia,
+        router,
+        key,
+        previous,
+        now,
+        from,
+        interfaces,
+    };
+    StepCommand::from_texts(alloc, texts)
+}

@@ -1,0 +1,101 @@
+//! A run of the program over any source and sinks.
+
+ghost use Rattle.std.specs.Prelude.{◌≡◌, IfErr, map};
+ghost use Rattle.commands.specs.Words.{asked};
+ghost use Rattle.commands.specs.Fault.{status_of};
+ghost use Rattle.commands.specs.Run.{Does, Ends, IsRefusal, Steps, TellsOf, change_of};
+ghost use Rattle.commands.specs.declared.status.Status.TheVariants.{Done, Refused};
+
+use crate::command::Command;
+use crate::fault::{CommandFault, WordsFault};
+use crate::status::Status;
+use std::alloc::Global;
+use step_line::StepCommand;
+use streams::{Sink, Source, read_all, write_all};
+
+/// The most bytes that standard input may give.
+const MAX_INPUT_LEN: u64 = 67_108_864;
+
+/// One router's turn over the packet that the source gives: it prints one line.
+fn run_step<S: Source, K: Sink>(
+    alloc: Global,
+    command: &StepCommand,
+    source: &mut S,
+    sink: &mut K,
+) -> Result<(), CommandFault>
+    ensures { Steps result command.now (change_of S.left S.failed source.old source.new)
+        (change_of K.held K.failed sink.old sink.new) }
+{
+    let packet = read_all(alloc, source, MAX_INPUT_LEN)?;
+    let mut line = command.line(alloc, &packet)?;
+    line.push_str("\n")?;
+    write_all(sink, line.as_bytes())?;
+    Ok(())
+}
+
+/// The network that the source's lines tell of, which is not here yet: refused as words are.
+fn run_network(alloc: Global) -> Result<(), CommandFault>
+    ensures { IsRefusal result }
+{
+    Err(CommandFault::from(WordsFault::no_command(alloc)))
+}
+
+/// Does what these words behind the program's name ask for: it reads the source to its end and
+/// writes the lines of the answer to the sink.
+///
+/// The words are judged before anything is read. [`CommandFault::Usage`] as in [`Command::parse`],
+/// and where they ask for `run`, which is not here yet; [`CommandFault::Read`] and
+/// [`CommandFault::Write`] exactly where a call of it failed the source or the sink;
+/// [`CommandFault::InputTooLong`] where byte 67,108,865 is read; [`CommandFault::PacketText`] as in
+/// [`StepCommand::line`]; [`CommandFault::Memory`] for want of memory.
+pub fn execute<'a, S: Source, K: Sink>(
+    alloc: Global,
+    words: &'a [&'a str],
+    source: &mut S,
+    sink: &mut K,
+) -> Result<(), CommandFault>
+    ensures does { Does result (asked (map (λ word. word.now) words.entry.now))
+        (change_of S.left S.failed source.old source.new)
+        (change_of K.held K.failed sink.old sink.new) }
+    ensures silent { IfErr result (λ fault. status_of fault ≡ Refused
+        → (source.new ≡ source.old) × (sink.new ≡ sink.old)) }
+{
+    match Command::parse(alloc, words)? {
+        Command::Step(command) => run_step(alloc, &command, source, sink),
+        Command::Run => run_network(alloc),
+    }
+}
+
+/// Ends a run with this fault: tells of it on `errors`, as far as that can be written.
+pub fn end<E: Sink>(fault: &CommandFault, errors: &mut E) -> Status
+    ensures status { result ≡ status_of fault.now }
+    ensures tells { TellsOf fault.now (change_of E.held E.failed errors.old errors.new) }
+{
+    let _ = write_all(errors, fault.told().as_bytes());
+    fault.status()
+}
+
+/// Runs `scionet` with these words behind the program's name: does what they ask for, and tells of
+/// a fault on `errors`.
+///
+/// [`Status::Refused`] where the words are refused or ask for help; [`Status::Failed`] after any
+/// other fault.
+pub fn run<'a, S: Source, K: Sink, E: Sink>(
+    alloc: Global,
+    words: &'a [&'a str],
+    source: &mut S,
+    sink: &mut K,
+    errors: &mut E,
+) -> Status
+    ensures ends { Ends result (asked (map (λ word. word.now) words.entry.now))
+        (change_of S.left S.failed source.old source.new)
+        (change_of K.held K.failed sink.old sink.new)
+        (change_of E.held E.failed errors.old errors.new) }
+    ensures quiet { result ≡ Done → errors.new ≡ errors.old }
+    ensures silent { result ≡ Refused → (source.new ≡ source.old) × (sink.new ≡ sink.old) }
+{
+    match execute(alloc, words, source, sink) {
+        Ok(()) => Status::Done,
+        Err(fault) => end(&fault, errors),
+    }
+}

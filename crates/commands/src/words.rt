@@ -1,0 +1,188 @@
+//! The words of the command line.
+
+ghost use Rattle.std.specs.Prelude.{◌≡◌, IfOk, false};
+ghost use Rattle.clap.specs.Words.{app_of, rule_of};
+ghost use Rattle.commands.specs.Words.{IsLocal, interface_rule, number_rule, option_rule, optional_rule, program_app, run_app, step_app};
+
+use clap::builder::ValueParser;
+use clap::{Arg, ArgAction, Command};
+use std::alloc::{AllocError, Global};
+
+/// What stands at the end of the program's long help.
+static PROGRAM_HELP: &str = "\
+Without a command, 'run' is meant. Times are seconds since 1970, keys and packets hexadecimal \
+digits, two for each byte, and an AS is written as 1-ff00:0:111.
+
+The status is 0 where the command was done, 2 where the words are refused or ask for help, and 1 \
+after any other fault. What is wrong is told on standard error.
+
+Example: at second 21701, a packet that stands in the file packet.hex and came from a host
+  scionet step --ia 1-ff00:0:111 --router 0 --key 6b --now 21701 \
+--from host 2,parent,0,up < packet.hex";
+
+/// What stands at the end of the long help of `step`.
+static STEP_HELP: &str = "\
+The packet is 8 bytes of the destination's address, 8 of the source's, the path header and the \
+payload, in hexadecimal, with or without blanks at both ends; at most 67,108,864 bytes of text. \
+The answer is one line: 'link IF HEX' (it leaves over the link of interface IF), 'router N HEX' \
+(it goes to router N of the AS), 'deliver HEX', or 'refused CODE NAME'.
+
+Example: at second 100, a packet of a host leaves 1-ff00:0:111 over interface 2, to a parent
+  printf 0001ff00000001100001ff0000000111000020000000b39600000064003f00020000\
+110e4c1d3dad003f00000001a1a2a3a4a5a6 |
+  scionet step --ia 1-ff00:0:111 --router 0 --key 6b --now 100 --from host 2,parent,0,up";
+
+/// What stands at the end of the long help of `run`.
+static RUN_HELP: &str = "\
+Standard input has a topology on its first line and an event on each line after it, each a JSON \
+object, at most 67,108,864 bytes in all. Each line is answered by a line. 'now' is in seconds \
+since 1970, 'exp' a lifetime of (exp + 1) times 337.5 seconds, 'key' 1 to 64 bytes and 'payload' \
+up to 1,024 bytes, both in hexadecimal.
+
+Example: a packet from an AS to its parent, delivered in two turns
+  scionet run <<END
+  {\"ases\":[{\"ia\":\"1-ff00:0:110\",\"core\":true,\"exp\":63,\"key\":\"6b\",\"routers\":1},\
+{\"ia\":\"1-ff00:0:111\",\"core\":false,\"exp\":63,\"key\":\"6c\",\"routers\":1}],\
+\"links\":[{\"kind\":\"child\",\"a\":{\"ia\":\"1-ff00:0:110\",\"if\":1,\"router\":0},\
+\"b\":{\"ia\":\"1-ff00:0:111\",\"if\":2,\"router\":0}}]}
+  {\"do\":\"tick\",\"now\":1000}
+  {\"do\":\"originate\",\"ia\":\"1-ff00:0:110\",\"egress\":1,\"beta0\":4660}
+  {\"do\":\"terminate\",\"beacon\":0,\"ia\":\"1-ff00:0:111\"}
+  {\"do\":\"ask\",\"src\":\"1-ff00:0:111\",\"dst\":\"1-ff00:0:110\",\"limit\":1}
+  {\"do\":\"send\",\"ask\":0,\"path\":0,\"payload\":\"6869\"}
+  {\"do\":\"turn\",\"packet\":0}
+  {\"do\":\"turn\",\"packet\":0}
+  END";
+
+/// An option that has a value and must be given.
+fn option<'a>(alloc: Global, name: &'a str, value: &'a str, help: &'a str) -> Arg<'a>
+    ensures rule { rule_of result ≡ option_rule name.entry.now }
+    ensures local { result.global ≡ false }
+{
+    Arg::new(alloc, name)
+        .long(name)
+        .value_name(value)
+        .required(true)
+        .help(help)
+}
+
+/// An option that has a value and need not be given.
+fn optional<'a>(alloc: Global, name: &'a str, value: &'a str, help: &'a str) -> Arg<'a>
+    ensures rule { rule_of result ≡ optional_rule name.entry.now }
+    ensures local { result.global ≡ false }
+{
+    Arg::new(alloc, name)
+        .long(name)
+        .value_name(value)
+        .help(help)
+}
+
+/// An option whose value is a number from 0 to `most`.
+fn number_option<'a>(
+    alloc: Global,
+    most: u32,
+    name: &'a str,
+    value: &'a str,
+    help: &'a str,
+) -> Arg<'a>
+    ensures rule { rule_of result ≡ number_rule most name.entry.now }
+    ensures local { result.global ≡ false }
+{
+    option(alloc, name, value, help).value_parser(ValueParser::Signed(0, i64::from(most)))
+}
+
+/// The interfaces of the AS.
+fn interface_argument<'a>(alloc: Global) -> Arg<'a>
+    ensures rule { rule_of result ≡ interface_rule }
+    ensures local { result.global ≡ false }
+{
+    Arg::new(alloc, "interface")
+        .value_name("IFACE")
+        .action(ArgAction::Append)
+        .help(
+            "An interface of the AS: NUMBER,core|parent|child,ROUTER,up|down, its number 1 to \
+             65535, what the far AS is, the router that owns it 0 to 63, and whether its link is \
+             up",
+        )
+}
+
+/// The command `step`.
+fn step_command<'a>(alloc: Global) -> Result<Command<'a>, AllocError>
+    ensures app { IfOk result (λ c. app_of c ≡ step_app) }
+    ensures local { IfOk result (λ c. IsLocal c) }
+{
+    let ia = option(
+        alloc,
+        "ia",
+        "IA",
+        "The address of the router's AS, as 1-ff00:0:111",
+    );
+    let router = number_option(
+        alloc,
+        63,
+        "router",
+        "N",
+        "The router's number in its AS, 0 to 63",
+    );
+    let key = option(
+        alloc,
+        "key",
+        "HEX",
+        "The AS's key, 1 to 64 bytes in hexadecimal",
+    );
+    let previous = optional(
+        alloc,
+        "previous",
+        "HEX",
+        "The AS's key before that one, which it accepts too",
+    );
+    let now = number_option(
+        alloc,
+        u32::MAX,
+        "now",
+        "T",
+        "The time, in seconds since 1970",
+    );
+    let from = option(
+        alloc,
+        "from",
+        "host|inside|IF",
+        "How the packet came: of a host, from inside the AS, or over the link of interface IF, 1 to \
+         65535",
+    );
+    let interface = interface_argument(alloc);
+    Command::new(alloc, "step")
+        .arg(ia)?
+        .arg(router)?
+        .arg(key)?
+        .arg(previous)?
+        .arg(now)?
+        .arg(from)?
+        .arg(interface)
+}
+
+/// The command `run`.
+fn run_command<'a>(alloc: Global) -> Command<'a>
+    ensures app { app_of result ≡ run_app }
+    ensures local { IsLocal result }
+{
+    Command::new(alloc, "run")
+        .about("Runs a network: one event for each line of standard input; also without words")
+        .after_long_help(RUN_HELP)
+}
+
+/// The whole command line.
+pub(crate) fn program<'a>(alloc: Global) -> Result<Command<'a>, AllocError>
+    ensures { IfOk result (λ c. app_of c ≡ program_app) }
+{
+    let step = step_command(alloc)?
+        .about("Takes one router's turn over the packet in hexadecimal on standard input")
+        .after_long_help(STEP_HELP);
+    Command::new(alloc, "scionet")
+        .bin_name("scionet")?
+        .no_binary_name(true)
+        .about("A SCION network in one process")
+        .after_long_help(PROGRAM_HELP)
+        .subcommand(step)?
+        .subcommand(run_command(alloc))
+}

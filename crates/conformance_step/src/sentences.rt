@@ -1,0 +1,35 @@
+use commands::CommandFault;
+use std::alloc::Global;
+use std::fmt::Display;
+use std::test::Fail;
+use step_line::StepFault;
+use streams::{InputFault, WriteFailed};
+
+/// Whether this is the sentence of a fault.
+fn is_sentence<F: Display>(alloc: Global, fault: &F, sentence: &str) -> Result<bool, Fail> {
+    Ok(fault.to_string(alloc)?.as_str() == sentence)
+}
+
+/// The sentences of the faults of streams, of a turn and of a command.
+#[test]
+fn sentences(rt: HostRuntime) -> Result<(), Fail> {
+    let alloc = rt.alloc();
+    assert!(rt; is_sentence(alloc, &InputFault::Read, "read failed")?);
+    assert!(rt; is_sentence(alloc, &InputFault::TooLong, "input too long")?);
+    assert!(rt; is_sentence(alloc, &InputFault::Memory, "out of memory")?);
+    assert!(rt; is_sentence(alloc, &WriteFailed, "write failed")?);
+    assert!(rt; is_sentence(alloc, &StepFault::PacketText, "bad packet text")?);
+    assert!(rt; is_sentence(alloc, &StepFault::Memory, "out of memory")?);
+    assert!(rt; is_sentence(alloc, &CommandFault::PacketText, "scionet: bad packet text")?);
+    assert!(rt; is_sentence(alloc, &CommandFault::Read, "scionet: read failed")?);
+    assert!(rt; is_sentence(alloc, &CommandFault::Write, "scionet: write failed")?);
+    assert!(rt;
+        is_sentence(
+            alloc,
+            &CommandFault::InputTooLong,
+            "scionet: input too long"
+        )?
+    );
+    assert!(rt; is_sentence(alloc, &CommandFault::Memory, "scionet: out of memory")?);
+    Ok(())
+}
