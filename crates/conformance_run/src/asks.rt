@@ -1,0 +1,128 @@
+//! Asking for paths: ends, policies and options.
+
+use crate::table::{row_sent, row_turns, talk};
+use std::test::Fail;
+
+#[test]
+fn other_ends_of_the_row(rt: HostRuntime) -> Result<(), Fail> {
+    let (answers, wanted) = talk(
+        rt.alloc(),
+        &row_sent(),
+        &[
+            (
+                r#"{"do":"ask","src":"1-ff00:0:112","dst":"1-ff00:0:111","limit":4}"#,
+                "ask 1 1; 1-ff00:0:112#0,1 1-ff00:0:111#2,0",
+            ),
+            (
+                r#"{"do":"ask","src":"1-ff00:0:111","dst":"1-ff00:0:112","limit":4}"#,
+                "ask 2 1; 1-ff00:0:111#0,2 1-ff00:0:112#1,0",
+            ),
+            (
+                r#"{"do":"ask","src":"1-ff00:0:111","dst":"1-ff00:0:111","limit":4}"#,
+                "no 85 SameAs",
+            ),
+            (
+                r#"{"do":"ask","src":"1-ff00:0:112","dst":"1-ff00:0:110","limit":4,"acl":["- 1-ff00:0:111","+"]}"#,
+                "ask 3 0",
+            ),
+            (
+                r#"{"do":"ask","src":"1-ff00:0:112","dst":"1-ff00:0:110","limit":4,"sequence":"0* 1-ff00:0:110"}"#,
+                "ask 4 1; 1-ff00:0:112#0,1 1-ff00:0:111#2,1 1-ff00:0:110#1,0",
+            ),
+        ],
+    )?;
+    assert_eq!(rt; answers.as_str(), wanted.as_str());
+    Ok(())
+}
+
+#[test]
+fn options_of_a_policy(rt: HostRuntime) -> Result<(), Fail> {
+    let (answers, wanted) = talk(
+        rt.alloc(),
+        &row_sent(),
+        &[
+            (
+                r#"{"do":"ask","src":"1-ff00:0:112","dst":"1-ff00:0:110","limit":4,"options":[{"weight":1},{"weight":5,"acl":["- 1-ff00:0:111","+"]}]}"#,
+                "ask 1 1; 1-ff00:0:112#0,1 1-ff00:0:111#2,1 1-ff00:0:110#1,0",
+            ),
+            (
+                r#"{"do":"ask","src":"1-ff00:0:112","dst":"1-ff00:0:110","limit":4,"options":[]}"#,
+                "no 67 OptionCount",
+            ),
+            (
+                r#"{"do":"ask","src":"1-ff00:0:112","dst":"1-ff00:0:110","limit":4,"options":[{"weight":0,"sequence":"1 |"}]}"#,
+                "no 60 UnexpectedEnd",
+            ),
+            (
+                r#"{"do":"ask","src":"1-ff00:0:112","dst":"1-ff00:0:110","limit":4,"options":[{"weight":0}],"sequence":"0*"}"#,
+                "no 140 BadLine",
+            ),
+        ],
+    )?;
+    assert_eq!(rt; answers.as_str(), wanted.as_str());
+    Ok(())
+}
+
+#[test]
+fn refused_in_order(rt: HostRuntime) -> Result<(), Fail> {
+    let (answers, wanted) = talk(
+        rt.alloc(),
+        &row_sent(),
+        &[
+            (
+                r#"{"do":"ask","src":"1-ff00:0:112","dst":"1-ff00:0:112","limit":0,"options":[]}"#,
+                "no 137 BadLimit",
+            ),
+            (
+                r#"{"do":"ask","src":"1-ff00:0:112","dst":"1-ff00:0:112","limit":65}"#,
+                "no 137 BadLimit",
+            ),
+            (
+                r#"{"do":"ask","src":"1-ff00:0:112","dst":"1-ff00:0:112","limit":1,"acl":["- 1"]}"#,
+                "no 65 NoDefault",
+            ),
+            (
+                r#"{"do":"send","ask":1,"path":0,"payload":""}"#,
+                "no 133 NoAnswer",
+            ),
+            (
+                r#"{"do":"send","ask":0,"path":1,"payload":""}"#,
+                "no 133 NoAnswer",
+            ),
+        ],
+    )?;
+    assert_eq!(rt; answers.as_str(), wanted.as_str());
+    Ok(())
+}
+
+#[test]
+fn keys_change_once(rt: HostRuntime) -> Result<(), Fail> {
+    let [first, second, third] = row_turns();
+    let (answers, wanted) = talk(
+        rt.alloc(),
+        &row_sent(),
+        &[
+            (r#"{"do":"rotate","ia":"1-ff00:0:112","key":"6133"}"#, "ok"),
+            first,
+            second,
+            third,
+        ],
+    )?;
+    assert_eq!(rt; answers.as_str(), wanted.as_str());
+    Ok(())
+}
+
+#[test]
+fn keys_change_twice(rt: HostRuntime) -> Result<(), Fail> {
+    let (answers, wanted) = talk(
+        rt.alloc(),
+        &row_sent(),
+        &[
+            (r#"{"do":"rotate","ia":"1-ff00:0:112","key":"6133"}"#, "ok"),
+            (r#"{"do":"rotate","ia":"1-ff00:0:112","key":"6134"}"#, "ok"),
+            (r#"{"do":"turn","packet":0}"#, "refused 94 BadMac"),
+        ],
+    )?;
+    assert_eq!(rt; answers.as_str(), wanted.as_str());
+    Ok(())
+}

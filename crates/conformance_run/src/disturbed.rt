@@ -1,0 +1,204 @@
+//! Packets on whose way something happens: each premise of the delivery theorem left out, and the
+//! same happening beside a packet that keeps them all.
+
+use crate::table::{row_sent, row_turns, talk};
+use std::test::Fail;
+
+#[test]
+fn an_altered_packet_is_refused(rt: HostRuntime) -> Result<(), Fail> {
+    let (answers, wanted) = talk(
+        rt.alloc(),
+        &row_sent(),
+        &[
+            (r#"{"do":"alter","packet":0,"at":34,"xor":1}"#, "ok"),
+            (r#"{"do":"turn","packet":0}"#, "refused 94 BadMac"),
+            (
+                r#"{"do":"show","packet":0}"#,
+                "refused 1-ff00:0:112 0 94 BadMac",
+            ),
+        ],
+    )?;
+    assert_eq!(rt; answers.as_str(), wanted.as_str());
+    Ok(())
+}
+
+#[test]
+fn a_packet_that_is_no_longer_one(rt: HostRuntime) -> Result<(), Fail> {
+    let (answers, wanted) = talk(
+        rt.alloc(),
+        &row_sent(),
+        &[
+            (r#"{"do":"alter","packet":0,"at":16,"xor":3}"#, "ok"),
+            (
+                r#"{"do":"turn","packet":0}"#,
+                "refused 90 BadHeader 26 BadIndex",
+            ),
+            (
+                r#"{"do":"show","packet":0}"#,
+                "refused 1-ff00:0:112 0 90 BadHeader 26 BadIndex",
+            ),
+            (
+                r#"{"do":"alter","packet":0,"at":0,"xor":0}"#,
+                "no 131 NotInFlight",
+            ),
+        ],
+    )?;
+    assert_eq!(rt; answers.as_str(), wanted.as_str());
+    Ok(())
+}
+
+#[test]
+fn a_lost_packet_does_not_arrive(rt: HostRuntime) -> Result<(), Fail> {
+    let (answers, wanted) = talk(
+        rt.alloc(),
+        &row_sent(),
+        &[
+            (r#"{"do":"turn","packet":0}"#, "link 1"),
+            (r#"{"do":"lose","packet":0}"#, "ok"),
+            (r#"{"do":"turn","packet":0}"#, "no 131 NotInFlight"),
+            (r#"{"do":"show","packet":0}"#, "lost; 1-ff00:0:112#0,1"),
+        ],
+    )?;
+    assert_eq!(rt; answers.as_str(), wanted.as_str());
+    Ok(())
+}
+
+#[test]
+fn a_cut_link_refuses(rt: HostRuntime) -> Result<(), Fail> {
+    let (answers, wanted) = talk(
+        rt.alloc(),
+        &row_sent(),
+        &[
+            (r#"{"do":"turn","packet":0}"#, "link 1"),
+            (r#"{"do":"cut","ia":"1-ff00:0:111","if":1}"#, "ok"),
+            (r#"{"do":"turn","packet":0}"#, "refused 100 LinkDown"),
+        ],
+    )?;
+    assert_eq!(rt; answers.as_str(), wanted.as_str());
+    Ok(())
+}
+
+#[test]
+fn a_turn_after_the_expiry_refuses(rt: HostRuntime) -> Result<(), Fail> {
+    let (answers, wanted) = talk(
+        rt.alloc(),
+        &row_sent(),
+        &[
+            (r#"{"do":"tick","now":22600}"#, "ok"),
+            (r#"{"do":"turn","packet":0}"#, "link 1"),
+            (r#"{"do":"tick","now":22601}"#, "ok"),
+            (r#"{"do":"turn","packet":0}"#, "refused 93 Expired"),
+        ],
+    )?;
+    assert_eq!(rt; answers.as_str(), wanted.as_str());
+    Ok(())
+}
+
+#[test]
+fn a_mended_link_carries(rt: HostRuntime) -> Result<(), Fail> {
+    let [first, second, third] = row_turns();
+    let (answers, wanted) = talk(
+        rt.alloc(),
+        &row_sent(),
+        &[
+            (r#"{"do":"cut","ia":"1-ff00:0:111","if":1}"#, "ok"),
+            (r#"{"do":"mend","ia":"1-ff00:0:110","if":1}"#, "ok"),
+            first,
+            second,
+            third,
+        ],
+    )?;
+    assert_eq!(rt; answers.as_str(), wanted.as_str());
+    Ok(())
+}
+
+#[test]
+fn others_are_disturbed(rt: HostRuntime) -> Result<(), Fail> {
+    let (answers, wanted) = talk(
+        rt.alloc(),
+        &row_sent(),
+        &[
+            (r#"{"do":"send","ask":0,"path":0,"payload":""}"#, "packet 1"),
+            (
+                r#"{"do":"send","ask":0,"path":0,"payload":"00"}"#,
+                "packet 2",
+            ),
+            (r#"{"do":"alter","packet":1,"at":34,"xor":1}"#, "ok"),
+            (r#"{"do":"turn","packet":0}"#, "link 1"),
+            (r#"{"do":"turn","packet":1}"#, "refused 94 BadMac"),
+            (r#"{"do":"lose","packet":2}"#, "ok"),
+            (r#"{"do":"rotate","ia":"1-ff00:0:111","key":"6133"}"#, "ok"),
+            (r#"{"do":"turn","packet":0}"#, "link 1"),
+            (r#"{"do":"sweep"}"#, "swept 0"),
+            (r#"{"do":"turn","packet":0}"#, "delivered"),
+            (
+                r#"{"do":"show","packet":0}"#,
+                "delivered; 1-ff00:0:112#0,1 1-ff00:0:111#2,1 1-ff00:0:110#1,0",
+            ),
+        ],
+    )?;
+    assert_eq!(rt; answers.as_str(), wanted.as_str());
+    Ok(())
+}
+
+#[test]
+fn the_store_and_the_moment(rt: HostRuntime) -> Result<(), Fail> {
+    let (answers, wanted) = talk(
+        rt.alloc(),
+        &row_sent(),
+        &[
+            (r#"{"do":"tick","now":999}"#, "no 134 TimeBack"),
+            (
+                r#"{"do":"terminate","beacon":1,"ia":"1-ff00:0:112"}"#,
+                "segment known",
+            ),
+            (r#"{"do":"tick","now":22601}"#, "ok"),
+            (
+                r#"{"do":"terminate","beacon":1,"ia":"1-ff00:0:112"}"#,
+                "no 51 Expired",
+            ),
+            (r#"{"do":"sweep"}"#, "swept 1"),
+            (
+                r#"{"do":"send","ask":0,"path":0,"payload":""}"#,
+                "no 79 Expired",
+            ),
+        ],
+    )?;
+    assert_eq!(rt; answers.as_str(), wanted.as_str());
+    Ok(())
+}
+
+#[test]
+fn what_is_not_there(rt: HostRuntime) -> Result<(), Fail> {
+    let (answers, wanted) = talk(
+        rt.alloc(),
+        &row_sent(),
+        &[
+            (r#"{"do":"show","packet":1}"#, "no 130 NoPacket"),
+            (r#"{"do":"turn","packet":1}"#, "no 130 NoPacket"),
+            (
+                r#"{"do":"extend","beacon":2,"ia":"1-ff00:0:111","egress":2}"#,
+                "no 132 NoBeacon",
+            ),
+            (
+                r#"{"do":"alter","packet":0,"at":4294967295,"xor":1}"#,
+                "no 136 BadOffset",
+            ),
+            (
+                r#"{"do":"cut","ia":"1-ff00:0:113","if":1}"#,
+                "no 14 UnknownAs",
+            ),
+            (r#"{"do":"cut","ia":"1-ff00:0:111","if":9}"#, "no 17 NoLink"),
+            (
+                r#"{"do":"originate","ia":"1-ff00:0:111","egress":1,"beta0":0}"#,
+                "no 40 NotCore",
+            ),
+            (
+                r#"{"do":"rotate","ia":"1-ff00:0:111","key":""}"#,
+                "no 11 BadField",
+            ),
+        ],
+    )?;
+    assert_eq!(rt; answers.as_str(), wanted.as_str());
+    Ok(())
+}

@@ -1,0 +1,37 @@
+//! Answers to packets that were delivered.
+
+use crate::table::{row_sent, talk};
+use std::test::Fail;
+
+#[test]
+fn a_delivered_packet_is_answered(rt: HostRuntime) -> Result<(), Fail> {
+    let (answers, wanted) = talk(
+        rt.alloc(),
+        &row_sent(),
+        &[
+            (
+                r#"{"do":"back","packet":0,"payload":""}"#,
+                "no 139 NotDelivered",
+            ),
+            (r#"{"do":"turn","packet":0}"#, "link 1"),
+            (r#"{"do":"turn","packet":0}"#, "link 1"),
+            (r#"{"do":"turn","packet":0}"#, "delivered"),
+            (r#"{"do":"back","packet":0,"payload":""}"#, "packet 1"),
+            (r#"{"do":"turn","packet":1}"#, "link 1"),
+            (r#"{"do":"turn","packet":1}"#, "link 2"),
+            (r#"{"do":"turn","packet":1}"#, "delivered"),
+            (
+                r#"{"do":"show","packet":1}"#,
+                "delivered; 1-ff00:0:110#0,1 1-ff00:0:111#1,2 1-ff00:0:112#1,0",
+            ),
+            (
+                r#"{"do":"back","packet":9,"payload":""}"#,
+                "no 130 NoPacket",
+            ),
+            (r#"{"do":"tick","now":22601}"#, "ok"),
+            (r#"{"do":"back","packet":0,"payload":""}"#, "no 79 Expired"),
+        ],
+    )?;
+    assert_eq!(rt; answers.as_str(), wanted.as_str());
+    Ok(())
+}

@@ -1,0 +1,214 @@
+-- A line of text as what it asks for: an object of JSON with the member `do`, and others by its
+-- word. Addresses are texts, payloads and keys are hexadecimal, numbers are whole numbers up to the
+-- most that their type has, and members beside these are ignored.
+use Rattle.std.specs.Prelude.{ℕ, if◌then◌else◌, codes, List, [], ◌∷◌, Option, Some, None}
+use Rattle.std.specs.Option.{is_none}
+use Rattle.std.specs.Str.{bytes_eq}
+use Rattle.serde_json.specs.Data.{Data}
+use Rattle.serde_json.specs.Find.{get, as_str}
+use Rattle.hex.specs.Hex.{decode_of}
+use Rattle.refusal.specs.Optional.{◌>>=◌, only}
+use Rattle.json_fields.specs.Fields.{document_in, text_at, whole_at, list_at, items_at}
+use Rattle.isd_as.specs.Reading.{address_at}
+use Rattle.policy_expr.specs.Options.{OptionTexts}
+use Rattle.network_core.specs.Event.{EventValue, Tick, Originate, Extend, Terminate, Sweep, Ask, ByAnswer, Send, Turn, Lose, Alter, Back, CutLink, MendLink, RotateKey}
+
+-- what a line asks for: that an event happens, or what is told of a packet
+pub data LineValue : Type 0 where
+  Happens : EventValue → LineValue
+  Shows : ℕ → LineValue
+
+-- ---- members
+
+-- a number of 32 bits, of 16 bits, of 8 bits
+abbrev pub long_at : List ℕ → Data → Option ℕ
+long_at name d = whole_at 0 4294967295 name d
+
+abbrev pub short_at : List ℕ → Data → Option ℕ
+short_at name d = whole_at 0 65535 name d
+
+abbrev pub byte_at : List ℕ → Data → Option ℕ
+byte_at name d = whole_at 0 255 name d
+
+-- an address
+unfoldable pub ia_at : List ℕ → Data → Option ℕ
+ia_at name d = do
+  text ← text_at name d
+  only (address_at text)
+
+-- bytes in hexadecimal, with digits of either case
+unfoldable pub bytes_at : List ℕ → Data → Option (List ℕ)
+bytes_at name d = do
+  text ← text_at name d
+  only (decode_of text)
+
+-- ---- policy options
+
+-- a list of texts that may be absent
+unfoldable pub texts_at : List ℕ → Data → Option (Option (List (List ℕ)))
+texts_at name d = if is_none (get name d) then Some None else (do
+  items ← list_at name d
+  texts ← items_at as_str items
+  Some (Some texts))
+
+-- a text that may be absent
+unfoldable pub maybe_text_at : List ℕ → Data → Option (Option (List ℕ))
+maybe_text_at name d = if is_none (get name d) then Some None else (do
+  text ← text_at name d
+  Some (Some text))
+
+-- the members `acl` and `sequence`, of which either may be absent, with this weight
+unfoldable pub option_with : ℕ → Data → Option OptionTexts
+option_with weight d = do
+  acl ← texts_at (codes "acl") d
+  sequence ← maybe_text_at (codes "sequence") d
+  Some (record { acl = acl; sequence = sequence; weight = weight })
+
+-- an option: its weight beside them
+unfoldable pub option_in : Data → Option OptionTexts
+option_in d = do
+  weight ← long_at (codes "weight") d
+  option_with weight d
+
+-- the options of an `ask`: the list `options`, beside which neither `acl` nor `sequence` stands; or
+-- one option of weight 0
+unfoldable pub listed_options : Data → Option (List OptionTexts)
+listed_options d =
+    if is_none (get (codes "acl") d) then
+    (if is_none (get (codes "sequence") d) then (do
+      items ← list_at (codes "options") d
+      items_at option_in items) else None)
+    else None
+
+unfoldable pub one_option : Data → Option (List OptionTexts)
+one_option d = do
+  option ← option_with 0 d
+  Some (option ∷ [])
+
+abbrev pub options_in : Data → Option (List OptionTexts)
+options_in d = if is_none (get (codes "options") d) then one_option d else listed_options d
+
+-- ---- lines, by their word
+
+unfoldable pub tick_in : Data → Option LineValue
+tick_in d = do
+  to ← long_at (codes "now") d
+  Some (Happens (Tick to))
+
+unfoldable pub originate_in : Data → Option LineValue
+originate_in d = do
+  ia ← ia_at (codes "ia") d
+  egress ← short_at (codes "egress") d
+  beta0 ← short_at (codes "beta0") d
+  Some (Happens (Originate ia egress beta0))
+
+unfoldable pub extend_in : Data → Option LineValue
+extend_in d = do
+  beacon ← long_at (codes "beacon") d
+  ia ← ia_at (codes "ia") d
+  egress ← short_at (codes "egress") d
+  Some (Happens (Extend beacon ia egress))
+
+unfoldable pub terminate_in : Data → Option LineValue
+terminate_in d = do
+  beacon ← long_at (codes "beacon") d
+  ia ← ia_at (codes "ia") d
+  Some (Happens (Terminate beacon ia))
+
+unfoldable pub ask_in : Data → Option LineValue
+ask_in d = do
+  src ← ia_at (codes "src") d
+  dst ← ia_at (codes "dst") d
+  limit ← long_at (codes "limit") d
+  options ← options_in d
+  Some (Happens (Ask src dst options limit))
+
+unfoldable pub send_in : Data → Option LineValue
+send_in d = do
+  ask ← long_at (codes "ask") d
+  path ← long_at (codes "path") d
+  payload ← bytes_at (codes "payload") d
+  Some (Happens (Send (ByAnswer ask path) payload))
+
+unfoldable pub turn_in : Data → Option LineValue
+turn_in d = do
+  packet ← long_at (codes "packet") d
+  Some (Happens (Turn packet))
+
+unfoldable pub lose_in : Data → Option LineValue
+lose_in d = do
+  packet ← long_at (codes "packet") d
+  Some (Happens (Lose packet))
+
+unfoldable pub alter_in : Data → Option LineValue
+alter_in d = do
+  packet ← long_at (codes "packet") d
+  at ← long_at (codes "at") d
+  change ← byte_at (codes "xor") d
+  Some (Happens (Alter packet at change))
+
+unfoldable pub back_in : Data → Option LineValue
+back_in d = do
+  packet ← long_at (codes "packet") d
+  payload ← bytes_at (codes "payload") d
+  Some (Happens (Back packet payload))
+
+unfoldable pub cut_in : Data → Option LineValue
+cut_in d = do
+  ia ← ia_at (codes "ia") d
+  interface ← short_at (codes "if") d
+  Some (Happens (CutLink ia interface))
+
+unfoldable pub mend_in : Data → Option LineValue
+mend_in d = do
+  ia ← ia_at (codes "ia") d
+  interface ← short_at (codes "if") d
+  Some (Happens (MendLink ia interface))
+
+unfoldable pub rotate_in : Data → Option LineValue
+rotate_in d = do
+  ia ← ia_at (codes "ia") d
+  key ← bytes_at (codes "key") d
+  Some (Happens (RotateKey ia key))
+
+unfoldable pub show_in : Data → Option LineValue
+show_in d = do
+  packet ← long_at (codes "packet") d
+  Some (Shows packet)
+
+-- the lines that carry neither bytes nor texts
+unfoldable pub plain_line : List ℕ → Data → Option LineValue
+plain_line word d =
+    if bytes_eq word (codes "tick") then tick_in d
+    else if bytes_eq word (codes "originate") then originate_in d
+    else if bytes_eq word (codes "extend") then extend_in d
+    else if bytes_eq word (codes "terminate") then terminate_in d
+    else if bytes_eq word (codes "sweep") then Some (Happens Sweep)
+    else if bytes_eq word (codes "turn") then turn_in d
+    else if bytes_eq word (codes "lose") then lose_in d
+    else if bytes_eq word (codes "alter") then alter_in d
+    else if bytes_eq word (codes "cut") then cut_in d
+    else if bytes_eq word (codes "mend") then mend_in d
+    else if bytes_eq word (codes "show") then show_in d
+    else None
+
+-- all lines
+unfoldable pub worded : List ℕ → Data → Option LineValue
+worded word d =
+    if bytes_eq word (codes "ask") then ask_in d
+    else if bytes_eq word (codes "send") then send_in d
+    else if bytes_eq word (codes "back") then back_in d
+    else if bytes_eq word (codes "rotate") then rotate_in d
+    else plain_line word d
+
+-- what an object says
+unfoldable pub said_by : Data → Option LineValue
+said_by d = do
+  word ← text_at (codes "do") d
+  worded word d
+
+-- what the bytes of a line say, if they are such an object
+unfoldable pub line_in : List ℕ → Option LineValue
+line_in bytes = do
+  d ← document_in bytes
+  said_by d

@@ -1,0 +1,102 @@
+-- A run over streams: which lines were read, and what was written.
+use Rattle.std.specs.Prelude.{◌≡◌, ◌⊎◌, ℕ, ◌+◌, ◌≤◌, Bool, true, false, List, [], ◌∷◌, ◌++◌, length, take, flat_map, ◌==◌, Option, Result, Ok, Err}
+use Rattle.std.specs.List.{list_any}
+use Rattle.std.specs.Io.KnownBytes.{Appends, Consumes, IsAtEnd}
+use Rattle.event_lines.specs.declared.fault.RunFault.{RunFault}
+use Rattle.event_lines.specs.declared.fault.RunFault.TheVariants as faults
+use Rattle.network_core.specs.Value.{NetValue}
+use Rattle.event_lines.specs.Talk.{Stage, Unbegun, Open, Closed, Told}
+
+-- ---- lines of bytes
+
+-- the end of a line: LF
+abbrev pub line_end : ℕ
+line_end = 10
+
+-- whether a line ends among the bytes
+abbrev pub has_end : List ℕ → Bool
+has_end bytes = list_any (λ b. b == line_end) bytes
+
+-- lines, each with its end
+abbrev pub ended : List (List ℕ) → List ℕ
+ended lines = flat_map (λ line. line ++ line_end ∷ []) lines
+
+-- the bytes are these lines, each with its end, and then what has no end yet
+pub record AreLines (bytes : List ℕ) (lines : List (List ℕ)) (rest : List ℕ) : Type 0 where
+  pub whole : bytes ≡ ended lines ++ rest
+  pub apart : list_any has_end lines ≡ false
+  pub last : has_end rest ≡ false
+
+-- the lines of an input, of which the last may lack its end; an input without a byte is one empty
+-- line
+abbrev pub all_lines : List (List ℕ) → List ℕ → List (List ℕ)
+all_lines [] rest = rest ∷ []
+all_lines (line ∷ lines) [] = line ∷ lines
+all_lines (line ∷ lines) (b ∷ rest) = (line ∷ lines) ++ (b ∷ rest) ∷ []
+
+-- these are the first lines of what was read
+abbrev pub AreFirst : List ℕ → List (List ℕ) → Type 0
+AreFirst read lines =
+    (later : List (List ℕ)) × (rest : List ℕ) × AreLines read (lines ++ later) rest
+
+-- what was read is all, and these are its lines
+abbrev pub AreAll : Type 0 → List ℕ → List (List ℕ) → Type 0
+AreAll at_end read lines = (whole : List (List ℕ)) × (rest : List ℕ)
+    × (AreLines read whole rest × (at_end × (lines ≡ all_lines whole rest)))
+
+-- these lines were told
+abbrev pub AreHeard : Type 0 → List ℕ → List (List ℕ) → Type 0
+AreHeard at_end read lines = AreFirst read lines ⊎ AreAll at_end read lines
+
+-- ---- how a run ended
+
+-- the most bytes of an input
+abbrev pub most_input : ℕ
+most_input = 67108864
+
+-- exactly the replies to these lines were written, and the run then stands there
+abbrev pub Wrote : List (List ℕ) → List ℕ → Stage → Type 0
+Wrote lines went stage =
+    (texts : List (List ℕ)) × (Told Unbegun lines texts stage × (went ≡ ended texts))
+
+-- a beginning of the replies to these lines was written
+abbrev pub WroteSome : List (List ℕ) → List ℕ → Type 0
+WroteSome lines went = (texts : List (List ℕ)) × (stage : Stage) × (n : ℕ)
+    × (Told Unbegun lines texts stage × (went ≡ take n (ended texts)))
+
+-- the replies to all whole lines of what was read were written
+abbrev pub WroteWhole : List ℕ → List ℕ → Type 0
+WroteWhole read went = (lines : List (List ℕ)) × (rest : List ℕ) × (stage : Stage)
+    × (AreLines read lines rest × Wrote lines went stage)
+
+-- what was read and what was written: all lines were answered; the topology was refused; a read
+-- failed; one byte too many came; memory ran out at some line; or a write failed
+abbrev pub Ends : Result (Unit {0}) RunFault → Type 0 → List ℕ → List ℕ → Type 0
+Ends (Ok done) at_end read went = (lines : List (List ℕ)) × (net : NetValue)
+    × (AreAll at_end read lines × Wrote lines went (Open net))
+Ends (Err faults.Topology) at_end read went = (lines : List (List ℕ))
+    × (AreHeard at_end read lines × Wrote lines went Closed)
+Ends (Err faults.Read) at_end read went = WroteWhole read went
+Ends (Err faults.InputTooLong) at_end read went = (front : List ℕ) × (byte : ℕ)
+    × ((read ≡ front ++ byte ∷ []) × ((length front ≡ most_input) × WroteWhole front went))
+Ends (Err faults.Memory) at_end read went = (lines : List (List ℕ)) × (stage : Stage)
+    × (AreFirst read lines × Wrote lines went stage)
+Ends (Err faults.Write) at_end read went = (lines : List (List ℕ))
+    × (AreHeard at_end read lines × WroteSome lines went)
+
+-- a run of a source that had these bytes left before and has those after, into a sink that held
+-- these bytes before and holds those after
+abbrev pub Runs : Result (Unit {0}) RunFault → Option (List ℕ) → Option (List ℕ) → Option (List ℕ)
+    → Option (List ℕ) → Type 0
+Runs result before after held holds = (read went : List ℕ)
+    × (Consumes before after read × (Appends held holds went
+    × ((length read ≤ most_input + 1) × Ends result (IsAtEnd after) read went)))
+
+-- the run ended since a read failed; since a write failed
+abbrev pub is_read_fault : Result (Unit {0}) RunFault → Bool
+is_read_fault (Err faults.Read) = true
+is_read_fault result = false
+
+abbrev pub is_write_fault : Result (Unit {0}) RunFault → Bool
+is_write_fault (Err faults.Write) = true
+is_write_fault result = false

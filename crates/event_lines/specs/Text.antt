@@ -1,0 +1,127 @@
+-- What is told of an event, of a packet, and of a line that says nothing.
+use Rattle.std.specs.Prelude.{ℕ, codes, List, [], ◌∷◌, ◌++◌, length, flat_map, Bool, true, false, Option, Some, None, option_map, slice_get}
+use Rattle.std.specs.List.{join_by}
+use Rattle.std.specs.Fmt.{decimal}
+use Rattle.isd_as.specs.Address.{canonical}
+use Rattle.policy_expr.specs.declared.hop.WalkHop.{WalkHop}
+use Rattle.path_header.specs.Fault as header
+use Rattle.path_verifier.specs.Walk.{walk_of}
+use Rattle.combinator.specs.Candidate.{PathValue}
+use Rattle.combinator.specs.Answer.{AnswerValue}
+use Rattle.router_step.specs.declared.outcome.Outcome.{Outcome}
+use Rattle.router_step.specs.declared.outcome.Outcome.TheVariants.{ToLink, ToRouter, Deliver}
+use Rattle.router_step.specs.declared.fault.Refusal.{Refusal}
+use Rattle.router_step.specs.declared.fault.Refusal.TheVariants.{BadHeader}
+use Rattle.router_step.specs.Fault as router
+use Rattle.forwarding.specs.declared.place.Place.{Place}
+use Rattle.forwarding.specs.declared.place.Place.TheVariants as places
+use Rattle.forwarding.specs.declared.reply.TurnReply.{TurnReply}
+use Rattle.forwarding.specs.declared.reply.TurnReply.TheVariants as turns
+use Rattle.network_core.specs.declared.fault.EventFault.{EventFault}
+use Rattle.network_core.specs.declared.reply.Reply.{Reply}
+use Rattle.network_core.specs.declared.reply.Reply.TheVariants.{Done, Begun, Registered, Swept, Answered, Sent, Turned, Refused}
+use Rattle.network_core.specs.Fault.{code_of, name_of}
+use Rattle.network_core.specs.Value.{NetValue, PacketValue}
+
+-- a word and a number: `WORD N`
+abbrev pub numbered : List ℕ → ℕ → List ℕ
+numbered word number = word ++ (codes " " ++ decimal number)
+
+-- the number and the name of a refusal: `CODE Name`
+abbrev pub coded : ℕ → List ℕ → List ℕ
+coded code name = decimal code ++ (codes " " ++ name)
+
+-- ---- walks
+
+-- a hop: `ISD-AS#IN,OUT`
+abbrev pub hop_text : WalkHop → List ℕ
+hop_text hop =
+    canonical hop.ia ++ (codes "#" ++ (decimal hop.ingress ++ (codes "," ++ decimal hop.egress)))
+
+-- hops, with one space between two
+abbrev pub hops_text : List WalkHop → List ℕ
+hops_text hops = join_by hop_text (codes " ") hops
+
+-- hops that were passed, behind a semicolon; nothing where there are none
+abbrev pub passed_text : List WalkHop → List ℕ
+passed_text [] = []
+passed_text (hop ∷ hops) = codes "; " ++ hops_text (hop ∷ hops)
+
+-- ---- routers
+
+-- a router's refusal; of a packet without a path header the header's too
+abbrev pub refusal_text : Refusal → List ℕ
+refusal_text (BadHeader fault) =
+    codes "90 BadHeader " ++ coded (header.code_of fault) (header.name_of fault)
+refusal_text refusal = coded (router.code_of refusal) (router.name_of refusal)
+
+-- where a router's step leads
+abbrev pub outcome_text : Outcome → List ℕ
+outcome_text (ToLink interface) = numbered (codes "link") interface
+outcome_text (ToRouter router) = numbered (codes "router") router
+outcome_text Deliver = codes "delivered"
+
+-- a turn
+abbrev pub turn_text : TurnReply → List ℕ
+turn_text (turns.Went outcome) = outcome_text outcome
+turn_text (turns.Refused refusal) = codes "refused " ++ refusal_text refusal
+turn_text turns.Still = codes "ok"
+
+-- where a packet is
+abbrev pub place_text : Place → List ℕ
+place_text (places.AtRouter stop) =
+    codes "at " ++ (canonical stop.ia ++ (codes " " ++ decimal stop.router))
+place_text places.Delivered = codes "delivered"
+place_text (places.Refused ia router refusal) =
+    codes "refused " ++ (canonical ia
+    ++ (codes " " ++ (decimal router ++ (codes " " ++ refusal_text refusal))))
+place_text places.Lost = codes "lost"
+
+-- ---- events
+
+-- an event that is refused: `no CODE Name`
+abbrev pub fault_text : EventFault → List ℕ
+fault_text fault = codes "no " ++ coded (code_of fault) (name_of fault)
+
+-- the walk of each path of an answer, behind a semicolon
+abbrev pub path_text : PathValue → List ℕ
+path_text path = codes "; " ++ hops_text (walk_of path.pieces)
+
+-- the paths of an answer
+abbrev pub paths_of : Option AnswerValue → List PathValue
+paths_of None = []
+paths_of (Some answer) = answer.paths
+
+abbrev pub answer_in : NetValue → ℕ → Option AnswerValue
+answer_in net number = option_map (λ one. one.answer) (slice_get net.answers number)
+
+-- an answer of this number: `ask K N`, and its paths
+abbrev pub answer_text : ℕ → List PathValue → List ℕ
+answer_text number paths =
+    numbered (codes "ask") number
+    ++ (codes " " ++ (decimal (length paths) ++ flat_map path_text paths))
+
+-- whether the store has the segment as new
+abbrev pub segment_text : Bool → List ℕ
+segment_text true = codes "segment new"
+segment_text false = codes "segment known"
+
+-- what an event is answered, in the network after it
+abbrev pub reply_text : NetValue → Reply → List ℕ
+reply_text net Done = codes "ok"
+reply_text net (Begun beacon) = numbered (codes "beacon") beacon
+reply_text net (Registered is_new) = segment_text is_new
+reply_text net (Swept count) = numbered (codes "swept") count
+reply_text net (Answered number) = answer_text number (paths_of (answer_in net number))
+reply_text net (Sent packet) = numbered (codes "packet") packet
+reply_text net (Turned reply) = turn_text reply
+reply_text net (Refused fault) = fault_text fault
+
+-- what is told of a packet: where it is and which hops it has passed, if there is one
+abbrev pub packet_text : Option PacketValue → List ℕ
+packet_text None = codes "no 130 NoPacket"
+packet_text (Some one) = place_text one.packet.place ++ passed_text one.packet.passed
+
+-- what is told of a line that asks for nothing
+abbrev pub bad_line : List ℕ
+bad_line = codes "no 140 BadLine"

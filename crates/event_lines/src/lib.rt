@@ -1,0 +1,20 @@
+//! A network that is told lines of text and answers each with a line: `scionet run`.
+//!
+//! The first line is a topology, and each line after it an event of the network or the question
+//! where a packet is.
+#![tactic(auto)]
+
+mod asked;
+mod cutting;
+mod fault;
+mod fields;
+mod happening;
+mod line;
+mod run;
+mod talk;
+mod text;
+
+pub use asked::AskedOption;
+pub use fault::RunFault;
+pub use line::Line;
+pub use run::run_lines;

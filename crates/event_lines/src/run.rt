@@ -1,0 +1,131 @@
+//! A run of lines over streams.
+
+ghost use Rattle.std.specs.Prelude.{◌≡◌, ◌+◌, ◌<◌, ◌≤◌, ◌||◌, [], false, is_none, length, option_map};
+ghost use Rattle.std.specs.String.{string_bytes};
+ghost use Rattle.event_lines.specs.Run.{Runs, has_end, is_read_fault, is_write_fault, most_input};
+ghost use Rattle.event_lines.specs.Talking.{Brings, Exchanges, Finishes, Writes, value_of};
+
+use crate::fault::RunFault;
+use crate::talk::Talk;
+use std::alloc::Global;
+use streams::{Sink, Source, write_all};
+
+/// The most bytes of an input.
+const MAX_INPUT_LEN: usize = 67_108_864;
+
+/// The most bytes that one read asks for.
+const ROOM_LEN: usize = 8_192;
+
+/// How many bytes are asked for where so many were read: one where no more may come.
+fn wanted_after(count: usize) -> usize
+    requires { count ≤ most_input }
+    ensures some { 0 < result }
+    ensures room { result ≤ 8192 }
+    ensures fits { count < most_input → count + result ≤ most_input }
+    ensures last { count ≡ most_input → result ≡ 1 }
+{
+    let left = MAX_INPUT_LEN - count;
+    if left == 0 { 1 } else { left.min(ROOM_LEN) }
+}
+
+/// What the next read brings, into `room`; `None` where it fails.
+fn read_into<'r, S: Source>(source: &mut S, room: &'r mut [u8]) -> Option<&'r [u8]>
+    requires { 0 < length room.old }
+    ensures bytes { Brings (option_map (λ bytes. bytes.now) result) (S.left source.old)
+        (S.left source.new) (length room.old) }
+    ensures flag { S.failed source.new ≡ (S.failed source.old || is_none result) }
+{
+    match source.read(room) {
+        Ok(count) => Some(&room[..count]),
+        Err(_) => None,
+    }
+}
+
+/// Writes what is still to be written.
+fn write_replies<K: Sink>(talk: &mut Talk, sink: &mut K) -> Result<(), RunFault>
+    ensures written { Writes result (value_of talk.old) (value_of talk.new)
+        (K.held sink.old) (K.held sink.new) }
+    ensures flag { K.failed sink.new ≡ (K.failed sink.old || is_write_fault result) }
+{
+    if write_all(sink, talk.replies.as_bytes()).is_err() {
+        return Err(RunFault::Write);
+    }
+    if sink.flush().is_err() {
+        return Err(RunFault::Write);
+    }
+    talk.replies.clear();
+    Ok(())
+}
+
+/// Hears bytes, and writes the replies to the lines that end among them.
+fn exchange<K: Sink>(
+    alloc: Global,
+    talk: &mut Talk,
+    sink: &mut K,
+    bytes: &[u8],
+) -> Result<(), RunFault>
+    requires whole { has_end talk.old.rest.items ≡ false }
+    requires written { string_bytes talk.old.replies ≡ [] }
+    ensures told { Exchanges result bytes.now (value_of talk.old) (value_of talk.new)
+        (K.held sink.old) (K.held sink.new) }
+    ensures flag { K.failed sink.new ≡ (K.failed sink.old || is_write_fault result) }
+{
+    let heard = talk.hear(alloc, bytes);
+    write_replies(talk, sink)?;
+    heard
+}
+
+/// Answers the last line, if it has no end, and writes the reply. An input without a byte is one
+/// empty line.
+fn finish<K: Sink>(alloc: Global, talk: &mut Talk, sink: &mut K) -> Result<(), RunFault>
+    requires { string_bytes talk.old.replies ≡ [] }
+    ensures told { Finishes result (value_of talk.old) (K.held sink.old) (K.held sink.new) }
+    ensures flag { K.failed sink.new ≡ (K.failed sink.old || is_write_fault result) }
+{
+    if talk.is_done() {
+        return Ok(());
+    }
+    let heard = talk.answer(alloc);
+    write_replies(talk, sink)?;
+    heard
+}
+
+/// Answers the lines of a source: the first is a topology, and each later one an event of its
+/// network or the question where a packet is. Each is answered by one line, which is written and
+/// flushed before more is read.
+///
+/// [`RunFault::Topology`] where the first line is no topology, after its answer;
+/// [`RunFault::Read`] and [`RunFault::Write`] where the source or the sink failed;
+/// [`RunFault::Memory`] where memory ran out at some line, after the answers to the lines before;
+/// [`RunFault::InputTooLong`] at byte 67,108,865.
+///
+/// It ends for every source that ends or passes that limit. A line takes time and memory for its
+/// bytes, beside what its event takes; the bytes of one line and of its reply are held at a time.
+pub fn run_lines<S: Source, K: Sink>(
+    alloc: Global,
+    source: &mut S,
+    sink: &mut K,
+) -> Result<(), RunFault>
+    ensures runs { Runs result (S.left source.old) (S.left source.new)
+        (K.held sink.old) (K.held sink.new) }
+    ensures source { S.failed source.new ≡ (S.failed source.old || is_read_fault result) }
+    ensures sink { K.failed sink.new ≡ (K.failed sink.old || is_write_fault result) }
+{
+    let mut talk = Talk::new(alloc);
+    let mut room = [0u8; ROOM_LEN];
+    let mut count = 0;
+    loop {
+        let wanted = wanted_after(count);
+        let Some(bytes) = read_into(source, &mut room[..wanted]) else {
+            return Err(RunFault::Read);
+        };
+        if bytes.is_empty() {
+            return finish(alloc, &mut talk, sink);
+        }
+        if count == MAX_INPUT_LEN {
+            return Err(RunFault::InputTooLong);
+        }
+        exchange(alloc, &mut talk, sink, bytes)?;
+        count += bytes.len();
+    }
+}

@@ -1,0 +1,121 @@
+//! A network that is told lines.
+
+ghost use Rattle.std.specs.Prelude.{◌≡◌, ◌++◌, ◌∷◌, [], true, false, if◌then◌else◌, is_ok, Ok, Err};
+ghost use Rattle.std.specs.String.{string_bytes};
+ghost use Rattle.network_core.specs.Value.{NetValue};
+ghost use Rattle.event_lines.specs.Run.{has_end, line_end};
+ghost use Rattle.event_lines.specs.Talk.{Open, Unbegun};
+ghost use Rattle.event_lines.specs.Talking.{HearsAll, IsDone, Tells, last_lines, stage_of, value_of};
+
+use crate::cutting::cut_line;
+use crate::fault::RunFault;
+use crate::happening::answer_line;
+use network_core::Net;
+use refusal::OrMemory;
+use scion_topology::{Topology, TopologyFault};
+use std::alloc::{AllocError, Global};
+
+/// A run so far: its network, once the topology was read; the beginning of a line whose end has not
+/// come; and the replies that are still to be written.
+#[derive(Drop)]
+pub(crate) struct Talk {
+    pub(crate) net: Option<Net>,
+    pub(crate) rest: Vec<u8>,
+    pub(crate) replies: String,
+}
+
+/// Adds a reply and its end. After want of memory the replies are as they were.
+fn push_reply(alloc: Global, replies: &mut String, text: &str) -> Result<(), AllocError>
+    ensures { string_bytes replies.new ≡ (if is_ok result
+        then string_bytes replies.old ++ (text.now ++ line_end ∷ [])
+        else string_bytes replies.old) }
+{
+    let line = format!(in alloc; "{text}\n")?;
+    replies.push_str(&line)
+}
+
+/// Tells a network a line, and adds the reply.
+fn tell(alloc: Global, net: &mut Net, line: &[u8], replies: &mut String) -> Result<(), RunFault>
+    ensures { Tells (λ _. Open net.new) result (Open net.old) line.now
+        (string_bytes replies.old) (string_bytes replies.new) }
+{
+    let text = answer_line(alloc, net, line)?;
+    push_reply(alloc, replies, &text)?;
+    Ok(())
+}
+
+/// The network of the first line, and adds the reply. [`RunFault::Topology`] where the line is no
+/// topology.
+fn begin(alloc: Global, line: &[u8], replies: &mut String) -> Result<Net, RunFault>
+    ensures { Tells (λ net. Open net) result Unbegun line.now
+        (string_bytes replies.old) (string_bytes replies.new) }
+{
+    match Topology::from_json(alloc, line) {
+        Ok(topology) => {
+            push_reply(alloc, replies, "topology ok")?;
+            Ok(Net::new(alloc, topology))
+        }
+        Err(OrMemory::Refused(fault)) => {
+            let text = format!(in alloc; "topology no {} {}", fault.code(), fault.name())?;
+            push_reply(alloc, replies, &text)?;
+            Err(RunFault::Topology)
+        }
+        Err(OrMemory::Memory) => Err(RunFault::Memory),
+    }
+}
+
+impl Talk {
+    /// A run that has not begun.
+    pub(crate) fn new(alloc: Global) -> Talk
+        ensures { value_of result ≡ record { stage = Unbegun; rest = []; replies = [] } }
+    {
+        Talk {
+            net: None,
+            rest: Vec::new(alloc),
+            replies: String::new(alloc),
+        }
+    }
+
+    /// Whether a run has begun and nothing stands behind the last end.
+    pub(crate) fn is_done(&self) -> bool
+        ensures done { result ≡ true → (net : NetValue) × IsDone (value_of self.now) net }
+        ensures more { result ≡ false → last_lines (value_of self.now) ≡ self.now.rest.items ∷ [] }
+    {
+        match &self.net {
+            Some(_) => self.rest.is_empty(),
+            None => false,
+        }
+    }
+
+    /// Answers the line that has come, whose end is not among its bytes.
+    pub(crate) fn answer(&mut self, alloc: Global) -> Result<(), RunFault>
+        ensures told { Tells (λ _. stage_of self.new.net) result (stage_of self.old.net)
+            self.old.rest.items (string_bytes self.old.replies) (string_bytes self.new.replies) }
+        ensures rest { self.new.rest ≡ self.old.rest }
+    {
+        match &mut self.net {
+            Some(net) => tell(alloc, net, &self.rest, &mut self.replies),
+            None => {
+                let net = begin(alloc, &self.rest, &mut self.replies)?;
+                self.net = Some(net);
+                Ok(())
+            }
+        }
+    }
+
+    /// Answers each line that ends among these bytes, and keeps what stands behind the last.
+    pub(crate) fn hear(&mut self, alloc: Global, bytes: &[u8]) -> Result<(), RunFault>
+        requires { has_end self.old.rest.items ≡ false }
+        ensures { HearsAll result bytes.now (value_of self.old) (value_of self.new) }
+    {
+        let mut left = bytes;
+        while let Some((line, behind)) = cut_line(left) {
+            self.rest.extend_from_slice(line)?;
+            self.answer(alloc)?;
+            self.rest.clear();
+            left = behind;
+        }
+        self.rest.extend_from_slice(left)?;
+        Ok(())
+    }
+}

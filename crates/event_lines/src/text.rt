@@ -1,0 +1,168 @@
+//! What is told of events and of packets.
+
+ghost use Rattle.std.specs.Prelude.{◌≡◌, ◌++◌, IfOk, OnOk, flat_map, option_map};
+ghost use Rattle.std.specs.String.{string_bytes};
+ghost use Rattle.event_lines.specs.Text.{answer_in, answer_text, fault_text, hop_text, hops_text, outcome_text, packet_text, passed_text, path_text, paths_of, place_text, refusal_text, reply_text, turn_text};
+
+use combinator::Path;
+use forwarding::{Place, TurnReply};
+use network_core::{EventFault, Net, Packet, Reply};
+use policy_expr::WalkHop;
+use router_step::{Outcome, Refusal};
+use std::alloc::{AllocError, Global};
+
+/// A hop.
+fn hop(alloc: Global, hop: &WalkHop) -> Result<String, AllocError>
+    ensures { IfOk result (λ text. string_bytes text ≡ hop_text hop.now) }
+{
+    format!(in alloc; "{}#{},{}", hop.ia, hop.ingress, hop.egress)
+}
+
+/// Adds hops, with one space between two.
+fn push_hops(alloc: Global, text: &mut String, hops: &[WalkHop]) -> Result<(), AllocError>
+    ensures { OnOk result (string_bytes text.new ≡ string_bytes text.old ++ hops_text hops.now) }
+{
+    let Some((first, later)) = hops.split_first() else {
+        return Ok(());
+    };
+    text.push_str(hop(alloc, first)?.as_str())?;
+    for one in later {
+        text.push_str(" ")?;
+        text.push_str(hop(alloc, one)?.as_str())?;
+    }
+    Ok(())
+}
+
+/// A router's refusal.
+fn refusal(alloc: Global, refusal: Refusal) -> Result<String, AllocError>
+    ensures { IfOk result (λ text. string_bytes text ≡ refusal_text refusal) }
+{
+    match refusal {
+        Refusal::BadHeader(fault) => {
+            format!(in alloc; "90 BadHeader {} {}", fault.code(), fault.name())
+        }
+        _ => format!(in alloc; "{} {}", refusal.code(), refusal.name()),
+    }
+}
+
+/// Where a router's step leads.
+pub(crate) fn outcome(alloc: Global, outcome: Outcome) -> Result<String, AllocError>
+    ensures { IfOk result (λ text. string_bytes text ≡ outcome_text outcome) }
+{
+    match outcome {
+        Outcome::ToLink(interface) => format!(in alloc; "link {interface}"),
+        Outcome::ToRouter(router) => format!(in alloc; "router {router}"),
+        Outcome::Deliver => String::from_str(alloc, "delivered"),
+    }
+}
+
+/// A turn.
+fn turn(alloc: Global, reply: TurnReply) -> Result<String, AllocError>
+    ensures { IfOk result (λ text. string_bytes text ≡ turn_text reply) }
+{
+    match reply {
+        TurnReply::Went(went) => outcome(alloc, went),
+        TurnReply::Refused(cause) => {
+            let cause = refusal(alloc, cause)?;
+            format!(in alloc; "refused {}", cause.as_str())
+        }
+        TurnReply::Still => String::from_str(alloc, "ok"),
+    }
+}
+
+/// An event that is refused.
+fn fault(alloc: Global, fault: EventFault) -> Result<String, AllocError>
+    ensures { IfOk result (λ text. string_bytes text ≡ fault_text fault) }
+{
+    format!(in alloc; "no {} {}", fault.code(), fault.name())
+}
+
+/// Adds the walk of each path of an answer.
+fn push_paths(alloc: Global, text: &mut String, paths: &[Path]) -> Result<(), AllocError>
+    ensures { OnOk result (string_bytes text.new
+        ≡ string_bytes text.old ++ flat_map path_text paths.now) }
+{
+    for path in paths {
+        text.push_str("; ")?;
+        push_hops(alloc, text, path.walk())?;
+    }
+    Ok(())
+}
+
+/// An answer of this number.
+fn answer(alloc: Global, number: usize, paths: &[Path]) -> Result<String, AllocError>
+    ensures { IfOk result (λ text. string_bytes text ≡ answer_text number paths.now) }
+{
+    let mut text = format!(in alloc; "ask {number} {}", paths.len())?;
+    push_paths(alloc, &mut text, paths)?;
+    Ok(text)
+}
+
+/// The paths of the answer of this number.
+fn paths_in(net: &Net, number: usize) -> &[Path]
+    ensures { result.now ≡ paths_of (answer_in net.now number) }
+{
+    match net.answer(number) {
+        Some(list) => list.paths(),
+        None => &[],
+    }
+}
+
+/// What an event is answered, in the network after it.
+pub(crate) fn reply(alloc: Global, net: &Net, reply: Reply) -> Result<String, AllocError>
+    ensures { IfOk result (λ text. string_bytes text ≡ reply_text net.now reply) }
+{
+    match reply {
+        Reply::Done => String::from_str(alloc, "ok"),
+        Reply::Begun(beacon) => format!(in alloc; "beacon {beacon}"),
+        Reply::Registered(true) => String::from_str(alloc, "segment new"),
+        Reply::Registered(false) => String::from_str(alloc, "segment known"),
+        Reply::Swept(count) => format!(in alloc; "swept {count}"),
+        Reply::Answered(number) => answer(alloc, number, paths_in(net, number)),
+        Reply::Sent(packet) => format!(in alloc; "packet {packet}"),
+        Reply::Turned(turned) => turn(alloc, turned),
+        Reply::Refused(cause) => fault(alloc, cause),
+    }
+}
+
+/// Where a packet is.
+fn place(alloc: Global, place: Place) -> Result<String, AllocError>
+    ensures { IfOk result (λ text. string_bytes text ≡ place_text place) }
+{
+    match place {
+        Place::AtRouter(stop) => format!(in alloc; "at {} {}", stop.ia, stop.router),
+        Place::Delivered => String::from_str(alloc, "delivered"),
+        Place::Refused(ia, router, cause) => {
+            let cause = refusal(alloc, cause)?;
+            format!(in alloc; "refused {ia} {router} {}", cause.as_str())
+        }
+        Place::Lost => String::from_str(alloc, "lost"),
+    }
+}
+
+/// Adds the hops that a packet has passed.
+fn push_passed(alloc: Global, text: &mut String, passed: &[WalkHop]) -> Result<(), AllocError>
+    ensures { OnOk result (string_bytes text.new
+        ≡ string_bytes text.old ++ passed_text passed.now) }
+{
+    if passed.is_empty() {
+        return Ok(());
+    }
+    text.push_str("; ")?;
+    push_hops(alloc, text, passed)
+}
+
+/// What is told of a packet: where it is, and which hops it has passed.
+pub(crate) fn packet(alloc: Global, packet: Option<&Packet>) -> Result<String, AllocError>
+    ensures { IfOk result (λ text. string_bytes text
+        ≡ packet_text (option_map (λ p. p.now) packet.entry)) }
+{
+    match packet {
+        None => String::from_str(alloc, "no 130 NoPacket"),
+        Some(packet) => {
+            let mut text = place(alloc, packet.place())?;
+            push_passed(alloc, &mut text, packet.passed())?;
+            Ok(text)
+        }
+    }
+}
