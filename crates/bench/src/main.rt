@@ -7,6 +7,7 @@
 ghost use Rattle.std.specs.Prelude.{◌<◌};
 
 mod answers;
+mod lines;
 mod network;
 
 use anyhow::{Context, Result, anyhow};
@@ -70,8 +71,8 @@ fn views(alloc: Global, count: u32) -> Result<u64> {
     Ok(sum)
 }
 
-/// Does the work of this name so many times. Answers are of up to so many paths, the first three of
-/// 32 paths that there are and the others of 2048.
+/// Does the work of this name so many times; lines are ten times as many. Answers are of up to so
+/// many paths, the first three of 32 paths that there are and the others of 2048.
 fn work(alloc: Global, name: &str, count: u32) -> Result<u64> {
     match name {
         "read" => read(alloc, count),
@@ -83,6 +84,7 @@ fn work(alloc: Global, name: &str, count: u32) -> Result<u64> {
         "answers-1-of-2048" => answers::answers(alloc, 4, 1, count),
         "answers-8-of-2048" => answers::answers(alloc, 4, 8, count),
         "answers-64-of-2048" => answers::answers(alloc, 4, 64, count),
+        "lines" => lines::lines(alloc, count),
         _ => Err(anyhow!("there is no work of this name")),
     }
 }

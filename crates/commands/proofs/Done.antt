@@ -1,5 +1,5 @@
--- What is answered of one router's turn, and of words that are refused.
-use Rattle.std.proofs.Common.{◌≡◌, sym, ap, subst, refl, true, false, ℕ, Bool, List, [], Option, Some, None, arith}
+-- What is answered of one router's turn, of a network's run, and of words that are refused.
+use Rattle.std.proofs.Common.{◌≡◌, sym, ap, subst, refl, true, false, ℕ, Bool, List, [], Option, Some, None, arith, ◌∙◌, append-nil}
 use Rattle.std.proofs.Math.Bool.{or-false}
 use Rattle.std.specs.Prelude.{Result, Ok, Err, IsErrAnd}
 use Rattle.std.specs.Io.KnownBytes.{Appends, Consumes, Keeps}
@@ -12,6 +12,9 @@ use Rattle.step_line.specs.declared.fault.StepFault.TheVariants as step
 use Rattle.step_line.specs.Turn.{Turn}
 use Rattle.step_line.specs.Line.{line_of}
 use Rattle.step_line.specs.Fault.{Prints as StepPrints}
+use Rattle.event_lines.specs.declared.fault.RunFault.TheVariants as run
+use Rattle.event_lines.specs.Run.{Runs}
+use Rattle.event_lines.specs.Talk.{Unbegun}
 use Rattle.commands.specs.declared.command.Command.{Command}
 use Rattle.commands.specs.declared.command.Command.TheVariants as command
 use Rattle.commands.specs.declared.fault.WordsFault.{WordsFault}
@@ -52,25 +55,49 @@ pub Prints-unwritten : {A : Type 0} (answer : Result A CommandFault) (line : Opt
 Prints-unwritten (Ok x) line text bytes sink is some whole front flag = absurd is
 Prints-unwritten (Err e) line text bytes sink is some whole front flag = rw (is, some, ← whole) (front, flag)
 
--- words that are refused are, before anything is read
 Consumes-none : (old new : Option (List ℕ)) → Keeps old new → Consumes old new []
 Consumes-none None new keeps = tt
 Consumes-none (Some x) None keeps = absurd keeps
 Consumes-none (Some x) (Some y) keeps = sym keeps
 
-Does-memory : (A : Type 0) (asked : Option Command) (source sink : Change) → IsStill source → IsStill sink
-    → Does {A = A} (Err Memory) asked source sink
-Does-memory A None source sink still quiet = (tt, (still, quiet))
-Does-memory A (Some command.Run) source sink still quiet = (tt, (still, quiet))
-Does-memory A (Some (command.Step turn)) source sink still quiet =
+-- so is want of memory before a network's first line is read
+Appends-none : (old new : Option (List ℕ)) → Keeps old new → Appends old new []
+Appends-none None new keeps = tt
+Appends-none (Some x) None keeps = absurd keeps
+Appends-none (Some x) (Some y) keeps = keeps ∙ sym (append-nil x)
+
+Runs-unbegun : (before after held holds : Option (List ℕ)) → Keeps before after → Keeps held holds
+    → Runs (Err run.Memory) before after held holds
+Runs-unbegun before after held holds still quiet = (
+  [],
+  [],
+  (
+    Consumes-none before after still,
+    (
+      Appends-none held holds quiet,
+      (
+        omega arith,
+        ([], Unbegun, (([], [], record { whole = refl; apart = refl; last = refl }), ([], ((refl, refl), refl)))),
+      ),
+    ),
+  ),
+)
+
+Does-memory : (asked : Option Command) (source sink : Change) → IsStill source → IsStill sink
+    → Does (Err Memory) asked source sink
+Does-memory None source sink still quiet = (tt, (still, quiet))
+Does-memory (Some command.Run) source sink still quiet =
+    (Err run.Memory, (refl, (Runs-unbegun source.old source.new sink.old sink.new still.0 quiet.0, (still.1, quiet.1))))
+Does-memory (Some (command.Step turn)) source sink still quiet =
     (Err input.Memory, ((([], (Consumes-none _ _ still.0, omega arith)), still.1), (refl, quiet)))
 
-pub Does-refused : {A : Type 0} (answer : Result A CommandFault) (fault : WordsFault) (asked : Option Command) (source sink : Change)
+-- words that are refused are answered before anything is read
+pub Does-refused : (answer : Result (Unit {0}) CommandFault) (fault : WordsFault) (asked : Option Command) (source sink : Change)
     → IsErrAnd answer (λ e. e ≡ of_words fault) → Asks (Err fault) asked → IsStill source → IsStill sink
     → Does answer asked source sink
 Does-refused (Ok x) fault asked source sink is refused still quiet = absurd is
 Does-refused (Err e) (words.Usage text) asked source sink is refused still quiet = rw (is, refused) (tt, (still, quiet))
-Does-refused (Err e) words.Memory asked source sink is refused still quiet = rw is (Does-memory _ asked source sink still quiet)
+Does-refused (Err e) words.Memory asked source sink is refused still quiet = rw is (Does-memory asked source sink still quiet)
 
 -- a turn of which the input was read answers its line
 pub Steps-read : {A : Type 0} (answer : Result A CommandFault) (turn : Turn) (source sink : Change) (bytes text : List ℕ)

@@ -8,13 +8,15 @@ use Rattle.streams.specs.declared.fault.InputFault.{InputFault}
 use Rattle.streams.specs.declared.fault.InputFault.TheVariants as input
 use Rattle.step_line.specs.declared.fault.StepFault.{StepFault}
 use Rattle.step_line.specs.declared.fault.StepFault.TheVariants as step
+use Rattle.event_lines.specs.declared.fault.RunFault.{RunFault}
+use Rattle.event_lines.specs.declared.fault.RunFault.TheVariants as run
 use Rattle.step_line.specs.Turn.{Turn}
 use Rattle.step_line.specs.Line.{line_of}
 use Rattle.commands.specs.declared.command.Command.{Command}
 use Rattle.commands.specs.declared.fault.WordsFault.{WordsFault}
 use Rattle.commands.specs.declared.fault.WordsFault.TheVariants as words
 use Rattle.commands.specs.declared.fault.CommandFault.{CommandFault}
-use Rattle.commands.specs.declared.fault.CommandFault.TheVariants.{Usage, PacketText, Read, Write, InputTooLong, Memory}
+use Rattle.commands.specs.declared.fault.CommandFault.TheVariants.{Usage, PacketText, Topology, Read, Write, InputTooLong, Memory}
 use Rattle.commands.specs.declared.status.Status.{Status}
 use Rattle.commands.specs.declared.status.Status.TheVariants.{Done, Failed, Refused}
 
@@ -70,10 +72,19 @@ abbrev pub of_step : StepFault → CommandFault
 of_step step.PacketText = PacketText
 of_step step.Memory = Memory
 
+-- the fault of a network's run that ended before its input did
+abbrev pub of_run : RunFault → CommandFault
+of_run run.Topology = Topology
+of_run run.Read = Read
+of_run run.Write = Write
+of_run run.Memory = Memory
+of_run run.InputTooLong = InputTooLong
+
 -- what is told of a fault on standard error
 abbrev pub told_of : CommandFault → List ℕ
 told_of (Usage text) = string_bytes text
 told_of PacketText = codes "scionet: bad packet text\n"
+told_of Topology = codes "scionet: topology refused\n"
 told_of Memory = codes "scionet: out of memory\n"
 told_of Read = codes "scionet: read failed\n"
 told_of Write = codes "scionet: write failed\n"

@@ -5,13 +5,15 @@ use Rattle.streams.specs.declared.fault.InputFault.{InputFault}
 use Rattle.streams.specs.Streams.{AppendsFront, ReadsAll, is_failed_read}
 use Rattle.step_line.specs.Turn.{Turn}
 use Rattle.step_line.specs.Line.{line_of}
+use Rattle.event_lines.specs.declared.fault.RunFault.{RunFault}
+use Rattle.event_lines.specs.Run.{Runs, is_read_fault, is_write_fault}
 use Rattle.commands.specs.declared.command.Command.{Command}
 use Rattle.commands.specs.declared.command.Command.TheVariants as command
 use Rattle.commands.specs.declared.fault.CommandFault.{CommandFault}
 use Rattle.commands.specs.declared.fault.CommandFault.TheVariants.{Usage, PacketText, Write, Memory}
 use Rattle.commands.specs.declared.status.Status.{Status}
 use Rattle.commands.specs.declared.status.Status.TheVariants.{Done}
-use Rattle.commands.specs.Fault.{of_input, status_of, told_of}
+use Rattle.commands.specs.Fault.{of_input, of_run, status_of, told_of}
 
 -- ---- streams
 
@@ -76,6 +78,20 @@ abbrev pub Steps : {A : Type 0} → Result A CommandFault → Turn → Change �
 Steps answer turn source sink =
     (read : Result (List ℕ) InputFault) × (ReadsInput read source × PrintsOf answer turn read sink)
 
+-- ---- a network's run
+
+-- what a run of lines is answered
+abbrev pub after_run : Result (Unit {0}) RunFault → Result (Unit {0}) CommandFault
+after_run (Ok done) = Ok done
+after_run (Err fault) = Err (of_run fault)
+
+-- a network's run: the lines of the source are answered on the sink, or why not
+abbrev pub AnswersLines : Result (Unit {0}) CommandFault → Change → Change → Type 0
+AnswersLines answer source sink = (run : Result (Unit {0}) RunFault)
+    × ((answer ≡ after_run run)
+    × (Runs run source.old source.new sink.old sink.new
+    × (SetsFlag source (is_read_fault run) × SetsFlag sink (is_write_fault run))))
+
 -- ---- the program
 
 -- the words are refused, or memory ran out
@@ -88,11 +104,10 @@ IsRefusal answer = ⊥
 abbrev pub Refuses : {A : Type 0} → Result A CommandFault → Change → Change → Type 0
 Refuses answer source sink = IsRefusal answer × (IsStill source × IsStill sink)
 
--- what the words ask for was done, or why not; words that ask for nothing are refused, and the
--- command `run`, which is not here yet, as they are
-abbrev pub Does : {A : Type 0} → Result A CommandFault → Option Command → Change → Change → Type 0
+-- what the words ask for was done, or why not; words that ask for nothing are refused
+abbrev pub Does : Result (Unit {0}) CommandFault → Option Command → Change → Change → Type 0
 Does answer None source sink = Refuses answer source sink
-Does answer (Some command.Run) source sink = Refuses answer source sink
+Does answer (Some command.Run) source sink = AnswersLines answer source sink
 Does answer (Some (command.Step turn)) source sink = Steps answer turn source sink
 
 -- a fault is told of on standard error, whole where no write of it failed

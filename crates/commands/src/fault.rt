@@ -1,9 +1,10 @@
 ghost use Rattle.std.specs.Prelude.{◌≡◌};
-ghost use Rattle.commands.specs.Fault.{IsWordsFault, of_input, of_step, of_words, status_of, told_of};
+ghost use Rattle.commands.specs.Fault.{IsWordsFault, of_input, of_run, of_step, of_words, status_of, told_of};
 ghost use Rattle.commands.specs.declared.fault.CommandFault.TheVariants as command;
 ghost use Rattle.commands.specs.declared.fault.WordsFault.TheVariants as words;
 
 use crate::status::Status;
+use event_lines::RunFault;
 use std::alloc::{AllocError, Global};
 use std::io;
 use std::io::ErrorKind;
@@ -62,6 +63,9 @@ pub enum CommandFault {
     /// The packet's text is not hexadecimal digits, two for each byte.
     #[error("scionet: bad packet text")]
     PacketText,
+    /// The first line of standard input is no topology.
+    #[error("scionet: topology refused")]
+    Topology,
     /// A read of standard input failed.
     #[error("scionet: read failed")]
     Read,
@@ -95,6 +99,7 @@ impl CommandFault {
         match self {
             CommandFault::Usage(text) => text.as_str(),
             CommandFault::PacketText => "scionet: bad packet text\n",
+            CommandFault::Topology => "scionet: topology refused\n",
             CommandFault::Read => "scionet: read failed\n",
             CommandFault::Write => "scionet: write failed\n",
             CommandFault::InputTooLong => "scionet: input too long\n",
@@ -133,6 +138,20 @@ impl From<StepFault> for CommandFault {
         match fault {
             StepFault::PacketText => CommandFault::PacketText,
             StepFault::Memory => CommandFault::Memory,
+        }
+    }
+}
+
+impl From<RunFault> for CommandFault {
+    ghost from_gives = { λ fault e. e ≡ of_run fault };
+
+    fn from(fault: RunFault) -> CommandFault {
+        match fault {
+            RunFault::Topology => CommandFault::Topology,
+            RunFault::Read => CommandFault::Read,
+            RunFault::Write => CommandFault::Write,
+            RunFault::Memory => CommandFault::Memory,
+            RunFault::InputTooLong => CommandFault::InputTooLong,
         }
     }
 }

@@ -3,12 +3,13 @@
 ghost use Rattle.std.specs.Prelude.{◌≡◌, IfErr, map};
 ghost use Rattle.commands.specs.Words.{asked};
 ghost use Rattle.commands.specs.Fault.{status_of};
-ghost use Rattle.commands.specs.Run.{Does, Ends, IsRefusal, Steps, TellsOf, change_of};
+ghost use Rattle.commands.specs.Run.{AnswersLines, Does, Ends, Steps, TellsOf, change_of};
 ghost use Rattle.commands.specs.declared.status.Status.TheVariants.{Done, Refused};
 
 use crate::command::Command;
-use crate::fault::{CommandFault, WordsFault};
+use crate::fault::CommandFault;
 use crate::status::Status;
+use event_lines::run_lines;
 use std::alloc::Global;
 use step_line::StepCommand;
 use streams::{Sink, Source, read_all, write_all};
@@ -33,21 +34,27 @@ fn run_step<S: Source, K: Sink>(
     Ok(())
 }
 
-/// The network that the source's lines tell of, which is not here yet: refused as words are.
-fn run_network(alloc: Global) -> Result<(), CommandFault>
-    ensures { IsRefusal result }
+/// The network that the source's lines tell of: it answers each by a line.
+fn run_network<S: Source, K: Sink>(
+    alloc: Global,
+    source: &mut S,
+    sink: &mut K,
+) -> Result<(), CommandFault>
+    ensures { AnswersLines result (change_of S.left S.failed source.old source.new)
+        (change_of K.held K.failed sink.old sink.new) }
 {
-    Err(CommandFault::from(WordsFault::no_command(alloc)))
+    run_lines(alloc, source, sink)?;
+    Ok(())
 }
 
 /// Does what these words behind the program's name ask for: it reads the source to its end and
 /// writes the lines of the answer to the sink.
 ///
-/// The words are judged before anything is read. [`CommandFault::Usage`] as in [`Command::parse`],
-/// and where they ask for `run`, which is not here yet; [`CommandFault::Read`] and
-/// [`CommandFault::Write`] exactly where a call of it failed the source or the sink;
-/// [`CommandFault::InputTooLong`] where byte 67,108,865 is read; [`CommandFault::PacketText`] as in
-/// [`StepCommand::line`]; [`CommandFault::Memory`] for want of memory.
+/// The words are judged before anything is read. [`CommandFault::Usage`] as in [`Command::parse`];
+/// [`CommandFault::Read`] and [`CommandFault::Write`] exactly where a call of it failed the source
+/// or the sink; [`CommandFault::InputTooLong`] where byte 67,108,865 is read;
+/// [`CommandFault::PacketText`] as in [`StepCommand::line`]; [`CommandFault::Topology`] as in
+/// [`run_lines`], after its answer; [`CommandFault::Memory`] for want of memory.
 pub fn execute<'a, S: Source, K: Sink>(
     alloc: Global,
     words: &'a [&'a str],
@@ -62,7 +69,7 @@ pub fn execute<'a, S: Source, K: Sink>(
 {
     match Command::parse(alloc, words)? {
         Command::Step(command) => run_step(alloc, &command, source, sink),
-        Command::Run => run_network(alloc),
+        Command::Run => run_network(alloc, source, sink),
     }
 }
 

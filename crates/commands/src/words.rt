@@ -10,11 +10,17 @@ use std::alloc::{AllocError, Global};
 
 /// What stands at the end of the program's long help.
 static PROGRAM_HELP: &str = "\
-Without a command, 'run' is meant. Times are seconds since 1970, keys and packets hexadecimal \
-digits, two for each byte, and an AS is written as 1-ff00:0:111.
+Without a command, 'run' is meant. Times are seconds since 1970, keys, payloads and packets \
+hexadecimal digits, two for each byte, and an AS is written as 1-ff00:0:111.
 
 The status is 0 where the command was done, 2 where the words are refused or ask for help, and 1 \
 after any other fault. What is wrong is told on standard error.
+
+Example: a network of one AS, in which it becomes second 1000; answered by 'topology ok' and 'ok'
+  printf '%s\\n' \\
+    '{\"ases\":[{\"ia\":\"1-ff00:0:110\",\"core\":true,\"exp\":63,\"key\":\"6b\",\"routers\":1}],\
+\"links\":[]}' \\
+    '{\"do\":\"tick\",\"now\":1000}' | scionet
 
 Example: at second 21701, a packet that stands in the file packet.hex and came from a host
   scionet step --ia 1-ff00:0:111 --router 0 --key 6b --now 21701 \
@@ -34,25 +40,45 @@ Example: at second 100, a packet of a host leaves 1-ff00:0:111 over interface 2,
 
 /// What stands at the end of the long help of `run`.
 static RUN_HELP: &str = "\
-Standard input has a topology on its first line and an event on each line after it, each a JSON \
-object, at most 67,108,864 bytes in all. Each line is answered by a line. 'now' is in seconds \
-since 1970, 'exp' a lifetime of (exp + 1) times 337.5 seconds, 'key' 1 to 64 bytes and 'payload' \
-up to 1,024 bytes, both in hexadecimal.
+Standard input has a topology on its first line, and on each line after it an event of its network \
+or the question 'show', each a JSON object; at most 67,108,864 bytes in all. A line is answered by \
+a line before more is read: the topology by 'topology ok', an event by what came of it, or by 'no \
+CODE NAME' where it is refused. A topology that is refused is answered by 'topology no CODE NAME' \
+and ends the run.
+
+The member 'do' is the event's word; these are the words with the other members:
+  tick now                  originate ia egress beta0  extend beacon ia egress
+  terminate beacon ia       sweep                      ask src dst limit
+  send ask path payload     turn packet                show packet
+  back packet payload       lose packet                alter packet at xor
+  cut ia if                 mend ia if                 rotate ia key
+
+Beacons, answers, their paths and packets are named by their numbers, from 0. 'now' is in seconds \
+since 1970, 'exp' a lifetime of (exp + 1) times 337.5 seconds, 'limit' 1 to 64 paths, 'key' 1 to \
+64 bytes and 'payload' up to 1,024 bytes, both in hexadecimal. An 'ask' may have a policy: 'acl', \
+a list of texts, and 'sequence', a text; or 'options', a list of objects with these and 'weight'.
 
 Example: a packet from an AS to its parent, delivered in two turns
-  scionet run <<END
-  {\"ases\":[{\"ia\":\"1-ff00:0:110\",\"core\":true,\"exp\":63,\"key\":\"6b\",\"routers\":1},\
+  printf '%s\\n' \\
+    '{\"ases\":[{\"ia\":\"1-ff00:0:110\",\"core\":true,\"exp\":63,\"key\":\"6b\",\"routers\":1},\
 {\"ia\":\"1-ff00:0:111\",\"core\":false,\"exp\":63,\"key\":\"6c\",\"routers\":1}],\
 \"links\":[{\"kind\":\"child\",\"a\":{\"ia\":\"1-ff00:0:110\",\"if\":1,\"router\":0},\
-\"b\":{\"ia\":\"1-ff00:0:111\",\"if\":2,\"router\":0}}]}
-  {\"do\":\"tick\",\"now\":1000}
-  {\"do\":\"originate\",\"ia\":\"1-ff00:0:110\",\"egress\":1,\"beta0\":4660}
-  {\"do\":\"terminate\",\"beacon\":0,\"ia\":\"1-ff00:0:111\"}
-  {\"do\":\"ask\",\"src\":\"1-ff00:0:111\",\"dst\":\"1-ff00:0:110\",\"limit\":1}
-  {\"do\":\"send\",\"ask\":0,\"path\":0,\"payload\":\"6869\"}
-  {\"do\":\"turn\",\"packet\":0}
-  {\"do\":\"turn\",\"packet\":0}
-  END";
+\"b\":{\"ia\":\"1-ff00:0:111\",\"if\":2,\"router\":0}}]}' \\
+    '{\"do\":\"tick\",\"now\":1000}' \\
+    '{\"do\":\"originate\",\"ia\":\"1-ff00:0:110\",\"egress\":1,\"beta0\":4660}' \\
+    '{\"do\":\"terminate\",\"beacon\":0,\"ia\":\"1-ff00:0:111\"}' \\
+    '{\"do\":\"ask\",\"src\":\"1-ff00:0:111\",\"dst\":\"1-ff00:0:110\",\"limit\":1}' \\
+    '{\"do\":\"send\",\"ask\":0,\"path\":0,\"payload\":\"6869\"}' \\
+    '{\"do\":\"turn\",\"packet\":0}' '{\"do\":\"turn\",\"packet\":0}' | scionet run
+which is answered by
+  topology ok
+  ok
+  beacon 0
+  segment new
+  ask 0 1; 1-ff00:0:111#0,2 1-ff00:0:110#1,0
+  packet 0
+  link 2
+  delivered";
 
 /// An option that has a value and must be given.
 fn option<'a>(alloc: Global, name: &'a str, value: &'a str, help: &'a str) -> Arg<'a>
