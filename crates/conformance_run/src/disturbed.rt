@@ -1,6 +1,7 @@
 //! Packets on whose way something happens: each premise of the delivery theorem left out, and the
 //! same happening beside a packet that keeps them all.
 
+use crate::scripts::{fork, pair_sent, wide_fork};
 use crate::table::{row_sent, row_turns, talk};
 use std::test::Fail;
 
@@ -135,6 +136,54 @@ fn others_are_disturbed(rt: HostRuntime) -> Result<(), Fail> {
                 r#"{"do":"show","packet":0}"#,
                 "delivered; 1-ff00:0:112#0,1 1-ff00:0:111#2,1 1-ff00:0:110#1,0",
             ),
+        ],
+    )?;
+    assert_eq!(rt; answers.as_str(), wanted.as_str());
+    Ok(())
+}
+
+#[test]
+fn others_are_disturbed_between_two_cores(rt: HostRuntime) -> Result<(), Fail> {
+    let (answers, wanted) = talk(
+        rt.alloc(),
+        &pair_sent(),
+        &[
+            (
+                r#"{"do":"send","ask":0,"path":0,"payload":"00"}"#,
+                "packet 1",
+            ),
+            (r#"{"do":"turn","packet":0}"#, "link 1"),
+            (r#"{"do":"turn","packet":0}"#, "router 0"),
+            (r#"{"do":"rotate","ia":"2-ff00:0:210","key":"6c"}"#, "ok"),
+            (r#"{"do":"turn","packet":0}"#, "link 1"),
+            (r#"{"do":"alter","packet":1,"at":0,"xor":1}"#, "ok"),
+            (r#"{"do":"turn","packet":0}"#, "router 1"),
+            (r#"{"do":"turn","packet":0}"#, "link 2"),
+            (r#"{"do":"turn","packet":0}"#, "router 1"),
+            (r#"{"do":"lose","packet":1}"#, "ok"),
+            (r#"{"do":"turn","packet":0}"#, "link 2"),
+            (r#"{"do":"turn","packet":0}"#, "router 1"),
+            (r#"{"do":"turn","packet":0}"#, "link 2"),
+            (r#"{"do":"turn","packet":0}"#, "delivered"),
+        ],
+    )?;
+    assert_eq!(rt; answers.as_str(), wanted.as_str());
+    Ok(())
+}
+
+#[test]
+fn links_beside_a_shortcut_are_cut(rt: HostRuntime) -> Result<(), Fail> {
+    let (answers, wanted) = talk(
+        rt.alloc(),
+        &fork(wide_fork()),
+        &[
+            (r#"{"do":"cut","ia":"1-ff00:0:110","if":1}"#, "ok"),
+            (r#"{"do":"turn","packet":0}"#, "link 1"),
+            (r#"{"do":"rotate","ia":"1-ff00:0:111","key":"6c"}"#, "ok"),
+            (r#"{"do":"turn","packet":0}"#, "router 1"),
+            (r#"{"do":"mend","ia":"1-ff00:0:111","if":1}"#, "ok"),
+            (r#"{"do":"turn","packet":0}"#, "link 3"),
+            (r#"{"do":"turn","packet":0}"#, "delivered"),
         ],
     )?;
     assert_eq!(rt; answers.as_str(), wanted.as_str());

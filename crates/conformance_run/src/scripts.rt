@@ -5,7 +5,7 @@ use std::test::Fail;
 
 /// Two core ASes, each with a child, and that with another, two routers each, up to a packet from
 /// one end to the other.
-fn pair_sent() -> [Row; 12] {
+pub(crate) fn pair_sent() -> [Row; 12] {
     [
         (
             r#"{"ases":[{"ia":"1-ff00:0:110","core":true,"exp":63,"key":"6b","routers":2},{"ia":"1-ff00:0:111","core":false,"exp":63,"key":"6b","routers":2},{"ia":"1-ff00:0:112","core":false,"exp":63,"key":"6b","routers":2},{"ia":"2-ff00:0:210","core":true,"exp":63,"key":"6b","routers":2},{"ia":"2-ff00:0:211","core":false,"exp":63,"key":"6b","routers":2},{"ia":"2-ff00:0:212","core":false,"exp":63,"key":"6b","routers":2}],"links":[{"kind":"child","a":{"ia":"1-ff00:0:110","if":1,"router":0},"b":{"ia":"1-ff00:0:111","if":1,"router":0}},{"kind":"child","a":{"ia":"1-ff00:0:111","if":2,"router":1},"b":{"ia":"1-ff00:0:112","if":1,"router":0}},{"kind":"core","a":{"ia":"1-ff00:0:110","if":2,"router":1},"b":{"ia":"2-ff00:0:210","if":1,"router":0}},{"kind":"child","a":{"ia":"2-ff00:0:210","if":2,"router":1},"b":{"ia":"2-ff00:0:211","if":1,"router":0}},{"kind":"child","a":{"ia":"2-ff00:0:211","if":2,"router":1},"b":{"ia":"2-ff00:0:212","if":1,"router":0}}]}"#,
@@ -52,9 +52,18 @@ fn pair_sent() -> [Row; 12] {
     ]
 }
 
-/// A core AS, its child, and two children of that: up to an answer from one of them to the other.
-/// The middle AS has this many routers, and its last interface belongs to the last of them.
-fn fork(topology: &'static str) -> [Row; 9] {
+/// A core AS, its child, and two children of that, with one router each.
+fn narrow_fork() -> &'static str {
+    r#"{"ases":[{"ia":"1-ff00:0:110","core":true,"exp":63,"key":"6b","routers":1},{"ia":"1-ff00:0:111","core":false,"exp":63,"key":"6b","routers":1},{"ia":"1-ff00:0:112","core":false,"exp":63,"key":"6b","routers":1},{"ia":"1-ff00:0:113","core":false,"exp":63,"key":"6b","routers":1}],"links":[{"kind":"child","a":{"ia":"1-ff00:0:110","if":1,"router":0},"b":{"ia":"1-ff00:0:111","if":1,"router":0}},{"kind":"child","a":{"ia":"1-ff00:0:111","if":2,"router":0},"b":{"ia":"1-ff00:0:112","if":1,"router":0}},{"kind":"child","a":{"ia":"1-ff00:0:111","if":3,"router":0},"b":{"ia":"1-ff00:0:113","if":1,"router":0}}]}"#
+}
+
+/// The same with two routers in the middle AS, of which the second has the way to the last.
+pub(crate) fn wide_fork() -> &'static str {
+    r#"{"ases":[{"ia":"1-ff00:0:110","core":true,"exp":63,"key":"6b","routers":1},{"ia":"1-ff00:0:111","core":false,"exp":63,"key":"6b","routers":2},{"ia":"1-ff00:0:112","core":false,"exp":63,"key":"6b","routers":1},{"ia":"1-ff00:0:113","core":false,"exp":63,"key":"6b","routers":1}],"links":[{"kind":"child","a":{"ia":"1-ff00:0:110","if":1,"router":0},"b":{"ia":"1-ff00:0:111","if":1,"router":0}},{"kind":"child","a":{"ia":"1-ff00:0:111","if":2,"router":0},"b":{"ia":"1-ff00:0:112","if":1,"router":0}},{"kind":"child","a":{"ia":"1-ff00:0:111","if":3,"router":1},"b":{"ia":"1-ff00:0:113","if":1,"router":0}}]}"#
+}
+
+/// A packet from one of the children to the other, over this topology, up to its sending.
+pub(crate) fn fork(topology: &'static str) -> [Row; 9] {
     [
         (topology, "topology ok"),
         (r#"{"do":"tick","now":1000}"#, "ok"),
@@ -176,9 +185,7 @@ fn asks_between_all_kinds_of_ends(rt: HostRuntime) -> Result<(), Fail> {
 fn shortcut_through_one_router(rt: HostRuntime) -> Result<(), Fail> {
     let (answers, wanted) = talk(
         rt.alloc(),
-        &fork(
-            r#"{"ases":[{"ia":"1-ff00:0:110","core":true,"exp":63,"key":"6b","routers":1},{"ia":"1-ff00:0:111","core":false,"exp":63,"key":"6b","routers":1},{"ia":"1-ff00:0:112","core":false,"exp":63,"key":"6b","routers":1},{"ia":"1-ff00:0:113","core":false,"exp":63,"key":"6b","routers":1}],"links":[{"kind":"child","a":{"ia":"1-ff00:0:110","if":1,"router":0},"b":{"ia":"1-ff00:0:111","if":1,"router":0}},{"kind":"child","a":{"ia":"1-ff00:0:111","if":2,"router":0},"b":{"ia":"1-ff00:0:112","if":1,"router":0}},{"kind":"child","a":{"ia":"1-ff00:0:111","if":3,"router":0},"b":{"ia":"1-ff00:0:113","if":1,"router":0}}]}"#,
-        ),
+        &fork(narrow_fork()),
         &[
             (r#"{"do":"turn","packet":0}"#, "link 1"),
             (r#"{"do":"turn","packet":0}"#, "link 3"),
@@ -194,9 +201,7 @@ fn shortcut_through_one_router(rt: HostRuntime) -> Result<(), Fail> {
 fn shortcut_through_two_routers(rt: HostRuntime) -> Result<(), Fail> {
     let (answers, wanted) = talk(
         rt.alloc(),
-        &fork(
-            r#"{"ases":[{"ia":"1-ff00:0:110","core":true,"exp":63,"key":"6b","routers":1},{"ia":"1-ff00:0:111","core":false,"exp":63,"key":"6b","routers":2},{"ia":"1-ff00:0:112","core":false,"exp":63,"key":"6b","routers":1},{"ia":"1-ff00:0:113","core":false,"exp":63,"key":"6b","routers":1}],"links":[{"kind":"child","a":{"ia":"1-ff00:0:110","if":1,"router":0},"b":{"ia":"1-ff00:0:111","if":1,"router":0}},{"kind":"child","a":{"ia":"1-ff00:0:111","if":2,"router":0},"b":{"ia":"1-ff00:0:112","if":1,"router":0}},{"kind":"child","a":{"ia":"1-ff00:0:111","if":3,"router":1},"b":{"ia":"1-ff00:0:113","if":1,"router":0}}]}"#,
-        ),
+        &fork(wide_fork()),
         &[
             (r#"{"do":"turn","packet":0}"#, "link 1"),
             (r#"{"do":"turn","packet":0}"#, "router 1"),

@@ -21,6 +21,7 @@ fn sentences(rt: HostRuntime) -> Result<(), Fail> {
     assert!(rt; is_sentence(alloc, &StepFault::PacketText, "bad packet text")?);
     assert!(rt; is_sentence(alloc, &StepFault::Memory, "out of memory")?);
     assert!(rt; is_sentence(alloc, &CommandFault::PacketText, "scionet: bad packet text")?);
+    assert!(rt; is_sentence(alloc, &CommandFault::Topology, "scionet: topology refused")?);
     assert!(rt; is_sentence(alloc, &CommandFault::Read, "scionet: read failed")?);
     assert!(rt; is_sentence(alloc, &CommandFault::Write, "scionet: write failed")?);
     assert!(rt;

@@ -143,6 +143,24 @@ fn printed(rt: HostRuntime) -> Result<(), Fail> {
     Ok(())
 }
 
+/// A network of one AS, with the word `run` and without words.
+#[test]
+fn network(rt: HostRuntime) -> Result<(), Fail> {
+    let lines = br#"{"ases":[{"ia":"1-1","core":true,"exp":63,"key":"6b","routers":1}],"links":[]}
+{"do":"tick","now":1000}"#;
+    assert!(rt; ran(&rt, &["run"], lines.as_slice()).is(0, "topology ok\nok\n", ""));
+    assert!(rt; ran(&rt, &[], lines.as_slice()).is(0, "topology ok\nok\n", ""));
+    let refused = ran(&rt, &["run"], b"[]".as_slice());
+    assert!(rt;
+        refused.is(
+            1,
+            "topology no 11 BadField\n",
+            "scionet: topology refused\n"
+        )
+    );
+    Ok(())
+}
+
 /// Text that is no packet, also where it is no UTF-8.
 #[test]
 fn bad_text(rt: HostRuntime) -> Result<(), Fail> {
@@ -164,6 +182,12 @@ fn bad_words(rt: HostRuntime) -> Result<(), Fail> {
     assert!(rt; help.is_refused_with("Usage: scionet step [OPTIONS] --ia <IA> --router <N>"));
     assert!(rt; help.is_refused_with("--previous <HEX>"));
     assert!(rt; help.is_refused_with("in seconds since 1970"));
+    let help = ran(&rt, &["run", "--help"], Broken(io::ErrorKind::Other));
+    assert!(rt; help.is_refused_with("Usage: scionet run"));
+    assert!(rt; help.is_refused_with("ask src dst limit"));
+    assert!(rt; help.is_refused_with("ask 0 1; 1-ff00:0:111#0,2 1-ff00:0:110#1,0"));
+    let help = ran(&rt, &["--help"], Broken(io::ErrorKind::Other));
+    assert!(rt; help.is_refused_with("'{\"do\":\"tick\",\"now\":1000}' | scionet"));
     Ok(())
 }
 

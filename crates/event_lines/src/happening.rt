@@ -11,9 +11,8 @@ use crate::asked::{AskedOption, lend_all};
 use crate::line::Line;
 use crate::text;
 use forwarding::TurnReply;
-use network_core::{Event, EventFault, Given, Net, Reply};
+use network_core::{Event, Net, Reply};
 use policy_expr::OptionText;
-use router_step::{Outcome, Refusal};
 use std::alloc::{AllocError, Global};
 
 /// An event happens.
