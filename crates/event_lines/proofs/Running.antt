@@ -5,7 +5,7 @@ use Rattle.std.specs.Io.KnownBytes.{Appends, Consumes, IsAtEnd}
 use Rattle.std.proofs.KnownBytes.{Appends-kept, Appends-trans, Consumes-trans, Consumes-nil, Appends-nil}
 use Rattle.event_lines.specs.declared.fault.RunFault.{RunFault}
 use Rattle.event_lines.specs.declared.fault.RunFault.TheVariants as faults
-use Rattle.event_lines.specs.Run.{AreAll, AreFirst, AreLines, Ends, Runs, Wrote, WroteSome, all_lines, ended, most_input}
+use Rattle.event_lines.specs.Run.{AreAll, AreFirst, AreLines, Ends, Runs, Wrote, WroteSome, all_lines, ended, most_input, most_read}
 use Rattle.event_lines.specs.Talk.{Stage, Unbegun, Open, Closed, Says, Told}
 use Rattle.event_lines.specs.Talking.{Exchanges, Finishes, Passes, PassesSome, TalkValue, last_after, last_lines}
 use Rattle.event_lines.proofs.Lines.{ended_append, joined, none_read}
@@ -299,7 +299,7 @@ pub ends_short : (before after now held holds with : Option (List ℕ)) (talk ne
     → SoFar before after held holds talk count → count + length bytes ≤ most_input → Consumes after now bytes
     → Exchanges (Err fault) bytes talk new holds with
     → (read went : List ℕ) × (Consumes before now read × (Appends held with went
-    × ((length read ≤ most_input + 1) × Ends (Err fault) at_end read went)))
+    × ((length read ≤ most_read (Err fault)) × Ends (Err fault) at_end read went)))
 ends_short before after now held holds with talk new bytes faults.Topology at_end far few more exchanges =
     let (lines, later, rest, (are, passes)) = exchanges in
     let wrote = written_on with lines Closed far passes in (

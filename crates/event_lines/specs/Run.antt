@@ -84,13 +84,18 @@ Ends (Err faults.Memory) at_end read went = (lines : List (List ℕ)) × (stage 
 Ends (Err faults.Write) at_end read went = (lines : List (List ℕ))
     × (AreHeard at_end read lines × WroteSome lines went)
 
+-- the most bytes that are read: one more where too many came
+abbrev pub most_read : Result (Unit {0}) RunFault → ℕ
+most_read (Err faults.InputTooLong) = most_input + 1
+most_read result = most_input
+
 -- a run of a source that had these bytes left before and has those after, into a sink that held
 -- these bytes before and holds those after
 abbrev pub Runs : Result (Unit {0}) RunFault → Option (List ℕ) → Option (List ℕ) → Option (List ℕ)
     → Option (List ℕ) → Type 0
 Runs result before after held holds = (read went : List ℕ)
     × (Consumes before after read × (Appends held holds went
-    × ((length read ≤ most_input + 1) × Ends result (IsAtEnd after) read went)))
+    × ((length read ≤ most_read result) × Ends result (IsAtEnd after) read went)))
 
 -- the run ended since a read failed; since a write failed
 abbrev pub is_read_fault : Result (Unit {0}) RunFault → Bool

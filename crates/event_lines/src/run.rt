@@ -100,7 +100,8 @@ fn finish<K: Sink>(alloc: Global, talk: &mut Talk, sink: &mut K) -> Result<(), R
 /// [`RunFault::InputTooLong`] at byte 67,108,865.
 ///
 /// It ends for every source that ends or passes that limit. A line takes time and memory for its
-/// bytes, beside what its event takes; the bytes of one line and of its reply are held at a time.
+/// bytes, beside what its event takes; the bytes of one line, and of the replies to the lines that
+/// one read of up to 8,192 bytes brought, are held at a time.
 pub fn run_lines<S: Source, K: Sink>(
     alloc: Global,
     source: &mut S,
