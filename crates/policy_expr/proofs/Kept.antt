@@ -7,7 +7,7 @@ use Rattle.std.proofs.lemmas.Bool.Decides.{nat_tests}
 use Rattle.isd_as.specs.declared.fault.AddrFault.{AddrFault}
 use Rattle.std.proofs.lemmas.Int.Digits.{digits_value-lt}
 use Rattle.std.proofs.Math.Nat.{pow-le-pow_right}
-use Rattle.isd_as.specs.Address.{WritesGroup, SpellsAs}
+use Rattle.isd_as.specs.Address.{address_of, WritesGroup, SpellsAs}
 use Rattle.isd_as.specs.Reading.{isd_at, address_at}
 use Rattle.isd_as.proofs.Spelled.{Spells-address_at, SpellsIsd-isd_at}
 use Rattle.policy_expr.specs.declared.fault.PolicyFault.{PolicyFault}
@@ -133,9 +133,9 @@ interfaces_small text (Some parts) i e =
 
 plain_small : (text : List ℕ) (cut : Option (List ℕ × List ℕ)) (pred : HopPred) → cut_plain_at text cut ≡ Ok pred → IsPredicate pred
 plain_small text None pred e =
-    let n = bind_ok (as_part (isd_at text)) (λ k. Ok (record { ia = k * 2 ^ 48; interfaces = Any })) pred e in
+    let n = bind_ok (as_part (isd_at text)) (λ k. Ok (record { ia = address_of k 0; interfaces = Any })) pred e in
     let fits = isd_small text n.0 n.1 in
-    subst IsPredicate (ok_is (record { ia = n.0 * 2 ^ 48; interfaces = Any }) pred n.2) (omega arith, tt)
+    subst IsPredicate (ok_is (record { ia = address_of n.0 0; interfaces = Any }) pred n.2) (omega arith, tt)
 plain_small text (Some parts) pred e =
     let n = bind_ok (as_part (address_at text)) (λ k. Ok (record { ia = k; interfaces = Any })) pred e in
     subst IsPredicate (ok_is (record { ia = n.0; interfaces = Any }) pred n.2) (ia_small text n.0 n.1, tt)

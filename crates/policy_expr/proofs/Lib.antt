@@ -6,7 +6,6 @@ pub mod Passes
 pub mod Linking
 pub mod Cutting
 pub mod Front
-pub mod Blanks
 pub mod Deciding
 pub mod Checked
 pub mod Again

@@ -2,7 +2,7 @@
 use Rattle.std.proofs.Common.{IfOk, ◌≡◌, ℕ, ◌*◌, ◌^◌, Bool, true, false, eqb, ltb, cond, List, ◌∷◌, ◌++◌, length, Option, Some, None, Result, Ok, Err, refl, sym, ◌∙◌, ap, subst, arith, inl, inr}
 use Rattle.std.specs.List.{AllByRecursion, position_or_len, before_first, after_first}
 use Rattle.isd_as.specs.declared.fault.AddrFault.TheVariants as address_faults
-use Rattle.isd_as.specs.Address.{dash, colon, Spells, SpellsIsd, SpellsAs}
+use Rattle.isd_as.specs.Address.{address_of, dash, colon, Spells, SpellsIsd, SpellsAs}
 use Rattle.isd_as.specs.Reading.{isd_at, address_at}
 use Rattle.isd_as.proofs.Cut.{has_sign, append-cut_at}
 use Rattle.isd_as.proofs.Spelled.{has_sign-AllDigits, Spells-address_at, address_at-Spells, SpellsIsd-isd_at, isd_at-SpellsIsd}
@@ -41,8 +41,8 @@ interfaces_spelled_by text (Some parts) i is e =
 
 plain_spelled_by : (text : List ℕ) (cut : Option (List ℕ × List ℕ)) (pred : HopPred) → cut_plain_at text cut ≡ Ok pred → SpellsPredicate text pred
 plain_spelled_by text None pred e =
-    let n = bind_ok (as_part (isd_at text)) (λ k. Ok (record { ia = k * 2 ^ 48; interfaces = Any })) pred e in
-    subst (SpellsPredicate text) (ok_is (record { ia = n.0 * 2 ^ 48; interfaces = Any }) pred n.2)
+    let n = bind_ok (as_part (isd_at text)) (λ k. Ok (record { ia = address_of k 0; interfaces = Any })) pred e in
+    subst (SpellsPredicate text) (ok_is (record { ia = address_of n.0 0; interfaces = Any }) pred n.2)
     (isd_alone text n.0 (SpellsIsd-isd_at text n.0 (part_ok (isd_at text) n.0 n.1)))
 plain_spelled_by text (Some parts) pred e =
     let n = bind_ok (as_part (address_at text)) (λ k. Ok (record { ia = k; interfaces = Any })) pred e in

@@ -10,7 +10,7 @@ use Rattle.std.proofs.lemmas.Fmt.{decimal_is_IsNumeral, digits_is_IsNumeral}
 use Rattle.std.proofs.lemmas.List.{append-nil}
 use Rattle.isd_as.specs.declared.fault.AddrFault.{AddrFault}
 use Rattle.isd_as.specs.declared.fault.AddrFault.TheVariants as address_faults
-use Rattle.isd_as.specs.Address.{dash, colon, canonical, canonical_as}
+use Rattle.isd_as.specs.Address.{isd_of, as_number_of, address_of, dash, colon, canonical, canonical_as}
 use Rattle.isd_as.specs.Reading.{isd_at, address_at}
 use Rattle.isd_as.proofs.Canonical.{Spells-canonical, SpellsIsd-decimal}
 use Rattle.isd_as.proofs.Spelled.{has_sign-AllDigits, address_at-Spells, isd_at-SpellsIsd}
@@ -80,7 +80,7 @@ plain_as n fits = elim (cases_lt n (2 ^ 32)) [
 
 plain_canonical : (a : ℕ) → a < 2 ^ 64 → AllByRecursion IsPlain (canonical a)
 plain_canonical a fits =
-    all_append IsPlain (decimal (a / 2 ^ 48)) (dash ∷ canonical_as (a % 2 ^ 48)) (plain_decimal (a / 2 ^ 48) (omega arith)) ((refl, refl, refl), plain_as (a % 2 ^ 48) (omega arith))
+    all_append IsPlain (decimal (isd_of a)) (dash ∷ canonical_as (as_number_of a)) (plain_decimal (isd_of a) (omega arith)) ((refl, refl, refl), plain_as (as_number_of a) (omega arith))
 
 -- ---- cutting
 
@@ -147,24 +147,24 @@ address_alone_again : (a : ℕ) → a < 2 ^ 64 → predicate_at (canonical a) �
 unfolding predicate_at plain_at
 address_alone_again a fits =
     let no_hash = no_hash_in (canonical a) (plain_canonical a fits) in
-    let cut = cut_some dash (decimal (a / 2 ^ 48)) (canonical_as (a % 2 ^ 48)) (no_dash_in_decimal (a / 2 ^ 48) (omega arith)) in
+    let cut = cut_some dash (decimal (isd_of a)) (canonical_as (as_number_of a)) (no_dash_in_decimal (isd_of a) (omega arith)) in
     rw (cut_none hash (canonical a) no_hash, cut, address_again a fits) refl
 
 -- an ISD alone
-isd_alone_again : (n : ℕ) → n < 2 ^ 16 → predicate_at (decimal n) ≡ Ok (record { ia = n * 2 ^ 48; interfaces = Any })
+isd_alone_again : (n : ℕ) → n < 2 ^ 16 → predicate_at (decimal n) ≡ Ok (record { ia = address_of n 0; interfaces = Any })
 unfolding predicate_at plain_at
 isd_alone_again n fits =
     let no_hash = no_hash_in (decimal n) (plain_decimal n (omega arith)) in
     rw (cut_none hash (decimal n) no_hash, cut_none dash (decimal n) (no_dash_in_decimal n (omega arith)), isd_again n fits) refl
 
-again_by : (a : ℕ) (interfaces : Interfaces) (test : Bool) → a < 2 ^ 64 → AreInterfaces interfaces → (eqb (a % 2 ^ 48) 0 && says_nothing interfaces) ≡ test
-    → predicate_at (if test then decimal (a / 2 ^ 48) else canonical a ++ interfaces_text interfaces) ≡ Ok (record { ia = a; interfaces = interfaces })
+again_by : (a : ℕ) (interfaces : Interfaces) (test : Bool) → a < 2 ^ 64 → AreInterfaces interfaces → (eqb (as_number_of a) 0 && says_nothing interfaces) ≡ test
+    → predicate_at (if test then decimal (isd_of a) else canonical a ++ interfaces_text interfaces) ≡ Ok (record { ia = a; interfaces = interfaces })
 again_by a Any true fits are is =
-    let zero_as : a % 2 ^ 48 ≡ 0 = eqb-true _ _ (and_parts (eqb (a % 2 ^ 48) 0) true is).0 in
-    let whole_isd : a / 2 ^ 48 * 2 ^ 48 ≡ a = omega arith in
-    isd_alone_again (a / 2 ^ 48) (omega arith) ∙ ap (λ (x : ℕ). Ok (record { ia = x; interfaces = Any })) whole_isd
-again_by a (Either n) true fits are is = absurd (let f : false ≡ true = (and_parts (eqb (a % 2 ^ 48) 0) false is).1 in cc)
-again_by a (Both m n) true fits are is = absurd (let f : false ≡ true = (and_parts (eqb (a % 2 ^ 48) 0) false is).1 in cc)
+    let zero_as : as_number_of a ≡ 0 = eqb-true _ _ (and_parts (eqb (as_number_of a) 0) true is).0 in
+    let whole_isd : address_of (isd_of a) 0 ≡ a = omega arith in
+    isd_alone_again (isd_of a) (omega arith) ∙ ap (λ (x : ℕ). Ok (record { ia = x; interfaces = Any })) whole_isd
+again_by a (Either n) true fits are is = absurd (let f : false ≡ true = (and_parts (eqb (as_number_of a) 0) false is).1 in cc)
+again_by a (Both m n) true fits are is = absurd (let f : false ≡ true = (and_parts (eqb (as_number_of a) 0) false is).1 in cc)
 again_by a Any false fits are is = ap predicate_at (append-nil (canonical a)) ∙ address_alone_again a fits
 again_by a (Either n) false fits are is =
     interfaces_again (Either n) (canonical a) a (no_hash_in (canonical a) (plain_canonical a fits)) (address_again a fits) refl are
@@ -173,7 +173,7 @@ again_by a (Both m n) false fits are is =
 
 -- what is printed of a predicate is read as it
 pub predicate_again : (pred : HopPred) → IsPredicate pred → predicate_at (predicate_text pred) ≡ Ok pred
-predicate_again pred is = again_by pred.ia pred.interfaces (eqb (pred.ia % 2 ^ 48) 0 && says_nothing pred.interfaces) is.0 is.1 refl
+predicate_again pred is = again_by pred.ia pred.interfaces (eqb (as_number_of pred.ia) 0 && says_nothing pred.interfaces) is.0 is.1 refl
 
 interfaces_are_marks : (interfaces : Interfaces) → AreInterfaces interfaces → AllByRecursion IsMark (interfaces_text interfaces)
 interfaces_are_marks Any are = tt
@@ -182,21 +182,21 @@ interfaces_are_marks (Both m n) are =
     (refl, all_append IsMark (decimal m) (comma ∷ decimal n) (marks_of_plain (decimal m) (plain_decimal m (omega (arith, are.1)))) (refl, marks_of_plain (decimal n) (plain_decimal n (omega (arith, are.2)))))
 
 marks_by : (a : ℕ) (interfaces : Interfaces) (test : Bool) → a < 2 ^ 64 → AreInterfaces interfaces
-    → AllByRecursion IsMark (if test then decimal (a / 2 ^ 48) else canonical a ++ interfaces_text interfaces)
-marks_by a interfaces true fits are = marks_of_plain (decimal (a / 2 ^ 48)) (plain_decimal (a / 2 ^ 48) (omega arith))
+    → AllByRecursion IsMark (if test then decimal (isd_of a) else canonical a ++ interfaces_text interfaces)
+marks_by a interfaces true fits are = marks_of_plain (decimal (isd_of a)) (plain_decimal (isd_of a) (omega arith))
 marks_by a interfaces false fits are =
     all_append IsMark (canonical a) (interfaces_text interfaces) (marks_of_plain (canonical a) (plain_canonical a fits)) (interfaces_are_marks interfaces are)
 
 -- it is one run of marks
 pub predicate_is_marks : (pred : HopPred) → IsPredicate pred → AllByRecursion IsMark (predicate_text pred)
-predicate_is_marks pred is = marks_by pred.ia pred.interfaces (eqb (pred.ia % 2 ^ 48) 0 && says_nothing pred.interfaces) is.0 is.1
+predicate_is_marks pred is = marks_by pred.ia pred.interfaces (eqb (as_number_of pred.ia) 0 && says_nothing pred.interfaces) is.0 is.1
 
-some_by : (a : ℕ) (interfaces : Interfaces) (test : Bool) → a < 2 ^ 64 → 0 < length (if test then decimal (a / 2 ^ 48) else canonical a ++ interfaces_text interfaces)
-some_by a interfaces true fits = (decimal_is_IsNumeral (a / 2 ^ 48) (omega arith)).0.0
+some_by : (a : ℕ) (interfaces : Interfaces) (test : Bool) → a < 2 ^ 64 → 0 < length (if test then decimal (isd_of a) else canonical a ++ interfaces_text interfaces)
+some_by a interfaces true fits = (decimal_is_IsNumeral (isd_of a) (omega arith)).0.0
 some_by a interfaces false fits =
-    let some = (decimal_is_IsNumeral (a / 2 ^ 48) (omega arith)).0.0 in
-    omega (arith, some, length-append (canonical a) (interfaces_text interfaces), length-append (decimal (a / 2 ^ 48)) (dash ∷ canonical_as (a % 2 ^ 48)))
+    let some = (decimal_is_IsNumeral (isd_of a) (omega arith)).0.0 in
+    omega (arith, some, length-append (canonical a) (interfaces_text interfaces), length-append (decimal (isd_of a)) (dash ∷ canonical_as (as_number_of a)))
 
 -- which is not empty
 pub predicate_is_some : (pred : HopPred) → IsPredicate pred → 0 < length (predicate_text pred)
-predicate_is_some pred is = some_by pred.ia pred.interfaces (eqb (pred.ia % 2 ^ 48) 0 && says_nothing pred.interfaces) is.0
+predicate_is_some pred is = some_by pred.ia pred.interfaces (eqb (as_number_of pred.ia) 0 && says_nothing pred.interfaces) is.0

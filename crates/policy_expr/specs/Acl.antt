@@ -11,7 +11,7 @@ use Rattle.policy_expr.specs.declared.acl.Denied.{Denied}
 use Rattle.policy_expr.specs.Hop.{Matches}
 use Rattle.refusal.specs.Refusal.{◌>>=◌, unless}
 use Rattle.policy_expr.specs.Predicate.{predicate_at}
-use Rattle.policy_expr.specs.Next.{after_blanks}
+use Rattle.blanks.specs.Blanks.{after_blanks, trimmed}
 
 -- the entry matches the hop, as a bare one matches each
 abbrev pub MatchesBy : Option HopPred → WalkHop → Type 0
@@ -42,10 +42,6 @@ pub record IsDenial (entries : List AclEntry) (walk : List WalkHop) (denied : De
   pub there : slice_get walk denied.hop ≡ Some hop
   pub by : DeniedAt entries hop denied.entry
   pub before : (k : ℕ) (other : WalkHop) → k < denied.hop → slice_get walk k ≡ Some other → Allowed entries other
-
--- the text without blanks at its ends
-abbrev pub trimmed : List ℕ → List ℕ
-trimmed text = reverse (after_blanks (reverse (after_blanks text)))
 
 -- a predicate of wildcards alone says nothing of a hop
 abbrev pub says_nothing : Interfaces → Bool

@@ -1,6 +1,7 @@
 -- Hop predicates (path policy language): which hops of a walk an `ISD-AS#IN,OUT` means. 0 stands
 -- for any number.
-use Rattle.std.specs.Prelude.{◌≡◌, ◌⊎◌, ℕ, ◌/◌, ◌%◌, ◌^◌}
+use Rattle.std.specs.Prelude.{◌≡◌, ◌⊎◌, ℕ}
+use Rattle.isd_as.specs.Address.{isd_of, as_number_of}
 use Rattle.policy_expr.specs.declared.hop.HopPred.{HopPred}
 use Rattle.policy_expr.specs.declared.hop.Interfaces.{Interfaces}
 use Rattle.policy_expr.specs.declared.hop.Interfaces.TheVariants.{Any, Either, Both}
@@ -18,6 +19,6 @@ FitsInterfaces (Both ingress egress) hop = Fits ingress hop.ingress × Fits egre
 
 -- the hop has the ISD, the AS and the interfaces of the predicate
 pub record Matches (pred : HopPred) (hop : WalkHop) : Type 0 where
-  pub isd : Fits (pred.ia / 2 ^ 48) (hop.ia / 2 ^ 48)
-  pub as_number : Fits (pred.ia % 2 ^ 48) (hop.ia % 2 ^ 48)
+  pub isd : Fits (isd_of pred.ia) (isd_of hop.ia)
+  pub as_number : Fits (as_number_of pred.ia) (as_number_of hop.ia)
   pub interfaces : FitsInterfaces pred.interfaces hop

@@ -2,12 +2,7 @@
 use Rattle.std.specs.Prelude.{◌≡◌, ℕ, ◌<◌, if◌then◌else◌, List, [], ◌∷◌, length, Option, Some, None}
 use Rattle.std.specs.Borrow.{Bor}
 use Rattle.policy_expr.specs.declared.token.Token.{Token}
-use Rattle.policy_expr.specs.Tokens.{is_blank, is_mark, tokens}
-
--- the text from its first byte that is no blank
-unfoldable pub after_blanks : List ℕ → List ℕ
-after_blanks [] = []
-after_blanks (b ∷ rest) = if is_blank b then after_blanks rest else b ∷ rest
+use Rattle.policy_expr.specs.Tokens.{is_mark, tokens}
 
 -- the text from its first byte that is no mark
 unfoldable pub after_marks : List ℕ → List ℕ

@@ -8,7 +8,7 @@ use Rattle.policy_expr.specs.declared.acl.Denied.{Denied}
 use Rattle.refusal.specs.Refusal.{◌>>=◌}
 use Rattle.policy_expr.specs.Tree.{Tree}
 use Rattle.policy_expr.specs.Language.{Lang}
-use Rattle.policy_expr.specs.Next.{after_blanks}
+use Rattle.blanks.specs.Blanks.{after_blanks}
 use Rattle.policy_expr.specs.Reading.{sequence_at}
 use Rattle.policy_expr.specs.Acl.{AllowsWalk, IsDenial, acl_at}
 

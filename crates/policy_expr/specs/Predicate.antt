@@ -1,10 +1,10 @@
 -- Reading a hop predicate (path policy language): `ISD`, `ISD-AS`, `ISD-AS#IF` or `ISD-AS#IN,OUT`.
 -- The relation says which texts stand for a predicate, and `predicate_at` is what reading answers.
-use Rattle.std.specs.Prelude.{◌≡◌, ℕ, ◌*◌, ◌^◌, ◌==◌, ◌&&◌, nat_lt, if◌then◌else◌, List, ◌∷◌, ◌++◌, length, Option, Some, None, Result, Ok, Err}
+use Rattle.std.specs.Prelude.{◌≡◌, ℕ, ◌==◌, ◌&&◌, nat_lt, if◌then◌else◌, List, ◌∷◌, ◌++◌, length, Option, Some, None, Result, Ok, Err}
 use Rattle.std.specs.List.{position_or_len, before_first, after_first}
 use Rattle.std.specs.Borrow.{Bor}
 use Rattle.refusal.specs.Refusal.{◌>>=◌}
-use Rattle.isd_as.specs.Address.{Spells, SpellsIsd, dash}
+use Rattle.isd_as.specs.Address.{Spells, SpellsIsd, address_of, dash}
 use Rattle.isd_as.specs.Reading.{isd_at, address_at}
 use Rattle.isd_as.specs.declared.fault.AddrFault.{AddrFault}
 use Rattle.policy_expr.specs.declared.fault.PolicyFault.{PolicyFault}
@@ -35,7 +35,7 @@ pub data SpellsInterfaces : List ℕ → Interfaces → Type 0 where
 
 -- the text of a predicate: an ISD alone, an address, or an address, '#' and interfaces
 pub data SpellsPredicate : List ℕ → HopPred → Type 0 where
-  isd_alone : (text : List ℕ) (n : ℕ) → SpellsIsd text n → SpellsPredicate text (record { ia = n * 2 ^ 48; interfaces = Any })
+  isd_alone : (text : List ℕ) (n : ℕ) → SpellsIsd text n → SpellsPredicate text (record { ia = address_of n 0; interfaces = Any })
   address : (text : List ℕ) (n : ℕ) → Spells text n → SpellsPredicate text (record { ia = n; interfaces = Any })
   with_interfaces : (front back : List ℕ) (n : ℕ) (ways : Interfaces) → Spells front n → SpellsInterfaces back ways
       → SpellsPredicate (front ++ (hash ∷ back)) (record { ia = n; interfaces = ways })
@@ -75,7 +75,7 @@ interfaces_at text = cut_interfaces_at text (cut_at comma text)
 abbrev pub cut_plain_at : List ℕ → Option (List ℕ × List ℕ) → Result HopPred PolicyFault
 cut_plain_at text None = do
   isd ← as_part (isd_at text)
-  Ok (record { ia = isd * 2 ^ 48; interfaces = Any })
+  Ok (record { ia = address_of isd 0; interfaces = Any })
 cut_plain_at text (Some parts) = do
   ia ← as_part (address_at text)
   Ok (record { ia = ia; interfaces = Any })

@@ -1,8 +1,8 @@
 -- How a sequence is printed: with the fewest parentheses that keep its tree, one space for
 -- following and nothing round `|`.
-use Rattle.std.specs.Prelude.{ℕ, ◌+◌, ◌<◌, ◌≤◌, Bool, ◌%◌, ◌/◌, ◌^◌, ◌==◌, ◌&&◌, nat_lt, if◌then◌else◌, codes, List, [], ◌++◌}
+use Rattle.std.specs.Prelude.{ℕ, ◌+◌, ◌<◌, ◌≤◌, Bool, ◌^◌, ◌==◌, ◌&&◌, nat_lt, if◌then◌else◌, codes, List, [], ◌++◌}
 use Rattle.std.specs.Fmt.{decimal}
-use Rattle.isd_as.specs.Address.{canonical}
+use Rattle.isd_as.specs.Address.{isd_of, as_number_of, canonical}
 use Rattle.policy_expr.specs.declared.hop.HopPred.{HopPred}
 use Rattle.policy_expr.specs.declared.hop.Interfaces.{Interfaces}
 use Rattle.policy_expr.specs.declared.hop.Interfaces.TheVariants.{Any, Either, Both}
@@ -19,8 +19,8 @@ interfaces_text (Both m n) = codes "#" ++ (decimal m ++ (codes "," ++ decimal n)
 
 -- a predicate: the ISD alone where AS and interfaces are wildcards
 abbrev pub predicate_text : HopPred → List ℕ
-predicate_text pred = if (pred.ia % 2 ^ 48 == 0) && says_nothing pred.interfaces
-    then decimal (pred.ia / 2 ^ 48)
+predicate_text pred = if (as_number_of pred.ia == 0) && says_nothing pred.interfaces
+    then decimal (isd_of pred.ia)
     else canonical pred.ia ++ interfaces_text pred.interfaces
 
 -- how tight a tree binds: following least, then `|`

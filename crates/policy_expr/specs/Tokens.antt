@@ -1,15 +1,12 @@
 -- The tokens of a sequence's text: predicates, signs, and blanks between them, which only part
 -- tokens.
 use Rattle.std.specs.Prelude.{ℕ, Bool, false, ◌&&◌, ◌||◌, ◌==◌, nat_le, if◌then◌else◌, List, [], ◌∷◌, map, Result, Ok, Err}
+use Rattle.blanks.specs.Blanks.{is_blank}
 use Rattle.policy_expr.specs.declared.fault.PolicyFault.{PolicyFault}
 use Rattle.policy_expr.specs.declared.hop.HopPred.{HopPred}
 use Rattle.policy_expr.specs.declared.token.Token.{Token}
 use Rattle.policy_expr.specs.declared.token.Token.TheVariants.{Hop, Optional, OnceOrMore, Repeated, Or, Open, Close, Other}
 use Rattle.policy_expr.specs.Predicate.{predicate_at}
-
--- space, tab, CR or LF
-abbrev pub is_blank : ℕ → Bool
-is_blank b = (b == 32) || ((b == 9) || ((b == 13) || (b == 10)))
 
 -- a digit, a letter from a to f of either case, '-', ':', '#' or ','
 abbrev pub is_mark : ℕ → Bool

@@ -1,16 +1,15 @@
-ghost use Rattle.std.specs.Prelude.{◌≡◌, length, map, reverse, true, false};
+ghost use Rattle.std.specs.Prelude.{◌≡◌, length, map, true, false};
 ghost use Rattle.std.specs.String.{string_bytes};
 ghost use Rattle.refusal.specs.Refusal.{Reads};
-ghost use Rattle.policy_expr.specs.Next.{after_blanks};
 ghost use Rattle.policy_expr.specs.Counting.{Judges};
 ghost use Rattle.policy_expr.specs.Checking.{bare_at, check_on};
-ghost use Rattle.policy_expr.specs.Acl.{acl_at, entries_at, entry_at, entry_of, says_nothing, signed_at, trimmed};
+ghost use Rattle.policy_expr.specs.Acl.{acl_at, entries_at, entry_at, entry_of, says_nothing, signed_at};
 
 use crate::acl::AclEntry;
 use crate::acl_text::AclText;
 use crate::fault::{PolicyError, PolicyFault};
 use crate::hop::{HopPred, Interfaces};
-use crate::token::is_blank_byte;
+use blanks::text::{trim, trim_start};
 use std::alloc::Allocator;
 
 /// How many entries a list may have.
@@ -103,41 +102,4 @@ fn of_pred(allows: bool, pred: HopPred) -> AclEntry
         allows,
         pred: if is_bare { None } else { Some(pred) },
     }
-}
-
-/// The text without blanks at its ends.
-fn trim(text: &str) -> &str
-    ensures { result.now ≡ trimmed text.now }
-{
-    trim_end(trim_start(text))
-}
-
-/// The text from its first character that is no blank.
-#[tactic(auto, unfolding(crate::specs::Next::after_blanks))]
-fn trim_start(text: &str) -> &str
-    ensures { result.now ≡ after_blanks text.now }
-{
-    let mut rest = text;
-    while let Some((byte, _)) = rest.as_bytes().split_first() {
-        if !is_blank_byte(*byte) {
-            return rest;
-        }
-        rest = &rest[1..];
-    }
-    rest
-}
-
-/// The text up to its last character that is no blank.
-#[tactic(auto, unfolding(crate::specs::Next::after_blanks))]
-fn trim_end(text: &str) -> &str
-    ensures { result.now ≡ reverse (after_blanks (reverse text.now)) }
-{
-    let mut rest = text;
-    while let Some((byte, before)) = rest.as_bytes().split_last() {
-        if !is_blank_byte(*byte) {
-            return rest;
-        }
-        rest = &rest[..before.len()];
-    }
-    rest
 }

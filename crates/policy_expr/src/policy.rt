@@ -1,7 +1,7 @@
 ghost use Rattle.std.specs.Prelude.{◌≡◌, ◌↔◌, None, length, option_map, IsOk, IsTrue, IfErr, IfOk};
 ghost use Rattle.refusal.specs.Refusal.{Answers};
 ghost use Rattle.policy_expr.specs.Counting.{Judges};
-ghost use Rattle.policy_expr.specs.Next.{after_blanks};
+ghost use Rattle.blanks.specs.Blanks.{after_blanks};
 ghost use Rattle.policy_expr.specs.Policy.{AllowsHops, DeniesHop, HasWord, acl_part_at, policy_at, sequence_part_at};
 
 use crate::acl::{Acl, Denied};
@@ -11,7 +11,7 @@ use crate::entry::check_acl;
 use crate::fault::{PolicyError, PolicyFault};
 use crate::hop::WalkHop;
 use crate::sequence::Seq;
-use crate::token::trim_start;
+use blanks::bytes::trim_start;
 use std::alloc::{AllocError, Allocator};
 use std::marker::Model;
 

@@ -1,10 +1,11 @@
 ghost use Rattle.std.specs.Prelude.{◌≡◌};
 ghost use Rattle.std.specs.Str.{IsAscii};
 ghost use Rattle.policy_expr.specs.Predicate.{predicate_at};
-ghost use Rattle.policy_expr.specs.Tokens.{is_blank, is_mark, read_token, sign_token};
-ghost use Rattle.policy_expr.specs.Next.{GivesToken, after_blanks, after_marks};
+ghost use Rattle.policy_expr.specs.Tokens.{is_mark, read_token, sign_token};
+ghost use Rattle.policy_expr.specs.Next.{GivesToken, after_marks};
 
 use crate::hop::HopPred;
+use blanks::bytes::trim_start;
 
 /// A token of a sequence's text.
 #[derive(Clone, Copy, Debug, PartialEq, Eq)]
@@ -43,21 +44,6 @@ pub(crate) fn next_token(text: &[u8]) -> Option<(Token, &[u8])>
     Some((token_of_run(run), rest))
 }
 
-/// The text from its first byte that is no blank.
-#[tactic(auto, unfolding(crate::specs::Next::after_blanks))]
-pub(crate) fn trim_start(text: &[u8]) -> &[u8]
-    ensures { result.now ≡ after_blanks text.now }
-{
-    let mut rest = text;
-    while let Some((byte, behind)) = rest.split_first() {
-        if !is_blank_byte(*byte) {
-            return rest;
-        }
-        rest = behind;
-    }
-    rest
-}
-
 /// The text from its first byte that is no mark.
 #[tactic(auto, unfolding(crate::specs::Next::after_marks))]
 fn behind_marks(text: &[u8]) -> &[u8]
@@ -71,13 +57,6 @@ fn behind_marks(text: &[u8]) -> &[u8]
         rest = behind;
     }
     rest
-}
-
-/// Whether the byte is a space, a tab, CR or LF.
-pub(crate) fn is_blank_byte(byte: u8) -> bool
-    ensures { result ≡ is_blank byte }
-{
-    byte == b' ' || byte == b'\t' || byte == b'\r' || byte == b'\n'
 }
 
 /// Whether the byte is one that predicates are made of.

@@ -1,6 +1,7 @@
 -- The line that `scionet step` prints of a packet.
 use Rattle.std.specs.Prelude.{ℕ, ◌==◌, ◌||◌, Bool, if◌then◌else◌, codes, List, [], ◌∷◌, ◌++◌, reverse, Option, option_map, Result, Ok, Err}
 use Rattle.std.specs.Fmt.{decimal}
+use Rattle.blanks.specs.Blanks.{trimmed}
 use Rattle.hex.specs.Hex.{encode_lower}
 use Rattle.path_header.specs.Fault as header
 use Rattle.router_step.specs.declared.outcome.Outcome.{Outcome}
@@ -11,19 +12,6 @@ use Rattle.router_step.specs.Fault.{code_of, name_of}
 use Rattle.router_step.specs.Packet.{packet_step}
 use Rattle.step_line.specs.Fields.{bytes_of}
 use Rattle.step_line.specs.Turn.{Turn}
-
--- space, tab, CR or LF
-abbrev pub is_blank : ℕ → Bool
-is_blank b = (b == 32) || ((b == 9) || ((b == 13) || (b == 10)))
-
--- the text from its first byte that is no blank
-unfoldable pub after_blanks : List ℕ → List ℕ
-after_blanks [] = []
-after_blanks (b ∷ rest) = if is_blank b then after_blanks rest else b ∷ rest
-
--- the text without blanks at its ends
-abbrev pub trimmed : List ℕ → List ℕ
-trimmed text = reverse (after_blanks (reverse (after_blanks text)))
 
 -- a code and a name behind a word: `WORD CODE Name`
 abbrev pub coded : List ℕ → ℕ → List ℕ → List ℕ

@@ -2,55 +2,10 @@
 
 ghost use Rattle.std.specs.Prelude.{◌≡◌, IfOk, reverse};
 ghost use Rattle.std.specs.String.{string_bytes};
-ghost use Rattle.step_line.specs.Line.{after_blanks, is_blank, outcome_text, refusal_text, trimmed};
+ghost use Rattle.step_line.specs.Line.{outcome_text, refusal_text};
 
 use router_step::{Outcome, Refusal};
 use std::alloc::{AllocError, Global};
-
-/// Whether the byte is a space, a tab, CR or LF.
-fn is_blank_byte(byte: u8) -> bool
-    ensures { result ≡ is_blank byte }
-{
-    byte == b' ' || byte == b'\t' || byte == b'\r' || byte == b'\n'
-}
-
-/// The text without blanks at both ends.
-#[tactic(auto, unfolding(crate::specs::Line::after_blanks))]
-pub(crate) fn trim(text: &[u8]) -> &[u8]
-    ensures { result.now ≡ trimmed text.now }
-{
-    trim_end(trim_start(text))
-}
-
-/// The text from its first byte that is no blank.
-#[tactic(auto, unfolding(crate::specs::Line::after_blanks))]
-fn trim_start(text: &[u8]) -> &[u8]
-    ensures { result.now ≡ after_blanks text.now }
-{
-    let mut rest = text;
-    while let Some((byte, behind)) = rest.split_first() {
-        if !is_blank_byte(*byte) {
-            return rest;
-        }
-        rest = behind;
-    }
-    rest
-}
-
-/// The text up to its last byte that is no blank.
-#[tactic(auto, unfolding(crate::specs::Line::after_blanks))]
-fn trim_end(text: &[u8]) -> &[u8]
-    ensures { result.now ≡ reverse (after_blanks (reverse text.now)) }
-{
-    let mut rest = text;
-    while let Some((byte, before)) = rest.split_last() {
-        if !is_blank_byte(*byte) {
-            return rest;
-        }
-        rest = before;
-    }
-    rest
-}
 
 /// The line of a packet that goes on or is delivered.
 pub(crate) fn outcome_line(

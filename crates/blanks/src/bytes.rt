@@ -1,0 +1,43 @@
+//! Blanks round bytes.
+
+ghost use Rattle.std.specs.Prelude.{◌≡◌, reverse};
+ghost use Rattle.blanks.specs.Blanks.{after_blanks, trimmed};
+
+use crate::is_blank;
+
+/// The bytes without blanks at both ends, in time linear in the blanks taken off.
+pub fn trim(bytes: &[u8]) -> &[u8]
+    ensures { result.now ≡ trimmed bytes.now }
+{
+    trim_end(trim_start(bytes))
+}
+
+/// The bytes from the first that is no blank, in time linear in the blanks taken off.
+#[tactic(auto, unfolding(crate::specs::Blanks::after_blanks))]
+pub fn trim_start(bytes: &[u8]) -> &[u8]
+    ensures { result.now ≡ after_blanks bytes.now }
+{
+    let mut rest = bytes;
+    while let Some((byte, behind)) = rest.split_first() {
+        if !is_blank(*byte) {
+            return rest;
+        }
+        rest = behind;
+    }
+    rest
+}
+
+/// The bytes up to the last that is no blank, in time linear in the blanks taken off.
+#[tactic(auto, unfolding(crate::specs::Blanks::after_blanks))]
+pub fn trim_end(bytes: &[u8]) -> &[u8]
+    ensures { result.now ≡ reverse (after_blanks (reverse bytes.now)) }
+{
+    let mut rest = bytes;
+    while let Some((byte, before)) = rest.split_last() {
+        if !is_blank(*byte) {
+            return rest;
+        }
+        rest = before;
+    }
+    rest
+}

@@ -1,0 +1,43 @@
+//! Blanks round text.
+
+ghost use Rattle.std.specs.Prelude.{◌≡◌, reverse};
+ghost use Rattle.blanks.specs.Blanks.{after_blanks, trimmed};
+
+use crate::is_blank;
+
+/// The text without blanks at both ends, in time linear in the blanks taken off.
+pub fn trim(text: &str) -> &str
+    ensures { result.now ≡ trimmed text.now }
+{
+    trim_end(trim_start(text))
+}
+
+/// The text from its first character that is no blank, in time linear in the blanks taken off.
+#[tactic(auto, unfolding(crate::specs::Blanks::after_blanks))]
+pub fn trim_start(text: &str) -> &str
+    ensures { result.now ≡ after_blanks text.now }
+{
+    let mut rest = text;
+    while let Some((byte, _)) = rest.as_bytes().split_first() {
+        if !is_blank(*byte) {
+            return rest;
+        }
+        rest = &rest[1..];
+    }
+    rest
+}
+
+/// The text up to its last character that is no blank, in time linear in the blanks taken off.
+#[tactic(auto, unfolding(crate::specs::Blanks::after_blanks))]
+pub fn trim_end(text: &str) -> &str
+    ensures { result.now ≡ reverse (after_blanks (reverse text.now)) }
+{
+    let mut rest = text;
+    while let Some((byte, before)) = rest.as_bytes().split_last() {
+        if !is_blank(*byte) {
+            return rest;
+        }
+        rest = &rest[..before.len()];
+    }
+    rest
+}
