@@ -42,11 +42,11 @@ step_app =
 abbrev pub run_app : App
 run_app = new_app (codes "run")
 
--- `scionet` with its commands; the words begin behind its name
+-- `scionet` with its commands and its version; the words begin behind its name
 abbrev pub program_app : App
 program_app =
     with_subcommand (with_subcommand
-    (on_top (λ shape. record shape { no_binary_name = true }) (new_app (codes "scionet")))
+    (on_top (λ shape. record shape { no_binary_name = true; has_version = true }) (new_app (codes "scionet")))
     step_app.top) run_app.top
 
 -- none of the command's arguments is one of its subcommands too

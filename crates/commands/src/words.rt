@@ -8,6 +8,9 @@ use clap::builder::ValueParser;
 use clap::{Arg, ArgAction, Command};
 use std::alloc::{AllocError, Global};
 
+/// What `--version` prints behind the program's name: its version, and the toolchain that proved it.
+static VERSION: &str = "0.1.0, proved by rattle-kit-13b logic dac8208d650f15bf";
+
 /// What stands at the end of the program's long help.
 static PROGRAM_HELP: &str = "\
 Without a command, 'run' is meant. Times are seconds since 1970, keys, payloads and packets \
@@ -128,7 +131,8 @@ fn interface_argument<'a>(alloc: Global) -> Arg<'a>
         .help(
             "An interface of the AS: NUMBER,core|parent|child,ROUTER,up|down, its number 1 to \
              65535, what the far AS is, the router that owns it 0 to 63, and whether its link is \
-             up",
+             up; as 1,parent,0,up (to the AS above), 2,child,0,down (to one below) or 3,core,1,up \
+             (between core ASes, owned by router 1)",
         )
 }
 
@@ -173,7 +177,7 @@ fn step_command<'a>(alloc: Global) -> Result<Command<'a>, AllocError>
         alloc,
         "from",
         "host|inside|IF",
-        "How the packet came: of a host, from inside the AS, or over the link of interface IF, 1 to \
+        "How the packet came: from a host, from inside the AS, or over the link of interface IF, 1 to \
          65535",
     );
     let interface = interface_argument(alloc);
@@ -207,6 +211,7 @@ pub(crate) fn program<'a>(alloc: Global) -> Result<Command<'a>, AllocError>
     Command::new(alloc, "scionet")
         .bin_name("scionet")?
         .no_binary_name(true)
+        .version(VERSION)
         .about("A SCION network in one process")
         .after_long_help(PROGRAM_HELP)
         .subcommand(step)?
