@@ -1,5 +1,5 @@
 -- Sets of the same segments, all live at the moments of both, have the same answers.
-use Rattle.std.proofs.Common.{ℕ, ◌+◌, List, take, All, Contains, inl, inr}
+use Rattle.std.proofs.Common.{ℕ, ◌+◌, List, take, All, Contains, Option, None, Some, inl, inr}
 use Rattle.std.proofs.lemmas.List.Elements.{All-weaker, All-contains, All-take, All-drop}
 use Rattle.hop_mac.specs.Lifetime.{IsLive}
 use Rattle.path_segment.specs.declared.entry.Entry.{Entry}
@@ -7,12 +7,13 @@ use Rattle.path_segment.specs.Chain as segments
 use Rattle.path_segment.specs.Chain.{Chain}
 use Rattle.path_server.specs.Lookup.{Selection}
 use Rattle.policy_expr.specs.Policy.{Rules}
+use Rattle.policy_expr.specs.Options.{WeighedRules}
 use Rattle.path_verifier.specs.declared.kind.PieceKind.{PieceKind}
 use Rattle.path_verifier.specs.declared.kind.PieceKind.TheVariants.{Up, Core, Down}
 use Rattle.path_verifier.specs.Piece.{PieceValue, kind_of, entries_of}
 use Rattle.path_verifier.specs.Accepted.{AreLive, MakesPath}
-use Rattle.combinator.specs.Candidate.{question_of, PathValue, segments_of, IsOf, IsCandidate}
-use Rattle.combinator.specs.Answer.{IsBest, IsLeftOut, IsAnswer}
+use Rattle.combinator.specs.Candidate.{question_of, PathValue, segments_of, IsOf, IsCandidate, HasNone}
+use Rattle.combinator.specs.Answer.{IsBest, IsLeftOut, IsAnswer, IsUsed, AnswersWith, asked}
 use Rattle.combinator.specs.Lasting.{IsSameSet, AreAllLive}
 
 pub turned_set : (set other : Selection) → IsSameSet set other → IsSameSet other set
@@ -90,4 +91,24 @@ module _ (set other : Selection) (src dst : ℕ) (rules : Rules) (same : IsSameS
     ordered = is.ordered;
     few = is.few;
     whole = λ path candidate. elim (is.whole path (back path candidate)) [ inl some ↦ inl some | inr out ↦ inr (left_out_too limit paths path out) ];
+  }
+
+  pub none_too : HasNone (question_of set src dst rules) → HasNone (question_of other src dst rules)
+  none_too none path is = none path (back path is)
+
+-- the same under several options
+module _ (set other : Selection) (src dst : ℕ) (same : IsSameSet set other) (here : AreAllLive set set.moment) (there : AreAllLive other other.moment) where
+  pub options_too : (options : List WeighedRules) (limit : ℕ) (used : Option ℕ) (paths : List PathValue)
+      → AnswersWith set src dst options limit used paths → AnswersWith other src dst options limit used paths
+  options_too options limit None paths is = (
+    is.0,
+    All-weaker (λ option. HasNone (asked set src dst option)) (λ option. HasNone (asked other src dst option))
+    (λ option none. none_too set other src dst option.rules same here there none) options is.1,
+  )
+  options_too options limit (Some used) paths is = record {
+    option = is.option;
+    there = is.there;
+    some = is.some;
+    answer = answer_too set other src dst is.option.rules same here there limit paths is.answer;
+    first = λ j one at before. none_too set other src dst one.rules same here there (is.first j one at before);
   }

@@ -23,11 +23,16 @@ pub fn answers_agree()
 {}
 
 /// Where two sets have the same segments, all live at the moments of both, what answers a question
-/// over one of them answers it over the other.
+/// over one of them answers it over the other; under several options too.
 pub fn answers_outlast_moments()
-    ensures { (set other : Selection) (src dst : ℕ) (rules : Rules) (limit : ℕ)
+    ensures paths { (set other : Selection) (src dst : ℕ) (rules : Rules) (limit : ℕ)
         (paths : List PathValue) → IsSameSet set other → AreAllLive set set.moment
         → AreAllLive other other.moment
         → IsAnswer (question_of set src dst rules) limit paths
         ↔ IsAnswer (question_of other src dst rules) limit paths }
+    ensures options { (set other : Selection) (src dst : ℕ) (options : List WeighedRules)
+        (limit : ℕ) (used : Option ℕ) (paths : List PathValue) → IsSameSet set other
+        → AreAllLive set set.moment → AreAllLive other other.moment
+        → AnswersWith set src dst options limit used paths
+        ↔ AnswersWith other src dst options limit used paths }
 {}

@@ -9,9 +9,10 @@ use Rattle.std.proofs.lemmas.List.Quantifiers.{all_pairs_push}
 use Rattle.std.proofs.lemmas.List.Sums.{fold_push, length-filter}
 use Rattle.path_segment.specs.Chain.{Chain}
 use Rattle.path_server.specs.declared.fault.StoreFault.{StoreFault}
+use Rattle.path_server.specs.declared.op.StoreOp.TheVariants.{Register, Sweep}
 use Rattle.path_segment.specs.Tests.{is_live}
 use Rattle.path_server.specs.Segment.{is_alike}
-use Rattle.path_server.specs.Store.{Operation, Register, Sweep, answer_to, IsAnswer, with_new, registered, swept, after, store_of}
+use Rattle.path_server.specs.Store.{Operation, answer_to, IsAnswer, with_new, registered, swept, after, store_of}
 use Rattle.path_server.proofs.Plain.{answer_is_plain}
 use Rattle.path_server.proofs.Decided.{is_alike-same}
 

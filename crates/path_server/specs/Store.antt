@@ -1,10 +1,12 @@
 -- A path store, as a list of segments in order of registration (draft-dekater-scion-controlplane,
 -- registration of path segments).
-use Rattle.std.specs.Prelude.{ℕ, ◌<◌, ◌≤◌, Bool, true, false, not, nat_le, if◌then◌else◌, List, [], ◌∷◌, ◌++◌, filter, count_by, fold, Contains, Result, Ok, Err}
+use Rattle.std.specs.Prelude.{◌≡◌, ℕ, ◌<◌, ◌≤◌, Bool, true, false, not, nat_le, if◌then◌else◌, List, [], ◌∷◌, ◌++◌, filter, count_by, fold, Contains, Result, Ok, Err}
 use Rattle.std.specs.List.{list_any}
 use Rattle.path_segment.specs.Chain.{Chain, AreLive}
 use Rattle.path_server.specs.declared.fault.StoreFault.{StoreFault}
 use Rattle.path_server.specs.declared.fault.StoreFault.TheVariants.{Full, Expired}
+use Rattle.path_server.specs.declared.op.StoreOp.{StoreOp}
+use Rattle.path_server.specs.declared.op.StoreOp.TheVariants.{Register, Sweep}
 use Rattle.path_segment.specs.Tests.{is_live, is_same}
 use Rattle.path_server.specs.Segment.{is_alike}
 
@@ -43,14 +45,18 @@ unfoldable pub expired_count : List Chain → ℕ → ℕ
 expired_count segments now = count_by (λ segment. not (is_live now segment)) segments
 
 -- what is done to a store, and at which second
-pub data Operation : Type 0 where
-  Register : Chain → ℕ → Operation
-  Sweep : ℕ → Operation
+abbrev pub Operation : Type 0
+Operation = StoreOp
 
 -- the list after one operation
 abbrev pub after : List Chain → Operation → List Chain
 after segments (Register segment now) = registered segments segment now
 after segments (Sweep now) = swept segments now
+
+-- the operation takes a new segment in
+abbrev pub TakesIn : Operation → List Chain → Type 0
+TakesIn (Register segment now) segments = answer_to segments segment now ≡ Ok true
+TakesIn (Sweep now) segments = ⊥
 
 -- the store that these operations make, one after another
 abbrev pub store_of : List Operation → List Chain

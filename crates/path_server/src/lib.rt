@@ -8,9 +8,11 @@
 mod fault;
 pub mod laws;
 mod lookup;
+mod op;
 mod set;
 mod store;
 
 pub use fault::{StoreError, StoreFault};
+pub use op::StoreOp;
 pub use set::SegmentSet;
 pub use store::PathStore;

@@ -3,11 +3,12 @@ ghost use Rattle.std.specs.List.{list_any};
 ghost use Rattle.path_segment.specs.Tests.{is_live, is_same};
 ghost use Rattle.path_server.specs.Fault.{Registers};
 ghost use Rattle.path_server.specs.Segment.{is_alike};
-ghost use Rattle.path_server.specs.Store.{answer_to, registered, swept, expired_count};
+ghost use Rattle.path_server.specs.Store.{after, answer_to, registered, swept, expired_count};
 ghost use Rattle.path_server.specs.Lookup.{segments_for};
 
 use crate::fault::{StoreError, StoreFault};
 use crate::lookup::{Side, ending_in, joining};
+use crate::op::StoreOp;
 use crate::set::SegmentSet;
 use isd_as::IsdAs;
 use path_segment::Segment;
@@ -96,6 +97,27 @@ impl PathStore {
         let before = self.segments.len();
         keep_live(&mut self.segments, now);
         before - self.segments.len()
+    }
+
+    /// Does one operation. A registration that the store refuses changes nothing.
+    #[tactic(auto, unfolding(crate::specs::Store::registered))]
+    pub fn apply(&mut self, alloc: Global, op: &StoreOp) -> Result<(), AllocError>
+        ensures applied { OnOk result (self.new ≡ after self.old op.now) }
+        ensures kept { OnErr result (self.new ≡ self.old) }
+    {
+        match op {
+            StoreOp::Register(segment, now) => {
+                let segment = segment.try_clone(alloc)?;
+                match self.register(segment, *now) {
+                    Err((_, OrMemory::Memory)) => Err(AllocError),
+                    _ => Ok(()),
+                }
+            }
+            StoreOp::Sweep(now) => {
+                self.sweep(*now);
+                Ok(())
+            }
+        }
     }
 
     /// Copies of the segments of which paths from `src` to `dst` can be made, all live at the

@@ -1,4 +1,4 @@
-ghost use Rattle.std.specs.Prelude.{◌≡◌, ◌++◌, ◌∷◌, [], map, OnOk, OnErr};
+ghost use Rattle.std.specs.Prelude.{◌≡◌, ◌++◌, ◌∷◌, [], map, IfOk, OnOk, OnErr};
 ghost use Rattle.std.specs.String.{string_bytes};
 
 use std::alloc::{AllocError, Global};
@@ -37,6 +37,18 @@ impl AclText {
         let text = String::from_str(alloc, text)?;
         self.texts.push(text)?;
         Ok(())
+    }
+
+    /// The same texts once more.
+    pub fn try_clone(&self, alloc: Global) -> Result<AclText, AllocError>
+        ensures { IfOk result (λ text. text ≡ self.now) }
+    {
+        let texts = self.texts();
+        let mut copy = AclText::new(alloc);
+        for text in texts {
+            copy.push(alloc, text.as_str())?;
+        }
+        Ok(copy)
     }
 
     /// The texts, in order.

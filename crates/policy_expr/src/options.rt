@@ -1,11 +1,11 @@
-ghost use Rattle.std.specs.Prelude.{◌≡◌, map, option_map};
+ghost use Rattle.std.specs.Prelude.{◌≡◌, map, option_map, IfOk};
 ghost use Rattle.refusal.specs.Refusal.{Answers, Reads};
 ghost use Rattle.policy_expr.specs.Options.{option_at, each_at, options_at, AreJudged};
 
 use crate::option_fault::{OptionError, OptionFault};
 use crate::policy::{Policy, PolicyText, check_policy};
 use refusal::OrMemory;
-use std::alloc::Allocator;
+use std::alloc::{AllocError, Allocator};
 use std::marker::Model;
 
 /// The most options of a request.
@@ -31,6 +31,20 @@ impl<'a> Model for OptionText<'a> {
       sequence = option_map (λ t. t.now) o.text.sequence;
       weight = o.weight;
     } };
+}
+
+impl<'a> OptionText<'a> {
+    /// The first refusal of these texts, in the order of [`PolicyOption::parse_all`]. Takes no
+    /// memory.
+    #[tactic(auto, unfolding(crate::specs::Options::options_at))]
+    pub fn check_all(texts: &[OptionText<'_>]) -> Result<(), OptionFault>
+        ensures { AreJudged result (options_at texts.now) }
+    {
+        if texts.is_empty() || texts.len() > MAX_OPTIONS {
+            return Err(OptionFault::OptionCount);
+        }
+        check_each(texts)
+    }
 }
 
 /// A policy, and its weight among the options of a request.
@@ -66,20 +80,19 @@ impl<A: Allocator + Clone> PolicyOption<A> {
     ) -> Result<Vec<PolicyOption<A>, A>, OptionError>
         ensures { Answers (λ options. options.items) result (options_at texts.now) }
     {
-        check_options(texts)?;
+        OptionText::check_all(texts)?;
         read_each(alloc, texts)
     }
-}
 
-/// The first refusal of the texts of options. Takes no memory.
-#[tactic(auto, unfolding(crate::specs::Options::options_at))]
-fn check_options(texts: &[OptionText<'_>]) -> Result<(), OptionFault>
-    ensures { AreJudged result (options_at texts.now) }
-{
-    if texts.is_empty() || texts.len() > MAX_OPTIONS {
-        return Err(OptionFault::OptionCount);
+    /// The same option under another allocator.
+    pub fn clone_in<B: Allocator + Clone>(&self, alloc: B) -> Result<PolicyOption<B>, AllocError>
+        ensures { IfOk result (λ option. option ≡ self.now) }
+    {
+        Ok(PolicyOption {
+            policy: self.policy.clone_in(alloc)?,
+            weight: self.weight,
+        })
     }
-    check_each(texts)
 }
 
 /// The first refusal of these texts, one after another.

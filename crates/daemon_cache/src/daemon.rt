@@ -1,0 +1,191 @@
+//! The daemon.
+
+ghost use Rattle.std.specs.Prelude.{◌≡◌, ◌<◌, ◌≤◌, Ok, IfErr, IfOk, IfSome, OnOk};
+ghost use mathlib.Core.List.{IsPrefix};
+ghost use Rattle.path_server.specs.Store.{store_of};
+ghost use Rattle.path_server.specs.Lookup.{segments_for};
+ghost use Rattle.policy_expr.specs.Options.{options_at};
+ghost use Rattle.combinator.specs.Answer.{AnswersWith};
+ghost use Rattle.combinator.specs.Lasting.{AreAllLive};
+ghost use Rattle.daemon_cache.specs.Request.{GivesNoAnswer, IsAnswerTo, lawful_at, request_of};
+
+use crate::entry::Entry;
+use crate::fault::{AskError, AskFault};
+use crate::request::Request;
+use bumpalo::Bump;
+use combinator::{PathList, combine};
+use isd_as::IsdAs;
+use lru::LruCache;
+use path_server::SegmentSet;
+use policy_expr::{OptionText, PolicyOption};
+use refusal::OrMemory;
+use segment_board::BoardReader;
+use std::alloc::{AllocError, Allocator, Global};
+use std::num::NonZeroUsize;
+use std::sync::{Mutex, Wait};
+
+/// Answers requests for paths. Threads share it.
+#[derive(Drop)]
+pub struct Daemon {
+    cache: Mutex<LruCache<u64, Entry>>,
+}
+
+/// The options once more, with room of their own.
+fn copied<A: Allocator + Clone>(
+    alloc: Global,
+    options: &[PolicyOption<A>],
+) -> Result<Vec<PolicyOption<Global>>, AllocError>
+    ensures { IfOk result (λ own. own.items ≡ options.now) }
+{
+    let mut own = Vec::new(alloc);
+    for option in options {
+        own.push(option.clone_in(alloc)?)?;
+    }
+    Ok(own)
+}
+
+/// The answer to a lawful request over a set, and the options of its texts. They are read in an
+/// arena, which is given up.
+#[tactic(auto, using(crate::proofs::Lookups::lawful_wants))]
+fn made(
+    alloc: Global,
+    set: &SegmentSet,
+    request: &Request<'_>,
+) -> Result<(PathList, Vec<PolicyOption<Global>>), AllocError>
+    requires { lawful_at request.now ≡ Ok tt }
+    ensures read { IfOk result (λ given. options_at request.now.texts ≡ Ok given.1.items) }
+    ensures answers { IfOk result (λ given. AnswersWith set.now request.now.src request.now.dst
+        given.1.items request.now.limit given.0.used given.0.paths) }
+{
+    let arena = Bump::new(alloc);
+    let Ok(options) = PolicyOption::parse_all(&arena, request.options) else {
+        return Err(AllocError);
+    };
+    let Ok(paths) = combine(
+        alloc,
+        set,
+        request.src,
+        request.dst,
+        &options,
+        request.limit,
+    ) else {
+        return Err(AllocError);
+    };
+    let own = copied(alloc, &options)?;
+    Ok((paths, own))
+}
+
+impl Daemon {
+    /// A daemon whose cache is empty, and has room for 1 to 1,024 answers.
+    pub fn new(alloc: Global, capacity: usize) -> Result<Daemon, AllocError>
+        requires some { 0 < capacity }
+        requires few { capacity ≤ 1024 }
+    {
+        let Some(capacity) = NonZeroUsize::new(capacity) else {
+            return Err(AllocError);
+        };
+        Ok(Daemon {
+            cache: Mutex::new(LruCache::new(alloc, capacity)?),
+        })
+    }
+
+    /// The answer that the cache has for a request over a set.
+    fn cached<R: Wait>(
+        &self,
+        rt: &R,
+        alloc: Global,
+        set: &SegmentSet,
+        request: &Request<'_>,
+    ) -> Option<Result<PathList, AllocError>>
+        requires { AreAllLive set.now set.now.moment }
+        ensures { IfSome result (λ given. IfOk given (IsAnswerTo request.now set.now)) }
+    {
+        let key = request.key();
+        let mut cache = self.cache.lock(rt);
+        match cache.get(&key) {
+            Some(entry) => entry.served(alloc, set, request),
+            None => None,
+        }
+    }
+
+    /// Keeps an answer, where there is memory for it; else the cache stays as it was.
+    fn keep<R: Wait>(&self, rt: &R, key: u64, entry: Entry) {
+        let mut cache = self.cache.lock(rt);
+        let _ = cache.put(key, entry);
+    }
+
+    /// The answer to a lawful request over a set, and whether an entry of the cache served it.
+    fn answered<R: Wait>(
+        &self,
+        rt: &R,
+        alloc: Global,
+        set: SegmentSet,
+        request: &Request<'_>,
+    ) -> Result<(PathList, bool), AllocError>
+        requires lawful { lawful_at request.now ≡ Ok tt }
+        requires live { AreAllLive set set.moment }
+        ensures { IfOk result (λ given. IsAnswerTo request.now set given.0) }
+    {
+        match self.cached(rt, alloc, &set, request) {
+            Some(Ok(paths)) => return Ok((paths, true)),
+            Some(Err(_)) => return Err(AllocError),
+            None => {}
+        }
+        let (paths, options) = made(alloc, &set, request)?;
+        if let Ok(entry) = Entry::of(alloc, set, request, options, &paths) {
+            self.keep(rt, request.key(), entry);
+        }
+        Ok((paths, false))
+    }
+
+    /// At most `limit` paths from `src` to `dst` at the second `now`, best first, of the segments
+    /// that the reader finds on its board, under the policies that the options' texts are read as;
+    /// and whether an entry of the cache served them. It may wait for another thread's ask.
+    ///
+    /// The first of these refusals: [`AskFault::BadLimit`] where the limit is not 1 to 64; those of
+    /// [`PolicyOption::parse_all`]; [`AskFault::SameAs`] where the ends are one AS;
+    /// [`AskFault::NoEntry`] where the reader could not enter the board, and then the caller may ask
+    /// again. Want of memory comes only where none of the first three does.
+    #[tactic(auto, using(crate::proofs::Lookups::gives_none, crate::proofs::Lookups::looked_up_is_live))]
+    pub fn ask<R: Wait>(
+        &self,
+        rt: &R,
+        alloc: Global,
+        reader: &mut BoardReader,
+        src: IsdAs,
+        dst: IsdAs,
+        options: &[OptionText<'_>],
+        now: u32,
+        limit: usize,
+    ) -> Result<(PathList, bool), AskError>
+        ensures board { reader.new.board ≡ reader.old.board }
+        ensures later { IsPrefix reader.old.seen reader.new.seen }
+        // What is given answers the request over what the reader has seen then.
+        ensures found { IfOk result (λ given. IsAnswerTo (request_of src dst options.now limit)
+            (segments_for (store_of reader.new.seen) src dst now) given.0) }
+        // It is given only to a lawful request.
+        ensures lawful { OnOk result (lawful_at (request_of src dst options.now limit) ≡ Ok tt) }
+        // Why there is none.
+        ensures refused { IfErr result (λ error. GivesNoAnswer error
+            (request_of src dst options.now limit) reader.old reader.new) }
+    {
+        let request = Request {
+            src,
+            dst,
+            options,
+            limit,
+        };
+        if let Err(fault) = request.check() {
+            return Err(OrMemory::Refused(fault));
+        }
+        let set = match reader.lookup(alloc, src, dst, now) {
+            Ok(set) => set,
+            Err(OrMemory::Refused(_)) => return Err(OrMemory::Refused(AskFault::NoEntry)),
+            Err(OrMemory::Memory) => return Err(OrMemory::Memory),
+        };
+        match self.answered(rt, alloc, set, &request) {
+            Ok(given) => Ok(given),
+            Err(_) => Err(OrMemory::Memory),
+        }
+    }
+}

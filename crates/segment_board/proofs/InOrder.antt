@@ -1,0 +1,152 @@
+-- The parts of a board's writer stay tied.
+use Rattle.std.proofs.Common.{◌≡◌, Bool, true, false, List, [], ◌∷◌, ◌++◌, fold, Option, Some, Result, Ok, Err, refl, ap, sym, ◌∙◌, subst}
+use Rattle.std.specs.Prelude.{MatchBool, MatchResult, OnOk, OnErr}
+use Rattle.std.proofs.lemmas.List.{append-nil, append_assoc}
+use mathlib.Core.List.{IsPrefix}
+use Rattle.left_right.specs.declared.writer.Writer.{Writer}
+use Rattle.left_right.specs.Sides.{view}
+use Rattle.logbook.specs.Pages.{Book, Named}
+use Rattle.path_server.specs.Store.{after}
+use Rattle.path_server.specs.declared.op.StoreOp.{StoreOp}
+use Rattle.segment_board.specs.declared.shown.BoardOp.{BoardOp}
+use Rattle.segment_board.specs.declared.shown.BoardOp.TheVariants.{Apply, Mark}
+use Rattle.segment_board.specs.History.{Reached, newest, head_of}
+use Rattle.segment_board.specs.Shown.{Image, taken, IsTied, IsReady}
+use Rattle.segment_board.specs.Rule.{Knows}
+use Rattle.segment_board.specs.Board.{Written}
+use Rattle.segment_board.specs.Desk.{shown_of, queue_of, awaited, operations_of}
+use Rattle.segment_board.specs.Writing.{IsInOrder}
+use Rattle.segment_board.proofs.Prefixes.{prefix_self, prefix_trans}
+use Rattle.segment_board.proofs.Growing.{newest_last}
+use Rattle.segment_board.proofs.Queues.{operations-append, fold_mark, ready_mark}
+
+-- the parts of what clauses see, put together
+abbrev pub written : Book → List StoreOp → List StoreOp → Written
+written board published pending = record { board = board; published = published; pending = pending }
+
+pub added : (old new : List BoardOp) (op : StoreOp) → new ≡ old ++ Apply op ∷ [] → operations_of new ≡ operations_of old ++ op ∷ []
+added old new op e = ap operations_of e ∙ operations-append old (Apply op ∷ [])
+
+-- whether or not it was added, what is pending goes on
+pub goes_on : {E : Type 0} (r : Result (Unit {0}) E) (op : StoreOp) (P : E → Type 0) (old new : List BoardOp)
+    → MatchResult r (λ _. new ≡ old ++ Apply op ∷ []) (λ x. P x × (new ≡ old)) → (ops : List StoreOp) × (operations_of new ≡ operations_of old ++ ops)
+goes_on (Ok u) op P old new h = (op ∷ [], added old new op h)
+goes_on (Err e) op P old new h = ([], ap operations_of h.1 ∙ sym (append-nil (operations_of old)))
+
+pub marked : (old new : List BoardOp) (f : Reached) → new ≡ old ++ Mark f ∷ [] → operations_of new ≡ operations_of old
+marked old new f e = ap operations_of e ∙ (operations-append old (Mark f ∷ []) ∙ append-nil (operations_of old))
+
+pub on_ok : {T E : Type 0} (r : Result T E) (P Q R : Type 0) → MatchResult r (λ _. P) (λ _. Q) → (P → R) → OnOk r R
+on_ok (Ok x) P Q R h f = f h
+on_ok (Err e) P Q R h f = tt
+
+pub on_err : {T E : Type 0} (r : Result T E) (P Q R : Type 0) → MatchResult r (λ _. P) (λ _. Q) → (Q → R) → OnErr r R
+on_err (Ok x) P Q R h f = tt
+on_err (Err e) P Q R h f = f h
+
+module _ {P A S : Type 0} {g : _} (w v : Writer Image BoardOp (Option Image) P A S g) (head : Named) (root latest : Reached) where
+  same_awaited : v.desk ≡ w.desk → (ops : List StoreOp) → operations_of (queue_of v) ≡ operations_of (queue_of w) ++ ops → awaited w ++ ops ≡ awaited v
+  same_awaited desk ops e =
+      append_assoc (newest (shown_of w).front.log) (operations_of (queue_of w)) ops
+      ∙ (ap (λ more. newest (shown_of w).front.log ++ more) (sym e) ∙ ap (λ d. newest d.shown.value.front.log ++ operations_of (queue_of v)) (sym desk))
+
+  -- more is pending
+  pub more_pending : IsInOrder w head root latest → v.desk ≡ w.desk → (ops : List StoreOp) → operations_of (queue_of v) ≡ operations_of (queue_of w) ++ ops → IsInOrder v head root latest
+  more_pending o desk ops more = record {
+    head_is = o.head_is;
+    root_board = o.root_board;
+    root_log = o.root_log;
+    shown_board = ap (λ d. d.shown.value.front.board) desk ∙ o.shown_board;
+    tied = subst (λ (x : Image). IsTied x) (sym (ap (λ d. d.shown.value) desk)) o.tied;
+    ahead = prefix_trans (newest latest.log) (awaited w) (awaited v) o.ahead (ops, same_awaited desk ops more);
+    knows = subst (λ (x : Option Image). Knows latest.board x) (sym (ap (λ d. view d.place) desk)) o.knows;
+  }
+
+  pub more_view : v.desk ≡ w.desk → (ops : List StoreOp) → operations_of (queue_of v) ≡ operations_of (queue_of w) ++ ops
+      → written latest.board (newest (shown_of v).front.log) (operations_of (queue_of v)) ≡ written latest.board (newest (shown_of w).front.log) (operations_of (queue_of w) ++ ops)
+  more_view desk ops e i = written latest.board (newest (desk i).shown.value.front.log) (e i)
+
+  module _ (next : Reached) where
+    -- the history has gone on by what is awaited
+    pub made_ready : IsInOrder w head root latest → v.desk ≡ w.desk → next ≡ record latest { log = latest.log ++ awaited w ∷ [] }
+        → operations_of (queue_of v) ≡ operations_of (queue_of w) → IsInOrder v head root next
+    made_ready o desk step same =
+        let board : next.board ≡ latest.board = ap (λ (r : Reached). r.board) step in
+        let all : awaited w ≡ awaited v = sym (append-nil (awaited w)) ∙ same_awaited desk [] (same ∙ sym (append-nil (operations_of (queue_of w)))) in
+        let last : newest next.log ≡ awaited v = ap (λ (r : Reached). newest r.log) step ∙ (newest_last latest.log (awaited w) ∙ all) in
+        record {
+          head_is = o.head_is ∙ ap head_of (sym board);
+          root_board = o.root_board ∙ sym board;
+          root_log = o.root_log;
+          shown_board = ap (λ d. d.shown.value.front.board) desk ∙ (o.shown_board ∙ sym board);
+          tied = subst (λ (x : Image). IsTied x) (sym (ap (λ d. d.shown.value) desk)) o.tied;
+          ahead = subst (λ (z : List StoreOp). IsPrefix (newest next.log) z) last (prefix_self (newest next.log));
+          knows = subst (λ (b : Book). Knows b (view v.desk.place)) (sym board) (subst (λ (x : Option Image). Knows latest.board x) (sym (ap (λ d. view d.place) desk)) o.knows);
+        }
+
+    pub is_ready : IsInOrder w head root latest → v.desk ≡ w.desk → next ≡ record latest { log = latest.log ++ awaited w ∷ [] }
+        → queue_of v ≡ queue_of w ++ Mark next ∷ [] → IsReady (shown_of v) (queue_of v)
+    is_ready o desk step queue =
+        let ready : IsReady (shown_of w) (queue_of w ++ Mark next ∷ []) =
+        ready_mark (shown_of w) (queue_of w) next latest.log o.tied (ap (λ (r : Reached). r.board) step ∙ sym o.shown_board) (ap (λ (r : Reached). r.log) step) in
+        subst (λ (x : Image). IsReady x (queue_of v)) (sym (ap (λ d. d.shown.value) desk)) (subst (λ (q : List BoardOp). IsReady (shown_of w) q) (sym queue) ready)
+
+    module _ (u : Writer Image BoardOp (Option Image) P A S g) where
+      abbrev pub Showed : Type 0
+      Showed = (shown_of u ≡ fold taken (shown_of v) (queue_of v)) × (queue_of u ≡ []) × (view u.desk.place ≡ Some (shown_of u))
+
+      abbrev pub Kept : Type 0
+      Kept = (shown_of u ≡ shown_of v) × (queue_of u ≡ queue_of v) × (view u.desk.place ≡ view v.desk.place)
+
+      shown_next : queue_of v ≡ queue_of w ++ Mark next ∷ [] → Showed → shown_of u ≡ record { store = fold after (shown_of v).store (operations_of (queue_of w)); front = next }
+      shown_next queue s = s.0 ∙ (ap (λ q. fold taken (shown_of v) q) queue ∙ fold_mark (shown_of v) (queue_of w) next)
+
+      -- once it was shown
+      pub showed : IsInOrder v head root next → queue_of v ≡ queue_of w ++ Mark next ∷ [] → IsReady (shown_of v) (queue_of v) → Showed → IsInOrder u head root next
+      showed o queue ready s =
+          let is = shown_next queue s in
+          let all : newest next.log ≡ awaited u =
+          sym (ap (λ (x : Image). newest x.front.log ++ operations_of (queue_of u)) is ∙ (ap (λ (q : List BoardOp). newest next.log ++ operations_of q) s.1 ∙ append-nil (newest next.log))) in
+          let board : (shown_of u).front.board ≡ next.board = ap (λ (x : Image). x.front.board) is in
+          record {
+            head_is = o.head_is;
+            root_board = o.root_board;
+            root_log = o.root_log;
+            shown_board = board;
+            tied = subst (λ (x : Image). IsTied x) (sym s.0) ready.0;
+            ahead = subst (λ (z : List StoreOp). IsPrefix (newest next.log) z) all (prefix_self (newest next.log));
+            knows = subst (λ (x : Option Image). Knows next.board x) (sym s.2) board;
+          }
+
+      pub kept : IsInOrder v head root next → Kept → IsInOrder u head root next
+      kept o s =
+          let all : awaited v ≡ awaited u = sym (ap (λ (x : Image). newest x.front.log ++ operations_of (queue_of u)) s.0 ∙ ap (λ (q : List BoardOp). newest (shown_of v).front.log ++ operations_of q) s.1) in
+          record {
+            head_is = o.head_is;
+            root_board = o.root_board;
+            root_log = o.root_log;
+            shown_board = ap (λ (x : Image). x.front.board) s.0 ∙ o.shown_board;
+            tied = subst (λ (x : Image). IsTied x) (sym s.0) o.tied;
+            ahead = subst (λ (z : List StoreOp). IsPrefix (newest next.log) z) all o.ahead;
+            knows = subst (λ (x : Option Image). Knows next.board x) (sym s.2) o.knows;
+          }
+
+      pub after_show : {T E : Type 0} (r : Result T E) → IsInOrder v head root next → queue_of v ≡ queue_of w ++ Mark next ∷ [] → IsReady (shown_of v) (queue_of v)
+          → MatchResult r (λ _. Showed) (λ _. Kept) → IsInOrder u head root next
+      after_show (Ok x) o queue ready h = showed o queue ready h
+      after_show (Err e) o queue ready h = kept o h
+
+      pub showed_view : next ≡ record latest { log = latest.log ++ awaited w ∷ [] } → queue_of v ≡ queue_of w ++ Mark next ∷ [] → Showed
+          → written next.board (newest (shown_of u).front.log) (operations_of (queue_of u)) ≡ written latest.board (awaited w) []
+      showed_view step queue s =
+          let board : next.board ≡ latest.board = ap (λ (r : Reached). r.board) step in
+          let last : newest (shown_of u).front.log ≡ awaited w = ap (λ (x : Image). newest x.front.log) (shown_next queue s) ∙ (ap (λ (r : Reached). newest r.log) step ∙ newest_last latest.log (awaited w)) in
+          λ i. written (board i) (last i) (operations_of (s.1 i))
+
+      pub kept_view : v.desk ≡ w.desk → next ≡ record latest { log = latest.log ++ awaited w ∷ [] } → operations_of (queue_of v) ≡ operations_of (queue_of w) → Kept
+          → written next.board (newest (shown_of u).front.log) (operations_of (queue_of u)) ≡ written latest.board (newest (shown_of w).front.log) (operations_of (queue_of w))
+      kept_view desk step same s =
+          let board : next.board ≡ latest.board = ap (λ (r : Reached). r.board) step in
+          let shown : shown_of u ≡ shown_of w = s.0 ∙ ap (λ d. d.shown.value) desk in
+          let ops : operations_of (queue_of u) ≡ operations_of (queue_of w) = ap operations_of s.1 ∙ same in
+          λ i. written (board i) (newest (shown i).front.log) (ops i)

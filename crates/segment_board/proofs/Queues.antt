@@ -1,0 +1,36 @@
+-- What the operations in the writer's queue make.
+use Rattle.std.proofs.Common.{◌≡◌, List, [], ◌∷◌, ◌++◌, fold, refl, ap, sym, ◌∙◌, subst}
+use Rattle.std.proofs.lemmas.List.Sums.{fold-append, fold_push}
+use Rattle.path_server.specs.Store.{after, store_of}
+use Rattle.path_server.specs.declared.op.StoreOp.{StoreOp}
+use Rattle.segment_board.specs.declared.shown.BoardOp.{BoardOp}
+use Rattle.segment_board.specs.declared.shown.BoardOp.TheVariants.{Apply, Mark}
+use Rattle.segment_board.specs.History.{Reached, newest}
+use Rattle.segment_board.specs.Shown.{Image, taken, IsTied, IsReady}
+use Rattle.segment_board.specs.Desk.{operations_of}
+use Rattle.segment_board.proofs.Growing.{newest_last}
+
+pub operations-append : (xs ys : List BoardOp) → operations_of (xs ++ ys) ≡ operations_of xs ++ operations_of ys
+operations-append [] ys = refl
+operations-append (Apply op ∷ xs) ys = ap (λ ops. op ∷ ops) (operations-append xs ys)
+operations-append (Mark f ∷ xs) ys = operations-append xs ys
+
+-- the store after a queue is the one after its operations
+store_after : (x : Image) (q : List BoardOp) → (fold taken x q).store ≡ fold after x.store (operations_of q)
+store_after x [] = refl
+store_after x (Apply op ∷ q) = store_after (record x { store = after x.store op }) q
+store_after x (Mark f ∷ q) = store_after (record x { front = f }) q
+
+-- a queue that ends with a mark leaves its front
+pub fold_mark : (x : Image) (q : List BoardOp) (f : Reached) → fold taken x (q ++ Mark f ∷ []) ≡ record { store = fold after x.store (operations_of q); front = f }
+fold_mark x q f = fold_push taken x q (Mark f) ∙ ap (λ s. record { store = s; front = f }) (store_after x q)
+
+-- a queue may be published that ends with the front of all that is awaited
+pub ready_mark : (x : Image) (q : List BoardOp) (f : Reached) (old : List (List StoreOp)) → IsTied x → f.board ≡ x.front.board
+    → f.log ≡ old ++ (newest x.front.log ++ operations_of q) ∷ [] → IsReady x (q ++ Mark f ∷ [])
+ready_mark x q f old tied board log =
+    let e = fold_mark x q f in
+    let last : newest f.log ≡ newest x.front.log ++ operations_of q = ap newest log ∙ newest_last old (newest x.front.log ++ operations_of q) in
+    let made : fold after x.store (operations_of q) ≡ store_of (newest f.log) =
+    ap (λ s. fold after s (operations_of q)) tied ∙ (sym (fold-append after [] (newest x.front.log) (operations_of q)) ∙ ap store_of (sym last)) in
+    (subst (λ (y : Image). IsTied y) (sym e) made, ap (λ (y : Image). y.front.board) e ∙ board)

@@ -1,0 +1,25 @@
+-- What lies on a board.
+use Rattle.std.specs.Prelude.{◌≡◌, List, fold}
+use Rattle.path_segment.specs.Chain.{Chain}
+use Rattle.path_server.specs.Store.{after, store_of}
+use Rattle.segment_board.specs.History.{Reached, newest}
+use Rattle.segment_board.specs.declared.shown.BoardOp.{BoardOp}
+use Rattle.segment_board.specs.declared.shown.BoardOp.TheVariants.{Apply, Mark}
+
+-- a store, and the front of the history that it belongs to
+pub record Image : Type 0 where
+  pub store : List Chain
+  pub front : Reached
+
+-- what is on the board after one operation
+abbrev pub taken : Image → BoardOp → Image
+taken x (Apply op) = record x { store = after x.store op }
+taken x (Mark front) = record x { front = front }
+
+-- the store is the one that the newest list of its history makes
+abbrev pub IsTied : Image → Type 0
+IsTied x = x.store ≡ store_of (newest x.front.log)
+
+-- after these operations what is on the board is tied to its history, of the same board
+abbrev pub IsReady : Image → List BoardOp → Type 0
+IsReady x ops = IsTied (fold taken x ops) × ((fold taken x ops).front.board ≡ x.front.board)

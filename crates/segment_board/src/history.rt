@@ -1,0 +1,169 @@
+//! The history of a board: the lists of operations that were made ready for publishing, one after
+//! another. It stands in contracts alone; a board keeps its length.
+
+ghost use Rattle.std.specs.Prelude.{◌≡◌, ◌+◌, ◌^◌, ◌<◌, [], ◌∷◌, ◌++◌, length, MatchBool};
+ghost use mathlib.Core.List.{IsPrefix};
+ghost use Rattle.segment_board.specs.History.{head_of, newest, Rises};
+ghost use Rattle.segment_board.specs.Desk.{awaited};
+
+use crate::shown::StoreWriter;
+use logbook::{Gain, Offer, Plain, Play, Rule, Seen, Start, Word};
+use path_server::StoreOp;
+use std::marker::Model;
+
+/// A contract reads an array as a list of any length: the operations that were published, in order.
+pub type Operations = [StoreOp; 0];
+
+/// The word whose number is the length of the history.
+pub(crate) type Head = Word<Operations, u64, Rising>;
+
+/// The rule of the history: each list begins the next one.
+pub struct Rising;
+
+impl Rule<Operations, u64> for Rising {
+    ghost use Rattle.std.specs.Prelude.{[], ◌∷◌};
+    ghost use base.Fml.{ftrue};
+    ghost use Rattle.segment_board.specs.History.{IsKept};
+
+    ghost holds = { λ cells log. IsKept cells log };
+
+    ghost first = { [] ∷ [] };
+
+    ghost hinted = { λ n log. Unit {0} };
+
+    ghost shows = { λ log. [] };
+
+    ghost keeps = { λ names log. ftrue };
+
+    ghost moves = { λ ask before after answer. Unit {0} };
+}
+
+/// Nobody trades anything for a step.
+struct Nothing;
+
+impl Gain<Operations, u64> for Nothing {
+    ghost use base.Fml.{ftrue};
+
+    ghost after = { λ names about answer. ftrue };
+}
+
+/// The step that adds the list which the writer is about to publish.
+struct Adds;
+
+impl Play<Operations, u64> for Adds {
+    ghost use Rattle.segment_board.specs.History.{Added};
+
+    ghost then = { Added };
+}
+
+impl Plain<StoreWriter, Operations, u64> for Adds {
+    ghost use Rattle.std.specs.Prelude.{None};
+    ghost use Rattle.segment_board.specs.Desk.{awaited};
+
+    ghost ask = { awaited };
+
+    ghost state = { λ writer. None };
+}
+
+/// A beginning of the history that was seen.
+#[derive(Drop)]
+pub(crate) struct Front {
+    count: u64,
+    seen: Seen<Operations, u64, Rising>,
+}
+
+impl Model for Front {
+    ghost use Rattle.std.specs.Prelude.{◌≡◌, length};
+    ghost use Rattle.segment_board.specs.History.{Reached, Rises};
+
+    ghost Value = { Reached };
+
+    ghost view = { λ f. record { board = f.seen.book; log = f.seen.log } };
+
+    ghost invariant = { λ f. (f.count ≡ length f.seen.log) × Rises f.seen.log };
+}
+
+impl Front {
+    /// A new history, in which nothing was published.
+    pub(crate) fn start() -> (Head, Front)
+        ensures head { result.0 ≡ head_of result.1.board }
+        ensures log { result.1.log ≡ [] ∷ [] }
+    {
+        let (seen, mut first, _second) = Seen::open(Start::alone(), 1, 0);
+        let head = Word::tracked(1, &mut first);
+        (head, Front { count: 1, seen })
+    }
+
+    /// A copy.
+    pub(crate) fn again(&self) -> Front
+        ensures same { result ≡ self.now }
+        ensures rises { Rises result.log }
+    {
+        Front {
+            count: self.count,
+            seen: self.seen.again(),
+        }
+    }
+
+    /// Whether at least as much was seen here as there.
+    pub(crate) fn reaches(&self, other: &Front) -> bool
+        requires { other.now.board ≡ self.now.board }
+        ensures order { MatchBool result (IsPrefix other.now.log self.now.log)
+            (IsPrefix self.now.log other.now.log) }
+        ensures rises { Rises self.now.log × Rises other.now.log }
+    {
+        let mut both = self.seen.again();
+        both.learn(&other.seen);
+        other.count <= self.count
+    }
+
+    /// Adds the list that the writer is about to publish, and says whether it did. It does where
+    /// the whole history was seen here.
+    pub(crate) fn grow(&mut self, head: &Head, writer: &StoreWriter) -> bool
+        requires head { head.now ≡ head_of self.old.board }
+        requires more { IsPrefix (newest self.old.log) (awaited writer.now) }
+        ensures { MatchBool result
+            (self.new ≡ record self.old { log = self.old.log ++ awaited writer.now ∷ [] })
+            (self.new ≡ self.old) }
+    {
+        if self.count >= 1 << 62 {
+            return false;
+        }
+        let mut seen = self.seen.again();
+        let mut offer: Offer<Operations, u64, Rising, Nothing> = seen.plain::<
+            Nothing,
+            StoreWriter,
+            Adds,
+        >(writer);
+        let mut pen = seen.no_pen();
+        let count = self.count;
+        let found = head.compare_exchange::<Adds, Nothing>(
+            count,
+            count + 1,
+            &mut seen,
+            &mut offer,
+            &mut pen,
+        );
+        if found != count {
+            return false;
+        }
+        self.count = count + 1;
+        self.seen = seen;
+        true
+    }
+}
+
+/// What was published when the writer told it. A reader that learns it sees no less from then on.
+#[derive(Drop)]
+pub struct Told {
+    pub(crate) front: Front,
+}
+
+impl Model for Told {
+    ghost use Rattle.segment_board.specs.History.{newest};
+    ghost use Rattle.segment_board.specs.Board.{Known};
+
+    ghost Value = { Known };
+
+    ghost view = { λ t. record { board = t.front.board; seen = newest t.front.log } };
+}

@@ -1,0 +1,125 @@
+//! Readers of a board, which never wait.
+
+ghost use Rattle.std.specs.Prelude.{◌≡◌, IfOk, IfErr, IfSome};
+ghost use mathlib.Core.List.{IsPrefix};
+ghost use Rattle.left_right.specs.Sides.{view as view_of};
+ghost use Rattle.path_server.specs.Store.{store_of};
+ghost use Rattle.path_server.specs.Lookup.{segments_for};
+ghost use Rattle.segment_board.specs.History.{newest};
+ghost use Rattle.segment_board.specs.Board.{GivesNothing};
+
+use crate::fault::{BoardFault, LookupError};
+use crate::history::{Front, Told};
+use crate::shown::{Enters, StoreReader};
+use core::mem::replace_with;
+use isd_as::IsdAs;
+use path_server::SegmentSet;
+use refusal::OrMemory;
+use std::alloc::{AllocError, Global};
+use std::marker::Model;
+
+/// A reader of a board: contracts see which board it is, and the operations that it has seen.
+#[derive(Drop)]
+pub struct BoardReader {
+    pub(crate) place: StoreReader,
+    pub(crate) front: Front,
+}
+
+impl Model for BoardReader {
+    ghost use Rattle.left_right.specs.Sides.{view as view_of};
+    ghost use Rattle.segment_board.specs.History.{newest};
+    ghost use Rattle.segment_board.specs.Rule.{Knows};
+    ghost use Rattle.segment_board.specs.Board.{Known};
+
+    ghost Value = { Known };
+
+    ghost view = { λ r. record { board = r.front.board; seen = newest r.front.log } };
+
+    ghost invariant = { λ r. Knows r.front.board (view_of r.place.place) };
+}
+
+/// What is asked of the store that a reader finds.
+#[derive(Clone, Copy)]
+struct Question {
+    alloc: Global,
+    src: IsdAs,
+    dst: IsdAs,
+    now: u32,
+}
+
+/// Enters, looks the segments up, and leaves. Nothing where the reader could not enter.
+fn look(
+    place: StoreReader,
+    asked: Question,
+) -> (StoreReader, Option<(Front, Result<SegmentSet, AllocError>)>)
+    ensures place { view_of result.0.place ≡ view_of place.place }
+    ensures board { IfSome result.1 (λ r. IfSome (view_of place.place)
+        (λ y. y.front.board ≡ r.0.board)) }
+    ensures found { IfSome result.1 (λ r. IfOk r.1
+        (λ set. set ≡ segments_for (store_of (newest r.0.log)) asked.src asked.dst asked.now)) }
+{
+    match place.enter_as::<Enters>() {
+        Ok(reading) => {
+            let shown = reading.get();
+            let set = shown
+                .store
+                .segments_for(asked.alloc, asked.src, asked.dst, asked.now);
+            let front = shown.front.again();
+            (reading.leave(), Some((front, set)))
+        }
+        Err(place) => (place, None),
+    }
+}
+
+impl BoardReader {
+    /// Takes in what the writer of this reader's board told. From now on this reader sees no less.
+    /// Takes no memory.
+    pub fn learn(&mut self, told: Told)
+        requires board { told.board ≡ self.old.board }
+        ensures board { self.new.board ≡ self.old.board }
+        ensures seen { IsPrefix self.old.seen self.new.seen }
+        ensures told { IsPrefix told.seen self.new.seen }
+    {
+        if !self.front.reaches(&told.front) {
+            self.front = told.front;
+        }
+    }
+
+    /// Copies of the segments of which paths from `src` to `dst` can be made at the second `now`,
+    /// in the store that some published operations made. These begin with all that this reader had
+    /// seen or learnt, and it has seen them then, after want of memory too. Waits for nobody.
+    ///
+    /// [`BoardFault::NoEntry`] where the reader could not enter the board, and then it has seen what
+    /// it had; the caller may ask again.
+    pub fn lookup(
+        &mut self,
+        alloc: Global,
+        src: IsdAs,
+        dst: IsdAs,
+        now: u32,
+    ) -> Result<SegmentSet, LookupError>
+        ensures board { self.new.board ≡ self.old.board }
+        ensures found { IfOk result
+            (λ set. set ≡ segments_for (store_of self.new.seen) src dst now) }
+        ensures later { IsPrefix self.old.seen self.new.seen }
+        ensures none { IfErr result (λ fault. GivesNothing fault self.old self.new) }
+    {
+        let asked = Question {
+            alloc,
+            src,
+            dst,
+            now,
+        };
+        let Some((front, set)) = replace_with(&mut self.place, asked, look) else {
+            return Err(OrMemory::Refused(BoardFault::NoEntry));
+        };
+        if !front.reaches(&self.front) {
+            return Err(OrMemory::Refused(BoardFault::NoEntry));
+        }
+        self.front = front;
+        match set {
+            Ok(set) => Ok(set),
+            Err(_) => Err(OrMemory::Memory),
+        }
+    }
+}

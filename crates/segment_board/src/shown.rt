@@ -1,0 +1,118 @@
+//! What lies on the board: a store, and the front of the history whose newest list made it.
+
+ghost use Rattle.std.specs.Prelude.{◌≡◌};
+
+use crate::history::Front;
+use atomic_table::{Join, Split};
+use crossbeam_utils::rule::{Outcome, Protocol};
+use left_right::Absorb;
+use left_right::reader::Reader;
+use left_right::writer::Writer;
+use path_server::{PathStore, StoreOp};
+use std::alloc::{AllocError, Global};
+use std::marker::Model;
+
+/// A store, and the front of the history that it belongs to.
+#[derive(Drop)]
+pub(crate) struct Shown {
+    pub(crate) alloc: Global,
+    pub(crate) store: PathStore,
+    pub(crate) front: Front,
+}
+
+impl Model for Shown {
+    ghost use Rattle.segment_board.specs.Shown.{Image};
+
+    ghost Value = { Image };
+
+    ghost view = { λ s. record { store = s.store; front = s.front } };
+}
+
+/// What the two copies on a board take in.
+#[derive(Drop)]
+pub(crate) enum BoardOp {
+    /// An operation of the store.
+    Apply(StoreOp),
+    /// The front at the end of what is published at once.
+    Mark(Front),
+}
+
+impl Absorb<BoardOp> for Shown {
+    type State = Shown;
+
+    ghost use Rattle.segment_board.specs.Shown.{taken};
+
+    ghost state = { λ s. s };
+
+    ghost applied = { taken };
+
+    fn absorb_first(&mut self, operation: &BoardOp, _other: &Shown) -> Result<(), AllocError> {
+        match operation {
+            BoardOp::Apply(op) => self.store.apply(self.alloc, op),
+            BoardOp::Mark(front) => {
+                self.front = front.again();
+                Ok(())
+            }
+        }
+    }
+}
+
+/// The rule of the board: what is published belongs to its front, and all who know a board know
+/// this one. Five kinds of step keep it: publishing, entering, telling, learning, and giving a
+/// reader its place.
+pub(crate) struct Published;
+
+impl Protocol<Shown, Option<Shown>> for Published {
+    ghost use Rattle.std.specs.Prelude.{None};
+    ghost use Rattle.segment_board.specs.Rule.{Keeps};
+
+    ghost holds = { Keeps };
+
+    ghost first = { None };
+}
+
+/// What publishing tells the writer.
+pub(crate) struct Publishes;
+
+impl Outcome<Shown, Option<Shown>> for Publishes {
+    ghost use Rattle.std.specs.Prelude.{◌≡◌, Some};
+
+    ghost then = { λ v x y w. w ≡ Some y };
+}
+
+/// What entering tells a reader.
+pub(crate) struct Enters;
+
+impl Outcome<Shown, Option<Shown>> for Enters {
+    ghost use Rattle.std.specs.Prelude.{◌≡◌};
+    ghost use Rattle.segment_board.specs.Shown.{IsTied};
+    ghost use Rattle.segment_board.specs.Rule.{Fits};
+
+    ghost then = { λ v x y w. (w ≡ v) × IsTied x × Fits x v };
+}
+
+/// The writer of the two copies.
+pub(crate) type StoreWriter = Writer<Shown, BoardOp, Option<Shown>, Published>;
+
+/// A reader's place at the two copies.
+pub(crate) type StoreReader = Reader<Shown, Option<Shown>, Published>;
+
+/// The writer tells which board it is, and knows it still.
+pub(crate) struct Tells;
+
+impl Split<Option<Shown>> for Tells {
+    ghost left = { λ v. v };
+
+    ghost right = { λ v. v };
+}
+
+/// A reader learns which board it is at.
+pub(crate) struct Learns;
+
+impl Join<Option<Shown>> for Learns {
+    ghost use Rattle.std.specs.Prelude.{None};
+
+    ghost both = { λ v w. w };
+
+    ghost spent = { None };
+}
