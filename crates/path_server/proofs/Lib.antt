@@ -3,3 +3,9 @@ pub mod Members
 pub mod Decided
 pub mod Plain
 pub mod Bounds
+pub mod Ranks
+pub mod Orders
+pub mod Places
+pub mod Lying
+pub mod Growing
+pub mod Joining

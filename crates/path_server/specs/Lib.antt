@@ -1,4 +1,5 @@
 pub mod Fault
 pub mod Segment
 pub mod Store
+pub mod Index
 pub mod Lookup

@@ -5,7 +5,10 @@
 //! which paths between two ASes can be made.
 #![tactic(auto)]
 
+mod alike;
+mod ends;
 mod fault;
+mod index;
 pub mod laws;
 mod lookup;
 mod op;

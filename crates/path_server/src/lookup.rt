@@ -1,10 +1,14 @@
-//! Which segments a look-up gives, and copies of them.
+//! Which segments a look-up gives, found by the index, and copies of them.
 
-ghost use Rattle.std.specs.Prelude.{◌≡◌, ◌==◌, filter, IfOk};
-ghost use Rattle.std.specs.List.{list_any};
-ghost use Rattle.path_segment.specs.Chain.{first_as};
+ghost use Rattle.std.specs.Prelude.{◌≡◌, ◌++◌, ℕ, filter, IfOk, OnOk};
+ghost use Rattle.std.specs.List.{flat_map};
+ghost use Rattle.std.specs.List.Sorted.{IsStrictlyIncreasing};
+ghost use Rattle.path_segment.specs.Tests.{is_live};
+ghost use Rattle.path_server.specs.Index.{IsIndex, segments_at, passes_at, either_way, is_in};
 ghost use Rattle.path_server.specs.Lookup.{ends_in, is_reached, joins};
 
+use crate::ends::Ends;
+use crate::index::range;
 use isd_as::IsdAs;
 use path_segment::{SegKind, Segment};
 use std::alloc::{AllocError, Global};
@@ -20,83 +24,143 @@ pub(crate) fn copied(alloc: Global, segments: &[Segment]) -> Result<Vec<Segment>
     Ok(copies)
 }
 
+/// Copies of the segments at these places.
+fn copied_at(
+    alloc: Global,
+    segments: &[Segment],
+    places: &[usize],
+) -> Result<Vec<Segment>, AllocError>
+    ensures { IfOk result (λ copies. copies.items ≡ segments_at segments.now places.now) }
+{
+    let mut copies = Vec::with_capacity(alloc, places.len())?;
+    for place in places {
+        if let Some(segment) = segments.get(*place) {
+            copies.push(segment.try_clone(alloc)?)?;
+        }
+    }
+    Ok(copies)
+}
+
 /// Copies of the live intra segments that end in an AS.
 pub(crate) fn ending_in(
     alloc: Global,
     segments: &[Segment],
+    index: &[usize],
     ia: IsdAs,
     now: u32,
 ) -> Result<Vec<Segment>, AllocError>
+    requires { IsIndex segments.now index.now }
     ensures { IfOk result (λ found. found.items ≡ filter (ends_in ia now) segments.now) }
 {
-    let mut found = Vec::new(alloc);
+    let last = ia.number();
+    let low = Ends::new(SegKind::Intra, 0, last);
+    let high = Ends::new(SegKind::Intra, u64::MAX, last);
+    let mut places = Vec::new(alloc);
+    add_live(
+        &mut places,
+        segments,
+        range(segments, index, low, high),
+        now,
+    )?;
+    put_in_order(&mut places);
+    copied_at(alloc, segments, &places)
+}
+
+/// The numbers of the ASes of a side of a path: its own, and those in which its segments begin.
+pub(crate) fn reached(
+    alloc: Global,
+    ia: IsdAs,
+    segments: &[Segment],
+) -> Result<Vec<u64>, AllocError>
+    ensures { IfOk result (λ ases. (other : ℕ) → is_in ases.items other ≡ is_reached ia segments.now other) }
+{
+    let mut ases = Vec::new(alloc);
+    ases.push(ia.number())?;
     for segment in segments {
-        if ends_in(segment, ia, now) {
-            found.push(segment.try_clone(alloc)?)?;
-        }
+        ases.push(segment.first_as().number())?;
     }
-    Ok(found)
+    ases.sort_unstable();
+    ases.dedup();
+    Ok(ases)
 }
 
-/// One side of a path: an AS, and the segments by which it is joined to others.
-#[derive(Drop)]
-pub(crate) struct Side<'a> {
-    pub(crate) ia: IsdAs,
-    pub(crate) segments: &'a [Segment],
-}
-
-/// Copies of the live core segments from one side to the other.
+/// Copies of the live core segments from the ASes of one side to those of the other, either way
+/// round, by the numbers of the ASes.
 pub(crate) fn joining(
     alloc: Global,
     segments: &[Segment],
-    near: &Side<'_>,
-    far: &Side<'_>,
+    index: &[usize],
+    near: &[u64],
+    far: &[u64],
     now: u32,
 ) -> Result<Vec<Segment>, AllocError>
+    requires { IsIndex segments.now index.now }
     ensures { IfOk result (λ found. found.items ≡
-        filter (joins (is_reached near.now.ia near.now.segments.now) (is_reached far.now.ia far.now.segments.now) now) segments.now) }
+        filter (joins (is_in near.now) (is_in far.now) now) segments.now) }
 {
-    let mut found = Vec::new(alloc);
-    for segment in segments {
-        if joins(segment, near, far, now) {
-            found.push(segment.try_clone(alloc)?)?;
+    let mut places = Vec::new(alloc);
+    for one in near {
+        add_joining(&mut places, segments, index, *one, far, now)?;
+    }
+    put_in_order(&mut places);
+    copied_at(alloc, segments, &places)
+}
+
+/// Adds the places of the live core segments between an AS and others, either way round.
+fn add_joining(
+    places: &mut Vec<usize>,
+    segments: &[Segment],
+    index: &[usize],
+    one: u64,
+    others: &[u64],
+    now: u32,
+) -> Result<(), AllocError>
+    requires { IsIndex segments.now index.now }
+    ensures { OnOk result (places.new.items ≡
+        places.old.items ++ flat_map (either_way segments.now index.now now one) others.now) }
+{
+    for other in others {
+        let there = Ends::new(SegKind::Core, one, *other);
+        add_live(places, segments, range(segments, index, there, there), now)?;
+        let back = Ends::new(SegKind::Core, *other, one);
+        add_live(places, segments, range(segments, index, back, back), now)?;
+    }
+    Ok(())
+}
+
+/// Adds those of some places whose segments are live.
+fn add_live(
+    places: &mut Vec<usize>,
+    segments: &[Segment],
+    some: &[usize],
+    now: u32,
+) -> Result<(), AllocError>
+    ensures { OnOk result (places.new.items ≡
+        places.old.items ++ filter (passes_at (is_live now) segments.now) some.now) }
+{
+    for place in some {
+        if is_live_at(segments, *place, now) {
+            places.push(*place)?;
         }
     }
-    Ok(found)
+    Ok(())
 }
 
-/// Whether a segment is a live intra segment that ends in an AS.
-#[tactic(auto, unfolding(crate::specs::Lookup::ends_in))]
-fn ends_in(segment: &Segment, ia: IsdAs, now: u32) -> bool
-    ensures { result ≡ ends_in ia now segment.now }
+/// Whether there is a live segment at a place.
+fn is_live_at(segments: &[Segment], place: usize, now: u32) -> bool
+    ensures { result ≡ passes_at (is_live now) segments.now place }
 {
-    segment.kind() == SegKind::Intra && segment.is_live(now) && segment.last_as() == ia
+    match segments.get(place) {
+        Some(segment) => segment.is_live(now),
+        None => false,
+    }
 }
 
-/// Whether an AS is that of a side, or one in which one of its segments begins.
-#[tactic(auto, unfolding(crate::specs::Lookup::is_reached))]
-fn is_reached(side: &Side<'_>, ia: IsdAs) -> bool
-    ensures { result ≡ is_reached side.now.ia side.now.segments.now ia }
+/// Puts places in order of registration, each once.
+fn put_in_order(places: &mut Vec<usize>)
+    ensures rises { IsStrictlyIncreasing places.new.items }
+    ensures same { (place : ℕ) → is_in places.new.items place ≡ is_in places.old.items place }
 {
-    ia == side.ia || does_any_begin_in(side.segments, ia)
-}
-
-/// Whether one of these segments begins in an AS.
-fn does_any_begin_in(segments: &[Segment], ia: IsdAs) -> bool
-    ensures { result ≡ list_any (λ segment. first_as segment == ia) segments.now }
-{
-    segments.iter().any(|segment| segment.first_as() == ia)
-}
-
-/// Whether a segment is a live core segment from one side to the other, either way round.
-#[tactic(auto, unfolding(crate::specs::Lookup::joins))]
-fn joins(segment: &Segment, near: &Side<'_>, far: &Side<'_>, now: u32) -> bool
-    ensures { result ≡
-        joins (is_reached near.now.ia near.now.segments.now) (is_reached far.now.ia far.now.segments.now) now segment.now }
-{
-    let (first, last) = (segment.first_as(), segment.last_as());
-    segment.kind() == SegKind::Core
-        && segment.is_live(now)
-        && (is_reached(near, first) && is_reached(far, last)
-            || is_reached(near, last) && is_reached(far, first))
+    places.sort_unstable();
+    places.dedup();
 }

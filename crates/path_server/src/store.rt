@@ -1,13 +1,15 @@
-ghost use Rattle.std.specs.Prelude.{◌≡◌, ◌↔◌, [], ◌≤◌, length, count_by, filter, vec_len, IfOk, IsTrue, OnErr, OnOk};
-ghost use Rattle.std.specs.List.{list_any};
-ghost use Rattle.path_segment.specs.Tests.{is_live, is_same};
+ghost use Rattle.std.specs.Prelude.{◌≡◌, ◌↔◌, [], ◌∷◌, ◌++◌, ◌≤◌, true, Ok, length, filter, vec_len, IfErr, IfOk, IsTrue, OnErr, OnOk};
+ghost use Rattle.path_segment.specs.Tests.{is_live};
 ghost use Rattle.path_server.specs.Fault.{Registers};
-ghost use Rattle.path_server.specs.Segment.{is_alike};
-ghost use Rattle.path_server.specs.Store.{after, answer_to, registered, swept, expired_count};
+ghost use Rattle.path_server.specs.Index.{IsIndex};
+ghost use Rattle.path_server.specs.Store.{answer_to, registered, swept, expired_count, after, TakesIn};
 ghost use Rattle.path_server.specs.Lookup.{segments_for};
 
+use crate::alike::answer_to;
+use crate::ends::Ends;
 use crate::fault::{StoreError, StoreFault};
-use crate::lookup::{Side, ending_in, joining};
+use crate::index::{end_of, renew};
+use crate::lookup::{ending_in, joining, reached};
 use crate::op::StoreOp;
 use crate::set::SegmentSet;
 use isd_as::IsdAs;
@@ -16,13 +18,16 @@ use refusal::OrMemory;
 use std::alloc::{AllocError, Global};
 use std::marker::Model;
 
-/// The most segments of one kind with the same first and last AS.
-const MAX_ALIKE: usize = 32;
-
 /// The path segments that are known, in order of registration.
+///
+/// Beside them stands an index, by which they are found: their places, ordered by kind, last AS,
+/// first AS and registration. Look-ups of up and down segments know the last AS alone, so it stands
+/// before the first.
 #[derive(Debug, Drop)]
 pub struct PathStore {
     segments: Vec<Segment>,
+    index: Vec<usize>,
+    ghost agreed: { IsIndex segments.items index.items },
 }
 
 impl Model for PathStore {
@@ -41,6 +46,7 @@ impl PathStore {
     {
         PathStore {
             segments: Vec::new(alloc),
+            index: Vec::new(alloc),
         }
     }
 
@@ -78,14 +84,39 @@ impl PathStore {
         ensures taken { OnOk result (self.new ≡ registered self.old segment now) }
         ensures kept { OnErr result (self.new ≡ self.old) }
     {
-        match answer_to(&self.segments, &segment, now) {
+        match self.answer_to(&segment, now) {
             Err(fault) => Err((segment, OrMemory::Refused(fault))),
             Ok(false) => Ok(false),
-            Ok(true) => match self.segments.push(segment) {
+            Ok(true) => match self.take_in(segment) {
                 Ok(()) => Ok(true),
-                Err(refused) => Err((refused.value, OrMemory::Memory)),
+                Err(segment) => Err((segment, OrMemory::Memory)),
             },
         }
+    }
+
+    /// What registering a segment answers, before memory is asked for.
+    fn answer_to(&self, segment: &Segment, now: u32) -> Result<bool, StoreFault>
+        ensures { result ≡ answer_to self.now segment.now now }
+    {
+        answer_to(&self.segments, &self.index, segment, now)
+    }
+
+    /// Takes a segment in, behind the others. Want of memory hands it back.
+    fn take_in(&mut self, segment: Segment) -> Result<(), Segment>
+        ensures taken { OnOk result (self.new ≡ self.old ++ segment ∷ []) }
+        ensures kept { OnErr result (self.new ≡ self.old) }
+        ensures back { IfErr result (λ back. back ≡ segment) }
+    {
+        if self.index.try_reserve(1).is_err() {
+            return Err(segment);
+        }
+        let at = end_of(&self.segments, &self.index, Ends::of(&segment));
+        let place = self.segments.len();
+        if let Err(refused) = self.segments.push(segment) {
+            return Err(refused.value);
+        }
+        let _ = self.index.insert(at, place);
+        Ok(())
     }
 
     /// Takes out the segments that are not live at the second `now`, and says how many they were.
@@ -96,27 +127,45 @@ impl PathStore {
     {
         let before = self.segments.len();
         keep_live(&mut self.segments, now);
+        renew(&self.segments, &mut self.index);
         before - self.segments.len()
     }
 
-    /// Does one operation. A registration that the store refuses changes nothing.
-    #[tactic(auto, unfolding(crate::specs::Store::registered))]
-    pub fn apply(&mut self, alloc: Global, op: &StoreOp) -> Result<(), AllocError>
-        ensures applied { OnOk result (self.new ≡ after self.old op.now) }
+    /// Does one operation. A registration that the store would refuse changes nothing.
+    ///
+    /// Want of memory comes only where a new segment was to be taken in, of which it keeps a copy.
+    pub fn apply(&mut self, alloc: Global, operation: &StoreOp) -> Result<(), AllocError>
+        ensures done { OnOk result (self.new ≡ after self.old operation.now) }
         ensures kept { OnErr result (self.new ≡ self.old) }
+        ensures wanted { OnErr result (TakesIn operation.now self.old) }
     {
-        match op {
-            StoreOp::Register(segment, now) => {
-                let segment = segment.try_clone(alloc)?;
-                match self.register(segment, *now) {
-                    Err((_, OrMemory::Memory)) => Err(AllocError),
-                    _ => Ok(()),
-                }
-            }
+        match operation {
+            StoreOp::Register(segment, now) => self.register_copy(alloc, segment, *now),
             StoreOp::Sweep(now) => {
                 self.sweep(*now);
                 Ok(())
             }
+        }
+    }
+
+    /// Takes in a copy of a segment that is new at the second `now`, and no other.
+    #[tactic(auto, unfolding(crate::specs::Store::registered))]
+    fn register_copy(
+        &mut self,
+        alloc: Global,
+        segment: &Segment,
+        now: u32,
+    ) -> Result<(), AllocError>
+        ensures done { OnOk result (self.new ≡ registered self.old segment.now now) }
+        ensures kept { OnErr result (self.new ≡ self.old) }
+        ensures wanted { OnErr result (answer_to self.old segment.now now ≡ Ok true) }
+    {
+        match self.answer_to(segment, now) {
+            Ok(true) => match self.take_in(segment.try_clone(alloc)?) {
+                Ok(()) => Ok(()),
+                Err(_) => Err(AllocError),
+            },
+            Ok(false) | Err(_) => Ok(()),
         }
     }
 
@@ -136,17 +185,12 @@ impl PathStore {
     ) -> Result<SegmentSet, AllocError>
         ensures { IfOk result (λ set. set ≡ segments_for self.now src dst now) }
     {
-        let ups = ending_in(alloc, &self.segments, src, now)?;
-        let downs = ending_in(alloc, &self.segments, dst, now)?;
-        let near = Side {
-            ia: src,
-            segments: &ups,
-        };
-        let far = Side {
-            ia: dst,
-            segments: &downs,
-        };
-        let cores = joining(alloc, &self.segments, &near, &far, now)?;
+        let (segments, index) = (&self.segments, &self.index);
+        let ups = ending_in(alloc, segments, index, src, now)?;
+        let downs = ending_in(alloc, segments, index, dst, now)?;
+        let near = reached(alloc, src, &ups)?;
+        let far = reached(alloc, dst, &downs)?;
+        let cores = joining(alloc, segments, index, &near, &far, now)?;
         Ok(SegmentSet {
             ups,
             cores,
@@ -162,47 +206,4 @@ fn keep_live(segments: &mut Vec<Segment>, now: u32)
     ensures fewer { vec_len segments.new ≤ vec_len segments.old }
 {
     segments.retain(|segment| segment.is_live(now));
-}
-
-/// What registering a segment answers, before memory is asked for.
-#[tactic(auto, unfolding(crate::specs::Store::answer_to))]
-fn answer_to(segments: &[Segment], segment: &Segment, now: u32) -> Result<bool, StoreFault>
-    ensures { result ≡ answer_to segments.now segment.now now }
-{
-    if !segment.is_live(now) {
-        Err(StoreFault::Expired)
-    } else if is_in(segments, segment) {
-        Ok(false)
-    } else if count_alike(segments, segment) >= MAX_ALIKE {
-        Err(StoreFault::Full)
-    } else {
-        Ok(true)
-    }
-}
-
-/// Whether an equal segment is there.
-fn is_in(segments: &[Segment], segment: &Segment) -> bool
-    ensures { result ≡ list_any (is_same segment.now) segments.now }
-{
-    segments.iter().any(|other| segment.is_same(other))
-}
-
-/// How many segments are of this one's kind, and begin and end where it does.
-fn count_alike(segments: &[Segment], segment: &Segment) -> usize
-    ensures { result ≡ count_by (is_alike segment.now) segments.now }
-{
-    segments
-        .iter()
-        .filter(|other| is_alike(segment, other))
-        .count()
-}
-
-/// Whether two segments are of one kind, and begin and end in the same ASes.
-#[tactic(auto, unfolding(crate::specs::Segment::is_alike))]
-fn is_alike(segment: &Segment, other: &Segment) -> bool
-    ensures { result ≡ is_alike segment.now other.now }
-{
-    segment.kind() == other.kind()
-        && segment.first_as() == other.first_as()
-        && segment.last_as() == other.last_as()
 }

@@ -1,0 +1,53 @@
+-- What the order of an index says of the ends of its segments, and which part of it lies between
+-- two ends.
+use Rattle.std.proofs.Common.{◌≡◌, ℕ, zero, suc, ◌+◌, ◌^◌, ◌<◌, ◌≤◌, ltb, Bool, true, false, not, List, [], ◌∷◌, length, get_or, take, drop, filter, All, refl, ap, sym, ◌∙◌, inl, inr, arith}
+use Rattle.std.proofs.lemmas.Bool.{cases_lt, not-true, ltb-false, le-ltb}
+use Rattle.std.specs.List.{AllWithin, range_with_len}
+use Rattle.std.specs.List.Sorted.{IsNonDecreasingBy, IsPartitionedBy}
+use Rattle.std.proofs.lemmas.List.{map-id}
+use Rattle.std.proofs.lemmas.List.FromFn.{fill_by_all}
+use Rattle.path_segment.specs.Chain.{Chain}
+use Rattle.path_server.specs.Index.{rank_at, order_at}
+
+-- places in order have ends in order
+pub ranks_rise : (segments : List Chain) (index : List ℕ) → All (λ place. place < 2 ^ 64) index → IsNonDecreasingBy (order_at segments) index → IsNonDecreasingBy (rank_at segments) index
+ranks_rise segments index small rises i j d upward within =
+    let order = rises i j d upward within in
+    let bound = small j d within in
+    omega arith
+
+-- what is no higher than a bound comes first
+pub no_higher_first : (segments : List Chain) (index : List ℕ) (bound : ℕ) → IsNonDecreasingBy (rank_at segments) index → IsPartitionedBy (λ place. not (ltb bound (rank_at segments place))) index
+no_higher_first segments index bound rises i j d upward within passes =
+    let rise = rises i j d upward within in
+    let low = ltb-false _ _ (not-true _ passes) in
+    ap not (le-ltb bound _ (omega arith))
+
+nothing_passes : {X : Type 0} (p : X → Bool) (xs : List X) → AllWithin (λ x. p x ≡ false) xs 0 (length xs) → filter p xs ≡ []
+nothing_passes p [] fails = refl
+nothing_passes p (x ∷ xs) fails = rw (fails 0 x (omega arith) (omega arith)) (nothing_passes p xs (λ k d low high. fails (suc k) d (omega arith) (omega arith)))
+
+-- where just the n elements from one place on pass a test, they are what a filter keeps
+pub part_is_kept : {X : Type 0} (p : X → Bool) (xs : List X) (from n : ℕ) → from + n ≤ length xs → AllWithin (λ x. p x ≡ false) xs 0 from → AllWithin (λ x. p x ≡ true) xs from (from + n) → AllWithin (λ x. p x ≡ false) xs (from + n) (length xs) → take n (drop from xs) ≡ filter p xs
+part_is_kept p [] zero zero within before between after = refl
+part_is_kept p [] (suc from) n within before between after = absurd (omega arith)
+part_is_kept p [] zero (suc n) within before between after = absurd (omega arith)
+part_is_kept p (x ∷ xs) zero zero within before between after = sym (nothing_passes p (x ∷ xs) after)
+part_is_kept p (x ∷ xs) zero (suc n) within before between after =
+    rw (between 0 x (omega arith) (omega arith)) (ap (λ rest. x ∷ rest) (part_is_kept p xs zero n (omega arith)
+    (λ k d low high. absurd (omega arith)) (λ k d low high. between (suc k) d (omega arith) (omega arith)) (λ k d low high. after (suc k) d (omega arith) (omega arith))))
+part_is_kept p (x ∷ xs) (suc from) n within before between after =
+    rw (before 0 x (omega arith) (omega arith)) (part_is_kept p xs from n (omega arith)
+    (λ k d low high. before (suc k) d (omega arith) (omega arith)) (λ k d low high. between (suc k) d (omega arith) (omega arith)) (λ k d low high. after (suc k) d (omega arith) (omega arith)))
+
+-- of places below which all ends are under a bound, and places from which on none are under a
+-- higher one, the first is no later
+pub ends_no_earlier : (ranks : ℕ → ℕ) (index : List ℕ) (low high from to : ℕ) → low ≤ high → from ≤ length index → AllWithin (λ place. ranks place < low) index 0 from → AllWithin (λ place. high < ranks place) index to (length index) → from ≤ to
+ends_no_earlier ranks index low high from to upward within below above = elim (cases_lt to from) [
+  | inl back ↦ (let under = below to 0 (omega arith) back in let over = above to 0 (omega arith) (omega arith) in absurd (omega arith))
+  | inr fits ↦ fits
+]
+
+-- a list whose elements are their own places
+pub numbered_is : (xs : List ℕ) → ((k : ℕ) → k < length xs → get_or xs k 0 ≡ k) → xs ≡ range_with_len 0 (length xs)
+numbered_is xs own = fill_by_all (λ k. k) xs (length xs) 0 refl own ∙ map-id _

@@ -1,0 +1,64 @@
+//! The index of a list of segments: their places, by their ends and registration.
+
+ghost use Rattle.std.specs.Prelude.{◌≡◌, ◌≤◌, ◌<◌, ℕ, length, filter, vec_len};
+ghost use Rattle.std.specs.List.{AllWithin, range_with_len};
+ghost use Rattle.std.specs.List.Sorted.{IsNonDecreasingBy};
+ghost use Rattle.path_server.specs.Index.{HasEachPlace, IsIndex, number_of, rank_at, order_at, lies_between};
+
+use crate::ends::{Ends, in_order, is_above, is_below};
+use path_segment::Segment;
+
+/// The places of the segments whose ends lie from `low` to `high`, both included.
+pub(crate) fn range<'a>(
+    segments: &[Segment],
+    index: &'a [usize],
+    low: Ends,
+    high: Ends,
+) -> &'a [usize]
+    requires agreed { IsIndex segments.now index.now }
+    requires upward { number_of low ≤ number_of high }
+    ensures { result.now ≡ filter (lies_between segments.now (number_of low) (number_of high)) index.now }
+{
+    let start = start_of(segments, index, low);
+    &index[start..end_of(segments, index, high)]
+}
+
+/// How many places have segments with ends below these.
+fn start_of(segments: &[Segment], index: &[usize], ends: Ends) -> usize
+    requires { IsIndex segments.now index.now }
+    ensures within { result ≤ length index.now }
+    ensures below { AllWithin (λ place. rank_at segments.now place < number_of ends) index.now 0 result }
+    ensures rest { AllWithin (λ place. number_of ends ≤ rank_at segments.now place) index.now result (length index.now) }
+{
+    index.partition_point(|place| is_below(segments, *place, ends))
+}
+
+/// How many places have segments with these ends or ends below them.
+pub(crate) fn end_of(segments: &[Segment], index: &[usize], ends: Ends) -> usize
+    requires { IsIndex segments.now index.now }
+    ensures within { result ≤ length index.now }
+    ensures below { AllWithin (λ place. rank_at segments.now place ≤ number_of ends) index.now 0 result }
+    ensures rest { AllWithin (λ place. number_of ends < rank_at segments.now place) index.now result (length index.now) }
+{
+    index.partition_point(|place| !is_above(segments, *place, ends))
+}
+
+/// Makes an index that has at least as many places that of these segments.
+pub(crate) fn renew(segments: &[Segment], index: &mut Vec<usize>)
+    requires { length segments.now ≤ vec_len index.old }
+    ensures each { HasEachPlace segments.now index.new.items }
+    ensures ordered { IsNonDecreasingBy (order_at segments.now) index.new.items }
+{
+    index.truncate(segments.len());
+    number(index);
+    index.sort_unstable_by(|place, other| in_order(segments, *place, *other));
+}
+
+/// Writes each element's own place into it.
+fn number(index: &mut [usize])
+    ensures { index.new ≡ range_with_len 0 (length index.old) }
+{
+    for place in 0..index.len() {
+        index[place] = place;
+    }
+}
