@@ -1,5 +1,5 @@
 use isd_as::IfId;
-use path_header::{Header, HeaderFault, HopField, InfoField, decode, encode};
+use path_header::{Header, HeaderFault, HeaderMut, HopField, InfoField, decode, encode};
 use std::test::Fail;
 
 /// A path of one segment of two hop fields, travelled in construction direction, at its second hop.
@@ -179,5 +179,42 @@ fn header_is_read_and_reversed(rt: HostRuntime) -> Result<(), Fail> {
     assert_eq!(rt; room, BACK);
     header.set_seg_id(0, 0xb396);
     assert_eq!(rt; header.current_info(), UP_INFO);
+    Ok(())
+}
+
+/// [`UP`] with some of its bytes set to others.
+fn up_with(changes: &[(usize, u8)]) -> [u8; 36] {
+    let mut bytes = UP;
+    for (at, value) in changes {
+        if let Some(byte) = bytes.get_mut(*at) {
+            *byte = *value;
+        }
+    }
+    bytes
+}
+
+#[test]
+fn header_is_changed_where_it_stands(rt: HostRuntime) -> Result<(), Fail> {
+    let mut bytes = UP;
+    let mut header = HeaderMut::new(&mut bytes)?;
+    if header.hop_count() > 1 {
+        header.set_indices(0, 1);
+        assert_eq!(rt; header.segment_of(1), 0);
+    }
+    assert_eq!(rt; (header.curr_inf(), header.curr_hf()), (0, 1));
+    assert_eq!(rt; header.current_hop(), CORE_HOP);
+    assert_eq!(rt; bytes, up_with(&[(0, 0x01)]));
+
+    let mut bytes = UP;
+    let mut header = HeaderMut::new(&mut bytes)?;
+    assert_eq!(rt; (header.info_count(), header.seg_lens().first), (1, 2));
+    assert_eq!(rt;
+        (header.current_info(), header.current_hop()),
+        (UP_INFO, LEAF_HOP)
+    );
+    header.set_seg_id(0, 0x1234);
+    assert_eq!(rt; header.info(0).seg_id, 0x1234);
+    assert_eq!(rt; bytes, up_with(&[(6, 0x12), (7, 0x34)]));
+    assert_eq!(rt; code_of(HeaderMut::new(&mut bytes[..35])), 20);
     Ok(())
 }

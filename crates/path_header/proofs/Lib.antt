@@ -1,9 +1,12 @@
 pub mod FieldLoop
+pub mod FieldChecks
 pub mod Answered
 pub mod OneField
 pub mod ManyFields
 pub mod MetaField
 pub mod WholeHeader
+pub mod Seen
+pub mod Changed
 pub mod Room
 pub mod Encoded
 pub mod TurnedTwice

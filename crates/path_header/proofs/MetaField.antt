@@ -110,7 +110,7 @@ pub record Begins (bytes : List ℕ) (m : Meta) : Type 0 where
 abbrev if_long : List ℕ → Meta → SegLens → Result Meta HeaderFault
 if_long bytes m lens = cond (ltb (length bytes) (len_for lens)) (Err faults.Short) (Ok m)
 
-announced_takes : (bytes : List ℕ) (m m' : Meta) → announced bytes m ≡ Ok m' → AreLens m.lens × (len_for m.lens ≤ length bytes) × (m ≡ m')
+pub announced_takes : (bytes : List ℕ) (m m' : Meta) → announced bytes m ≡ Ok m' → AreLens m.lens × (len_for m.lens ≤ length bytes) × (m ≡ m')
 announced_takes bytes m m' e =
     let b = bind_ok (checked_lens m.lens) (λ lens. if_long bytes m lens) m' e in
     let ok = lens_ok m.lens b.0 b.1 in

@@ -22,16 +22,16 @@ use Rattle.path_header.proofs.MetaField.{MetaFits, meta_takes, meta_again}
 
 -- ---- what is read is spelled so
 
-abbrev checked_indices : Meta → List InfoField → List HopField → Result HeaderValue HeaderFault
+abbrev pub checked_indices : Meta → List InfoField → List HopField → Result HeaderValue HeaderFault
 checked_indices m infos hops =
     cond (ltb m.curr_inf (info_count m.lens) && ltb m.curr_hf (hop_count m.lens))
     (Ok (record { curr_inf = m.curr_inf; curr_hf = m.curr_hf; lens = m.lens; infos = infos; hops = hops }))
     (Err BadIndex)
 
-abbrev hops_after : List ℕ → Meta → List InfoField → Result HeaderValue HeaderFault
+abbrev pub hops_after : List ℕ → Meta → List InfoField → Result HeaderValue HeaderFault
 hops_after bytes m infos = fields_at hop_at 12 (hop_count m.lens) (drop (4 + 8 * info_count m.lens) bytes) >>= λ hops. checked_indices m infos hops
 
-abbrev fields_after : List ℕ → Meta → Result HeaderValue HeaderFault
+abbrev pub fields_after : List ℕ → Meta → Result HeaderValue HeaderFault
 fields_after bytes m = fields_at info_at 8 (info_count m.lens) (drop 4 bytes) >>= λ infos. hops_after bytes m infos
 
 -- these bytes begin with the spelling of this header

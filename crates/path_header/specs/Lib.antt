@@ -3,4 +3,6 @@ pub mod Value
 pub mod Building
 pub mod Spelling
 pub mod Reading
+pub mod Shown
+pub mod Borrowed
 pub mod Reversal

@@ -36,28 +36,36 @@ meta_at bytes =
     else if nat_lt 0 (reserved_bits (word_at bytes)) then Err Reserved
     else announced bytes (meta_from (word_at bytes))
 
+-- what the info field at the front says
+abbrev pub info_from : List ℕ → InfoField
+info_from bytes = record {
+  construction = slice_index bytes 0 == 1;
+  seg_id = from_be_bytes w16 (slice_index bytes 2 ∷ slice_index bytes 3 ∷ []);
+  timestamp = from_be_bytes w32 (slice_index bytes 4 ∷ slice_index bytes 5 ∷ slice_index bytes 6 ∷ slice_index bytes 7 ∷ []);
+}
+
 -- the info field at the front, if no flag but C and no reserved bit is set
 unfoldable pub info_at : List ℕ → Result InfoField HeaderFault
 info_at bytes =
     if nat_lt 0 (bit_and (slice_index bytes 0) 2) then Err PeerFlag
     else if nat_lt 1 (slice_index bytes 0) || nat_lt 0 (slice_index bytes 1) then Err Reserved
-    else Ok (record {
-      construction = slice_index bytes 0 == 1;
-      seg_id = from_be_bytes w16 (slice_index bytes 2 ∷ slice_index bytes 3 ∷ []);
-      timestamp = from_be_bytes w32 (slice_index bytes 4 ∷ slice_index bytes 5 ∷ slice_index bytes 6 ∷ slice_index bytes 7 ∷ []);
-    })
+    else Ok (info_from bytes)
+
+-- what the hop field at the front says
+abbrev pub hop_from : List ℕ → HopField
+hop_from bytes = record {
+  exp_time = slice_index bytes 1;
+  cons_ingress = from_be_bytes w16 (slice_index bytes 2 ∷ slice_index bytes 3 ∷ []);
+  cons_egress = from_be_bytes w16 (slice_index bytes 4 ∷ slice_index bytes 5 ∷ []);
+  mac = slice_index bytes 6 ∷ slice_index bytes 7 ∷ slice_index bytes 8 ∷ slice_index bytes 9 ∷ slice_index bytes 10 ∷ slice_index bytes 11 ∷ [];
+}
 
 -- the hop field at the front, if no flag and no reserved bit is set
 unfoldable pub hop_at : List ℕ → Result HopField HeaderFault
 hop_at bytes =
     if nat_lt 0 (bit_and (slice_index bytes 0) 3) then Err AlertFlag
     else if nat_lt 0 (slice_index bytes 0) then Err Reserved
-    else Ok (record {
-      exp_time = slice_index bytes 1;
-      cons_ingress = from_be_bytes w16 (slice_index bytes 2 ∷ slice_index bytes 3 ∷ []);
-      cons_egress = from_be_bytes w16 (slice_index bytes 4 ∷ slice_index bytes 5 ∷ []);
-      mac = slice_index bytes 6 ∷ slice_index bytes 7 ∷ slice_index bytes 8 ∷ slice_index bytes 9 ∷ slice_index bytes 10 ∷ slice_index bytes 11 ∷ [];
-    })
+    else Ok (hop_from bytes)
 
 -- so many fields of this width, one after the other
 unfoldable pub fields_at : {A : Type 0} → (List ℕ → Result A HeaderFault) → ℕ → ℕ → List ℕ → Result (List A) HeaderFault

@@ -7,6 +7,8 @@
 //! memory.
 #![tactic(auto)]
 
+mod borrowed;
+mod checking;
 mod fault;
 mod fields;
 mod header;
@@ -17,6 +19,7 @@ mod reading;
 mod reversal;
 mod writing;
 
+pub use borrowed::HeaderMut;
 pub use fault::HeaderFault;
 pub use fields::{HopField, InfoField};
 pub use header::Header;

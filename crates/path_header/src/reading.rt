@@ -1,7 +1,8 @@
 ghost use Rattle.std.specs.Prelude.{◌≡◌, ℕ, ◌+◌, ◌*◌, ◌<◌, ◌≤◌, nat_lt, List, ◌++◌, length, take, drop, Result, Ok, Err, IfOk, MatchResult};
 ghost use Rattle.path_header.specs.Value.{HeaderValue, AreLens, header_len, len_for};
 ghost use Rattle.path_header.specs.Spelling.{Spells};
-ghost use Rattle.path_header.specs.Reading.{word_at, reserved_bits, meta_from, meta_at, info_at, hop_at, fields_at, header_at, read_at};
+ghost use Rattle.path_header.specs.Reading.{word_at, reserved_bits, meta_from, meta_at, info_from, info_at, hop_from, hop_at, fields_at, header_at, read_at};
+ghost use Rattle.refusal.specs.Refusal.{Gives};
 
 use crate::fault::HeaderFault;
 use crate::fields::{HopField, InfoField};
@@ -35,7 +36,7 @@ pub fn decode(bytes: &[u8]) -> Result<(Header, usize), HeaderFault>
 }
 
 /// The number of the first four bytes.
-fn word_of(bytes: &[u8]) -> u32
+pub(crate) fn word_of(bytes: &[u8]) -> u32
     requires { 4 ≤ length bytes.now }
     ensures { result ≡ word_at bytes.now }
 {
@@ -50,7 +51,7 @@ fn has_reserved(word: u32) -> bool
 }
 
 /// What the meta field says as a number.
-fn meta_in(word: u32) -> Meta
+pub(crate) fn meta_in(word: u32) -> Meta
     ensures { result ≡ meta_from word }
 {
     Meta {
@@ -66,7 +67,7 @@ fn meta_in(word: u32) -> Meta
 
 /// The meta field, where the bytes are long enough for the header that it begins.
 #[tactic(auto, unfolding(crate::specs::Reading::meta_at))]
-fn meta_of(bytes: &[u8]) -> Result<Meta, HeaderFault>
+pub(crate) fn meta_of(bytes: &[u8]) -> Result<Meta, HeaderFault>
     ensures exact { result ≡ meta_at bytes.now }
     ensures lens { IfOk result (λ m. AreLens m.lens) }
     ensures long { IfOk result (λ m. len_for m.lens ≤ length bytes.now) }
@@ -86,11 +87,11 @@ fn meta_of(bytes: &[u8]) -> Result<Meta, HeaderFault>
     Ok(meta)
 }
 
-/// The info field at the front.
+/// Checks that no flag but C and no reserved bit of the info field at the front is set.
 #[tactic(auto, unfolding(crate::specs::Reading::info_at))]
-fn info_of(bytes: &[u8]) -> Result<InfoField, HeaderFault>
+pub(crate) fn check_info(bytes: &[u8]) -> Result<(), HeaderFault>
     requires { 8 ≤ length bytes.now }
-    ensures { result ≡ info_at bytes.now }
+    ensures { Gives (λ _. info_from bytes.now) result (info_at bytes.now) }
 {
     let flags = bytes[0];
     if flags & 2 > 0 {
@@ -99,18 +100,35 @@ fn info_of(bytes: &[u8]) -> Result<InfoField, HeaderFault>
     if flags > 1 || bytes[1] > 0 {
         return Err(HeaderFault::Reserved);
     }
-    Ok(InfoField {
-        construction: flags == 1,
-        seg_id: u16::from_be_bytes([bytes[2], bytes[3]]),
-        timestamp: u32::from_be_bytes([bytes[4], bytes[5], bytes[6], bytes[7]]),
-    })
+    Ok(())
 }
 
-/// The hop field at the front.
+/// What the info field at the front says.
+pub(crate) fn info_in(bytes: &[u8]) -> InfoField
+    requires { 8 ≤ length bytes.now }
+    ensures { result ≡ info_from bytes.now }
+{
+    InfoField {
+        construction: bytes[0] == 1,
+        seg_id: u16::from_be_bytes([bytes[2], bytes[3]]),
+        timestamp: u32::from_be_bytes([bytes[4], bytes[5], bytes[6], bytes[7]]),
+    }
+}
+
+/// The info field at the front.
+fn info_of(bytes: &[u8]) -> Result<InfoField, HeaderFault>
+    requires { 8 ≤ length bytes.now }
+    ensures { result ≡ info_at bytes.now }
+{
+    check_info(bytes)?;
+    Ok(info_in(bytes))
+}
+
+/// Checks that no flag and no reserved bit of the hop field at the front is set.
 #[tactic(auto, unfolding(crate::specs::Reading::hop_at))]
-fn hop_of(bytes: &[u8]) -> Result<HopField, HeaderFault>
+pub(crate) fn check_hop(bytes: &[u8]) -> Result<(), HeaderFault>
     requires { 12 ≤ length bytes.now }
-    ensures { result ≡ hop_at bytes.now }
+    ensures { Gives (λ _. hop_from bytes.now) result (hop_at bytes.now) }
 {
     let flags = bytes[0];
     if flags & 3 > 0 {
@@ -119,12 +137,29 @@ fn hop_of(bytes: &[u8]) -> Result<HopField, HeaderFault>
     if flags > 0 {
         return Err(HeaderFault::Reserved);
     }
-    Ok(HopField {
+    Ok(())
+}
+
+/// What the hop field at the front says.
+pub(crate) fn hop_in(bytes: &[u8]) -> HopField
+    requires { 12 ≤ length bytes.now }
+    ensures { result ≡ hop_from bytes.now }
+{
+    HopField {
         exp_time: bytes[1],
         cons_ingress: IfId(u16::from_be_bytes([bytes[2], bytes[3]])),
         cons_egress: IfId(u16::from_be_bytes([bytes[4], bytes[5]])),
         mac: [bytes[6], bytes[7], bytes[8], bytes[9], bytes[10], bytes[11]],
-    })
+    }
+}
+
+/// The hop field at the front.
+fn hop_of(bytes: &[u8]) -> Result<HopField, HeaderFault>
+    requires { 12 ≤ length bytes.now }
+    ensures { result ≡ hop_at bytes.now }
+{
+    check_hop(bytes)?;
+    Ok(hop_in(bytes))
 }
 
 /// So many info fields, one after the other.

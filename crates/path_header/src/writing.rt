@@ -39,7 +39,7 @@ fn put_header(room: &mut [u8], header: &Header)
 }
 
 /// Writes these bytes into the room, at this place.
-fn put(room: &mut [u8], at: usize, part: &[u8])
+pub(crate) fn put(room: &mut [u8], at: usize, part: &[u8])
     requires { at + length part.now ≤ length room.old }
     ensures { room.new ≡ take at room.old ++ (part.now ++ drop (at + length part.now) room.old) }
 {

@@ -1,11 +1,8 @@
 -- What a step computes to where its checks hold.
-use Rattle.std.proofs.Common.{◌≡◌, ℕ, ◌+◌, Bool, true, false, not, ◌==◌, if◌then◌else◌, Result, Ok, Some, refl, sym, ap, ◌∙◌, subst, arith}
-use Rattle.std.specs.Bool.{beq}
+use Rattle.std.proofs.Common.{◌≡◌, ℕ, Bool, true, false, not, ◌==◌, if◌then◌else◌, Result, Ok, refl, ap, ◌∙◌}
 use Rattle.refusal.specs.Refusal.{◌>>=◌, check}
 use Rattle.scion_topology.specs.declared.entry.IfEntry.{IfEntry}
-use Rattle.scion_topology.specs.View.{View, entry_of}
-use Rattle.path_header.specs.declared.fields.InfoField.{InfoField}
-use Rattle.path_header.specs.declared.fields.HopField.{HopField}
+use Rattle.scion_topology.specs.View.{View}
 use Rattle.path_header.specs.Value.{HeaderValue}
 use Rattle.router_step.specs.declared.arrival.Arrival.{Arrival}
 use Rattle.router_step.specs.declared.outcome.Outcome.{Outcome}
@@ -13,7 +10,7 @@ use Rattle.router_step.specs.declared.outcome.Outcome.TheVariants.{ToLink, ToRou
 use Rattle.router_step.specs.declared.fault.Refusal.{Refusal}
 use Rattle.router_step.specs.declared.fault.Refusal.TheVariants as refusal
 use Rattle.router_step.specs.Place.{info_of, hop_of, is_over_link, way_out, arrived, moved_on, gone}
-use Rattle.router_step.specs.Checks.{indices_fit, way_in_fits, is_live, is_mac_right, source_fits, is_last, destination_fits, ends_segment, kinds_fit}
+use Rattle.router_step.specs.Checks.{is_live, is_mac_right, source_fits, is_last, destination_fits, ends_segment}
 use Rattle.router_step.specs.Step.{passes, admitted, ended, switched, left, step_of}
 use Rattle.router_step.specs.Forward.{IsAdmitted, MayLeave, goes}
 

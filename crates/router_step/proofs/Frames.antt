@@ -15,17 +15,6 @@ use Rattle.router_step.specs.declared.arrival.Arrival.{Arrival}
 use Rattle.router_step.specs.Packet.{source_of, destination_of, as_bad_header, header_in, packet_step, frame_step, IsFrame, HasHeader, StepsFrame}
 use Rattle.router_step.specs.Step.{step_of}
 
--- the front of what stands behind the addresses was written anew
-pub written : (packet addresses room after text : List ℕ) (count len : ℕ)
-    → addresses ≡ take 16 packet → room ≡ drop 16 packet → count ≡ len → take count after ≡ text → drop count after ≡ drop count room
-    → addresses ++ after ≡ take 16 packet ++ (text ++ drop (16 + len) packet)
-written packet addresses room after text count len addresses_are room_is count_is text_is rest_is =
-    let rest : drop count after ≡ drop (16 + len) packet =
-    rest_is ∙ ap (drop count) room_is ∙ drop-drop count 16 packet ∙ ap (λ n. drop (16 + n) packet) count_is in
-    let whole : after ≡ text ++ drop (16 + len) packet =
-    sym (take-append-drop count after) ∙ ap (λ t. t ++ drop count after) text_is ∙ ap (λ r. text ++ r) rest in
-    ap (λ a. a ++ after) addresses_are ∙ ap (λ a. take 16 packet ++ a) whole
-
 -- the one text that spells a header spells it
 pub spells_spelling : (text : List ℕ) (header : HeaderValue) → Spells text header → Spells (spelling header) header
 spells_spelling text header s = subst (λ t. Spells t header) s.spelled s
@@ -88,7 +77,7 @@ turned packet addresses text rest after header read new count outcome step f sam
     subst (λ r. StepsFrame r addresses text rest after (Ok outcome)) (sym (ap step (sym same) ∙ done)) turn
 
 -- the header of a packet of these parts
-read_in : (packet addresses text rest : List ℕ) (header : HeaderValue) → IsFrame packet addresses text rest header → header_in packet ≡ Ok (header, header_len header)
+pub read_in : (packet addresses text rest : List ℕ) (header : HeaderValue) → IsFrame packet addresses text rest header → header_in packet ≡ Ok (header, header_len header)
 read_in packet addresses text rest header f =
     let long : 16 ≤ length packet = rw f.whole (omega (arith, length-append addresses (text ++ rest), f.two)) in
     rw (le-ltb (length packet) 16 long) (ap as_bad_header (ap read_at (behind packet addresses text rest header f) ∙ spelled_is_read header text rest f.spells))

@@ -1,5 +1,6 @@
 pub mod FieldReads
 pub mod Frames
+pub mod BehindAddresses
 pub mod DoneSteps
 pub mod Places
 pub mod StepLaws

@@ -1,12 +1,11 @@
 -- A step that goes on in the next segment.
-use Rattle.std.proofs.Common.{◌≡◌, ◌≢◌, ℕ, ◌+◌, Bool, true, List, get_or, refl, sym, ap, ◌∙◌, arith, get_or-set_other}
-use Rattle.path_header.specs.declared.fields.InfoField.{InfoField}
+use Rattle.std.proofs.Common.{◌≡◌, ◌≢◌, ℕ, ◌+◌, Bool, true, refl, ap, ◌∙◌, arith, get_or-set_other}
 use Rattle.path_header.specs.Value.{HeaderValue}
 use Rattle.router_step.specs.declared.outcome.Outcome.{Outcome}
 use Rattle.router_step.specs.declared.outcome.Outcome.TheVariants.{ToLink, ToRouter, Deliver}
 use Rattle.router_step.specs.Place.{info_at, info_of, with_seg_id, arrived, moved_on, gone}
 use Rattle.router_step.specs.Checks.{changes_segment}
-use Rattle.router_step.specs.Done.{Situation, Does, on_arrival, at_the_way_out, ChangesSegment}
+use Rattle.router_step.specs.Done.{Situation, Does, at_the_way_out, ChangesSegment}
 use Rattle.router_step.proofs.StepLaws.{new_header}
 
 -- an info field stays where another one's accumulator is set

@@ -1,9 +1,11 @@
 //! The step over the bytes of a packet.
 
-ghost use Rattle.std.specs.Prelude.{◌≡◌, ℕ, ◌+◌, ◌≤◌, List, ◌++◌, length, take, drop, IfOk, MatchResult};
+ghost use Rattle.std.specs.Prelude.{◌≡◌, ℕ, ◌+◌, ◌≤◌, true, List, ◌++◌, length, take, drop, OnOk, OnErr, IfOk, MatchResult};
 ghost use Rattle.path_header.specs.Value.{HeaderValue, header_len};
-ghost use Rattle.path_header.specs.Spelling.{Spells, spelling};
-ghost use Rattle.router_step.specs.Step.{step_of};
+ghost use Rattle.path_header.specs.Spelling.{Spells};
+ghost use Rattle.path_header.specs.Shown.{has_header, shown};
+ghost use Rattle.refusal.specs.Refusal.{Gives};
+ghost use Rattle.router_step.specs.Step.{step_of, IsStepped};
 ghost use Rattle.router_step.specs.Packet.{destination_of, source_of, header_in, packet_step, IsPacketStepped, IsFrame, HasHeader, StepsFrame};
 
 use crate::arrival::Arrival;
@@ -11,7 +13,7 @@ use crate::fault::Refusal;
 use crate::outcome::Outcome;
 use crate::route::step_header;
 use isd_as::IsdAs;
-use path_header::{Header, HeaderFault, decode, encode};
+use path_header::{Header, HeaderFault, HeaderMut, decode};
 use scion_topology::RouterView;
 
 /// The bytes in front of the path header: the destination's and the source's address.
@@ -67,12 +69,59 @@ pub fn step(
         (λ _. HasHeader packet.old)
         (λ refusal. (result ≡ Err refusal) × (packet.new ≡ packet.old)) }
 {
-    let (mut header, _len) = read_header(packet)?;
+    check_header(packet)?;
     let source = source_in(packet);
     let destination = destination_in(packet);
-    let outcome = step_header(view, now, arrival, source, destination, &mut header)?;
-    write_header(&header, packet);
-    Ok(outcome)
+    let (_, rest) = packet.split_at_mut(ADDRESSES_LEN);
+    step_behind(view, now, arrival, source, destination, rest)
+}
+
+/// The step over what stands behind a packet's addresses, in front of which a header was found.
+fn step_behind(
+    view: &RouterView<'_>,
+    now: u32,
+    arrival: Arrival,
+    source: IsdAs,
+    destination: IsdAs,
+    bytes: &mut [u8],
+) -> Result<Outcome, Refusal>
+    requires { has_header bytes.old ≡ true }
+    ensures exact { let step = step_of view.now now arrival source destination (shown bytes.old)
+        in IsStepped step (shown bytes.old) (shown bytes.new) result }
+    ensures refused { OnErr result (bytes.new ≡ bytes.old) }
+    ensures lens { (shown bytes.new).lens ≡ (shown bytes.old).lens }
+    ensures rest { let header = shown bytes.new
+        in drop (header_len header) bytes.new ≡ drop (header_len (shown bytes.old)) bytes.old }
+    // There was a header, and there is one.
+    ensures before { let header = shown bytes.old
+        in Spells (take (header_len header) bytes.old) header }
+    ensures after { let header = shown bytes.new
+        in Spells (take (header_len header) bytes.new) header }
+    ensures long { header_len (shown bytes.old) ≤ length bytes.old }
+{
+    let mut header = HeaderMut::checked(bytes);
+    header.known();
+    let stepped = step_header(view, now, arrival, source, destination, &mut header);
+    header.known();
+    stepped
+}
+
+/// Checks that a path header stands behind a packet's addresses: [`Refusal::BadHeader`] with the
+/// reason why there is none.
+fn check_header(packet: &[u8]) -> Result<(), Refusal>
+    ensures exact { let header = shown (drop 16 packet.now)
+        in Gives (λ _. (header, header_len header)) result (header_in packet.now) }
+    ensures long { OnOk result (16 ≤ length packet.now) }
+    ensures begins { OnOk result (has_header (drop 16 packet.now) ≡ true) }
+{
+    if packet.len() < ADDRESSES_LEN {
+        return Err(Refusal::BadHeader(HeaderFault::Short));
+    }
+    let (_, rest) = packet.split_at(ADDRESSES_LEN);
+    match HeaderMut::check(rest) {
+        Ok(()) => Ok(()),
+        Err(fault) => Err(Refusal::BadHeader(fault)),
+    }
 }
 
 /// The path header behind a packet's addresses, and its length in bytes; or [`Refusal::BadHeader`]
@@ -112,20 +161,4 @@ pub fn source_in(packet: &[u8]) -> IsdAs
 {
     let (_, rest) = packet.split_at(8);
     destination_in(rest)
-}
-
-/// Writes the header over the one that stands behind the addresses, of the same length.
-fn write_header(header: &Header, packet: &mut [u8])
-    requires { 16 + header_len header.now ≤ length packet.old }
-    ensures written { packet.new
-        ≡ take 16 packet.old ++
-        (spelling header.now ++ drop (16 + header_len header.now) packet.old) }
-    ensures spells { Spells (spelling header.now) header.now }
-    ensures len { length (spelling header.now) ≡ header_len header.now }
-{
-    let (_, room) = packet.split_at_mut(ADDRESSES_LEN);
-    match encode(header, room) {
-        Ok(_) => {}
-        Err(_) => unreachable!(),
-    }
 }

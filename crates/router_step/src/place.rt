@@ -1,25 +1,26 @@
 //! Where a packet stands on its path: the fields there, and the writers of what a step changes.
 
 ghost use Rattle.std.specs.Prelude.{◌≡◌, ◌+◌, ◌<◌, length, if◌then◌else◌};
-ghost use Rattle.router_step.specs.Place.{info_of, hop_of, way_in, way_out, seg_id_on_arrival, arrived, moved_on, seg_id_on_leaving, gone};
+ghost use Rattle.path_header.specs.Borrowed.{value_of, rest_of};
+ghost use Rattle.router_step.specs.Place.{info_of, hop_of, way_in, way_out, with_seg_id, seg_id_on_arrival, arrived, moved_on, seg_id_on_leaving, gone};
 
 use crate::arrival::Arrival;
 use crate::outcome::Outcome;
 use hop_mac::next_beta;
 use isd_as::IfId;
-use path_header::{Header, HopField, InfoField};
+use path_header::{HeaderMut, HopField, InfoField};
 
 /// The info field at which the packet stands.
-pub(crate) fn info_at(header: &Header) -> InfoField
-    ensures field { result ≡ info_of header.now }
-    ensures within { header.now.curr_inf < length header.now.infos }
+pub(crate) fn info_at(header: &HeaderMut<'_>) -> InfoField
+    ensures field { result ≡ info_of (value_of header.now) }
+    ensures within { (value_of header.now).curr_inf < length (value_of header.now).infos }
 {
     header.current_info()
 }
 
 /// The hop field at which the packet stands.
-pub(crate) fn hop_at(header: &Header) -> HopField
-    ensures { result ≡ hop_of header.now }
+pub(crate) fn hop_at(header: &HeaderMut<'_>) -> HopField
+    ensures { result ≡ hop_of (value_of header.now) }
 {
     header.current_hop()
 }
@@ -68,8 +69,8 @@ fn seg_id_on_leaving(info: &InfoField, hop: &HopField) -> u16
 }
 
 /// The info field at which the packet stands, as it is after the arrival.
-pub(crate) fn info_on_arrival(arrival: &Arrival, header: &Header) -> InfoField
-    ensures { result ≡ info_of (arrived arrival.now header.now) }
+pub(crate) fn info_on_arrival(arrival: &Arrival, header: &HeaderMut<'_>) -> InfoField
+    ensures { result ≡ info_of (arrived arrival.now (value_of header.now)) }
 {
     let mut info = info_at(header);
     info.seg_id = seg_id_on_arrival(arrival, &info, &hop_at(header));
@@ -77,9 +78,10 @@ pub(crate) fn info_on_arrival(arrival: &Arrival, header: &Header) -> InfoField
 }
 
 /// The info field from which the packet leaves, after the arrival and a switch if there is one.
-pub(crate) fn info_to_leave(arrival: &Arrival, switched: bool, header: &Header) -> InfoField
-    requires { header.now.curr_inf + (if switched then 1 else 0) < length header.now.infos }
-    ensures { result ≡ info_of (moved_on switched (arrived arrival.now header.now)) }
+pub(crate) fn info_to_leave(arrival: &Arrival, switched: bool, header: &HeaderMut<'_>) -> InfoField
+    requires { let value = value_of header.now
+        in value.curr_inf + (if switched then 1 else 0) < length value.infos }
+    ensures { result ≡ info_of (moved_on switched (arrived arrival.now (value_of header.now))) }
 {
     if switched {
         header.info(header.curr_inf() + 1)
@@ -89,9 +91,10 @@ pub(crate) fn info_to_leave(arrival: &Arrival, switched: bool, header: &Header) 
 }
 
 /// The hop field from which the packet leaves, after a switch if there is one.
-pub(crate) fn hop_to_leave(switched: bool, header: &Header) -> HopField
-    requires { header.now.curr_hf + (if switched then 1 else 0) < length header.now.hops }
-    ensures { result ≡ hop_of (moved_on switched header.now) }
+pub(crate) fn hop_to_leave(switched: bool, header: &HeaderMut<'_>) -> HopField
+    requires { let value = value_of header.now
+        in value.curr_hf + (if switched then 1 else 0) < length value.hops }
+    ensures { result ≡ hop_of (moved_on switched (value_of header.now)) }
 {
     if switched {
         header.hop(header.curr_hf() + 1)
@@ -100,20 +103,35 @@ pub(crate) fn hop_to_leave(switched: bool, header: &Header) -> HopField
     }
 }
 
-/// Sets the accumulator that the header has after the arrival.
-pub(crate) fn write_arrival(arrival: &Arrival, header: &mut Header)
-    ensures { header.new ≡ arrived arrival.now header.old }
+/// Sets the accumulator of the info field at which the packet stands.
+fn write_seg_id(seg_id: u16, header: &mut HeaderMut<'_>)
+    ensures value { value_of header.new ≡ with_seg_id (value_of header.old) seg_id }
+    ensures rest { rest_of header.new ≡ rest_of header.old }
+    ensures same_reference { header.new.bytes.ghost_name ≡ header.old.bytes.ghost_name }
 {
-    let seg_id = seg_id_on_arrival(arrival, &info_at(header), &hop_at(header));
     let info = header.curr_inf();
     header.set_seg_id(info, seg_id);
 }
 
+/// Sets the accumulator that the header has after the arrival.
+pub(crate) fn write_arrival(arrival: &Arrival, header: &mut HeaderMut<'_>)
+    ensures value { value_of header.new ≡ arrived arrival.now (value_of header.old) }
+    ensures rest { rest_of header.new ≡ rest_of header.old }
+    ensures same_reference { header.new.bytes.ghost_name ≡ header.old.bytes.ghost_name }
+{
+    let seg_id = seg_id_on_arrival(arrival, &info_at(header), &hop_at(header));
+    write_seg_id(seg_id, header);
+}
+
 /// Goes on to the next segment, where there is a switch.
-pub(crate) fn write_switch(switched: bool, header: &mut Header)
-    requires infos { header.old.curr_inf + (if switched then 1 else 0) < length header.old.infos }
-    requires hops { header.old.curr_hf + (if switched then 1 else 0) < length header.old.hops }
-    ensures { header.new ≡ moved_on switched header.old }
+pub(crate) fn write_switch(switched: bool, header: &mut HeaderMut<'_>)
+    requires infos { let value = value_of header.old
+        in value.curr_inf + (if switched then 1 else 0) < length value.infos }
+    requires hops { let value = value_of header.old
+        in value.curr_hf + (if switched then 1 else 0) < length value.hops }
+    ensures value { value_of header.new ≡ moved_on switched (value_of header.old) }
+    ensures rest { rest_of header.new ≡ rest_of header.old }
+    ensures same_reference { header.new.bytes.ghost_name ≡ header.old.bytes.ghost_name }
 {
     if switched {
         let segment = header.curr_inf() + 1;
@@ -123,9 +141,11 @@ pub(crate) fn write_switch(switched: bool, header: &mut Header)
 }
 
 /// Leaves over a link: sets the accumulator of the next hop, and goes on to its hop field.
-pub(crate) fn write_outcome(outcome: &Outcome, header: &mut Header)
-    requires { header.old.curr_hf + 1 < length header.old.hops }
-    ensures { header.new ≡ gone outcome.now header.old }
+pub(crate) fn write_outcome(outcome: &Outcome, header: &mut HeaderMut<'_>)
+    requires { (value_of header.old).curr_hf + 1 < length (value_of header.old).hops }
+    ensures value { value_of header.new ≡ gone outcome.now (value_of header.old) }
+    ensures rest { rest_of header.new ≡ rest_of header.old }
+    ensures same_reference { header.new.bytes.ghost_name ≡ header.old.bytes.ghost_name }
 {
     match *outcome {
         Outcome::ToLink(_) => {
@@ -133,7 +153,7 @@ pub(crate) fn write_outcome(outcome: &Outcome, header: &mut Header)
             let info = header.curr_inf();
             let hop = header.curr_hf() + 1;
             header.set_indices(info, hop);
-            header.set_seg_id(info, seg_id);
+            write_seg_id(seg_id, header);
         }
         Outcome::ToRouter(_) | Outcome::Deliver => {}
     }

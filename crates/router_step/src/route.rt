@@ -1,7 +1,8 @@
 //! The step over the value of a path header: all checks first, then the changes.
 
-ghost use Rattle.std.specs.Prelude.{◌≡◌, ◌+◌, ◌<◌, true, false, length, if◌then◌else◌, OnOk, IfOk};
+ghost use Rattle.std.specs.Prelude.{◌≡◌, ◌+◌, ◌<◌, true, false, length, if◌then◌else◌, OnOk, OnErr, IfOk};
 ghost use Rattle.path_header.specs.Value.{segment_at};
+ghost use Rattle.path_header.specs.Borrowed.{bytes_of, value_of, rest_of};
 ghost use Rattle.refusal.specs.Refusal.{Gives};
 ghost use Rattle.router_step.specs.Place.{arrived};
 ghost use Rattle.router_step.specs.Checks.{has_no_single, indices_fit};
@@ -19,12 +20,12 @@ use crate::place::{
     write_outcome, write_switch,
 };
 use isd_as::IsdAs;
-use path_header::{Header, HopField, InfoField};
+use path_header::{HeaderMut, HopField, InfoField};
 use scion_topology::RouterView;
 
 /// Whether the indices fit the segment lengths and how the packet came.
-fn indices_fit(arrival: &Arrival, header: &Header) -> bool
-    ensures { result ≡ indices_fit arrival.now header.now }
+fn indices_fit(arrival: &Arrival, header: &HeaderMut<'_>) -> bool
+    ensures { result ≡ indices_fit arrival.now (value_of header.now) }
 {
     let hop = header.curr_hf();
     header.curr_inf() == header.segment_of(hop)
@@ -35,12 +36,17 @@ fn indices_fit(arrival: &Arrival, header: &Header) -> bool
 /// Checks that the packet stands where it may, came in where it may, and that its hop is live and
 /// this AS's own.
 #[tactic(auto, unfolding(crate::specs::Step::admitted))]
-fn admit(view: &RouterView<'_>, now: u32, arrival: &Arrival, header: &Header) -> Result<(), Refusal>
-    ensures exact { Gives (λ _. arrived arrival.now header.now) result
-        (admitted view.now now arrival.now header.now) }
-    ensures segment { OnOk result
-        (header.now.curr_inf ≡ segment_at header.now.lens header.now.curr_hf) }
-    ensures lens { OnOk result (has_no_single header.now.lens ≡ true) }
+fn admit(
+    view: &RouterView<'_>,
+    now: u32,
+    arrival: &Arrival,
+    header: &HeaderMut<'_>,
+) -> Result<(), Refusal>
+    ensures exact { Gives (λ _. arrived arrival.now (value_of header.now)) result
+        (admitted view.now now arrival.now (value_of header.now)) }
+    ensures segment { let value = value_of header.now
+        in OnOk result (value.curr_inf ≡ segment_at value.lens value.curr_hf) }
+    ensures lens { OnOk result (has_no_single (value_of header.now).lens ≡ true) }
 {
     if !indices_fit(arrival, header) {
         return Err(Refusal::IndexMismatch);
@@ -59,12 +65,13 @@ fn end(
     arrival: &Arrival,
     source: IsdAs,
     destination: IsdAs,
-    header: &Header,
+    header: &HeaderMut<'_>,
 ) -> Result<bool, Refusal>
     ensures exact { result
-        ≡ ended view.now arrival.now source destination (arrived arrival.now header.now) }
-    ensures more { IfOk result
-        (λ last. last ≡ false → header.now.curr_hf + 1 < length header.now.hops) }
+        ≡ ended view.now arrival.now source destination
+        (arrived arrival.now (value_of header.now)) }
+    ensures more { let value = value_of header.now
+        in IfOk result (λ last. last ≡ false → value.curr_hf + 1 < length value.hops) }
 {
     if !source_fits(view, arrival, source) {
         return Err(Refusal::SourceAs);
@@ -82,16 +89,20 @@ fn switch(
     view: &RouterView<'_>,
     now: u32,
     arrival: &Arrival,
-    header: &Header,
+    header: &HeaderMut<'_>,
 ) -> Result<bool, Refusal>
-    requires more { header.now.curr_hf + 1 < length header.now.hops }
-    requires segment { header.now.curr_inf ≡ segment_at header.now.lens header.now.curr_hf }
-    requires lens { has_no_single header.now.lens ≡ true }
-    ensures exact { result ≡ switched view.now now arrival.now (arrived arrival.now header.now) }
-    ensures infos { IfOk result (λ has_switched.
-        header.now.curr_inf + (if has_switched then 1 else 0) < length header.now.infos) }
-    ensures hops { IfOk result (λ has_switched.
-        header.now.curr_hf + (if has_switched then 1 else 0) + 1 < length header.now.hops) }
+    requires more { (value_of header.now).curr_hf + 1 < length (value_of header.now).hops }
+    requires segment { let value = value_of header.now
+        in value.curr_inf ≡ segment_at value.lens value.curr_hf }
+    requires lens { has_no_single (value_of header.now).lens ≡ true }
+    ensures exact { result
+        ≡ switched view.now now arrival.now (arrived arrival.now (value_of header.now)) }
+    ensures infos { let value = value_of header.now
+        in IfOk result (λ has_switched.
+        value.curr_inf + (if has_switched then 1 else 0) < length value.infos) }
+    ensures hops { let value = value_of header.now
+        in IfOk result (λ has_switched.
+        value.curr_hf + (if has_switched then 1 else 0) + 1 < length value.hops) }
 {
     if header.segment_of(header.curr_hf() + 1) == header.curr_inf() {
         return Ok(false);
@@ -136,8 +147,8 @@ fn leave(
     Ok(Outcome::ToLink(interface))
 }
 
-/// One step over a path header, after which the header is as the step says, or as it was where the
-/// packet is refused.
+/// One step over a path header, after which the header is as the step says, or its bytes are as they
+/// were where the packet is refused.
 #[tactic(auto, unfolding(crate::specs::Step::step_of))]
 pub(crate) fn step_header(
     view: &RouterView<'_>,
@@ -145,11 +156,14 @@ pub(crate) fn step_header(
     arrival: Arrival,
     source: IsdAs,
     destination: IsdAs,
-    header: &mut Header,
+    header: &mut HeaderMut<'_>,
 ) -> Result<Outcome, Refusal>
-    ensures exact { let step = step_of view.now now arrival source destination header.old
-        in IsStepped step header.old header.new result }
-    ensures lens { header.new.lens ≡ header.old.lens }
+    ensures exact { let step = step_of view.now now arrival source destination (value_of header.old)
+        in IsStepped step (value_of header.old) (value_of header.new) result }
+    ensures refused { OnErr result (bytes_of header.new ≡ bytes_of header.old) }
+    ensures lens { (value_of header.new).lens ≡ (value_of header.old).lens }
+    ensures rest { rest_of header.new ≡ rest_of header.old }
+    ensures same_reference { header.new.bytes.ghost_name ≡ header.old.bytes.ghost_name }
 {
     let arrival = &arrival;
     admit(view, now, arrival, header)?;

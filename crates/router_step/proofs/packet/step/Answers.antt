@@ -1,30 +1,32 @@
--- The header that was read is the one that is spelled, and the new one stands in its place.
-use Rattle.std.proofs.Common.{◌≡◌, ℕ, ◌∙◌, sym, ap}
-use Rattle.path_header.specs.Value.{HeaderValue, header_len}
-use Rattle.router_step.specs.Packet.{source_of, destination_of}
+-- The step over what stands behind the addresses is the packet's.
 use Rattle.router_step.specs.Step.{step_of}
-use Rattle.router_step.proofs.DoneSteps.{same_value}
-use Rattle.router_step.proofs.Frames.{has_header, for_value, turned}
+use Rattle.router_step.proofs.Frames.{for_value, read_in}
+use Rattle.router_step.proofs.BehindAddresses.{StepsBytes, by_addresses, packet_stepped, frame_turned, has_header_behind}
 use Rattle.router_step.proofs.packet.step.Goals as goal
 
-pub returns-in_err-outcome-clause-bad_header : goal.returns-in_err-outcome-clause-bad_header
-returns-in_err-outcome-clause-bad_header c =
-    for_value _ _ _ _ (sym c.in_ok-header.ensures.exact)
-    (has_header c.args.packet.now c.in_ok-header._len c.in_ok-header.header c.in_ok-header.ensures.within c.in_ok-header.ensures.found)
+pub returns-in_err-check_header-clause-spelled : goal.returns-in_err-check_header-clause-spelled
+returns-in_err-check_header-clause-spelled c addresses text rest header f =
+    let read = read_in c.args.packet.now addresses text rest header f in
+    let none = c.in_err-check_header.ensures.exact in absurd (cc)
 
-pub returns-clause-bad_header : goal.returns-clause-bad_header
-returns-clause-bad_header c =
-    for_value _ _ _ _ (sym c.in_ok-header.ensures.exact)
-    (has_header c.args.packet.now c.in_ok-header._len c.in_ok-header.header c.in_ok-header.ensures.within c.in_ok-header.ensures.found)
-
-pub returns-clause-spelled : goal.returns-clause-spelled
-returns-clause-spelled c addresses text rest header f =
-    let same : (c.in_ok-header.header, c.in_ok-header._len) ≡ (header, header_len header) =
-    same_value _ _ (c.in_ok-header.ensures.only addresses text rest header f) in
-    turned c.args.packet.now addresses text rest c.write_header.new.packet header c.in_ok-header.header c.step_header.new.header c.in_ok-header._len c.in_ok-outcome.outcome
-    (step_of c.args.view.now c.args.now c.args.arrival (source_of c.args.packet.now) (destination_of c.args.packet.now))
-    f (ap (λ (front : HeaderValue × ℕ). front.0) same) c.in_ok-header.ensures.len c.in_ok-header.ensures.within c.in_ok-header.ensures.found
-    (ap (λ a. step_of c.args.view.now c.args.now c.args.arrival a (destination_of c.args.packet.now) c.in_ok-header.header) (sym c.source_in-source.ensures)
-    ∙ ap (λ a. step_of c.args.view.now c.args.now c.args.arrival c.source_in-source.result a c.in_ok-header.header) (sym c.destination_in-destination.ensures)
-    ∙ c.in_ok-outcome.ensures.exact)
-    c.in_ok-outcome.ensures.lens c.write_header.ensures.spells c.write_header.ensures.len c.write_header.ensures.written
+pub returns : goal.returns
+returns c =
+    let view = c.args.view.now in
+    let packet = c.args.packet.now in
+    let front = c.split_at_mut-rest.result.0.now in
+    let bytes = c.split_at_mut-rest.result.1.now in
+    let new = c.step_behind.new.bytes in
+    let result = c.step_behind.result in
+    let source = c.source_in-source.result in
+    let destination = c.destination_in-destination.result in
+    let e = c.step_behind.ensures in
+    let read = c.in_ok-check_header.ensures.exact in
+    let long = c.in_ok-check_header.ensures.long in
+    let stepped : StepsBytes (step_of view c.args.now c.args.arrival source destination) bytes new result =
+    record { exact = e.exact; refused = e.refused; lens = e.lens; rest = e.rest; before = e.before; after = e.after; long = e.long } in
+    let here = by_addresses view c.args.now c.args.arrival packet bytes new source destination result c.source_in-source.ensures c.destination_in-destination.ensures c.split_at_mut-rest.ensures.back stepped in
+    record {
+      exact = packet_stepped view c.args.now c.args.arrival packet front new result read c.split_at_mut-rest.ensures.front here;
+      spelled = λ addresses text rest header f. frame_turned view c.args.now c.args.arrival packet addresses text rest front new header result f read long c.split_at_mut-rest.ensures.front here;
+      bad_header = for_value _ _ _ _ read (has_header_behind _ packet new result long here);
+    }

@@ -1,0 +1,53 @@
+-- Checking fields of one width one after the other, as a loop does.
+use Rattle.std.proofs.Common.{◌≡◌, ℕ, suc, ◌-◌, ◌+◌, ◌*◌, ◌≤◌, ◌<◌, List, ◌∷◌, drop, Result, Ok, Err, refl, sym, ap, ◌∙◌, arith}
+use Rattle.std.proofs.lemmas.List.{drop-drop}
+use Rattle.path_header.specs.declared.fault.HeaderFault.{HeaderFault}
+use Rattle.refusal.specs.Refusal.{◌>>=◌}
+use Rattle.path_header.specs.Reading.{fields_at}
+use Rattle.path_header.specs.Shown.{judged}
+
+-- a value is left out by a judgement, whatever is made of it
+regroup : {A : Type 0} (x : A) (read : Result (List A) HeaderFault) → judged (read >>= λ xs. Ok (x ∷ xs)) ≡ judged read
+regroup x (Ok xs) = refl
+regroup x (Err f) = refl
+
+pub goes_on : {A : Type 0} (one : List ℕ → Result A HeaderFault) (width count i : ℕ) (bytes : List ℕ) (x : A) (total : Result (Unit {0}) HeaderFault)
+    → i < count → one (drop (width * i) bytes) ≡ Ok x
+    → judged (fields_at one width (count - i) (drop (width * i) bytes)) ≡ total
+    → judged (fields_at one width (count - (i + 1)) (drop (width * (i + 1)) bytes)) ≡ total
+unfolding fields_at
+goes_on one width count i bytes x total lt h so_far =
+    let k : count - i ≡ suc (count - (i + 1)) = omega arith in
+    let next : drop width (drop (width * i) bytes) ≡ drop (width * (i + 1)) bytes = drop-drop width (width * i) bytes ∙ ap (λ n. drop n bytes) (omega arith) in
+    let step : judged (fields_at one width (count - i) (drop (width * i) bytes)) ≡ judged (fields_at one width (count - (i + 1)) (drop (width * (i + 1)) bytes)) =
+    rw (k, h, next) (regroup x (fields_at one width (count - (i + 1)) (drop (width * (i + 1)) bytes))) in
+    sym step ∙ so_far
+
+pub ends : {A : Type 0} (one : List ℕ → Result A HeaderFault) (width count i : ℕ) (bytes : List ℕ) (f : HeaderFault) (total : Result (Unit {0}) HeaderFault)
+    → i < count → one (drop (width * i) bytes) ≡ Err f
+    → judged (fields_at one width (count - i) (drop (width * i) bytes)) ≡ total
+    → total ≡ Err f
+unfolding fields_at
+ends one width count i bytes f total lt h so_far =
+    let k : count - i ≡ suc (count - (i + 1)) = omega arith in
+    let step : judged (fields_at one width (count - i) (drop (width * i) bytes)) ≡ Err f = rw (k, h) refl in
+    sym so_far ∙ step
+
+pub is_done : {A : Type 0} (one : List ℕ → Result A HeaderFault) (width count i : ℕ) (bytes : List ℕ) (total : Result (Unit {0}) HeaderFault)
+    → count ≤ i
+    → judged (fields_at one width (count - i) (drop (width * i) bytes)) ≡ total
+    → total ≡ Ok tt
+unfolding fields_at
+is_done one width count i bytes total le so_far =
+    let k : count - i ≡ 0 = omega arith in
+    let step : judged (fields_at one width (count - i) (drop (width * i) bytes)) ≡ Ok tt = rw k refl in
+    sym so_far ∙ step
+
+-- a first step that is judged to give a value gives one, and a refusal of it is that of the whole
+pub judged_ok : {A F : Type 0} (r : Result A F) → Ok tt ≡ judged r → (x : A) × (r ≡ Ok x)
+judged_ok (Ok x) e = (x, refl)
+judged_ok (Err f) e = absurd cc
+
+pub judged_err : {A F : Type 0} (r : Result A F) (f : F) → Err f ≡ judged r → r ≡ Err f
+judged_err (Ok x) f e = absurd cc
+judged_err (Err g) f e = cc

@@ -1,0 +1,52 @@
+//! The test whether bytes begin with a path header, which makes no list of its fields.
+
+ghost use Rattle.std.specs.Prelude.{◌≡◌, ◌*◌, ◌≤◌, length};
+ghost use Rattle.path_header.specs.Reading.{info_at, hop_at, fields_at, header_at};
+ghost use Rattle.path_header.specs.Shown.{judged};
+
+use crate::fault::HeaderFault;
+use crate::reading::{check_hop, check_info, meta_of};
+
+/// Checks so many info fields, one after the other.
+fn check_infos(bytes: &[u8], count: usize) -> Result<(), HeaderFault>
+    requires few { count ≤ 3 }
+    requires long { 8 * count ≤ length bytes.now }
+    ensures { result ≡ judged (fields_at info_at 8 count bytes.now) }
+{
+    for i in 0..count {
+        let (_, rest) = bytes.split_at(8 * i);
+        check_info(rest)?;
+    }
+    Ok(())
+}
+
+/// Checks so many hop fields, one after the other.
+fn check_hops(bytes: &[u8], count: usize) -> Result<(), HeaderFault>
+    requires few { count ≤ 64 }
+    requires long { 12 * count ≤ length bytes.now }
+    ensures { result ≡ judged (fields_at hop_at 12 count bytes.now) }
+{
+    for i in 0..count {
+        let (_, rest) = bytes.split_at(12 * i);
+        check_hop(rest)?;
+    }
+    Ok(())
+}
+
+/// Checks that a path header stands at the front, with the refusals of [`crate::decode`].
+#[tactic(auto, unfolding(crate::specs::Reading::header_at))]
+pub(crate) fn check(bytes: &[u8]) -> Result<(), HeaderFault>
+    ensures { result ≡ judged (header_at bytes.now) }
+{
+    let meta = meta_of(bytes)?;
+    let info_count = meta.lens.info_count();
+    let hop_count = meta.lens.hop_count();
+    let (_, after_meta) = bytes.split_at(4);
+    check_infos(after_meta, info_count)?;
+    let (_, after_infos) = bytes.split_at(4 + 8 * info_count);
+    check_hops(after_infos, hop_count)?;
+    if usize::from(meta.curr_inf) >= info_count || usize::from(meta.curr_hf) >= hop_count {
+        return Err(HeaderFault::BadIndex);
+    }
+    Ok(())
+}
