@@ -25,7 +25,7 @@ fn found(reader: &mut BoardReader, alloc: Global, now: u32) -> Option<usize>
 }
 
 /// A reader. Where no place was given it is asked for again.
-fn seated(board: &mut BoardWriter) -> Option<BoardReader>
+pub(crate) fn seated(board: &mut BoardWriter) -> Option<BoardReader>
     ensures same { board.new ≡ board.old }
     ensures reader { IfSome result (λ reader. reader.board ≡ board.old.board) }
 {
@@ -39,7 +39,9 @@ fn seated(board: &mut BoardWriter) -> Option<BoardReader>
 }
 
 /// Publishes the worked segment.
-fn publishes<R: Wait>(rt: &R, alloc: Global, board: &mut BoardWriter) -> Option<()> {
+pub(crate) fn publishes<R: Wait>(rt: &R, alloc: Global, board: &mut BoardWriter) -> Option<()>
+    ensures { board.new.board ≡ board.old.board }
+{
     board.register(worked(alloc)?, 100).ok()?;
     board.publish(rt).ok()
 }
@@ -49,8 +51,7 @@ fn publishes<R: Wait>(rt: &R, alloc: Global, board: &mut BoardWriter) -> Option<
 fn row<R: Wait>(rt: &R, alloc: Global, board: &mut BoardWriter) -> Option<[usize; 4]> {
     let mut reader = seated(board)?;
     let before = found(&mut reader, alloc, 100)?;
-    board.register(worked(alloc)?, 100).ok()?;
-    board.publish(rt).ok()?;
+    publishes(rt, alloc, board)?;
     reader.learn(board.tell());
     let after = found(&mut reader, alloc, 100)?;
     let late = found(&mut reader, alloc, 21_701)?;

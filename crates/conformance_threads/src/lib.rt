@@ -5,4 +5,6 @@
 #[cfg(test)]
 mod board;
 #[cfg(test)]
+mod daemon;
+#[cfg(test)]
 mod segments;

@@ -1,0 +1,245 @@
+//! A daemon: its cache changes no answer, whoever asks.
+
+ghost use Rattle.std.specs.Prelude.{◌≡◌};
+
+use crate::board::{publishes, seated};
+use crate::segments::ia;
+use daemon_cache::{AskFault, Daemon};
+use isd_as::{IfId, IsdAs};
+use policy_expr::{OptionText, PolicyText, WalkHop};
+use refusal::OrMemory;
+use segment_board::{BoardReader, BoardWriter, new_board};
+use std::alloc::Global;
+use std::sync::Wait;
+use std::test::Fail;
+use std::thread;
+use std::thread::{Threads, join};
+
+/// The option of weight 0 without a list, and with this sequence.
+fn option(sequence: Option<&str>) -> OptionText<'_> {
+    OptionText {
+        text: PolicyText {
+            acl: None,
+            sequence,
+        },
+        weight: 0,
+    }
+}
+
+/// The hops of all paths that are answered, one path after the other, and whether the cache served
+/// them. A reader that could not enter asks again.
+fn asked<R: Wait>(
+    rt: &R,
+    alloc: Global,
+    daemon: &Daemon,
+    reader: &mut BoardReader,
+    ends: (IsdAs, IsdAs),
+    now: u32,
+) -> Option<(Vec<WalkHop>, bool)>
+    ensures { reader.new.board ≡ reader.old.board }
+{
+    let options = [option(None)];
+    for _ in 0..1_000 {
+        if let Ok((paths, is_served)) = daemon.ask(
+            rt, alloc, reader, ends.0, ends.1, &options, now, 4,
+        ) {
+            let mut hops = Vec::new(alloc);
+            for path in paths.paths() {
+                hops.extend_from_slice(path.walk()).ok()?;
+            }
+            return Some((hops, is_served));
+        }
+        thread::yield_now();
+    }
+    None
+}
+
+/// A hop of a walk.
+fn hop(number: u64, ingress: u16, egress: u16) -> WalkHop {
+    WalkHop {
+        ia: ia(number),
+        ingress: IfId(ingress),
+        egress: IfId(egress),
+    }
+}
+
+/// The walk of the one path up.
+fn up() -> [WalkHop; 2] {
+    [hop(0x111, 0, 2), hop(0x110, 1, 0)]
+}
+
+/// The walk of the one path down.
+fn down() -> [WalkHop; 2] {
+    [hop(0x110, 0, 1), hop(0x111, 2, 0)]
+}
+
+/// Whether the answer is this, from the cache or not.
+fn is(answer: &Option<(Vec<WalkHop>, bool)>, walk: &[WalkHop], is_served: bool) -> bool {
+    match answer {
+        Some((hops, flag)) => hops.as_slice() == walk && *flag == is_served,
+        None => false,
+    }
+}
+
+/// Whether the path is answered, then served by the cache, and not answered once its segment is
+/// swept.
+fn row<R: Wait>(rt: &R, alloc: Global, board: &mut BoardWriter) -> Option<[bool; 3]> {
+    let daemon = Daemon::new(alloc, 4).ok()?;
+    let mut reader = seated(board)?;
+    publishes(rt, alloc, board)?;
+    reader.learn(board.tell());
+    let ends = (ia(0x111), ia(0x110));
+    let first = asked(rt, alloc, &daemon, &mut reader, ends, 100);
+    let second = asked(rt, alloc, &daemon, &mut reader, ends, 100);
+    board.sweep(21_701).ok()?;
+    board.publish(rt).ok()?;
+    reader.learn(board.tell());
+    let swept = asked(rt, alloc, &daemon, &mut reader, ends, 100);
+    Some([
+        is(&first, &up(), false),
+        is(&second, &up(), true),
+        is(&swept, &[], false),
+    ])
+}
+
+#[test]
+fn an_answer_is_served_while_its_segments_stay(rt: HostRuntime) -> Result<(), Fail> {
+    let mut board = new_board(&rt, rt.alloc(), 2)?;
+    let rows = row(&rt, rt.alloc(), &mut board);
+    board.close(&rt);
+    assert_eq!(rt; rows, Some([true, true, true]));
+    Ok(())
+}
+
+/// Whether a cache with room for one answer is asked for both directions in turn, three times each,
+/// and gives the same each time, of which it serves none.
+fn in_turn<R: Wait>(rt: &R, alloc: Global, board: &mut BoardWriter) -> Option<bool> {
+    let daemon = Daemon::new(alloc, 1).ok()?;
+    let mut reader = seated(board)?;
+    publishes(rt, alloc, board)?;
+    reader.learn(board.tell());
+    let (ups, downs) = ((ia(0x111), ia(0x110)), (ia(0x110), ia(0x111)));
+    let mut is_right = true;
+    for _ in 0..3 {
+        let above = asked(rt, alloc, &daemon, &mut reader, ups, 100);
+        let below = asked(rt, alloc, &daemon, &mut reader, downs, 100);
+        is_right = is_right && is(&above, &up(), false) && is(&below, &down(), false);
+    }
+    Some(is_right)
+}
+
+#[test]
+fn a_cache_of_one_serves_neither_of_two(rt: HostRuntime) -> Result<(), Fail> {
+    let mut board = new_board(&rt, rt.alloc(), 2)?;
+    let is_right = in_turn(&rt, rt.alloc(), &mut board);
+    board.close(&rt);
+    assert_eq!(rt; is_right, Some(true));
+    Ok(())
+}
+
+/// Asks until the path is there.
+fn awaits<R: Wait>(rt: &R, alloc: Global, daemon: &Daemon, mut reader: BoardReader) -> bool {
+    for _ in 0..1_000_000 {
+        let answer = asked(rt, alloc, daemon, &mut reader, (ia(0x111), ia(0x110)), 100);
+        if let Some((hops, _)) = answer {
+            if hops.as_slice() == up().as_slice() {
+                return true;
+            }
+        }
+        thread::yield_now();
+    }
+    false
+}
+
+/// Whether two threads that ask one daemon get the path that a third thread publishes the segment
+/// of.
+fn apart<R: Threads + Wait + Sync>(
+    rt: &R,
+    alloc: Global,
+    board: &mut BoardWriter,
+) -> Option<(bool, bool, bool)> {
+    let daemon = Daemon::new(alloc, 4).ok()?;
+    let one = seated(board)?;
+    let two = seated(board)?;
+    let ((first, second), published) = join(
+        rt,
+        || {
+            join(
+                rt,
+                || awaits(rt, alloc, &daemon, one),
+                || awaits(rt, alloc, &daemon, two),
+            )
+        },
+        || publishes(rt, alloc, board).is_some(),
+    );
+    Some((first, second, published))
+}
+
+#[test]
+fn two_threads_ask_one_daemon(rt: HostRuntime) -> Result<(), Fail> {
+    let mut board = new_board(&rt, rt.alloc(), 2)?;
+    let answered = apart(&rt, rt.alloc(), &mut board);
+    board.close(&rt);
+    assert_eq!(rt; answered, Some((true, true, true)));
+    Ok(())
+}
+
+/// The code of the refusal of a request from 1-ff00:0:111, and 0 where it is none.
+fn code_of<R: Wait>(
+    rt: &R,
+    alloc: Global,
+    reader: &mut BoardReader,
+    dst: IsdAs,
+    options: &[OptionText<'_>],
+    limit: usize,
+) -> Option<u16> {
+    let daemon = Daemon::new(alloc, 1).ok()?;
+    Some(
+        match daemon.ask(rt, alloc, reader, ia(0x111), dst, options, 100, limit) {
+            Ok(_) => 0,
+            Err(OrMemory::Refused(fault)) => fault.code(),
+            Err(OrMemory::Memory) => 1,
+        },
+    )
+}
+
+/// The refusals of requests that have one cause after another taken away.
+fn refusals<R: Wait>(rt: &R, alloc: Global, board: &mut BoardWriter) -> Option<[u16; 5]> {
+    let mut reader = seated(board)?;
+    let same = ia(0x111);
+    let unread = [option(Some("1 |"))];
+    let plain = [option(None)];
+    Some([
+        code_of(rt, alloc, &mut reader, same, &[], 0)?,
+        code_of(rt, alloc, &mut reader, same, &[], 65)?,
+        code_of(rt, alloc, &mut reader, same, &[], 64)?,
+        code_of(rt, alloc, &mut reader, same, &unread, 64)?,
+        code_of(rt, alloc, &mut reader, same, &plain, 64)?,
+    ])
+}
+
+#[test]
+fn requests_are_refused_in_order(rt: HostRuntime) -> Result<(), Fail> {
+    let mut board = new_board(&rt, rt.alloc(), 2)?;
+    let codes = refusals(&rt, rt.alloc(), &mut board);
+    board.close(&rt);
+    assert_eq!(rt; codes, Some([137, 137, 67, 60, 85]));
+    Ok(())
+}
+
+#[test]
+fn refusals_have_sentences(rt: HostRuntime) -> Result<(), Fail> {
+    let alloc = rt.alloc();
+    let told = [
+        (AskFault::BadLimit, "the limit is not 1 to 64"),
+        (
+            AskFault::SameAs,
+            "the source and the destination are one AS",
+        ),
+        (AskFault::NoEntry, "the reader could not enter the board"),
+    ];
+    for (fault, sentence) in told {
+        assert_eq!(rt; format!(in alloc; "{fault}")?.as_str(), sentence);
+    }
+    Ok(())
+}
