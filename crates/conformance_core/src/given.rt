@@ -1,0 +1,128 @@
+//! Packets that are sent by a way that is given: over a segment that the network issued, and over
+//! one that nobody issued.
+
+use forwarding::TurnReply;
+use hop_mac::{hop_mac, next_beta};
+use isd_as::{IfId, IsdAs};
+use network_core::{Event, Given, Net, Reply};
+use path_header::Header;
+use path_segment::{Entry, SegKind, Segment};
+use path_verifier::Pieces;
+use policy_expr::Policy;
+use router_step::Outcome;
+use scion_topology::Topology;
+use std::alloc::{AllocError, Global};
+use std::test::Fail;
+use worked::{at, header_of, pieces_of, row};
+
+/// An entry of a segment of the row of three ASes.
+fn entry(last: u64, cons_ingress: u16, cons_egress: u16, mac: [u8; 6]) -> Entry {
+    Entry {
+        ia: at(1, last),
+        cons_ingress: IfId(cons_ingress),
+        cons_egress: IfId(cons_egress),
+        exp_time: 63,
+        mac,
+    }
+}
+
+/// A segment of the row, made at second 1000 with accumulator 4660 and these authenticators.
+fn segment(alloc: Global, macs: [[u8; 6]; 3]) -> Result<Segment, Fail> {
+    let entries = vec![in alloc;
+        entry(0x110, 0, 1, macs[0]),
+        entry(0x111, 1, 2, macs[1]),
+        entry(0x112, 1, 0, macs[2]),
+    ]?;
+    Ok(Segment::new(SegKind::Intra, 1000, 4660, entries)?)
+}
+
+/// The segment that the row's ASes issue at second 1000 with accumulator 4660.
+fn issued(alloc: Global) -> Result<Segment, Fail> {
+    let first = hop_mac(b"a0", 4660, 1000, 63, 0, 1);
+    let beta = next_beta(4660, &first);
+    let second = hop_mac(b"a1", beta, 1000, 63, 1, 2);
+    let third = hop_mac(b"a2", next_beta(beta, &second), 1000, 63, 1, 0);
+    segment(alloc, [first, second, third])
+}
+
+/// The event that sends a packet from 1-ff00:0:112 to 1-ff00:0:110 by this way.
+fn sending<'x>(
+    pieces: &'x Pieces<'x>,
+    header: &'x Header,
+    policy: &'x Policy<Global>,
+    payload: &'x [u8],
+) -> Option<Event<'x>> {
+    let way = Given {
+        source: at(1, 0x112),
+        destination: at(1, 0x110),
+        pieces,
+        header,
+        policy,
+    };
+    Some(Event::SendGiven { way, payload })
+}
+
+/// Where a packet went, as a number.
+fn code_of_outcome(outcome: Outcome) -> u16 {
+    match outcome {
+        Outcome::ToLink(_) => 1,
+        Outcome::ToRouter(_) => 2,
+        Outcome::Deliver => 3,
+    }
+}
+
+/// What an event is answered, as a number: 0 where it was done or sent a packet, 4 where the packet
+/// was nowhere, or the code of the refusal, of the event or by a router.
+fn code_of(reply: Reply) -> u16 {
+    match reply {
+        Reply::Refused(fault) => fault.code(),
+        Reply::Turned(TurnReply::Refused(refusal)) => refusal.code(),
+        Reply::Turned(_) => 4,
+        _ => 0,
+    }
+}
+
+/// The number of what an event is answered: 1 where the packet went over a link, 2 to a router of
+/// its AS, and 3 where it was delivered; else that of [`code_of`].
+fn step(alloc: Global, net: &mut Net, event: &Event<'_>) -> Result<u16, AllocError> {
+    let reply = net.step(alloc, event)?;
+    if let Reply::Turned(TurnReply::Went(outcome)) = reply {
+        return Ok(code_of_outcome(outcome));
+    }
+    Ok(code_of(reply))
+}
+
+/// The answers to a packet that is sent over this segment, and to three turns of it.
+fn answers(alloc: Global, segment: &Segment) -> Result<[u16; 4], Fail> {
+    let topology = Topology::from_json(alloc, row().as_bytes())?;
+    let mut net = Net::new(alloc, topology);
+    step(alloc, &mut net, &Event::Tick { to: 1000 })?;
+    let pieces = pieces_of(&[(segment, 0, false)])?;
+    let header = header_of(alloc, [3, 0, 0], &[(segment, 0, false)])?;
+    let policy = Policy::any();
+    let sent = match sending(&pieces, &header, &policy, b"hi") {
+        Some(event) => step(alloc, &mut net, &event)?,
+        None => u16::MAX,
+    };
+    let turn = Event::Turn { packet: 0 };
+    Ok([
+        sent,
+        step(alloc, &mut net, &turn)?,
+        step(alloc, &mut net, &turn)?,
+        step(alloc, &mut net, &turn)?,
+    ])
+}
+
+#[test]
+fn what_was_issued_arrives(rt: HostRuntime) -> Result<(), Fail> {
+    let issued = issued(rt.alloc())?;
+    assert_eq!(rt; answers(rt.alloc(), &issued)?, [0, 1, 1, 3]);
+    Ok(())
+}
+
+#[test]
+fn what_nobody_issued_does_not_arrive(rt: HostRuntime) -> Result<(), Fail> {
+    let made_up = segment(rt.alloc(), [[1; 6], [2; 6], [3; 6]])?;
+    assert_eq!(rt; answers(rt.alloc(), &made_up)?, [0, 94, 131, 131]);
+    Ok(())
+}
