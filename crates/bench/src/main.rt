@@ -9,12 +9,14 @@ ghost use Rattle.std.specs.Prelude.{◌<◌};
 mod answers;
 mod lines;
 mod network;
+mod turns;
 
 use anyhow::{Context, Result, anyhow};
 use isd_as::{AsNumber, IfId, Isd, IsdAs};
 use scion_topology::Topology;
 use std::alloc::Global;
 use std::env;
+use turns::Flaw;
 
 /// The address of the AS of this number in the network that is measured.
 fn address(number: u32) -> IsdAs {
@@ -72,7 +74,8 @@ fn views(alloc: Global, count: u32) -> Result<u64> {
 }
 
 /// Does the work of this name so many times; lines are ten times as many. Answers are of up to so
-/// many paths, the first three of 32 paths that there are and the others of 2048.
+/// many paths, the first three of 32 paths that there are and the others of 2048. Turns are at the
+/// first hop of 3, or of 64.
 fn work(alloc: Global, name: &str, count: u32) -> Result<u64> {
     match name {
         "read" => read(alloc, count),
@@ -85,6 +88,10 @@ fn work(alloc: Global, name: &str, count: u32) -> Result<u64> {
         "answers-8-of-2048" => answers::answers(alloc, 4, 8, count),
         "answers-64-of-2048" => answers::answers(alloc, 4, 64, count),
         "lines" => lines::lines(alloc, count),
+        "turns" => turns::turns(alloc, [3, 0, 0], Flaw::None, count),
+        "turns-64" => turns::turns(alloc, [32, 32, 0], Flaw::None, count),
+        "turns-bad-mac" => turns::turns(alloc, [3, 0, 0], Flaw::Authenticator, count),
+        "turns-bad-header" => turns::turns(alloc, [3, 0, 0], Flaw::Cut, count),
         _ => Err(anyhow!("there is no work of this name")),
     }
 }

