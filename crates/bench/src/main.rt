@@ -9,6 +9,7 @@ ghost use Rattle.std.specs.Prelude.{◌<◌};
 mod answers;
 mod lines;
 mod network;
+mod stores;
 mod turns;
 
 use anyhow::{Context, Result, anyhow};
@@ -73,9 +74,9 @@ fn views(alloc: Global, count: u32) -> Result<u64> {
     Ok(sum)
 }
 
-/// Does the work of this name so many times; lines are ten times as many. Answers are of up to so
-/// many paths, the first three of 32 paths that there are and the others of 2048. Turns are at the
-/// first hop of 3, or of 64.
+/// Does the work of this name so many times; lines are ten times as many, and segments that are
+/// made or registered ten thousand times. Answers are of up to so many paths, the first three of 32
+/// paths that there are and the others of 2048. Turns are at the first hop of 3, or of 64.
 fn work(alloc: Global, name: &str, count: u32) -> Result<u64> {
     match name {
         "read" => read(alloc, count),
@@ -87,6 +88,9 @@ fn work(alloc: Global, name: &str, count: u32) -> Result<u64> {
         "answers-1-of-2048" => answers::answers(alloc, 4, 1, count),
         "answers-8-of-2048" => answers::answers(alloc, 4, 8, count),
         "answers-64-of-2048" => answers::answers(alloc, 4, 64, count),
+        "make-segments" => stores::make(alloc, count),
+        "register" => stores::register(alloc, count),
+        "lookup" => stores::look_up(alloc, count),
         "lines" => lines::lines(alloc, count),
         "turns" => turns::turns(alloc, [3, 0, 0], Flaw::None, count),
         "turns-64" => turns::turns(alloc, [32, 32, 0], Flaw::None, count),

@@ -103,7 +103,7 @@ module _ (set other : Selection) (src dst : ℕ) (same : IsSameSet set other) (h
   options_too options limit None paths is = (
     is.0,
     All-weaker (λ option. HasNone (asked set src dst option)) (λ option. HasNone (asked other src dst option))
-    (λ option none. none_too set other src dst option.rules same here there none) options is.1,
+        (λ option none. none_too set other src dst option.rules same here there none) options is.1,
   )
   options_too options limit (Some used) paths is = record {
     option = is.option;

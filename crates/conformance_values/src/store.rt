@@ -1,6 +1,6 @@
 use isd_as::{IfId, IsdAs};
 use path_segment::{Entry, SegKind, Segment};
-use path_server::{PathStore, StoreFault};
+use path_server::{PathStore, StoreFault, StoreOp};
 use refusal::OrMemory;
 use std::alloc::{AllocError, Global};
 use std::test::Fail;
@@ -120,6 +120,87 @@ fn thirty_two_segments(rt: HostRuntime) -> Result<(), Fail> {
     for (kind, beta0, first, last, now, answer) in rows {
         let one = segment(alloc, kind, beta0, ia(first), ia(last))?;
         assert_eq!(rt; answer_to(alloc, &mut store, &one, now)?, answer);
+    }
+    Ok(())
+}
+
+/// A segment from 1-ff00:0:110 by 1-ff00:0:111 to a child of that, made at the second 1000.
+fn half(alloc: Global, egress: u16, last: u64) -> Result<Segment, Fail> {
+    let entries = vec![in alloc;
+        entry(ia(0x110), 0, 1, [0xa1, 0xa2, 0xa3, 0xa4, 0xa5, 0xa6]),
+        entry(ia(0x111), 1, egress, [0xb1, 0xb2, 0xb3, 0xb4, 0xb5, 0xb6]),
+        entry(ia(last), 1, 0, [0xc1, 0xc2, 0xc3, 0xc4, 0xc5, 0xc6]),
+    ]?;
+    Ok(Segment::new(SegKind::Intra, 1000, 7, entries)?)
+}
+
+/// Whether a look-up at the second 1000 between the two children finds just these two.
+fn finds(
+    alloc: Global,
+    store: &PathStore,
+    left: &Segment,
+    right: &Segment,
+) -> Result<bool, AllocError> {
+    let there = store.segments_for(alloc, ia(0x112), ia(0x113), 1000)?;
+    let back = store.segments_for(alloc, ia(0x113), ia(0x112), 1000)?;
+    Ok(
+        are_same(there.ups(), &[left])
+            && are_same(there.downs(), &[right])
+            && are_same(back.ups(), &[right])
+            && are_same(back.downs(), &[left])
+            && there.cores().is_empty(),
+    )
+}
+
+/// A sweep that takes 32 segments out leaves a shortcut's two, and look-ups find them, also after
+/// further segments were taken in.
+#[test]
+fn swept_beside_others(rt: HostRuntime) -> Result<(), Fail> {
+    let alloc = rt.alloc();
+    let mut store = store_of(alloc, 32)?;
+    let (left, right) = (half(alloc, 2, 0x112)?, half(alloc, 3, 0x113)?);
+    assert_eq!(rt; answer_to(alloc, &mut store, &left, 1000)?, 1);
+    assert_eq!(rt; answer_to(alloc, &mut store, &right, 1000)?, 1);
+    assert!(rt; finds(alloc, &store, &left, &right)?);
+    assert_eq!(rt; store.sweep(21_701), 32);
+    assert!(rt; are_same(store.segments(), &[&left, &right]));
+    assert!(rt; finds(alloc, &store, &left, &right)?);
+
+    for beta0 in 1..=32 {
+        let one = worked(alloc, beta0)?;
+        assert_eq!(rt; answer_to(alloc, &mut store, &one, 100)?, 1);
+    }
+    assert_eq!(rt; answer_to(alloc, &mut store, &worked(alloc, 33)?, 100)?, 50);
+    assert!(rt; store.len() == 34 && finds(alloc, &store, &left, &right)?);
+    let set = store.segments_for(alloc, ia(0x111), ia(0x112), 1000)?;
+    assert!(rt; set.ups().len() == 32 && are_same(set.downs(), &[&left]));
+    assert!(rt;
+        set.ups()
+            .iter()
+            .zip(1..)
+            .all(|(up, beta0)| up.beta0() == beta0)
+    );
+    Ok(())
+}
+
+/// Operations are done one after another: a new segment, the same once more, one that has expired,
+/// and a sweep.
+#[test]
+fn operations(rt: HostRuntime) -> Result<(), Fail> {
+    let alloc = rt.alloc();
+    let mut store = PathStore::new(alloc);
+    let s = worked(alloc, 4660)?;
+    let rows = [
+        (StoreOp::Register(worked(alloc, 4660)?, 100), 1),
+        (StoreOp::Register(worked(alloc, 4660)?, 100), 1),
+        (StoreOp::Register(worked(alloc, 4661)?, 21_701), 1),
+        (StoreOp::Sweep(21_700), 1),
+        (StoreOp::Sweep(21_701), 0),
+    ];
+    for (operation, len) in &rows {
+        store.apply(alloc, operation)?;
+        assert!(rt; store.len() == *len);
+        assert!(rt; store.segments().iter().all(|one| one.is_same(&s)));
     }
     Ok(())
 }

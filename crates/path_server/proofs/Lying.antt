@@ -62,10 +62,6 @@ lies_at_last Intra first last ia a b c =
     (λ e. (let within = within_last first ia a in
     rw (eqb-true last ia e) (and_from (nat_le low (rank_between Intra first ia)) (nat_le (rank_between Intra first ia) high) (le-leb _ _ within.0) (le-leb _ _ within.1))))
 
-pub at_last_upward : (ia : ℕ) → rank_between Intra 0 ia ≤ rank_between Intra 18446744073709551615 ia
-unfolding rank_between
-at_last_upward ia = omega arith
-
 -- ---- the segments at places
 
 -- a segment of the list has addresses

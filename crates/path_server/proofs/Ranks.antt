@@ -1,10 +1,10 @@
 -- What the order of an index says of the ends of its segments, and which part of it lies between
 -- two ends.
-use Rattle.std.proofs.Common.{◌≡◌, ℕ, zero, suc, ◌+◌, ◌^◌, ◌<◌, ◌≤◌, ltb, Bool, true, false, not, List, [], ◌∷◌, length, get_or, take, drop, filter, All, refl, ap, sym, ◌∙◌, inl, inr, arith}
-use Rattle.std.proofs.lemmas.Bool.{cases_lt, not-true, ltb-false, le-ltb}
+use Rattle.std.proofs.Common.{◌≡◌, ℕ, zero, suc, ◌+◌, ◌^◌, ◌-◌, ◌<◌, ◌≤◌, ltb, Bool, true, false, not, List, [], ◌∷◌, length, get_or, take, drop, filter, All, subst, refl, ap, sym, ◌∙◌, arith}
+use Rattle.std.proofs.lemmas.Bool.{not-true, ltb-false, le-ltb}
 use Rattle.std.specs.List.{AllWithin, range_with_len}
 use Rattle.std.specs.List.Sorted.{IsNonDecreasingBy, IsPartitionedBy}
-use Rattle.std.proofs.lemmas.List.{map-id}
+use Rattle.std.proofs.lemmas.List.{map-id, get_or-drop}
 use Rattle.std.proofs.lemmas.List.FromFn.{fill_by_all}
 use Rattle.path_segment.specs.Chain.{Chain}
 use Rattle.path_server.specs.Index.{rank_at, order_at}
@@ -40,13 +40,11 @@ part_is_kept p (x ∷ xs) (suc from) n within before between after =
     rw (before 0 x (omega arith) (omega arith)) (part_is_kept p xs from n (omega arith)
     (λ k d low high. before (suc k) d (omega arith) (omega arith)) (λ k d low high. between (suc k) d (omega arith) (omega arith)) (λ k d low high. after (suc k) d (omega arith) (omega arith)))
 
--- of places below which all ends are under a bound, and places from which on none are under a
--- higher one, the first is no later
-pub ends_no_earlier : (ranks : ℕ → ℕ) (index : List ℕ) (low high from to : ℕ) → low ≤ high → from ≤ length index → AllWithin (λ place. ranks place < low) index 0 from → AllWithin (λ place. high < ranks place) index to (length index) → from ≤ to
-ends_no_earlier ranks index low high from to upward within below above = elim (cases_lt to from) [
-  | inl back ↦ (let under = below to 0 (omega arith) back in let over = above to 0 (omega arith) (omega arith) in absurd (omega arith))
-  | inr fits ↦ fits
-]
+-- what holds of a part of what stands behind the first elements holds of that part of the list
+pub part_behind : {X : Type 0} (P : X → Type 0) (xs : List X) (from low high : ℕ) → AllWithin P (drop from xs) low high → AllWithin P xs (from + low) (from + high)
+part_behind P xs from low high holds k d after before =
+    let there : from + (k - from) ≡ k = omega arith in
+    subst P (get_or-drop from xs (k - from) d ∙ ap (λ i. get_or xs i d) there) (holds (k - from) d (omega arith) (omega arith))
 
 -- a list whose elements are their own places
 pub numbered_is : (xs : List ℕ) → ((k : ℕ) → k < length xs → get_or xs k 0 ≡ k) → xs ≡ range_with_len 0 (length xs)

@@ -15,12 +15,11 @@ pub(crate) fn range<'a>(
     low: Ends,
     high: Ends,
 ) -> &'a [usize]
-    requires agreed { IsIndex segments.now index.now }
-    requires upward { number_of low ≤ number_of high }
+    requires { IsIndex segments.now index.now }
     ensures { result.now ≡ filter (lies_between segments.now (number_of low) (number_of high)) index.now }
 {
-    let start = start_of(segments, index, low);
-    &index[start..end_of(segments, index, high)]
+    let (_, rest) = index.split_at(start_of(segments, index, low));
+    &rest[..end_of(segments, rest, high)]
 }
 
 /// How many places have segments with ends below these.
@@ -35,7 +34,7 @@ fn start_of(segments: &[Segment], index: &[usize], ends: Ends) -> usize
 
 /// How many places have segments with these ends or ends below them.
 pub(crate) fn end_of(segments: &[Segment], index: &[usize], ends: Ends) -> usize
-    requires { IsIndex segments.now index.now }
+    requires { IsNonDecreasingBy (order_at segments.now) index.now }
     ensures within { result ≤ length index.now }
     ensures below { AllWithin (λ place. rank_at segments.now place ≤ number_of ends) index.now 0 result }
     ensures rest { AllWithin (λ place. number_of ends < rank_at segments.now place) index.now result (length index.now) }

@@ -2,7 +2,7 @@
 //!
 //! The store is a list in order of registration. It takes in no segment that has expired, none
 //! twice and at most 32 of one kind from one AS to another. A look-up copies the live segments by
-//! which paths between two ASes can be made.
+//! which paths between two ASes can be made; an index of their ends finds them.
 #![tactic(auto)]
 
 mod alike;

@@ -78,6 +78,9 @@ impl PathStore {
     /// is not live at `now`, [`StoreFault::Full`] where it is new and 32 segments of its kind,
     /// first AS and last AS are there. Want of memory hands it back too, and comes only where the
     /// segment was to be taken in.
+    ///
+    /// It looks at the segments of that kind and those ends alone, and moves the places in the
+    /// index that stand behind the new one.
     #[tactic(auto, unfolding(crate::specs::Store::registered))]
     pub fn register(&mut self, segment: Segment, now: u32) -> Result<bool, (Segment, StoreError)>
         ensures answer { Registers segment result (answer_to self.old segment now) }
@@ -120,6 +123,8 @@ impl PathStore {
     }
 
     /// Takes out the segments that are not live at the second `now`, and says how many they were.
+    ///
+    /// It looks at each segment, sorts the places of those that stay, and takes no memory.
     #[tactic(auto, using(crate::proofs::Counts::left_out), unfolding(crate::specs::Store::swept, crate::specs::Store::expired_count))]
     pub fn sweep(&mut self, now: u32) -> usize
         ensures kept { self.new ≡ swept self.old now }
@@ -175,6 +180,9 @@ impl PathStore {
     ///
     /// To the side of `src` belong it and the ASes in which the segments to it begin, and likewise
     /// for `dst`.
+    ///
+    /// It searches the index once for each side, and twice for each AS of one side and each of the
+    /// other; beside that its time and memory grow with the segments that have these ends.
     #[tactic(auto, unfolding(crate::specs::Lookup::segments_for))]
     pub fn segments_for(
         &self,

@@ -1,15 +1,30 @@
-use Rattle.std.proofs.Common.{◌-◌, arith}
+use Rattle.std.proofs.Common.{◌≤◌, ◌<◌, drop, take, length, ap, sym, subst, ◌∙◌, arith}
+use Rattle.std.specs.List.{AllWithin}
+use Rattle.std.specs.List.Sorted.{IsNonDecreasingBy}
 use Rattle.std.proofs.lemmas.Bool.{and_from, and_left, and_right, le-leb, lt-leb}
-use Rattle.path_server.specs.Index.{number_of, rank_at, lies_between}
-use Rattle.path_server.proofs.Ranks.{part_is_kept, ends_no_earlier}
+use Rattle.std.proofs.lemmas.List.{length-drop}
+use Rattle.std.proofs.lemmas.List.Sorted.{IsNonDecreasingBy-drop}
+use Rattle.path_server.specs.Index.{number_of, rank_at, order_at, lies_between}
+use Rattle.path_server.proofs.Ranks.{part_is_kept, part_behind}
 use Rattle.path_server.proofs.index.range.Goals as goal
+
+pub end_of-requires : goal.end_of-requires
+end_of-requires c =
+    subst (IsNonDecreasingBy (order_at c.args.segments.now)) (sym c.split_at.ensures.back) (IsNonDecreasingBy-drop (order_at c.args.segments.now) c.start_of.result c.args.index.now c.requires.ordered)
 
 pub returns : goal.returns
 returns c =
-    let start = c.start_of-start.ensures in
+    let index = c.args.index.now in
+    let from = c.start_of.result in
+    let ranks = rank_at c.args.segments.now in
+    let start = c.start_of.ensures in
     let end = c.end_of.ensures in
-    let upward = ends_no_earlier (rank_at c.args.segments.now) c.args.index.now _ _ _ _ c.requires.upward start.within start.below end.rest in
-    part_is_kept (lies_between c.args.segments.now (number_of c.args.low) (number_of c.args.high)) c.args.index.now c.start_of-start.result (c.end_of.result - c.start_of-start.result) (omega (arith, end.within))
+    let back = c.split_at.ensures.back in
+    let long = length-drop from index in
+    let short = ap length back in
+    let below = part_behind (λ place. ranks place ≤ number_of c.args.high) index from 0 c.end_of.result (subst (λ rest. AllWithin (λ place. ranks place ≤ number_of c.args.high) rest 0 c.end_of.result) back end.below) in
+    let above = part_behind (λ place. number_of c.args.high < ranks place) index from c.end_of.result (length (drop from index)) (subst (λ rest. AllWithin (λ place. number_of c.args.high < ranks place) rest c.end_of.result (length rest)) back end.rest) in
+    ap (take c.end_of.result) back ∙ part_is_kept (lies_between c.args.segments.now (number_of c.args.low) (number_of c.args.high)) index from c.end_of.result (omega (arith, end.within, start.within))
     (λ k d low high. and_left _ _ (lt-leb _ _ (start.below k d low high)))
-    (λ k d low high. and_from _ _ (le-leb _ _ (start.rest k d low (omega (arith, end.within)))) (le-leb _ _ (end.below k d (omega arith) (omega arith))))
-    (λ k d low high. and_right _ _ (lt-leb _ _ (end.rest k d (omega arith) high)))
+    (λ k d low high. and_from _ _ (le-leb _ _ (start.rest k d low (omega (arith, end.within, start.within)))) (le-leb _ _ (below k d (omega arith) high)))
+    (λ k d low high. and_right _ _ (lt-leb _ _ (above k d low (omega (arith, start.within)))))

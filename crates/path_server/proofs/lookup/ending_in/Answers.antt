@@ -4,16 +4,8 @@ use Rattle.std.proofs.lemmas.Result.{IfOk-weaker}
 use Rattle.path_segment.specs.declared.kind.SegKind.TheVariants.{Intra}
 use Rattle.path_segment.specs.Tests.{is_live}
 use Rattle.path_server.specs.Index.{number_of, rank_between, lies_between, passes_at, is_in}
-use Rattle.path_server.proofs.Lying.{at_last_upward}
 use Rattle.path_server.proofs.Places.{ending_is_kept}
 use Rattle.path_server.proofs.lookup.ending_in.Goals as goal
-
-pub range-requires-clause-upward : goal.range-requires-clause-upward
-range-requires-clause-upward c =
-    let low : number_of c.new-low.result ≡ rank_between Intra 0 c.args.ia = c.new-low.ensures ∙ ap (rank_between Intra 0) c.number-last.ensures.value in
-    let high : number_of c.new-high.result ≡ rank_between Intra 18446744073709551615 c.args.ia = c.new-high.ensures ∙ ap (rank_between Intra 18446744073709551615) c.number-last.ensures.value in
-    let up = at_last_upward c.args.ia in
-    omega arith
 
 pub returns : goal.returns
 returns c =

@@ -6,6 +6,11 @@ use Rattle.path_server.specs.Index.{IsIndex, rank_at}
 use Rattle.path_server.proofs.Growing.{grown_is_index}
 use Rattle.path_server.proofs.store.PathStore.take_in.Goals as goal
 
+pub end_of-at-requires : goal.end_of-at-requires
+end_of-at-requires c =
+    let old : IsIndex c.deref.result.now c.deref-2.result.now = search rules in
+    old.ordered
+
 pub invariant_of-self-inside-2 : goal.invariant_of-self-inside-2
 invariant_of-self-inside-2 c =
     let segments = c.deref.result.now in

@@ -1,0 +1,141 @@
+//! Stores of many segments: making and registering them, and look-ups among them.
+
+use anyhow::Result;
+use isd_as::{IfId, IsdAs};
+use path_segment::{Entry, SegKind, Segment};
+use path_server::PathStore;
+use std::alloc::Global;
+
+/// How many segments beside those that are looked up there are.
+const OTHERS: u32 = 10_000;
+
+/// How many segments up, between core ASes and down are looked up.
+const FOUND: u16 = 32;
+
+/// The second at which all is made.
+const NOW: u32 = 1000;
+
+/// An AS of an ISD.
+fn address(isd: u16, number: u32) -> IsdAs {
+    IsdAs::from_number(u64::from(isd) << 48 | u64::from(number))
+}
+
+/// The interface of an AS to this one.
+fn port(ia: IsdAs) -> IfId {
+    IfId((ia.number() % 0x1_0000_0000_0000 % 60_000) as u16 + 1)
+}
+
+/// A segment over three ASes.
+fn segment(
+    alloc: Global,
+    kind: SegKind,
+    timestamp: u32,
+    beta0: u16,
+    ases: [IsdAs; 3],
+) -> Result<Segment> {
+    let [first, second, third] = ases;
+    let ways = [
+        (first, IfId(0), port(second)),
+        (second, port(first), port(third)),
+        (third, port(second), IfId(0)),
+    ];
+    let mut entries = Vec::with_capacity(alloc, 3)?;
+    for (ia, cons_ingress, cons_egress) in ways.iter() {
+        let [.., high, low] = ia.to_bytes();
+        entries.push(Entry {
+            ia: *ia,
+            cons_ingress: *cons_ingress,
+            cons_egress: *cons_egress,
+            exp_time: 63,
+            mac: [1, (beta0 % 256) as u8, high, low, 5, 6],
+        })?;
+    }
+    Ok(Segment::new(kind, timestamp, beta0, entries)?)
+}
+
+/// The other segment of this number: of four three are intra, from fifty ASes to one further AS for
+/// each eight of them.
+fn other(alloc: Global, number: u32) -> Result<Segment> {
+    let kind = if number % 4 == 3 {
+        SegKind::Core
+    } else {
+        SegKind::Intra
+    };
+    let ases = [
+        address(3, 10 + number % 50),
+        address(3, 100_000u32.wrapping_add(number)),
+        address(3, 10_000 + number / 8),
+    ];
+    segment(alloc, kind, NOW, (number % 65_536) as u16, ases)
+}
+
+/// Takes a segment in, and says how many are new.
+fn put(store: &mut PathStore, segment: Segment) -> u64 {
+    match store.register(segment, NOW) {
+        Ok(true) => 1,
+        _ => 0,
+    }
+}
+
+/// Makes the other segments so many times, and sums their seconds.
+pub(crate) fn make(alloc: Global, count: u32) -> Result<u64> {
+    let mut sum = 0u64;
+    for _ in 0..count {
+        for number in 0..OTHERS {
+            sum = sum.wrapping_add(u64::from(other(alloc, number)?.timestamp()));
+        }
+    }
+    Ok(sum)
+}
+
+/// Makes and registers the other segments so many times, and counts those that are taken in.
+pub(crate) fn register(alloc: Global, count: u32) -> Result<u64> {
+    let mut sum = 0u64;
+    for _ in 0..count {
+        let mut store = PathStore::new(alloc);
+        for number in 0..OTHERS {
+            sum = sum.wrapping_add(put(&mut store, other(alloc, number)?));
+        }
+    }
+    Ok(sum)
+}
+
+/// A store of the other segments, and of those that are looked up between two ASes.
+fn store(alloc: Global, src: IsdAs, dst: IsdAs) -> Result<PathStore> {
+    let mut store = PathStore::new(alloc);
+    for number in 0..OTHERS {
+        put(&mut store, other(alloc, number)?);
+    }
+    let (near, far) = (address(1, 1), address(2, 1));
+    for beta0 in 0..FOUND {
+        let number = u32::from(beta0);
+        let rows = [
+            (SegKind::Intra, [near, address(1, 1000 + number), src]),
+            (SegKind::Core, [near, address(1, 2000 + number), far]),
+            (SegKind::Intra, [far, address(2, 3000 + number), dst]),
+        ];
+        for (kind, ases) in rows {
+            put(
+                &mut store,
+                segment(alloc, kind, NOW + number % 4, beta0, ases)?,
+            );
+        }
+    }
+    Ok(store)
+}
+
+/// Looks 32 segments up, 32 between core ASes and 32 down up among the others, so many times, and
+/// counts what is found.
+pub(crate) fn look_up(alloc: Global, count: u32) -> Result<u64> {
+    let (src, dst) = (address(1, 5000), address(2, 5000));
+    let store = store(alloc, src, dst)?;
+    let mut sum = 0u64;
+    for turn in 0..count {
+        let set = store.segments_for(alloc, src, dst, NOW + turn % 2)?;
+        sum = sum
+            .wrapping_add(set.ups().len() as u64)
+            .wrapping_add(set.cores().len() as u64)
+            .wrapping_add(set.downs().len() as u64);
+    }
+    Ok(sum)
+}
