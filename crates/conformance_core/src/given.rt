@@ -92,13 +92,24 @@ fn step(alloc: Global, net: &mut Net, event: &Event<'_>) -> Result<u16, AllocErr
     Ok(code_of(reply))
 }
 
-/// The answers to a packet that is sent over this segment, and to three turns of it.
-fn answers(alloc: Global, segment: &Segment) -> Result<[u16; 4], Fail> {
+/// Sets the accumulator of the first info field.
+fn set_first(header: &mut Header, seg_id: u16) {
+    if header.info_count() > 0 {
+        header.set_seg_id(0, seg_id);
+    }
+}
+
+/// The answers to a packet that is sent over this segment, with this accumulator in place of its own
+/// where one is given, and to three turns of it.
+fn answers(alloc: Global, segment: &Segment, other: Option<u16>) -> Result<[u16; 4], Fail> {
     let topology = Topology::from_json(alloc, row().as_bytes())?;
     let mut net = Net::new(alloc, topology);
     step(alloc, &mut net, &Event::Tick { to: 1000 })?;
     let pieces = pieces_of(&[(segment, 0, false)])?;
-    let header = header_of(alloc, [3, 0, 0], &[(segment, 0, false)])?;
+    let mut header = header_of(alloc, [3, 0, 0], &[(segment, 0, false)])?;
+    if let Some(seg_id) = other {
+        set_first(&mut header, seg_id);
+    }
     let policy = Policy::any();
     let sent = match sending(&pieces, &header, &policy, b"hi") {
         Some(event) => step(alloc, &mut net, &event)?,
@@ -116,13 +127,23 @@ fn answers(alloc: Global, segment: &Segment) -> Result<[u16; 4], Fail> {
 #[test]
 fn what_was_issued_arrives(rt: HostRuntime) -> Result<(), Fail> {
     let issued = issued(rt.alloc())?;
-    assert_eq!(rt; answers(rt.alloc(), &issued)?, [0, 1, 1, 3]);
+    assert_eq!(rt; answers(rt.alloc(), &issued, None)?, [0, 1, 1, 3]);
+    Ok(())
+}
+
+#[test]
+fn another_accumulator_is_refused(rt: HostRuntime) -> Result<(), Fail> {
+    let issued = issued(rt.alloc())?;
+    assert_eq!(rt;
+        answers(rt.alloc(), &issued, Some(0x1234))?,
+        [80, 130, 130, 130]
+    );
     Ok(())
 }
 
 #[test]
 fn what_nobody_issued_does_not_arrive(rt: HostRuntime) -> Result<(), Fail> {
     let made_up = segment(rt.alloc(), [[1; 6], [2; 6], [3; 6]])?;
-    assert_eq!(rt; answers(rt.alloc(), &made_up)?, [0, 94, 131, 131]);
+    assert_eq!(rt; answers(rt.alloc(), &made_up, None)?, [0, 94, 131, 131]);
     Ok(())
 }
