@@ -38,12 +38,38 @@ pub(crate) fn seated(board: &mut BoardWriter) -> Option<BoardReader>
     None
 }
 
-/// Publishes the worked segment.
+/// Publishes what is pending; where memory ran out, once more.
+pub(crate) fn publishes_all<R: Wait>(rt: &R, board: &mut BoardWriter) -> Option<()>
+    ensures { board.new.board ≡ board.old.board }
+{
+    if board.publish(rt).is_ok() {
+        return Some(());
+    }
+    board.publish(rt).ok()
+}
+
+/// Publishes the worked segment; where memory ran out, what was refused is done once more.
 pub(crate) fn publishes<R: Wait>(rt: &R, alloc: Global, board: &mut BoardWriter) -> Option<()>
     ensures { board.new.board ≡ board.old.board }
 {
-    board.register(worked(alloc)?, 100).ok()?;
-    board.publish(rt).ok()
+    let segment = match worked(alloc) {
+        Some(segment) => segment,
+        None => worked(alloc)?,
+    };
+    if let Err(refused) = board.register(segment, 100) {
+        board.register(refused.value, 100).ok()?;
+    }
+    publishes_all(rt, board)
+}
+
+/// Publishes a sweep at this second; where memory ran out, what was refused is done once more.
+pub(crate) fn sweeps<R: Wait>(rt: &R, board: &mut BoardWriter, now: u32) -> Option<()>
+    ensures { board.new.board ≡ board.old.board }
+{
+    if board.sweep(now).is_err() {
+        board.sweep(now).ok()?;
+    }
+    publishes_all(rt, board)
 }
 
 /// What is found before the segment is published, after it, at a second at which it has expired, and
@@ -55,8 +81,7 @@ fn row<R: Wait>(rt: &R, alloc: Global, board: &mut BoardWriter) -> Option<[usize
     reader.learn(board.tell());
     let after = found(&mut reader, alloc, 100)?;
     let late = found(&mut reader, alloc, 21_701)?;
-    board.sweep(21_701).ok()?;
-    board.publish(rt).ok()?;
+    sweeps(rt, board, 21_701)?;
     reader.learn(board.tell());
     let swept = found(&mut reader, alloc, 100)?;
     Some([before, after, late, swept])

@@ -2,7 +2,7 @@
 
 ghost use Rattle.std.specs.Prelude.{◌≡◌};
 
-use crate::board::{publishes, seated};
+use crate::board::{publishes, seated, sweeps};
 use crate::segments::ia;
 use daemon_cache::{AskFault, Daemon};
 use isd_as::{IfId, IsdAs};
@@ -91,8 +91,7 @@ fn row<R: Wait>(rt: &R, alloc: Global, board: &mut BoardWriter) -> Option<[bool;
     let ends = (ia(0x111), ia(0x110));
     let first = asked(rt, alloc, &daemon, &mut reader, ends, 100);
     let second = asked(rt, alloc, &daemon, &mut reader, ends, 100);
-    board.sweep(21_701).ok()?;
-    board.publish(rt).ok()?;
+    sweeps(rt, board, 21_701)?;
     reader.learn(board.tell());
     let swept = asked(rt, alloc, &daemon, &mut reader, ends, 100);
     Some([
