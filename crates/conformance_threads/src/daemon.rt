@@ -13,7 +13,6 @@ use std::alloc::Global;
 use std::sync::Wait;
 use std::test::Fail;
 use std::thread;
-use std::thread::{Threads, join};
 
 /// The option of weight 0 without a list, and with this sequence.
 fn option(sequence: Option<&str>) -> OptionText<'_> {
@@ -88,17 +87,16 @@ fn row<R: Wait>(rt: &R, alloc: Global, board: &mut BoardWriter) -> Option<[bool;
     let mut reader = seated(board)?;
     publishes(rt, alloc, board)?;
     reader.learn(board.tell());
-    let ends = (ia(0x111), ia(0x110));
-    let first = asked(rt, alloc, &daemon, &mut reader, ends, 100);
-    let second = asked(rt, alloc, &daemon, &mut reader, ends, 100);
+    let walk = up();
+    let first = asked(rt, alloc, &daemon, &mut reader, (ia(0x111), ia(0x110)), 100);
+    let second = asked(rt, alloc, &daemon, &mut reader, (ia(0x111), ia(0x110)), 100);
     sweeps(rt, board, 21_701)?;
     reader.learn(board.tell());
-    let swept = asked(rt, alloc, &daemon, &mut reader, ends, 100);
-    Some([
-        is(&first, &up(), false),
-        is(&second, &up(), true),
-        is(&swept, &[], false),
-    ])
+    let swept = asked(rt, alloc, &daemon, &mut reader, (ia(0x111), ia(0x110)), 100);
+    let is_first = is(&first, walk.as_slice(), false);
+    let is_second = is(&second, walk.as_slice(), true);
+    let is_swept = is(&swept, &[], false);
+    Some([is_first, is_second, is_swept])
 }
 
 #[test]
@@ -110,76 +108,35 @@ fn an_answer_is_served_while_its_segments_stay(rt: HostRuntime) -> Result<(), Fa
     Ok(())
 }
 
+/// Whether the answer for both directions, one after the other, is right and not from the cache.
+fn both<R: Wait>(rt: &R, alloc: Global, daemon: &Daemon, reader: &mut BoardReader) -> bool
+    ensures { reader.new.board ≡ reader.old.board }
+{
+    let above = asked(rt, alloc, daemon, reader, (ia(0x111), ia(0x110)), 100);
+    let below = asked(rt, alloc, daemon, reader, (ia(0x110), ia(0x111)), 100);
+    let (ups, downs) = (up(), down());
+    is(&above, ups.as_slice(), false) && is(&below, downs.as_slice(), false)
+}
+
 /// Whether a cache with room for one answer is asked for both directions in turn, three times each,
 /// and gives the same each time, of which it serves none.
-fn in_turn<R: Wait>(rt: &R, alloc: Global, board: &mut BoardWriter) -> Option<bool> {
+fn in_turn<R: Wait>(rt: &R, alloc: Global, board: &mut BoardWriter) -> Option<[bool; 3]> {
     let daemon = Daemon::new(alloc, 1).ok()?;
     let mut reader = seated(board)?;
     publishes(rt, alloc, board)?;
     reader.learn(board.tell());
-    let (ups, downs) = ((ia(0x111), ia(0x110)), (ia(0x110), ia(0x111)));
-    let mut is_right = true;
-    for _ in 0..3 {
-        let above = asked(rt, alloc, &daemon, &mut reader, ups, 100);
-        let below = asked(rt, alloc, &daemon, &mut reader, downs, 100);
-        is_right = is_right && is(&above, &up(), false) && is(&below, &down(), false);
-    }
-    Some(is_right)
+    let first = both(rt, alloc, &daemon, &mut reader);
+    let second = both(rt, alloc, &daemon, &mut reader);
+    let third = both(rt, alloc, &daemon, &mut reader);
+    Some([first, second, third])
 }
 
 #[test]
 fn a_cache_of_one_serves_neither_of_two(rt: HostRuntime) -> Result<(), Fail> {
     let mut board = new_board(&rt, rt.alloc(), 2)?;
-    let is_right = in_turn(&rt, rt.alloc(), &mut board);
+    let rounds = in_turn(&rt, rt.alloc(), &mut board);
     board.close(&rt);
-    assert_eq!(rt; is_right, Some(true));
-    Ok(())
-}
-
-/// Asks until the path is there.
-fn awaits<R: Wait>(rt: &R, alloc: Global, daemon: &Daemon, mut reader: BoardReader) -> bool {
-    for _ in 0..1_000_000 {
-        let answer = asked(rt, alloc, daemon, &mut reader, (ia(0x111), ia(0x110)), 100);
-        if let Some((hops, _)) = answer {
-            if hops.as_slice() == up().as_slice() {
-                return true;
-            }
-        }
-        thread::yield_now();
-    }
-    false
-}
-
-/// Whether two threads that ask one daemon get the path that a third thread publishes the segment
-/// of.
-fn apart<R: Threads + Wait + Sync>(
-    rt: &R,
-    alloc: Global,
-    board: &mut BoardWriter,
-) -> Option<(bool, bool, bool)> {
-    let daemon = Daemon::new(alloc, 4).ok()?;
-    let one = seated(board)?;
-    let two = seated(board)?;
-    let ((first, second), published) = join(
-        rt,
-        || {
-            join(
-                rt,
-                || awaits(rt, alloc, &daemon, one),
-                || awaits(rt, alloc, &daemon, two),
-            )
-        },
-        || publishes(rt, alloc, board).is_some(),
-    );
-    Some((first, second, published))
-}
-
-#[test]
-fn two_threads_ask_one_daemon(rt: HostRuntime) -> Result<(), Fail> {
-    let mut board = new_board(&rt, rt.alloc(), 2)?;
-    let answered = apart(&rt, rt.alloc(), &mut board);
-    board.close(&rt);
-    assert_eq!(rt; answered, Some((true, true, true)));
+    assert_eq!(rt; rounds, Some([true, true, true]));
     Ok(())
 }
 
