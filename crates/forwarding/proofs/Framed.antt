@@ -53,7 +53,7 @@ header_is_read source destination header payload spells =
     rw (le-ltb (length packet) 16 long)
     (ap as_bad_header (spelled_is_read header (spelling header) payload spells))
 
-is_frame : (source destination : ℕ) (header : HeaderValue) (payload : List ℕ)
+pub is_frame : (source destination : ℕ) (header : HeaderValue) (payload : List ℕ)
     → Spells (spelling header) header
     → IsFrame (framed source destination header payload) (addresses source destination)
     (spelling header) payload header

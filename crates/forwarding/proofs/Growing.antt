@@ -1,9 +1,9 @@
 -- What the calls of beaconing make holds: its keys are accepted and in use, its links are up.
-use Rattle.std.proofs.Common.{◌≡◌, ℕ, ◌+◌, ◌-◌, ◌≤◌, true, List, [], ◌∷◌, ◌++◌, length, Contains, Option, Some, Ok, refl, sym, ap, ◌∙◌, subst, arith}
+use Rattle.std.proofs.Common.{◌≡◌, ℕ, ◌-◌, ◌≤◌, true, List, [], ◌∷◌, ◌++◌, length, Contains, Option, Some, Ok, refl, sym, ap, ◌∙◌, subst, arith}
 use Rattle.std.specs.Prelude.{slice_get}
 use Rattle.std.specs.Option.{ok_or, option_map_or, unwrap_or}
 use Rattle.std.proofs.lemmas.Option.{same_Some}
-use Rattle.refusal.specs.Refusal.{◌>>=◌, check}
+use Rattle.refusal.specs.Refusal.{check}
 use Rattle.refusal.proofs.Steps.{bind_ok, ok_or_ok, ok_is}
 use Rattle.scion_topology.specs.declared.network.AsEntry.{AsEntry}
 use Rattle.scion_topology.specs.Network.{Network, as_named}

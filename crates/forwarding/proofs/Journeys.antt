@@ -1,5 +1,5 @@
 -- A packet from turn to turn, up to its delivery.
-use Rattle.std.proofs.Common.{◌≡◌, ℕ, zero, suc, ◌+◌, ◌-◌, ◌<◌, ◌≤◌, ◌⊎◌, Bool, true, false, if◌then◌else◌, List, [], ◌∷◌, length, All, refl, sym, ap, ◌∙◌, subst, arith, inl, inr}
+use Rattle.std.proofs.Common.{◌≡◌, ℕ, ◌-◌, ◌<◌, ◌≤◌, Bool, true, false, if◌then◌else◌, List, [], ◌∷◌, length, All, refl, ap, ◌∙◌, subst, arith, inl, inr}
 use Rattle.std.specs.List.{AllByRecursion}
 use Rattle.std.proofs.lemmas.List.Elements.{recursion_from_All}
 use Rattle.scion_topology.specs.Network.{Network}
@@ -11,7 +11,7 @@ use Rattle.router_step.specs.declared.arrival.Arrival.TheVariants.{FromHost, Ins
 use Rattle.forwarding.specs.Turn.{Packet, turn_of, turned, after}
 use Rattle.forwarding.specs.Journey.{is_one, turns_over, turns_left, to_come}
 use Rattle.forwarding.specs.Open.{LetsThrough}
-use Rattle.forwarding.specs.Standing.{Standing, GoesOn, arrived_with, Arrives}
+use Rattle.forwarding.specs.Standing.{Standing, arrived_with}
 use Rattle.forwarding.proofs.Way.{some_to_come}
 use Rattle.forwarding.proofs.Leading.{one_turn}
 

@@ -14,6 +14,7 @@ pub mod Behind
 pub mod Way
 pub mod Travel
 pub mod Routes
+pub mod Leaving
 pub mod Sending
 pub mod Bounds
 pub mod Made
@@ -26,3 +27,5 @@ pub mod Received
 pub mod TurnedHeader
 pub mod Replies
 pub mod Ended
+pub mod Onward
+pub mod Bounded

@@ -1,7 +1,7 @@
 -- A packet that is sent on an accepted path stands at its beginning.
-use Rattle.std.proofs.Common.{◌≡◌, ℕ, ◌+◌, ◌<◌, ◌≤◌, List, [], ◌∷◌, length, get_or, map, Some, Ok, refl, sym, ap, ◌∙◌, arith}
+use Rattle.std.proofs.Common.{◌≡◌, ℕ, ◌<◌, ◌≤◌, List, [], ◌∷◌, length, get_or, map, Some, Ok, refl, sym, ap, ◌∙◌, arith}
 use Rattle.std.specs.Prelude.{slice_get}
-use Rattle.std.specs.List.{flat_map, AllByRecursion}
+use Rattle.std.specs.List.{flat_map}
 use Rattle.std.proofs.lemmas.List.Elements.{recursion_from_All}
 use Rattle.std.proofs.lemmas.Option.{slice_get-get_or}
 use Rattle.scion_topology.specs.Network.{Network}
@@ -16,23 +16,16 @@ use Rattle.path_verifier.specs.Header.{fields_of, len_of, header_of}
 use Rattle.path_verifier.specs.Header as path
 use Rattle.path_verifier.specs.Accepted.{MakesPath}
 use Rattle.router_step.specs.declared.arrival.Arrival.TheVariants.{FromHost}
-use Rattle.forwarding.specs.Spot.{Spot, header_with, header_there, out_by}
+use Rattle.forwarding.specs.Spot.{header_with, header_there, out_by}
 use Rattle.forwarding.specs.Frame.{framed, HasFrame}
 use Rattle.forwarding.specs.Turn.{put_at}
 use Rattle.forwarding.specs.Standing.{Standing}
 use Rattle.path_verifier.proofs.Lengths.{path_is_short}
 use Rattle.forwarding.specs.Journey.{first_out, turns_for}
-use Rattle.forwarding.proofs.Places.{IsLong, long_of}
+use Rattle.forwarding.proofs.Places.{long_of}
 use Rattle.forwarding.proofs.Stepping.{first_info}
-use Rattle.forwarding.proofs.Coming.{cross, whole_walk}
-
-all_long : (pieces : List PieceValue) → AllByRecursion HasRange pieces
-    → AllByRecursion IsLong pieces
-all_long [] ranges = tt
-all_long (piece ∷ pieces) ranges = (long_of piece ranges.0, all_long pieces ranges.1)
-
-abbrev start : PieceValue → List PieceValue → Spot
-start piece later = record { past = []; piece = piece; later = later; reached = 0 }
+use Rattle.forwarding.proofs.Coming.{whole_walk}
+use Rattle.forwarding.proofs.Leaving.{all_long, start, first_out_is}
 
 header_is : (piece : PieceValue) (later : List PieceValue)
     → header_of (piece ∷ later) ≡ header_there (start piece later)
@@ -72,13 +65,8 @@ starts n source destination moment router payload (piece ∷ later) path frame o
     record { ia = 0; cons_ingress = 0; cons_egress = 0; exp_time = 0; mac = [] } in
     let entry = get_or (travelled piece) 0 none in
     let there = slice_get-get_or (travelled piece) 0 none first_within in
-    let second_within : 0 + 1 < length (travelled piece) = omega arith in
-    let next = get_or (travelled piece) (0 + 1) none in
-    let further = slice_get-get_or (travelled piece) (0 + 1) none second_within in
     let whole = whole_walk piece later long (all_long later ranges.1) few in
-    let split = cross 0 (start piece later) entry next there further in
-    let way : first_out (walk_of (piece ∷ later)) ≡ out_by piece entry =
-    ap first_out (whole ∙ split) in
+    let way = first_out_is piece later source destination moment entry path there in
     let here = begins_there piece source entry path.source there in
     record {
       spot = start piece later;

@@ -27,11 +27,11 @@ use Rattle.forwarding.proofs.AtSpot.{IsSpot, within_piece, hops_of_spot}
 
 -- ---- accumulators have 16 bits
 
-chosen : (b : Bool) (x y : ℕ) → x < 2 ^ 16 → y < 2 ^ 16 → (if b then x else y) < 2 ^ 16
+pub chosen : (b : Bool) (x y : ℕ) → x < 2 ^ 16 → y < 2 ^ 16 → (if b then x else y) < 2 ^ 16
 chosen true x y one other = one
 chosen false x y one other = other
 
-stepped : (beta : ℕ) (hop : HopField) → beta < 2 ^ 16 → HopFits hop
+pub stepped : (beta : ℕ) (hop : HopField) → beta < 2 ^ 16 → HopFits hop
     → beta_after beta hop.mac < 2 ^ 16
 stepped beta hop small fits =
     let high = fits.mac 0 in
@@ -44,14 +44,14 @@ on_arrival : (interface : ℕ) (info : InfoField) (hop : HopField) → info.seg_
 on_arrival interface info hop small fits =
     chosen _ (beta_after info.seg_id hop.mac) info.seg_id (stepped info.seg_id hop small fits) small
 
-on_leaving : (info : InfoField) (hop : HopField) → info.seg_id < 2 ^ 16 → HopFits hop
+pub on_leaving : (info : InfoField) (hop : HopField) → info.seg_id < 2 ^ 16 → HopFits hop
     → seg_id_on_leaving info hop < 2 ^ 16
 on_leaving info hop small fits =
     chosen _ (beta_after info.seg_id hop.mac) info.seg_id (stepped info.seg_id hop small fits) small
 
 -- ---- what holds of each of a list
 
-all_there : {X : Type 0} (P : X → Type 0) (xs : List X) (i : ℕ) (x : X) → AllByRecursion P xs
+pub all_there : {X : Type 0} (P : X → Type 0) (xs : List X) (i : ℕ) (x : X) → AllByRecursion P xs
     → slice_get xs i ≡ Some x → P x
 all_there P [] i x all there = absurd cc
 all_there P (y ∷ ys) zero x all there = let is : y ≡ x = cc in subst P is all.0

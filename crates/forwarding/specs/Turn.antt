@@ -1,6 +1,6 @@
 -- One turn of a packet in a network: the router at which it stands makes its step over the packet's
 -- bytes, and the packet is placed where that leads (draft-dekater-scion-dataplane).
-use Rattle.std.specs.Prelude.{ℕ, List, [], ◌∷◌, ◌++◌, length, nat_lt, if◌then◌else◌, bit_xor, slice_index, slice_set, Result, Ok, Err}
+use Rattle.std.specs.Prelude.{◌≢◌, ℕ, List, [], ◌∷◌, ◌++◌, length, nat_lt, if◌then◌else◌, bit_xor, slice_index, slice_set, Result, Ok, Err}
 use Rattle.scion_topology.specs.declared.fault.TopologyFault.{TopologyFault}
 use Rattle.scion_topology.specs.View.{View}
 use Rattle.scion_topology.specs.Network.{Network}
@@ -108,6 +108,10 @@ turned n now packet = (turn_of n now packet).1
 abbrev pub after : Network → Packet → List ℕ → Packet
 after n packet [] = packet
 after n packet (now ∷ later) = after n (turned n now packet) later
+
+-- the packet is at no router: it was delivered, refused or lost
+abbrev pub IsAtNoRouter : Packet → Type 0
+IsAtNoRouter packet = (stop : Stop) → packet.place ≢ AtRouter stop
 
 -- a packet that was lost on its way
 abbrev pub lost : Packet → Packet

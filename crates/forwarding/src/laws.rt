@@ -1,7 +1,7 @@
 //! Laws of packets on their way: each is the contract of a function that does nothing. What a law
 //! says may be cited by the lemma of `proofs/` that its answer names.
 
-ghost use Rattle.std.specs.Prelude.{◌≡◌, ◌≢◌, ◌↔◌, ◌⊎◌, ℕ, ◌-◌, ◌*◌, ◌<◌, ◌≤◌, Bool, true, false, List, [], ◌∷◌, ◌++◌, length, All, Ok};
+ghost use Rattle.std.specs.Prelude.{◌≡◌, ◌≢◌, ◌↔◌, ◌⊎◌, ℕ, ◌-◌, ◌*◌, ◌<◌, ◌≤◌, Bool, true, false, List, [], ◌∷◌, ◌++◌, length, All, Ok, IsOk};
 ghost use Rattle.scion_topology.specs.Network.{Network};
 ghost use Rattle.scion_topology.specs.View.{View};
 ghost use Rattle.scion_topology.specs.Topology.{IsNetwork, owner_in, rotated, set_up, view_in};
@@ -13,7 +13,8 @@ ghost use Rattle.path_verifier.specs.declared.fault.VerifyFault.{VerifyFault};
 ghost use Rattle.path_verifier.specs.Accepted.{AreLive, IsExpiry, MakesPath, request_of, IsAccepted};
 ghost use Rattle.path_verifier.specs.Verdict.{IsRefused};
 ghost use Rattle.path_verifier.specs.Turned.{turned_piece, turned_pieces};
-ghost use Rattle.path_header.specs.Value.{HeaderValue, header_len};
+ghost use Rattle.path_header.specs.Value.{HeaderValue, IsHeader, header_len};
+ghost use Rattle.path_header.specs.Spelling.{Fits};
 ghost use Rattle.router_step.specs.Packet.{destination_of, source_of, header_in};
 ghost use Rattle.path_header.specs.Reversal.{reversed};
 ghost use Rattle.policy_expr.specs.Policy.{Rules};
@@ -24,7 +25,7 @@ ghost use Rattle.beaconing.specs.Issued.{IsMade, IsUnderWay};
 ghost use Rattle.forwarding.specs.declared.place.Place.{Place};
 ghost use Rattle.forwarding.specs.declared.place.Stop.{Stop};
 ghost use Rattle.forwarding.specs.Frame.{framed, HasFrame};
-ghost use Rattle.forwarding.specs.Turn.{Packet, put_at, still, turn_under, turn_of, after};
+ghost use Rattle.forwarding.specs.Turn.{Packet, IsAtNoRouter, put_at, still, turn_under, turn_of, after};
 ghost use Rattle.forwarding.specs.Journey.{first_out, turns_for};
 ghost use Rattle.forwarding.specs.Open.{IsOpen, LetsThrough};
 ghost use Rattle.forwarding.specs.Standing.{Standing, GoesOn, arrived_with, Arrives};
@@ -76,6 +77,33 @@ pub fn turns_are_few()
     ensures { (n : Network) (pieces : List PieceValue) (source destination moment : ℕ)
         → MakesPath pieces source destination moment
         → turns_for n (walk_of pieces) ≤ 2 * hop_count pieces }
+{}
+
+/// In a network that does not change no packet has more than two turns for each of its hop fields,
+/// whatever its segments, the keys and the moments: one that a host sends, put at a router that the
+/// network has, with a header of the grammar whose numbers fit, is at no router any more after so
+/// many turns, and has had fewer while it is at one, which the network has too. The router that
+/// owns an interface is there.
+pub fn journeys_are_bounded()
+    ensures ended { (n : Network) (source destination ia router : ℕ) (header : HeaderValue)
+        (payload moments : List ℕ) → IsNetwork n → IsOk (view_in n ia router) → IsHeader header
+        → Fits header → 2 * length header.hops ≤ length moments
+        → IsAtNoRouter
+        (after n (put_at (framed source destination header payload) ia router) moments) }
+    ensures before { (n : Network) (source destination ia router : ℕ) (header : HeaderValue)
+        (payload moments : List ℕ) (stop : Stop) → IsNetwork n → IsOk (view_in n ia router)
+        → IsHeader header → Fits header
+        → (after n (put_at (framed source destination header payload) ia router) moments).place
+        ≡ Place.AtRouter stop
+        → length moments < 2 * length header.hops }
+    ensures there { (n : Network) (source destination ia router : ℕ) (header : HeaderValue)
+        (payload moments : List ℕ) (stop : Stop) → IsNetwork n → IsOk (view_in n ia router)
+        → IsHeader header → Fits header
+        → (after n (put_at (framed source destination header payload) ia router) moments).place
+        ≡ Place.AtRouter stop
+        → IsOk (view_in n stop.ia stop.router) }
+    ensures owners { (n : Network) (ia number router : ℕ) → IsNetwork n
+        → owner_in n ia number ≡ Ok router → IsOk (view_in n ia router) }
 {}
 
 /// A packet stands where it stands, whatever link goes up or down and whatever AS takes another

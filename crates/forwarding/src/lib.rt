@@ -8,6 +8,7 @@
 //! turns. No turn takes memory.
 #![tactic(auto)]
 
+mod departing;
 mod framing;
 pub mod laws;
 mod passed;
@@ -15,6 +16,7 @@ mod place;
 mod reply;
 mod transit;
 
+pub use departing::first_out;
 pub use framing::frame;
 pub use passed::MAX_PASSED;
 pub use place::{Place, Stop};

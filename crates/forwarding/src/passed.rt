@@ -42,6 +42,17 @@ impl Passed {
         }
     }
 
+    /// The same hops.
+    pub(crate) fn again(&self) -> Passed
+        ensures { result ≡ self.now }
+    {
+        let mut copy = Passed::new();
+        let Passed { hops, len } = &mut copy;
+        hops.copy_from_slice(&self.hops);
+        *len = self.len;
+        copy
+    }
+
     /// The hops, in order.
     pub(crate) fn as_slice(&self) -> &[WalkHop]
         ensures value { result.now ≡ self.now }

@@ -9,6 +9,7 @@ use isd_as::{IfId, IsdAs};
 use policy_expr::WalkHop;
 use router_step::{Arrival, Outcome, Refusal, step};
 use scion_topology::{RouterView, Topology};
+use std::alloc::{AllocError, Global};
 use std::marker::Model;
 
 /// A packet in a network: its bytes, its place, and the first 64 hops that it has passed.
@@ -43,6 +44,19 @@ impl Transit {
             }),
             passed: Passed::new(),
         }
+    }
+
+    /// A copy of the packet, with bytes of its own; or memory runs out.
+    pub fn try_clone(&self, alloc: Global) -> Result<Transit, AllocError>
+        ensures { IfOk result (λ copy. copy ≡ self.now) }
+    {
+        let mut bytes = Vec::with_capacity(alloc, self.bytes.len())?;
+        bytes.extend_from_slice(&self.bytes)?;
+        Ok(Transit {
+            bytes,
+            place: self.place,
+            passed: self.passed.again(),
+        })
     }
 
     /// Its bytes.

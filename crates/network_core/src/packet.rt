@@ -1,7 +1,11 @@
-ghost use Rattle.std.specs.Prelude.{◌≡◌, ◌≤◌, length};
+ghost use Rattle.std.specs.Prelude.{◌≡◌, ◌≤◌, ℕ, length};
+ghost use Rattle.path_verifier.specs.Accepted.{IsAccepted};
+ghost use Rattle.path_verifier.specs.Walk.{walk_of};
+ghost use Rattle.forwarding.specs.Journey.{first_out};
+ghost use Rattle.network_core.specs.Value.{asked_at};
 
-use forwarding::{Place, Transit};
-use isd_as::IsdAs;
+use forwarding::{Place, Transit, first_out};
+use isd_as::{IfId, IsdAs};
 use path_header::Header;
 use path_verifier::OwnedPiece;
 use policy_expr::{Policy, WalkHop};
@@ -9,7 +13,8 @@ use std::alloc::Global;
 use std::marker::Model;
 
 /// What was accepted for sending: a path with its ends, its header and its policy, and a payload.
-/// Its type keeps that the verifier's rules accepted the path at some moment.
+/// Its type keeps that the verifier's rules accepted the path at some moment, and that the payload
+/// has at most 1,024 bytes.
 #[derive(Drop)]
 pub struct Sent {
     pub(crate) source: IsdAs,
@@ -21,7 +26,7 @@ pub struct Sent {
 }
 
 impl Model for Sent {
-    ghost use Rattle.std.specs.Prelude.{ℕ};
+    ghost use Rattle.std.specs.Prelude.{ℕ, ◌≤◌, length};
     ghost use Rattle.std.specs.Coded.{codes};
     ghost use Rattle.policy_expr.specs.Code.{coded_tree};
     ghost use Rattle.path_verifier.specs.Accepted.{request_of, IsAccepted};
@@ -42,8 +47,9 @@ impl Model for Sent {
       payload = s.payload.items;
     } };
 
-    ghost invariant = { λ s. (moment : ℕ)
-        × IsAccepted (request_of s.pieces.items s.header s.source s.destination moment s.policy) };
+    ghost invariant = { λ s. ((moment : ℕ)
+        × IsAccepted (request_of s.pieces.items s.header s.source s.destination moment s.policy))
+        × (length s.payload.items ≤ 1024) };
 }
 
 impl Sent {
@@ -84,9 +90,25 @@ impl Sent {
 
     /// Its payload.
     pub fn payload(&self) -> &[u8]
-        ensures { result.now ≡ self.now.payload }
+        ensures value { result.now ≡ self.now.payload }
+        ensures few { length result.now ≤ 1024 }
     {
         &self.payload
+    }
+
+    /// The interface by which it leaves the AS that sends it.
+    pub fn way_out(&self) -> IfId
+        ensures { result ≡ first_out (walk_of self.now.way.pieces) }
+    {
+        first_out(&self.pieces)
+    }
+
+    /// Does nothing, and tells its caller that the path was accepted at some moment.
+    pub fn known(&self)
+        ensures { (moment : ℕ) × IsAccepted (asked_at moment self.now.way) }
+    {
+        // The read of a field brings what the type keeps.
+        let _ = &self.pieces;
     }
 }
 

@@ -1,0 +1,234 @@
+-- What a step leaves of a packet's header, and where an interface of a network leads.
+use Rattle.std.proofs.Common.{◌≡◌, ℕ, zero, suc, ◌+◌, ◌^◌, ◌<◌, Bool, true, false, not, ◌&&◌, if◌then◌else◌, List, [], ◌∷◌, length, set, Result, Ok, Some, refl, sym, ap, ◌∙◌, subst, arith, inl, inr}
+use Rattle.std.specs.Prelude.{nat_lt}
+use Rattle.std.specs.List.{AllByRecursion}
+use Rattle.std.proofs.lemmas.List.{length-set}
+use Rattle.std.proofs.lemmas.Option.{slice_get-get_or, same_Some}
+use Rattle.refusal.specs.Refusal.{◌>>=◌, check}
+use Rattle.refusal.proofs.Steps.{bind_ok, guard_ok, ok_or_ok, ok_is}
+use Rattle.hop_mac.specs.Hop.{beta_after}
+use Rattle.scion_topology.specs.declared.entry.IfEntry.{IfEntry}
+use Rattle.scion_topology.specs.declared.fault.TopologyFault.TheVariants as faults
+use Rattle.scion_topology.specs.declared.network.AsEntry.{AsEntry}
+use Rattle.scion_topology.specs.declared.network.End.{End}
+use Rattle.scion_topology.specs.View.{View, entry_of}
+use Rattle.scion_topology.specs.Network.{Network, as_named, table_of, interface_in}
+use Rattle.scion_topology.specs.Topology.{IsNetwork, known, joined, interface_at, far_end_in, owner_in, view_in}
+use Rattle.scion_topology.specs.Ends.{IsAt, IsShown, at_a, at_b}
+use Rattle.scion_topology.proofs.Ends.{owner_below}
+use Rattle.scion_topology.proofs.Shown.{is_end_of, shows_both_ends}
+use Rattle.path_header.specs.declared.fields.InfoField.{InfoField}
+use Rattle.path_header.specs.Value.{HeaderValue, IsHeader}
+use Rattle.path_header.specs.Spelling.{InfoFits, HopFits, Fits}
+use Rattle.router_step.specs.declared.arrival.Arrival.{Arrival}
+use Rattle.router_step.specs.declared.arrival.Arrival.TheVariants.{Inside}
+use Rattle.router_step.specs.declared.outcome.Outcome.{Outcome}
+use Rattle.router_step.specs.declared.outcome.Outcome.TheVariants.{ToLink, ToRouter, Deliver}
+use Rattle.router_step.specs.declared.fault.Refusal.{Refusal}
+use Rattle.router_step.specs.declared.fault.Refusal.TheVariants as refusals
+use Rattle.router_step.specs.Place.{info_of, hop_of, way_out, with_seg_id, is_over_link, seg_id_on_arrival, seg_id_on_leaving, arrived, moved_on, gone}
+use Rattle.router_step.specs.Checks.{ends_segment}
+use Rattle.router_step.specs.Step.{passes, switched, step_of}
+use Rattle.router_step.specs.Done.{Situation, Does, at_the_way_out}
+use Rattle.router_step.proofs.FieldReads.{info_of-with_seg_id}
+use Rattle.router_step.proofs.DoneSteps.{same_value, left_ok, step_ok}
+use Rattle.router_step.proofs.StepLaws.{new_header}
+use Rattle.router_step.proofs.Continuing.{header_again}
+use Rattle.forwarding.proofs.AtSpot.{not_moved}
+use Rattle.forwarding.proofs.Routers.{view_for, view_is}
+use Rattle.forwarding.proofs.Spelled.{chosen, stepped, on_leaving, all_there}
+
+-- ---- the numbers of a header fit after a step
+
+all_set : {X : Type 0} (P : X → Type 0) (xs : List X) (i : ℕ) (x : X) → AllByRecursion P xs → P x
+    → AllByRecursion P (set xs i x)
+all_set P [] i x all here = tt
+all_set P (y ∷ ys) zero x all here = (here, all.1)
+all_set P (y ∷ ys) (suc i) x all here = (all.0, all_set P ys i x all.1 here)
+
+info_fits : (header : HeaderValue) → header.curr_inf < length header.infos → Fits header
+    → InfoFits (info_of header)
+info_fits header within fits =
+    all_there InfoFits header.infos header.curr_inf (info_of header) fits.infos
+    (slice_get-get_or header.infos header.curr_inf _ within)
+
+hop_fits : (header : HeaderValue) → header.curr_hf < length header.hops → Fits header
+    → HopFits (hop_of header)
+hop_fits header within fits =
+    all_there HopFits header.hops header.curr_hf (hop_of header) fits.hops
+    (slice_get-get_or header.hops header.curr_hf _ within)
+
+fits_with : (header : HeaderValue) (seg_id : ℕ) → header.curr_inf < length header.infos
+    → Fits header → seg_id < 2 ^ 16 → Fits (with_seg_id header seg_id)
+fits_with header seg_id within fits small =
+    let info = info_fits header within fits in
+    record {
+      infos = all_set InfoFits header.infos header.curr_inf
+          (record (info_of header) { seg_id = seg_id }) fits.infos
+          (record { seg_id = small; timestamp = info.timestamp });
+      hops = fits.hops;
+    }
+
+fits_on_arrival : (arrival : Arrival) (header : HeaderValue) → IsHeader header → Fits header
+    → Fits (arrived arrival header)
+fits_on_arrival arrival header is fits =
+    let info = info_of header in
+    let hop = hop_of header in
+    let small = (info_fits header is.curr_inf fits).seg_id in
+    fits_with header (seg_id_on_arrival arrival info hop) is.curr_inf fits
+    (chosen (is_over_link arrival && not info.construction) (beta_after info.seg_id hop.mac)
+    info.seg_id (stepped info.seg_id hop small (hop_fits header is.curr_hf fits)) small)
+
+fits_gone : (outcome : Outcome) (there : HeaderValue) → Fits there → IsHeader (gone outcome there)
+    → Fits (gone outcome there)
+fits_gone (ToLink interface) there fits is =
+    let within : there.curr_inf < length there.infos = rw length-set at is.curr_inf in
+    let more : there.curr_hf + 1 < length there.hops = is.curr_hf in
+    let made = fits_with there (seg_id_on_leaving (info_of there) (hop_of there)) within fits
+    (on_leaving (info_of there) (hop_of there) (info_fits there within fits).seg_id
+    (hop_fits there (omega arith) fits)) in
+    record { infos = made.infos; hops = made.hops }
+fits_gone (ToRouter router) there fits is = fits
+fits_gone Deliver there fits is = fits
+
+pub fits_again : (at : Situation) (outcome : Outcome) (new : HeaderValue) → IsHeader at.header
+    → Fits at.header → Does at outcome new → Fits new
+fits_again at outcome new is fits done =
+    let here = fits_on_arrival at.arrival at.header is fits in
+    let there : Fits (at_the_way_out at) = record { infos = here.infos; hops = here.hops } in
+    let made = new_header at outcome new done in
+    subst Fits (sym made)
+    (fits_gone outcome (at_the_way_out at) there
+    (subst IsHeader made (header_again at outcome new is done)))
+
+-- ---- the way out
+
+-- the way out of the hop at which a packet stands
+abbrev pub way_of : HeaderValue → ℕ
+way_of header = way_out (info_of header) (hop_of header)
+
+-- the router of a view owns this interface
+pub record Owns (view : View) (number : ℕ) : Type 0 where
+  pub entry : IfEntry
+  pub known : entry_of view number ≡ Some entry
+  pub own : entry.router ≡ view.router
+
+way_on_arrival : (arrival : Arrival) (header : HeaderValue) → header.curr_inf < length header.infos
+    → way_of (arrived arrival header) ≡ way_of header
+way_on_arrival arrival header within =
+    ap (λ (i : InfoField). way_out i (hop_of header))
+    (info_of-with_seg_id header (seg_id_on_arrival arrival (info_of header) (hop_of header)) within)
+
+-- a packet from inside the AS does not switch
+no_switch_by : (ends : Bool) (next : Unit {0} → Result Bool Refusal) (has_switched : Bool)
+    → (if ends then (check false refusals.SwitchInside >>= next) else Ok false) ≡ Ok has_switched
+    → has_switched ≡ false
+no_switch_by true next has_switched e = absurd cc
+no_switch_by false next has_switched e = sym (same_value false has_switched e)
+
+no_switch_inside : (view : View) (now : ℕ) (here : HeaderValue) (has_switched : Bool)
+    → switched view now Inside here ≡ Ok has_switched → has_switched ≡ false
+unfolding switched
+no_switch_inside view now here has_switched e =
+    no_switch_by (ends_segment here)
+    (λ _. passes view now (info_of (moved_on true here)) (hop_of (moved_on true here))
+    >>= λ _. Ok true) has_switched e
+
+-- from inside, at the owner of its way out, it goes to no other router
+pub leaves_from_inside : (view : View) (now source destination router : ℕ)
+    (header new : HeaderValue) → IsHeader header → Owns view (way_of header)
+    → step_of view now Inside source destination header ≡ Ok (ToRouter router, new) → ⊥
+leaves_from_inside view now source destination router header new is owns done =
+    let here = arrived Inside header in
+    elim (step_ok view now Inside source destination header new (ToRouter router) done).1 [
+      | inl w ↦ absurd (let to = w.1.outcome_is in cc)
+      | inr w ↦ (
+          let still : moved_on w.1.0 here ≡ here =
+          ap (λ b. moved_on b here) (no_switch_inside view now here w.1.0 w.1.1.switch)
+          ∙ not_moved here in
+          let way : way_of (moved_on w.1.0 here) ≡ way_of header =
+          ap way_of still ∙ way_on_arrival Inside header is.curr_inf in
+          elim (left_ok view Inside w.1.0 _ _ (ToRouter router) w.1.1.leaves) [
+            | inl d ↦ (
+                let same : d.0 ≡ owns.entry = same_Some d.0 owns.entry
+                (sym d.1.known ∙ ap (entry_of view) way ∙ owns.known) in
+                d.1.another (ap (λ (e : IfEntry). e.router) same ∙ owns.own))
+            | inr d ↦ absurd (let to = d.1.outcome_is in cc)
+          ])
+    ]
+
+-- ---- what a network shows
+
+-- a view of a network
+pub record IsSeen (n : Network) (ia router : ℕ) (view : View) : Type 0 where
+  pub one : AsEntry
+  pub named : as_named n.ases ia ≡ Some one
+  pub is : view_for n one ia router ≡ view
+
+pub seen_as : (n : Network) (ia router : ℕ) (view : View) → view_in n ia router ≡ Ok view
+    → IsSeen n ia router view
+unfolding view_in
+seen_as n ia router view seen =
+    let at = bind_ok (known n ia) _ view seen in
+    let passed = guard_ok (nat_lt router at.0.routers) _ faults.NoRouter view at.2 in
+    record {
+      one = at.0;
+      named = ok_or_ok (as_named n.ases ia) faults.UnknownAs at.0 at.1;
+      is = ok_is (view_for n at.0 ia router) view passed.1;
+    }
+
+pub entry_there : (n : Network) (ia router number : ℕ) (view : View) (entry : IfEntry)
+    → IsSeen n ia router view → entry_of view number ≡ Some entry
+    → interface_at n ia number ≡ Ok entry
+entry_there n ia router number view entry seen shown =
+    let there : interface_in (table_of ia n.links) number ≡ Some entry =
+    ap (λ (v : View). entry_of v number) seen.is ∙ shown in
+    rw (seen.named, there) refl
+
+-- an interface leads to a far end, and both have an owner
+pub record Leads (n : Network) (ia number : ℕ) (entry : IfEntry) : Type 0 where
+  pub owner : owner_in n ia number ≡ Ok entry.router
+  pub far : End
+  pub leads : far_end_in n ia number ≡ Ok (far.ia, far.number)
+  pub far_owner : owner_in n far.ia far.number ≡ Ok far.router
+
+leads_from : (n : Network) (near far : End) (ia number : ℕ) (shown entry : IfEntry)
+    → IsShown n near far shown → owner_in n far.ia far.number ≡ Ok far.router
+    → near.router ≡ shown.router → IsAt near ia number → entry ≡ shown → Leads n ia number entry
+leads_from n near far ia number shown entry is far_owner own at same = record {
+  owner =
+      ap (λ x. owner_in n x number) (sym at.0) ∙ ap (λ m. owner_in n near.ia m) (sym at.1)
+      ∙ is.owner ∙ ap (λ r. Ok r) (own ∙ ap (λ (e : IfEntry). e.router) (sym same));
+  far = far;
+  leads =
+      ap (λ x. far_end_in n x number) (sym at.0) ∙ ap (λ m. far_end_in n near.ia m) (sym at.1)
+      ∙ is.leads;
+  far_owner = far_owner;
+}
+
+pub leads_on : (n : Network) (ia number : ℕ) (entry : IfEntry) → IsNetwork n
+    → interface_at n ia number ≡ Ok entry → Leads n ia number entry
+leads_on n ia number entry network there =
+    let of = is_end_of n ia number entry there in
+    let link = of.link in
+    let ends = shows_both_ends n link network of.listed in
+    elim of.end [
+      | inl at ↦
+          leads_from n link.a link.b ia number (at_a link) entry ends.a ends.b.owner refl at.0 at.1
+      | inr at ↦
+          leads_from n link.b link.a ia number (at_b link) entry ends.b ends.a.owner refl at.0 at.1
+    ]
+
+-- the router that owns an interface is there
+pub owner_is_there : (n : Network) (ia number router : ℕ) → IsNetwork n
+    → owner_in n ia number ≡ Ok router
+    → (one : AsEntry) × (view_in n ia router ≡ Ok (view_for n one ia router))
+unfolding owner_in
+owner_is_there n ia number router network owned =
+    let at = bind_ok (joined n ia number) _ router owned in
+    let here = bind_ok (known n ia) _ at.0 at.1 in
+    let named = ok_or_ok (as_named n.ases ia) faults.UnknownAs here.0 here.1 in (
+      here.0,
+      view_is n ia router here.0 named
+          (owner_below n ia number router here.0 network owned here.1),
+    )
