@@ -1,0 +1,4 @@
+pub mod Shares
+pub mod Balance
+pub mod Orders
+pub mod Products

@@ -1,0 +1,19 @@
+-- An inbox and its passes, as contracts see them.
+use Rattle.std.specs.Prelude.{ℕ}
+use Rattle.atomic_table.specs.Seated.{TableId}
+use Rattle.inbox.specs.declared.account.Account.{Account}
+
+-- an inbox: which one it is, and how many places it has
+pub record Opened : Type 0 where
+  pub inbox : TableId
+  pub slots : ℕ
+
+-- a pass: of which inbox, and its account
+pub record Known (T : Type 0) : Type 0 where
+  pub inbox : TableId
+  pub account : Account T
+
+-- a way into or out of an inbox: the inbox, and the account of the pass
+pub record Way (T : Type 0) : Type 0 where
+  pub of : Opened
+  pub account : Account T

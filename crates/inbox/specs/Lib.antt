@@ -1,0 +1,5 @@
+pub mod Share
+pub mod Tally
+pub mod Roles
+pub mod Account
+pub mod Inbox

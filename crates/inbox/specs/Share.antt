@@ -1,0 +1,23 @@
+-- Shares of the right to know the whole, as fractions whose denominator is a power of two.
+use Rattle.std.specs.Prelude.{◌≡◌, ℕ, suc, ◌+◌, ◌*◌, ◌-◌, ◌^◌, max}
+use Rattle.inbox.specs.declared.account.Share.{Share}
+
+-- so many pieces of a whole that was halved so often
+abbrev pub share : ℕ → ℕ → Share
+share pieces halvings = record { pieces = pieces; halvings = halvings }
+
+-- the share is the whole
+abbrev pub IsWhole : Share → Type 0
+IsWhole s = s.pieces ≡ 2 ^ s.halvings
+
+-- half of a share
+abbrev pub half : Share → Share
+half s = share s.pieces (suc s.halvings)
+
+-- the share in pieces of a whole that was halved n times, no less often than the share's
+abbrev pub worth : ℕ → Share → ℕ
+worth n s = s.pieces * 2 ^ (n - s.halvings)
+
+-- two shares as one
+abbrev pub sum_of : Share → Share → Share
+sum_of s t = let n = max s.halvings t.halvings in share (worth n s + worth n t) n

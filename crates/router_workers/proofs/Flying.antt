@@ -1,0 +1,148 @@
+-- A flight from turn to turn.
+use Rattle.std.proofs.Common.{◌≡◌, ℕ, ◌+◌, ◌<◌, List, [], ◌∷◌, ◌++◌, length, IsOk, refl, sym, ap, ◌∙◌, subst, arith}
+use Rattle.std.proofs.lemmas.List.{length-append}
+use Rattle.scion_topology.specs.View.{View}
+use Rattle.scion_topology.specs.Network.{Network}
+use Rattle.scion_topology.specs.Topology.{view_in}
+use Rattle.path_header.specs.Value.{HeaderValue}
+use Rattle.path_verifier.specs.Piece.{PieceValue}
+use Rattle.path_verifier.specs.Header.{header_of, hop_count}
+use Rattle.forwarding.specs.declared.place.Stop.{Stop}
+use Rattle.forwarding.specs.declared.place.Place.{Place}
+use Rattle.forwarding.specs.declared.place.Place.TheVariants.{AtRouter, Delivered, Refused, Lost}
+use Rattle.forwarding.specs.Frame.{framed}
+use Rattle.forwarding.specs.Turn.{Packet, put_at, turn_under, turn_of, turned, after}
+use Rattle.forwarding.proofs.Ended.{turn_by_view}
+use Rattle.forwarding.proofs.Reading.{length_fields}
+use Rattle.forwarding.proofs.Bounded.{fewer_before, stops_are_there, owners_are_there}
+use Rattle.router_workers.specs.Flight.{FlightValue, IsFlight, IsAtRouter, IsViewAt, advanced}
+use Rattle.router_workers.proofs.Delivered.{departs}
+
+-- ---- while it is at a router it has had fewer than 128 turns
+
+stop_of : (place : Place) → IsAtRouter place → (stop : Stop) × (place ≡ AtRouter stop)
+stop_of (AtRouter stop) is = (stop, refl)
+stop_of Delivered is = absurd is
+stop_of (Refused ia router refusal) is = absurd is
+stop_of Lost is = absurd is
+
+-- where it stands, from where it departs
+at_stop : (flight : FlightValue) (is : IsFlight flight) (stop : Stop)
+    → flight.packet.place ≡ AtRouter stop
+    → (after flight.fabric (put_at (framed flight.sent.source flight.sent.destination
+    flight.sent.header flight.sent.payload) flight.sent.source
+    (departs flight.fabric flight.sent is.start is.departs).router) is.moments).place
+    ≡ AtRouter stop
+at_stop flight is stop at =
+    let from = departs flight.fabric flight.sent is.start is.departs in
+    ap (λ (p : Packet). (after flight.fabric p is.moments).place) (sym from.is)
+    ∙ ap (λ (p : Packet). p.place) (sym is.is) ∙ at
+
+-- the network has the router at which it stands
+pub view_there : (flight : FlightValue) → IsFlight flight → (stop : Stop)
+    → flight.packet.place ≡ AtRouter stop → IsOk (view_in flight.fabric stop.ia stop.router)
+view_there flight is stop at =
+    let n = flight.fabric in
+    let way = flight.sent in
+    let from = departs n flight.sent is.start is.departs in
+    let there = owners_are_there n way.source _ from.router is.network from.owned in
+    let header = is.accepted.header in
+    stops_are_there n way.source way.destination way.source from.router way.header
+    way.payload is.moments stop is.network there (rw header is.frame.is_header)
+    (rw header is.frame.fits) (at_stop flight is stop at)
+
+hops_of_header : (pieces : List PieceValue) (header : HeaderValue) → header ≡ header_of pieces
+    → length header.hops ≡ hop_count pieces
+unfolding header_of
+hops_of_header pieces header same = ap (λ (h : HeaderValue). length h.hops) same
+    ∙ length_fields pieces
+
+pub turns_left : (flight : FlightValue) → IsFlight flight → IsAtRouter flight.packet.place
+    → flight.turns < 128
+turns_left flight is here =
+    let n = flight.fabric in
+    let way = flight.sent in
+    let from = departs n flight.sent is.start is.departs in
+    let there = owners_are_there n way.source _ from.router is.network from.owned in
+    let stop = stop_of flight.packet.place here in
+    let header = is.accepted.header in
+    let at = at_stop flight is stop.0 stop.1 in
+    let fewer = fewer_before n way.source way.destination way.source from.router way.header
+    way.payload is.moments stop.0 is.network there
+    (rw header is.frame.is_header) (rw header is.frame.fits) at in
+    let hops : length way.header.hops ≡ hop_count way.pieces = hops_of_header way.pieces way.header
+    header in
+    let few = is.accepted.path.few in
+    let count = is.count in
+    omega arith
+
+-- ---- a turn more
+
+after_snoc : (n : Network) (packet : Packet) (moments : List ℕ) (now : ℕ)
+    → after n packet (moments ++ now ∷ []) ≡ turned n now (after n packet moments)
+after_snoc n packet [] now = refl
+after_snoc n packet (first ∷ later) now = after_snoc n (turned n first packet) later now
+
+pub flies_on : (now : ℕ) (flight : FlightValue) → IsFlight flight
+    → IsAtRouter flight.packet.place → IsFlight (advanced now flight)
+flies_on now flight is here =
+    let left = turns_left flight is here in
+    record {
+      network = is.network;
+      moment = is.moment;
+      rules = is.rules;
+      accepted = is.accepted;
+      frame = is.frame;
+      start = is.start;
+      departs = is.departs;
+      moments = is.moments ++ now ∷ [];
+      count = (let count = is.count in omega (arith, length-append is.moments (now ∷ [])));
+      is = ap (turned flight.fabric now) is.is ∙ sym (after_snoc flight.fabric is.start is.moments now);
+      few = omega arith;
+    }
+
+-- the same of the packet that a call leaves
+pub flies_with : (now : ℕ) (flight : FlightValue) (packet : Packet) → IsFlight flight
+    → IsAtRouter flight.packet.place → packet ≡ turned flight.fabric now flight.packet
+    → IsFlight (record flight { turns = flight.turns + 1; packet = packet })
+flies_with now flight packet is here left = subst
+    (λ (p : Packet). IsFlight (record flight { turns = flight.turns + 1; packet = p })) (sym left)
+    (flies_on now flight is here)
+
+-- ---- by a view
+
+at_router : (n : Network) (place : Place) (view : View) → IsViewAt n place view → IsAtRouter place
+at_router n (AtRouter stop) view is = tt
+at_router n Delivered view is = absurd is
+at_router n (Refused ia router refusal) view is = absurd is
+at_router n Lost view is = absurd is
+
+same_turn : (n : Network) (now : ℕ) (packet : Packet) (view : View) (place : Place)
+    → packet.place ≡ place → IsViewAt n place view
+    → turn_under n view now packet ≡ turn_of n now packet
+same_turn n now packet view (AtRouter stop) at is = turn_by_view n now packet stop view at is
+same_turn n now packet view Delivered at is = absurd is
+same_turn n now packet view (Refused ia router refusal) at is = absurd is
+same_turn n now packet view Lost at is = absurd is
+
+turned_by : (now : ℕ) (flight : FlightValue) (view : View) (packet : Packet)
+    → IsViewAt flight.fabric flight.packet.place view
+    → packet ≡ (turn_under flight.fabric view now flight.packet).1
+    → packet ≡ turned flight.fabric now flight.packet
+turned_by now flight view packet is left =
+    left ∙ ap (λ t. t.1) (same_turn flight.fabric now flight.packet view flight.packet.place refl is)
+
+pub flies_by : (now : ℕ) (flight : FlightValue) (view : View) (packet : Packet) → IsFlight flight
+    → IsViewAt flight.fabric flight.packet.place view
+    → packet ≡ (turn_under flight.fabric view now flight.packet).1
+    → IsFlight (record flight { turns = flight.turns + 1; packet = packet })
+flies_by now flight view packet is at left = flies_with now flight packet is
+    (at_router flight.fabric flight.packet.place view at) (turned_by now flight view packet at left)
+
+pub advanced_by : (now : ℕ) (flight : FlightValue) (view : View) (packet : Packet)
+    → IsViewAt flight.fabric flight.packet.place view
+    → packet ≡ (turn_under flight.fabric view now flight.packet).1
+    → record flight { turns = flight.turns + 1; packet = packet } ≡ advanced now flight
+advanced_by now flight view packet at left =
+    ap (λ (p : Packet). record flight { turns = flight.turns + 1; packet = p })
+    (turned_by now flight view packet at left)

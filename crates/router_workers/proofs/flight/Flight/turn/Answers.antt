@@ -1,0 +1,10 @@
+use Rattle.std.proofs.Common.{sym, subst}
+use Rattle.router_workers.specs.Flight.{FlightValue, IsAtRouter}
+use Rattle.router_workers.proofs.Flying.{flies_with}
+use Rattle.router_workers.proofs.flight.Flight.turn.Goals as goal
+
+pub invariant_of-flight : goal.invariant_of-flight
+invariant_of-flight c =
+    flies_with c.args.now _ c.turn.new.self c.flight.invariant
+    (subst (λ (f : FlightValue). IsAtRouter f.packet.place) (sym c.flight.view_is) c.requires)
+    c.turn.ensures.packet

@@ -1,0 +1,15 @@
+use Rattle.std.proofs.Common.{sym, subst, arith}
+use Rattle.router_workers.specs.Flight.{FlightValue, IsAtRouter}
+use Rattle.router_workers.proofs.Carried.{went_on}
+use Rattle.router_workers.proofs.job.Job.advance.Goals as goal
+
+pub invariant_of-result : goal.invariant_of-result
+invariant_of-result g c =
+    let kept = c.self.invariant in
+    let here = subst (λ (f : FlightValue). IsAtRouter f.packet.place) (sym c.self.view_is)
+    c.requires.under_way in
+    rw (c.turn.ensures, c.requires.now) (
+      (let fewer = kept.0 in omega arith),
+      went_on g.J.Run.flights g.J.Run.now c.self.inside.number c.self.inside.turns
+          c.self.inside.flight kept.1 here,
+    )

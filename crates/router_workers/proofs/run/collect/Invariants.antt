@@ -1,0 +1,7 @@
+use Rattle.std.proofs.Common.{◌≡◌, length}
+use Rattle.router_workers.specs.Run.{AreEnds}
+use Rattle.router_workers.proofs.run.collect.Given as goal
+
+abbrev pub invariant-loop-number : goal.invariant-loop-number
+invariant-loop-number g l = (length l.ends.items ≡ l.number)
+    × AreEnds g.J.Run.flights g.J.Run.now g.J.Run.slots l.ends.items

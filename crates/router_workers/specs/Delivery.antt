@@ -1,0 +1,42 @@
+-- What becomes of a flight whose path the network lets through (draft-dekater-scion-dataplane).
+use Rattle.std.specs.Prelude.{◌≡◌, ◌↔◌, ℕ, ◌<◌, ◌≤◌, List, ◌++◌, All}
+use Rattle.policy_expr.specs.declared.hop.WalkHop.{WalkHop}
+use Rattle.scion_topology.specs.Network.{Network}
+use Rattle.path_verifier.specs.Walk.{walk_of}
+use Rattle.forwarding.specs.declared.place.Place.{Place}
+use Rattle.forwarding.specs.declared.place.Place.TheVariants as places
+use Rattle.forwarding.specs.Turn.{Packet}
+use Rattle.forwarding.specs.Standing.{arrived_with}
+use Rattle.forwarding.specs.Sound.{IsSound}
+use Rattle.router_workers.specs.Flight.{Sending, IsAtRouter}
+use Rattle.router_workers.specs.declared.end.End.{End}
+use Rattle.router_workers.specs.declared.end.End.TheVariants as ends
+
+abbrev pub IsRefusedAt : Place → Type 0
+IsRefusedAt (places.Refused ia router refusal) = Unit {0}
+IsRefusedAt place = ⊥
+
+-- a packet of what was sent, with so many turns to its walk's end and so many had: no router has
+-- refused it; the hops that it has passed are the beginning of its walk; it is delivered exactly
+-- once it has had its turns, and stands at a router before; and it is delivered with its whole walk
+-- passed, the header behind all pieces and the payload as it was sent
+pub record IsForwarded (sent : Sending) (total done : ℕ) (packet : Packet) : Type 0 where
+  pub unrefused : ¬ (IsRefusedAt packet.place)
+  pub rest : List WalkHop
+  pub so_far : packet.passed ++ rest ≡ walk_of sent.pieces
+  pub exact : packet.place ≡ places.Delivered ↔ (total ≤ done)
+  pub waits : done < total → IsAtRouter packet.place
+  pub whole : packet.place ≡ places.Delivered
+      → packet ≡ arrived_with sent.source sent.destination sent.payload sent.pieces
+
+-- each piece of its path is of a segment that the network has made under some keys, which are
+-- accepted, over links that are up
+abbrev pub IsSoundIn : Network → Sending → Type 0
+IsSoundIn n sent = All (λ piece. (keys : List (List ℕ)) × IsSound n keys piece) sent.pieces
+
+-- the end of a flight with so many turns to its walk's end, none of them had before: delivered after
+-- just so many, or dropped before; never refused
+abbrev pub IsSoundEnd : ℕ → End → Type 0
+IsSoundEnd total (ends.Delivered turns) = turns ≡ total
+IsSoundEnd total (ends.Refused refusal turns) = ⊥
+IsSoundEnd total (ends.Dropped turns) = turns < total

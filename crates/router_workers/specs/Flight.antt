@@ -1,0 +1,90 @@
+-- A flight: a packet that is carried through a network that does not change, and the turns that it
+-- has had (draft-dekater-scion-dataplane).
+use Rattle.std.specs.Prelude.{◌≡◌, ℕ, ◌+◌, ◌≤◌, List, length, Result, Ok, Err}
+use Rattle.scion_topology.specs.declared.fault.TopologyFault.{TopologyFault}
+use Rattle.scion_topology.specs.View.{View}
+use Rattle.scion_topology.specs.Network.{Network}
+use Rattle.scion_topology.specs.Rules.{IsNetwork}
+use Rattle.scion_topology.specs.Topology.{view_in, owner_in}
+use Rattle.path_header.specs.Value.{HeaderValue}
+use Rattle.policy_expr.specs.Policy.{Rules}
+use Rattle.path_verifier.specs.Piece.{PieceValue}
+use Rattle.path_verifier.specs.Walk.{walk_of}
+use Rattle.path_verifier.specs.Accepted.{IsAccepted, request_of}
+use Rattle.forwarding.specs.declared.place.Place.{Place}
+use Rattle.forwarding.specs.declared.place.Place.TheVariants as places
+use Rattle.forwarding.specs.Frame.{framed, HasFrame}
+use Rattle.forwarding.specs.Turn.{Packet, put_at, turned, after}
+use Rattle.forwarding.specs.Journey.{first_out}
+use Rattle.network_core.specs.Value.{SentValue}
+
+-- what is sent: a path with its ends and its header, and a payload
+pub record Sending : Type 0 where
+  pub source : ℕ
+  pub destination : ℕ
+  pub pieces : List PieceValue
+  pub header : HeaderValue
+  pub payload : List ℕ
+
+-- what was accepted for sending, without the policy
+abbrev pub sending_of : SentValue → Sending
+sending_of sent = record {
+  source = sent.way.source;
+  destination = sent.way.destination;
+  pieces = sent.way.pieces;
+  header = sent.way.header;
+  payload = sent.payload;
+}
+
+-- the network, what was sent, the turns that were had, and the packet after them
+pub record FlightValue : Type 0 where
+  pub fabric : Network
+  pub sent : Sending
+  pub turns : ℕ
+  pub packet : Packet
+
+-- what is sent as it departs: at the router that owns the way out of its walk's first AS
+abbrev pub put_with : Sending → Result ℕ TopologyFault → Result Packet TopologyFault
+put_with sent (Ok router) = Ok
+    (put_at (framed sent.source sent.destination sent.header sent.payload) sent.source router)
+put_with sent (Err fault) = Err fault
+
+abbrev pub departed : Network → Sending → Result Packet TopologyFault
+departed n sent = put_with sent (owner_in n sent.source (first_out (walk_of sent.pieces)))
+
+-- a flight that has had no turn
+abbrev pub grounded : Network → Sending → Packet → FlightValue
+grounded n sent start = record { fabric = n; sent = sent; turns = 0; packet = start }
+
+-- the flight after one turn more, at this second
+abbrev pub advanced : ℕ → FlightValue → FlightValue
+advanced now flight = record flight {
+  turns = flight.turns + 1;
+  packet = turned flight.fabric now flight.packet;
+}
+
+-- the packet is at a router
+abbrev pub IsAtRouter : Place → Type 0
+IsAtRouter (places.AtRouter stop) = Unit {0}
+IsAtRouter place = ⊥
+
+-- the view is that which the network has of the router at which a packet stands
+abbrev pub IsViewAt : Network → Place → View → Type 0
+IsViewAt n (places.AtRouter stop) view = view_in n stop.ia stop.router ≡ Ok view
+IsViewAt n place view = ⊥
+
+-- what was sent was accepted, and has turned, from where it departs, at just so many moments as the
+-- flight has had turns, which are at most 128
+pub record IsFlight (flight : FlightValue) : Type 0 where
+  pub network : IsNetwork flight.fabric
+  pub moment : ℕ
+  pub rules : Rules
+  pub accepted : IsAccepted (request_of flight.sent.pieces flight.sent.header flight.sent.source
+      flight.sent.destination moment rules)
+  pub frame : HasFrame flight.sent.source flight.sent.destination flight.sent.pieces
+  pub start : Packet
+  pub departs : departed flight.fabric flight.sent ≡ Ok start
+  pub moments : List ℕ
+  pub count : length moments ≡ flight.turns
+  pub is : flight.packet ≡ after flight.fabric start moments
+  pub few : flight.turns ≤ 128

@@ -1,0 +1,199 @@
+ghost use Rattle.std.specs.Prelude.{◌≡◌, ◌≤◌, ◌<◌, None, IfOk, IfSome, length};
+ghost use Rattle.refusal.specs.Refusal.{Answers};
+ghost use Rattle.forwarding.specs.Turn.{IsAtNoRouter};
+ghost use Rattle.router_workers.specs.Flight.{FlightValue, departed, sending_of, grounded, advanced, IsAtRouter, IsViewAt, IsFlight};
+
+use forwarding::{Place, Transit, frame};
+use isd_as::IsdAs;
+use network_core::Sent;
+use path_header::Header;
+use path_verifier::OwnedPiece;
+use policy_expr::WalkHop;
+use refusal::OrMemory;
+use scion_topology::{RouterView, Topology, TopologyFault};
+use std::alloc::{AllocError, Global};
+use std::marker::Model;
+
+/// A packet that is carried through a network, and the turns that it has had.
+///
+/// Its type keeps that, at some list of just as many moments, the turns of the network's routers
+/// lead from what was sent, as it departs, to its packet, its place and the hops that it has
+/// passed; and that these are at most 128 turns.
+#[derive(Drop)]
+pub struct Flight<'a> {
+    fabric: &'a Topology,
+    source: IsdAs,
+    destination: IsdAs,
+    pieces: &'a [OwnedPiece],
+    header: &'a Header,
+    payload: &'a [u8],
+    turns: u32,
+    transit: Transit,
+}
+
+impl<'a> Model for Flight<'a> {
+    ghost use Rattle.router_workers.specs.Flight.{FlightValue, IsFlight};
+
+    ghost Value = { FlightValue };
+
+    ghost view = { λ f. record {
+      fabric = f.fabric.now;
+      sent = record {
+        source = f.source;
+        destination = f.destination;
+        pieces = f.pieces.now;
+        header = f.header.now;
+        payload = f.payload.now;
+      };
+      turns = f.turns;
+      packet = f.transit;
+    } };
+
+    ghost invariant = { λ f. IsFlight (record {
+      fabric = f.fabric.now;
+      sent = record {
+        source = f.source;
+        destination = f.destination;
+        pieces = f.pieces.now;
+        header = f.header.now;
+        payload = f.payload.now;
+      };
+      turns = f.turns;
+      packet = f.transit;
+    }) };
+}
+
+impl<'a> Flight<'a> {
+    /// What was sent, as it departs in this network: at the router that owns the way out of its
+    /// first AS, with no turn had. Refused with [`TopologyFault::UnknownAs`] where the network
+    /// lacks that AS, and with [`TopologyFault::NoLink`] where the AS lacks that interface. It
+    /// makes one growth, for the packet's bytes; the room for the hops that it will pass is its
+    /// own.
+    pub fn new(
+        alloc: Global,
+        fabric: &'a Topology,
+        sent: &'a Sent,
+    ) -> Result<Flight<'a>, OrMemory<TopologyFault>>
+        ensures departs { Answers (λ flight. flight.packet) result
+            (departed fabric.now (sending_of sent.now)) }
+        ensures grounded { IfOk result (λ flight.
+            flight ≡ grounded fabric.now (sending_of sent.now) flight.packet) }
+    {
+        fabric.known();
+        sent.known();
+        sent.header().known();
+        let router = fabric.owner(sent.source(), sent.way_out())?;
+        let bytes = frame(
+            alloc,
+            sent.source(),
+            sent.destination(),
+            sent.header(),
+            sent.payload(),
+        )?;
+        Ok(Flight {
+            fabric,
+            source: sent.source(),
+            destination: sent.destination(),
+            pieces: sent.pieces(),
+            header: sent.header(),
+            payload: sent.payload(),
+            turns: 0,
+            transit: Transit::at_router(bytes, sent.source(), router),
+        })
+    }
+
+    /// A copy of the flight, with bytes of its own; or memory runs out.
+    pub fn try_clone(&self, alloc: Global) -> Result<Flight<'a>, AllocError>
+        ensures { IfOk result (λ copy. copy ≡ self.now) }
+    {
+        Ok(Flight {
+            fabric: self.fabric,
+            source: self.source,
+            destination: self.destination,
+            pieces: self.pieces,
+            header: self.header,
+            payload: self.payload,
+            turns: self.turns,
+            transit: self.transit.try_clone(alloc)?,
+        })
+    }
+
+    /// One turn at the second `now`, under the view of the router at which the flight stands: the
+    /// router's step over its own bytes, after which it is at the next router, delivered, or
+    /// refused. It takes no memory.
+    pub fn advance(self, view: &RouterView<'_>, now: u32) -> Flight<'a>
+        requires { IsViewAt self.fabric self.packet.place view.now }
+        ensures { result ≡ advanced now self.entry }
+    {
+        let mut flight = self;
+        let fabric = flight.fabric;
+        flight.transit.turn_under(fabric, view, now);
+        flight.turns += 1;
+        flight
+    }
+
+    /// The same under the view that the network has of the flight's place.
+    pub(crate) fn turn(self, now: u32) -> Flight<'a>
+        requires { IsAtRouter self.packet.place }
+        ensures { result ≡ advanced now self.entry }
+    {
+        let mut flight = self;
+        let fabric = flight.fabric;
+        flight.transit.turn(fabric, now);
+        flight.turns += 1;
+        flight
+    }
+
+    /// The view that its network has of the router at which it stands; none where it is at none.
+    pub fn view(&self) -> Option<RouterView<'a>>
+        ensures at { IfSome result (λ view. IsViewAt self.now.fabric self.now.packet.place view) }
+        ensures none { result ≡ None → IsAtNoRouter self.now.packet }
+    {
+        self.known();
+        match self.place() {
+            Place::AtRouter(stop) => match self.fabric.view(stop.ia, stop.router) {
+                Ok(view) => Some(view),
+                Err(_) => unreachable!(),
+            },
+            _ => None,
+        }
+    }
+
+    /// The network through which it is carried.
+    pub fn fabric(&self) -> &'a Topology
+        ensures { result.now ≡ self.now.fabric }
+    {
+        self.fabric
+    }
+
+    /// Where it is.
+    pub fn place(&self) -> Place
+        ensures { result ≡ self.now.packet.place }
+    {
+        self.transit.place()
+    }
+
+    /// The turns that it has had, at most 128.
+    pub fn turns(&self) -> u32
+        ensures value { result ≡ self.now.turns }
+        ensures few { result ≤ 128 }
+    {
+        self.turns
+    }
+
+    /// The hops that it has passed, in order, of which the first 64 are kept.
+    pub fn passed(&self) -> &[WalkHop]
+        ensures value { result.now ≡ self.now.packet.passed }
+        ensures few { length result.now ≤ 64 }
+    {
+        self.transit.passed()
+    }
+
+    /// Does nothing, and tells its caller what every flight keeps.
+    pub fn known(&self)
+        ensures { IsFlight self.now }
+    {
+        // The read of a field brings what the type keeps.
+        let _ = &self.fabric;
+    }
+}

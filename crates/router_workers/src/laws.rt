@@ -1,0 +1,34 @@
+//! Laws of flights: each is the contract of a function that does nothing.
+
+ghost use Rattle.std.specs.Prelude.{◌≡◌, ℕ, List, Some, length, slice_get, All};
+ghost use Rattle.scion_topology.specs.Network.{Network};
+ghost use Rattle.path_verifier.specs.Accepted.{AreLive};
+ghost use Rattle.path_verifier.specs.Walk.{walk_of};
+ghost use Rattle.forwarding.specs.Turn.{Packet, after};
+ghost use Rattle.forwarding.specs.Journey.{turns_for};
+ghost use Rattle.router_workers.specs.declared.end.End.{End};
+ghost use Rattle.router_workers.specs.Flight.{Sending, FlightValue, IsFlight, grounded};
+ghost use Rattle.router_workers.specs.Delivery.{IsForwarded, IsSoundIn, IsSoundEnd};
+ghost use Rattle.router_workers.specs.Run.{IsReport};
+
+/// A flight that has had no turn, over pieces of segments that its network has made, under keys
+/// that are accepted and over links that are up, is after any list of moments at which its path is
+/// live refused by no router, has passed the beginning of its walk, and is delivered exactly once
+/// it has had its turns, with its whole walk passed.
+pub fn sound_flights_are_delivered()
+    ensures { (n : Network) (sent : Sending) (start : Packet) (moments : List ℕ)
+        → IsFlight (grounded n sent start) → IsSoundIn n sent
+        → All (λ now. AreLive now sent.pieces) moments
+        → IsForwarded sent (turns_for n (walk_of sent.pieces)) (length moments)
+        (after n start moments) }
+{}
+
+/// A run refuses no such flight at a second at which its path is live: the report says that it was
+/// delivered after exactly its turns, or dropped before.
+pub fn sound_flights_are_reported()
+    ensures { (flights : List FlightValue) (now slots i : ℕ) (ends : List End) (n : Network)
+        (sent : Sending) (start : Packet) (end : End) → IsReport flights now slots ends
+        → slice_get flights i ≡ Some (grounded n sent start) → slice_get ends i ≡ Some end
+        → IsFlight (grounded n sent start) → IsSoundIn n sent → AreLive now sent.pieces
+        → IsSoundEnd (turns_for n (walk_of sent.pieces)) end }
+{}

@@ -1,0 +1,23 @@
+//! Flights, and the workers that carry them.
+//!
+//! A [`Flight`] is a packet that was sent in a network that does not change any more: each call of
+//! [`Flight::advance`] is one turn of the router at which it stands. [`run_workers`] carries many
+//! flights at one second on 1 to 8 running threads, each with an inbox, and reports of each flight
+//! exactly one end: where the turns of its routers leave it, whatever the schedule, or that there
+//! was no room for it in an inbox.
+#![tactic(auto)]
+
+mod end;
+mod fault;
+mod flight;
+mod job;
+pub mod laws;
+mod posts;
+mod run;
+mod station;
+
+pub use end::End;
+pub use fault::RunFault;
+pub use flight::Flight;
+pub use run::run_workers;
+pub use station::{Gate, Open, worker_of};

@@ -1,0 +1,184 @@
+//! A run of flights on 1 to 8 workers.
+
+ghost use Rattle.std.specs.Prelude.{◌≡◌, ◌↔◌, ◌⊎◌, ◌<◌, ◌≤◌, IfOk, IfErr, All, length};
+ghost use Rattle.router_workers.specs.Run.{IsEndOf, AreEnds, IsReport};
+
+use crate::end::End;
+use crate::fault::RunFault;
+use crate::flight::Flight;
+use crate::job::{Done, Job, Run};
+use crate::posts::{doors_of, inboxes_of, stations_of};
+use crate::station::{Desk, Gate, Station, send_on, work};
+use inbox::Outlet;
+use scion_topology::Topology;
+use std::alloc::{AllocError, Global};
+use std::marker::Brand;
+use std::sync::atomic::{AtomicBool, AtomicUsize, Ordering};
+use std::sync::{OnceLock, Wait};
+use std::thread;
+use std::thread::Threads;
+
+/// The most workers of a run.
+const MOST_WORKERS: usize = 8;
+
+/// Carries flights at the second `now` through the network of `topology` on so many workers, each a
+/// thread with an inbox of `slots` places, and reports of each flight, in their order, how it ended
+/// and after how many turns: delivered, or refused by a router, after just so many as the network's
+/// routers take at that second; or dropped, since it found its next inbox full. What has ended
+/// before ends at once, with no turn. The flights that are given are lent, and stay as they are.
+///
+/// [`RunFault::Workers`] where there are not 1 to 8 workers; [`RunFault::Memory`] where memory, or
+/// a thread, is not to be had. All growths of the run come before any worker takes a flight.
+pub fn run_workers<'f, R: Threads + Wait + Sync, G: Gate>(
+    rt: &R,
+    alloc: Global,
+    topology: &Topology,
+    now: u32,
+    workers: usize,
+    slots: usize,
+    flights: &[Flight<'f>],
+    gate: &G,
+) -> Result<Vec<End>, RunFault>
+    requires fabric { All (λ flight. flight.fabric ≡ topology.now) flights.now }
+    requires some { 0 < slots }
+    requires few { slots ≤ 4096 }
+    ensures report { IfOk result (λ ends. IsReport flights.now now slots ends.items) }
+    ensures workers { IfOk result (λ _. (0 < workers) × (workers ≤ 8)) }
+    ensures refused { IfErr result (λ fault.
+        (fault ≡ RunFault.Workers) ↔ ((workers ≡ 0) ⊎ (8 < workers))) }
+{
+    if workers == 0 || workers > MOST_WORKERS {
+        return Err(RunFault::Workers);
+    }
+    match run_with::<Brand, R, G>(rt, alloc, topology, now, workers, slots, flights, gate) {
+        Ok(ends) => Ok(ends),
+        Err(AllocError) => Err(RunFault::Memory),
+    }
+}
+
+fn run_with<'f, J: Run + Send + Sync, R: Threads + Wait + Sync, G: Gate>(
+    rt: &R,
+    alloc: Global,
+    topology: &Topology,
+    now: u32,
+    workers: usize,
+    slots: usize,
+    flights: &[Flight<'f>],
+    gate: &G,
+) -> Result<Vec<End>, AllocError>
+    requires workers { 0 < workers }
+    requires some { 0 < slots }
+    requires few { slots ≤ 4096 }
+    requires flights { flights.now ≡ J.flights }
+    requires now { now ≡ J.now }
+    requires slots { slots ≡ J.slots }
+    ensures { IfOk result (λ ends. IsReport flights.now now slots ends.items) }
+{
+    let places = places_for::<J>(alloc, flights.len())?;
+    let left = AtomicUsize::new(flights.len());
+    let begun = AtomicBool::new(false);
+    let (inboxes, posts) = inboxes_of::<Job<'f, J>>(alloc, workers, slots)?;
+    let desk = Desk {
+        ends: &places,
+        left: &left,
+        begun: &begun,
+        gate,
+        topology,
+        now,
+        crowded: flights.len() > slots,
+    };
+    let (mut roots, intakes) = doors_of(alloc, &inboxes, posts)?;
+    fill(rt, alloc, &desk, &mut roots, flights)?;
+    let stations = stations_of(alloc, roots, intakes)?;
+    let ends = Vec::with_capacity(alloc, flights.len())?;
+    start(rt, &desk, stations)?;
+    collect(rt, &places, ends)
+}
+
+/// A place for the end of each flight; or memory runs out.
+fn places_for<J: Run>(alloc: Global, count: usize) -> Result<Vec<OnceLock<Done<J>>>, AllocError>
+    ensures { IfOk result (λ places. length places.items ≡ count) }
+{
+    let mut places = Vec::with_capacity(alloc, count)?;
+    for _ in 0..count {
+        places.push(OnceLock::new())?;
+    }
+    Ok(places)
+}
+
+/// Settles the flights that have ended, and puts the others into the inboxes of their workers, in
+/// their order; or memory runs out.
+fn fill<'f, J: Run, R: Wait, G: Gate>(
+    rt: &R,
+    alloc: Global,
+    desk: &Desk<'_, J, G>,
+    roots: &mut Vec<Outlet<'_, Job<'f, J>>>,
+    flights: &[Flight<'f>],
+) -> Result<(), AllocError>
+    requires some { 0 < length roots.old.items }
+    requires flights { flights.now ≡ J.flights }
+    ensures { 0 < length roots.new.items }
+{
+    for (number, flight) in flights.iter().enumerate() {
+        let job = Job::new(alloc, number, flight)?;
+        send_on(rt, desk, roots, job);
+    }
+    Ok(())
+}
+
+/// Starts a thread for each worker, and returns once all of them have ended. The workers begin when
+/// all threads are there; where one can't be made, none begins.
+fn start<'f, J: Run + Send + Sync, R: Threads + Wait + Sync, G: Gate>(
+    rt: &R,
+    desk: &Desk<'_, J, G>,
+    stations: Vec<Station<'_, 'f, J>>,
+) -> Result<(), AllocError> {
+    thread::scope(
+        thread::scope_env(),
+        rt,
+        move |scope| -> Result<(), AllocError> {
+            for station in stations {
+                if scope.spawn(move || work(rt, desk, station)).is_err() {
+                    desk.left.store(0, Ordering::SeqCst);
+                    desk.begun.store(true, Ordering::SeqCst);
+                    return Err(AllocError);
+                }
+            }
+            desk.begun.store(true, Ordering::SeqCst);
+            Ok(())
+        },
+    )
+}
+
+/// The ends of all flights, in their order, once they are noted.
+fn collect<J: Run, R: Wait>(
+    rt: &R,
+    places: &[OnceLock<Done<J>>],
+    ends: Vec<End>,
+) -> Result<Vec<End>, AllocError>
+    requires { length ends.items ≡ 0 }
+    ensures all { IfOk result (λ ends. length ends.items ≡ length places.now) }
+    ensures each { IfOk result (λ ends. AreEnds J.flights J.now J.slots ends.items) }
+{
+    let mut ends = ends;
+    for number in 0..places.len() {
+        ends.push(end_of(rt, places, number))?;
+    }
+    Ok(ends)
+}
+
+/// The end of the flight of this number, once it is noted.
+fn end_of<J: Run, R: Wait>(rt: &R, places: &[OnceLock<Done<J>>], number: usize) -> End
+    requires { number < length places.now }
+    ensures { IsEndOf J.flights J.now J.slots number result }
+{
+    for _ in rt.forever() {
+        if let Some(done) = places[number].get() {
+            if done.number() == number {
+                return done.end();
+            }
+        }
+        thread::yield_now();
+    }
+    unreachable!()
+}

@@ -1,0 +1,196 @@
+//! A worker at work: it takes flights from its inbox, gives each its turn, and passes it on.
+
+ghost use Rattle.std.specs.Prelude.{◌≡◌, ◌<◌, ◌%◌, ◌+◌, true, length, IfOk, IsOk};
+ghost use Rattle.scion_topology.specs.Topology.{info_in};
+ghost use Rattle.router_workers.specs.Flight.{IsAtRouter};
+
+use crate::job::{Done, Job, Run};
+use forwarding::Place;
+use inbox::{Intake, Outlet};
+use isd_as::IsdAs;
+use scion_topology::Topology;
+use std::sync::atomic::{AtomicBool, AtomicUsize, Ordering};
+use std::sync::{OnceLock, Wait};
+use std::thread;
+
+/// What is called round each turn of a run, with the number of the worker, from 0.
+pub trait Gate: Sync {
+    /// Right before a turn.
+    fn enter(&self, worker: usize);
+
+    /// Right after it.
+    fn leave(&self, worker: usize);
+}
+
+/// The gate through which everybody passes.
+#[derive(Clone, Copy, Debug)]
+pub struct Open;
+
+impl Gate for Open {
+    fn enter(&self, _worker: usize) {}
+
+    fn leave(&self, _worker: usize) {}
+}
+
+/// What the workers of a run share.
+#[derive(Drop)]
+pub(crate) struct Desk<'d, J: Run, G> {
+    /// A place for the end of each flight, by its number.
+    pub(crate) ends: &'d [OnceLock<Done<J>>],
+    /// How many flights have not ended. No promise rests on it: it ends the workers' loops.
+    pub(crate) left: &'d AtomicUsize,
+    /// Whether the workers may begin.
+    pub(crate) begun: &'d AtomicBool,
+    pub(crate) gate: &'d G,
+    pub(crate) topology: &'d Topology,
+    pub(crate) now: u32,
+    /// Whether more flights were given than an inbox has places.
+    pub(crate) crowded: bool,
+    ghost now_is: { now ≡ J.now },
+    ghost crowd: { crowded ≡ true → J.slots < length J.flights },
+}
+
+/// A worker: its number, its inbox, and the ways into all inboxes, by their numbers.
+#[derive(Drop)]
+pub(crate) struct Station<'a, 'f, J: Run> {
+    pub(crate) number: usize,
+    pub(crate) intake: Intake<'a, Job<'f, J>>,
+    pub(crate) outlets: Vec<Outlet<'a, Job<'f, J>>>,
+    ghost some: { 0 < length outlets.items },
+}
+
+/// The worker that carries a flight while it stands at this router: the place of its AS in the
+/// topology plus the router's number, modulo the number of workers.
+pub fn worker_of(topology: &Topology, ia: IsdAs, router: u8, workers: usize) -> usize
+    requires listed { IsOk (info_in topology.now ia) }
+    requires some { 0 < workers }
+    ensures value { IfOk (info_in topology.now ia) (λ info.
+        result ≡ (info.position + router) % workers) }
+    ensures within { result < workers }
+{
+    topology.known();
+    match topology.as_info(ia) {
+        Ok(info) => (info.position + router as usize) % workers,
+        Err(_) => unreachable!(),
+    }
+}
+
+/// Notes the end of a flight.
+pub(crate) fn settle<J: Run, G: Gate>(desk: &Desk<'_, J, G>, done: Done<J>) {
+    let number = done.number();
+    if number < desk.ends.len() {
+        let _ = desk.ends[number].try_set(done);
+    }
+    desk.left.fetch_sub(1, Ordering::SeqCst);
+}
+
+/// Passes a flight on to the inbox of its next worker. Where that is full, the flight is dropped if
+/// more were given than an inbox has places; else it is tried again.
+pub(crate) fn pass_on<'f, J: Run, R: Wait, G: Gate>(
+    rt: &R,
+    desk: &Desk<'_, J, G>,
+    outlets: &mut [Outlet<'_, Job<'f, J>>],
+    job: Job<'f, J>,
+)
+    requires some { 0 < length outlets.old }
+    requires under_way { IsAtRouter job.packet.place }
+{
+    let next = next_worker(desk.topology, job.place(), outlets.len());
+    let outlet = &mut outlets[next];
+    let mut job = job;
+    for _ in rt.forever() {
+        match outlet.push(rt, job) {
+            Ok(()) => return,
+            Err(back) => {
+                if desk.crowded {
+                    settle(desk, back.dropped());
+                    return;
+                }
+                job = back;
+            }
+        }
+        thread::yield_now();
+    }
+}
+
+/// The worker to whose router a flight has come.
+fn next_worker(topology: &Topology, place: Place, workers: usize) -> usize
+    requires { 0 < workers }
+    ensures { result < workers }
+{
+    match place {
+        Place::AtRouter(stop) if topology.as_info(stop.ia).is_ok() => {
+            worker_of(topology, stop.ia, stop.router, workers)
+        }
+        _ => 0,
+    }
+}
+
+/// Settles a flight that has ended, and passes any other on.
+pub(crate) fn send_on<'f, J: Run, R: Wait, G: Gate>(
+    rt: &R,
+    desk: &Desk<'_, J, G>,
+    outlets: &mut [Outlet<'_, Job<'f, J>>],
+    job: Job<'f, J>,
+)
+    requires { 0 < length outlets.old }
+{
+    match job.settled() {
+        Ok(done) => settle(desk, done),
+        Err(job) => pass_on(rt, desk, outlets, job),
+    }
+}
+
+/// Takes flights until all have ended.
+pub(crate) fn work<'f, J: Run, R: Wait, G: Gate>(
+    rt: &R,
+    desk: &Desk<'_, J, G>,
+    station: Station<'_, 'f, J>,
+) {
+    let Station {
+        number,
+        mut intake,
+        mut outlets,
+    } = station;
+    wait_for_beginning(rt, desk.begun);
+    for _ in rt.forever() {
+        if desk.left.load(Ordering::SeqCst) == 0 {
+            return;
+        }
+        match intake.pop(rt) {
+            Some(job) => turn(rt, desk, number, &mut outlets, job),
+            None => thread::yield_now(),
+        }
+    }
+}
+
+/// Waits until the workers may begin.
+fn wait_for_beginning<R: Wait>(rt: &R, begun: &AtomicBool) {
+    for _ in rt.forever() {
+        if begun.load(Ordering::SeqCst) {
+            return;
+        }
+        thread::yield_now();
+    }
+}
+
+/// One turn of a flight by the worker of this number, through the gate, and what follows it.
+fn turn<'f, J: Run, R: Wait, G: Gate>(
+    rt: &R,
+    desk: &Desk<'_, J, G>,
+    number: usize,
+    outlets: &mut [Outlet<'_, Job<'f, J>>],
+    job: Job<'f, J>,
+)
+    requires { 0 < length outlets.old }
+{
+    match job.settled() {
+        Ok(done) => settle(desk, done),
+        Err(job) => {
+            desk.gate.enter(number);
+            let job = job.advance(desk.now);
+            desk.gate.leave(number);
+            send_on(rt, desk, outlets, job);
+        }
+    }
+}
