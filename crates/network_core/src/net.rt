@@ -106,6 +106,13 @@ impl Net {
         }
     }
 
+    /// The packets, by their numbers.
+    pub fn packets(&self) -> &[Packet]
+        ensures { result.now ≡ self.now.packets }
+    {
+        &self.packets
+    }
+
     /// The packet of this number, if there is one: what was sent, and where it is.
     pub fn packet(&self, number: usize) -> Option<&Packet>
         ensures { option_map (λ p. p.now) result ≡ slice_get self.now.packets number }
