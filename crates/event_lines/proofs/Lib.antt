@@ -2,6 +2,6 @@ pub mod Front
 pub mod Ending
 pub mod Lines
 pub mod Telling
-pub mod Hearing
+pub mod Heard
 pub mod Writing
 pub mod Running

@@ -1,5 +1,6 @@
 pub mod Line
 pub mod Seen
+pub mod Hearing
 pub mod Text
 pub mod Talk
 pub mod Run

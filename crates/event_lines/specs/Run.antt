@@ -4,6 +4,8 @@ use Rattle.std.specs.List.{list_any}
 use Rattle.std.specs.Io.KnownBytes.{Appends, Consumes, IsAtEnd}
 use Rattle.event_lines.specs.declared.fault.RunFault.{RunFault}
 use Rattle.event_lines.specs.declared.fault.RunFault.TheVariants as faults
+use Rattle.event_lines.specs.declared.hearing.Hearing.{Hearing}
+use Rattle.event_lines.specs.declared.hearing.Hearing.TheVariants.{All}
 use Rattle.network_core.specs.Value.{NetValue}
 use Rattle.event_lines.specs.Talk.{Stage, Unbegun, Open, Closed, Told}
 
@@ -55,53 +57,61 @@ abbrev pub most_input : ℕ
 most_input = 67108864
 
 -- exactly the replies to these lines were written, and the run then stands there
-abbrev pub Wrote : List (List ℕ) → List ℕ → Stage → Type 0
-Wrote lines went stage =
-    (texts : List (List ℕ)) × (Told Unbegun lines texts stage × (went ≡ ended texts))
+abbrev pub Wrote : Hearing → List (List ℕ) → List ℕ → Stage → Type 0
+Wrote hearing lines went stage =
+    (texts : List (List ℕ)) × (Told hearing Unbegun lines texts stage × (went ≡ ended texts))
 
 -- a beginning of the replies to these lines was written
-abbrev pub WroteSome : List (List ℕ) → List ℕ → Type 0
-WroteSome lines went = (texts : List (List ℕ)) × (stage : Stage) × (n : ℕ)
-    × (Told Unbegun lines texts stage × (went ≡ take n (ended texts)))
+abbrev pub WroteSome : Hearing → List (List ℕ) → List ℕ → Type 0
+WroteSome hearing lines went = (texts : List (List ℕ)) × (stage : Stage) × (n : ℕ)
+    × (Told hearing Unbegun lines texts stage × (went ≡ take n (ended texts)))
 
 -- the replies to all whole lines of what was read were written
-abbrev pub WroteWhole : List ℕ → List ℕ → Type 0
-WroteWhole read went = (lines : List (List ℕ)) × (rest : List ℕ) × (stage : Stage)
-    × (AreLines read lines rest × Wrote lines went stage)
+abbrev pub WroteWhole : Hearing → List ℕ → List ℕ → Type 0
+WroteWhole hearing read went = (lines : List (List ℕ)) × (rest : List ℕ) × (stage : Stage)
+    × (AreLines read lines rest × Wrote hearing lines went stage)
 
--- what was read and what was written: all lines were answered; the topology was refused; a read
--- failed; one byte too many came; memory ran out at some line; or a write failed
-abbrev pub Ends : Result (Unit {0}) RunFault → Type 0 → List ℕ → List ℕ → Type 0
-Ends (Ok done) at_end read went = (lines : List (List ℕ)) × (net : NetValue)
-    × (AreAll at_end read lines × Wrote lines went (Open net))
-Ends (Err faults.Topology) at_end read went = (lines : List (List ℕ))
-    × (AreHeard at_end read lines × Wrote lines went Closed)
-Ends (Err faults.Read) at_end read went = WroteWhole read went
-Ends (Err faults.InputTooLong) at_end read went = (front : List ℕ) × (byte : ℕ)
-    × ((read ≡ front ++ byte ∷ []) × ((length front ≡ most_input) × WroteWhole front went))
-Ends (Err faults.Memory) at_end read went = (lines : List (List ℕ)) × (stage : Stage)
-    × (AreFirst read lines × Wrote lines went stage)
-Ends (Err faults.Write) at_end read went = (lines : List (List ℕ))
-    × (AreHeard at_end read lines × WroteSome lines went)
+-- what was read and what was written: all lines were answered, and the run reached this network;
+-- the topology was refused; a read failed; one byte too many came; memory ran out at some line; or
+-- a write failed
+abbrev pub Ends : Hearing → Result NetValue RunFault → Type 0 → List ℕ → List ℕ → Type 0
+Ends hearing (Ok net) at_end read went = (lines : List (List ℕ))
+    × (AreAll at_end read lines × Wrote hearing lines went (Open net))
+Ends hearing (Err faults.Topology) at_end read went = (lines : List (List ℕ))
+    × (AreHeard at_end read lines × Wrote hearing lines went Closed)
+Ends hearing (Err faults.Read) at_end read went = WroteWhole hearing read went
+Ends hearing (Err faults.InputTooLong) at_end read went = (front : List ℕ) × (byte : ℕ)
+    × ((read ≡ front ++ byte ∷ []) × ((length front ≡ most_input) × WroteWhole hearing front went))
+Ends hearing (Err faults.Memory) at_end read went = (lines : List (List ℕ)) × (stage : Stage)
+    × (AreFirst read lines × Wrote hearing lines went stage)
+Ends hearing (Err faults.Write) at_end read went = (lines : List (List ℕ))
+    × (AreHeard at_end read lines × WroteSome hearing lines went)
 
 -- the most bytes that are read: one more where too many came
-abbrev pub most_read : Result (Unit {0}) RunFault → ℕ
+abbrev pub most_read : Result NetValue RunFault → ℕ
 most_read (Err faults.InputTooLong) = most_input + 1
 most_read result = most_input
 
--- a run of a source that had these bytes left before and has those after, into a sink that held
--- these bytes before and holds those after
+-- a run that hears these lines, of a source that had these bytes left before and has those after,
+-- into a sink that held these bytes before and holds those after
+abbrev pub Listens : Hearing → Result NetValue RunFault → Option (List ℕ) → Option (List ℕ)
+    → Option (List ℕ) → Option (List ℕ) → Type 0
+Listens hearing result before after held holds = (read went : List ℕ)
+    × (Consumes before after read × (Appends held holds went
+    × ((length read ≤ most_read result) × Ends hearing result (IsAtEnd after) read went)))
+
+-- a run that hears all lines, whatever network it reached
 abbrev pub Runs : Result (Unit {0}) RunFault → Option (List ℕ) → Option (List ℕ) → Option (List ℕ)
     → Option (List ℕ) → Type 0
-Runs result before after held holds = (read went : List ℕ)
-    × (Consumes before after read × (Appends held holds went
-    × ((length read ≤ most_read result) × Ends result (IsAtEnd after) read went)))
+Runs (Ok done) before after held holds =
+    (net : NetValue) × Listens All (Ok net) before after held holds
+Runs (Err fault) before after held holds = Listens All (Err fault) before after held holds
 
 -- the run ended since a read failed; since a write failed
-abbrev pub is_read_fault : Result (Unit {0}) RunFault → Bool
+abbrev pub is_read_fault : {A : Type 0} → Result A RunFault → Bool
 is_read_fault (Err faults.Read) = true
 is_read_fault result = false
 
-abbrev pub is_write_fault : Result (Unit {0}) RunFault → Bool
+abbrev pub is_write_fault : {A : Type 0} → Result A RunFault → Bool
 is_write_fault (Err faults.Write) = true
 is_write_fault result = false

@@ -7,6 +7,8 @@ use Rattle.scion_topology.specs.Topology.{network_in}
 use Rattle.network_core.specs.declared.reply.Reply.{Reply}
 use Rattle.network_core.specs.Value.{NetValue, new_net}
 use Rattle.network_core.specs.Step.{Step}
+use Rattle.event_lines.specs.declared.hearing.Hearing.{Hearing}
+use Rattle.event_lines.specs.Hearing.{heard_as}
 use Rattle.event_lines.specs.Line.{LineValue, Happens, Shows, line_in}
 use Rattle.event_lines.specs.Text.{bad_line, coded, packet_text, reply_text}
 
@@ -44,16 +46,16 @@ abbrev pub Begins : Result Network TopologyFault → List ℕ → Stage → Type
 Begins (Ok network) text stage = (text ≡ begun_text) × (stage ≡ Open (new_net network))
 Begins (Err fault) text stage = (text ≡ refused_text fault) × (stage ≡ Closed)
 
--- what a line is answered, and where the run then stands
-abbrev pub Says : Stage → List ℕ → List ℕ → Stage → Type 0
-Says Unbegun line text stage = Begins (network_in line) text stage
-Says (Open old) line text stage =
-    (new : NetValue) × (Replies old (line_in line) text new × (stage ≡ Open new))
-Says Closed line text stage = ⊥
+-- what a line is answered by a run that hears these lines, and where the run then stands
+abbrev pub Says : Hearing → Stage → List ℕ → List ℕ → Stage → Type 0
+Says hearing Unbegun line text stage = Begins (network_in line) text stage
+Says hearing (Open old) line text stage = (new : NetValue)
+    × (Replies old (heard_as hearing (line_in line)) text new × (stage ≡ Open new))
+Says hearing Closed line text stage = ⊥
 
 -- what these lines are answered, one after the other, and where the run then stands
-abbrev pub Told : Stage → List (List ℕ) → List (List ℕ) → Stage → Type 0
-Told start [] texts stage = (texts ≡ []) × (stage ≡ start)
-Told start (line ∷ lines) [] stage = ⊥
-Told start (line ∷ lines) (text ∷ texts) stage =
-    (next : Stage) × (Says start line text next × Told next lines texts stage)
+abbrev pub Told : Hearing → Stage → List (List ℕ) → List (List ℕ) → Stage → Type 0
+Told hearing start [] texts stage = (texts ≡ []) × (stage ≡ start)
+Told hearing start (line ∷ lines) [] stage = ⊥
+Told hearing start (line ∷ lines) (text ∷ texts) stage = (next : Stage)
+    × (Says hearing start line text next × Told hearing next lines texts stage)

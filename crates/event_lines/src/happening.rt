@@ -3,11 +3,13 @@
 ghost use Rattle.std.specs.Prelude.{◌≡◌, IfOk, IfSome, None, Some};
 ghost use Rattle.std.specs.String.{string_bytes};
 ghost use Rattle.network_core.specs.Seen as events;
+ghost use Rattle.event_lines.specs.Hearing.{heard_as};
 ghost use Rattle.event_lines.specs.Line.{Happens, line_in};
 ghost use Rattle.event_lines.specs.Seen.{IsShown, asked_options, seen};
 ghost use Rattle.event_lines.specs.Talk.{Replies};
 
 use crate::asked::{AskedOption, lend_all};
+use crate::hearing::Hearing;
 use crate::line::Line;
 use crate::text;
 use forwarding::TurnReply;
@@ -52,14 +54,19 @@ fn options_of(line: &Line) -> &[AskedOption]
     }
 }
 
-/// What the bytes of a line are answered, without the line's end.
-pub(crate) fn answer_line(alloc: Global, net: &mut Net, bytes: &[u8]) -> Result<String, AllocError>
-    ensures { IfOk result (λ text. Replies net.old (line_in bytes.now)
+/// What the bytes of a line are answered, without the line's end, where these lines are heard.
+pub(crate) fn answer_line(
+    alloc: Global,
+    hearing: Hearing,
+    net: &mut Net,
+    bytes: &[u8],
+) -> Result<String, AllocError>
+    ensures { IfOk result (λ text. Replies net.old (heard_as hearing (line_in bytes.now))
         (string_bytes text) net.new) }
 {
     match Line::read(alloc, bytes)? {
-        Some(line) => answer(alloc, net, &line),
-        None => String::from_str(alloc, "no 140 BadLine"),
+        Some(line) if hearing.hears(&line) => answer(alloc, net, &line),
+        _ => String::from_str(alloc, "no 140 BadLine"),
     }
 }
 

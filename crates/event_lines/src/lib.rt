@@ -1,7 +1,8 @@
 //! A network that is told lines of text and answers each with a line: `scionet run`.
 //!
 //! The first line is a topology, and each line after it an event of the network or the question
-//! where a packet is.
+//! where a packet is. [`listen`] hears all lines, or those alone that prepare a network, and hands
+//! out the network that they lead to.
 #![tactic(auto)]
 
 mod asked;
@@ -9,6 +10,7 @@ mod cutting;
 mod fault;
 mod fields;
 mod happening;
+mod hearing;
 mod line;
 mod run;
 mod talk;
@@ -16,5 +18,6 @@ mod text;
 
 pub use asked::AskedOption;
 pub use fault::RunFault;
+pub use hearing::Hearing;
 pub use line::Line;
-pub use run::run_lines;
+pub use run::{listen, run_lines};

@@ -2,11 +2,13 @@
 
 ghost use Rattle.std.specs.Prelude.{◌≡◌, ◌+◌, ◌<◌, ◌≤◌, ◌||◌, [], false, is_none, length, option_map};
 ghost use Rattle.std.specs.String.{string_bytes};
-ghost use Rattle.event_lines.specs.Run.{Runs, has_end, is_read_fault, is_write_fault, most_input};
-ghost use Rattle.event_lines.specs.Talking.{Brings, Exchanges, Finishes, Writes, value_of};
+ghost use Rattle.event_lines.specs.Run.{Listens, Runs, has_end, is_read_fault, is_write_fault, most_input};
+ghost use Rattle.event_lines.specs.Talking.{Brings, Exchanges, Finishes, Writes, stage_of, value_of};
 
 use crate::fault::RunFault;
+use crate::hearing::Hearing;
 use crate::talk::Talk;
+use network_core::Net;
 use std::alloc::Global;
 use streams::{Sink, Source, write_all};
 
@@ -60,39 +62,47 @@ fn write_replies<K: Sink>(talk: &mut Talk, sink: &mut K) -> Result<(), RunFault>
 /// Hears bytes, and writes the replies to the lines that end among them.
 fn exchange<K: Sink>(
     alloc: Global,
+    hearing: Hearing,
     talk: &mut Talk,
     sink: &mut K,
     bytes: &[u8],
 ) -> Result<(), RunFault>
     requires whole { has_end talk.old.rest.items ≡ false }
     requires written { string_bytes talk.old.replies ≡ [] }
-    ensures told { Exchanges result bytes.now (value_of talk.old) (value_of talk.new)
+    ensures told { Exchanges hearing result bytes.now (value_of talk.old) (value_of talk.new)
         (K.held sink.old) (K.held sink.new) }
     ensures flag { K.failed sink.new ≡ (K.failed sink.old || is_write_fault result) }
 {
-    let heard = talk.hear(alloc, bytes);
+    let heard = talk.hear(alloc, hearing, bytes);
     write_replies(talk, sink)?;
     heard
 }
 
 /// Answers the last line, if it has no end, and writes the reply. An input without a byte is one
 /// empty line.
-fn finish<K: Sink>(alloc: Global, talk: &mut Talk, sink: &mut K) -> Result<(), RunFault>
+fn finish<K: Sink>(
+    alloc: Global,
+    hearing: Hearing,
+    talk: &mut Talk,
+    sink: &mut K,
+) -> Result<(), RunFault>
     requires { string_bytes talk.old.replies ≡ [] }
-    ensures told { Finishes result (value_of talk.old) (K.held sink.old) (K.held sink.new) }
+    ensures told { Finishes hearing result (value_of talk.old) (stage_of talk.new.net)
+        (K.held sink.old) (K.held sink.new) }
     ensures flag { K.failed sink.new ≡ (K.failed sink.old || is_write_fault result) }
 {
     if talk.is_done() {
         return Ok(());
     }
-    let heard = talk.answer(alloc);
+    let heard = talk.answer(alloc, hearing);
     write_replies(talk, sink)?;
     heard
 }
 
-/// Answers the lines of a source: the first is a topology, and each later one an event of its
-/// network or the question where a packet is. Each is answered by one line, which is written and
-/// flushed before more is read.
+/// Answers the lines of a source, of those after the first the ones that are heard, and hands out
+/// the network that they lead to. The first line is a topology, and each later one an event of its
+/// network or the question where a packet is; a line that is not heard is a bad line. Each is
+/// answered by one line, which is written and flushed before more is read.
 ///
 /// [`RunFault::Topology`] where the first line is no topology, after its answer;
 /// [`RunFault::Read`] and [`RunFault::Write`] where the source or the sink failed;
@@ -102,12 +112,13 @@ fn finish<K: Sink>(alloc: Global, talk: &mut Talk, sink: &mut K) -> Result<(), R
 /// It ends for every source that ends or passes that limit. A line takes time and memory for its
 /// bytes, beside what its event takes; the bytes of one line, and of the replies to the lines that
 /// one read of up to 8,192 bytes brought, are held at a time.
-pub fn run_lines<S: Source, K: Sink>(
+pub fn listen<S: Source, K: Sink>(
     alloc: Global,
+    hearing: Hearing,
     source: &mut S,
     sink: &mut K,
-) -> Result<(), RunFault>
-    ensures runs { Runs result (S.left source.old) (S.left source.new)
+) -> Result<Net, RunFault>
+    ensures listens { Listens hearing result (S.left source.old) (S.left source.new)
         (K.held sink.old) (K.held sink.new) }
     ensures source { S.failed source.new ≡ (S.failed source.old || is_read_fault result) }
     ensures sink { K.failed sink.new ≡ (K.failed sink.old || is_write_fault result) }
@@ -121,12 +132,29 @@ pub fn run_lines<S: Source, K: Sink>(
             return Err(RunFault::Read);
         };
         if bytes.is_empty() {
-            return finish(alloc, &mut talk, sink);
+            finish(alloc, hearing, &mut talk, sink)?;
+            return Ok(talk.into_net());
         }
         if count == MAX_INPUT_LEN {
             return Err(RunFault::InputTooLong);
         }
-        exchange(alloc, &mut talk, sink, bytes)?;
+        exchange(alloc, hearing, &mut talk, sink, bytes)?;
         count += bytes.len();
     }
+}
+
+/// Answers the lines of a source, all of them, as [`listen`] does, and lets the network go that
+/// they lead to. Its faults are those of [`listen`].
+pub fn run_lines<S: Source, K: Sink>(
+    alloc: Global,
+    source: &mut S,
+    sink: &mut K,
+) -> Result<(), RunFault>
+    ensures runs { Runs result (S.left source.old) (S.left source.new)
+        (K.held sink.old) (K.held sink.new) }
+    ensures source { S.failed source.new ≡ (S.failed source.old || is_read_fault result) }
+    ensures sink { K.failed sink.new ≡ (K.failed sink.old || is_write_fault result) }
+{
+    listen(alloc, Hearing::All, source, sink)?;
+    Ok(())
 }

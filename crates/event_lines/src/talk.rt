@@ -10,6 +10,7 @@ ghost use Rattle.event_lines.specs.Talking.{HearsAll, IsDone, Tells, last_lines,
 use crate::cutting::cut_line;
 use crate::fault::RunFault;
 use crate::happening::answer_line;
+use crate::hearing::Hearing;
 use network_core::Net;
 use refusal::OrMemory;
 use scion_topology::{Topology, TopologyFault};
@@ -35,11 +36,17 @@ fn push_reply(alloc: Global, replies: &mut String, text: &str) -> Result<(), All
 }
 
 /// Tells a network a line, and adds the reply.
-fn tell(alloc: Global, net: &mut Net, line: &[u8], replies: &mut String) -> Result<(), RunFault>
-    ensures { Tells (λ _. Open net.new) result (Open net.old) line.now
+fn tell(
+    alloc: Global,
+    hearing: Hearing,
+    net: &mut Net,
+    line: &[u8],
+    replies: &mut String,
+) -> Result<(), RunFault>
+    ensures { Tells hearing (λ _. Open net.new) result (Open net.old) line.now
         (string_bytes replies.old) (string_bytes replies.new) }
 {
-    let text = answer_line(alloc, net, line)?;
+    let text = answer_line(alloc, hearing, net, line)?;
     push_reply(alloc, replies, &text)?;
     Ok(())
 }
@@ -47,7 +54,7 @@ fn tell(alloc: Global, net: &mut Net, line: &[u8], replies: &mut String) -> Resu
 /// The network of the first line, and adds the reply. [`RunFault::Topology`] where the line is no
 /// topology.
 fn begin(alloc: Global, line: &[u8], replies: &mut String) -> Result<Net, RunFault>
-    ensures { Tells (λ net. Open net) result Unbegun line.now
+    ensures { (hearing : Hearing) → Tells hearing (λ net. Open net) result Unbegun line.now
         (string_bytes replies.old) (string_bytes replies.new) }
 {
     match Topology::from_json(alloc, line) {
@@ -87,14 +94,26 @@ impl Talk {
         }
     }
 
+    /// The network in which the run stands.
+    pub(crate) fn into_net(self) -> Net
+        requires begun { (net : NetValue) × (stage_of self.net ≡ Open net) }
+        ensures { stage_of self.net ≡ Open result }
+    {
+        let Talk { net, .. } = self;
+        match net {
+            Some(net) => net,
+            None => unreachable!(),
+        }
+    }
+
     /// Answers the line that has come, whose end is not among its bytes.
-    pub(crate) fn answer(&mut self, alloc: Global) -> Result<(), RunFault>
-        ensures told { Tells (λ _. stage_of self.new.net) result (stage_of self.old.net)
+    pub(crate) fn answer(&mut self, alloc: Global, hearing: Hearing) -> Result<(), RunFault>
+        ensures told { Tells hearing (λ _. stage_of self.new.net) result (stage_of self.old.net)
             self.old.rest.items (string_bytes self.old.replies) (string_bytes self.new.replies) }
         ensures rest { self.new.rest ≡ self.old.rest }
     {
         match &mut self.net {
-            Some(net) => tell(alloc, net, &self.rest, &mut self.replies),
+            Some(net) => tell(alloc, hearing, net, &self.rest, &mut self.replies),
             None => {
                 let net = begin(alloc, &self.rest, &mut self.replies)?;
                 self.net = Some(net);
@@ -104,14 +123,19 @@ impl Talk {
     }
 
     /// Answers each line that ends among these bytes, and keeps what stands behind the last.
-    pub(crate) fn hear(&mut self, alloc: Global, bytes: &[u8]) -> Result<(), RunFault>
+    pub(crate) fn hear(
+        &mut self,
+        alloc: Global,
+        hearing: Hearing,
+        bytes: &[u8],
+    ) -> Result<(), RunFault>
         requires { has_end self.old.rest.items ≡ false }
-        ensures { HearsAll result bytes.now (value_of self.old) (value_of self.new) }
+        ensures { HearsAll hearing result bytes.now (value_of self.old) (value_of self.new) }
     {
         let mut left = bytes;
         while let Some((line, behind)) = cut_line(left) {
             self.rest.extend_from_slice(line)?;
-            self.answer(alloc)?;
+            self.answer(alloc, hearing)?;
             self.rest.clear();
             left = behind;
         }

@@ -4,7 +4,7 @@ use Rattle.event_lines.specs.Talk.{Begins, Open, begun_text}
 use Rattle.event_lines.proofs.talk.begin.Goals as goal
 
 pub returns-in_ok-push_reply-in-Ok : goal.returns-in_ok-push_reply-in-Ok
-returns-in_ok-push_reply-in-Ok c = (
+returns-in_ok-push_reply-in-Ok c hearing = (
   begun_text,
   (
     subst (λ read. Begins read begun_text (Open c.new.result)) (sym c.in-Ok.ensures) (refl, ap Open c.new.ensures),

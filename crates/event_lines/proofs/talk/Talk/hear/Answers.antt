@@ -2,23 +2,23 @@
 use Rattle.std.proofs.Common.{refl, sym}
 use Rattle.std.proofs.lemmas.Result.{err_from_is_err_and}
 use Rattle.event_lines.specs.Talking.{stage_of, value_of}
-use Rattle.event_lines.proofs.Hearing.{heard_none, heard_line, heard_failed, heard_short}
+use Rattle.event_lines.proofs.Heard.{heard_none, heard_line, heard_failed, heard_short}
 use Rattle.event_lines.proofs.talk.Talk.hear.Goals as goal
 
 pub loop-line-init : goal.loop-line-init
-loop-line-init c = heard_none c.args.bytes.now (value_of c.args.self.now) c.requires
+loop-line-init c = heard_none c.args.hearing c.args.bytes.now (value_of c.args.self.now) c.requires
 
 pub returns-in_err-extend_from_slice : goal.returns-in_err-extend_from_slice
 returns-in_err-extend_from_slice c =
     let p = err_from_is_err_and c.from_residual.result c.from_residual.ensures.1 in
-    rw (p.1, p.2) (heard_short c.args.bytes.now c.loop-line.left.now (value_of c.args.self.now) (value_of c.loop-line.self) (value_of c.loop-line.self) c.loop-line.invariant refl)
+    rw (p.1, p.2) (heard_short c.args.hearing c.args.bytes.now c.loop-line.left.now (value_of c.args.self.now) (value_of c.loop-line.self) (value_of c.loop-line.self) c.loop-line.invariant refl)
 
 pub returns-in_err-answer : goal.returns-in_err-answer
 returns-in_err-answer c =
     let l = c.loop-line in
     let cut = c.in-Some.ensures.cut in
     let p = err_from_is_err_and c.from_residual-in_err-answer.result c.from_residual-in_err-answer.ensures.1 in
-    rw (p.1, p.2) (heard_failed c.args.bytes.now l.left.now c.in-Some.line.now c.in-Some.behind.now
+    rw (p.1, p.2) (heard_failed c.args.hearing c.args.bytes.now l.left.now c.in-Some.line.now c.in-Some.behind.now
     (value_of c.args.self.now) (value_of l.self) (value_of c.answer.new.self) c.in_err-answer.field-0.0 l.invariant cut
     (rw (sym c.in_ok-extend_from_slice.ensures.items) c.in_err-answer.ensures.told))
 
@@ -27,11 +27,11 @@ loop-line-preserved c =
     let l = c.loop-line in
     let cut = c.in-Some.ensures.cut in
     let told = c.in_ok-answer.ensures.told in
-    rw c.clear.ensures.items (heard_line c.args.bytes.now l.left.now c.in-Some.line.now c.in-Some.behind.now
+    rw c.clear.ensures.items (heard_line c.args.hearing c.args.bytes.now l.left.now c.in-Some.line.now c.in-Some.behind.now
     (value_of c.args.self.now) (value_of l.self) (stage_of c.answer.new.self.net) _ told.0 l.invariant cut
     (rw (sym c.in_ok-extend_from_slice.ensures.items) told.1.0) told.1.1)
 
 pub returns-in_err-extend_from_slice-2 : goal.returns-in_err-extend_from_slice-2
 returns-in_err-extend_from_slice-2 c =
     let p = err_from_is_err_and c.from_residual-in_err-extend_from_slice-2.result c.from_residual-in_err-extend_from_slice-2.ensures.1 in
-    rw (p.1, p.2) (heard_short c.args.bytes.now c.loop-line.left.now (value_of c.args.self.now) (value_of c.loop-line.self) (value_of c.loop-line.self) c.loop-line.invariant refl)
+    rw (p.1, p.2) (heard_short c.args.hearing c.args.bytes.now c.loop-line.left.now (value_of c.args.self.now) (value_of c.loop-line.self) (value_of c.loop-line.self) c.loop-line.invariant refl)
