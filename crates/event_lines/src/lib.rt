@@ -21,3 +21,4 @@ pub use fault::RunFault;
 pub use hearing::Hearing;
 pub use line::Line;
 pub use run::{listen, run_lines};
+pub use text::refusal_text;

@@ -33,8 +33,9 @@ fn push_hops(alloc: Global, text: &mut String, hops: &[WalkHop]) -> Result<(), A
     Ok(())
 }
 
-/// A router's refusal.
-fn refusal(alloc: Global, refusal: Refusal) -> Result<String, AllocError>
+/// A router's refusal as lines tell it: its number and its name, and of a packet without a path
+/// header the header's too.
+pub fn refusal_text(alloc: Global, refusal: Refusal) -> Result<String, AllocError>
     ensures { IfOk result (λ text. string_bytes text ≡ refusal_text refusal) }
 {
     match refusal {
@@ -63,7 +64,7 @@ fn turn(alloc: Global, reply: TurnReply) -> Result<String, AllocError>
     match reply {
         TurnReply::Went(went) => outcome(alloc, went),
         TurnReply::Refused(cause) => {
-            let cause = refusal(alloc, cause)?;
+            let cause = refusal_text(alloc, cause)?;
             format!(in alloc; "refused {}", cause.as_str())
         }
         TurnReply::Still => String::from_str(alloc, "ok"),
@@ -133,7 +134,7 @@ fn place(alloc: Global, place: Place) -> Result<String, AllocError>
         Place::AtRouter(stop) => format!(in alloc; "at {} {}", stop.ia, stop.router),
         Place::Delivered => String::from_str(alloc, "delivered"),
         Place::Refused(ia, router, cause) => {
-            let cause = refusal(alloc, cause)?;
+            let cause = refusal_text(alloc, cause)?;
             format!(in alloc; "refused {ia} {router} {}", cause.as_str())
         }
         Place::Lost => String::from_str(alloc, "lost"),
