@@ -1,0 +1,2 @@
+pub mod Flown
+pub mod Worked

@@ -1,0 +1,89 @@
+-- A run of lines and of the flights that they prepare: what was read, and what was written.
+use Rattle.std.specs.Prelude.{◌<◌, ◌≤◌, ℕ, Bool, true, false, List, Option, Result, Ok, Err}
+use Rattle.std.specs.Io.KnownBytes.{Appends}
+use Rattle.refusal.specs.declared.fault.OrMemory.{OrMemory}
+use Rattle.refusal.specs.declared.fault.OrMemory.TheVariants as departure
+use Rattle.streams.specs.Streams.{AppendsFront}
+use Rattle.scion_topology.specs.declared.fault.TopologyFault.{TopologyFault}
+use Rattle.network_core.specs.Value.{NetValue}
+use Rattle.router_workers.specs.declared.fault.RunFault.{RunFault}
+use Rattle.router_workers.specs.declared.fault.RunFault.TheVariants as run
+use Rattle.event_lines.specs.declared.fault.RunFault.TheVariants as lines
+use Rattle.event_lines.specs.declared.hearing.Hearing.TheVariants.{Preparing}
+use Rattle.event_lines.specs.Run.{Listens}
+use Rattle.work_lines.specs.declared.fault.WorkFault.{WorkFault}
+use Rattle.work_lines.specs.declared.fault.WorkFault.TheVariants as faults
+use Rattle.work_lines.specs.Report.{Reports}
+
+-- so many workers may be asked for
+abbrev pub IsNumberOfWorkers : ℕ → Type 0
+IsNumberOfWorkers workers = (0 < workers) × (workers ≤ 8)
+
+-- the lines prepared this network, and the sink then held these bytes
+abbrev pub Prepares : NetValue → Option (List ℕ) → Option (List ℕ) → Option (List ℕ)
+    → Option (List ℕ) → Type 0
+Prepares net before after held holds = Listens Preparing (Ok net) before after held holds
+
+-- a run of a source that had these bytes left before and has those after, into a sink that held
+-- these bytes before and holds those after. The lines prepared a network, and then: its flights
+-- were reported; or there were no such workers; or memory ran out, or a packet could not depart; or
+-- a beginning of the report was written. Or the lines were not answered to their end.
+abbrev pub Works : Result (Unit {0}) WorkFault → ℕ → ℕ → Option (List ℕ) → Option (List ℕ)
+    → Option (List ℕ) → Option (List ℕ) → Type 0
+Works (Ok done) workers slots before after held holds =
+    (net : NetValue) × (replied : Option (List ℕ)) × (report : List ℕ)
+    × (Prepares net before after held replied
+    × (IsNumberOfWorkers workers × (Reports net slots report × Appends replied holds report)))
+Works (Err faults.Workers) workers slots before after held holds = (net : NetValue)
+    × (Prepares net before after held holds × ¬ (IsNumberOfWorkers workers))
+Works (Err faults.Memory) workers slots before after held holds =
+    (net : NetValue) × Prepares net before after held holds
+Works (Err faults.NoWayOut) workers slots before after held holds =
+    (net : NetValue) × Prepares net before after held holds
+Works (Err faults.Write) workers slots before after held holds =
+    (net : NetValue) × (replied : Option (List ℕ)) × (report : List ℕ)
+    × (Prepares net before after held replied
+    × (IsNumberOfWorkers workers × (Reports net slots report × AppendsFront replied holds report)))
+Works (Err (faults.Lines fault)) workers slots before after held holds =
+    Listens Preparing (Err fault) before after held holds
+
+-- the run ended since a read failed; since a write failed, of a reply or of the report
+abbrev pub is_read_fault : Result (Unit {0}) WorkFault → Bool
+is_read_fault (Err (faults.Lines lines.Read)) = true
+is_read_fault result = false
+
+abbrev pub is_write_fault : Result (Unit {0}) WorkFault → Bool
+is_write_fault (Err (faults.Lines lines.Write)) = true
+is_write_fault (Err faults.Write) = true
+is_write_fault result = false
+
+-- ---- words of private calls
+
+-- the fault of a run of workers
+abbrev pub of_run : RunFault → WorkFault
+of_run run.Workers = faults.Workers
+of_run run.Memory = faults.Memory
+
+-- the fault of a flight that could not be made
+abbrev pub of_departure : OrMemory TopologyFault → WorkFault
+of_departure departure.Memory = faults.Memory
+of_departure (departure.Refused fault) = faults.NoWayOut
+
+-- flights could not be carried by so many workers
+abbrev pub Stops : ℕ → WorkFault → Type 0
+Stops workers faults.Workers = ¬ (IsNumberOfWorkers workers)
+Stops workers faults.Memory = Unit {0}
+Stops workers faults.NoWayOut = Unit {0}
+Stops workers fault = ⊥
+
+-- a report was written, or a beginning of it
+abbrev pub Writes : Result (Unit {0}) WorkFault → List ℕ → Option (List ℕ) → Option (List ℕ)
+    → Type 0
+Writes (Ok done) text held holds = Appends held holds text
+Writes (Err faults.Write) text held holds = AppendsFront held holds text
+Writes (Err fault) text held holds = ⊥
+
+-- a report was not written
+abbrev pub is_unwritten : Result (Unit {0}) WorkFault → Bool
+is_unwritten (Ok done) = false
+is_unwritten (Err fault) = true

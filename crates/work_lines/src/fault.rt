@@ -1,0 +1,66 @@
+ghost use Rattle.std.specs.Prelude.{◌≡◌};
+ghost use Rattle.work_lines.specs.declared.fault.WorkFault.TheVariants as faults;
+ghost use Rattle.work_lines.specs.Work.{of_departure, of_run};
+
+use refusal::OrMemory;
+use scion_topology::TopologyFault;
+use std::alloc::AllocError;
+use thiserror::Error;
+
+/// Why packets were not carried, or their ends not told.
+#[derive(Clone, Copy, Debug, PartialEq, Eq, Error)]
+pub enum WorkFault {
+    /// The lines were not answered to their end.
+    #[error("{0}")]
+    Lines(event_lines::RunFault),
+    /// There are not 1 to 8 workers.
+    #[error("workers refused")]
+    Workers,
+    /// Memory for a flight, for the run or for the report ran out, after all lines were answered.
+    #[error("out of memory")]
+    Memory,
+    /// A packet can't depart: the network lacks its first AS, or the interface by which it leaves.
+    #[error("no way out")]
+    NoWayOut,
+    /// The report was not written, or not all of it.
+    #[error("write failed")]
+    Write,
+}
+
+impl From<event_lines::RunFault> for WorkFault {
+    ghost from_gives = { λ fault e. e ≡ faults.Lines fault };
+
+    fn from(fault: event_lines::RunFault) -> WorkFault {
+        WorkFault::Lines(fault)
+    }
+}
+
+impl From<OrMemory<TopologyFault>> for WorkFault {
+    ghost from_gives = { λ fault e. e ≡ of_departure fault };
+
+    fn from(fault: OrMemory<TopologyFault>) -> WorkFault {
+        match fault {
+            OrMemory::Memory => WorkFault::Memory,
+            OrMemory::Refused(_) => WorkFault::NoWayOut,
+        }
+    }
+}
+
+impl From<router_workers::RunFault> for WorkFault {
+    ghost from_gives = { λ fault e. e ≡ of_run fault };
+
+    fn from(fault: router_workers::RunFault) -> WorkFault {
+        match fault {
+            router_workers::RunFault::Workers => WorkFault::Workers,
+            router_workers::RunFault::Memory => WorkFault::Memory,
+        }
+    }
+}
+
+impl From<AllocError> for WorkFault {
+    ghost from_gives = { λ _ e. e ≡ faults.Memory };
+
+    fn from(_error: AllocError) -> WorkFault {
+        WorkFault::Memory
+    }
+}

@@ -1,0 +1,37 @@
+//! What is told of flights.
+
+ghost use Rattle.std.specs.Prelude.{◌≡◌, IfOk};
+ghost use Rattle.std.specs.String.{string_bytes};
+ghost use Rattle.event_lines.specs.Run.{ended};
+ghost use Rattle.work_lines.specs.Report.{flight_text, report_lines};
+
+use event_lines::refusal_text;
+use router_workers::End;
+use std::alloc::{AllocError, Global};
+
+/// The line of how the flight of this number ended, without its end.
+fn line(alloc: Global, number: usize, end: End) -> Result<String, AllocError>
+    ensures { IfOk result (λ text. string_bytes text ≡ flight_text number end) }
+{
+    match end {
+        End::Delivered(turns) => format!(in alloc; "flight {number} delivered {turns}"),
+        End::Refused(cause, _) => {
+            let cause = refusal_text(alloc, cause)?;
+            format!(in alloc; "flight {number} refused {}", cause.as_str())
+        }
+        End::Dropped(_) => format!(in alloc; "flight {number} dropped"),
+    }
+}
+
+/// The lines of how the flights ended, in their order.
+pub(crate) fn report(alloc: Global, ends: &[End]) -> Result<String, AllocError>
+    ensures { IfOk result (λ text. string_bytes text ≡ ended (report_lines 0 ends.now)) }
+{
+    let mut text = String::new(alloc);
+    for (number, end) in ends.iter().enumerate() {
+        let line = line(alloc, number, *end)?;
+        text.push_str(line.as_str())?;
+        text.push_str("\n")?;
+    }
+    Ok(text)
+}
