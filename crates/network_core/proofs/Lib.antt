@@ -13,3 +13,4 @@ pub mod Runs
 pub mod Accepting
 pub mod Answerable
 pub mod Asked
+pub mod Allowing

@@ -1,13 +1,15 @@
 -- What is asked of the events that follow a packet, and what is then true of it
 -- (draft-dekater-scion-dataplane).
-use Rattle.std.specs.Prelude.{◌≡◌, ◌↔◌, ℕ, ◌+◌, ◌<◌, ◌≤◌, ◌==◌, Bool, true, false, if◌then◌else◌, List, [], ◌∷◌, ◌++◌, Some, slice_get, All}
+use Rattle.std.specs.Prelude.{◌≡◌, ◌↔◌, ℕ, ◌+◌, ◌<◌, ◌≤◌, ◌==◌, Bool, true, false, if◌then◌else◌, List, [], ◌∷◌, ◌++◌, Some, IsOk, slice_get, All}
 use Rattle.policy_expr.specs.declared.hop.WalkHop.{WalkHop}
 use Rattle.scion_topology.specs.Network.{Network}
+use Rattle.scion_topology.specs.Topology.{owner_in}
 use Rattle.path_verifier.specs.Piece.{PieceValue}
 use Rattle.path_verifier.specs.Walk.{walk_of}
 use Rattle.path_verifier.specs.Accepted.{AreLive}
 use Rattle.forwarding.specs.declared.place.Place.{Place}
 use Rattle.forwarding.specs.declared.place.Place.TheVariants as places
+use Rattle.forwarding.specs.Journey.{first_out}
 use Rattle.forwarding.specs.Open.{LetsThrough}
 use Rattle.forwarding.specs.Standing.{arrived_with}
 use Rattle.forwarding.specs.Sound.{IsSound, PassesBy, LeavesAlone}
@@ -91,3 +93,12 @@ AllLeaveUndisturbed p sent net [] = Unit {0}
 AllLeaveUndisturbed p sent net (moment ∷ later) =
     LeavesUndisturbed p sent net moment.event moment.reply
     × AllLeaveUndisturbed p sent moment.net later
+
+-- the network has the AS from which this was sent, and there the interface by which it leaves
+abbrev pub MayDepart : Network → SentValue → Type 0
+MayDepart n sent = IsOk (owner_in n sent.way.source (first_out (walk_of sent.way.pieces)))
+
+-- so it is for each packet of a network
+abbrev pub AllMayDepart : NetValue → Type 0
+AllMayDepart net = (i : ℕ) (one : PacketValue) → slice_get net.packets i ≡ Some one
+    → MayDepart net.network one.sent

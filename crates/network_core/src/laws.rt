@@ -6,12 +6,12 @@ ghost use Rattle.scion_topology.specs.Topology.{IsNetwork};
 ghost use Rattle.path_verifier.specs.Walk.{walk_of};
 ghost use Rattle.forwarding.specs.Journey.{turns_for};
 ghost use Rattle.network_core.specs.declared.reply.Reply.{Reply};
-ghost use Rattle.network_core.specs.Event.{RouteValue, ByAnswer, Send, Back};
+ghost use Rattle.network_core.specs.Event.{EventValue, RouteValue, ByAnswer, Send, Back};
 ghost use Rattle.network_core.specs.Value.{SentValue, NetValue, new_net};
-ghost use Rattle.network_core.specs.Step.{Sends, sent_by, replied};
+ghost use Rattle.network_core.specs.Step.{Step, Sends, sent_by, replied};
 ghost use Rattle.network_core.specs.History.{Moment, IsHistory, net_after, net_at, AreIssued, AreAsked, Answers};
 ghost use Rattle.network_core.specs.Headline.{HaveBeginning, Headline};
-ghost use Rattle.network_core.specs.Delivery.{AllLeaveUndisturbed, AllLetGoOn, AreSound, IsForwarded, turns_of};
+ghost use Rattle.network_core.specs.Delivery.{AllLeaveUndisturbed, AllLetGoOn, AllMayDepart, AreSound, IsForwarded, turns_of};
 
 /// In every history of a new network, after each number of its events, each stored segment was
 /// issued by events before: an AS began a beacon, others passed it on, and the last ended it, each
@@ -56,6 +56,14 @@ pub fn sent_packets_are_delivered()
         → IsHistory new later → AllLeaveUndisturbed p sent new later
         → IsForwarded (net_after new (take k later)) p
         (turns_for old.network (walk_of sent.way.pieces)) (turns_of p (take k later)) sent }
+{}
+
+/// Each packet of a network may depart in it again, in every history of a new network: an event
+/// takes away no AS and no interface.
+pub fn packets_may_depart()
+    ensures new { (network : Network) → AllMayDepart (new_net network) }
+    ensures step { (old new : NetValue) (event : EventValue) (reply : Reply)
+        → Step old event reply new → AllMayDepart old → AllMayDepart new }
 {}
 
 /// In every history, by the numbers of its events, what a Send or a Back sent: its path was
