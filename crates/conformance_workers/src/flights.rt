@@ -1,0 +1,69 @@
+//! Flights by themselves.
+
+use crate::network::{first, last, network};
+use forwarding::Place;
+use network_core::{EventFault, Net};
+use refusal::OrMemory;
+use router_workers::Flight;
+use scion_topology::{Topology, TopologyFault};
+use std::alloc::Global;
+use std::test::Fail;
+
+/// A network of one AS, which is none of the row's.
+static ELSEWHERE: &str =
+    r#"{"ases":[{"ia":"1-9","core":true,"exp":63,"key":"61","routers":1}],"links":[]}"#;
+
+/// The row's last link, at another interface of the last AS.
+static RENUMBERED: &str =
+    r#"{"ases":[{"ia":"1-ff00:0:111","core":false,"exp":63,"key":"6131","routers":1},{"ia":"1-ff00:0:112","core":false,"exp":63,"key":"6132","routers":1}],"links":[{"kind":"child","a":{"ia":"1-ff00:0:111","if":2,"router":0},"b":{"ia":"1-ff00:0:112","if":9,"router":0}}]}"#;
+
+/// The flight after one turn more under the view of its place; as it is where that has none.
+fn after_turn<'a>(flight: Flight<'a>) -> Flight<'a> {
+    match flight.view() {
+        Some(view) => flight.advance(&view, 1000),
+        None => flight,
+    }
+}
+
+/// The network with a packet from the row's last AS to its first.
+fn sent(alloc: Global) -> Result<Net, Fail> {
+    network(alloc, &[(last(), first())])
+}
+
+/// How the first packet of a network is refused as a flight over this topology.
+fn refusal(alloc: Global, net: &Net, topology: &str) -> Result<Option<TopologyFault>, Fail> {
+    let fabric = Topology::from_json(alloc, topology.as_bytes())?;
+    let packet = net.packet(0).ok_or(EventFault::NoPacket)?;
+    match Flight::new(alloc, &fabric, packet.sent()) {
+        Err(OrMemory::Refused(fault)) => Ok(Some(fault)),
+        _ => Ok(None),
+    }
+}
+
+#[test]
+fn three_turns_deliver(rt: HostRuntime) -> Result<(), Fail> {
+    let net = sent(rt.alloc())?;
+    let packet = net.packet(0).ok_or(EventFault::NoPacket)?;
+    let flight = Flight::new(rt.alloc(), net.topology(), packet.sent())?;
+    let flight = after_turn(after_turn(after_turn(flight)));
+    assert_eq!(rt; flight.place(), Place::Delivered);
+    assert_eq!(rt; flight.turns(), 3);
+    assert_eq!(rt; flight.passed().len(), 3);
+    Ok(())
+}
+
+#[test]
+fn a_flight_needs_its_first_as(rt: HostRuntime) -> Result<(), Fail> {
+    let net = sent(rt.alloc())?;
+    let refusal = refusal(rt.alloc(), &net, ELSEWHERE)?;
+    assert_eq!(rt; refusal, Some(TopologyFault::UnknownAs));
+    Ok(())
+}
+
+#[test]
+fn a_flight_needs_its_first_interface(rt: HostRuntime) -> Result<(), Fail> {
+    let net = sent(rt.alloc())?;
+    let refusal = refusal(rt.alloc(), &net, RENUMBERED)?;
+    assert_eq!(rt; refusal, Some(TopologyFault::NoLink));
+    Ok(())
+}

@@ -1,0 +1,98 @@
+//! Workers that run at once: each waits at its first turn for the other's.
+
+use crate::network::{first, last, middle};
+use crate::runs::ends_of;
+use router_workers::{End, Gate};
+use std::sync::atomic::{AtomicUsize, Ordering};
+use std::test::Fail;
+use std::thread;
+
+/// Holds two workers, each at its first turn, until the other has come to its own, for so many
+/// looks, and counts all turns.
+#[derive(Drop)]
+struct Meeting {
+    /// The numbers of both workers.
+    workers: [usize; 2],
+    /// Whether they have come.
+    here: [AtomicUsize; 2],
+    /// Whether a worker has looked too often.
+    late: AtomicUsize,
+    enters: AtomicUsize,
+    leaves: AtomicUsize,
+}
+
+impl Meeting {
+    fn of(workers: [usize; 2]) -> Meeting {
+        Meeting {
+            workers,
+            here: [AtomicUsize::new(0), AtomicUsize::new(0)],
+            late: AtomicUsize::new(0),
+            enters: AtomicUsize::new(0),
+            leaves: AtomicUsize::new(0),
+        }
+    }
+
+    /// Notes that a worker is here, and waits for the other one.
+    fn meet(&self, own: &AtomicUsize, other: &AtomicUsize) {
+        if own.load(Ordering::SeqCst) == 1 {
+            return;
+        }
+        own.store(1, Ordering::SeqCst);
+        for _ in 0..1_000_000 {
+            if other.load(Ordering::SeqCst) == 1 {
+                return;
+            }
+            thread::yield_now();
+        }
+        self.late.store(1, Ordering::SeqCst);
+    }
+}
+
+impl Gate for Meeting {
+    fn enter(&self, worker: usize) {
+        self.enters.fetch_add(1, Ordering::SeqCst);
+        if worker == self.workers[0] {
+            self.meet(&self.here[0], &self.here[1]);
+        } else if worker == self.workers[1] {
+            self.meet(&self.here[1], &self.here[0]);
+        }
+    }
+
+    fn leave(&self, _worker: usize) {
+        self.leaves.fetch_add(1, Ordering::SeqCst);
+    }
+}
+
+#[test]
+fn two_workers_run_at_once(rt: HostRuntime) -> Result<(), Fail> {
+    let gate = Meeting::of([0, 1]);
+    let ways = [(last(), first()), (middle(), last())];
+    let ends = ends_of(&rt, rt.alloc(), &ways, 2, 4, &gate)??;
+    assert_eq!(rt;
+        ends.as_slice(),
+        [End::Delivered(3), End::Delivered(2)].as_slice()
+    );
+    assert_eq!(rt; gate.late.load(Ordering::SeqCst), 0);
+    assert_eq!(rt; gate.here[0].load(Ordering::SeqCst), 1);
+    assert_eq!(rt; gate.here[1].load(Ordering::SeqCst), 1);
+    assert_eq!(rt; gate.enters.load(Ordering::SeqCst), 5);
+    assert_eq!(rt; gate.leaves.load(Ordering::SeqCst), 5);
+    Ok(())
+}
+
+#[test]
+fn two_of_three_workers_run_at_once(rt: HostRuntime) -> Result<(), Fail> {
+    let gate = Meeting::of([2, 1]);
+    let ways = [(last(), first()), (middle(), last())];
+    let ends = ends_of(&rt, rt.alloc(), &ways, 3, 4, &gate)??;
+    assert_eq!(rt;
+        ends.as_slice(),
+        [End::Delivered(3), End::Delivered(2)].as_slice()
+    );
+    assert_eq!(rt; gate.late.load(Ordering::SeqCst), 0);
+    assert_eq!(rt; gate.here[0].load(Ordering::SeqCst), 1);
+    assert_eq!(rt; gate.here[1].load(Ordering::SeqCst), 1);
+    assert_eq!(rt; gate.enters.load(Ordering::SeqCst), 5);
+    assert_eq!(rt; gate.leaves.load(Ordering::SeqCst), 5);
+    Ok(())
+}
