@@ -3,6 +3,7 @@
 ghost use Rattle.std.specs.Prelude.{◌≡◌, ◌<◌, ◌%◌, ◌+◌, true, length, IfOk, IsOk};
 ghost use Rattle.scion_topology.specs.Topology.{info_in};
 ghost use Rattle.router_workers.specs.Flight.{IsAtRouter};
+ghost use Rattle.router_workers.specs.Posts.{IsNext};
 
 use crate::job::{Done, Job, Run};
 use forwarding::Place;
@@ -116,7 +117,8 @@ pub(crate) fn pass_on<'f, J: Run, R: Wait, G: Gate>(
 /// The worker to whose router a flight has come.
 fn next_worker(topology: &Topology, place: Place, workers: usize) -> usize
     requires { 0 < workers }
-    ensures { result < workers }
+    ensures value { IsNext topology.now workers place result }
+    ensures within { result < workers }
 {
     match place {
         Place::AtRouter(stop) if topology.as_info(stop.ia).is_ok() => {
