@@ -13,7 +13,10 @@ use Rattle.step_line.specs.Turn.{Turn}
 use Rattle.step_line.specs.Line.{line_of}
 use Rattle.step_line.specs.Fault.{Prints as StepPrints}
 use Rattle.event_lines.specs.declared.fault.RunFault.TheVariants as run
-use Rattle.event_lines.specs.Run.{Runs}
+use Rattle.event_lines.specs.declared.hearing.Hearing.{Hearing}
+use Rattle.event_lines.specs.declared.hearing.Hearing.TheVariants.{All, Preparing}
+use Rattle.event_lines.specs.Run.{Listens}
+use Rattle.work_lines.specs.declared.fault.WorkFault.TheVariants as work
 use Rattle.event_lines.specs.Talk.{Unbegun}
 use Rattle.commands.specs.declared.command.Command.{Command}
 use Rattle.commands.specs.declared.command.Command.TheVariants as command
@@ -66,9 +69,9 @@ Appends-none None new keeps = tt
 Appends-none (Some x) None keeps = absurd keeps
 Appends-none (Some x) (Some y) keeps = keeps ∙ sym (append-nil x)
 
-Runs-unbegun : (before after held holds : Option (List ℕ)) → Keeps before after → Keeps held holds
-    → Runs (Err run.Memory) before after held holds
-Runs-unbegun before after held holds still quiet = (
+Listens-unbegun : (hearing : Hearing) (before after held holds : Option (List ℕ)) → Keeps before after → Keeps held holds
+    → Listens hearing (Err run.Memory) before after held holds
+Listens-unbegun hearing before after held holds still quiet = (
   [],
   [],
   (
@@ -87,7 +90,11 @@ Does-memory : (asked : Option Command) (source sink : Change) → IsStill source
     → Does (Err Memory) asked source sink
 Does-memory None source sink still quiet = (tt, (still, quiet))
 Does-memory (Some command.Run) source sink still quiet =
-    (Err run.Memory, (refl, (Runs-unbegun source.old source.new sink.old sink.new still.0 quiet.0, (still.1, quiet.1))))
+    (Err run.Memory, (refl, (Listens-unbegun All source.old source.new sink.old sink.new still.0 quiet.0, (still.1, quiet.1))))
+Does-memory (Some (command.Work workers slots)) source sink still quiet = (
+  Err (work.Lines run.Memory),
+  (refl, (Listens-unbegun Preparing source.old source.new sink.old sink.new still.0 quiet.0, (still.1, quiet.1))),
+)
 Does-memory (Some (command.Step turn)) source sink still quiet =
     (Err input.Memory, ((([], (Consumes-none _ _ still.0, omega arith)), still.1), (refl, quiet)))
 

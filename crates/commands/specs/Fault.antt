@@ -10,13 +10,15 @@ use Rattle.step_line.specs.declared.fault.StepFault.{StepFault}
 use Rattle.step_line.specs.declared.fault.StepFault.TheVariants as step
 use Rattle.event_lines.specs.declared.fault.RunFault.{RunFault}
 use Rattle.event_lines.specs.declared.fault.RunFault.TheVariants as run
+use Rattle.work_lines.specs.declared.fault.WorkFault.{WorkFault}
+use Rattle.work_lines.specs.declared.fault.WorkFault.TheVariants as work
 use Rattle.step_line.specs.Turn.{Turn}
 use Rattle.step_line.specs.Line.{line_of}
 use Rattle.commands.specs.declared.command.Command.{Command}
 use Rattle.commands.specs.declared.fault.WordsFault.{WordsFault}
 use Rattle.commands.specs.declared.fault.WordsFault.TheVariants as words
 use Rattle.commands.specs.declared.fault.CommandFault.{CommandFault}
-use Rattle.commands.specs.declared.fault.CommandFault.TheVariants.{Usage, PacketText, Topology, Read, Write, InputTooLong, Memory}
+use Rattle.commands.specs.declared.fault.CommandFault.TheVariants.{Usage, PacketText, Topology, Workers, NoWayOut, Read, Write, InputTooLong, Memory}
 use Rattle.commands.specs.declared.status.Status.{Status}
 use Rattle.commands.specs.declared.status.Status.TheVariants.{Done, Failed, Refused}
 
@@ -80,11 +82,21 @@ of_run run.Write = Write
 of_run run.Memory = Memory
 of_run run.InputTooLong = InputTooLong
 
+-- the fault of a network whose packets were not carried, or their ends not told
+abbrev pub of_work : WorkFault → CommandFault
+of_work (work.Lines fault) = of_run fault
+of_work work.Workers = Workers
+of_work work.Memory = Memory
+of_work work.NoWayOut = NoWayOut
+of_work work.Write = Write
+
 -- what is told of a fault on standard error
 abbrev pub told_of : CommandFault → List ℕ
 told_of (Usage text) = string_bytes text
 told_of PacketText = codes "scionet: bad packet text\n"
 told_of Topology = codes "scionet: topology refused\n"
+told_of Workers = codes "scionet: workers refused\n"
+told_of NoWayOut = codes "scionet: no way out\n"
 told_of Memory = codes "scionet: out of memory\n"
 told_of Read = codes "scionet: read failed\n"
 told_of Write = codes "scionet: write failed\n"

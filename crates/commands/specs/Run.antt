@@ -7,13 +7,15 @@ use Rattle.step_line.specs.Turn.{Turn}
 use Rattle.step_line.specs.Line.{line_of}
 use Rattle.event_lines.specs.declared.fault.RunFault.{RunFault}
 use Rattle.event_lines.specs.Run.{Runs, is_read_fault, is_write_fault}
+use Rattle.work_lines.specs.declared.fault.WorkFault.{WorkFault}
+use Rattle.work_lines.specs.Work as work
 use Rattle.commands.specs.declared.command.Command.{Command}
 use Rattle.commands.specs.declared.command.Command.TheVariants as command
 use Rattle.commands.specs.declared.fault.CommandFault.{CommandFault}
 use Rattle.commands.specs.declared.fault.CommandFault.TheVariants.{Usage, PacketText, Write, Memory}
 use Rattle.commands.specs.declared.status.Status.{Status}
 use Rattle.commands.specs.declared.status.Status.TheVariants.{Done}
-use Rattle.commands.specs.Fault.{of_input, of_run, status_of, told_of}
+use Rattle.commands.specs.Fault.{of_input, of_run, of_work, status_of, told_of}
 
 -- ---- streams
 
@@ -92,6 +94,20 @@ AnswersLines answer source sink = (run : Result (Unit {0}) RunFault)
     × (Runs run source.old source.new sink.old sink.new
     × (SetsFlag source (is_read_fault run) × SetsFlag sink (is_write_fault run))))
 
+-- what a run of workers is answered
+abbrev pub after_work : Result (Unit {0}) WorkFault → Result (Unit {0}) CommandFault
+after_work (Ok done) = Ok done
+after_work (Err fault) = Err (of_work fault)
+
+-- a network's run with its packets carried by so many workers, with so many places in an inbox: the
+-- lines of the source that prepare it are answered on the sink, and the ends of the flights
+-- reported there, or why not
+abbrev pub CarriesPackets : Result (Unit {0}) CommandFault → ℕ → ℕ → Change → Change → Type 0
+CarriesPackets answer workers slots source sink = (run : Result (Unit {0}) WorkFault)
+    × ((answer ≡ after_work run)
+    × (work.Works run workers slots source.old source.new sink.old sink.new
+    × (SetsFlag source (work.is_read_fault run) × SetsFlag sink (work.is_write_fault run))))
+
 -- ---- the program
 
 -- the words are refused, or memory ran out
@@ -108,6 +124,8 @@ Refuses answer source sink = IsRefusal answer × (IsStill source × IsStill sink
 abbrev pub Does : Result (Unit {0}) CommandFault → Option Command → Change → Change → Type 0
 Does answer None source sink = Refuses answer source sink
 Does answer (Some command.Run) source sink = AnswersLines answer source sink
+Does answer (Some (command.Work workers slots)) source sink =
+    CarriesPackets answer workers slots source sink
 Does answer (Some (command.Step turn)) source sink = Steps answer turn source sink
 
 -- a fault is told of on standard error, whole where no write of it failed

@@ -1,5 +1,5 @@
 -- The command line of `scionet`, as `clap` reads it.
-use Rattle.std.specs.Prelude.{◌≡◌, ℕ, pos, false, true, codes, if◌then◌else◌, List, [], ◌∷◌, Option, Some, None, option_map, unwrap_or}
+use Rattle.std.specs.Prelude.{◌≡◌, ◌<◌, ◌≤◌, ℕ, pos, false, true, codes, if◌then◌else◌, List, [], ◌∷◌, Option, Some, None, option_map, unwrap_or}
 use Rattle.std.specs.Str.{bytes_eq}
 use Rattle.clap.specs.Words.{App, Row, Rule, Text, all_of, first_of, new_app, new_rule, subcommand_of, with_rule, with_subcommand}
 use Rattle.clap.specs.Kinds.{Kinds}
@@ -10,9 +10,10 @@ use Rattle.clap.specs.declared.builder.value_parser.ValueParser.TheVariants.{Sig
 use Rattle.clap.specs.declared.builder.command.Command.{Command}
 use Rattle.clap.specs.declared.builder.command.Command.TheViews.{out-Command}
 use Rattle.refusal.specs.Optional.{◌>>=◌}
+use Rattle.step_line.specs.Fields.{number_at}
 use Rattle.step_line.specs.Turn.{OptionTexts, Turn, turn_of}
 use Rattle.commands.specs.declared.command.Command.{Command as Asked}
-use Rattle.commands.specs.declared.command.Command.TheVariants.{Step, Run}
+use Rattle.commands.specs.declared.command.Command.TheVariants.{Step, Run, Work}
 
 -- an option that has a value and must be given
 abbrev pub option_rule : Text → Rule
@@ -22,9 +23,13 @@ option_rule name = record (new_rule name) { long = Some name; value_names = 1; r
 abbrev pub optional_rule : Text → Rule
 optional_rule name = record (new_rule name) { long = Some name; value_names = 1 }
 
--- one whose value is a number from 0 to `most`
+-- one whose value is a number from `low` to `most`; from 0 to `most`
+abbrev pub range_rule : ℕ → ℕ → Text → Rule
+range_rule low most name =
+    record (option_rule name) { parser = Some (Signed (pos low) (pos most)) }
+
 abbrev pub number_rule : ℕ → Text → Rule
-number_rule most name = record (option_rule name) { parser = Some (Signed (pos 0) (pos most)) }
+number_rule most name = range_rule 0 most name
 
 -- the interfaces, any number of them
 abbrev pub interface_rule : Rule
@@ -42,12 +47,17 @@ step_app =
 abbrev pub run_app : App
 run_app = new_app (codes "run")
 
+-- `work`, with its options
+abbrev pub work_app : App
+work_app = with_rule (with_rule (new_app (codes "work")) (number_rule 4294967295 (codes "workers")))
+    (range_rule 1 4096 (codes "slots"))
+
 -- `scionet` with its commands and its version; the words begin behind its name
 abbrev pub program_app : App
 program_app =
-    with_subcommand (with_subcommand
+    with_subcommand (with_subcommand (with_subcommand
     (on_top (λ shape. record shape { no_binary_name = true; has_version = true }) (new_app (codes "scionet")))
-    step_app.top) run_app.top
+    step_app.top) run_app.top) work_app.top
 
 -- none of the command's arguments is one of its subcommands too
 abbrev pub IsLocal : Command → Type 0
@@ -77,11 +87,27 @@ turn_in rows = do
   texts ← texts_in rows
   turn_of texts
 
+-- the workers and the places of their inboxes that the matches of `work` tell
+abbrev pub work_in : List Row → Option Asked
+work_in rows = do
+  workers_text ← first_of (codes "workers") rows
+  slots_text ← first_of (codes "slots") rows
+  workers ← number_at 0 4294967295 workers_text
+  slots ← number_at 1 4096 slots_text
+  Some (Work workers slots)
+
 -- what the words ask for that name this command, or none
 abbrev pub command_in : Option (Text × List Row) → Option Asked
 command_in None = Some Run
 command_in (Some named) =
-    if bytes_eq named.0 (codes "run") then Some Run else option_map Step (turn_in named.1)
+    if bytes_eq named.0 (codes "run") then Some Run
+    else if bytes_eq named.0 (codes "work") then work_in named.1
+    else option_map Step (turn_in named.1)
+
+-- inboxes that are asked for have 1 to 4,096 places
+abbrev pub IsInRange : Asked → Type 0
+IsInRange (Work workers slots) = (0 < slots) × (slots ≤ 4096)
+IsInRange command = Unit {0}
 
 -- what is asked for, where `clap` finds no fault
 abbrev pub unless_faulty : Kinds → Option Asked → Option Asked

@@ -1,10 +1,10 @@
-ghost use Rattle.std.specs.Prelude.{◌≡◌, IfOk, map};
+ghost use Rattle.std.specs.Prelude.{◌≡◌, IfOk, IfSome, map};
 ghost use Rattle.clap.specs.Words.{subcommand_rows_of};
-ghost use Rattle.commands.specs.Words.{asked, command_in, turn_asked};
+ghost use Rattle.commands.specs.Words.{IsInRange, asked, command_in, turn_asked};
 ghost use Rattle.commands.specs.Fault.{Answers, Asks, Explains};
 
 use crate::fault::{CommandFault, WordsFault};
-use crate::matched::turn;
+use crate::matched::{turn, work};
 use crate::words::program;
 use clap::error::ErrorKind;
 use clap::{ArgMatches, Error};
@@ -18,6 +18,14 @@ pub enum Command {
     Step(StepCommand),
     /// `run`, and no words at all: the network that the lines on standard input tell of.
     Run,
+    /// `work`: the network that the lines on standard input prepare, and its packets carried by
+    /// workers.
+    Work {
+        /// The number of workers.
+        workers: u32,
+        /// The places of each worker's inbox, 1 to 4,096.
+        slots: u32,
+    },
 }
 
 /// The fault of words that `clap` refuses.
@@ -35,13 +43,17 @@ fn explained(alloc: Global, error: &Error) -> WordsFault
 
 /// The command that the matches name, and [`Command::Run`] where they name none.
 fn named(alloc: Global, matches: &ArgMatches<'_>) -> Result<Option<Command>, AllocError>
-    ensures { IfOk result (λ o. o ≡ command_in (subcommand_rows_of matches.now)) }
+    ensures value { IfOk result (λ o. o ≡ command_in (subcommand_rows_of matches.now)) }
+    ensures range { IfOk result (λ o. IfSome o IsInRange) }
 {
     let Some((name, given)) = matches.subcommand() else {
         return Ok(Some(Command::Run));
     };
     if name == "run" {
         return Ok(Some(Command::Run));
+    }
+    if name == "work" {
+        return Ok(work(given));
     }
     let Some(command) = turn(alloc, given)? else {
         return Ok(None);
@@ -56,7 +68,8 @@ impl Command {
     /// where those of `step` describe no turn; [`WordsFault::Memory`] for want of memory.
     #[tactic(auto, unfolding(crate::specs::Words::asked))]
     pub fn parse<'a>(alloc: Global, words: &'a [&'a str]) -> Result<Command, WordsFault>
-        ensures { Asks result (asked (map (λ word. word.now) words.entry.now)) }
+        ensures asks { Asks result (asked (map (λ word. word.now) words.entry.now)) }
+        ensures range { IfOk result IsInRange }
     {
         let matches = match program(alloc)?.try_get_matches_from(words) {
             Ok(matches) => matches,
@@ -85,6 +98,8 @@ pub fn step_line<'a>(
 {
     match Command::parse(alloc, words)? {
         Command::Step(command) => Ok(command.line(alloc, packet.as_bytes())?),
-        Command::Run => Err(CommandFault::from(WordsFault::no_command(alloc))),
+        Command::Run | Command::Work { .. } => {
+            Err(CommandFault::from(WordsFault::no_command(alloc)))
+        }
     }
 }

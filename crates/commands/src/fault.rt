@@ -1,5 +1,5 @@
 ghost use Rattle.std.specs.Prelude.{◌≡◌};
-ghost use Rattle.commands.specs.Fault.{IsWordsFault, of_input, of_run, of_step, of_words, status_of, told_of};
+ghost use Rattle.commands.specs.Fault.{IsWordsFault, of_input, of_run, of_step, of_words, of_work, status_of, told_of};
 ghost use Rattle.commands.specs.declared.fault.CommandFault.TheVariants as command;
 ghost use Rattle.commands.specs.declared.fault.WordsFault.TheVariants as words;
 
@@ -11,6 +11,7 @@ use std::io::ErrorKind;
 use step_line::StepFault;
 use streams::{InputFault, WriteFailed};
 use thiserror::Error;
+use work_lines::WorkFault;
 
 /// Why words ask for no command.
 #[derive(Debug, Drop, Error)]
@@ -66,6 +67,12 @@ pub enum CommandFault {
     /// The first line of standard input is no topology.
     #[error("scionet: topology refused")]
     Topology,
+    /// There are not 1 to 8 workers.
+    #[error("scionet: workers refused")]
+    Workers,
+    /// A packet can't depart from its first AS.
+    #[error("scionet: no way out")]
+    NoWayOut,
     /// A read of standard input failed.
     #[error("scionet: read failed")]
     Read,
@@ -100,6 +107,8 @@ impl CommandFault {
             CommandFault::Usage(text) => text.as_str(),
             CommandFault::PacketText => "scionet: bad packet text\n",
             CommandFault::Topology => "scionet: topology refused\n",
+            CommandFault::Workers => "scionet: workers refused\n",
+            CommandFault::NoWayOut => "scionet: no way out\n",
             CommandFault::Read => "scionet: read failed\n",
             CommandFault::Write => "scionet: write failed\n",
             CommandFault::InputTooLong => "scionet: input too long\n",
@@ -152,6 +161,20 @@ impl From<RunFault> for CommandFault {
             RunFault::Write => CommandFault::Write,
             RunFault::Memory => CommandFault::Memory,
             RunFault::InputTooLong => CommandFault::InputTooLong,
+        }
+    }
+}
+
+impl From<WorkFault> for CommandFault {
+    ghost from_gives = { λ fault e. e ≡ of_work fault };
+
+    fn from(fault: WorkFault) -> CommandFault {
+        match fault {
+            WorkFault::Lines(fault) => CommandFault::from(fault),
+            WorkFault::Workers => CommandFault::Workers,
+            WorkFault::Memory => CommandFault::Memory,
+            WorkFault::NoWayOut => CommandFault::NoWayOut,
+            WorkFault::Write => CommandFault::Write,
         }
     }
 }

@@ -1,12 +1,13 @@
 //! What the matches of a command line describe.
 
-ghost use Rattle.std.specs.Prelude.{◌≡◌, IfOk, codes, map, option_map};
+ghost use Rattle.std.specs.Prelude.{◌≡◌, IfOk, IfSome, codes, map, option_map};
 ghost use Rattle.clap.specs.Words.{all_of, first_of, found_of, rows_of};
-ghost use Rattle.commands.specs.Words.{turn_in};
+ghost use Rattle.commands.specs.Words.{IsInRange, turn_in, work_in};
 
+use crate::command::Command;
 use clap::ArgMatches;
 use std::alloc::{AllocError, Global};
-use step_line::{StepCommand, Texts};
+use step_line::{StepCommand, Texts, number};
 
 /// The first text that was given for this option.
 #[tactic(auto, using(crate::proofs::Matches::first_of_rows))]
@@ -23,6 +24,18 @@ fn interfaces_of<'m, 'a>(matches: &'m ArgMatches<'a>) -> Option<&'m [&'a str]>
         ≡ all_of (codes "interface") (rows_of (found_of matches.entry.now)) }
 {
     matches.get_strs("interface")
+}
+
+/// The workers and the places of their inboxes that the matches of `work` tell.
+pub(crate) fn work(matches: &ArgMatches<'_>) -> Option<Command>
+    ensures value { result ≡ work_in (rows_of (found_of matches.now)) }
+    ensures range { IfSome result IsInRange }
+{
+    let workers = text_of(matches, "workers")?;
+    let slots = text_of(matches, "slots")?;
+    let workers = number(workers, 0, u64::from(u32::MAX))? as u32;
+    let slots = number(slots, 1, 4_096)? as u32;
+    Some(Command::Work { workers, slots })
 }
 
 /// The turn that the matches of `step` describe.

@@ -1,9 +1,9 @@
 //! A run of the program over any source and sinks.
 
-ghost use Rattle.std.specs.Prelude.{◌≡◌, IfErr, map};
+ghost use Rattle.std.specs.Prelude.{◌≡◌, ◌<◌, ◌≤◌, IfErr, map};
 ghost use Rattle.commands.specs.Words.{asked};
 ghost use Rattle.commands.specs.Fault.{status_of};
-ghost use Rattle.commands.specs.Run.{AnswersLines, Does, Ends, Steps, TellsOf, change_of};
+ghost use Rattle.commands.specs.Run.{AnswersLines, CarriesPackets, Does, Ends, Steps, TellsOf, change_of};
 ghost use Rattle.commands.specs.declared.status.Status.TheVariants.{Done, Refused};
 
 use crate::command::Command;
@@ -11,8 +11,11 @@ use crate::fault::CommandFault;
 use crate::status::Status;
 use event_lines::run_lines;
 use std::alloc::Global;
+use std::sync::Wait;
+use std::thread::Threads;
 use step_line::StepCommand;
 use streams::{Sink, Source, read_all, write_all};
+use work_lines::work_lines;
 
 /// The most bytes that standard input may give.
 const MAX_INPUT_LEN: u64 = 67_108_864;
@@ -47,6 +50,26 @@ fn run_network<S: Source, K: Sink>(
     Ok(())
 }
 
+/// The network that the source's lines prepare, with its packets carried by so many workers, whose
+/// inboxes have so many places.
+fn run_workers<R: Threads + Wait + Sync, S: Source, K: Sink>(
+    rt: &R,
+    alloc: Global,
+    workers: u32,
+    slots: u32,
+    source: &mut S,
+    sink: &mut K,
+) -> Result<(), CommandFault>
+    requires some { 0 < slots }
+    requires few { slots ≤ 4096 }
+    ensures { CarriesPackets result workers slots
+        (change_of S.left S.failed source.old source.new)
+        (change_of K.held K.failed sink.old sink.new) }
+{
+    work_lines(rt, alloc, source, sink, workers as usize, slots as usize)?;
+    Ok(())
+}
+
 /// Does what these words behind the program's name ask for: it reads the source to its end and
 /// writes the lines of the answer to the sink.
 ///
@@ -54,8 +77,10 @@ fn run_network<S: Source, K: Sink>(
 /// [`CommandFault::Read`] and [`CommandFault::Write`] exactly where a call of it failed the source
 /// or the sink; [`CommandFault::InputTooLong`] where byte 67,108,865 is read;
 /// [`CommandFault::PacketText`] as in [`StepCommand::line`]; [`CommandFault::Topology`] as in
-/// [`run_lines`], after its answer; [`CommandFault::Memory`] for want of memory.
-pub fn execute<'a, S: Source, K: Sink>(
+/// [`run_lines`], after its answer; [`CommandFault::Workers`] as in [`work_lines`], after all
+/// replies; [`CommandFault::Memory`] for want of memory.
+pub fn execute<'a, R: Threads + Wait + Sync, S: Source, K: Sink>(
+    rt: &R,
     alloc: Global,
     words: &'a [&'a str],
     source: &mut S,
@@ -70,6 +95,7 @@ pub fn execute<'a, S: Source, K: Sink>(
     match Command::parse(alloc, words)? {
         Command::Step(command) => run_step(alloc, &command, source, sink),
         Command::Run => run_network(alloc, source, sink),
+        Command::Work { workers, slots } => { run_workers(rt, alloc, workers, slots, source, sink) }
     }
 }
 
@@ -87,7 +113,8 @@ pub fn end<E: Sink>(fault: &CommandFault, errors: &mut E) -> Status
 ///
 /// [`Status::Refused`] where the words are refused or ask for help; [`Status::Failed`] after any
 /// other fault.
-pub fn run<'a, S: Source, K: Sink, E: Sink>(
+pub fn run<'a, R: Threads + Wait + Sync, S: Source, K: Sink, E: Sink>(
+    rt: &R,
     alloc: Global,
     words: &'a [&'a str],
     source: &mut S,
@@ -101,7 +128,7 @@ pub fn run<'a, S: Source, K: Sink, E: Sink>(
     ensures quiet { result ≡ Done → errors.new ≡ errors.old }
     ensures silent { result ≡ Refused → (source.new ≡ source.old) × (sink.new ≡ sink.old) }
 {
-    match execute(alloc, words, source, sink) {
+    match execute(rt, alloc, words, source, sink) {
         Ok(()) => Status::Done,
         Err(fault) => end(&fault, errors),
     }

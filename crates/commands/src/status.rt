@@ -6,8 +6,8 @@ ghost use Rattle.commands.specs.Fault.{code_of};
 pub enum Status {
     /// What the words ask for was done.
     Done,
-    /// The packet's text is none, the topology is refused, a stream failed or held too much, or
-    /// memory ran out.
+    /// The packet's text is none, the topology is refused, the workers are refused, a stream failed
+    /// or held too much, or memory ran out.
     Failed,
     /// The words are refused, or ask for help.
     Refused,

@@ -2,7 +2,7 @@
 
 ghost use Rattle.std.specs.Prelude.{◌≡◌, IfOk, false};
 ghost use Rattle.clap.specs.Words.{app_of, rule_of};
-ghost use Rattle.commands.specs.Words.{IsLocal, interface_rule, number_rule, option_rule, optional_rule, program_app, run_app, step_app};
+ghost use Rattle.commands.specs.Words.{IsLocal, interface_rule, number_rule, option_rule, optional_rule, program_app, range_rule, run_app, step_app, work_app};
 
 use clap::builder::ValueParser;
 use clap::{Arg, ArgAction, Command};
@@ -83,6 +83,41 @@ which is answered by
   link 2
   delivered";
 
+/// What stands at the end of the long help of `work`.
+static WORK_HELP: &str = "\
+Standard input has the lines of 'run' that prepare a network: all but 'turn', 'lose', 'alter', \
+'back' and 'show', which are answered by 'no 140 BadLine'. They are answered as 'run' answers \
+them. Then the packets that were sent are carried through the network, as it is then, at its \
+moment: each worker is a thread, and has an inbox with so many places. There are 1 to 8 workers.
+
+Behind the replies stands a line for each packet, in their order: 'flight N delivered TURNS', \
+'flight N refused CODE NAME', or 'flight N dropped', where it found its next inbox full; none is \
+dropped where an inbox has a place for each packet.
+
+Example: two packets from an AS to its parent, each delivered in two turns
+  printf '%s\\n' \\
+    '{\"ases\":[{\"ia\":\"1-ff00:0:110\",\"core\":true,\"exp\":63,\"key\":\"6b\",\"routers\":1},\
+{\"ia\":\"1-ff00:0:111\",\"core\":false,\"exp\":63,\"key\":\"6c\",\"routers\":1}],\
+\"links\":[{\"kind\":\"child\",\"a\":{\"ia\":\"1-ff00:0:110\",\"if\":1,\"router\":0},\
+\"b\":{\"ia\":\"1-ff00:0:111\",\"if\":2,\"router\":0}}]}' \\
+    '{\"do\":\"tick\",\"now\":1000}' \\
+    '{\"do\":\"originate\",\"ia\":\"1-ff00:0:110\",\"egress\":1,\"beta0\":4660}' \\
+    '{\"do\":\"terminate\",\"beacon\":0,\"ia\":\"1-ff00:0:111\"}' \\
+    '{\"do\":\"ask\",\"src\":\"1-ff00:0:111\",\"dst\":\"1-ff00:0:110\",\"limit\":1}' \\
+    '{\"do\":\"send\",\"ask\":0,\"path\":0,\"payload\":\"6869\"}' \\
+    '{\"do\":\"send\",\"ask\":0,\"path\":0,\"payload\":\"\"}' |
+  scionet work --workers 2 --slots 2
+which is answered by
+  topology ok
+  ok
+  beacon 0
+  segment new
+  ask 0 1; 1-ff00:0:111#0,2 1-ff00:0:110#1,0
+  packet 0
+  packet 1
+  flight 0 delivered 2
+  flight 1 delivered 2";
+
 /// An option that has a value and must be given.
 fn option<'a>(alloc: Global, name: &'a str, value: &'a str, help: &'a str) -> Arg<'a>
     ensures rule { rule_of result ≡ option_rule name.entry.now }
@@ -106,6 +141,24 @@ fn optional<'a>(alloc: Global, name: &'a str, value: &'a str, help: &'a str) -> 
         .help(help)
 }
 
+/// An option whose value is a number from `low` to `most`.
+fn range_option<'a>(
+    alloc: Global,
+    low: u32,
+    most: u32,
+    name: &'a str,
+    value: &'a str,
+    help: &'a str,
+) -> Arg<'a>
+    ensures rule { rule_of result ≡ range_rule low most name.entry.now }
+    ensures local { result.global ≡ false }
+{
+    option(alloc, name, value, help).value_parser(ValueParser::Signed(
+        i64::from(low),
+        i64::from(most),
+    ))
+}
+
 /// An option whose value is a number from 0 to `most`.
 fn number_option<'a>(
     alloc: Global,
@@ -117,7 +170,7 @@ fn number_option<'a>(
     ensures rule { rule_of result ≡ number_rule most name.entry.now }
     ensures local { result.global ≡ false }
 {
-    option(alloc, name, value, help).value_parser(ValueParser::Signed(0, i64::from(most)))
+    range_option(alloc, 0, most, name, value, help)
 }
 
 /// The interfaces of the AS.
@@ -201,6 +254,29 @@ fn run_command<'a>(alloc: Global) -> Command<'a>
         .after_long_help(RUN_HELP)
 }
 
+/// The command `work`.
+fn work_command<'a>(alloc: Global) -> Result<Command<'a>, AllocError>
+    ensures app { IfOk result (λ c. app_of c ≡ work_app) }
+    ensures local { IfOk result (λ c. IsLocal c) }
+{
+    let workers = number_option(
+        alloc,
+        u32::MAX,
+        "workers",
+        "N",
+        "The number of workers, 1 to 8; another is refused once the lines are answered",
+    );
+    let slots = range_option(
+        alloc,
+        1,
+        4_096,
+        "slots",
+        "K",
+        "The places of each worker's inbox, 1 to 4,096",
+    );
+    Command::new(alloc, "work").arg(workers)?.arg(slots)
+}
+
 /// The whole command line.
 pub(crate) fn program<'a>(alloc: Global) -> Result<Command<'a>, AllocError>
     ensures { IfOk result (λ c. app_of c ≡ program_app) }
@@ -208,6 +284,9 @@ pub(crate) fn program<'a>(alloc: Global) -> Result<Command<'a>, AllocError>
     let step = step_command(alloc)?
         .about("Takes one router's turn over the packet in hexadecimal on standard input")
         .after_long_help(STEP_HELP);
+    let work = work_command(alloc)?
+        .about("Runs a network, and then carries its packets on several threads")
+        .after_long_help(WORK_HELP);
     Command::new(alloc, "scionet")
         .bin_name("scionet")?
         .no_binary_name(true)
@@ -215,5 +294,6 @@ pub(crate) fn program<'a>(alloc: Global) -> Result<Command<'a>, AllocError>
         .about("A SCION network in one process")
         .after_long_help(PROGRAM_HELP)
         .subcommand(step)?
-        .subcommand(run_command(alloc))
+        .subcommand(run_command(alloc))?
+        .subcommand(work)
 }

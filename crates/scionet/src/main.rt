@@ -7,6 +7,8 @@
 use commands::{CommandFault, Status, WordsFault, end, run};
 use std::env;
 use std::process::ExitCode;
+use std::sync::Wait;
+use std::thread::Threads;
 use streams::{Reader, Writer};
 
 /// The words behind the program's name.
@@ -22,12 +24,17 @@ fn words_behind(rt: &HostRuntime) -> Result<Vec<String>, CommandFault> {
     Ok(words)
 }
 
-/// Runs the program's command with its words and its streams.
-fn run_command(rt: &HostRuntime) -> Result<Status, CommandFault> {
+/// Runs the program's command with its words and its streams, and with this leave to start threads
+/// and to wait for them.
+fn run_command<T: Threads + Wait + Sync>(
+    rt: &HostRuntime,
+    threads: &T,
+) -> Result<Status, CommandFault> {
     let alloc = rt.alloc();
     let given = words_behind(rt)?;
     let words: Vec<&str> = given.iter().map(|word| word.as_str()).collect(alloc)?;
     Ok(run(
+        threads,
         alloc,
         &words,
         &mut Reader::new(rt.stdin()),
@@ -37,7 +44,7 @@ fn run_command(rt: &HostRuntime) -> Result<Status, CommandFault> {
 }
 
 fn main(rt: HostRuntime) -> ExitCode {
-    let status = match run_command(&rt) {
+    let status = match run_command(&rt, &rt) {
         Ok(status) => status,
         Err(fault) => end(&fault, &mut Writer::new(rt.stderr())),
     };

@@ -17,9 +17,10 @@ fn is_all_digits(text: &str) -> bool
     text.as_bytes().iter().all(|b| (*b as char).is_digit(10))
 }
 
-/// The number from `low` to `high` that the text writes in decimal digits, without a sign.
+/// The number from `low` to `high` that the text writes in decimal digits, without a sign; `None`
+/// where it writes none.
 #[tactic(auto, unfolding(crate::specs::Fields::number_at))]
-pub(crate) fn number(text: &str, low: u64, high: u64) -> Option<u64>
+pub fn number(text: &str, low: u64, high: u64) -> Option<u64>
     ensures value { result ≡ number_at low high text.now }
     ensures low { IfSome result (λ n. low ≤ n) }
     ensures high { IfSome result (λ n. n ≤ high) }

@@ -12,4 +12,5 @@ mod texts;
 
 pub use command::StepCommand;
 pub use fault::StepFault;
+pub use fields::number;
 pub use texts::Texts;

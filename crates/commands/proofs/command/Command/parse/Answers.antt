@@ -6,25 +6,25 @@ use Rattle.clap.specs.Kinds.{HasKind}
 use Rattle.commands.proofs.Asked.{Asks-none, asked-named, asked-refused, is_program_free, is_program_simple}
 use Rattle.commands.proofs.command.Command.parse.Goals as goal
 
-pub returns-in-Err : goal.returns-in-Err
-returns-in-Err c =
+pub returns-in-Err-clause-asks : goal.returns-in-Err-clause-asks
+returns-in-Err-clause-asks c =
     let words : List Text = map (λ word. word.now) c.args.words.now in
     let app = c.in_ok-program.ensures in
     let has = subst (λ (a : App). HasKind (fault_of a words) c.in-Err.error) app (c.in-Err.ensures.kinds (ap is_simple_and_free app ∙ is_program_free)) in
     asked-refused words c.in-Err.error c.explained.result c.explained.ensures has
 
-pub returns-in-Some : goal.returns-in-Some
-returns-in-Some c =
+pub returns-in-Some-clause-asks : goal.returns-in-Some-clause-asks
+returns-in-Some-clause-asks c =
     let words : List Text = map (λ word. word.now) c.args.words.now in
     let app = c.in_ok-program.ensures in
     let none = ap (λ (a : App). fault_of a words) (sym app) ∙ c.in-Ok.ensures.kinds (ap is_simple_and_free app ∙ is_program_free) in
     let found = (c.in-Ok.ensures.matches (ap is_simple app ∙ is_program_simple)).1 ∙ ap (λ (a : App). subcommand_of a words) app in
-    asked-named words _ _ none found c.in_ok-command.ensures ∙ c.in-Some.is
+    asked-named words _ _ none found c.in_ok-command.ensures.value ∙ c.in-Some.is
 
-pub returns : goal.returns
-returns c =
+pub returns-clause-asks : goal.returns-clause-asks
+returns-clause-asks c =
     let words : List Text = map (λ word. word.now) c.args.words.now in
     let app = c.in_ok-program.ensures in
     let none = ap (λ (a : App). fault_of a words) (sym app) ∙ c.in-Ok.ensures.kinds (ap is_simple_and_free app ∙ is_program_free) in
     let found = (c.in-Ok.ensures.matches (ap is_simple app ∙ is_program_simple)).1 ∙ ap (λ (a : App). subcommand_of a words) app in
-    Asks-none c.no_command.result _ c.no_command.ensures (asked-named words _ _ none found c.in_ok-command.ensures ∙ c.in-None.is)
+    Asks-none c.no_command.result _ c.no_command.ensures (asked-named words _ _ none found c.in_ok-command.ensures.value ∙ c.in-None.is)

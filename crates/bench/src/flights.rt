@@ -1,0 +1,79 @@
+//! Flights over two core ASes and their children: eight hop fields, and ten turns each.
+
+ghost use Rattle.std.specs.Prelude.{◌≡◌, ◌<◌, ◌≤◌, All, IfOk};
+
+use anyhow::{Context, Result};
+use event_lines::{Hearing, listen};
+use network_core::{Net, Packet};
+use router_workers::{End, Flight, Open, run_workers};
+use std::alloc::Global;
+use std::sync::Wait;
+use std::thread::Threads;
+use streams::{Reader, Writer};
+use worked::pair;
+
+/// How many flights a run carries.
+const FLIGHTS: u32 = 1000;
+
+/// The lines behind the topology, up to a packet from one end to the other.
+static LINES: &str = r#"
+{"do":"tick","now":1000}
+{"do":"originate","ia":"1-ff00:0:110","egress":1,"beta0":1}
+{"do":"extend","beacon":0,"ia":"1-ff00:0:111","egress":2}
+{"do":"terminate","beacon":1,"ia":"1-ff00:0:112"}
+{"do":"originate","ia":"1-ff00:0:110","egress":2,"beta0":2}
+{"do":"terminate","beacon":2,"ia":"2-ff00:0:210"}
+{"do":"originate","ia":"2-ff00:0:210","egress":2,"beta0":3}
+{"do":"extend","beacon":3,"ia":"2-ff00:0:211","egress":2}
+{"do":"terminate","beacon":4,"ia":"2-ff00:0:212"}
+{"do":"ask","src":"1-ff00:0:112","dst":"2-ff00:0:212","limit":8}
+{"do":"send","ask":0,"path":0,"payload":""}
+"#;
+
+/// The network in which the packet was sent.
+fn network(alloc: Global) -> Result<Net> {
+    let text = format!(in alloc; "{}{LINES}", pair())?;
+    let mut source = Reader::new(text.as_bytes());
+    let mut sink = Writer::new(Vec::new(alloc));
+    Ok(listen(alloc, Hearing::Preparing, &mut source, &mut sink)?)
+}
+
+/// So many flights of a packet.
+fn flights_of<'n>(alloc: Global, net: &'n Net, packet: &'n Packet) -> Result<Vec<Flight<'n>>>
+    ensures { IfOk result (λ flights.
+        All (λ flight. flight.fabric ≡ net.now.network) flights.items) }
+{
+    let mut flights = Vec::new(alloc);
+    for _ in 0..FLIGHTS {
+        flights.push(Flight::new(alloc, net.topology(), packet.sent())?)?;
+    }
+    Ok(flights)
+}
+
+/// The turns that a flight had, if it was delivered.
+fn worth(end: End) -> u64 {
+    match end {
+        End::Delivered(turns) => u64::from(turns),
+        End::Refused(_, _) | End::Dropped(_) => 0,
+    }
+}
+
+/// Carries a thousand flights on so many workers, so many times, and sums their turns.
+pub(crate) fn flights<R: Threads + Wait + Sync>(
+    rt: &R,
+    alloc: Global,
+    workers: usize,
+    count: u32,
+) -> Result<u64> {
+    let net = network(alloc)?;
+    let packet = net.packet(0).context("the packet was not sent")?;
+    let mut sum = 0u64;
+    for _ in 0..count {
+        let flights = flights_of(alloc, &net, packet)?;
+        let ends = run_workers(rt, alloc, net.topology(), 1000, workers, 1024, &flights, &Open)?;
+        for end in ends {
+            sum = sum.wrapping_add(worth(end));
+        }
+    }
+    Ok(sum)
+}

@@ -1,0 +1,59 @@
+//! What is refused: lines, workers, topologies and words.
+
+use crate::program::{Row, answers_of, lines_of, row_asked, sent_twice, worked};
+use std::test::Fail;
+
+#[test]
+fn lines_that_do_not_prepare(rt: HostRuntime) -> Result<(), Fail> {
+    let (row, sent) = (row_asked(), sent_twice());
+    let unheard: [Row; 6] = [
+        (r#"{"do":"turn","packet":0}"#, "no 140 BadLine"),
+        (r#"{"do":"lose","packet":0}"#, "no 140 BadLine"),
+        (
+            r#"{"do":"alter","packet":0,"at":0,"xor":1}"#,
+            "no 140 BadLine",
+        ),
+        (r#"{"do":"back","packet":0,"payload":""}"#, "no 140 BadLine"),
+        (r#"{"do":"show","packet":0}"#, "no 140 BadLine"),
+        (r#"{"do":"turn","packet":9}"#, "no 140 BadLine"),
+    ];
+    let tables: [&[Row]; 3] = [&row, &sent, &unheard];
+    let lines = lines_of(rt.alloc(), &tables)?;
+    let wanted = answers_of(
+        rt.alloc(),
+        &tables,
+        &["flight 0 delivered 3", "flight 1 delivered 3"],
+    )?;
+    assert!(rt; worked(&rt, rt.alloc(), "2", "2", &lines).is(0, &wanted, ""));
+    Ok(())
+}
+
+#[test]
+fn numbers_of_workers(rt: HostRuntime) -> Result<(), Fail> {
+    let (row, sent) = (row_asked(), sent_twice());
+    let tables: [&[Row]; 2] = [&row, &sent];
+    let lines = lines_of(rt.alloc(), &tables)?;
+    let replies = answers_of(rt.alloc(), &tables, &[])?;
+    for workers in ["0", "9", "4294967295"] {
+        let ended = worked(&rt, rt.alloc(), workers, "1", &lines);
+        assert!(rt; ended.is(1, &replies, "scionet: workers refused\n"));
+    }
+    let bare = lines_of(rt.alloc(), &[&row])?;
+    let replies = answers_of(rt.alloc(), &[&row], &[])?;
+    let ended = worked(&rt, rt.alloc(), "9", "1", &bare);
+    assert!(rt; ended.is(1, &replies, "scionet: workers refused\n"));
+    Ok(())
+}
+
+#[test]
+fn topologies(rt: HostRuntime) -> Result<(), Fail> {
+    let ended = worked(&rt, rt.alloc(), "9", "1", "{}\n");
+    assert!(rt;
+        ended.is(
+            1,
+            "topology no 11 BadField\n",
+            "scionet: topology refused\n"
+        )
+    );
+    Ok(())
+}
