@@ -1,7 +1,10 @@
 use commands::{CommandFault, Status, WordsFault, end, run};
+use std::alloc::Global;
 use std::io;
 use std::io::{Read, Write};
+use std::sync::Wait;
 use std::test::Fail;
+use std::thread::Threads;
 use streams::{Reader, Writer};
 
 /// The words of a router's turn over a packet of a host, with this second.
@@ -104,11 +107,16 @@ impl Ended {
 }
 
 /// A run over this input.
-fn ran<'a, R: Read + Drop>(rt: &HostRuntime, words: &'a [&'a str], input: R) -> Ended {
-    let mut output = Writer::new(Vec::new(rt.alloc()));
-    let mut errors = Writer::new(Vec::new(rt.alloc()));
+fn ran<'a, T: Threads + Wait + Sync, R: Read + Drop>(
+    rt: &T,
+    alloc: Global,
+    words: &'a [&'a str],
+    input: R,
+) -> Ended {
+    let mut output = Writer::new(Vec::new(alloc));
+    let mut errors = Writer::new(Vec::new(alloc));
     let mut source = Reader::new(input);
-    let status = run(rt.alloc(), words, &mut source, &mut output, &mut errors);
+    let status = run(rt, alloc, words, &mut source, &mut output, &mut errors);
     Ended {
         status,
         output: output.into_inner(),
@@ -117,12 +125,13 @@ fn ran<'a, R: Read + Drop>(rt: &HostRuntime, words: &'a [&'a str], input: R) -> 
 }
 
 /// A run that writes to this stream.
-fn ran_into<W: Write + Drop>(rt: &HostRuntime, output: W) -> Ended {
+fn ran_into<T: Threads + Wait + Sync, W: Write + Drop>(rt: &T, alloc: Global, output: W) -> Ended {
     let mut sink = Writer::new(output);
-    let mut errors = Writer::new(Vec::new(rt.alloc()));
+    let mut errors = Writer::new(Vec::new(alloc));
     let mut source = Reader::new(late_packet());
     let status = run(
-        rt.alloc(),
+        rt,
+        alloc,
         &words("21701"),
         &mut source,
         &mut sink,
@@ -130,7 +139,7 @@ fn ran_into<W: Write + Drop>(rt: &HostRuntime, output: W) -> Ended {
     );
     Ended {
         status,
-        output: Vec::new(rt.alloc()),
+        output: Vec::new(alloc),
         errors: errors.into_inner(),
     }
 }
@@ -138,8 +147,12 @@ fn ran_into<W: Write + Drop>(rt: &HostRuntime, output: W) -> Ended {
 /// A line that is printed, with these words and with others.
 #[test]
 fn printed(rt: HostRuntime) -> Result<(), Fail> {
-    assert!(rt; ran(&rt, &words("21701"), late_packet()).is(0, "refused 93 Expired\n", ""));
-    assert!(rt; ran(&rt, &words("21700"), late_packet()).is(0, "refused 94 BadMac\n", ""));
+    assert!(rt;
+        ran(&rt, rt.alloc(), &words("21701"), late_packet()).is(0, "refused 93 Expired\n", "")
+    );
+    assert!(rt;
+        ran(&rt, rt.alloc(), &words("21700"), late_packet()).is(0, "refused 94 BadMac\n", "")
+    );
     Ok(())
 }
 
@@ -148,9 +161,9 @@ fn printed(rt: HostRuntime) -> Result<(), Fail> {
 fn network(rt: HostRuntime) -> Result<(), Fail> {
     let lines = br#"{"ases":[{"ia":"1-1","core":true,"exp":63,"key":"6b","routers":1}],"links":[]}
 {"do":"tick","now":1000}"#;
-    assert!(rt; ran(&rt, &["run"], lines.as_slice()).is(0, "topology ok\nok\n", ""));
-    assert!(rt; ran(&rt, &[], lines.as_slice()).is(0, "topology ok\nok\n", ""));
-    let refused = ran(&rt, &["run"], b"[]".as_slice());
+    assert!(rt; ran(&rt, rt.alloc(), &["run"], lines.as_slice()).is(0, "topology ok\nok\n", ""));
+    assert!(rt; ran(&rt, rt.alloc(), &[], lines.as_slice()).is(0, "topology ok\nok\n", ""));
+    let refused = ran(&rt, rt.alloc(), &["run"], b"[]".as_slice());
     assert!(rt;
         refused.is(
             1,
@@ -166,7 +179,9 @@ fn network(rt: HostRuntime) -> Result<(), Fail> {
 fn bad_text(rt: HostRuntime) -> Result<(), Fail> {
     let texts: [&[u8]; 4] = [b"0", b"zz", b"\xff\xfe", b"00\xc3\xa9"];
     for text in texts {
-        assert!(rt; ran(&rt, &words("21701"), text).is(1, "", "scionet: bad packet text\n"));
+        assert!(rt;
+            ran(&rt, rt.alloc(), &words("21701"), text).is(1, "", "scionet: bad packet text\n")
+        );
     }
     Ok(())
 }
@@ -174,19 +189,34 @@ fn bad_text(rt: HostRuntime) -> Result<(), Fail> {
 /// Words that are refused or ask for help, before any input is read.
 #[test]
 fn bad_words(rt: HostRuntime) -> Result<(), Fail> {
-    let no_number = ran(&rt, &words("soon"), Broken(io::ErrorKind::Other));
+    let no_number = ran(
+        &rt,
+        rt.alloc(),
+        &words("soon"),
+        Broken(io::ErrorKind::Other),
+    );
     assert!(rt; no_number.is_refused_with("invalid value 'soon' for '--now <T>'"));
-    let signed = ran(&rt, &words("+1"), Broken(io::ErrorKind::Other));
+    let signed = ran(&rt, rt.alloc(), &words("+1"), Broken(io::ErrorKind::Other));
     assert!(rt; signed.is(2, "", "scionet: usage\n"));
-    let help = ran(&rt, &["step", "--help"], Broken(io::ErrorKind::Other));
+    let help = ran(
+        &rt,
+        rt.alloc(),
+        &["step", "--help"],
+        Broken(io::ErrorKind::Other),
+    );
     assert!(rt; help.is_refused_with("Usage: scionet step [OPTIONS] --ia <IA> --router <N>"));
     assert!(rt; help.is_refused_with("--previous <HEX>"));
     assert!(rt; help.is_refused_with("in seconds since 1970"));
-    let help = ran(&rt, &["run", "--help"], Broken(io::ErrorKind::Other));
+    let help = ran(
+        &rt,
+        rt.alloc(),
+        &["run", "--help"],
+        Broken(io::ErrorKind::Other),
+    );
     assert!(rt; help.is_refused_with("Usage: scionet run"));
     assert!(rt; help.is_refused_with("ask src dst limit"));
     assert!(rt; help.is_refused_with("ask 0 1; 1-ff00:0:111#0,2 1-ff00:0:110#1,0"));
-    let help = ran(&rt, &["--help"], Broken(io::ErrorKind::Other));
+    let help = ran(&rt, rt.alloc(), &["--help"], Broken(io::ErrorKind::Other));
     assert!(rt; help.is_refused_with("'{\"do\":\"tick\",\"now\":1000}' | scionet"));
     Ok(())
 }
@@ -195,26 +225,46 @@ fn bad_words(rt: HostRuntime) -> Result<(), Fail> {
 #[test]
 fn bad_streams(rt: HostRuntime) -> Result<(), Fail> {
     let read_failed = "scionet: read failed\n";
-    let broken = ran(&rt, &words("21701"), Broken(io::ErrorKind::Other));
+    let broken = ran(
+        &rt,
+        rt.alloc(),
+        &words("21701"),
+        Broken(io::ErrorKind::Other),
+    );
     assert!(rt; broken.is(1, "", read_failed));
     let breaking = late_packet().chain(Broken(io::ErrorKind::Other));
-    assert!(rt; ran(&rt, &words("21701"), breaking).is(1, "", read_failed));
-    let no_memory = ran(&rt, &words("21701"), Broken(io::ErrorKind::OutOfMemory));
+    assert!(rt; ran(&rt, rt.alloc(), &words("21701"), breaking).is(1, "", read_failed));
+    let no_memory = ran(
+        &rt,
+        rt.alloc(),
+        &words("21701"),
+        Broken(io::ErrorKind::OutOfMemory),
+    );
     assert!(rt; no_memory.is(1, "", read_failed));
     let write_failed = "scionet: write failed\n";
-    assert!(rt; ran_into(&rt, Broken(io::ErrorKind::Other)).is(1, "", write_failed));
-    assert!(rt; ran_into(&rt, Full).is(1, "", write_failed));
+    assert!(rt; ran_into(&rt, rt.alloc(), Broken(io::ErrorKind::Other)).is(1, "", write_failed));
+    assert!(rt; ran_into(&rt, rt.alloc(), Full).is(1, "", write_failed));
     Ok(())
 }
 
 /// As much input as is taken, which is blank and so a packet of no bytes, and a byte more.
 #[test]
 fn long_input(rt: HostRuntime) -> Result<(), Fail> {
-    let longest = ran(&rt, &words("21701"), io::repeat(b' ').take(67_108_864));
+    let longest = ran(
+        &rt,
+        rt.alloc(),
+        &words("21701"),
+        io::repeat(b' ').take(67_108_864),
+    );
     assert!(rt; longest.is(0, "refused 90 BadHeader 20 Short\n", ""));
-    let too_long = ran(&rt, &words("21701"), io::repeat(b' ').take(67_108_865));
+    let too_long = ran(
+        &rt,
+        rt.alloc(),
+        &words("21701"),
+        io::repeat(b' ').take(67_108_865),
+    );
     assert!(rt; too_long.is(1, "", "scionet: input too long\n"));
-    let endless = ran(&rt, &words("21701"), io::repeat(b'0'));
+    let endless = ran(&rt, rt.alloc(), &words("21701"), io::repeat(b'0'));
     assert!(rt; endless.is(1, "", "scionet: input too long\n"));
     Ok(())
 }
@@ -226,7 +276,7 @@ fn tried_again(rt: HostRuntime) -> Result<(), Fail> {
         bytes: late_packet(),
         is_over: false,
     };
-    assert!(rt; ran(&rt, &words("21701"), input).is(0, "refused 93 Expired\n", ""));
+    assert!(rt; ran(&rt, rt.alloc(), &words("21701"), input).is(0, "refused 93 Expired\n", ""));
     Ok(())
 }
 
