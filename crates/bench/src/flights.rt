@@ -70,7 +70,16 @@ pub(crate) fn flights<R: Threads + Wait + Sync>(
     let mut sum = 0u64;
     for _ in 0..count {
         let flights = flights_of(alloc, &net, packet)?;
-        let ends = run_workers(rt, alloc, net.topology(), 1000, workers, 1024, &flights, &Open)?;
+        let ends = run_workers(
+            rt,
+            alloc,
+            net.topology(),
+            1000,
+            workers,
+            1024,
+            &flights,
+            &Open,
+        )?;
         for end in ends {
             sum = sum.wrapping_add(worth(end));
         }

@@ -7,6 +7,7 @@
 ghost use Rattle.std.specs.Prelude.{◌<◌};
 
 mod answers;
+mod flights;
 mod lines;
 mod network;
 mod stores;
@@ -17,6 +18,8 @@ use isd_as::{AsNumber, IfId, Isd, IsdAs};
 use scion_topology::Topology;
 use std::alloc::Global;
 use std::env;
+use std::sync::Wait;
+use std::thread::Threads;
 use turns::Flaw;
 
 /// The address of the AS of this number in the network that is measured.
@@ -76,9 +79,14 @@ fn views(alloc: Global, count: u32) -> Result<u64> {
 
 /// Does the work of this name so many times; lines are ten times as many, and segments that are
 /// made or registered ten thousand times. Answers are of up to so many paths, the first three of 32
-/// paths that there are and the others of 2048. Turns are at the first hop of 3, or of 64.
-fn work(alloc: Global, name: &str, count: u32) -> Result<u64> {
+/// paths that there are and the others of 2048. Turns are at the first hop of 3, or of 64. Flights
+/// are a thousand times as many, on so many workers.
+fn work<R: Threads + Wait + Sync>(rt: &R, alloc: Global, name: &str, count: u32) -> Result<u64> {
     match name {
+        "flights-1" => flights::flights(rt, alloc, 1, count),
+        "flights-2" => flights::flights(rt, alloc, 2, count),
+        "flights-4" => flights::flights(rt, alloc, 4, count),
+        "flights-8" => flights::flights(rt, alloc, 8, count),
         "read" => read(alloc, count),
         "far-ends" => far_ends(alloc, count),
         "views" => views(alloc, count),
@@ -110,7 +118,7 @@ fn main(rt: HostRuntime) -> Result<()> {
     let count = times
         .parse::<u32>()
         .context("reading how many times it is done")?;
-    let sum = work(alloc, name.as_str(), count)?;
+    let sum = work(&rt, alloc, name.as_str(), count)?;
     println!(rt; "{} {count} {sum}", name.as_str())?;
     Ok(())
 }
