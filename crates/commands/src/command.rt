@@ -65,7 +65,8 @@ impl Command {
     /// The command that the words behind the program's name ask for.
     ///
     /// [`WordsFault::Usage`] where `clap` refuses them or they ask for help, with its text, and
-    /// where those of `step` describe no turn; [`WordsFault::Memory`] for want of memory.
+    /// where those of `step` describe no turn or a number of `work` can't be read;
+    /// [`WordsFault::Memory`] for want of memory.
     #[tactic(auto, unfolding(crate::specs::Words::asked))]
     pub fn parse<'a>(alloc: Global, words: &'a [&'a str]) -> Result<Command, WordsFault>
         ensures asks { Asks result (asked (map (λ word. word.now) words.entry.now)) }

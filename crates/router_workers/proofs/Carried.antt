@@ -2,7 +2,8 @@
 use Rattle.std.proofs.Common.{◌≡◌, ℕ, suc, ◌+◌, List, sym, ap, ◌∙◌, subst, arith, inl, inr}
 use Rattle.std.proofs.lemmas.Bool.{cases_lt}
 use Rattle.forwarding.specs.Turn.{Packet, turned}
-use Rattle.router_workers.specs.Flight.{FlightValue, IsAtRouter, advanced}
+use Rattle.network_core.specs.Delivery.{IsAtRouter}
+use Rattle.router_workers.specs.Flight.{FlightValue, advanced}
 use Rattle.router_workers.specs.Run.{repeated, place_after, IsCarried}
 
 -- where the carried flight is

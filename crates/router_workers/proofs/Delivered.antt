@@ -15,8 +15,9 @@ use Rattle.forwarding.specs.Journey.{first_out, to_come, turns_for}
 use Rattle.forwarding.proofs.Sending.{starts}
 use Rattle.forwarding.proofs.Made.{sound_is_let_through}
 use Rattle.forwarding.proofs.Journeys.{stands_after, delivered_after}
-use Rattle.router_workers.specs.Flight.{Sending, IsFlight, IsAtRouter, put_with, departed, grounded}
-use Rattle.router_workers.specs.Delivery.{IsForwarded, IsRefusedAt, IsSoundIn}
+use Rattle.network_core.specs.Delivery.{IsRefusedAt, IsAtRouter}
+use Rattle.router_workers.specs.Flight.{Sending, IsFlight, put_with, departed, grounded}
+use Rattle.router_workers.specs.Delivery.{IsForwarded, IsSoundIn}
 
 -- ---- where a flight departs
 

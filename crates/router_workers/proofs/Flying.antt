@@ -15,7 +15,8 @@ use Rattle.forwarding.specs.Turn.{Packet, put_at, turn_under, turn_of, turned, a
 use Rattle.forwarding.proofs.Ended.{turn_by_view}
 use Rattle.forwarding.proofs.Reading.{length_fields}
 use Rattle.forwarding.proofs.Bounded.{fewer_before, stops_are_there, owners_are_there}
-use Rattle.router_workers.specs.Flight.{FlightValue, IsFlight, IsAtRouter, IsViewAt, advanced}
+use Rattle.network_core.specs.Delivery.{IsAtRouter}
+use Rattle.router_workers.specs.Flight.{FlightValue, IsFlight, IsViewAt, advanced}
 use Rattle.router_workers.proofs.Delivered.{departs}
 
 -- ---- while it is at a router it has had fewer than 128 turns

@@ -11,8 +11,9 @@ use Rattle.forwarding.specs.Turn.{Packet, turned, after}
 use Rattle.forwarding.specs.Journey.{turns_for}
 use Rattle.router_workers.specs.declared.end.End.{End}
 use Rattle.router_workers.specs.declared.end.End.TheVariants as ends
-use Rattle.router_workers.specs.Flight.{Sending, FlightValue, IsFlight, IsAtRouter, grounded}
-use Rattle.router_workers.specs.Delivery.{IsForwarded, IsRefusedAt, IsSoundIn, IsSoundEnd}
+use Rattle.network_core.specs.Delivery.{IsRefusedAt, IsAtRouter}
+use Rattle.router_workers.specs.Flight.{Sending, FlightValue, IsFlight, grounded}
+use Rattle.router_workers.specs.Delivery.{IsForwarded, IsSoundIn, IsSoundEnd}
 use Rattle.router_workers.specs.Run.{repeated, place_after, IsEnd, IsReport}
 use Rattle.router_workers.proofs.Delivered.{delivered}
 

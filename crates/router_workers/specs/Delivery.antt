@@ -1,20 +1,15 @@
 -- What becomes of a flight whose path the network lets through (draft-dekater-scion-dataplane).
-use Rattle.std.specs.Prelude.{◌≡◌, ◌↔◌, ℕ, ◌<◌, ◌≤◌, List, ◌++◌, All}
+use Rattle.std.specs.Prelude.{◌≡◌, ◌↔◌, ℕ, ◌<◌, ◌≤◌, List, ◌++◌}
 use Rattle.policy_expr.specs.declared.hop.WalkHop.{WalkHop}
 use Rattle.scion_topology.specs.Network.{Network}
 use Rattle.path_verifier.specs.Walk.{walk_of}
-use Rattle.forwarding.specs.declared.place.Place.{Place}
 use Rattle.forwarding.specs.declared.place.Place.TheVariants as places
 use Rattle.forwarding.specs.Turn.{Packet}
 use Rattle.forwarding.specs.Standing.{arrived_with}
-use Rattle.forwarding.specs.Sound.{IsSound}
-use Rattle.router_workers.specs.Flight.{Sending, IsAtRouter}
+use Rattle.network_core.specs.Delivery.{IsRefusedAt, IsAtRouter, AreSound}
+use Rattle.router_workers.specs.Flight.{Sending}
 use Rattle.router_workers.specs.declared.end.End.{End}
 use Rattle.router_workers.specs.declared.end.End.TheVariants as ends
-
-abbrev pub IsRefusedAt : Place → Type 0
-IsRefusedAt (places.Refused ia router refusal) = Unit {0}
-IsRefusedAt place = ⊥
 
 -- a packet of what was sent, with so many turns to its walk's end and so many had: no router has
 -- refused it; the hops that it has passed are the beginning of its walk; it is delivered exactly
@@ -32,7 +27,7 @@ pub record IsForwarded (sent : Sending) (total done : ℕ) (packet : Packet) : T
 -- each piece of its path is of a segment that the network has made under some keys, which are
 -- accepted, over links that are up
 abbrev pub IsSoundIn : Network → Sending → Type 0
-IsSoundIn n sent = All (λ piece. (keys : List (List ℕ)) × IsSound n keys piece) sent.pieces
+IsSoundIn n sent = AreSound n sent.pieces
 
 -- the end of a flight with so many turns to its walk's end, none of them had before: delivered after
 -- just so many, or dropped before; never refused

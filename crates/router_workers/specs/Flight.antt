@@ -63,11 +63,6 @@ advanced now flight = record flight {
   packet = turned flight.fabric now flight.packet;
 }
 
--- the packet is at a router
-abbrev pub IsAtRouter : Place → Type 0
-IsAtRouter (places.AtRouter stop) = Unit {0}
-IsAtRouter place = ⊥
-
 -- the view is that which the network has of the router at which a packet stands
 abbrev pub IsViewAt : Network → Place → View → Type 0
 IsViewAt n (places.AtRouter stop) view = view_in n stop.ia stop.router ≡ Ok view

@@ -5,7 +5,8 @@ use Rattle.router_step.specs.declared.fault.Refusal.{Refusal}
 use Rattle.forwarding.specs.declared.place.Place.{Place}
 use Rattle.forwarding.specs.declared.place.Place.TheVariants as places
 use Rattle.forwarding.specs.Turn.{Packet, turned}
-use Rattle.router_workers.specs.Flight.{FlightValue, IsAtRouter}
+use Rattle.network_core.specs.Delivery.{IsAtRouter}
+use Rattle.router_workers.specs.Flight.{FlightValue}
 use Rattle.router_workers.specs.declared.end.End.{End}
 use Rattle.router_workers.specs.declared.end.End.TheVariants.{Delivered, Refused, Dropped}
 

@@ -1,7 +1,8 @@
 ghost use Rattle.std.specs.Prelude.{◌≡◌, ◌≤◌, ◌<◌, None, IfOk, IfSome, length};
 ghost use Rattle.refusal.specs.Refusal.{Answers};
 ghost use Rattle.forwarding.specs.Turn.{IsAtNoRouter};
-ghost use Rattle.router_workers.specs.Flight.{FlightValue, departed, sending_of, grounded, advanced, IsAtRouter, IsViewAt, IsFlight};
+ghost use Rattle.network_core.specs.Delivery.{IsAtRouter};
+ghost use Rattle.router_workers.specs.Flight.{FlightValue, departed, sending_of, grounded, advanced, IsViewAt, IsFlight};
 
 use forwarding::{Place, Transit, frame};
 use isd_as::IsdAs;

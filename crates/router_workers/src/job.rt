@@ -1,7 +1,7 @@
 //! Jobs: flights that are under way in a run, and their ends.
 
 ghost use Rattle.std.specs.Prelude.{◌≡◌, ◌<◌, ◌≤◌, Some, IfOk, IfErr, length, slice_get};
-ghost use Rattle.router_workers.specs.Flight.{IsAtRouter};
+ghost use Rattle.network_core.specs.Delivery.{IsAtRouter};
 ghost use Rattle.router_workers.specs.Run.{IsEndOf};
 
 use crate::end::End;

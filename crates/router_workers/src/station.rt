@@ -2,7 +2,7 @@
 
 ghost use Rattle.std.specs.Prelude.{◌≡◌, ◌<◌, ◌%◌, ◌+◌, true, length, IfOk, IsOk};
 ghost use Rattle.scion_topology.specs.Topology.{info_in};
-ghost use Rattle.router_workers.specs.Flight.{IsAtRouter};
+ghost use Rattle.network_core.specs.Delivery.{IsAtRouter};
 ghost use Rattle.router_workers.specs.Posts.{IsNext};
 
 use crate::job::{Done, Job, Run};

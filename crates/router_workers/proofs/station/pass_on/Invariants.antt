@@ -1,4 +1,4 @@
-use Rattle.router_workers.specs.Flight.{IsAtRouter}
+use Rattle.network_core.specs.Delivery.{IsAtRouter}
 use Rattle.router_workers.proofs.station.pass_on.Given as goal
 
 abbrev pub invariant-loop : goal.invariant-loop

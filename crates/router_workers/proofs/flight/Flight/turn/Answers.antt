@@ -1,5 +1,6 @@
 use Rattle.std.proofs.Common.{sym, subst}
-use Rattle.router_workers.specs.Flight.{FlightValue, IsAtRouter}
+use Rattle.network_core.specs.Delivery.{IsAtRouter}
+use Rattle.router_workers.specs.Flight.{FlightValue}
 use Rattle.router_workers.proofs.Flying.{flies_with}
 use Rattle.router_workers.proofs.flight.Flight.turn.Goals as goal
 

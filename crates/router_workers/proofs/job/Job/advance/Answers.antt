@@ -1,5 +1,6 @@
 use Rattle.std.proofs.Common.{sym, subst, arith}
-use Rattle.router_workers.specs.Flight.{FlightValue, IsAtRouter}
+use Rattle.network_core.specs.Delivery.{IsAtRouter}
+use Rattle.router_workers.specs.Flight.{FlightValue}
 use Rattle.router_workers.proofs.Carried.{went_on}
 use Rattle.router_workers.proofs.job.Job.advance.Goals as goal
 
