@@ -1,26 +1,32 @@
-//! Named pieces of work over fixed inputs, each done a number of times: `bench NAME COUNT`.
+//! Named pieces of work, each done a number of times: `bench NAME COUNT`.
 //!
-//! It prints what it did, a count and a checksum, and never a time, so that it prints the same on
-//! every machine; take the time from outside.
+//! Works on a packet, a path or a sequence have it from standard input; the folder `inputs` has
+//! some. It prints what it did, a count and a checksum, and never a time, so that it prints the
+//! same on every machine; take the time from outside, or count instructions.
 #![tactic(auto)]
 
 ghost use Rattle.std.specs.Prelude.{◌<◌};
 
 mod answers;
+mod carried;
 mod flights;
+mod input;
 mod lines;
 mod network;
+mod packets;
+mod paths;
 mod stores;
-mod turns;
 
 use anyhow::{Context, Result, anyhow};
+use input::Input;
 use isd_as::{AsNumber, IfId, Isd, IsdAs};
+use packets::Flaw;
 use scion_topology::Topology;
 use std::alloc::Global;
 use std::env;
+use std::io;
 use std::sync::Wait;
 use std::thread::Threads;
-use turns::Flaw;
 
 /// The address of the AS of this number in the network that is measured.
 fn address(number: u32) -> IsdAs {
@@ -77,16 +83,35 @@ fn views(alloc: Global, count: u32) -> Result<u64> {
     Ok(sum)
 }
 
+/// Does a work on what standard input tells, so many times.
+fn work_on_input<R: io::Input>(rt: &R, alloc: Global, name: &str, count: u32) -> Result<u64> {
+    let input = Input::read(rt, alloc)?;
+    match name {
+        "decode" => packets::decodes(&input, count),
+        "step" => packets::ways(alloc, &input, 1, count),
+        "way" => packets::ways(alloc, &input, usize::MAX, count),
+        "bad-mac" => packets::flawed(alloc, &input, Flaw::Authenticator, count),
+        "bad" => packets::flawed(alloc, &input, Flaw::Cut, count),
+        "parse-seq" => paths::parses(alloc, &input, count),
+        "match" => paths::matches(alloc, &input, count),
+        "verify" => paths::verifies(&input, count),
+        _ => Err(anyhow!("there is no work of this name")),
+    }
+}
+
 /// Does the work of this name so many times; lines are ten times as many, and segments that are
 /// made or registered ten thousand times. Answers are of up to so many paths, the first three of 32
-/// paths that there are and the others of 2048. Turns are at the first hop of 3, or of 64. Flights
-/// are a thousand times as many, on so many workers.
-fn work<R: Threads + Wait + Sync>(rt: &R, alloc: Global, name: &str, count: u32) -> Result<u64> {
+/// paths that there are and the others of 2048. Packets are sent in a network over 64 hop fields,
+/// and carried there by 63 turns each. Flights are a thousand times as many, on so many workers.
+fn work<R: Threads + Wait + Sync + io::Input>(
+    rt: &R,
+    alloc: Global,
+    name: &str,
+    count: u32,
+) -> Result<u64> {
     match name {
-        "flights-1" => flights::flights(rt, alloc, 1, count),
-        "flights-2" => flights::flights(rt, alloc, 2, count),
-        "flights-4" => flights::flights(rt, alloc, 4, count),
-        "flights-8" => flights::flights(rt, alloc, 8, count),
+        "mac" => Ok(packets::macs(count)),
+        "mac-bytes" => Ok(packets::macs_of_keys(count)),
         "read" => read(alloc, count),
         "far-ends" => far_ends(alloc, count),
         "views" => views(alloc, count),
@@ -99,12 +124,15 @@ fn work<R: Threads + Wait + Sync>(rt: &R, alloc: Global, name: &str, count: u32)
         "make-segments" => stores::make(alloc, count),
         "register" => stores::register(alloc, count),
         "lookup" => stores::look_up(alloc, count),
+        "copy-found" => stores::copy(alloc, count),
         "lines" => lines::lines(alloc, count),
-        "turns" => turns::turns(alloc, [3, 0, 0], Flaw::None, count),
-        "turns-64" => turns::turns(alloc, [32, 32, 0], Flaw::None, count),
-        "turns-bad-mac" => turns::turns(alloc, [3, 0, 0], Flaw::Authenticator, count),
-        "turns-bad-header" => turns::turns(alloc, [3, 0, 0], Flaw::Cut, count),
-        _ => Err(anyhow!("there is no work of this name")),
+        "sent-64" => carried::carried(alloc, 0, count),
+        "carried-64" => carried::carried(alloc, network::SECOND_END, count),
+        "flights-1" => flights::flights(rt, alloc, 1, count),
+        "flights-2" => flights::flights(rt, alloc, 2, count),
+        "flights-4" => flights::flights(rt, alloc, 4, count),
+        "flights-8" => flights::flights(rt, alloc, 8, count),
+        _ => work_on_input(rt, alloc, name, count),
     }
 }
 

@@ -1,23 +1,32 @@
-//! A ring of core ASes, the largest network that a topology takes.
+//! The largest networks that a topology takes, of 1,024 ASes and 4,096 links: a ring of core ASes,
+//! and two lines of children of one AS beside a ring.
 
 ghost use Rattle.std.specs.Prelude.{◌<◌, ◌≤◌, ◌^◌};
 
 use std::alloc::{AllocError, Global};
 
-/// How many ASes it has, numbered from 1.
+/// How many ASes a network has, numbered from 1.
 pub(crate) const ASES: u32 = 1024;
 
 /// How many links it has, numbered from 0.
 pub(crate) const LINKS: u32 = 4096;
 
-/// The AS at the first end of a link.
+/// How many ASes each of the two lines has, the core AS 1 included.
+pub(crate) const LINE: u32 = 32;
+
+/// The last AS of the first line, that of the second, and the first AS of the ring beside them.
+pub(crate) const FIRST_END: u32 = LINE;
+pub(crate) const SECOND_END: u32 = 2 * LINE - 1;
+const RING: u32 = 2 * LINE;
+
+/// The AS at the first end of a link of the ring.
 pub(crate) fn from(link: u32) -> u32
     ensures { result ≤ 1024 }
 {
     link % ASES + 1
 }
 
-/// The AS at the second end of a link.
+/// The AS at the second end of a link of the ring.
 fn to(link: u32) -> u32 {
     from(link) % ASES + 1
 }
@@ -27,30 +36,73 @@ pub(crate) fn port(link: u32) -> u16 {
     (link % LINKS + 1) as u16
 }
 
-/// The network as JSON.
+/// The ring as JSON.
 pub(crate) fn text(alloc: Global) -> Result<String, AllocError> {
     let mut text = String::from_str(alloc, r#"{"ases":["#)?;
     for one in 1..=ASES {
-        let comma = if one == 1 { "" } else { "," };
-        let row = format!(in alloc;
-            r#"{comma}{{"ia":"1-{one}","core":true,"exp":63,"key":"6b","routers":1}}"#
-        )?;
-        text.push_str(row.as_str())?;
+        push_as(alloc, &mut text, one, "true")?;
     }
     text.push_str(r#"],"links":["#)?;
     for link in 0..LINKS {
-        let comma = if link == 0 { "" } else { "," };
-        let a = end(alloc, from(link), u32::from(port(link)))?;
-        let b = end(alloc, to(link), 10_000 + link)?;
-        let row = format!(in alloc;
-            r#"{comma}{{"kind":"core","a":{},"b":{}}}"#,
-            a.as_str(),
-            b.as_str()
-        )?;
-        text.push_str(row.as_str())?;
+        push_link(alloc, &mut text, "core", link, from(link), to(link))?;
     }
     text.push_str("]}")?;
     Ok(text)
+}
+
+/// Two lines of children of AS 1, and a ring of the other ASes, as JSON. The links of the lines
+/// come first, each at the parent's interface of one number more than its own.
+pub(crate) fn lines(alloc: Global) -> Result<String, AllocError> {
+    let mut text = String::from_str(alloc, r#"{"ases":["#)?;
+    for one in 1..=ASES {
+        let core = if one == 1 || one >= RING {
+            "true"
+        } else {
+            "false"
+        };
+        push_as(alloc, &mut text, one, core)?;
+    }
+    text.push_str(r#"],"links":["#)?;
+    for link in 0..SECOND_END - 1 {
+        let child = link + 2;
+        let parent = if child == FIRST_END + 1 { 1 } else { child - 1 };
+        push_link(alloc, &mut text, "child", link, parent, child)?;
+    }
+    for link in SECOND_END - 1..LINKS {
+        let (one, other) = (link % (ASES - RING), (link + 1) % (ASES - RING));
+        push_link(alloc, &mut text, "core", link, RING + one, RING + other)?;
+    }
+    text.push_str("]}")?;
+    Ok(text)
+}
+
+/// Adds an AS, which is core or not.
+fn push_as(alloc: Global, text: &mut String, one: u32, core: &str) -> Result<(), AllocError> {
+    let comma = if one == 1 { "" } else { "," };
+    let row = format!(in alloc;
+        r#"{comma}{{"ia":"1-{one}","core":{core},"exp":63,"key":"6b","routers":1}}"#
+    )?;
+    text.push_str(row.as_str())
+}
+
+/// Adds a link of a kind, from one AS to another.
+fn push_link(
+    alloc: Global,
+    text: &mut String,
+    kind: &str,
+    link: u32,
+    from: u32,
+    to: u32,
+) -> Result<(), AllocError> {
+    let comma = if link == 0 { "" } else { "," };
+    let a = end(alloc, from, u32::from(port(link)))?;
+    let b = end(alloc, to, 10_000 + link % LINKS)?;
+    let row = format!(in alloc;
+        r#"{comma}{{"kind":"{kind}","a":{},"b":{}}}"#,
+        a.as_str(),
+        b.as_str()
+    )?;
+    text.push_str(row.as_str())
 }
 
 /// An end of a link as JSON.

@@ -3,7 +3,7 @@
 use anyhow::Result;
 use isd_as::{IfId, IsdAs};
 use path_segment::{Entry, SegKind, Segment};
-use path_server::PathStore;
+use path_server::{PathStore, SegmentSet};
 use std::alloc::Global;
 
 /// How many segments beside those that are looked up there are.
@@ -124,6 +124,13 @@ fn store(alloc: Global, src: IsdAs, dst: IsdAs) -> Result<PathStore> {
     Ok(store)
 }
 
+/// How many segments a look-up found.
+fn found(set: &SegmentSet) -> u64 {
+    (set.ups().len() as u64)
+        .wrapping_add(set.cores().len() as u64)
+        .wrapping_add(set.downs().len() as u64)
+}
+
 /// Looks 32 segments up, 32 between core ASes and 32 down up among the others, so many times, and
 /// counts what is found.
 pub(crate) fn look_up(alloc: Global, count: u32) -> Result<u64> {
@@ -132,10 +139,19 @@ pub(crate) fn look_up(alloc: Global, count: u32) -> Result<u64> {
     let mut sum = 0u64;
     for turn in 0..count {
         let set = store.segments_for(alloc, src, dst, NOW + turn % 2)?;
-        sum = sum
-            .wrapping_add(set.ups().len() as u64)
-            .wrapping_add(set.cores().len() as u64)
-            .wrapping_add(set.downs().len() as u64);
+        sum = sum.wrapping_add(found(&set));
+    }
+    Ok(sum)
+}
+
+/// Copies what such a look-up finds so many times, and counts what is copied. A look-up hands out
+/// copies, so this is the part of its work that is no search.
+pub(crate) fn copy(alloc: Global, count: u32) -> Result<u64> {
+    let (src, dst) = (address(1, 5000), address(2, 5000));
+    let set = store(alloc, src, dst)?.segments_for(alloc, src, dst, NOW)?;
+    let mut sum = 0u64;
+    for _ in 0..count {
+        sum = sum.wrapping_add(found(&set.try_clone(alloc)?));
     }
     Ok(sum)
 }

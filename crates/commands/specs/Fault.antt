@@ -18,7 +18,7 @@ use Rattle.commands.specs.declared.command.Command.{Command}
 use Rattle.commands.specs.declared.fault.WordsFault.{WordsFault}
 use Rattle.commands.specs.declared.fault.WordsFault.TheVariants as words
 use Rattle.commands.specs.declared.fault.CommandFault.{CommandFault}
-use Rattle.commands.specs.declared.fault.CommandFault.TheVariants.{Usage, PacketText, Topology, Workers, NoWayOut, Read, Write, InputTooLong, Memory}
+use Rattle.commands.specs.declared.fault.CommandFault.TheVariants.{Usage, PacketText, Topology, Workers, Read, Write, InputTooLong, Memory}
 use Rattle.commands.specs.declared.status.Status.{Status}
 use Rattle.commands.specs.declared.status.Status.TheVariants.{Done, Failed, Refused}
 
@@ -87,7 +87,6 @@ abbrev pub of_work : WorkFault → CommandFault
 of_work (work.Lines fault) = of_run fault
 of_work work.Workers = Workers
 of_work work.Memory = Memory
-of_work work.NoWayOut = NoWayOut
 of_work work.Write = Write
 
 -- what is told of a fault on standard error
@@ -96,7 +95,6 @@ told_of (Usage text) = string_bytes text
 told_of PacketText = codes "scionet: bad packet text\n"
 told_of Topology = codes "scionet: topology refused\n"
 told_of Workers = codes "scionet: workers refused\n"
-told_of NoWayOut = codes "scionet: no way out\n"
 told_of Memory = codes "scionet: out of memory\n"
 told_of Read = codes "scionet: read failed\n"
 told_of Write = codes "scionet: write failed\n"

@@ -70,9 +70,6 @@ pub enum CommandFault {
     /// There are not 1 to 8 workers.
     #[error("scionet: workers refused")]
     Workers,
-    /// A packet can't depart from its first AS.
-    #[error("scionet: no way out")]
-    NoWayOut,
     /// A read of standard input failed.
     #[error("scionet: read failed")]
     Read,
@@ -108,7 +105,6 @@ impl CommandFault {
             CommandFault::PacketText => "scionet: bad packet text\n",
             CommandFault::Topology => "scionet: topology refused\n",
             CommandFault::Workers => "scionet: workers refused\n",
-            CommandFault::NoWayOut => "scionet: no way out\n",
             CommandFault::Read => "scionet: read failed\n",
             CommandFault::Write => "scionet: write failed\n",
             CommandFault::InputTooLong => "scionet: input too long\n",
@@ -173,7 +169,6 @@ impl From<WorkFault> for CommandFault {
             WorkFault::Lines(fault) => CommandFault::from(fault),
             WorkFault::Workers => CommandFault::Workers,
             WorkFault::Memory => CommandFault::Memory,
-            WorkFault::NoWayOut => CommandFault::NoWayOut,
             WorkFault::Write => CommandFault::Write,
         }
     }

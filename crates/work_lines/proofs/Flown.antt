@@ -1,12 +1,12 @@
 -- The flights of the first packets of a network.
-use Rattle.std.proofs.Common.{◌≡◌, ℕ, zero, suc, ◌+◌, ◌<◌, List, [], ◌∷◌, ◌++◌, length, Some, Ok, All, refl, sym, ap, ◌∙◌, subst, arith, inl, inr, ◌⊎◌}
+use Rattle.std.proofs.Common.{◌≡◌, ℕ, zero, suc, ◌+◌, ◌<◌, List, [], ◌∷◌, ◌++◌, length, Some, All, refl, sym, ap, ◌∙◌, subst, arith, inl, inr, ◌⊎◌}
 use Rattle.std.specs.Prelude.{slice_get}
 use Rattle.std.proofs.lemmas.List.{length-append}
 use Rattle.std.proofs.lemmas.List.Elements.{All-push}
 use Rattle.std.proofs.lemmas.Option.{same_Some}
 use Rattle.scion_topology.specs.Network.{Network}
 use Rattle.network_core.specs.Value.{PacketValue}
-use Rattle.router_workers.specs.Flight.{FlightValue, departed, grounded, sending_of}
+use Rattle.router_workers.specs.Flight.{FlightValue}
 use Rattle.work_lines.specs.Report.{IsFlightOf}
 
 -- so many flights, of the first packets, over this network
@@ -38,15 +38,14 @@ none_flown n packets flights none = subst (AreFirst n packets 0) (sym none) (rec
 -- one more
 pub one_more : (n : Network) (packets : List PacketValue) (count : ℕ) (flights : List FlightValue) (one : PacketValue) (flight : FlightValue)
     → AreFirst n packets count flights → slice_get packets count ≡ Some one
-    → departed n (sending_of one.sent) ≡ Ok flight.packet → flight ≡ grounded n (sending_of one.sent) flight.packet
-    → AreFirst n packets (count + 1) (flights ++ flight ∷ [])
-one_more n packets count flights one flight first there departs is = record {
+    → IsFlightOf n one.sent flight → AreFirst n packets (count + 1) (flights ++ flight ∷ [])
+one_more n packets count flights one flight first there is = record {
   all = length-append flights (flight ∷ []) ∙ ap (λ k. k + 1) first.all;
   each = λ i other last at_packet at. elim (at_last flights flight i last at) [
     | inl inside ↦ first.each i other last at_packet inside.1
     | inr end ↦ (let same : one ≡ other = same_Some one other (sym there ∙ ap (slice_get packets) (sym (end.0 ∙ first.all)) ∙ at_packet) in
         subst (λ (p : PacketValue). IsFlightOf n p.sent last) same
-        (subst (λ (f : FlightValue). IsFlightOf n one.sent f) end.1 (departs, is)))
+        (subst (λ (f : FlightValue). IsFlightOf n one.sent f) end.1 is))
   ];
-  fabric = All-push (λ (f : FlightValue). f.fabric ≡ n) flights flight first.fabric (ap (λ (f : FlightValue). f.fabric) is);
+  fabric = All-push (λ (f : FlightValue). f.fabric ≡ n) flights flight first.fabric (ap (λ (f : FlightValue). f.fabric) is.1);
 }

@@ -1,2 +1,3 @@
+pub mod Departing
 pub mod Flown
 pub mod Worked

@@ -19,7 +19,5 @@ worked (Err faults.Workers) net workers slots before after held replied holds te
     absurd writes
 worked (Err faults.Memory) net workers slots before after held replied holds text prepares number reports writes =
     absurd writes
-worked (Err faults.NoWayOut) net workers slots before after held replied holds text prepares number reports writes =
-    absurd writes
 worked (Err (faults.Lines fault)) net workers slots before after held replied holds text prepares number reports writes =
     absurd writes

@@ -1,10 +1,7 @@
 -- A run of lines and of the flights that they prepare: what was read, and what was written.
 use Rattle.std.specs.Prelude.{◌<◌, ◌≤◌, ℕ, Bool, true, false, List, Option, Result, Ok, Err}
 use Rattle.std.specs.Io.KnownBytes.{Appends}
-use Rattle.refusal.specs.declared.fault.OrMemory.{OrMemory}
-use Rattle.refusal.specs.declared.fault.OrMemory.TheVariants as departure
 use Rattle.streams.specs.Streams.{AppendsFront}
-use Rattle.scion_topology.specs.declared.fault.TopologyFault.{TopologyFault}
 use Rattle.network_core.specs.Value.{NetValue}
 use Rattle.router_workers.specs.declared.fault.RunFault.{RunFault}
 use Rattle.router_workers.specs.declared.fault.RunFault.TheVariants as run
@@ -26,8 +23,8 @@ Prepares net before after held holds = Listens Preparing (Ok net) before after h
 
 -- a run of a source that had these bytes left before and has those after, into a sink that held
 -- these bytes before and holds those after. The lines prepared a network, and then: its flights
--- were reported; or there were no such workers; or memory ran out, or a packet could not depart; or
--- a beginning of the report was written. Or the lines were not answered to their end.
+-- were reported; or there were no such workers; or memory ran out; or a beginning of the report was
+-- written. Or the lines were not answered to their end.
 abbrev pub Works : Result (Unit {0}) WorkFault → ℕ → ℕ → Option (List ℕ) → Option (List ℕ)
     → Option (List ℕ) → Option (List ℕ) → Type 0
 Works (Ok done) workers slots before after held holds =
@@ -37,8 +34,6 @@ Works (Ok done) workers slots before after held holds =
 Works (Err faults.Workers) workers slots before after held holds = (net : NetValue)
     × (Prepares net before after held holds × ¬ (IsNumberOfWorkers workers))
 Works (Err faults.Memory) workers slots before after held holds =
-    (net : NetValue) × Prepares net before after held holds
-Works (Err faults.NoWayOut) workers slots before after held holds =
     (net : NetValue) × Prepares net before after held holds
 Works (Err faults.Write) workers slots before after held holds =
     (net : NetValue) × (replied : Option (List ℕ)) × (report : List ℕ)
@@ -64,16 +59,10 @@ abbrev pub of_run : RunFault → WorkFault
 of_run run.Workers = faults.Workers
 of_run run.Memory = faults.Memory
 
--- the fault of a flight that could not be made
-abbrev pub of_departure : OrMemory TopologyFault → WorkFault
-of_departure departure.Memory = faults.Memory
-of_departure (departure.Refused fault) = faults.NoWayOut
-
 -- flights could not be carried by so many workers
 abbrev pub Stops : ℕ → WorkFault → Type 0
 Stops workers faults.Workers = ¬ (IsNumberOfWorkers workers)
 Stops workers faults.Memory = Unit {0}
-Stops workers faults.NoWayOut = Unit {0}
 Stops workers fault = ⊥
 
 -- a report was written, or a beginning of it

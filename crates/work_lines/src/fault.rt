@@ -1,9 +1,7 @@
 ghost use Rattle.std.specs.Prelude.{◌≡◌};
 ghost use Rattle.work_lines.specs.declared.fault.WorkFault.TheVariants as faults;
-ghost use Rattle.work_lines.specs.Work.{of_departure, of_run};
+ghost use Rattle.work_lines.specs.Work.{of_run};
 
-use refusal::OrMemory;
-use scion_topology::TopologyFault;
 use std::alloc::AllocError;
 use thiserror::Error;
 
@@ -19,9 +17,6 @@ pub enum WorkFault {
     /// Memory for a flight, for the run or for the report ran out, after all lines were answered.
     #[error("out of memory")]
     Memory,
-    /// A packet can't depart: the network lacks its first AS, or the interface by which it leaves.
-    #[error("no way out")]
-    NoWayOut,
     /// The report was not written, or not all of it.
     #[error("write failed")]
     Write,
@@ -32,17 +27,6 @@ impl From<event_lines::RunFault> for WorkFault {
 
     fn from(fault: event_lines::RunFault) -> WorkFault {
         WorkFault::Lines(fault)
-    }
-}
-
-impl From<OrMemory<TopologyFault>> for WorkFault {
-    ghost from_gives = { λ fault e. e ≡ of_departure fault };
-
-    fn from(fault: OrMemory<TopologyFault>) -> WorkFault {
-        match fault {
-            OrMemory::Memory => WorkFault::Memory,
-            OrMemory::Refused(_) => WorkFault::NoWayOut,
-        }
     }
 }
 

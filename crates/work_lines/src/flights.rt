@@ -1,20 +1,19 @@
 //! The flights of a network's packets.
 
 ghost use Rattle.std.specs.Prelude.{◌≡◌, All, IfOk};
-ghost use Rattle.work_lines.specs.Report.{AreFlights};
+ghost use Rattle.network_core.specs.Delivery.{AllMayDepart, MayDepart};
+ghost use Rattle.work_lines.specs.Report.{AreFlights, IsFlightOf};
 
-use network_core::Net;
+use network_core::{Net, Sent};
 use refusal::OrMemory;
 use router_workers::Flight;
-use scion_topology::TopologyFault;
-use std::alloc::Global;
+use scion_topology::Topology;
+use std::alloc::{AllocError, Global};
 
-/// A flight for each packet of a network, in their order, over its topology as it is now. Refused
-/// as in [`Flight::new`].
-pub(crate) fn flights_of(
-    alloc: Global,
-    net: &Net,
-) -> Result<Vec<Flight<'_>>, OrMemory<TopologyFault>>
+/// A flight for each packet of a network, in their order, over its topology as it is now; or memory
+/// runs out.
+pub(crate) fn flights_of(alloc: Global, net: &Net) -> Result<Vec<Flight<'_>>, AllocError>
+    requires { AllMayDepart net.now }
     ensures flights { IfOk result (λ flights. AreFlights net.now flights.items) }
     ensures fabric { IfOk result (λ flights.
         All (λ flight. flight.fabric ≡ net.now.network) flights.items) }
@@ -22,7 +21,23 @@ pub(crate) fn flights_of(
     let packets = net.packets();
     let mut flights = Vec::with_capacity(alloc, packets.len())?;
     for packet in packets {
-        flights.push(Flight::new(alloc, net.topology(), packet.sent())?)?;
+        flights.push(flight_of(alloc, net.topology(), packet.sent())?)?;
     }
     Ok(flights)
+}
+
+/// The flight of what was sent, with no turn had; or memory runs out.
+fn flight_of<'a>(
+    alloc: Global,
+    topology: &'a Topology,
+    sent: &'a Sent,
+) -> Result<Flight<'a>, AllocError>
+    requires { MayDepart topology.now sent.now }
+    ensures { IfOk result (λ flight. IsFlightOf topology.now sent.now flight) }
+{
+    match Flight::new(alloc, topology, sent) {
+        Ok(flight) => Ok(flight),
+        Err(OrMemory::Memory) => Err(AllocError),
+        Err(OrMemory::Refused(_)) => unreachable!(),
+    }
 }

@@ -2,6 +2,7 @@
 
 ghost use Rattle.std.specs.Prelude.{◌≡◌, ◌<◌, ◌≤◌, ◌||◌, IfOk, IfErr};
 ghost use Rattle.std.specs.String.{string_bytes};
+ghost use Rattle.network_core.specs.Delivery.{AllMayDepart};
 ghost use Rattle.work_lines.specs.Report.{Reports};
 ghost use Rattle.work_lines.specs.Work.{IsNumberOfWorkers, Stops, Works, Writes, is_read_fault, is_unwritten, is_write_fault};
 
@@ -24,6 +25,7 @@ fn carry<R: Threads + Wait + Sync>(
     workers: usize,
     slots: usize,
 ) -> Result<String, WorkFault>
+    requires packets { AllMayDepart net.now }
     requires some { 0 < slots }
     requires few { slots ≤ 4096 }
     ensures report { IfOk result (λ text. Reports net.now slots (string_bytes text)) }

@@ -1,7 +1,15 @@
 use Rattle.std.proofs.Common.{subst, sym}
 use Rattle.work_lines.specs.Report.{Reports}
+use Rattle.event_lines.specs.declared.hearing.Hearing.TheVariants.{Preparing}
+use Rattle.work_lines.proofs.Departing.{listened_may}
 use Rattle.work_lines.proofs.Worked.{worked}
 use Rattle.work_lines.proofs.work.work_lines.Goals as goal
+
+pub carry-requires-clause-packets : goal.carry-requires-clause-packets
+carry-requires-clause-packets g c κs within =
+    listened_may Preparing c.in_ok-net.net
+    (g.S.Source.left c.args.source.now) (g.S.Source.left c.listen.new.source)
+    (g.K.Sink.held c.args.sink.now) (g.K.Sink.held c.listen.new.sink) c.in_ok-net.ensures.listens
 
 pub returns-clause-works : goal.returns-clause-works
 returns-clause-works g c =

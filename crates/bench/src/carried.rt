@@ -1,0 +1,113 @@
+//! Packets on a path of 64 hop fields, carried by the largest network: up a line of children to
+//! their core AS, and down another.
+
+use crate::network;
+use anyhow::Result;
+use event_lines::{Hearing, listen};
+use forwarding::TurnReply;
+use network_core::{Event, Net, Reply};
+use router_step::Outcome;
+use std::alloc::{AllocError, Global};
+use streams::{Reader, Writer};
+
+/// Adds the lines of a segment from AS 1 over its interface of this number, down the line of
+/// children whose numbers follow on it. So many beacons were made before.
+fn push_segment(
+    alloc: Global,
+    text: &mut String,
+    before: u32,
+    first: u32,
+) -> Result<(), AllocError> {
+    let begun = format!(in alloc;
+        "{{\"do\":\"originate\",\"ia\":\"1-1\",\"egress\":{first},\"beta0\":1}}\n"
+    )?;
+    text.push_str(begun.as_str())?;
+    for step in 0..network::LINE - 2 {
+        let beacon = before.wrapping_add(step);
+        let child = first.wrapping_add(step).wrapping_add(1);
+        let passed = format!(in alloc;
+            "{{\"do\":\"extend\",\"beacon\":{beacon},\"ia\":\"1-{child}\",\"egress\":{child}}}\n"
+        )?;
+        text.push_str(passed.as_str())?;
+    }
+    let ended = format!(in alloc;
+        "{{\"do\":\"terminate\",\"beacon\":{},\"ia\":\"1-{}\"}}\n",
+        before.wrapping_add(network::LINE - 2),
+        first.wrapping_add(network::LINE - 1)
+    )?;
+    text.push_str(ended.as_str())
+}
+
+/// The network, with the answer of one path from the end of the one line to that of the other.
+fn network(alloc: Global) -> Result<Net> {
+    let mut text = network::lines(alloc)?;
+    text.push_str("\n{\"do\":\"tick\",\"now\":1000}\n")?;
+    push_segment(alloc, &mut text, 0, 1)?;
+    push_segment(alloc, &mut text, network::LINE - 1, network::FIRST_END)?;
+    let asked = format!(in alloc;
+        "{{\"do\":\"ask\",\"src\":\"1-{}\",\"dst\":\"1-{}\",\"limit\":1}}\n",
+        network::FIRST_END,
+        network::SECOND_END
+    )?;
+    text.push_str(asked.as_str())?;
+    let mut source = Reader::new(text.as_bytes());
+    let mut sink = Writer::new(Vec::new(alloc));
+    Ok(listen(alloc, Hearing::Preparing, &mut source, &mut sink)?)
+}
+
+/// A packet is sent by the answer's path.
+fn sending<'x>() -> Option<Event<'x>> {
+    Some(Event::Send {
+        ask: 0,
+        path: 0,
+        payload: &[],
+    })
+}
+
+/// The router at which a packet stands makes one step.
+fn turning<'x>(packet: u32) -> Option<Event<'x>> {
+    Some(Event::Turn { packet })
+}
+
+/// Whether a packet was delivered.
+fn is_delivery(outcome: Outcome) -> bool {
+    outcome == Outcome::Deliver
+}
+
+/// What an event is answered counts for 1 where a packet is delivered.
+fn worth(alloc: Global, net: &mut Net, event: &Event<'_>) -> Result<u64> {
+    let reply = net.step(alloc, event)?;
+    if let Reply::Turned(TurnReply::Went(outcome)) = reply {
+        return Ok(u64::from(is_delivery(outcome)));
+    }
+    Ok(0)
+}
+
+/// Sends a packet.
+fn send(alloc: Global, net: &mut Net) -> Result<u64> {
+    match sending() {
+        Some(event) => worth(alloc, net, &event),
+        None => Ok(0),
+    }
+}
+
+/// One turn of a packet.
+fn turn(alloc: Global, net: &mut Net, packet: u32) -> Result<u64> {
+    match turning(packet) {
+        Some(event) => worth(alloc, net, &event),
+        None => Ok(0),
+    }
+}
+
+/// Sends so many packets, has each so many turns, and counts those that are delivered.
+pub(crate) fn carried(alloc: Global, turns: u32, count: u32) -> Result<u64> {
+    let mut net = network(alloc)?;
+    let mut sum = 0u64;
+    for packet in 0..count {
+        sum = sum.wrapping_add(send(alloc, &mut net)?);
+        for _ in 0..turns {
+            sum = sum.wrapping_add(turn(alloc, &mut net, packet)?);
+        }
+    }
+    Ok(sum)
+}

@@ -1,0 +1,130 @@
+//! Packets: authenticators, headers that are read, and turns of the routers on their way.
+
+use crate::input::Input;
+use anyhow::{Context, Result, bail};
+use hop_mac::{MacKey, hop_mac};
+use path_header::decode;
+use router_step::{Arrival, Outcome, step};
+use scion_topology::{RouterView, Topology};
+use std::alloc::Global;
+
+/// The key under which authenticators are made.
+const KEY: [u8; 16] = *b"0123456789abcdef";
+
+/// Where a path's accumulator has its second byte in a packet: behind the addresses, the meta field
+/// and three bytes more.
+const ACCUMULATOR: usize = 23;
+
+/// Where a packet over one segment has its first authenticator.
+const AUTHENTICATOR: usize = 34;
+
+/// What is wrong with a packet.
+#[derive(Clone, Copy)]
+pub(crate) enum Flaw {
+    /// Its first authenticator is another, on a path of one segment.
+    Authenticator,
+    /// It ends within the header.
+    Cut,
+}
+
+/// Makes so many authenticators under a key that stands, each from the one before.
+pub(crate) fn macs(count: u32) -> u64 {
+    let key = MacKey::new(&KEY);
+    let mut beta = 0u16;
+    let mut sum = 0u64;
+    for _ in 0..count {
+        let mac = key.hop_mac(beta, 1000, 63, 1, 2);
+        beta = u16::from_be_bytes([mac[0], mac[1]]);
+        sum = sum.wrapping_add(u64::from(mac[5]));
+    }
+    sum
+}
+
+/// The same, each under another key.
+pub(crate) fn macs_of_keys(count: u32) -> u64 {
+    let mut key = KEY;
+    let mut beta = 0u16;
+    let mut sum = 0u64;
+    for _ in 0..count {
+        let mac = hop_mac(&key, beta, 1000, 63, 1, 2);
+        beta = u16::from_be_bytes([mac[0], mac[1]]);
+        key[0] = mac[2];
+        sum = sum.wrapping_add(u64::from(mac[5]));
+    }
+    sum
+}
+
+/// Reads a packet's header so many times, with another accumulator each time.
+pub(crate) fn decodes(input: &Input, count: u32) -> Result<u64> {
+    let mut bytes = input.packet.clone()?;
+    let mut sum = 0u64;
+    for turn in 0..count {
+        if bytes.len() <= ACCUMULATOR {
+            bail!("the packet has no path");
+        }
+        bytes[ACCUMULATOR] = (turn % 256) as u8;
+        if let Ok((header, len)) = decode(&bytes[16..]) {
+            let last = header.hop_count() - 1;
+            sum = sum
+                .wrapping_add(len as u64)
+                .wrapping_add(u64::from(header.info(0).seg_id))
+                .wrapping_add(u64::from(header.hop(last).mac[5]));
+        }
+    }
+    Ok(sum)
+}
+
+/// What an answer counts for.
+fn worth<T: Drop>(answer: &Result<Outcome, T>) -> u64 {
+    match answer {
+        Ok(Outcome::ToLink(number)) => u64::from(number.number()),
+        Ok(Outcome::ToRouter(router)) => 100 + u64::from(*router),
+        Ok(Outcome::Deliver) => 1000,
+        Err(_) => 1_000_000,
+    }
+}
+
+/// Has a packet pass the first so many routers on its way, so many times, as it was at first each
+/// time, and sums what they answer.
+pub(crate) fn ways(alloc: Global, input: &Input, most: usize, count: u32) -> Result<u64> {
+    let topology = Topology::from_json(alloc, input.topology.as_bytes())?;
+    let mut views: Vec<(RouterView<'_>, Arrival)> = Vec::new(alloc);
+    for (ia, router, arrival) in input.stops.iter().take(most) {
+        views.push((topology.view(*ia, *router)?, *arrival))?;
+    }
+    let mut packet = input.packet.clone()?;
+    let mut sum = 0u64;
+    for _ in 0..count {
+        if packet.len() == input.packet.len() {
+            packet.copy_from_slice(&input.packet);
+        }
+        for (view, arrival) in views.iter() {
+            sum = sum.wrapping_add(worth(&step(view, input.now, *arrival, &mut packet)));
+        }
+    }
+    Ok(sum)
+}
+
+/// Has a packet with a flaw come to its first router so many times, with another accumulator each
+/// time, and counts what is refused.
+pub(crate) fn flawed(alloc: Global, input: &Input, flaw: Flaw, count: u32) -> Result<u64> {
+    let topology = Topology::from_json(alloc, input.topology.as_bytes())?;
+    let (ia, router, arrival) = input.stops.first().context("the packet has no way")?;
+    let view = topology.view(*ia, *router)?;
+    let mut packet = input.packet.clone()?;
+    match flaw {
+        Flaw::Authenticator if packet.len() > AUTHENTICATOR => packet[AUTHENTICATOR] ^= 1,
+        Flaw::Authenticator => {}
+        Flaw::Cut => packet.truncate(30),
+    }
+    let mut sum = 0u64;
+    for turn in 0..count {
+        if packet.len() > ACCUMULATOR {
+            packet[ACCUMULATOR] = (turn % 256) as u8;
+        }
+        if step(&view, input.now, *arrival, &mut packet).is_err() {
+            sum = sum.wrapping_add(1);
+        }
+    }
+    Ok(sum)
+}
