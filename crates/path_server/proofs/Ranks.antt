@@ -1,7 +1,9 @@
 -- What the order of an index says of the ends of its segments, and which part of it lies between
 -- two ends.
-use Rattle.std.proofs.Common.{◌≡◌, ℕ, zero, suc, ◌+◌, ◌^◌, ◌-◌, ◌<◌, ◌≤◌, ltb, Bool, true, false, not, List, [], ◌∷◌, length, get_or, take, drop, filter, All, subst, refl, ap, sym, ◌∙◌, arith}
+use Rattle.std.proofs.Common.{◌≡◌, ℕ, zero, suc, ◌+◌, ◌^◌, ◌-◌, ◌<◌, ◌≤◌, ltb, Bool, true, false, not, List, [], ◌∷◌, length, get_or, take, drop, filter, All, Some, subst, refl, ap, sym, ◌∙◌, arith}
 use Rattle.std.proofs.lemmas.Bool.{not-true, ltb-false, le-ltb}
+use Rattle.std.specs.Prelude.{slice_get}
+use Rattle.std.proofs.lemmas.Option.{same_Some}
 use Rattle.std.specs.List.{AllWithin, range_with_len}
 use Rattle.std.specs.List.Sorted.{IsNonDecreasingBy, IsPartitionedBy}
 use Rattle.std.proofs.lemmas.List.{map-id, get_or-drop}
@@ -22,6 +24,19 @@ no_higher_first segments index bound rises i j d upward within passes =
     let rise = rises i j d upward within in
     let low = ltb-false _ _ (not-true _ passes) in
     ap not (le-ltb bound _ (omega arith))
+
+-- where the ends at the first place are above a bound, all are
+pub all_above : (segments : List Chain) (index : List ℕ) (bound place : ℕ)
+    → slice_get index 0 ≡ Some place → IsNonDecreasingBy (rank_at segments) index
+    → bound < rank_at segments place
+    → AllWithin (λ other. bound < rank_at segments other) index 0 (length index)
+all_above segments [] bound place first rises above k d low high = absurd (omega (arith, high))
+all_above segments (one ∷ rest) bound place first rises above zero d low high =
+    subst (λ other. bound < rank_at segments other) (same_Some place one (sym first)) above
+all_above segments (one ∷ rest) bound place first rises above (suc k) d low high =
+    let start = subst (λ other. bound < rank_at segments other) (same_Some place one (sym first)) above in
+    let rise = rises 0 (suc k) d (omega arith) high in
+    omega arith
 
 nothing_passes : {X : Type 0} (p : X → Bool) (xs : List X) → AllWithin (λ x. p x ≡ false) xs 0 (length xs) → filter p xs ≡ []
 nothing_passes p [] fails = refl

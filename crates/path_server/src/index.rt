@@ -19,7 +19,7 @@ pub(crate) fn range<'a>(
     ensures { result.now ≡ filter (lies_between segments.now (number_of low) (number_of high)) index.now }
 {
     let (_, rest) = index.split_at(start_of(segments, index, low));
-    &rest[..end_of(segments, rest, high)]
+    &rest[..end_near(segments, rest, high)]
 }
 
 /// How many places have segments with ends below these.
@@ -40,6 +40,19 @@ pub(crate) fn end_of(segments: &[Segment], index: &[usize], ends: Ends) -> usize
     ensures rest { AllWithin (λ place. number_of ends < rank_at segments.now place) index.now result (length index.now) }
 {
     index.partition_point(|place| !is_above(segments, *place, ends))
+}
+
+/// The same, without a search where the first place is already above these ends.
+fn end_near(segments: &[Segment], index: &[usize], ends: Ends) -> usize
+    requires { IsNonDecreasingBy (order_at segments.now) index.now }
+    ensures within { result ≤ length index.now }
+    ensures below { AllWithin (λ place. rank_at segments.now place ≤ number_of ends) index.now 0 result }
+    ensures rest { AllWithin (λ place. number_of ends < rank_at segments.now place) index.now result (length index.now) }
+{
+    match index.first() {
+        Some(place) if is_above(segments, *place, ends) => 0,
+        _ => end_of(segments, index, ends),
+    }
 }
 
 /// Makes an index that has at least as many places that of these segments.

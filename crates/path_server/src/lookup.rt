@@ -55,13 +55,9 @@ pub(crate) fn ending_in(
     let last = ia.number();
     let low = Ends::new(SegKind::Intra, 0, last);
     let high = Ends::new(SegKind::Intra, u64::MAX, last);
-    let mut places = Vec::new(alloc);
-    add_live(
-        &mut places,
-        segments,
-        range(segments, index, low, high),
-        now,
-    )?;
+    let alike = range(segments, index, low, high);
+    let mut places = Vec::with_capacity(alloc, alike.len())?;
+    add_live(&mut places, segments, alike, now)?;
     put_in_order(&mut places);
     copied_at(alloc, segments, &places)
 }
@@ -74,7 +70,7 @@ pub(crate) fn reached(
 ) -> Result<Vec<u64>, AllocError>
     ensures { IfOk result (λ ases. (other : ℕ) → is_in ases.items other ≡ is_reached ia segments.now other) }
 {
-    let mut ases = Vec::new(alloc);
+    let mut ases = Vec::with_capacity(alloc, segments.len() + 1)?;
     ases.push(ia.number())?;
     for segment in segments {
         ases.push(segment.first_as().number())?;
