@@ -1,4 +1,5 @@
 pub mod Entries
+pub mod Doubled
 pub mod Ends
 pub mod Hops
 pub mod Headers

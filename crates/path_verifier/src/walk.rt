@@ -1,5 +1,5 @@
-ghost use Rattle.std.specs.Prelude.{◌≡◌, ◌==◌, ◌+◌, ◌<◌, ◌≤◌, [], ◌∷◌, ◌++◌, length, drop, slice_get, Some};
-ghost use Rattle.std.specs.List.{AllByRecursion, list_any};
+ghost use Rattle.std.specs.Prelude.{◌≡◌, ◌+◌, ◌<◌, ◌≤◌, [], ◌∷◌, ◌++◌, length, map, drop, slice_get, Some};
+ghost use Rattle.std.specs.List.{AllByRecursion};
 ghost use Rattle.path_verifier.specs.Piece.{HasRange};
 ghost use Rattle.path_verifier.specs.Held.{pieces_in};
 ghost use Rattle.path_verifier.specs.Walk.{hop_of, hops_of, entered_by, left_by, met, joined, walk_of};
@@ -8,6 +8,8 @@ ghost use Rattle.path_verifier.specs.Shape.{names_twice};
 
 use crate::piece::Piece;
 use crate::pieces::Held;
+use arrayvec::ArrayVec;
+use doubles::has_double;
 use isd_as::{IfId, IsdAs};
 use path_segment::Entry;
 use policy_expr::WalkHop;
@@ -190,22 +192,22 @@ impl Walk {
 }
 
 /// Whether an AS stands in two of these hops.
+#[tactic(auto, using(crate::proofs::Doubled::doubles_are_twice))]
 pub(crate) fn names_twice(hops: &[WalkHop]) -> bool
+    requires { length hops.now ≤ 64 }
     ensures { result ≡ names_twice hops.now }
 {
-    let mut rest = hops;
-    while let Some((hop, later)) = rest.split_first() {
-        if is_in(later, hop.ia) {
-            return true;
-        }
-        rest = later;
-    }
-    false
+    has_double(&mut numbers_of(hops))
 }
 
-/// Whether a hop is of this AS.
-fn is_in(hops: &[WalkHop], ia: IsdAs) -> bool
-    ensures { result ≡ list_any (λ other. other.ia == ia) hops.now }
+/// The numbers of the ASes of these hops.
+fn numbers_of(hops: &[WalkHop]) -> ArrayVec<u128, MAX_HOPS>
+    requires { length hops.now ≤ 64 }
+    ensures { result.items ≡ map (λ hop. hop.ia) hops.now }
 {
-    hops.iter().any(|hop| hop.ia == ia)
+    let mut numbers = ArrayVec::new();
+    for hop in hops {
+        numbers.push(u128::from(hop.ia.number()));
+    }
+    numbers
 }

@@ -13,3 +13,4 @@ pub mod Ends
 pub mod Numbered
 pub mod Shown
 pub mod Lasting
+pub mod Twice

@@ -5,6 +5,7 @@ pub mod Rules
 pub mod View
 pub mod Building
 pub mod Causes
+pub mod Doubled
 pub mod Reading
 pub mod Topology
 pub mod Ends

@@ -2,11 +2,13 @@ ghost use Rattle.std.specs.Prelude.{◌≡◌, IfSome};
 ghost use Rattle.std.specs.List.{list_any};
 ghost use Rattle.std.specs.Option.{option_copied};
 ghost use Rattle.scion_topology.specs.Network.{as_named, is_end, has_end};
-ghost use Rattle.scion_topology.specs.Causes.{cause_of, is_too_many, is_listed, lists_twice, has_unknown_end, lacks_router, has_no_router, is_core, is_ill_classed, is_ill_joined, stands, joins_twice};
+ghost use Rattle.scion_topology.specs.Causes.{cause_of, is_too_many, is_listed, has_unknown_end, lacks_router, has_no_router, is_core, is_ill_classed, is_ill_joined};
 
+use crate::doubled::{joins_twice, lists_twice};
 use crate::fault::TopologyFault;
 use crate::network::{AsEntry, End, Link, LinkClass};
 use isd_as::{IfId, IsdAs};
+use std::alloc::Global;
 
 /// The most ASes that a topology lists.
 const MAX_ASES: usize = 1024;
@@ -17,12 +19,12 @@ const MAX_LINKS: usize = 4096;
 /// Why the ASes and links are no network, where they are none: each cause is looked for everywhere
 /// before the next.
 #[tactic(auto, unfolding(crate::specs::Causes::cause_of))]
-pub(crate) fn first_cause(ases: &[AsEntry], links: &[Link]) -> Option<TopologyFault>
+pub(crate) fn first_cause(alloc: Global, ases: &[AsEntry], links: &[Link]) -> Option<TopologyFault>
     ensures { result ≡ cause_of ases.now links.now }
 {
     if is_too_many(ases, links) {
         Some(TopologyFault::TooMany)
-    } else if lists_twice(ases) {
+    } else if lists_twice(alloc, ases) {
         Some(TopologyFault::DuplicateAs)
     } else if is_any_end_unknown(ases, links) {
         Some(TopologyFault::UnknownAs)
@@ -30,7 +32,7 @@ pub(crate) fn first_cause(ases: &[AsEntry], links: &[Link]) -> Option<TopologyFa
         Some(TopologyFault::NoRouter)
     } else if is_any_ill_joined(ases, links) {
         Some(TopologyFault::BadKind)
-    } else if joins_twice(links) {
+    } else if joins_twice(alloc, links) {
         Some(TopologyFault::DuplicateIf)
     } else {
         None
@@ -44,25 +46,10 @@ fn is_too_many(ases: &[AsEntry], links: &[Link]) -> bool
 }
 
 /// Whether an AS of this address is listed.
-fn is_listed(ases: &[AsEntry], ia: IsdAs) -> bool
+pub(crate) fn is_listed(ases: &[AsEntry], ia: IsdAs) -> bool
     ensures { result ≡ is_listed ases.now ia }
 {
     ases.iter().any(|one| one.ia == ia)
-}
-
-/// Whether an AS is listed twice.
-#[tactic(auto, unfolding(crate::specs::Causes::lists_twice))]
-fn lists_twice(ases: &[AsEntry]) -> bool
-    ensures { result ≡ lists_twice ases.now }
-{
-    let mut rest = ases;
-    while let Some((one, others)) = rest.split_first() {
-        if is_listed(others, one.ia) {
-            return true;
-        }
-        rest = others;
-    }
-    false
 }
 
 fn has_unknown_end(ases: &[AsEntry], link: &Link) -> bool
@@ -153,26 +140,4 @@ pub(crate) fn has_end(link: &Link, ia: IsdAs, number: IfId) -> bool
     ensures { result ≡ has_end link.now ia number }
 {
     is_end(&link.a, ia, number) || is_end(&link.b, ia, number)
-}
-
-/// Whether a link of the list ends at the interface of this end.
-fn stands(links: &[Link], end: &End) -> bool
-    ensures { result ≡ stands links.now end.now }
-{
-    links.iter().any(|link| has_end(link, end.ia, end.number))
-}
-
-/// Whether an interface stands at the ends of two links.
-#[tactic(auto, unfolding(crate::specs::Causes::joins_twice))]
-fn joins_twice(links: &[Link]) -> bool
-    ensures { result ≡ joins_twice links.now }
-{
-    let mut rest = links;
-    while let Some((link, others)) = rest.split_first() {
-        if stands(others, &link.a) || stands(others, &link.b) {
-            return true;
-        }
-        rest = others;
-    }
-    false
 }

@@ -9,6 +9,7 @@
 mod asking;
 mod causes;
 mod changing;
+mod doubled;
 mod entry;
 mod fault;
 mod fields;

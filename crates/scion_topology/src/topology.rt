@@ -92,7 +92,7 @@ impl Topology {
         ensures refused { IfSome (cause_of ases.items links.items)
             (λ fault. result ≡ Err (OrMemory.Refused fault)) }
     {
-        if let Some(cause) = first_cause(&ases, &links) {
+        if let Some(cause) = first_cause(alloc, &ases, &links) {
             return Err(OrMemory::Refused(cause));
         }
         let indexes = indexes_of(alloc, &ases, &links)?;

@@ -1,0 +1,41 @@
+//! Numbers that stand twice in a list, found by putting it in order.
+#![tactic(auto)]
+
+ghost use Rattle.std.specs.Prelude.{◌≡◌};
+ghost use Rattle.std.specs.List.Sorted.{IsNonDecreasing};
+ghost use Rattle.doubles.specs.Doubles.{has_double, begins_with};
+
+/// Whether a number stands at two places of a list, which is put in order for it.
+///
+/// It takes no memory, and for n numbers some n log n comparisons.
+pub fn has_double(numbers: &mut [u128]) -> bool
+    ensures { result ≡ has_double numbers.old }
+{
+    numbers.sort_unstable();
+    has_neighbours(numbers)
+}
+
+/// The same of a list that is in order: whether two numbers beside each other are one.
+fn has_neighbours(numbers: &[u128]) -> bool
+    requires { IsNonDecreasing numbers.now }
+    ensures { result ≡ has_double numbers.now }
+{
+    let mut rest = numbers;
+    while let Some((number, later)) = rest.split_first() {
+        if begins_with(later, *number) {
+            return true;
+        }
+        rest = later;
+    }
+    false
+}
+
+/// Whether a list begins with this number.
+fn begins_with(numbers: &[u128], number: u128) -> bool
+    ensures { result ≡ begins_with numbers.now number }
+{
+    match numbers.first() {
+        Some(first) => *first == number,
+        None => false,
+    }
+}

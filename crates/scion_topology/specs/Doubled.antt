@@ -1,0 +1,18 @@
+-- Interfaces as numbers, by which those that stand twice are found (words of no public clause).
+use Rattle.std.specs.Prelude.{ℕ, ◌+◌, ◌*◌, ◌^◌, ◌<◌, ◌==◌, if◌then◌else◌, List, [], ◌∷◌}
+use Rattle.scion_topology.specs.declared.network.End.{End}
+use Rattle.scion_topology.specs.declared.network.Link.{Link}
+
+-- an interface as a number: that of its AS, and then its own
+abbrev pub number_of : End → ℕ
+number_of end = end.ia * 2 ^ 16 + end.number
+
+-- the numbers of the interfaces at the ends of a link, one where they are the same
+abbrev pub numbers_of : Link → List ℕ
+numbers_of link =
+    if number_of link.a == number_of link.b then number_of link.a ∷ []
+    else number_of link.a ∷ number_of link.b ∷ []
+
+-- the interfaces at a link's ends have numbers of 16 bits
+abbrev pub HasBits : Link → Type 0
+HasBits link = (link.a.number < 2 ^ 16) × (link.b.number < 2 ^ 16)
