@@ -13,6 +13,7 @@ use std::alloc::Global;
 use std::sync::Wait;
 use std::test::Fail;
 use std::thread;
+use std::thread::{Threads, join};
 
 /// The option of weight 0 without a list, and with this sequence.
 fn option(sequence: Option<&str>) -> OptionText<'_> {
@@ -70,6 +71,14 @@ fn up() -> [WalkHop; 2] {
 /// The walk of the one path down.
 fn down() -> [WalkHop; 2] {
     [hop(0x110, 0, 1), hop(0x111, 2, 0)]
+}
+
+/// Whether the answer is this, whether or not the cache served it.
+fn is_walk(answer: &Option<(Vec<WalkHop>, bool)>, walk: &[WalkHop]) -> bool {
+    match answer {
+        Some((hops, _)) => hops.as_slice() == walk,
+        None => false,
+    }
 }
 
 /// Whether the answer is this, from the cache or not.
@@ -137,6 +146,57 @@ fn a_cache_of_one_serves_neither_of_two(rt: HostRuntime) -> Result<(), Fail> {
     let rounds = in_turn(&rt, rt.alloc(), &mut board);
     board.close(&rt);
     assert_eq!(rt; rounds, Some([true, true, true]));
+    Ok(())
+}
+
+/// Asks until there is a path, and says whether each answer was right: none at first, and then the
+/// one path up, which stays.
+fn awaits<R: Wait>(rt: &R, alloc: Global, daemon: &Daemon, mut reader: BoardReader) -> bool {
+    let walk = up();
+    for _ in 0..1_000_000 {
+        let answer = asked(rt, alloc, daemon, &mut reader, (ia(0x111), ia(0x110)), 100);
+        let Some((hops, _)) = answer else {
+            return false;
+        };
+        if !hops.is_empty() {
+            let again = asked(rt, alloc, daemon, &mut reader, (ia(0x111), ia(0x110)), 100);
+            return hops.as_slice() == walk.as_slice() && is_walk(&again, walk.as_slice());
+        }
+        thread::yield_now();
+    }
+    false
+}
+
+/// Whether two threads, with a reader each, that ask one daemon get the path whose segment a third
+/// thread publishes.
+fn apart<R: Threads + Wait + Sync>(
+    rt: &R,
+    alloc: Global,
+    board: &mut BoardWriter,
+) -> Option<(bool, bool, bool)> {
+    let daemon = &Daemon::new(alloc, 4).ok()?;
+    let one = seated(board)?;
+    let two = seated(board)?;
+    let ((first, second), published) = join(
+        rt,
+        move || {
+            join(
+                rt,
+                move || awaits(rt, alloc, daemon, one),
+                move || awaits(rt, alloc, daemon, two),
+            )
+        },
+        || publishes(rt, alloc, board).is_some(),
+    );
+    Some((first, second, published))
+}
+
+#[test]
+fn two_threads_ask_one_daemon_while_a_third_publishes(rt: HostRuntime) -> Result<(), Fail> {
+    let mut board = new_board(&rt, rt.alloc(), 2)?;
+    let answered = apart(&rt, rt.alloc(), &mut board);
+    board.close(&rt);
+    assert_eq!(rt; answered, Some((true, true, true)));
     Ok(())
 }
 

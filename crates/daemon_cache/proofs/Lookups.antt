@@ -1,17 +1,17 @@
 -- What a look-up gives is live; and sets of the same segments have the same answers.
-use Rattle.std.proofs.Common.{◌≡◌, ◌≢◌, ◌<◌, ◌==◌, ◌&&◌, ℕ, nat_le, not, Bool, true, false, List, All, Contains, Result, Ok, Err, refl, sym, subst, arith}
+use Rattle.std.proofs.Common.{◌≡◌, ◌≢◌, ◌<◌, ◌==◌, ◌&&◌, ℕ, nat_le, not, Bool, true, false, List, Contains, Result, Ok, Err, refl, sym, subst, arith}
 use Rattle.std.proofs.lemmas.Bool.{and_parts}
 use Rattle.std.proofs.lemmas.Bool.Decides.{nat_tests}
 use Rattle.std.proofs.lemmas.List.Elements.{All-weaker, All-contains_itself}
 use Rattle.path_segment.specs.Chain.{Chain, AreLive}
-use Rattle.path_server.specs.Lookup.{Selection, segments_for, LeadsTo, LeadsBetween, IsReached}
+use Rattle.path_server.specs.Lookup.{Selection, segments_for}
 use Rattle.path_server.proofs.Plain.{ups_are_plain, downs_are_plain, cores_are_plain}
 use Rattle.refusal.specs.Refusal.{◌>>=◌, check}
 use Rattle.refusal.specs.declared.fault.OrMemory.TheVariants.{Refused}
 use Rattle.refusal.proofs.Steps.{bind_ok, check_ok}
 use Rattle.policy_expr.specs.declared.option_fault.OptionFault.{OptionFault}
 use Rattle.policy_expr.specs.Options.{WeighedRules, options_at}
-use Rattle.combinator.specs.Answer.{AnswersWith, AnswerValue}
+use Rattle.combinator.specs.Answer.{AnswerValue}
 use Rattle.combinator.specs.Lasting.{HaveSame, IsSameSet, AreAllLive}
 use Rattle.combinator.proofs.Moments.{options_too}
 use Rattle.daemon_cache.specs.Entry.{IsOwn}
@@ -34,18 +34,19 @@ same_lists : (segments others : List Chain) → segments ≡ others → HaveSame
 same_lists segments others same s = (subst (λ (l : List Chain). Contains l s) same, subst (λ (l : List Chain). Contains l s) (sym same))
 
 -- an entry's answer answers its request over each set of its segments, all of which are live
-pub served_answers : (request : RequestValue) (own set : Selection) (options : List WeighedRules) (answer : AnswerValue) → IsOwn request own options answer
+pub served_answers : (request : RequestValue) (own set : Selection) (answer : AnswerValue) → IsOwn request own answer
     → own.ups ≡ set.ups → own.cores ≡ set.cores → own.downs ≡ set.downs → AreAllLive set set.moment → IsAnswerTo request set answer
-served_answers request own set options answer is ups cores downs live =
+served_answers request own set answer is ups cores downs live =
     let same : IsSameSet own set = record {
       ups = same_lists own.ups set.ups ups;
       cores = same_lists own.cores set.cores cores;
       downs = same_lists own.downs set.downs downs;
     } in
+    let its = is.answers in
     record {
-      options = options;
-      read = is.read;
-      answers = options_too own set request.src request.dst same is.live live options request.limit answer.used answer.paths is.answers;
+      options = its.options;
+      read = its.read;
+      answers = options_too own set request.src request.dst same is.live live its.options request.limit answer.used answer.paths its.answers;
     }
 
 -- a lawful request wants a path

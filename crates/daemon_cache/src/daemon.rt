@@ -4,8 +4,6 @@ ghost use Rattle.std.specs.Prelude.{◌≡◌, ◌<◌, ◌≤◌, Ok, IfErr, If
 ghost use mathlib.Core.List.{IsPrefix};
 ghost use Rattle.path_server.specs.Store.{store_of};
 ghost use Rattle.path_server.specs.Lookup.{segments_for};
-ghost use Rattle.policy_expr.specs.Options.{options_at};
-ghost use Rattle.combinator.specs.Answer.{AnswersWith};
 ghost use Rattle.combinator.specs.Lasting.{AreAllLive};
 ghost use Rattle.daemon_cache.specs.Request.{GivesNoAnswer, IsAnswerTo, lawful_at, request_of};
 
@@ -20,7 +18,7 @@ use path_server::SegmentSet;
 use policy_expr::{OptionText, PolicyOption};
 use refusal::OrMemory;
 use segment_board::BoardReader;
-use std::alloc::{AllocError, Allocator, Global};
+use std::alloc::{AllocError, Global};
 use std::num::NonZeroUsize;
 use std::sync::{Mutex, Wait};
 
@@ -30,32 +28,12 @@ pub struct Daemon {
     cache: Mutex<LruCache<u64, Entry>>,
 }
 
-/// The options once more, with room of their own.
-fn copied<A: Allocator + Clone>(
-    alloc: Global,
-    options: &[PolicyOption<A>],
-) -> Result<Vec<PolicyOption<Global>>, AllocError>
-    ensures { IfOk result (λ own. own.items ≡ options.now) }
-{
-    let mut own = Vec::new(alloc);
-    for option in options {
-        own.push(option.clone_in(alloc)?)?;
-    }
-    Ok(own)
-}
-
-/// The answer to a lawful request over a set, and the options of its texts. They are read in an
-/// arena, which is given up.
+/// The answer to a lawful request over a set. The options of its texts are read in an arena, which is
+/// given up.
 #[tactic(auto, using(crate::proofs::Lookups::lawful_wants))]
-fn made(
-    alloc: Global,
-    set: &SegmentSet,
-    request: &Request<'_>,
-) -> Result<(PathList, Vec<PolicyOption<Global>>), AllocError>
+fn made(alloc: Global, set: &SegmentSet, request: &Request<'_>) -> Result<PathList, AllocError>
     requires { lawful_at request.now ≡ Ok tt }
-    ensures read { IfOk result (λ given. options_at request.now.texts ≡ Ok given.1.items) }
-    ensures answers { IfOk result (λ given. AnswersWith set.now request.now.src request.now.dst
-        given.1.items request.now.limit given.0.used given.0.paths) }
+    ensures { IfOk result (IsAnswerTo request.now set.now) }
 {
     let arena = Bump::new(alloc);
     let Ok(options) = PolicyOption::parse_all(&arena, request.options) else {
@@ -71,8 +49,7 @@ fn made(
     ) else {
         return Err(AllocError);
     };
-    let own = copied(alloc, &options)?;
-    Ok((paths, own))
+    Ok(paths)
 }
 
 impl Daemon {
@@ -131,8 +108,8 @@ impl Daemon {
             Some(Err(_)) => return Err(AllocError),
             None => {}
         }
-        let (paths, options) = made(alloc, &set, request)?;
-        if let Ok(entry) = Entry::of(alloc, set, request, options, &paths) {
+        let paths = made(alloc, &set, request)?;
+        if let Ok(entry) = Entry::of(alloc, set, request, &paths) {
             self.keep(rt, request.key(), entry);
         }
         Ok((paths, false))

@@ -1,8 +1,6 @@
 //! What the cache keeps of an answer.
 
-ghost use Rattle.std.specs.Prelude.{◌≡◌, Ok, IfOk, IfSome, IsTrue};
-ghost use Rattle.policy_expr.specs.Options.{options_at};
-ghost use Rattle.combinator.specs.Answer.{AnswersWith};
+ghost use Rattle.std.specs.Prelude.{◌≡◌, IfOk, IfSome, IsTrue};
 ghost use Rattle.combinator.specs.Lasting.{AreAllLive};
 ghost use Rattle.daemon_cache.specs.Request.{IsAnswerTo};
 
@@ -11,17 +9,16 @@ use crate::texts::KeptRequest;
 use combinator::PathList;
 use path_segment::Segment;
 use path_server::SegmentSet;
-use policy_expr::PolicyOption;
 use std::alloc::{AllocError, Global};
 use std::marker::Model;
 
-/// An answer, with the request, the segments and the options that it was made of. Its type keeps that
-/// it is one, at a second at which all these segments are live.
+/// An answer, with the request and the segments that it was made of. Its type keeps that it is one,
+/// at a second at which all these segments are live. It keeps no policy, so that threads may share
+/// it: what a policy keeps has no proof that it may cross to another thread.
 #[derive(Drop)]
 pub(crate) struct Entry {
     request: KeptRequest,
     set: SegmentSet,
-    options: Vec<PolicyOption<Global>>,
     paths: PathList,
 }
 
@@ -33,7 +30,7 @@ impl Model for Entry {
 
     ghost view = { λ e. e.paths };
 
-    ghost invariant = { λ e. IsOwn e.request e.set e.options.items e.paths };
+    ghost invariant = { λ e. IsOwn e.request e.set e.paths };
 }
 
 /// Whether these are the same segments, in the same order.
@@ -62,23 +59,19 @@ fn are_of_one(own: &SegmentSet, set: &SegmentSet) -> bool
 }
 
 impl Entry {
-    /// An entry of an answer to a request that was made of this set under these options.
+    /// An entry of an answer to a request that was made of this set.
     pub(crate) fn of(
         alloc: Global,
         set: SegmentSet,
         request: &Request<'_>,
-        options: Vec<PolicyOption<Global>>,
         paths: &PathList,
     ) -> Result<Entry, AllocError>
         requires live { AreAllLive set set.moment }
-        requires read { options_at request.now.texts ≡ Ok options.items }
-        requires answers { AnswersWith set request.now.src request.now.dst options.items
-            request.now.limit paths.now.used paths.now.paths }
+        requires answers { IsAnswerTo request.now set paths.now }
     {
         Ok(Entry {
             request: KeptRequest::of(alloc, request)?,
             set,
-            options,
             paths: paths.try_clone(alloc)?,
         })
     }

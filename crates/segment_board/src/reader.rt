@@ -1,6 +1,6 @@
 //! Readers of a board, which never wait.
 
-ghost use Rattle.std.specs.Prelude.{◌≡◌, IfOk, IfErr, IfSome};
+ghost use Rattle.std.specs.Prelude.{◌≡◌, ◌⊎◌, IfOk, IfErr, IfSome};
 ghost use mathlib.Core.List.{IsPrefix};
 ghost use Rattle.left_right.specs.Sides.{view as view_of};
 ghost use Rattle.path_server.specs.Store.{store_of};
@@ -79,6 +79,8 @@ impl BoardReader {
         ensures board { self.new.board ≡ self.old.board }
         ensures seen { IsPrefix self.old.seen self.new.seen }
         ensures told { IsPrefix told.seen self.new.seen }
+        // It makes nothing up: what is seen then is one of the two.
+        ensures either { (self.new.seen ≡ self.old.seen) ⊎ (self.new.seen ≡ told.seen) }
     {
         if !self.front.reaches(&told.front) {
             self.front = told.front;
