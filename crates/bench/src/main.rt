@@ -8,7 +8,9 @@
 ghost use Rattle.std.specs.Prelude.{◌<◌};
 
 mod answers;
+mod boards;
 mod carried;
+mod daemons;
 mod flights;
 mod input;
 mod lines;
@@ -18,6 +20,7 @@ mod paths;
 mod stores;
 
 use anyhow::{Context, Result, anyhow};
+use daemons::Asking;
 use input::Input;
 use isd_as::{AsNumber, IfId, Isd, IsdAs};
 use packets::Flaw;
@@ -103,6 +106,8 @@ fn work_on_input<R: io::Input>(rt: &R, alloc: Global, name: &str, count: u32) ->
 /// made or registered ten thousand times. Answers are of up to so many paths, the first three of 32
 /// paths that there are and the others of 2048. Packets are sent in a network over 64 hop fields,
 /// and carried there by 63 turns each. Flights are a thousand times as many, on so many workers.
+/// Look-ups on a board are as many by each of so many readers, and requests to a daemon by each of
+/// so many threads.
 fn work<R: Threads + Wait + Sync + io::Input>(
     rt: &R,
     alloc: Global,
@@ -132,6 +137,12 @@ fn work<R: Threads + Wait + Sync + io::Input>(
         "flights-2" => flights::flights(rt, alloc, 2, count),
         "flights-4" => flights::flights(rt, alloc, 4, count),
         "flights-8" => flights::flights(rt, alloc, 8, count),
+        "board-1" => boards::look_ups(rt, alloc, 1, count),
+        "board-8" => boards::look_ups(rt, alloc, 8, count),
+        "daemon-hits-1" => daemons::asks(rt, alloc, Asking::Same, 1, count),
+        "daemon-hits-4" => daemons::asks(rt, alloc, Asking::Same, 4, count),
+        "daemon-misses-1" => daemons::asks(rt, alloc, Asking::Different, 1, count),
+        "daemon-misses-4" => daemons::asks(rt, alloc, Asking::Different, 4, count),
         _ => work_on_input(rt, alloc, name, count),
     }
 }

@@ -13,10 +13,10 @@ const OTHERS: u32 = 10_000;
 const FOUND: u16 = 32;
 
 /// The second at which all is made.
-const NOW: u32 = 1000;
+pub(crate) const NOW: u32 = 1000;
 
 /// An AS of an ISD.
-fn address(isd: u16, number: u32) -> IsdAs {
+pub(crate) fn address(isd: u16, number: u32) -> IsdAs {
     IsdAs::from_number(u64::from(isd) << 48 | u64::from(number))
 }
 
@@ -26,7 +26,7 @@ fn port(ia: IsdAs) -> IfId {
 }
 
 /// A segment over three ASes.
-fn segment(
+pub(crate) fn segment(
     alloc: Global,
     kind: SegKind,
     timestamp: u32,

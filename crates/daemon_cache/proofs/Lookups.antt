@@ -14,7 +14,7 @@ use Rattle.policy_expr.specs.Options.{WeighedRules, options_at}
 use Rattle.combinator.specs.Answer.{AnswerValue}
 use Rattle.combinator.specs.Lasting.{HaveSame, IsSameSet, AreAllLive}
 use Rattle.combinator.proofs.Moments.{options_too}
-use Rattle.daemon_cache.specs.Entry.{IsOwn}
+use Rattle.daemon_cache.specs.Entry.{HasSegmentsOf, IsOwn}
 use Rattle.segment_board.specs.Board.{Known}
 use Rattle.daemon_cache.specs.declared.fault.AskFault.{AskFault}
 use Rattle.daemon_cache.specs.declared.fault.AskFault.TheVariants as fault
@@ -35,12 +35,12 @@ same_lists segments others same s = (subst (λ (l : List Chain). Contains l s) s
 
 -- an entry's answer answers its request over each set of its segments, all of which are live
 pub served_answers : (request : RequestValue) (own set : Selection) (answer : AnswerValue) → IsOwn request own answer
-    → own.ups ≡ set.ups → own.cores ≡ set.cores → own.downs ≡ set.downs → AreAllLive set set.moment → IsAnswerTo request set answer
-served_answers request own set answer is ups cores downs live =
+    → HasSegmentsOf own set → AreAllLive set set.moment → IsAnswerTo request set answer
+served_answers request own set answer is segments live =
     let same : IsSameSet own set = record {
-      ups = same_lists own.ups set.ups ups;
-      cores = same_lists own.cores set.cores cores;
-      downs = same_lists own.downs set.downs downs;
+      ups = same_lists own.ups set.ups segments.ups;
+      cores = same_lists own.cores set.cores segments.cores;
+      downs = same_lists own.downs set.downs segments.downs;
     } in
     let its = is.answers in
     record {

@@ -1,8 +1,9 @@
 //! What the cache keeps of an answer.
 
-ghost use Rattle.std.specs.Prelude.{◌≡◌, IfOk, IfSome, IsTrue};
+ghost use Rattle.std.specs.Prelude.{◌≡◌, ◌↔◌, IfOk, IfSome, IsSome, IsTrue};
 ghost use Rattle.combinator.specs.Lasting.{AreAllLive};
 ghost use Rattle.daemon_cache.specs.Request.{IsAnswerTo};
+ghost use Rattle.daemon_cache.specs.Entry.{HasSegmentsOf, IsFor};
 
 use crate::request::Request;
 use crate::texts::KeptRequest;
@@ -14,7 +15,8 @@ use std::marker::Model;
 
 /// An answer, with the request and the segments that it was made of. Its type keeps that it is one,
 /// at a second at which all these segments are live. It keeps no policy, so that threads may share
-/// it: what a policy keeps has no proof that it may cross to another thread.
+/// it: the check proves of no type here that reaches a policy's tree that it may cross to another
+/// thread.
 #[derive(Drop)]
 pub(crate) struct Entry {
     request: KeptRequest,
@@ -23,19 +25,18 @@ pub(crate) struct Entry {
 }
 
 impl Model for Entry {
-    ghost use Rattle.combinator.specs.Answer.{AnswerValue};
-    ghost use Rattle.daemon_cache.specs.Entry.{IsOwn};
+    ghost use Rattle.daemon_cache.specs.Entry.{Kept, IsOwn};
 
-    ghost Value = { AnswerValue };
+    ghost Value = { Kept };
 
-    ghost view = { λ e. e.paths };
+    ghost view = { λ e. record { request = e.request; set = e.set; answer = e.paths } };
 
     ghost invariant = { λ e. IsOwn e.request e.set e.paths };
 }
 
 /// Whether these are the same segments, in the same order.
 fn are_same(segments: &[Segment], others: &[Segment]) -> bool
-    ensures { IsTrue result → segments.now ≡ others.now }
+    ensures { IsTrue result ↔ (segments.now ≡ others.now) }
 {
     if segments.len() != others.len() {
         return false;
@@ -50,8 +51,7 @@ fn are_same(segments: &[Segment], others: &[Segment]) -> bool
 
 /// Whether these are sets of the same segments, each list in the same order.
 fn are_of_one(own: &SegmentSet, set: &SegmentSet) -> bool
-    ensures { IsTrue result → (own.now.ups ≡ set.now.ups) × (own.now.cores ≡ set.now.cores)
-        × (own.now.downs ≡ set.now.downs) }
+    ensures { IsTrue result ↔ HasSegmentsOf own.now set.now }
 {
     are_same(own.ups(), set.ups())
         && are_same(own.cores(), set.cores())
@@ -68,6 +68,8 @@ impl Entry {
     ) -> Result<Entry, AllocError>
         requires live { AreAllLive set set.moment }
         requires answers { IsAnswerTo request.now set paths.now }
+        ensures { IfOk result (λ entry.
+            entry ≡ record { request = request.now; set = set; answer = paths.now }) }
     {
         Ok(Entry {
             request: KeptRequest::of(alloc, request)?,
@@ -77,7 +79,7 @@ impl Entry {
     }
 
     /// The answer once more, where the request and the set are those that it was made of, whatever
-    /// the set's second.
+    /// the set's second; and nothing where they are not.
     pub(crate) fn served(
         &self,
         alloc: Global,
@@ -85,7 +87,9 @@ impl Entry {
         request: &Request<'_>,
     ) -> Option<Result<PathList, AllocError>>
         requires { AreAllLive set.now set.now.moment }
-        ensures { IfSome result (λ given. IfOk given (IsAnswerTo request.now set.now)) }
+        ensures own { IsSome result ↔ IsFor self.now request.now set.now }
+        ensures same { IfSome result (λ given. IfOk given (λ paths. paths ≡ self.now.answer)) }
+        ensures answers { IfSome result (λ given. IfOk given (IsAnswerTo request.now set.now)) }
     {
         if !self.request.is_of(request) || !are_of_one(&self.set, set) {
             return None;

@@ -1,4 +1,4 @@
-ghost use Rattle.std.specs.Prelude.{◌≡◌, map, IfOk, IsTrue};
+ghost use Rattle.std.specs.Prelude.{◌≡◌, ◌↔◌, map, IfOk, IsTrue};
 ghost use Rattle.std.specs.String.{string_bytes};
 
 use crate::request::Request;
@@ -51,7 +51,7 @@ impl KeptText {
 
     /// Whether these are the texts of an option.
     fn is_of(&self, text: &OptionText<'_>) -> bool
-        ensures { IsTrue result → self.now ≡ text.now }
+        ensures { IsTrue result ↔ (self.now ≡ text.now) }
     {
         let is_acl = match (&self.acl, text.text.acl) {
             (None, None) => true,
@@ -69,7 +69,7 @@ impl KeptText {
 
 /// Whether these are the same texts, in the same order.
 fn are_same(texts: &[String], others: &[String]) -> bool
-    ensures { IsTrue result → map string_bytes texts.now ≡ map string_bytes others.now }
+    ensures { IsTrue result ↔ (map string_bytes texts.now ≡ map string_bytes others.now) }
 {
     let mut rest = texts;
     let mut more = others;
@@ -99,7 +99,7 @@ fn kept_texts(alloc: Global, texts: &[OptionText<'_>]) -> Result<Vec<KeptText>, 
 
 /// Whether these are the texts of the options, in their order.
 fn are_texts_of(kept: &[KeptText], texts: &[OptionText<'_>]) -> bool
-    ensures { IsTrue result → kept.now ≡ texts.now }
+    ensures { IsTrue result ↔ (kept.now ≡ texts.now) }
 {
     if kept.len() != texts.len() {
         return false;
@@ -144,7 +144,7 @@ impl KeptRequest {
 
     /// Whether this is the request.
     pub(crate) fn is_of(&self, request: &Request<'_>) -> bool
-        ensures { IsTrue result → self.now ≡ request.now }
+        ensures { IsTrue result ↔ (self.now ≡ request.now) }
     {
         self.src == request.src
             && self.dst == request.dst

@@ -1,0 +1,192 @@
+//! A published board: six segments between two ASes, of which eight paths can be made, and look-ups
+//! of them while the board's writer publishes others.
+
+ghost use Rattle.std.specs.Prelude.{◌<◌, ◌≤◌};
+
+use crate::stores::{NOW, address, segment};
+use anyhow::{Context, Result};
+use isd_as::IsdAs;
+use path_segment::SegKind;
+use segment_board::{BoardReader, BoardWriter, new_board};
+use std::alloc::{AllocError, Global};
+use std::sync::Wait;
+use std::sync::atomic::{AtomicU64, AtomicUsize, Ordering};
+use std::thread;
+use std::thread::Threads;
+
+/// The second at which the segment that comes and goes is made.
+const BEFORE: u32 = NOW - 900;
+
+/// The second at which that segment has expired, and the six have not.
+const LATER: u32 = NOW + 21_000;
+
+/// How often a reader that could not enter asks again.
+pub(crate) const TRIES: u32 = 1000;
+
+/// The AS from which the segments lead.
+pub(crate) fn source() -> IsdAs {
+    address(1, 5000)
+}
+
+/// The AS to which they lead.
+pub(crate) fn destination() -> IsdAs {
+    address(2, 5000)
+}
+
+/// Where threads count what they did.
+#[derive(Drop)]
+pub(crate) struct Tally {
+    /// The sum of all that was found.
+    pub(crate) sum: AtomicU64,
+    /// How many threads have ended.
+    pub(crate) ended: AtomicUsize,
+}
+
+impl Tally {
+    /// Nothing is counted.
+    pub(crate) fn new() -> Tally {
+        Tally {
+            sum: AtomicU64::new(0),
+            ended: AtomicUsize::new(0),
+        }
+    }
+
+    /// Counts what a thread found, which ends.
+    pub(crate) fn end(&self, sum: u64) {
+        self.sum.fetch_add(sum, Ordering::SeqCst);
+        self.ended.fetch_add(1, Ordering::SeqCst);
+    }
+}
+
+/// Puts a segment with what is pending; or memory runs out.
+fn put(
+    alloc: Global,
+    board: &mut BoardWriter,
+    kind: SegKind,
+    timestamp: u32,
+    beta0: u16,
+    ases: [IsdAs; 3],
+) -> Result<()> {
+    let segment = segment(alloc, kind, timestamp, beta0, ases)?;
+    board.register(segment, NOW).ok().context("memory ran out")
+}
+
+/// Publishes two segments up, two between core ASes and two down, all over the same two core ASes.
+pub(crate) fn publish_six<R: Wait>(rt: &R, alloc: Global, board: &mut BoardWriter) -> Result<()> {
+    let (near, far) = (address(1, 1), address(2, 1));
+    for beta0 in 0..2 {
+        let number = u32::from(beta0);
+        let rows = [
+            (SegKind::Intra, [near, address(1, 1000 + number), source()]),
+            (SegKind::Core, [near, address(1, 2000 + number), far]),
+            (
+                SegKind::Intra,
+                [far, address(2, 3000 + number), destination()],
+            ),
+        ];
+        for (kind, ases) in rows {
+            put(alloc, board, kind, NOW, beta0, ases)?;
+        }
+    }
+    Ok(board.publish(rt)?)
+}
+
+/// Readers of the board.
+pub(crate) fn seated(
+    alloc: Global,
+    board: &mut BoardWriter,
+    readers: usize,
+) -> Result<Vec<BoardReader>> {
+    let mut seats = Vec::new(alloc);
+    for _ in 0..readers {
+        seats.push(board.reader()?)?;
+    }
+    Ok(seats)
+}
+
+/// Publishes a segment between other ASes, and then a sweep that takes it out again, until so many
+/// threads have ended.
+fn publish_others<R: Wait>(
+    rt: &R,
+    alloc: Global,
+    board: &mut BoardWriter,
+    tally: &Tally,
+    threads: usize,
+) -> Result<()> {
+    let ases = [address(3, 1), address(3, 2), address(3, 3)];
+    for _ in rt.forever() {
+        if tally.ended.load(Ordering::SeqCst) >= threads {
+            return Ok(());
+        }
+        put(alloc, board, SegKind::Intra, BEFORE, 0, ases)?;
+        board.publish(rt)?;
+        board.sweep(LATER)?;
+        board.publish(rt)?;
+        thread::yield_now();
+    }
+    Ok(())
+}
+
+/// How many segments a look-up finds; none where memory ran out.
+fn found(alloc: Global, reader: &mut BoardReader) -> u64 {
+    for _ in 0..TRIES {
+        if let Ok(set) = reader.lookup(alloc, source(), destination(), NOW) {
+            let count = set.ups().len() + set.cores().len() + set.downs().len();
+            return count as u64;
+        }
+        thread::yield_now();
+    }
+    0
+}
+
+/// Looks the segments up so many times, and counts what is found.
+fn look_up(alloc: Global, mut reader: BoardReader, tally: &Tally, count: u32) {
+    let mut sum = 0u64;
+    for _ in 0..count {
+        sum = sum.wrapping_add(found(alloc, &mut reader));
+    }
+    tally.end(sum);
+}
+
+/// Looks the segments up so many times by each of these readers, while the writer publishes others.
+fn looked_up<R: Threads + Wait + Sync>(
+    rt: &R,
+    alloc: Global,
+    board: &mut BoardWriter,
+    readers: usize,
+    count: u32,
+) -> Result<u64> {
+    publish_six(rt, alloc, board)?;
+    let seats = seated(alloc, board, readers)?;
+    let tally = Tally::new();
+    let shared = &tally;
+    thread::scope(thread::scope_env(), rt, move |scope| -> Result<()> {
+        for reader in seats {
+            if scope
+                .spawn(move || look_up(alloc, reader, shared, count))
+                .is_err()
+            {
+                return Err(AllocError.into());
+            }
+        }
+        publish_others(rt, alloc, board, shared, readers)
+    })?;
+    Ok(tally.sum.load(Ordering::SeqCst))
+}
+
+/// Looks six segments up so many times by each of so many readers of one board, while its writer
+/// publishes others, and counts what is found.
+pub(crate) fn look_ups<R: Threads + Wait + Sync>(
+    rt: &R,
+    alloc: Global,
+    readers: usize,
+    count: u32,
+) -> Result<u64>
+    requires some { 0 < readers }
+    requires few { readers ≤ 8 }
+{
+    let mut board = new_board(rt, alloc, readers)?;
+    let sum = looked_up(rt, alloc, &mut board, readers, count);
+    board.close(rt);
+    sum
+}

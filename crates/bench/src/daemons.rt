@@ -1,0 +1,143 @@
+//! A daemon that threads ask: for paths that its cache serves, or for paths that it has to make.
+
+ghost use Rattle.std.specs.Prelude.{◌<◌, ◌≤◌};
+
+use crate::boards::{TRIES, Tally, destination, publish_six, seated, source};
+use crate::stores::NOW;
+use anyhow::{Context, Result};
+use daemon_cache::Daemon;
+use policy_expr::{OptionText, PolicyText};
+use segment_board::{BoardReader, BoardWriter, new_board};
+use std::alloc::{AllocError, Global};
+use std::sync::Wait;
+use std::sync::atomic::Ordering;
+use std::thread;
+use std::thread::Threads;
+
+/// How many answers the cache has room for.
+const CAPACITY: usize = 64;
+
+/// Whether requests are all the same, or all different.
+#[derive(Clone, Copy, PartialEq, Eq)]
+pub(crate) enum Asking {
+    /// The cache serves them.
+    Same,
+    /// It serves none.
+    Different,
+}
+
+/// One thread's requests: from which weight on, and how many.
+#[derive(Clone, Copy)]
+struct Round {
+    asking: Asking,
+    first: u32,
+    count: u32,
+}
+
+/// Asks for the paths under an option of this weight: how many there are, and whether the cache
+/// served them.
+fn ask<R: Wait>(
+    rt: &R,
+    alloc: Global,
+    daemon: &Daemon,
+    reader: &mut BoardReader,
+    weight: u32,
+) -> Option<(u64, bool)> {
+    let text = PolicyText {
+        acl: None,
+        sequence: Some("0*"),
+    };
+    let options = [OptionText { text, weight }];
+    for _ in 0..TRIES {
+        let answer = daemon.ask(rt, alloc, reader, source(), destination(), &options, NOW, 8);
+        if let Ok((paths, is_served)) = answer {
+            return Some((paths.len() as u64, is_served));
+        }
+        thread::yield_now();
+    }
+    None
+}
+
+/// Asks so many times, and counts the paths of the answers that come from where they are to come
+/// from.
+fn ask_all<R: Wait>(
+    rt: &R,
+    alloc: Global,
+    daemon: &Daemon,
+    mut reader: BoardReader,
+    round: Round,
+    tally: &Tally,
+) {
+    let mut sum = 0u64;
+    for turn in 0..round.count {
+        let weight = match round.asking {
+            Asking::Same => 0,
+            Asking::Different => round.first.wrapping_add(turn),
+        };
+        if let Some((paths, is_served)) = ask(rt, alloc, daemon, &mut reader, weight) {
+            if is_served == (round.asking == Asking::Same) {
+                sum = sum.wrapping_add(paths);
+            }
+        }
+    }
+    tally.end(sum);
+}
+
+/// Asks so many times by each of the readers, once the cache has the answer to requests of weight 0.
+fn answered<R: Threads + Wait + Sync>(
+    rt: &R,
+    alloc: Global,
+    daemon: &Daemon,
+    board: &mut BoardWriter,
+    asking: Asking,
+    threads: usize,
+    count: u32,
+) -> Result<u64> {
+    publish_six(rt, alloc, board)?;
+    let mut own = board.reader()?;
+    ask(rt, alloc, daemon, &mut own, 0).context("the first request was not answered")?;
+    let seats = seated(alloc, board, threads)?;
+    let tally = Tally::new();
+    let shared = &tally;
+    thread::scope(
+        thread::scope_env(),
+        rt,
+        move |scope| -> Result<(), AllocError> {
+            let mut first = 1u32;
+            for reader in seats {
+                let round = Round {
+                    asking,
+                    first,
+                    count,
+                };
+                if scope
+                    .spawn(move || ask_all(rt, alloc, daemon, reader, round, shared))
+                    .is_err()
+                {
+                    return Err(AllocError);
+                }
+                first = first.wrapping_add(count);
+            }
+            Ok(())
+        },
+    )?;
+    Ok(tally.sum.load(Ordering::SeqCst))
+}
+
+/// Asks so many times by each of so many threads for eight paths, and counts those that the cache
+/// served, or those that it did not.
+pub(crate) fn asks<R: Threads + Wait + Sync>(
+    rt: &R,
+    alloc: Global,
+    asking: Asking,
+    threads: usize,
+    count: u32,
+) -> Result<u64>
+    requires { threads < 8 }
+{
+    let daemon = Daemon::new(alloc, CAPACITY)?;
+    let mut board = new_board(rt, alloc, threads + 1)?;
+    let sum = answered(rt, alloc, &daemon, &mut board, asking, threads, count);
+    board.close(rt);
+    sum
+}
