@@ -149,6 +149,30 @@ fn a_cache_of_one_serves_neither_of_two(rt: HostRuntime) -> Result<(), Fail> {
     Ok(())
 }
 
+/// Whether a cache with room for more serves both directions, once it was asked for each.
+fn both_served<R: Wait>(rt: &R, alloc: Global, board: &mut BoardWriter) -> Option<[bool; 3]> {
+    let daemon = Daemon::new(alloc, 4).ok()?;
+    let mut reader = seated(board)?;
+    publishes(rt, alloc, board)?;
+    reader.learn(board.tell());
+    let are_made = both(rt, alloc, &daemon, &mut reader);
+    let above = asked(rt, alloc, &daemon, &mut reader, (ia(0x111), ia(0x110)), 100);
+    let below = asked(rt, alloc, &daemon, &mut reader, (ia(0x110), ia(0x111)), 100);
+    let (ups, downs) = (up(), down());
+    let is_up = is(&above, ups.as_slice(), true);
+    let is_down = is(&below, downs.as_slice(), true);
+    Some([are_made, is_up, is_down])
+}
+
+#[test]
+fn a_cache_of_four_serves_both_of_two(rt: HostRuntime) -> Result<(), Fail> {
+    let mut board = new_board(&rt, rt.alloc(), 2)?;
+    let rounds = both_served(&rt, rt.alloc(), &mut board);
+    board.close(&rt);
+    assert_eq!(rt; rounds, Some([true, true, true]));
+    Ok(())
+}
+
 /// Asks until there is a path, and says whether each answer was right: none at first, and then the
 /// one path up, which stays.
 fn awaits<R: Wait>(rt: &R, alloc: Global, daemon: &Daemon, mut reader: BoardReader) -> bool {

@@ -20,12 +20,12 @@ use refusal::OrMemory;
 use segment_board::BoardReader;
 use std::alloc::{AllocError, Global};
 use std::num::NonZeroUsize;
-use std::sync::{Mutex, Wait};
+use std::sync::{Arc, Mutex, Wait};
 
 /// Answers requests for paths. Threads share it.
 #[derive(Drop)]
 pub struct Daemon {
-    cache: Mutex<LruCache<u64, Entry>>,
+    cache: Mutex<LruCache<u64, Arc<Entry>>>,
 }
 
 /// The answer to a lawful request over a set. The options of its texts are read in an arena, which is
@@ -66,7 +66,14 @@ impl Daemon {
         })
     }
 
-    /// The answer that the cache has for a request over a set.
+    /// The entry that the cache has at a number, shared with it.
+    fn entry<R: Wait>(&self, rt: &R, key: u64) -> Option<Arc<Entry>> {
+        let mut cache = self.cache.lock(rt);
+        Arc::try_clone(cache.get(&key)?).ok()
+    }
+
+    /// The answer that the cache has for a request over a set. It is copied once the lock is given
+    /// up.
     fn cached<R: Wait>(
         &self,
         rt: &R,
@@ -77,18 +84,21 @@ impl Daemon {
         requires { AreAllLive set.now set.now.moment }
         ensures { IfSome result (λ given. IfOk given (IsAnswerTo request.now set.now)) }
     {
-        let key = request.key();
-        let mut cache = self.cache.lock(rt);
-        match cache.get(&key) {
-            Some(entry) => entry.served(alloc, set, request),
-            None => None,
-        }
+        let entry = self.entry(rt, request.key())?;
+        entry.served(alloc, set, request)
     }
 
-    /// Keeps an answer, where there is memory for it; else the cache stays as it was.
-    fn keep<R: Wait>(&self, rt: &R, key: u64, entry: Entry) {
-        let mut cache = self.cache.lock(rt);
-        let _ = cache.put(key, entry);
+    /// Keeps an answer, where there is memory for it; else the cache stays as it was. What leaves
+    /// the cache is let go once the lock is given up.
+    fn keep<R: Wait>(&self, rt: &R, alloc: Global, key: u64, entry: Entry) {
+        let Ok(entry) = Arc::new(alloc, entry) else {
+            return;
+        };
+        let left = {
+            let mut cache = self.cache.lock(rt);
+            cache.push(key, entry)
+        };
+        drop(left);
     }
 
     /// The answer to a lawful request over a set, and whether an entry of the cache served it.
@@ -110,7 +120,7 @@ impl Daemon {
         }
         let paths = made(alloc, &set, request)?;
         if let Ok(entry) = Entry::of(alloc, set, request, &paths) {
-            self.keep(rt, request.key(), entry);
+            self.keep(rt, alloc, request.key(), entry);
         }
         Ok((paths, false))
     }
