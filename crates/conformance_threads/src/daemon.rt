@@ -4,6 +4,7 @@ ghost use Rattle.std.specs.Prelude.{◌≡◌};
 
 use crate::board::{publishes, seated, sweeps};
 use crate::segments::ia;
+use combinator::PathList;
 use daemon_cache::{AskFault, Daemon};
 use isd_as::{IfId, IsdAs};
 use policy_expr::{OptionText, PolicyText, WalkHop};
@@ -26,8 +27,17 @@ fn option(sequence: Option<&str>) -> OptionText<'_> {
     }
 }
 
-/// The hops of all paths that are answered, one path after the other, and whether the cache served
-/// them. A reader that could not enter asks again.
+/// The hops of all these paths, one path after the other.
+fn hops_of(alloc: Global, paths: &PathList) -> Option<Vec<WalkHop>> {
+    let mut hops = Vec::new(alloc);
+    for path in paths.paths() {
+        hops.extend_from_slice(path.walk()).ok()?;
+    }
+    Some(hops)
+}
+
+/// The hops of all paths that are answered, and whether the cache served them. A reader that could
+/// not enter asks again; where memory ran out, what was refused is done once more.
 fn asked<R: Wait>(
     rt: &R,
     alloc: Global,
@@ -43,10 +53,10 @@ fn asked<R: Wait>(
         if let Ok((paths, is_served)) = daemon.ask(
             rt, alloc, reader, ends.0, ends.1, &options, now, 4,
         ) {
-            let mut hops = Vec::new(alloc);
-            for path in paths.paths() {
-                hops.extend_from_slice(path.walk()).ok()?;
-            }
+            let hops = match hops_of(alloc, &paths) {
+                Some(hops) => hops,
+                None => hops_of(alloc, &paths)?,
+            };
             return Some((hops, is_served));
         }
         thread::yield_now();
