@@ -1,7 +1,5 @@
-use Rattle.std.proofs.Common.{◌≡◌, List, ◌++◌, length, sym, ap, ◌∙◌, subst, arith, length-append, ◌∷◌, []}
-use Rattle.std.proofs.lemmas.Bool.Decides.{nat_tests}
+use Rattle.std.proofs.Common.{◌≡◌, ◌++◌, length, sym, ap, ◌∙◌, arith, length-append, ◌∷◌, []}
 use mathlib.Core.List.{IsPrefix}
-use Rattle.path_server.specs.declared.op.StoreOp.{StoreOp}
 use Rattle.segment_board.specs.Desk.{awaited}
 use Rattle.segment_board.specs.History.{newest}
 use Rattle.segment_board.proofs.Growing.{adds_moves, rises_last, at_true}

@@ -1,4 +1,4 @@
-use Rattle.std.proofs.Common.{◌≡◌, List, length, ap, ◌∙◌, subst, sym}
+use Rattle.std.proofs.Common.{List, ap, subst}
 use mathlib.Core.List.{IsPrefix}
 use Rattle.path_server.specs.declared.op.StoreOp.{StoreOp}
 use Rattle.segment_board.proofs.Prefixes.{either_way}
