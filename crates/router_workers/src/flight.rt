@@ -133,16 +133,14 @@ impl<'a> Flight<'a> {
         flight
     }
 
-    /// The same under the view that the network has of the flight's place.
-    pub(crate) fn turn(self, now: u32) -> Flight<'a>
-        requires { IsAtRouter self.packet.place }
-        ensures { result ≡ advanced now self.entry }
+    /// The same where the flight stands, under the view that the network has of its place.
+    pub(crate) fn turn(&mut self, now: u32)
+        requires { IsAtRouter self.old.packet.place }
+        ensures { self.new ≡ advanced now self.old }
     {
-        let mut flight = self;
-        let fabric = flight.fabric;
-        flight.transit.turn(fabric, now);
-        flight.turns += 1;
-        flight
+        let fabric = self.fabric;
+        self.transit.turn(fabric, now);
+        self.turns += 1;
     }
 
     /// The view that its network has of the router at which it stands; none where it is at none.

@@ -36,11 +36,14 @@ impl Run for Brand {
 /// A flight that is under way in a run: its number among those that were given, its turns in the
 /// run so far, and a copy of it that has had them. Its type keeps that this is so, and that the
 /// flight was at a router before each of them.
+///
+/// The copy stands where it was made, so that a job which goes from inbox to inbox is a few words
+/// and not the room for all the hops that a flight may pass.
 #[derive(Drop)]
 pub(crate) struct Job<'f, J: Run> {
     number: usize,
     turns: u32,
-    flight: Flight<'f>,
+    flight: Box<Flight<'f>>,
     of: PhantomData<J>,
 }
 
@@ -51,10 +54,10 @@ impl<'f, J: Run> Model for Job<'f, J> {
 
     ghost Value = { FlightValue };
 
-    ghost view = { λ j. j.flight };
+    ghost view = { λ j. j.flight.value };
 
-    ghost invariant = { λ j. (j.turns ≤ j.flight.turns)
-        × IsCarried J.flights J.now j.number j.turns j.flight };
+    ghost invariant = { λ j. (j.turns ≤ j.flight.value.turns)
+        × IsCarried J.flights J.now j.number j.turns j.flight.value };
 }
 
 /// The end of a flight of a run, with the flight's number. Its type keeps that it is that flight's
@@ -88,10 +91,11 @@ impl<'f, J: Run> Job<'f, J> {
     ) -> Result<Job<'f, J>, AllocError>
         requires { slice_get J.flights number ≡ Some flight.now }
     {
+        let copy = flight.try_clone(alloc)?;
         Ok(Job {
             number,
             turns: 0,
-            flight: flight.try_clone(alloc)?,
+            flight: Box::new(alloc, copy)?,
             of: PhantomData,
         })
     }
@@ -100,8 +104,9 @@ impl<'f, J: Run> Job<'f, J> {
     pub(crate) fn settled(self) -> Result<Done<J>, Job<'f, J>>
         ensures { IfErr result (λ job. IsAtRouter job.packet.place) }
     {
-        self.flight.known();
-        let end = match self.flight.place() {
+        let flight: &Flight<'f> = &self.flight;
+        flight.known();
+        let end = match flight.place() {
             Place::AtRouter(_) => return Err(self),
             Place::Delivered => End::Delivered(self.turns),
             Place::Refused(_, _, refusal) => End::Refused(refusal, self.turns),
@@ -134,13 +139,15 @@ impl<'f, J: Run> Job<'f, J> {
         let Job {
             number,
             turns,
-            flight,
+            mut flight,
             of,
         } = self;
+        flight.known();
+        flight.turn(now);
         Job {
             number,
             turns: turns + 1,
-            flight: flight.turn(now),
+            flight,
             of,
         }
     }

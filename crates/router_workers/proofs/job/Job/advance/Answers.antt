@@ -9,8 +9,8 @@ invariant_of-result g c =
     let kept = c.self.invariant in
     let here = subst (λ (f : FlightValue). IsAtRouter f.packet.place) (sym c.self.view_is)
     c.requires.under_way in
-    rw (c.turn.ensures, c.requires.now) (
+    rw (c.turn.ensures, c.deref_mut.ensures.value, c.requires.now) (
       (let fewer = kept.0 in omega arith),
       went_on g.J.Run.flights g.J.Run.now c.self.inside.number c.self.inside.turns
-          c.self.inside.flight kept.1 here,
+          c.self.inside.flight.value kept.1 here,
     )

@@ -4,4 +4,4 @@ use Rattle.router_workers.proofs.job.Job.settled.Goals as goal
 
 pub unreachable-requires : goal.unreachable-requires
 unreachable-requires g c =
-    subst IsUnlost (sym c.in-Lost.ensures) (flight_unlost c.self.inside.flight c.known.ensures)
+    subst IsUnlost (sym c.in-Lost.ensures) (flight_unlost _ c.known.ensures)
