@@ -1,9 +1,9 @@
 //! A worker at work: it takes flights from its inbox, gives each its turn, and passes it on.
 
-ghost use Rattle.std.specs.Prelude.{◌≡◌, ◌<◌, ◌%◌, ◌+◌, true, length, IfOk, IsOk};
+ghost use Rattle.std.specs.Prelude.{◌≡◌, ◌<◌, ◌%◌, ◌+◌, true, length, IfOk, IfSome, IsOk, Some, None, MatchResult};
 ghost use Rattle.scion_topology.specs.Topology.{info_in};
 ghost use Rattle.network_core.specs.Delivery.{IsAtRouter};
-ghost use Rattle.router_workers.specs.Posts.{IsNext};
+ghost use Rattle.router_workers.specs.Posts.{IsNext, IsPutIn, IsPassedTo};
 
 use crate::job::{Done, Job, Run};
 use forwarding::Place;
@@ -69,10 +69,24 @@ pub fn worker_of(topology: &Topology, ia: IsdAs, router: u8, workers: usize) -> 
         result ≡ (info.position + router) % workers) }
     ensures within { result < workers }
 {
+    match carrier(topology, ia, router, workers) {
+        Some(worker) => worker,
+        None => unreachable!(),
+    }
+}
+
+/// The same, where the topology lists the AS: the one look-up of an AS by which a flight finds its
+/// next worker.
+fn carrier(topology: &Topology, ia: IsdAs, router: u8, workers: usize) -> Option<usize>
+    requires { 0 < workers }
+    ensures value { MatchResult (info_in topology.now ia)
+        (λ info. result ≡ Some ((info.position + router) % workers)) (λ _. result ≡ None) }
+    ensures within { IfSome result (λ worker. worker < workers) }
+{
     topology.known();
     match topology.as_info(ia) {
-        Ok(info) => (info.position + router as usize) % workers,
-        Err(_) => unreachable!(),
+        Ok(info) => Some((info.position + router as usize) % workers),
+        Err(_) => None,
     }
 }
 
@@ -85,19 +99,35 @@ pub(crate) fn settle<J: Run, G: Gate>(desk: &Desk<'_, J, G>, done: Done<J>) {
     desk.left.fetch_sub(1, Ordering::SeqCst);
 }
 
-/// Passes a flight on to the inbox of its next worker. Where that is full, the flight is dropped if
-/// more were given than an inbox has places; else it is tried again.
+/// Passes a flight on to the inbox of `next`, the worker to whose router it has come. Where that is
+/// full, the flight is dropped if more were given than an inbox has places; else it is tried again.
+/// No other inbox is touched.
 pub(crate) fn pass_on<'f, J: Run, R: Wait, G: Gate>(
     rt: &R,
     desk: &Desk<'_, J, G>,
     outlets: &mut [Outlet<'_, Job<'f, J>>],
+    next: usize,
     job: Job<'f, J>,
 )
-    requires some { 0 < length outlets.old }
     requires under_way { IsAtRouter job.packet.place }
+    requires within { next < length outlets.old }
+    requires next { IsNext desk.now.topology.now (length outlets.old) job.packet.place next }
+    ensures { IsPassedTo desk.entry.now.crowded job.entry next outlets.old outlets.new }
 {
-    let next = next_worker(desk.topology, job.place(), outlets.len());
-    let outlet = &mut outlets[next];
+    hand_in(rt, desk, &mut outlets[next], job);
+}
+
+/// Puts a flight into an inbox by this way. Where the inbox is full, the flight is dropped if more
+/// were given than an inbox has places; else it is tried again.
+fn hand_in<'f, J: Run, R: Wait, G: Gate>(
+    rt: &R,
+    desk: &Desk<'_, J, G>,
+    outlet: &mut Outlet<'_, Job<'f, J>>,
+    job: Job<'f, J>,
+)
+    requires { IsAtRouter job.packet.place }
+    ensures { IsPutIn desk.entry.now.crowded job.entry outlet.old outlet.new }
+{
     let mut job = job;
     for _ in rt.forever() {
         match outlet.push(rt, job) {
@@ -121,9 +151,10 @@ fn next_worker(topology: &Topology, place: Place, workers: usize) -> usize
     ensures within { result < workers }
 {
     match place {
-        Place::AtRouter(stop) if topology.as_info(stop.ia).is_ok() => {
-            worker_of(topology, stop.ia, stop.router, workers)
-        }
+        Place::AtRouter(stop) => match carrier(topology, stop.ia, stop.router, workers) {
+            Some(worker) => worker,
+            None => 0,
+        },
         _ => 0,
     }
 }
@@ -139,7 +170,10 @@ pub(crate) fn send_on<'f, J: Run, R: Wait, G: Gate>(
 {
     match job.settled() {
         Ok(done) => settle(desk, done),
-        Err(job) => pass_on(rt, desk, outlets, job),
+        Err(job) => {
+            let next = next_worker(desk.topology, job.place(), outlets.len());
+            pass_on(rt, desk, outlets, next, job);
+        }
     }
 }
 
@@ -159,9 +193,26 @@ pub(crate) fn work<'f, J: Run, R: Wait, G: Gate>(
         if desk.left.load(Ordering::SeqCst) == 0 {
             return;
         }
+        empty(rt, desk, number, &mut intake, &mut outlets);
+        thread::yield_now();
+    }
+}
+
+/// Takes flights until the inbox has none. The count of those that are left is not looked at, since
+/// each end of a flight changes it, and each look would wait for that.
+fn empty<'f, J: Run, R: Wait, G: Gate>(
+    rt: &R,
+    desk: &Desk<'_, J, G>,
+    number: usize,
+    intake: &mut Intake<'_, Job<'f, J>>,
+    outlets: &mut [Outlet<'_, Job<'f, J>>],
+)
+    requires { 0 < length outlets.old }
+{
+    for _ in rt.forever() {
         match intake.pop(rt) {
-            Some(job) => turn(rt, desk, number, &mut outlets, job),
-            None => thread::yield_now(),
+            Some(job) => carry(rt, desk, number, outlets, job),
+            None => return,
         }
     }
 }
@@ -176,8 +227,8 @@ fn wait_for_beginning<R: Wait>(rt: &R, begun: &AtomicBool) {
     }
 }
 
-/// One turn of a flight by the worker of this number, through the gate, and what follows it.
-fn turn<'f, J: Run, R: Wait, G: Gate>(
+/// Carries a flight that the worker of this number took from its inbox.
+fn carry<'f, J: Run, R: Wait, G: Gate>(
     rt: &R,
     desk: &Desk<'_, J, G>,
     number: usize,
@@ -188,11 +239,39 @@ fn turn<'f, J: Run, R: Wait, G: Gate>(
 {
     match job.settled() {
         Ok(done) => settle(desk, done),
-        Err(job) => {
-            desk.gate.enter(number);
-            let job = job.advance(desk.now);
-            desk.gate.leave(number);
-            send_on(rt, desk, outlets, job);
+        Err(job) => take_turns(rt, desk, number, outlets, job),
+    }
+}
+
+/// The turns of a flight by the worker of this number, each through the gate: one, and further ones
+/// while it stands at routers of the same worker, so that it goes into no inbox in between. Then it
+/// is settled, or passed on.
+fn take_turns<'f, J: Run, R: Wait, G: Gate>(
+    rt: &R,
+    desk: &Desk<'_, J, G>,
+    number: usize,
+    outlets: &mut [Outlet<'_, Job<'f, J>>],
+    job: Job<'f, J>,
+)
+    requires some { 0 < length outlets.old }
+    requires under_way { IsAtRouter job.packet.place }
+{
+    let mut job = job;
+    for _ in rt.forever() {
+        desk.gate.enter(number);
+        let turned = job.advance(desk.now);
+        desk.gate.leave(number);
+        match turned.settled() {
+            Ok(done) => {
+                settle(desk, done);
+                return;
+            }
+            Err(turned) => job = turned,
+        }
+        let next = next_worker(desk.topology, job.place(), outlets.len());
+        if next != number {
+            pass_on(rt, desk, outlets, next, job);
+            return;
         }
     }
 }
