@@ -1,4 +1,5 @@
-//! Flights over two core ASes and their children: eight hop fields, and ten turns each.
+//! Flights over two core ASes and their children, there and back: eight hop fields, and ten turns
+//! each.
 
 ghost use Rattle.std.specs.Prelude.{◌≡◌, ◌<◌, ◌≤◌, All, IfOk};
 
@@ -12,10 +13,10 @@ use std::thread::Threads;
 use streams::{Reader, Writer};
 use worked::pair;
 
-/// How many flights a run carries.
+/// How many flights a run carries, each second one of them back.
 const FLIGHTS: u32 = 1000;
 
-/// The lines behind the topology, up to a packet from one end to the other.
+/// The lines behind the topology, up to a packet from one end to the other and one back.
 static LINES: &str = r#"
 {"do":"tick","now":1000}
 {"do":"originate","ia":"1-ff00:0:110","egress":1,"beta0":1}
@@ -28,9 +29,11 @@ static LINES: &str = r#"
 {"do":"terminate","beacon":4,"ia":"2-ff00:0:212"}
 {"do":"ask","src":"1-ff00:0:112","dst":"2-ff00:0:212","limit":8}
 {"do":"send","ask":0,"path":0,"payload":""}
+{"do":"ask","src":"2-ff00:0:212","dst":"1-ff00:0:112","limit":8}
+{"do":"send","ask":1,"path":0,"payload":""}
 "#;
 
-/// The network in which the packet was sent.
+/// The network in which both packets were sent.
 fn network(alloc: Global) -> Result<Net> {
     let text = format!(in alloc; "{}{LINES}", pair())?;
     let mut source = Reader::new(text.as_bytes());
@@ -38,13 +41,19 @@ fn network(alloc: Global) -> Result<Net> {
     Ok(listen(alloc, Hearing::Preparing, &mut source, &mut sink)?)
 }
 
-/// So many flights of a packet.
-fn flights_of<'n>(alloc: Global, net: &'n Net, packet: &'n Packet) -> Result<Vec<Flight<'n>>>
+/// The flights of both packets by turns.
+fn flights_of<'n>(
+    alloc: Global,
+    net: &'n Net,
+    there: &'n Packet,
+    back: &'n Packet,
+) -> Result<Vec<Flight<'n>>>
     ensures { IfOk result (λ flights.
         All (λ flight. flight.fabric ≡ net.now.network) flights.items) }
 {
     let mut flights = Vec::new(alloc);
-    for _ in 0..FLIGHTS {
+    for number in 0..FLIGHTS {
+        let packet = if number % 2 == 0 { there } else { back };
         flights.push(Flight::new(alloc, net.topology(), packet.sent())?)?;
     }
     Ok(flights)
@@ -58,7 +67,8 @@ fn worth(end: End) -> u64 {
     }
 }
 
-/// Carries a thousand flights on so many workers, so many times, and sums their turns.
+/// Carries a thousand flights on so many workers, so many times, and sums their turns. The flights
+/// are made once, since a run leaves them as they are.
 pub(crate) fn flights<R: Threads + Wait + Sync>(
     rt: &R,
     alloc: Global,
@@ -66,10 +76,11 @@ pub(crate) fn flights<R: Threads + Wait + Sync>(
     count: u32,
 ) -> Result<u64> {
     let net = network(alloc)?;
-    let packet = net.packet(0).context("the packet was not sent")?;
+    let there = net.packet(0).context("the packet was not sent")?;
+    let back = net.packet(1).context("no packet was sent back")?;
+    let flights = flights_of(alloc, &net, there, back)?;
     let mut sum = 0u64;
     for _ in 0..count {
-        let flights = flights_of(alloc, &net, packet)?;
         let ends = run_workers(
             rt,
             alloc,

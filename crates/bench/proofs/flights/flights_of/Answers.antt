@@ -4,12 +4,12 @@ use Rattle.std.proofs.lemmas.List.Elements.{All-push}
 use Rattle.router_workers.specs.Flight.{FlightValue}
 use Rattle.bench.proofs.flights.flights_of.Goals as goal
 
-pub loop-preserved : goal.loop-preserved
-loop-preserved c =
+pub loop-number-preserved : goal.loop-number-preserved
+loop-number-preserved c =
     subst (λ (flights : List FlightValue).
     All (λ (flight : FlightValue). flight.fabric ≡ c.args.net.now.network) flights)
     (sym {A = List FlightValue} c.in_ok-push.ensures.items)
     (All-push (λ (flight : FlightValue). flight.fabric ≡ c.args.net.now.network)
-    c.loop.flights.items c.in_ok-new.field-0 c.loop.invariant
+    c.loop-number.flights.items c.in_ok-new.field-0 c.loop-number.invariant
     (ap (λ (flight : FlightValue). flight.fabric) c.in_ok-new.ensures.grounded
     ∙ c.topology.ensures))
