@@ -21,7 +21,7 @@ IsNext n workers (places.AtRouter stop) next =
     IfOk (info_in n stop.ia) (λ info. next ≡ (info.position + stop.router) % workers)
 IsNext n workers place next = Unit {0}
 
--- a way into an inbox once a flight was put in by it, the last of what was
+-- a way into an inbox after this flight was put in by it
 abbrev pub put_in : {T : Type 0} → T → Way T → Way T
 put_in job way = record way { account = with_put way.account job }
 

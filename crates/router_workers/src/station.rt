@@ -75,8 +75,7 @@ pub fn worker_of(topology: &Topology, ia: IsdAs, router: u8, workers: usize) -> 
     }
 }
 
-/// The same, where the topology lists the AS: the one look-up of an AS by which a flight finds its
-/// next worker.
+/// The same, where the topology lists the AS; else nothing. It looks the AS up once.
 fn carrier(topology: &Topology, ia: IsdAs, router: u8, workers: usize) -> Option<usize>
     requires { 0 < workers }
     ensures value { MatchResult (info_in topology.now ia)
@@ -227,7 +226,8 @@ fn wait_for_beginning<R: Wait>(rt: &R, begun: &AtomicBool) {
     }
 }
 
-/// Carries a flight that the worker of this number took from its inbox.
+/// Carries a flight that the worker of this number took from its inbox: gives it its turns while it
+/// stands at routers of this worker, with no inbox in between, and then settles it or passes it on.
 fn carry<'f, J: Run, R: Wait, G: Gate>(
     rt: &R,
     desk: &Desk<'_, J, G>,
@@ -237,41 +237,38 @@ fn carry<'f, J: Run, R: Wait, G: Gate>(
 )
     requires { 0 < length outlets.old }
 {
-    match job.settled() {
-        Ok(done) => settle(desk, done),
-        Err(job) => take_turns(rt, desk, number, outlets, job),
-    }
-}
-
-/// The turns of a flight by the worker of this number, each through the gate: one, and further ones
-/// while it stands at routers of the same worker, so that it goes into no inbox in between. Then it
-/// is settled, or passed on.
-fn take_turns<'f, J: Run, R: Wait, G: Gate>(
-    rt: &R,
-    desk: &Desk<'_, J, G>,
-    number: usize,
-    outlets: &mut [Outlet<'_, Job<'f, J>>],
-    job: Job<'f, J>,
-)
-    requires some { 0 < length outlets.old }
-    requires under_way { IsAtRouter job.packet.place }
-{
     let mut job = job;
     for _ in rt.forever() {
-        desk.gate.enter(number);
-        let turned = job.advance(desk.now);
-        desk.gate.leave(number);
-        match turned.settled() {
+        match job.settled() {
             Ok(done) => {
                 settle(desk, done);
                 return;
             }
-            Err(turned) => job = turned,
-        }
-        let next = next_worker(desk.topology, job.place(), outlets.len());
-        if next != number {
-            pass_on(rt, desk, outlets, next, job);
-            return;
+            Err(standing) => {
+                let next = next_worker(desk.topology, standing.place(), outlets.len());
+                if next != number {
+                    pass_on(rt, desk, outlets, next, standing);
+                    return;
+                }
+                job = turn(desk, number, outlets.len(), standing);
+            }
         }
     }
+}
+
+/// One turn of a flight, through the gate, by the worker to whose router it has come: that of this
+/// number among so many.
+fn turn<'f, J: Run, G: Gate>(
+    desk: &Desk<'_, J, G>,
+    number: usize,
+    _workers: usize,
+    job: Job<'f, J>,
+) -> Job<'f, J>
+    requires under_way { IsAtRouter job.packet.place }
+    requires own { IsNext desk.now.topology.now _workers job.packet.place number }
+{
+    desk.gate.enter(number);
+    let turned = job.advance(desk.now);
+    desk.gate.leave(number);
+    turned
 }
