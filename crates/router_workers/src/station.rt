@@ -226,8 +226,9 @@ fn wait_for_beginning<R: Wait>(rt: &R, begun: &AtomicBool) {
     }
 }
 
-/// Carries a flight that the worker of this number took from its inbox: gives it its turns while it
-/// stands at routers of this worker, with no inbox in between, and then settles it or passes it on.
+/// Carries a flight that the worker of this number took from its inbox. Where it stands at a router
+/// of this worker it has one turn, and is then settled or passed on, to this worker's own inbox too;
+/// any other is settled or passed on at once.
 fn carry<'f, J: Run, R: Wait, G: Gate>(
     rt: &R,
     desk: &Desk<'_, J, G>,
@@ -237,20 +238,15 @@ fn carry<'f, J: Run, R: Wait, G: Gate>(
 )
     requires { 0 < length outlets.old }
 {
-    let mut job = job;
-    for _ in rt.forever() {
-        match job.settled() {
-            Ok(done) => {
-                settle(desk, done);
-                return;
-            }
-            Err(standing) => {
-                let next = next_worker(desk.topology, standing.place(), outlets.len());
-                if next != number {
-                    pass_on(rt, desk, outlets, next, standing);
-                    return;
-                }
-                job = turn(desk, number, outlets.len(), standing);
+    match job.settled() {
+        Ok(done) => settle(desk, done),
+        Err(job) => {
+            let next = next_worker(desk.topology, job.place(), outlets.len());
+            if next != number {
+                pass_on(rt, desk, outlets, next, job);
+            } else {
+                let turned = turn(desk, number, outlets.len(), job);
+                send_on(rt, desk, outlets, turned);
             }
         }
     }
