@@ -26,10 +26,9 @@ use isd_as::{AsNumber, IfId, Isd, IsdAs};
 use packets::Flaw;
 use scion_topology::Topology;
 use std::alloc::Global;
-use std::env;
-use std::io;
 use std::sync::Wait;
 use std::thread::Threads;
+use std::{env, io};
 
 /// The address of the AS of this number in the network that is measured.
 fn address(number: u32) -> IsdAs {

@@ -14,9 +14,13 @@ pub(crate) const LINKS: u32 = 4096;
 /// How many ASes each of the two lines has, the core AS 1 included.
 pub(crate) const LINE: u32 = 32;
 
-/// The last AS of the first line, that of the second, and the first AS of the ring beside them.
+/// The last AS of the first line.
 pub(crate) const FIRST_END: u32 = LINE;
+
+/// The last AS of the second line.
 pub(crate) const SECOND_END: u32 = 2 * LINE - 1;
+
+/// The first AS of the ring beside them.
 const RING: u32 = 2 * LINE;
 
 /// The AS at the first end of a link of the ring.
