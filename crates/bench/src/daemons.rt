@@ -83,7 +83,8 @@ fn ask_all<R: Wait>(
     tally.end(sum);
 }
 
-/// Asks so many times by each of the readers, once the cache has the answer to requests of weight 0.
+/// Asks so many times by each of the readers, once the cache has the answer to requests of weight
+/// 0.
 fn answered<R: Threads + Wait + Sync>(
     rt: &R,
     alloc: Global,
