@@ -2,14 +2,16 @@
 #![tactic(auto)]
 
 ghost use Rattle.std.specs.Prelude.{◌≡◌};
-ghost use Rattle.std.specs.List.Sorted.{IsNonDecreasing};
+ghost use Rattle.std.specs.List.Sorted.{IsNonDecreasing, IsPermutation};
 ghost use Rattle.doubles.specs.Doubles.{has_double, begins_with};
 
 /// Whether a number stands at two places of a list, which is put in order for it.
 ///
 /// It takes no memory, and for n numbers some n log n comparisons.
 pub fn has_double(numbers: &mut [u128]) -> bool
-    ensures { result ≡ has_double numbers.old }
+    ensures value { result ≡ has_double numbers.old }
+    // The numbers are the same, in another order.
+    ensures kept { IsPermutation numbers.old numbers.new }
 {
     numbers.sort_unstable();
     has_neighbours(numbers)

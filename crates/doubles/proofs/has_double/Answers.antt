@@ -6,5 +6,5 @@ use Rattle.doubles.proofs.has_double.Goals as goal
 pub has_neighbours-requires : goal.has_neighbours-requires
 has_neighbours-requires c = IsNonDecreasingBy-from_sort (λ x. x) _ c.sort_unstable.ensures.sorted
 
-pub returns : goal.returns
-returns c = c.has_neighbours.ensures ∙ same_doubles _ _ c.sort_unstable.ensures.permutation
+pub returns-clause-value : goal.returns-clause-value
+returns-clause-value c = c.has_neighbours.ensures ∙ same_doubles _ _ c.sort_unstable.ensures.permutation

@@ -5,6 +5,6 @@ use Rattle.scion_topology.proofs.doubled.joins_twice.Goals as goal
 
 pub returns-in-Ok : goal.returns-in-Ok
 returns-in-Ok c =
-    c.has_double.ensures
+    c.has_double.ensures.value
     ∙ ap has_double (c.deref_mut.ensures.value ∙ c.in-Ok.ensures.numbers)
     ∙ joins_twice_is c.args.links.now c.in-Ok.ensures.bits
