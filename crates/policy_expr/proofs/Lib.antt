@@ -19,3 +19,4 @@ pub mod Found
 pub mod Refusing
 pub mod Sequences
 pub mod Weighed
+pub mod Fewest

@@ -1,14 +1,14 @@
 -- Sets of predicates as the bits of a number.
-use Rattle.std.proofs.Common.{◌≡◌, ◌≢◌, ◌⊎◌, ◌↔◌, ℕ, ◌+◌, ◌-◌, ◌*◌, ◌/◌, ◌%◌, ◌^◌, ◌<◌, max, min, inl, inr, sym, ◌∙◌, ap, subst, arith, bit_and, bit_or}
+use Rattle.std.proofs.Common.{◌≡◌, ◌≢◌, ◌⊎◌, ◌↔◌, ℕ, ◌+◌, ◌-◌, ◌*◌, ◌/◌, ◌%◌, ◌^◌, ◌<◌, ◌≤◌, max, min, inl, inr, sym, ◌∙◌, ap, subst, arith, bit_and, bit_or}
 use Rattle.std.proofs.lemmas.Bool.Decides.{eqb_tells}
-use Rattle.std.specs.Int.{bit_at, w128, trailing_zeros}
-use Rattle.std.proofs.lemmas.Nat.{and_le_r}
+use Rattle.std.specs.Int.{bit_at, w64, trailing_zeros}
+use Rattle.std.proofs.lemmas.Nat.{and_le_l, and_le_r}
 use Rattle.std.proofs.lemmas.Nat.Bits.{bit_at_or, bit_at_and, bit_at-pow_same, bit_at-pow_other, bit_at-lt, bit_at-zero, bit_at-trailing_zeros, bit_at_cat_low, bit_at_cat_high, bit_at_ones_above, same_from_bits_below}
 use Rattle.std.proofs.lemmas.Nat.{pow_pos}
 use Rattle.std.proofs.Math.Nat.{mod-lt}
 use Rattle.std.proofs.Math.Pow.{pow-lt, ones_lt}
-use Rattle.std.proofs.lemmas.Bool.{cases_order}
-use Rattle.policy_expr.specs.Sets.{Has, IsFirst, IsSplit}
+use Rattle.std.proofs.lemmas.Bool.{cases_order, cases_lt}
+use Rattle.policy_expr.specs.Sets.{Has, IsSplit}
 
 -- no predicate is in 0
 pub none_has : (k : ℕ) → Has 0 k → ⊥
@@ -87,12 +87,21 @@ module _ (n t : ℕ) (one : bit_at n t ≡ 1) (none : (i : ℕ) → i < t → bi
   cleared : bit_at (n - 1) t ≡ 0
   cleared = ap (λ m. bit_at m t) (sym less) ∙ bit_at_cat_low (n / 2 ^ (t + 1)) (t + 1) (2 ^ t - 1) t (omega arith) ∙ bit_at_ones_above t t (omega arith)
 
+-- a number that has no bit
+zero_has : (n k : ℕ) → n ≡ 0 → Has n k → ⊥
+zero_has n k e has = none_has k (subst (λ (s : ℕ). Has s k) e has)
+
+-- the lowest predicate of a set
+record IsLowest (set number : ℕ) : Type 0 where
+  there : Has set number
+  least : (k : ℕ) → k < number → Has set k → ⊥
+
 -- `n & (n - 1)` drops the lowest bit
-pub split_bits : (n number : ℕ) → IsFirst n number → IsSplit n number (bit_and n (n - 1))
+split_bits : (n number : ℕ) → IsLowest n number → IsSplit n number (bit_and n (n - 1))
 unfolding Has
-split_bits n number is_first =
-    let one = is_first.there in
-    let none : (i : ℕ) → i < number → bit_at n i ≡ 0 = λ i h. not_has n i (is_first.least i h) in
+split_bits n number is_lowest =
+    let one = is_lowest.there in
+    let none : (i : ℕ) → i < number → bit_at n i ≡ 0 = λ i h. not_has n i (is_lowest.least i h) in
     record {
       there = one;
       rest = λ k. (
@@ -106,7 +115,7 @@ split_bits n number is_first =
           elim (cases_order k number) [
             | inl same ↦ absurd (both.1 same)
             | inr apart ↦ elim apart [
-              | inl below ↦ absurd (is_first.least k below both.0)
+              | inl below ↦ absurd (is_lowest.least k below both.0)
               | inr above ↦ higher n number one none k above ∙ both.0
             ]
           ],
@@ -116,24 +125,90 @@ split_bits n number is_first =
     }
 
 -- the lowest set bit
-pub first_bit : (n : ℕ) → 0 < n → n < 2 ^ 128 → IsFirst n (trailing_zeros w128 n)
+lowest_bit : (n : ℕ) → 0 < n → n < 2 ^ 64 → IsLowest n (trailing_zeros w64 n)
 unfolding Has
-first_bit n some fits =
-    let t = bit_at-trailing_zeros w128 n some fits in
+lowest_bit n some fits =
+    let t = bit_at-trailing_zeros w64 n some fits in
     record {
       there = t.1;
       least = λ k below has. let f : 1 ≡ 0 = sym has ∙ t.2 k below in absurd (omega arith);
     }
 
--- a number that has no bit
-pub zero_has : (n k : ℕ) → n ≡ 0 → Has n k → ⊥
-zero_has n k e has = none_has k (subst (λ (s : ℕ). Has s k) e has)
-
-wrapped : (n : ℕ) → 0 < n → n < 2 ^ 128 → (n + 340282366920938463463374607431768211455) % 340282366920938463463374607431768211456 ≡ n - 1
+wrapped : (n : ℕ) → 0 < n → n < 2 ^ 64 → (n + 18446744073709551615) % 18446744073709551616 ≡ n - 1
 wrapped n some fits = omega arith
 
-pub split_wrapped : (n : ℕ) → n < 2 ^ 128 → (number : ℕ) → IsFirst n number
-    → IsSplit n number (bit_and n ((n + 340282366920938463463374607431768211455) % 340282366920938463463374607431768211456))
-split_wrapped n fits number is_first =
-    let split = split_bits n number is_first in
-    rw (wrapped n (omega (arith, split.smaller)) fits) split
+-- the lowest bit of a half, and the half without it
+pub split_half : (n : ℕ) → 0 < n → n < 2 ^ 64
+    → IsSplit n (trailing_zeros w64 n) (bit_and n ((n + 18446744073709551615) % 18446744073709551616))
+split_half n some fits = rw (wrapped n some fits) (split_bits n (trailing_zeros w64 n) (lowest_bit n some fits))
+
+pub lowest_below : (n : ℕ) → 0 < n → n < 2 ^ 64 → trailing_zeros w64 n < 64
+lowest_below n some fits = (bit_at-trailing_zeros w64 n some fits).0
+
+pub half_smaller : (n : ℕ) → n < 2 ^ 64 → bit_and n ((n + 18446744073709551615) % 18446744073709551616) < 2 ^ 64
+half_smaller n fits = let s = and_le_l n ((n + 18446744073709551615) % 18446744073709551616) in omega (arith, s)
+
+-- ---- sets in two halves
+
+-- a predicate of the low half, and one of the high half
+in_low : (high low k : ℕ) → k < 64 → Has (high * 2 ^ 64 + low) k ↔ Has low k
+unfolding Has
+in_low high low k below = let e = bit_at_cat_low high 64 low k below in (λ has. sym e ∙ has, λ has. e ∙ has)
+
+in_high : (high low k : ℕ) → low < 2 ^ 64 → 64 ≤ k → Has (high * 2 ^ 64 + low) k ↔ Has high (k - 64)
+unfolding Has
+in_high high low k fits above = let e = bit_at_cat_high high 64 low k fits above in (λ has. sym e ∙ has, λ has. e ∙ has)
+
+-- a predicate stands in the low half or in the high one
+in_half : (k : ℕ) → (k < 64) ⊎ (64 ≤ k)
+in_half k = cases_lt k 64
+
+-- the low half loses a predicate
+pub split_low : (high low number others : ℕ) → low < 2 ^ 64 → others < 2 ^ 64 → number < 64 → IsSplit low number others
+    → IsSplit (high * 2 ^ 64 + low) number (high * 2 ^ 64 + others)
+split_low high low number others fits others_fit below split = record {
+  there = (in_low high low number below).1 split.there;
+  rest = λ k. elim (in_half k) [
+    | inl k_low ↦ (
+      λ has. let r = (split.rest k).0 ((in_low high others k k_low).0 has) in ((in_low high low k k_low).1 r.0, r.1),
+      λ r. (in_low high others k k_low).1 ((split.rest k).1 ((in_low high low k k_low).0 r.0, r.1)),
+    )
+    | inr k_high ↦ (
+      λ has. (
+        (in_high high low k fits k_high).1 ((in_high high others k others_fit k_high).0 has),
+        λ same. absurd (omega (arith, same, below, k_high)),
+      ),
+      λ r. (in_high high others k others_fit k_high).1 ((in_high high low k fits k_high).0 r.0),
+    )
+  ];
+  smaller = let s = split.smaller in omega (arith, s);
+}
+
+-- the high half loses one where the low half has none
+pub split_high : (high low number others : ℕ) → low ≡ 0 → IsSplit high number others
+    → IsSplit (high * 2 ^ 64 + low) (64 + number) (others * 2 ^ 64 + low)
+split_high high low number others none split =
+    let fits : low < 2 ^ 64 = omega (arith, none) in
+    let back : 64 + number - 64 ≡ number = omega arith in
+    record {
+      there = (in_high high low (64 + number) fits (omega arith)).1 (rw back split.there);
+      rest = λ k. elim (in_half k) [
+        | inl k_low ↦ (
+          λ has. absurd (zero_has low k none ((in_low others low k k_low).0 has)),
+          λ r. absurd (zero_has low k none ((in_low high low k k_low).0 r.0)),
+        )
+        | inr k_high ↦ (
+          λ has. let r = (split.rest (k - 64)).0 ((in_high others low k fits k_high).0 has) in
+              ((in_high high low k fits k_high).1 r.0, λ same. r.1 (omega (arith, same))),
+          λ r. let apart = r.1 in
+              (in_high others low k fits k_high).1 ((split.rest (k - 64)).1
+              ((in_high high low k fits k_high).0 r.0, λ same. apart (omega (arith, same, k_high)))),
+        )
+      ];
+      smaller = let s = split.smaller in omega (arith, s);
+    }
+
+-- both halves are empty
+pub no_members : (high low k : ℕ) → low ≡ 0 → high ≡ 0 → Has (high * 2 ^ 64 + low) k → ⊥
+no_members high low k low_none high_none has =
+    let e : high * 2 ^ 64 + low ≡ 0 = omega (arith, low_none, high_none) in zero_has _ k e has

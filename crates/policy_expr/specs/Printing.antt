@@ -1,11 +1,13 @@
 -- How a sequence is printed: with the fewest parentheses that keep its tree, one space for
 -- following and nothing round `|`.
-use Rattle.std.specs.Prelude.{ℕ, ◌+◌, ◌<◌, ◌≤◌, Bool, ◌^◌, ◌==◌, ◌&&◌, nat_lt, if◌then◌else◌, codes, List, [], ◌++◌}
+use Rattle.std.specs.Prelude.{ℕ, ◌+◌, ◌<◌, ◌≤◌, Bool, ◌^◌, ◌==◌, ◌&&◌, nat_lt, if◌then◌else◌, codes, List, [], ◌∷◌, ◌++◌}
 use Rattle.std.specs.Fmt.{decimal}
 use Rattle.isd_as.specs.Address.{isd_of, as_number_of, canonical}
 use Rattle.policy_expr.specs.declared.hop.HopPred.{HopPred}
 use Rattle.policy_expr.specs.declared.hop.Interfaces.{Interfaces}
 use Rattle.policy_expr.specs.declared.hop.Interfaces.TheVariants.{Any, Either, Both}
+use Rattle.policy_expr.specs.declared.token.Token.{Token}
+use Rattle.policy_expr.specs.declared.token.Token.TheVariants as signs
 use Rattle.policy_expr.specs.Acl.{says_nothing}
 use Rattle.policy_expr.specs.Grammar.{SpellsSequence}
 use Rattle.policy_expr.specs.Reading.{node_count}
@@ -44,6 +46,12 @@ printed (either a b) = in_parentheses (nat_lt (strength a) 1) (printed a) ++ (co
 printed (optional a) = in_parentheses (nat_lt (strength a) 2) (printed a) ++ codes "?"
 printed (repeated a) = in_parentheses (nat_lt (strength a) 2) (printed a) ++ codes "*"
 printed (once_or_more a) = in_parentheses (nat_lt (strength a) 2) (printed a) ++ codes "+"
+
+-- how many parentheses are opened
+abbrev pub opened : List Token → ℕ
+opened [] = 0
+opened (signs.Open ∷ tokens) = opened tokens + 1
+opened (token ∷ tokens) = opened tokens
 
 -- interfaces as they are read: of 16 bits, and none where all are 0
 abbrev pub AreInterfaces : Interfaces → Type 0

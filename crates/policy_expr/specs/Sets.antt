@@ -6,11 +6,6 @@ use Rattle.std.specs.Int.{bit_at}
 unfoldable pub Has : ℕ → ℕ → Type 0
 Has set k = bit_at set k ≡ 1
 
--- the first predicate of the set
-pub record IsFirst (set number : ℕ) : Type 0 where
-  pub there : Has set number
-  pub least : (k : ℕ) → k < number → Has set k → ⊥
-
 -- a predicate of the set, and all others
 pub record IsSplit (set number others : ℕ) : Type 0 where
   pub there : Has set number

@@ -40,8 +40,8 @@ impl HopPred {
     pub fn matches(&self, hop: &WalkHop) -> bool
         ensures { IsTrue result ↔ Matches self.now hop.now }
     {
-        fits(self.ia.isd().number().into(), hop.ia.isd().number().into())
-            && fits(self.ia.as_number().number(), hop.ia.as_number().number())
+        fits(self.ia.as_number().number(), hop.ia.as_number().number())
+            && fits(self.ia.isd().number().into(), hop.ia.isd().number().into())
             && self.interfaces.fit(hop)
     }
 }

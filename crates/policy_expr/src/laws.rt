@@ -8,7 +8,8 @@ ghost use Rattle.policy_expr.specs.Predicate.{predicate_at};
 ghost use Rattle.policy_expr.specs.Tree.{Tree};
 ghost use Rattle.policy_expr.specs.Grammar.{SpellsSequence};
 ghost use Rattle.policy_expr.specs.Reading.{node_count, sequence_at};
-ghost use Rattle.policy_expr.specs.Printing.{IsPredicate, IsSequence, predicate_text, printed};
+ghost use Rattle.policy_expr.specs.Printing.{IsPredicate, IsSequence, opened, predicate_text, printed};
+ghost use Rattle.policy_expr.specs.Tokens.{tokens};
 
 /// What is read as a sequence is what the grammar spells, of at most 256 nodes, and nothing else
 /// is.
@@ -22,6 +23,12 @@ pub fn printed_is_read()
     ensures sequence { (tree : Tree) → IsSequence tree → sequence_at (printed tree) ≡ Ok tree }
     ensures predicate { (pred : HopPred) → IsPredicate pred → predicate_at (predicate_text pred)
         ≡ Ok pred }
+{}
+
+/// No text that spells a sequence has fewer parentheses than the one that is printed.
+pub fn printed_has_fewest_parentheses()
+    ensures { (tree : Tree) (text : List ℕ) → IsSequence tree → SpellsSequence text tree
+        → opened (tokens (printed tree)) ≤ opened (tokens text) }
 {}
 
 /// What is read of a text is a sequence or a predicate of that kind.

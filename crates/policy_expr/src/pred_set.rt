@@ -1,5 +1,5 @@
-ghost use Rattle.std.specs.Prelude.{◌≡◌, ◌⊎◌, ℕ, ◌<◌, ◌↔◌, MatchOption};
-ghost use Rattle.policy_expr.specs.Sets.{Has, IsFirst, IsSplit};
+ghost use Rattle.std.specs.Prelude.{◌≡◌, ◌⊎◌, ◌↔◌, ℕ, ◌+◌, ◌*◌, ◌^◌, ◌<◌, MatchOption};
+ghost use Rattle.policy_expr.specs.Sets.{Has, IsSplit};
 
 use std::marker::Model;
 
@@ -51,22 +51,48 @@ impl PredSet {
         }
     }
 
-    /// The first predicate, where there is one.
-    pub(crate) fn first(self) -> Option<usize>
-        ensures { MatchOption result ((k : ℕ) → Has self k → ⊥) (λ number. IsFirst self number) }
+    /// The predicates one by one.
+    pub(crate) fn members(self) -> Members
+        ensures { result ≡ self }
     {
-        if self.bits == 0 {
-            return None;
+        Members {
+            low: (self.bits % (1 << 64)) as u64,
+            high: (self.bits >> 64) as u64,
         }
-        Some(self.bits.trailing_zeros() as usize)
     }
+}
 
-    /// All but the first predicate.
-    pub(crate) fn without_first(self) -> PredSet
-        ensures { (number : ℕ) → IsFirst self number → IsSplit self number result }
+/// What is left of a set whose predicates are visited one by one, in two halves, each of which a
+/// processor steps through at once: predicate `k` is bit `k` of the low half, or bit `k - 64` of
+/// the high one.
+#[derive(Drop)]
+pub(crate) struct Members {
+    low: u64,
+    high: u64,
+}
+
+impl Model for Members {
+    ghost Value = { ℕ };
+
+    ghost view = { λ members. members.high * 2 ^ 64 + members.low };
+}
+
+impl Members {
+    /// The next predicate, which no later call gives again.
+    pub(crate) fn next(&mut self) -> Option<usize>
+        ensures { MatchOption result ((k : ℕ) → Has self.old k → ⊥)
+            (λ number. IsSplit self.old number self.new) }
     {
-        PredSet {
-            bits: self.bits & self.bits.wrapping_sub(1),
+        if self.low != 0 {
+            let number = self.low.trailing_zeros() as usize;
+            self.low &= self.low.wrapping_sub(1);
+            return Some(number);
         }
+        if self.high != 0 {
+            let number = self.high.trailing_zeros() as usize;
+            self.high &= self.high.wrapping_sub(1);
+            return Some(64 + number);
+        }
+        None
     }
 }

@@ -70,13 +70,12 @@ impl<A: Allocator> Table<A> {
         ensures { (j : ℕ) → Has result j ↔ StepsTo self.now.lines.items wanted hop.now j }
     {
         let mut next = PredSet::none();
-        let mut rest = wanted;
-        while let Some(number) = rest.first() {
+        let mut rest = wanted.members();
+        while let Some(number) = rest.next() {
             let line = &self.lines[number];
             if line.pred.matches(hop) {
                 next = next.or(line.next);
             }
-            rest = rest.without_first();
         }
         next
     }
@@ -87,12 +86,11 @@ impl<A: Allocator> Table<A> {
         ensures { IsTrue result
             ↔ ((k : ℕ) × Has wanted k × MeetsAt self.now.lines.items k hop.now) }
     {
-        let mut rest = wanted;
-        while let Some(number) = rest.first() {
+        let mut rest = wanted.members();
+        while let Some(number) = rest.next() {
             if self.lines[number].pred.matches(hop) {
                 return true;
             }
-            rest = rest.without_first();
         }
         false
     }
@@ -149,10 +147,9 @@ fn link(lines: &mut [Line], last: PredSet, first: PredSet)
     requires { (k : ℕ) → Has last k → k < length lines.old }
     ensures { Links lines.old lines.new last first }
 {
-    let mut rest = last;
-    while let Some(number) = rest.first() {
+    let mut rest = last.members();
+    while let Some(number) = rest.next() {
         let line = &mut lines[number];
         line.next = line.next.or(first);
-        rest = rest.without_first();
     }
 }
