@@ -48,34 +48,18 @@ module _ (lines : List Line) (wanted : ℕ) (hop : WalkHop) where
     found = λ j. (λ has. absurd (none j has), λ r. absurd (r.1.1 r.1.0));
   }
 
-  pub wants_passed : (rest number others next : ℕ) (line : Line) → WantsSoFar rest next → IsSplit rest number others
-      → slice_get lines number ≡ Some line → (Matches line.pred hop → ⊥) → WantsSoFar others next
-  wants_passed rest number others next line so_far split there not = record {
-    sub = sub_more wanted rest number others split so_far.sub;
-    found = λ j. (
-      λ has. let r = (so_far.found j).0 has in (r.0, (past_more wanted rest number others r.0 split so_far.sub).1 (inl r.1), r.2, r.3),
-      λ r. elim ((past_more wanted rest number others r.0 split so_far.sub).0 r.1) [
-        | inl before ↦ (so_far.found j).1 (r.0, before, r.2, r.3)
-        | inr same ↦ (let e : Some r.2.0 ≡ Some line = sym r.2.1 ∙ ap (slice_get lines) same ∙ there in
-            let e' : r.2.0 ≡ line = cc in absurd (not (subst (λ (l : Line). Matches l.pred hop) e' r.2.2)))
-      ],
-    );
-  }
-
-  pub wants_taken : (rest number others next more : ℕ) (line : Line) → WantsSoFar rest next → IsSplit rest number others
-      → slice_get lines number ≡ Some line → Matches line.pred hop
-      → ((k : ℕ) → Has more k ↔ (Has next k ⊎ Has line.next k)) → WantsSoFar others more
-  wants_taken rest number others next more line so_far split there matches joins = record {
+  pub wants_more : (rest number others next more : ℕ) → WantsSoFar rest next → IsSplit rest number others
+      → ((j : ℕ) → Has more j ↔ (Has next j ⊎ (MeetsAt lines number hop × MayFollow lines number j))) → WantsSoFar others more
+  wants_more rest number others next more so_far split joins = record {
     sub = sub_more wanted rest number others split so_far.sub;
     found = λ j. (
       λ has. elim ((joins j).0 has) [
         | inl before ↦ (let r = (so_far.found j).0 before in (r.0, (past_more wanted rest number others r.0 split so_far.sub).1 (inl r.1), r.2, r.3))
-        | inr now ↦ (number, (past_more wanted rest number others number split so_far.sub).1 (inr refl), (line, there, matches), (line, there, now))
+        | inr now ↦ (number, (past_more wanted rest number others number split so_far.sub).1 (inr refl), now.0, now.1)
       ],
       λ r. elim ((past_more wanted rest number others r.0 split so_far.sub).0 r.1) [
         | inl before ↦ (joins j).1 (inl ((so_far.found j).1 (r.0, before, r.2, r.3)))
-        | inr same ↦ (let e : Some r.3.0 ≡ Some line = sym r.3.1 ∙ ap (slice_get lines) same ∙ there in
-            let e' : r.3.0 ≡ line = cc in (joins j).1 (inr (subst (λ (l : Line). Has l.next j) e' r.3.2)))
+        | inr same ↦ (joins j).1 (inr (subst (λ k. MeetsAt lines k hop × MayFollow lines k j) same (r.2, r.3)))
       ],
     );
   }

@@ -184,18 +184,17 @@ split_low high low number others fits others_fit below split = record {
   smaller = let s = split.smaller in omega (arith, s);
 }
 
--- the high half loses one where the low half has none
-pub split_high : (high low number others : ℕ) → low ≡ 0 → IsSplit high number others
+-- the high half loses a predicate
+pub split_high : (high low number others : ℕ) → low < 2 ^ 64 → IsSplit high number others
     → IsSplit (high * 2 ^ 64 + low) (64 + number) (others * 2 ^ 64 + low)
-split_high high low number others none split =
-    let fits : low < 2 ^ 64 = omega (arith, none) in
+split_high high low number others fits split =
     let back : 64 + number - 64 ≡ number = omega arith in
     record {
       there = (in_high high low (64 + number) fits (omega arith)).1 (rw back split.there);
       rest = λ k. elim (in_half k) [
         | inl k_low ↦ (
-          λ has. absurd (zero_has low k none ((in_low others low k k_low).0 has)),
-          λ r. absurd (zero_has low k none ((in_low high low k k_low).0 r.0)),
+          λ has. ((in_low high low k k_low).1 ((in_low others low k k_low).0 has), λ same. absurd (omega (arith, same, k_low))),
+          λ r. (in_low others low k k_low).1 ((in_low high low k k_low).0 r.0),
         )
         | inr k_high ↦ (
           λ has. let r = (split.rest (k - 64)).0 ((in_high others low k fits k_high).0 has) in
@@ -208,7 +207,16 @@ split_high high low number others none split =
       smaller = let s = split.smaller in omega (arith, s);
     }
 
--- both halves are empty
-pub no_members : (high low k : ℕ) → low ≡ 0 → high ≡ 0 → Has (high * 2 ^ 64 + low) k → ⊥
-no_members high low k low_none high_none has =
-    let e : high * 2 ^ 64 + low ≡ 0 = omega (arith, low_none, high_none) in zero_has _ k e has
+-- a half that is empty has no predicate
+pub none_low : (high low k : ℕ) → low ≡ 0 → k < 64 → Has (high * 2 ^ 64 + low) k → ⊥
+none_low high low k none below has = zero_has low k none ((in_low high low k below).0 has)
+
+pub none_high : (high low k : ℕ) → low < 2 ^ 64 → high ≡ 0 → 64 ≤ k → Has (high * 2 ^ 64 + low) k → ⊥
+none_high high low k fits none above has = zero_has high (k - 64) none ((in_high high low k fits above).0 has)
+
+-- what is in neither half is nowhere
+pub none_left : (set : ℕ) → ((k : ℕ) → k < 64 → Has set k → ⊥) → ((k : ℕ) → 64 ≤ k → Has set k → ⊥) → (k : ℕ) → Has set k → ⊥
+none_left set low high k has = elim (in_half k) [
+  | inl below ↦ low k below has
+  | inr above ↦ high k above has
+]

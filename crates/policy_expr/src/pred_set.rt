@@ -1,4 +1,4 @@
-ghost use Rattle.std.specs.Prelude.{◌≡◌, ◌⊎◌, ◌↔◌, ℕ, ◌+◌, ◌*◌, ◌^◌, ◌<◌, MatchOption};
+ghost use Rattle.std.specs.Prelude.{◌≡◌, ◌⊎◌, ◌↔◌, ℕ, ◌+◌, ◌*◌, ◌^◌, ◌<◌, ◌≤◌, MatchOption};
 ghost use Rattle.policy_expr.specs.Sets.{Has, IsSplit};
 
 use std::marker::Model;
@@ -75,6 +75,8 @@ impl Model for Members {
     ghost Value = { ℕ };
 
     ghost view = { λ members. members.high * 2 ^ 64 + members.low };
+
+    ghost invariant = { λ members. members.low < 2 ^ 64 };
 }
 
 impl Members {
@@ -83,16 +85,37 @@ impl Members {
         ensures { MatchOption result ((k : ℕ) → Has self.old k → ⊥)
             (λ number. IsSplit self.old number self.new) }
     {
-        if self.low != 0 {
-            let number = self.low.trailing_zeros() as usize;
-            self.low &= self.low.wrapping_sub(1);
-            return Some(number);
+        match self.next_low() {
+            Some(number) => Some(number),
+            None => self.next_high(),
         }
-        if self.high != 0 {
-            let number = self.high.trailing_zeros() as usize;
-            self.high &= self.high.wrapping_sub(1);
-            return Some(64 + number);
+    }
+
+    /// The next predicate of the low half.
+    pub(crate) fn next_low(&mut self) -> Option<usize>
+        ensures { MatchOption result
+            (((k : ℕ) → k < 64 → Has self.old k → ⊥) × (self.new ≡ self.old))
+            (λ number. IsSplit self.old number self.new) }
+    {
+        if self.low == 0 {
+            return None;
         }
-        None
+        let number = self.low.trailing_zeros() as usize;
+        self.low &= self.low.wrapping_sub(1);
+        Some(number)
+    }
+
+    /// The next predicate of the high half.
+    pub(crate) fn next_high(&mut self) -> Option<usize>
+        ensures { MatchOption result
+            (((k : ℕ) → 64 ≤ k → Has self.old k → ⊥) × (self.new ≡ self.old))
+            (λ number. IsSplit self.old number self.new) }
+    {
+        if self.high == 0 {
+            return None;
+        }
+        let number = self.high.trailing_zeros() as usize;
+        self.high &= self.high.wrapping_sub(1);
+        Some(64 + number)
     }
 }

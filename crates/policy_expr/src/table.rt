@@ -1,6 +1,6 @@
-ghost use Rattle.std.specs.Prelude.{◌≡◌, ℕ, ◌+◌, ◌≤◌, ◌<◌, ◌↔◌, length, vec_len, IfOk, IsTrue};
+ghost use Rattle.std.specs.Prelude.{◌≡◌, ℕ, ◌+◌, ◌≤◌, ◌<◌, ◌⊎◌, ◌↔◌, length, vec_len, IfOk, IsTrue};
 ghost use Rattle.policy_expr.specs.Sets.{Has};
-ghost use Rattle.policy_expr.specs.Table.{Accepts, Adds, IsTableOf, IsWithin, Links, MeetsAt, StepsTo, pred_count};
+ghost use Rattle.policy_expr.specs.Table.{Accepts, Adds, IsTableOf, IsWithin, Links, MayFollow, MeetsAt, StepsTo, pred_count};
 ghost use Rattle.policy_expr.specs.Tree.{tree_of};
 
 use crate::ends::Ends;
@@ -71,13 +71,27 @@ impl<A: Allocator> Table<A> {
     {
         let mut next = PredSet::none();
         let mut rest = wanted.members();
-        while let Some(number) = rest.next() {
-            let line = &self.lines[number];
-            if line.pred.matches(hop) {
-                next = next.or(line.next);
-            }
+        while let Some(number) = rest.next_low() {
+            next = self.with_followers(number, hop, next);
+        }
+        while let Some(number) = rest.next_high() {
+            next = self.with_followers(number, hop, next);
         }
         next
+    }
+
+    /// These predicates, and those that may follow this one where it matches the hop.
+    fn with_followers(&self, number: usize, hop: &WalkHop, next: PredSet) -> PredSet
+        requires { number < vec_len self.now.lines }
+        ensures { (j : ℕ) → Has result j ↔ (Has next j
+            ⊎ (MeetsAt self.now.lines.items number hop.now × MayFollow self.now.lines.items number j)) }
+    {
+        let line = &self.lines[number];
+        if line.pred.matches(hop) {
+            next.or(line.next)
+        } else {
+            next
+        }
     }
 
     /// Whether one of these predicates matches the hop.
