@@ -1,5 +1,5 @@
 -- What is read as a predicate is spelled so, and what is spelled so is read.
-use Rattle.std.proofs.Common.{IfOk, ◌≡◌, ℕ, ◌*◌, ◌^◌, Bool, true, false, eqb, ltb, cond, List, ◌∷◌, ◌++◌, length, Option, Some, None, Result, Ok, Err, refl, sym, ◌∙◌, ap, subst, arith, inl, inr}
+use Rattle.std.proofs.Common.{IfOk, ◌≡◌, ℕ, Bool, true, false, eqb, ltb, cond, List, ◌∷◌, ◌++◌, length, Option, Some, None, Result, Ok, Err, refl, sym, ◌∙◌, ap, subst, arith, inl, inr}
 use Rattle.std.specs.List.{AllByRecursion, position_or_len, before_first, after_first}
 use Rattle.isd_as.specs.declared.fault.AddrFault.TheVariants as address_faults
 use Rattle.isd_as.specs.Address.{address_of, dash, colon, Spells, SpellsIsd, SpellsAs}

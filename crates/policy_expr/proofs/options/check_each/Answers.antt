@@ -1,4 +1,4 @@
-use Rattle.std.proofs.Common.{Ok, refl, arith}
+use Rattle.std.proofs.Common.{Ok, refl}
 use Rattle.std.proofs.lemmas.List.{drop_all}
 use Rattle.policy_expr.proofs.options.check_each.Goals as goal
 
