@@ -18,10 +18,11 @@ use Rattle.combinator.specs.Candidate.{Question, IsOf, segments_of, PathValue, I
 use Rattle.combinator.specs.Order.{path_cmp, HaveOneWalk}
 use Rattle.combinator.specs.Answer.{IsBest, IsLeftOut, IsAnswer}
 use Rattle.combinator.specs.Placed.{Tied, InOrder, Met}
-use Rattle.combinator.specs.Kept.{IsNoWorse, IsMet, walks_of, AreApart, AreSettled}
+use Rattle.combinator.specs.Kept.{by_walk, IsNoWorse, IsMet, AreSettled}
 use Rattle.combinator.specs.Legs.{outer_of, IsCut, IsWhole}
-use Rattle.combinator.proofs.Ranks.{same_shown, tied_shown}
+use Rattle.combinator.proofs.Ranks.{walks_total, tied_walks, same_shown, tied_shown}
 use Rattle.combinator.proofs.Agreeing.{best_is_one}
+use Rattle.combinator.proofs.Searched.{stand_before}
 
 -- ---- each piece of a candidate is listed
 
@@ -136,26 +137,19 @@ module _ (question : Question) (legs : List PieceValue)
 
 -- ---- each path that is kept stands for its walk
 
-walk_at : (paths : List PathValue) (k : ℕ) (d : PathValue) (walk : List WalkHop) → k < length paths → get_or (walks_of paths) k walk ≡ walk_of (get_or paths k d).pieces
-walk_at [] k d walk within = absurd (omega arith)
-walk_at (path ∷ paths) zero d walk within = refl
-walk_at (path ∷ paths) (suc k) d walk within = walk_at paths k d walk (omega arith)
-
-walks_long : (paths : List PathValue) → length (walks_of paths) ≡ length paths
-walks_long [] = refl
-walks_long (path ∷ paths) = let rest = walks_long paths in omega arith
-
-apart_at : (paths : List PathValue) (j k : ℕ) (d e : PathValue) → AreApart paths → j < k → k < length paths → walk_of (get_or paths j d).pieces ≡ walk_of (get_or paths k e).pieces → ⊥
-apart_at paths j k d e apart less within same =
-    let long = walks_long paths in
-    apart j k [] less (omega arith) (walk_at paths j d [] (omega arith) ∙ same ∙ sym (walk_at paths k e [] within))
-
 default_of : (paths : List PathValue) (k : ℕ) (d e : PathValue) → k < length paths → get_or paths k d ≡ get_or paths k e
 default_of [] k d e within = absurd (omega arith)
 default_of (path ∷ paths) zero d e within = refl
 default_of (path ∷ paths) (suc k) d e within = default_of paths k d e (omega arith)
 
-same_one : (paths : List PathValue) (j k : ℕ) (d e : PathValue) → AreApart paths → j < length paths → k < length paths
+apart_at : (paths : List PathValue) (j k : ℕ) (d e : PathValue) → InOrder by_walk paths → j < k → k < length paths → walk_of (get_or paths j d).pieces ≡ walk_of (get_or paths k e).pieces → ⊥
+apart_at paths j k d e order less within same =
+    let before = stand_before by_walk walks_total paths order j k d less within in
+    let tie = tied_walks (get_or paths j d) (get_or paths k d) (same ∙ ap (λ (p : PathValue). walk_of p.pieces) (default_of paths k e d within)) in
+    let both = sym before ∙ tie in
+    cc
+
+same_one : (paths : List PathValue) (j k : ℕ) (d e : PathValue) → InOrder by_walk paths → j < length paths → k < length paths
     → walk_of (get_or paths j d).pieces ≡ walk_of (get_or paths k e).pieces → get_or paths j d ≡ get_or paths k e
 same_one paths j k d e apart inside within same = elim (cases_lt j k) [
   | inl less ↦ absurd (apart_at paths j k d e apart less within same)
@@ -165,7 +159,7 @@ same_one paths j k d e apart inside within same = elim (cases_lt j k) [
   ]
 ]
 
-module _ (question : Question) (limit : ℕ) (kept ordered : List PathValue) (sound : All (IsCandidate question) kept) (apart : AreApart kept)
+module _ (question : Question) (limit : ℕ) (kept ordered : List PathValue) (sound : All (IsCandidate question) kept) (apart : InOrder by_walk kept)
     (met : (path : PathValue) → IsCandidate question path → IsMet kept path) where
   no_worse_than_any : (k : ℕ) (d : PathValue) → k < length kept → (other : PathValue) → IsCandidate question other → HaveOneWalk other (get_or kept k d) → IsNoWorse (get_or kept k d) other
   no_worse_than_any k d within other is same =

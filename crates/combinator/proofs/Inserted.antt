@@ -1,12 +1,12 @@
 -- Taking an element into a list in strict order that is cut to a limit.
-use Rattle.std.proofs.Common.{◌≡◌, ℕ, zero, suc, ◌+◌, ◌<◌, ◌≤◌, List, [], ◌∷◌, length, get_or, take, insert, refl, sym, ap, subst, ◌∙◌, inl, inr, arith}
+use Rattle.std.proofs.Common.{◌≡◌, ℕ, zero, suc, ◌+◌, ◌<◌, ◌≤◌, List, [], ◌∷◌, length, take, insert, refl, sym, ap, subst, ◌∙◌, inl, inr, arith}
 use Rattle.std.specs.List.{AllByRecursion}
 use Rattle.std.specs.Cmp.{IsTotalOrder}
 use Rattle.std.specs.Ordering.{ordering_reverse}
 use Rattle.std.specs.declared.cmp.Ordering.{Ordering}
-use Rattle.std.specs.declared.cmp.Ordering.TheVariants.{Less, Greater}
+use Rattle.std.specs.declared.cmp.Ordering.TheVariants.{Less}
 use Rattle.std.proofs.lemmas.Cmp.{tied_itself, alike_right}
-use Rattle.combinator.specs.Placed.{Tied, InOrder, Met}
+use Rattle.combinator.specs.Placed.{Tied, InOrder, IsGap, Met}
 use Rattle.combinator.proofs.Tied.{further}
 
 -- the element belongs at this place: those before it stand before, those from there on behind
@@ -51,19 +51,24 @@ all_put P [] (suc p) x all here = (here, tt)
 all_put P (y ∷ ys) (suc p) x all here = (all.0, all_put P ys p x all.1 here)
 
 module _ {X : Type 0} (R : X → X → Ordering) (o : IsTotalOrder R) where
-  pub placed_of : (p : ℕ) (xs : List X) (x : X) → InOrder R xs → p ≤ length xs → ((k : ℕ) (d : X) → k < p → R (get_or xs k d) x ≡ Less)
-      → ((d : X) → p < length xs → R (get_or xs p d) x ≡ Greater) → Placed R x p xs
-  placed_of zero [] x order within before behind = tt
-  placed_of zero (y ∷ ys) x order within before behind =
-      let less : R x y ≡ Less = o.antisymm x y ∙ ap ordering_reverse (behind y (omega arith)) in (less, further R o x y ys less order.0)
-  placed_of (suc p) [] x order within before behind = absurd (omega arith)
-  placed_of (suc p) (y ∷ ys) x order within before behind =
-      (before 0 y (omega arith), placed_of p ys x order.1 (omega arith) (λ k d less. before (suc k) d (omega arith)) (λ d less. behind d (omega arith)))
+  pub placed_of : (p : ℕ) (xs : List X) (x : X) → InOrder R xs → p ≤ length xs → IsGap R x xs p → Placed R x p xs
+  placed_of zero [] x order within gap = tt
+  placed_of zero (y ∷ ys) x order within gap =
+      let less : R x y ≡ Less = o.antisymm x y ∙ ap ordering_reverse (gap.1 0 y (omega arith) (omega arith)) in (less, further R o x y ys less order.0)
+  placed_of (suc p) [] x order within gap = absurd (omega arith)
+  placed_of (suc p) (y ∷ ys) x order within gap = (
+    gap.0 0 y (omega arith) (omega arith),
+    placed_of p ys x order.1 (omega arith)
+        (λ k d from less. gap.0 (suc k) d (omega arith) (omega arith), λ k d from less. gap.1 (suc k) d (omega arith) (omega arith)),
+  )
 
   order_put : (xs : List X) (p : ℕ) (x : X) → InOrder R xs → Placed R x p xs → InOrder R (put xs p x)
   order_put xs zero x order placed = (placed, order)
   order_put [] (suc p) x order placed = absurd placed
   order_put (y ∷ ys) (suc p) x order placed = (all_put (λ z. R y z ≡ Less) ys p x order.0 placed.0, order_put ys p x order.1 placed.1)
+
+  pub order_inserted : (xs : List X) (p : ℕ) (x : X) → InOrder R xs → Placed R x p xs → InOrder R (insert xs p x)
+  order_inserted xs p x order placed = subst (λ ys. InOrder R ys) (sym (put_insert xs p x)) (order_put xs p x order placed)
 
   order_taken : (n : ℕ) (xs : List X) → InOrder R xs → InOrder R (take n xs)
   order_taken zero [] order = tt

@@ -1,21 +1,21 @@
 -- Keeping one path for each walk.
-use Rattle.std.proofs.Common.{◌≡◌, ℕ, zero, suc, ◌<◌, false, List, [], ◌∷◌, ◌++◌, length, get_or, set, All, Any, AllPairs, refl, sym, ap, subst, ◌∙◌, arith, length-append}
+use Rattle.std.proofs.Common.{◌≡◌, ℕ, zero, suc, ◌<◌, ◌≤◌, false, List, [], ◌∷◌, length, get_or, set, take, drop, insert, Any, refl, sym, ap, subst, ◌∙◌, arith}
 use Rattle.std.specs.Prelude.{◌≢◌}
+use Rattle.std.specs.List.{AllByRecursion}
 use Rattle.std.specs.declared.cmp.Ordering.{Ordering}
 use Rattle.std.specs.declared.cmp.Ordering.TheVariants.{Less, Equal, Greater}
 use Rattle.std.specs.Ordering.{ordering_reverse, is_gt}
-use Rattle.std.proofs.Math.ListN.{get_or-append}
 use Rattle.std.proofs.lemmas.Cmp.{upto, tied_itself}
-use Rattle.std.proofs.lemmas.List.{map-append}
-use Rattle.std.proofs.lemmas.List.Elements.{All-set, All-push, All-map}
-use Rattle.std.proofs.lemmas.List.Quantifiers.{all_pairs_push}
+use Rattle.std.proofs.lemmas.List.Elements.{All-set, All-append, All-cons, All-take, All-drop}
 use Rattle.path_header.specs.Value.{HeaderValue}
 use Rattle.policy_expr.specs.declared.hop.WalkHop.{WalkHop}
 use Rattle.path_verifier.specs.Walk.{walk_of}
 use Rattle.combinator.specs.Candidate.{Question, PathValue, IsCandidate}
-use Rattle.combinator.specs.Order.{bytes_cmp, HaveOneWalk}
-use Rattle.combinator.specs.Kept.{IsNoWorse, IsMet, walks_of, GoesOn}
-use Rattle.combinator.proofs.Ranks.{bytes_total}
+use Rattle.combinator.specs.Order.{walk_cmp, bytes_cmp, HaveOneWalk}
+use Rattle.combinator.specs.Placed.{InOrder, IsGap}
+use Rattle.combinator.specs.Kept.{by_walk, IsNoWorse, IsMet, GoesOn}
+use Rattle.combinator.proofs.Ranks.{bytes_total, walks_total, same_walk}
+use Rattle.combinator.proofs.Inserted.{placed_of, order_inserted}
 
 -- ---- no worse, one after another
 
@@ -64,24 +64,44 @@ any_new P [] k x within p = absurd (omega arith)
 any_new P (y ∷ ys) zero x within p = any_here P x ys p
 any_new P (y ∷ ys) (suc k) x within p = any_there P y (set ys k x) (any_new P ys k x (omega arith) p)
 
-any_pushed : {X : Type 0} (P : X → Type 0) (xs : List X) (x : X) → Any P xs → Any P (xs ++ x ∷ [])
-any_pushed P xs x some = (some.0, some.1, (let l = length-append xs (x ∷ []) in let within = some.2 in omega arith), get_or-append xs (x ∷ []) some.1 some.0 some.2 ∙ some.3, some.4)
+any_inserted : {X : Type 0} (P : X → Type 0) (xs : List X) (k : ℕ) (x : X) (j : ℕ) (z : X) → j < length xs → get_or xs j z ≡ z → P z → Any P (insert xs k x)
+any_inserted P [] k x j z within at p = absurd (omega arith)
+any_inserted P (y ∷ ys) zero x j z within at p = any_there P x (y ∷ ys) (j, z, within, at, p)
+any_inserted P (y ∷ ys) (suc k) x zero z within at p = any_here P y (insert ys k x) (subst P (sym at) p)
+any_inserted P (y ∷ ys) (suc k) x (suc j) z within at p = any_there P y (insert ys k x) (any_inserted P ys k x j z (omega arith) at p)
 
-any_last : {X : Type 0} (P : X → Type 0) (xs : List X) (x : X) → P x → Any P (xs ++ x ∷ [])
-any_last P [] x p = any_here P x [] p
-any_last P (y ∷ ys) x p = any_there P y (ys ++ x ∷ []) (any_last P ys x p)
+any_put : {X : Type 0} (P : X → Type 0) (xs : List X) (k : ℕ) (x : X) → P x → Any P (insert xs k x)
+any_put P [] zero x p = any_here P x [] p
+any_put P [] (suc k) x p = any_here P x [] p
+any_put P (y ∷ ys) zero x p = any_here P x (y ∷ ys) p
+any_put P (y ∷ ys) (suc k) x p = any_there P y (insert ys k x) (any_put P ys k x p)
 
-walks_set : (paths : List PathValue) (k : ℕ) (path : PathValue) → HaveOneWalk (get_or paths k path) path → walks_of (set paths k path) ≡ walks_of paths
-walks_set [] k path same = refl
-walks_set (first ∷ paths) zero path same = ap (λ (walk : List WalkHop). walk ∷ walks_of paths) (sym same)
-walks_set (first ∷ paths) (suc k) path same = ap (λ (walks : List (List WalkHop)). walk_of first.pieces ∷ walks) (walks_set paths k path same)
+-- ---- the order of walks
+
+before_set : (first : PathValue) (paths : List PathValue) (k : ℕ) (path : PathValue) → HaveOneWalk (get_or paths k path) path
+    → AllByRecursion (λ one. by_walk first one ≡ Less) paths → AllByRecursion (λ one. by_walk first one ≡ Less) (set paths k path)
+before_set first [] k path same all = tt
+before_set first (next ∷ paths) zero path same all = (subst (λ (walk : List WalkHop). walk_cmp (walk_of first.pieces) walk ≡ Less) same all.0, all.1)
+before_set first (next ∷ paths) (suc k) path same all = (all.0, before_set first paths k path same all.1)
+
+-- another path of one walk keeps the order
+pub order_set : (paths : List PathValue) (k : ℕ) (path : PathValue) → HaveOneWalk (get_or paths k path) path → InOrder by_walk paths → InOrder by_walk (set paths k path)
+order_set [] k path same order = tt
+order_set (first ∷ paths) zero path same order =
+    (subst (λ (walk : List WalkHop). AllByRecursion (λ one. walk_cmp walk (walk_of one.pieces) ≡ Less) paths) same order.0, order.1)
+order_set (first ∷ paths) (suc k) path same order = (before_set first paths k path same order.0, order_set paths k path same order.1)
+
+-- and so does one that comes where its walk belongs
+pub order_insert : (paths : List PathValue) (k : ℕ) (path : PathValue) → k ≤ length paths → IsGap by_walk path paths k → InOrder by_walk paths → InOrder by_walk (insert paths k path)
+order_insert paths k path within gap order = order_inserted by_walk walks_total paths k path order (placed_of by_walk walks_total k paths path order within gap)
+
+-- ---- one path more
 
 -- the better of two paths of one walk is kept
 pub set_goes_on : (question : Question) (paths : List PathValue) (k : ℕ) (path : PathValue) → IsCandidate question path → HaveOneWalk (get_or paths k path) path
     → IsNoWorse path (get_or paths k path) → GoesOn question paths (set paths k path)
 set_goes_on question paths k path candidate same better = record {
   sound = λ sound. All-set (IsCandidate question) paths k path candidate sound;
-  apart = λ apart. subst (λ (walks : List (List WalkHop)). AllPairs (λ one other. one ≢ other) walks) (sym (walks_set paths k path same)) apart;
   met = λ other met. any_set (λ one. HaveOneWalk one other × IsNoWorse one other) paths k path
       (λ was. (sym same ∙ was.0, no_worse_on path (get_or paths k path) other better was.1)) met.0 met.1 met.2 met.3 met.4;
 }
@@ -90,25 +110,22 @@ pub set_meets : (paths : List PathValue) (k : ℕ) (path : PathValue) → k < le
 set_meets paths k path within = any_new (λ one. HaveOneWalk one path × IsNoWorse one path) paths k path within (refl, no_worse_itself path)
 
 -- a walk of which there was none is taken in
-pub push_goes_on : (question : Question) (paths : List PathValue) (path : PathValue) → IsCandidate question path → All (λ one. ¬ (HaveOneWalk one path)) paths
-    → GoesOn question paths (paths ++ path ∷ [])
-push_goes_on question paths path candidate none = record {
-  sound = λ sound. All-push (IsCandidate question) paths path sound candidate;
-  apart = λ apart. subst (λ (walks : List (List WalkHop)). AllPairs (λ one other. one ≢ other) walks) (sym (map-append (λ (p : PathValue). walk_of p.pieces) paths (path ∷ [])))
-      (all_pairs_push (λ one other. one ≢ other) (walks_of paths) (walk_of path.pieces) apart (All-map (λ (walk : List WalkHop). walk ≢ walk_of path.pieces) (λ (p : PathValue). walk_of p.pieces) paths none));
-  met = λ other met. any_pushed (λ one. HaveOneWalk one other × IsNoWorse one other) paths path met;
+pub insert_goes_on : (question : Question) (paths : List PathValue) (k : ℕ) (path : PathValue) → IsCandidate question path → GoesOn question paths (insert paths k path)
+insert_goes_on question paths k path candidate = record {
+  sound = λ sound. All-append (IsCandidate question) (take k paths) (path ∷ drop k paths) (All-take (IsCandidate question) k paths sound)
+      (All-cons (IsCandidate question) path (drop k paths) candidate (All-drop (IsCandidate question) k paths sound));
+  met = λ other met. any_inserted (λ one. HaveOneWalk one other × IsNoWorse one other) paths k path met.0 met.1 met.2 met.3 met.4;
 }
 
-pub push_meets : (paths : List PathValue) (path : PathValue) → IsMet (paths ++ path ∷ []) path
-push_meets paths path = any_last (λ one. HaveOneWalk one path × IsNoWorse one path) paths path (refl, no_worse_itself path)
+pub insert_meets : (paths : List PathValue) (k : ℕ) (path : PathValue) → IsMet (insert paths k path) path
+insert_meets paths k path = any_put (λ one. HaveOneWalk one path × IsNoWorse one path) paths k path (refl, no_worse_itself path)
 
 pub stays : (question : Question) (paths : List PathValue) → GoesOn question paths paths
-stays question paths = record { sound = λ sound. sound; apart = λ apart. apart; met = λ other met. met }
+stays question paths = record { sound = λ sound. sound; met = λ other met. met }
 
 pub goes_further : (question : Question) (old mid new : List PathValue) → GoesOn question old mid → GoesOn question mid new → GoesOn question old new
 goes_further question old mid new first second = record {
   sound = λ sound. second.sound (first.sound sound);
-  apart = λ apart. second.apart (first.apart apart);
   met = λ path met. second.met path (first.met path met);
 }
 
@@ -128,14 +145,38 @@ any_default (z ∷ zs) (suc i) x y inside = any_default zs i x y (omega arith)
 
 -- ---- as the code sees it
 
-module _ (question : Question) (paths slice : List PathValue) (path : PathValue) (same : slice ≡ paths) where
-  pub replaced : (k : ℕ) (read : PathValue) → k < length slice → HaveOneWalk (get_or slice k path) path → read ≡ get_or paths k read → IsNoWorse path read
-      → IsCandidate question path → GoesOn question paths (set paths k path)
-  replaced k read within one at better candidate =
-      let inside : k < length paths = subst (λ (xs : List PathValue). k < length xs) same within in
-      let walk : HaveOneWalk (get_or paths k path) path = subst (λ (xs : List PathValue). HaveOneWalk (get_or xs k path) path) same one in
-      set_goes_on question paths k path candidate walk (subst (IsNoWorse path) (at ∙ any_default paths k read path inside) better)
+pub one_walk : (paths : List PathValue) (k : ℕ) (read path : PathValue) → k < length paths → read ≡ get_or paths k read → by_walk read path ≡ Equal → HaveOneWalk (get_or paths k path) path
+one_walk paths k read path within at tie =
+    ap (λ (p : PathValue). walk_of p.pieces) (any_default paths k path read within ∙ sym at) ∙ same_walk (walk_of read.pieces) (walk_of path.pieces) tie
 
-  pub taken : (new : List PathValue) → new ≡ paths ++ path ∷ [] → All (λ one. ¬ (HaveOneWalk one path)) slice → IsCandidate question path → GoesOn question paths new
-  taken new is none candidate =
-      subst (GoesOn question paths) (sym is) (push_goes_on question paths path candidate (subst (λ (xs : List PathValue). All (λ one. ¬ (HaveOneWalk one path)) xs) same none))
+module _ (old paths slice : List PathValue) (path : PathValue) (view : paths ≡ old) (same : slice ≡ paths) where
+  module _ (k : ℕ) (last : PathValue) (is : last ≡ path) (within : k < length slice) (one : HaveOneWalk (get_or slice k path) path) where
+    inside : k < length paths
+    inside = subst (λ (xs : List PathValue). k < length xs) same within
+
+    walk : HaveOneWalk (get_or paths k path) path
+    walk = subst (λ (xs : List PathValue). HaveOneWalk (get_or xs k path) path) same one
+
+    pub order_replaced : InOrder by_walk paths → InOrder by_walk (set paths k last)
+    order_replaced order = subst (λ (p : PathValue). InOrder by_walk (set paths k p)) (sym is) (order_set paths k path walk order)
+
+    pub goes_replaced : (question : Question) (read : PathValue) → read ≡ get_or paths k read → IsNoWorse path read → IsCandidate question path → GoesOn question old (set paths k last)
+    goes_replaced question read at better candidate =
+        subst (λ (p : PathValue). GoesOn question old (set paths k p)) (sym is) (subst (λ (xs : List PathValue). GoesOn question xs (set paths k path)) view
+        (set_goes_on question paths k path candidate walk (subst (IsNoWorse path) (at ∙ any_default paths k read path inside) better)))
+
+    pub met_replaced : IsMet (set paths k last) path
+    met_replaced = subst (λ (p : PathValue). IsMet (set paths k p) path) (sym is) (set_meets paths k path inside)
+
+  module _ (new : List PathValue) (k : ℕ) (is : new ≡ insert paths k path) where
+    pub order_inserted_at : k ≤ length slice → IsGap by_walk path slice k → InOrder by_walk paths → InOrder by_walk new
+    order_inserted_at within gap order =
+        subst (λ (xs : List PathValue). InOrder by_walk xs) (sym is)
+        (order_insert paths k path (subst (λ (xs : List PathValue). k ≤ length xs) same within) (subst (λ (xs : List PathValue). IsGap by_walk path xs k) same gap) order)
+
+    pub goes_inserted : (question : Question) → IsCandidate question path → GoesOn question old new
+    goes_inserted question candidate =
+        subst (GoesOn question old) (sym is) (subst (λ (xs : List PathValue). GoesOn question xs (insert paths k path)) view (insert_goes_on question paths k path candidate))
+
+    pub met_inserted : IsMet new path
+    met_inserted = subst (λ (xs : List PathValue). IsMet xs path) (sym is) (insert_meets paths k path)

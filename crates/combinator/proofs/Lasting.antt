@@ -1,21 +1,20 @@
 -- Comparing two paths of one walk by the moment at which they expire, and by the bytes of their
 -- headers.
 use Rattle.std.proofs.Common.{◌≡◌, ℕ, ◌<◌, ◌≤◌, List, All, refl, sym, ap, subst, ◌∙◌, arith}
-use Rattle.std.specs.Prelude.{◌↔◌, ◌≢◌}
+use Rattle.std.specs.Prelude.{◌≢◌}
 use Rattle.std.specs.declared.cmp.Ordering.{Ordering}
 use Rattle.std.specs.declared.cmp.Ordering.TheVariants.{Less, Equal, Greater}
 use Rattle.std.specs.Ordering.{nat_cmp, ordering_reverse}
 use Rattle.std.specs.Cmp.Lexicographic.{slice_cmp}
 use Rattle.hop_mac.specs.Lifetime.{expiry_of}
 use Rattle.path_header.specs.Spelling.{Spells, spelling}
-use Rattle.policy_expr.specs.declared.hop.WalkHop.{WalkHop}
 use Rattle.path_verifier.specs.Piece.{PieceValue, entries_of}
 use Rattle.path_verifier.specs.Accepted.{IsExpiry}
-use Rattle.std.proofs.lemmas.Cmp.{tied_itself, lists_total, nat_list_cmp_total}
+use Rattle.std.proofs.lemmas.Cmp.{nat_list_cmp_total}
 use Rattle.combinator.specs.Candidate.{PathValue}
-use Rattle.combinator.specs.Order.{walk_cmp, bytes_cmp, LastTo, LastAsLong}
+use Rattle.combinator.specs.Order.{bytes_cmp, LastTo, LastAsLong}
 use Rattle.combinator.specs.Kept.{IsNoWorse}
-use Rattle.combinator.proofs.Ranks.{hop_total, bytes_total, same_walk}
+use Rattle.combinator.proofs.Ranks.{bytes_total}
 
 last_to : (pieces : List PieceValue) (least half : ℕ) → IsExpiry pieces least → half ≤ least → LastTo half pieces
 last_to pieces least half is upto = λ j p there k d within. (let lower = is.lower j p there k d within in omega arith)
@@ -56,10 +55,6 @@ fewer_bytes one other e f bytes text is also same first second upto = record {
 pub same_bytes : (one other : PathValue) (bytes text : List ℕ) → Spells bytes one.header → Spells text other.header → slice_cmp nat_cmp bytes text ≡ bytes_cmp one.header other.header
 unfolding bytes_cmp
 same_bytes one other bytes text first second = ap (λ (b : List ℕ). slice_cmp nat_cmp b text) first.spelled ∙ ap (slice_cmp nat_cmp (spelling one.header)) second.spelled
-
--- walks stand at one place of the order exactly where they are one
-pub walks_tied : (walk other : List WalkHop) → (walk_cmp walk other ≡ Equal) ↔ (walk ≡ other)
-walks_tied walk other = (same_walk walk other, λ same. ap (walk_cmp walk) (sym same) ∙ tied_itself (lists_total hop_total) walk)
 
 -- ---- as the code sees two paths
 

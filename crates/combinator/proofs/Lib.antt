@@ -1,5 +1,6 @@
 pub mod Tied
 pub mod Inserted
+pub mod Searched
 pub mod Ranks
 pub mod Agreeing
 pub mod TakingIn

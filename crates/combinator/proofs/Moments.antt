@@ -13,7 +13,7 @@ use Rattle.path_verifier.specs.declared.kind.PieceKind.TheVariants.{Up, Core, Do
 use Rattle.path_verifier.specs.Piece.{PieceValue, kind_of, entries_of}
 use Rattle.path_verifier.specs.Accepted.{AreLive, MakesPath}
 use Rattle.combinator.specs.Candidate.{question_of, PathValue, segments_of, IsOf, IsCandidate, HasNone}
-use Rattle.combinator.specs.Answer.{IsBest, IsLeftOut, IsAnswer, IsUsed, AnswersWith, asked}
+use Rattle.combinator.specs.Answer.{IsBest, IsLeftOut, IsAnswer, AnswersWith, asked}
 use Rattle.combinator.specs.Lasting.{IsSameSet, AreAllLive}
 
 pub turned_set : (set other : Selection) → IsSameSet set other → IsSameSet other set

@@ -1,25 +1,21 @@
 -- Taking a path into an answer.
-use Rattle.std.proofs.Common.{◌≡◌, ℕ, ◌<◌, ◌≤◌, List, ◌∷◌, length, get_or, take, drop, insert, All, sym, ap, subst, ◌∙◌}
-use Rattle.std.specs.declared.cmp.Ordering.TheVariants.{Less, Greater}
+use Rattle.std.proofs.Common.{◌≡◌, ℕ, ◌<◌, ◌≤◌, List, ◌∷◌, length, take, drop, insert, All, sym, ap, subst, ◌∙◌}
 use Rattle.std.proofs.lemmas.List.Elements.{All-append, All-cons, All-take, All-drop}
 use Rattle.combinator.specs.Candidate.{Question, PathValue}
 use Rattle.combinator.specs.Order.{path_cmp}
 use Rattle.combinator.specs.Answer.{IsBest}
-use Rattle.combinator.specs.Placed.{InOrder, Met}
+use Rattle.combinator.specs.Placed.{InOrder, IsGap, Met}
 use Rattle.combinator.proofs.Ranks.{path_total}
 use Rattle.combinator.proofs.Inserted as lists
 use Rattle.combinator.proofs.Inserted.{Placed, placed_of}
 
 module _ (paths slice : List PathValue) (found : PathValue) (limit place : ℕ) (same : slice ≡ paths) (order : InOrder path_cmp paths) (within : place ≤ length slice)
-    (before : (k : ℕ) (d : PathValue) → k < place → path_cmp (get_or slice k d) found ≡ Less)
-    (behind : (d : PathValue) → place < length slice → path_cmp (get_or slice place d) found ≡ Greater) where
+    (gap : IsGap path_cmp found slice place) where
   inside : place ≤ length paths
   inside = subst (λ (xs : List PathValue). place ≤ length xs) same within
 
   placed : Placed path_cmp found place paths
-  placed = placed_of path_cmp path_total place paths found order inside
-      (subst (λ (xs : List PathValue). (k : ℕ) (d : PathValue) → k < place → path_cmp (get_or xs k d) found ≡ Less) same before)
-      (subst (λ (xs : List PathValue). (d : PathValue) → place < length xs → path_cmp (get_or xs place d) found ≡ Greater) same behind)
+  placed = placed_of path_cmp path_total place paths found order inside (subst (λ (xs : List PathValue). IsGap path_cmp found xs place) same gap)
 
   pub behind_all : length paths ≤ limit → limit ≤ place → Met path_cmp limit paths found
   behind_all few past = lists.met_behind path_cmp path_total limit paths paths place found order placed few inside past

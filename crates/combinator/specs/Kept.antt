@@ -1,12 +1,16 @@
 -- How candidates are settled, a path for each walk (words of private functions' contracts).
-use Rattle.std.specs.Prelude.{◌≢◌, List, map, All, AllPairs, Any}
+use Rattle.std.specs.Prelude.{◌≢◌, List, All, Any}
+use Rattle.std.specs.declared.cmp.Ordering.{Ordering}
 use Rattle.std.specs.declared.cmp.Ordering.TheVariants.{Less}
-use Rattle.policy_expr.specs.declared.hop.WalkHop.{WalkHop}
 use Rattle.path_header.specs.Value.{HeaderValue}
 use Rattle.path_verifier.specs.Piece.{PieceValue}
 use Rattle.path_verifier.specs.Walk.{walk_of}
 use Rattle.combinator.specs.Candidate.{Question, PathValue, path_with, IsCandidate}
-use Rattle.combinator.specs.Order.{bytes_cmp, LastAsLong, HaveOneWalk}
+use Rattle.combinator.specs.Order.{walk_cmp, bytes_cmp, LastAsLong, HaveOneWalk}
+
+-- paths by their walks
+abbrev pub by_walk : PathValue → PathValue → Ordering
+by_walk one other = walk_cmp (walk_of one.pieces) (walk_of other.pieces)
 
 -- the first path expires no earlier than the other, and where it expires no later its header's
 -- bytes are no greater
@@ -18,19 +22,10 @@ pub record IsNoWorse (one other : PathValue) : Type 0 where
 abbrev pub IsMet : List PathValue → PathValue → Type 0
 IsMet paths path = Any (λ one. HaveOneWalk one path × IsNoWorse one path) paths
 
--- the walks of paths
-abbrev pub walks_of : List PathValue → List (List WalkHop)
-walks_of paths = map (λ path. walk_of path.pieces) paths
-
--- no two have one walk
-abbrev pub AreApart : List PathValue → Type 0
-AreApart paths = AllPairs (λ one other. one ≢ other) (walks_of paths)
-
--- what is kept after more was found: candidates alone, no two with one walk, and for each walk
--- something as good as before
+-- what is kept after more was found: candidates alone, and for each walk something as good as
+-- before
 pub record GoesOn (question : Question) (old new : List PathValue) : Type 0 where
   pub sound : All (IsCandidate question) old → All (IsCandidate question) new
-  pub apart : AreApart old → AreApart new
   pub met : (path : PathValue) → IsMet old path → IsMet new path
 
 -- whatever candidate has these pieces, one of its walk is there that is no worse

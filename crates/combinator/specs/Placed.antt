@@ -2,8 +2,9 @@
 -- contracts).
 use Rattle.std.specs.Prelude.{◌≡◌, ◌⊎◌, ℕ, List, [], ◌∷◌, length}
 use Rattle.std.specs.List.{AllByRecursion}
+use Rattle.std.specs.List.Sorted.{IsPartitionPoint}
 use Rattle.std.specs.declared.cmp.Ordering.{Ordering}
-use Rattle.std.specs.declared.cmp.Ordering.TheVariants.{Less, Equal}
+use Rattle.std.specs.declared.cmp.Ordering.TheVariants.{Less, Equal, Greater}
 
 -- an element of the list is tied with this one
 abbrev pub Tied : {X : Type 0} → (X → X → Ordering) → X → List X → Type 0
@@ -14,6 +15,10 @@ Tied R x (y ∷ ys) = (R x y ≡ Equal) ⊎ Tied R x ys
 abbrev pub InOrder : {X : Type 0} → (X → X → Ordering) → List X → Type 0
 InOrder R [] = Unit {0}
 InOrder R (x ∷ xs) = AllByRecursion (λ y. R x y ≡ Less) xs × InOrder R xs
+
+-- the element belongs at this place: those before it stand before, those from there on behind
+abbrev pub IsGap : {X : Type 0} → (X → X → Ordering) → X → List X → ℕ → Type 0
+IsGap R x xs place = IsPartitionPoint (λ y. R y x ≡ Less) (λ y. R y x ≡ Greater) xs place
 
 -- the element is in the list, or the list is full before it
 abbrev pub Met : {X : Type 0} → (X → X → Ordering) → ℕ → List X → X → Type 0

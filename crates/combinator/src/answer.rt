@@ -75,8 +75,8 @@ impl<'s, 'p, A: Allocator + Clone> Paths<'s, 'p, A> {
 ///
 /// Pieces are joined by the ASes in which they meet. With n pieces that begin in the source or end
 /// in the destination, or are whole core segments, and m lists of them that meet, it takes time in
-/// proportion to n for each such list, and to the number of walks for each path that may be sent,
-/// and it keeps a path for each walk.
+/// proportion to n for each such list. It keeps a path for each walk: with w walks, each path that
+/// may be sent is compared with some log w of those that are kept, and moves w pointers at most.
 pub fn paths_between<'s, 'p, A: Allocator + Clone>(
     alloc: Global,
     set: &'s SegmentSet,
@@ -107,6 +107,6 @@ fn answered<'s, 'p, A: Allocator + Clone>(
 {
     let legs = legs_of(alloc, ask)?;
     let kept = settled(alloc, ask, &legs)?;
-    let found = in_order(alloc, kept, limit)?;
+    let found = in_order(alloc, kept.into_list(), limit)?;
     Ok(Paths { found })
 }

@@ -1,24 +1,32 @@
-ghost use Rattle.std.specs.Prelude.{◌≡◌, ◌↔◌, ◌⊎◌, IfOk, OnOk, IsTrue};
+ghost use Rattle.std.specs.Prelude.{◌≡◌, ◌⊎◌, IfOk, OnOk, IsTrue};
 ghost use Rattle.path_header.specs.Spelling.{Spells, spelling};
-ghost use Rattle.combinator.specs.Order.{path_cmp, walk_cmp, hop_cmp, HaveOneWalk};
-ghost use Rattle.combinator.specs.Kept.{IsNoWorse};
+ghost use Rattle.combinator.specs.Order.{path_cmp, walk_cmp, hop_cmp};
+ghost use Rattle.combinator.specs.Kept.{by_walk, IsNoWorse};
 
 use path_header::encode;
 use path_verifier::VerifiedPath;
-use policy_expr::WalkHop;
+use policy_expr::{Policy, WalkHop};
 use std::alloc::{AllocError, Allocator, Global};
 use std::cmp::Ordering;
-use std::marker::Model;
+use std::marker::{Model, PhantomData};
 
 /// The most bytes of a header.
 const MAX_BYTES: usize = 796;
 
 /// A path that may be sent, with what it is compared by: when it expires, and its header's bytes.
 #[derive(Drop)]
-pub(crate) struct Found<'s, 'p, A: Allocator + Clone> {
+struct Measured<'s, 'p, A: Allocator + Clone> {
     path: VerifiedPath<'s, 'p, A>,
     expiry: u64,
     bytes: Vec<u8>,
+}
+
+/// A path that was found. It lies on the heap, so that in a list of them pointers alone are moved.
+#[derive(Drop)]
+pub(crate) struct Found<'s, 'p, A: Allocator + Clone> {
+    measured: Box<Measured<'s, 'p, A>>,
+    // Beside the box, since a box does not show what its path borrows.
+    policy: PhantomData<&'p Policy<A>>,
 }
 
 impl<'s, 'p, A: Allocator + Clone> Model for Found<'s, 'p, A> {
@@ -28,10 +36,12 @@ impl<'s, 'p, A: Allocator + Clone> Model for Found<'s, 'p, A> {
 
     ghost Value = { PathValue };
 
-    ghost view = { λ f. record { pieces = f.path.pieces; header = f.path.header } };
+    ghost view = { λ f. let path = f.measured.value.path in
+        record { pieces = path.pieces; header = path.header } };
 
-    ghost invariant = { λ f. IsExpiry f.path.pieces f.expiry
-        × Spells f.bytes.items f.path.header };
+    ghost invariant = { λ f. let measured = f.measured.value in
+        IsExpiry measured.path.pieces measured.expiry
+        × Spells measured.bytes.items measured.path.header };
 }
 
 impl<'s, 'p, A: Allocator + Clone> Found<'s, 'p, A> {
@@ -50,10 +60,14 @@ impl<'s, 'p, A: Allocator + Clone> Found<'s, 'p, A> {
         };
         let bytes = Vec::from_slice(alloc, &room[..len])?;
         let expiry = path.expiry();
-        Ok(Found {
+        let measured = Measured {
             path,
             expiry,
             bytes,
+        };
+        Ok(Found {
+            measured: Box::new(alloc, measured)?,
+            policy: PhantomData,
         })
     }
 
@@ -62,7 +76,7 @@ impl<'s, 'p, A: Allocator + Clone> Found<'s, 'p, A> {
         ensures pieces { result.now.pieces ≡ self.now.pieces }
         ensures header { result.now.header ≡ self.now.header }
     {
-        &self.path
+        &self.measured.path
     }
 
     /// How it stands to another one in the order of answers.
@@ -70,29 +84,26 @@ impl<'s, 'p, A: Allocator + Clone> Found<'s, 'p, A> {
     pub(crate) fn compare(&self, other: &Found<'s, 'p, A>) -> Ordering
         ensures { result ≡ path_cmp self.now other.now }
     {
-        match self
+        let (one, other) = (&*self.measured, &*other.measured);
+        match one
             .path
             .header()
             .hop_count()
             .cmp(&other.path.header().hop_count())
         {
-            Ordering::Equal => match self.bytes.as_slice().cmp(other.bytes.as_slice()) {
-                Ordering::Equal => compare_walks(self.path.walk(), other.path.walk()),
+            Ordering::Equal => match one.bytes.as_slice().cmp(other.bytes.as_slice()) {
+                Ordering::Equal => compare_walks(one.path.walk(), other.path.walk()),
                 decided => decided,
             },
             decided => decided,
         }
     }
 
-    /// Whether both have one walk.
-    #[tactic(auto, using(crate::proofs::Lasting::walks_tied))]
-    pub(crate) fn has_walk_of(&self, other: &Found<'s, 'p, A>) -> bool
-        ensures { IsTrue result ↔ HaveOneWalk self.now other.now }
+    /// How its walk stands to that of another one.
+    pub(crate) fn compare_walk(&self, other: &Found<'s, 'p, A>) -> Ordering
+        ensures { result ≡ by_walk self.now other.now }
     {
-        match compare_walks(self.path.walk(), other.path.walk()) {
-            Ordering::Equal => true,
-            _ => false,
-        }
+        compare_walks(self.measured.path.walk(), other.measured.path.walk())
     }
 
     /// Whether it expires no earlier than another, and where both expire at one moment its header's
@@ -102,13 +113,14 @@ impl<'s, 'p, A: Allocator + Clone> Found<'s, 'p, A> {
         ensures it { IsTrue result → IsNoWorse self.now other.now }
         ensures other { IsTrue result ⊎ IsNoWorse other.now self.now }
     {
-        if self.expiry > other.expiry {
+        let (one, other) = (&*self.measured, &*other.measured);
+        if one.expiry > other.expiry {
             return true;
         }
-        if self.expiry < other.expiry {
+        if one.expiry < other.expiry {
             return false;
         }
-        match self.bytes.as_slice().cmp(other.bytes.as_slice()) {
+        match one.bytes.as_slice().cmp(other.bytes.as_slice()) {
             Ordering::Greater => false,
             _ => true,
         }

@@ -1,11 +1,10 @@
 //! The paths of an answer in their order, up to a limit.
 
-ghost use Rattle.std.specs.Prelude.{◌≡◌, ◌<◌, ◌≤◌, ℕ, length, slice_index_or, All, Contains, IfSome, IfNone, IfOk, OnOk};
-ghost use Rattle.std.specs.declared.cmp.Ordering.TheVariants.{Less, Greater};
+ghost use Rattle.std.specs.Prelude.{◌≤◌, length, All, Contains, IfSome, IfNone, IfOk, OnOk};
 ghost use Rattle.combinator.specs.Candidate.{Question, PathValue};
 ghost use Rattle.combinator.specs.Order.{path_cmp};
 ghost use Rattle.combinator.specs.Answer.{IsBest};
-ghost use Rattle.combinator.specs.Placed.{Tied, InOrder, Met};
+ghost use Rattle.combinator.specs.Placed.{Tied, InOrder, IsGap, Met};
 
 use crate::found::Found;
 use std::alloc::{AllocError, Allocator, Global};
@@ -64,19 +63,20 @@ fn place_in<'s, 'p, A: Allocator + Clone>(
     ordered: &[Found<'s, 'p, A>],
     found: &Found<'s, 'p, A>,
 ) -> Option<usize>
+    requires { InOrder path_cmp ordered.now }
     ensures tied { IfNone result (Tied path_cmp found.now ordered.now) }
     ensures within { IfSome result (λ place. place ≤ length ordered.now) }
-    ensures before { IfSome result (λ place. (k : ℕ) (d : PathValue) → k < place
-        → path_cmp (slice_index_or ordered.now k d) found.now ≡ Less) }
-    ensures behind { IfSome result (λ place. (d : PathValue) → place < length ordered.now
-        → path_cmp (slice_index_or ordered.now place d) found.now ≡ Greater) }
+    ensures gap { IfSome result (IsGap path_cmp found.now ordered.now) }
 {
-    for (place, one) in ordered.iter().enumerate() {
-        match one.compare(found) {
-            Ordering::Less => {}
+    let mut low = 0;
+    let mut high = ordered.len();
+    while low < high {
+        let middle = low + (high - low) / 2;
+        match ordered[middle].compare(found) {
+            Ordering::Less => low = middle + 1,
             Ordering::Equal => return None,
-            Ordering::Greater => return Some(place),
+            Ordering::Greater => high = middle,
         }
     }
-    Some(ordered.len())
+    Some(low)
 }

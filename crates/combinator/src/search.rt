@@ -4,11 +4,11 @@ ghost use Rattle.std.specs.Prelude.{◌≡◌, [], ◌∷◌, List, All, Contain
 ghost use Rattle.path_header.specs.Value.{HeaderValue};
 ghost use Rattle.path_verifier.specs.Piece.{PieceValue, begins_in, ends_in};
 ghost use Rattle.combinator.specs.Candidate.{IsOf, PathValue, IsCandidate};
-ghost use Rattle.combinator.specs.Kept.{IsMet, AreApart, GoesOn, AreSettled};
+ghost use Rattle.combinator.specs.Kept.{IsMet, GoesOn, AreSettled};
 
 use crate::ask::Ask;
 use crate::found::Found;
-use crate::kept::keep;
+use crate::kept::Kept;
 use crate::leg::Leg;
 use path_verifier::{Pieces, accept};
 use std::alloc::{AllocError, Allocator, Global};
@@ -17,16 +17,16 @@ use std::alloc::{AllocError, Allocator, Global};
 fn consider<'s, 'p, A: Allocator + Clone>(
     alloc: Global,
     ask: &Ask<'s, 'p, A>,
-    kept: &mut Vec<Found<'s, 'p, A>>,
+    kept: &mut Kept<'s, 'p, A>,
     pieces: &Pieces<'s>,
 ) -> Result<(), AllocError>
     requires { All (IsOf ask.now.set) pieces.now }
-    ensures goes { OnOk result (GoesOn ask.now kept.old.items kept.new.items) }
-    ensures settled { OnOk result (AreSettled ask.now kept.new.items pieces.now) }
+    ensures goes { OnOk result (GoesOn ask.now kept.old kept.new) }
+    ensures settled { OnOk result (AreSettled ask.now kept.new pieces.now) }
 {
     match accept(pieces, ask.src, ask.dst, ask.set.now(), ask.policy) {
         Err(_) => {}
-        Ok(path) => keep(kept, Found::new(alloc, path)?)?,
+        Ok(path) => kept.keep(Found::new(alloc, path)?)?,
     }
     Ok(())
 }
@@ -36,23 +36,22 @@ pub(crate) fn settled<'s, 'p, A: Allocator + Clone>(
     alloc: Global,
     ask: &Ask<'s, 'p, A>,
     legs: &[Leg<'s>],
-) -> Result<Vec<Found<'s, 'p, A>>, AllocError>
+) -> Result<Kept<'s, 'p, A>, AllocError>
     requires { All (IsOf ask.now.set) legs.now }
-    ensures sound { IfOk result (λ kept. All (IsCandidate ask.now) kept.items) }
-    ensures apart { IfOk result (λ kept. AreApart kept.items) }
+    ensures sound { IfOk result (All (IsCandidate ask.now)) }
     ensures one { IfOk result (λ kept. (first : PieceValue) → Contains legs.now first
-        → begins_in first ≡ ask.now.src → AreSettled ask.now kept.items (first ∷ [])) }
+        → begins_in first ≡ ask.now.src → AreSettled ask.now kept (first ∷ [])) }
     ensures two { IfOk result (λ kept. (first second : PieceValue) → Contains legs.now first
         → begins_in first ≡ ask.now.src → Contains legs.now second
         → begins_in second ≡ ends_in first
-        → AreSettled ask.now kept.items (first ∷ second ∷ [])) }
+        → AreSettled ask.now kept (first ∷ second ∷ [])) }
     ensures three { IfOk result (λ kept. (first second third : PieceValue)
         → Contains legs.now first → begins_in first ≡ ask.now.src → Contains legs.now second
         → begins_in second ≡ ends_in first → Contains legs.now third
         → begins_in third ≡ ends_in second
-        → AreSettled ask.now kept.items (first ∷ second ∷ third ∷ [])) }
+        → AreSettled ask.now kept (first ∷ second ∷ third ∷ [])) }
 {
-    let mut kept = Vec::new(alloc);
+    let mut kept = Kept::new(alloc);
     for first in legs {
         try_first(alloc, ask, &mut kept, legs, first)?;
     }
@@ -63,23 +62,23 @@ pub(crate) fn settled<'s, 'p, A: Allocator + Clone>(
 fn try_first<'s, 'p, A: Allocator + Clone>(
     alloc: Global,
     ask: &Ask<'s, 'p, A>,
-    kept: &mut Vec<Found<'s, 'p, A>>,
+    kept: &mut Kept<'s, 'p, A>,
     legs: &[Leg<'s>],
     first: &Leg<'s>,
 ) -> Result<(), AllocError>
     requires own { All (IsOf ask.now.set) legs.now }
     requires first { IsOf ask.now.set first.now }
-    ensures goes { OnOk result (GoesOn ask.now kept.old.items kept.new.items) }
+    ensures goes { OnOk result (GoesOn ask.now kept.old kept.new) }
     ensures one { OnOk result (begins_in first.now ≡ ask.now.src
-        → AreSettled ask.now kept.new.items (first.now ∷ [])) }
+        → AreSettled ask.now kept.new (first.now ∷ [])) }
     ensures two { OnOk result (begins_in first.now ≡ ask.now.src → (second : PieceValue)
         → Contains legs.now second → begins_in second ≡ ends_in first.now
-        → AreSettled ask.now kept.new.items (first.now ∷ second ∷ [])) }
+        → AreSettled ask.now kept.new (first.now ∷ second ∷ [])) }
     ensures three { OnOk result (begins_in first.now ≡ ask.now.src
         → (second third : PieceValue) → Contains legs.now second
         → begins_in second ≡ ends_in first.now → Contains legs.now third
         → begins_in third ≡ ends_in second
-        → AreSettled ask.now kept.new.items (first.now ∷ second ∷ third ∷ [])) }
+        → AreSettled ask.now kept.new (first.now ∷ second ∷ third ∷ [])) }
 {
     if first.begins() == ask.src {
         from_first(alloc, ask, kept, legs, first)?;
@@ -91,21 +90,21 @@ fn try_first<'s, 'p, A: Allocator + Clone>(
 fn from_first<'s, 'p, A: Allocator + Clone>(
     alloc: Global,
     ask: &Ask<'s, 'p, A>,
-    kept: &mut Vec<Found<'s, 'p, A>>,
+    kept: &mut Kept<'s, 'p, A>,
     legs: &[Leg<'s>],
     first: &Leg<'s>,
 ) -> Result<(), AllocError>
     requires own { All (IsOf ask.now.set) legs.now }
     requires first { IsOf ask.now.set first.now }
-    ensures goes { OnOk result (GoesOn ask.now kept.old.items kept.new.items) }
-    ensures one { OnOk result (AreSettled ask.now kept.new.items (first.now ∷ [])) }
+    ensures goes { OnOk result (GoesOn ask.now kept.old kept.new) }
+    ensures one { OnOk result (AreSettled ask.now kept.new (first.now ∷ [])) }
     ensures two { OnOk result ((second : PieceValue) → Contains legs.now second
         → begins_in second ≡ ends_in first.now
-        → AreSettled ask.now kept.new.items (first.now ∷ second ∷ [])) }
+        → AreSettled ask.now kept.new (first.now ∷ second ∷ [])) }
     ensures three { OnOk result ((second third : PieceValue) → Contains legs.now second
         → begins_in second ≡ ends_in first.now → Contains legs.now third
         → begins_in third ≡ ends_in second
-        → AreSettled ask.now kept.new.items (first.now ∷ second ∷ third ∷ [])) }
+        → AreSettled ask.now kept.new (first.now ∷ second ∷ third ∷ [])) }
 {
     consider(alloc, ask, kept, &one_of(first))?;
     for second in legs {
@@ -118,7 +117,7 @@ fn from_first<'s, 'p, A: Allocator + Clone>(
 fn try_second<'s, 'p, A: Allocator + Clone>(
     alloc: Global,
     ask: &Ask<'s, 'p, A>,
-    kept: &mut Vec<Found<'s, 'p, A>>,
+    kept: &mut Kept<'s, 'p, A>,
     legs: &[Leg<'s>],
     first: &Leg<'s>,
     second: &Leg<'s>,
@@ -126,13 +125,13 @@ fn try_second<'s, 'p, A: Allocator + Clone>(
     requires own { All (IsOf ask.now.set) legs.now }
     requires first { IsOf ask.now.set first.now }
     requires second { IsOf ask.now.set second.now }
-    ensures goes { OnOk result (GoesOn ask.now kept.old.items kept.new.items) }
+    ensures goes { OnOk result (GoesOn ask.now kept.old kept.new) }
     ensures two { OnOk result (begins_in second.now ≡ ends_in first.now
-        → AreSettled ask.now kept.new.items (first.now ∷ second.now ∷ [])) }
+        → AreSettled ask.now kept.new (first.now ∷ second.now ∷ [])) }
     ensures three { OnOk result (begins_in second.now ≡ ends_in first.now
         → (third : PieceValue) → Contains legs.now third
         → begins_in third ≡ ends_in second.now
-        → AreSettled ask.now kept.new.items (first.now ∷ second.now ∷ third ∷ [])) }
+        → AreSettled ask.now kept.new (first.now ∷ second.now ∷ third ∷ [])) }
 {
     if second.begins() == first.ends() {
         from_second(alloc, ask, kept, legs, first, second)?;
@@ -144,7 +143,7 @@ fn try_second<'s, 'p, A: Allocator + Clone>(
 fn from_second<'s, 'p, A: Allocator + Clone>(
     alloc: Global,
     ask: &Ask<'s, 'p, A>,
-    kept: &mut Vec<Found<'s, 'p, A>>,
+    kept: &mut Kept<'s, 'p, A>,
     legs: &[Leg<'s>],
     first: &Leg<'s>,
     second: &Leg<'s>,
@@ -152,12 +151,12 @@ fn from_second<'s, 'p, A: Allocator + Clone>(
     requires own { All (IsOf ask.now.set) legs.now }
     requires first { IsOf ask.now.set first.now }
     requires second { IsOf ask.now.set second.now }
-    ensures goes { OnOk result (GoesOn ask.now kept.old.items kept.new.items) }
+    ensures goes { OnOk result (GoesOn ask.now kept.old kept.new) }
     ensures two { OnOk result
-        (AreSettled ask.now kept.new.items (first.now ∷ second.now ∷ [])) }
+        (AreSettled ask.now kept.new (first.now ∷ second.now ∷ [])) }
     ensures three { OnOk result ((third : PieceValue) → Contains legs.now third
         → begins_in third ≡ ends_in second.now
-        → AreSettled ask.now kept.new.items (first.now ∷ second.now ∷ third ∷ [])) }
+        → AreSettled ask.now kept.new (first.now ∷ second.now ∷ third ∷ [])) }
 {
     consider(alloc, ask, kept, &two_of(first, second))?;
     for third in legs {
@@ -170,7 +169,7 @@ fn from_second<'s, 'p, A: Allocator + Clone>(
 fn try_third<'s, 'p, A: Allocator + Clone>(
     alloc: Global,
     ask: &Ask<'s, 'p, A>,
-    kept: &mut Vec<Found<'s, 'p, A>>,
+    kept: &mut Kept<'s, 'p, A>,
     first: &Leg<'s>,
     second: &Leg<'s>,
     third: &Leg<'s>,
@@ -178,9 +177,9 @@ fn try_third<'s, 'p, A: Allocator + Clone>(
     requires first { IsOf ask.now.set first.now }
     requires second { IsOf ask.now.set second.now }
     requires third { IsOf ask.now.set third.now }
-    ensures goes { OnOk result (GoesOn ask.now kept.old.items kept.new.items) }
+    ensures goes { OnOk result (GoesOn ask.now kept.old kept.new) }
     ensures three { OnOk result (begins_in third.now ≡ ends_in second.now
-        → AreSettled ask.now kept.new.items (first.now ∷ second.now ∷ third.now ∷ [])) }
+        → AreSettled ask.now kept.new (first.now ∷ second.now ∷ third.now ∷ [])) }
 {
     if third.begins() == second.ends() {
         consider(alloc, ask, kept, &three_of(first, second, third))?;

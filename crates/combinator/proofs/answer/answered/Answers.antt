@@ -1,6 +1,10 @@
 use Rattle.std.proofs.Common.{List, All, Contains, sym, subst}
 use Rattle.path_verifier.specs.Piece.{PieceValue}
-use Rattle.combinator.specs.Candidate.{IsOf}
+use Rattle.combinator.specs.Candidate.{IsOf, PathValue}
+use Rattle.combinator.specs.Order.{path_cmp}
+use Rattle.combinator.specs.Answer.{IsBest}
+use Rattle.combinator.specs.Placed.{InOrder, Met}
+use Rattle.combinator.specs.Kept.{by_walk}
 use Rattle.combinator.proofs.Answering.{all_met, answer}
 use Rattle.combinator.proofs.answer.answered.Goals as goal
 
@@ -9,10 +13,13 @@ settled-requires g c = subst (All (IsOf c.args.ask.now.set)) (sym c.deref.ensure
 
 pub returns : goal.returns
 returns g c =
-    answer c.args.ask.now c.args.limit c.in_ok-kept.kept.items c.in_ok-found.found.items c.in_ok-kept.ensures.sound c.in_ok-kept.ensures.apart
+    answer c.args.ask.now c.args.limit c.in_ok-kept.kept c.in_ok-found.found.items c.in_ok-kept.ensures.sound (subst (InOrder by_walk) c.into_list.ensures.all c.into_list.ensures.order)
     (all_met c.args.ask.now c.deref.result.now
     (λ piece is. subst (λ (pieces : List PieceValue). Contains pieces piece) (sym c.deref.ensures.value) (c.in_ok-legs.ensures.ups piece is))
     (λ piece is. subst (λ (pieces : List PieceValue). Contains pieces piece) (sym c.deref.ensures.value) (c.in_ok-legs.ensures.cores piece is))
     (λ piece is. subst (λ (pieces : List PieceValue). Contains pieces piece) (sym c.deref.ensures.value) (c.in_ok-legs.ensures.downs piece is))
-    c.in_ok-kept.kept.items c.in_ok-kept.ensures.one c.in_ok-kept.ensures.two c.in_ok-kept.ensures.three)
-    c.in_ok-found.ensures.order c.in_ok-found.ensures.few c.in_ok-found.ensures.met (c.in_ok-found.ensures.best c.args.ask.now)
+    c.in_ok-kept.kept c.in_ok-kept.ensures.one c.in_ok-kept.ensures.two c.in_ok-kept.ensures.three)
+    c.in_ok-found.ensures.order c.in_ok-found.ensures.few
+    (subst (λ (kept : List PathValue). (path : PathValue) → Contains kept path → Met path_cmp c.args.limit c.in_ok-found.found.items path) c.into_list.ensures.all c.in_ok-found.ensures.met)
+    (subst (λ (kept : List PathValue). All (IsBest c.args.ask.now) kept → All (IsBest c.args.ask.now) c.in_ok-found.found.items) c.into_list.ensures.all
+    (c.in_ok-found.ensures.best c.args.ask.now))

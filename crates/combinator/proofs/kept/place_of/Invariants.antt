@@ -1,8 +1,17 @@
--- None before this place has the walk.
-use Rattle.std.proofs.Common.{ℕ, ◌<◌, get_or}
-use Rattle.combinator.specs.Candidate.{PathValue}
-use Rattle.combinator.specs.Order.{HaveOneWalk}
+-- The path belongs between the two places.
+use Rattle.std.proofs.Common.{◌≡◌, ◌-◌, ◌≤◌, length}
+use Rattle.std.specs.List.{AllWithin}
+use Rattle.std.specs.declared.cmp.Ordering.TheVariants.{Less, Greater}
+use Rattle.combinator.specs.Kept.{by_walk}
 use Rattle.combinator.proofs.kept.place_of.Given as goal
 
-abbrev pub invariant-loop-place : goal.invariant-loop-place
-invariant-loop-place g l = (k : ℕ) (d : PathValue) → k < l.place → ¬ (HaveOneWalk (get_or l.kept k d) l.found)
+abbrev pub invariant-loop-low : goal.invariant-loop-low
+invariant-loop-low g l = record {
+  range : l.low ≤ l.high;
+  within : l.high ≤ length l.kept;
+  before : AllWithin (λ one. by_walk one l.found ≡ Less) l.kept 0 l.low;
+  behind : AllWithin (λ one. by_walk one l.found ≡ Greater) l.kept l.high (length l.kept);
+}
+
+abbrev pub decreases-loop-low : goal.decreases-loop-low
+decreases-loop-low g l = l.high - l.low

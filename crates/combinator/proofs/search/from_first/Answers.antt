@@ -15,11 +15,11 @@ try_second-requires-clause-second g c = subst (IsOf c.args.ask.now.set) (sym c.s
 
 pub loop-second-preserved : goal.loop-second-preserved
 loop-second-preserved g c =
-    let before = c.loop-second.kept.items in
-    let after = c.try_second.new.kept.items in
+    let before = c.loop-second.kept in
+    let after = c.try_second.new.kept in
     let goes = c.in_ok-try_second.ensures.goes in
     record {
-      goes = goes_further c.args.ask.now c.args.kept.now.items before after c.loop-second.invariant.goes goes;
+      goes = goes_further c.args.ask.now c.args.kept.now before after c.loop-second.invariant.goes goes;
       one = settled_on c.args.ask.now before after (c.args.first.now ∷ []) goes c.loop-second.invariant.one;
       two = by_items (λ (second : PieceValue). begins_in second ≡ ends_in c.args.first.now → AreSettled c.args.ask.now before (c.args.first.now ∷ second ∷ []))
           (λ (second : PieceValue). begins_in second ≡ ends_in c.args.first.now → AreSettled c.args.ask.now after (c.args.first.now ∷ second ∷ []))
@@ -36,10 +36,10 @@ loop-second-preserved g c =
 
 pub returns-clause-two : goal.returns-clause-two
 returns-clause-two g c =
-    at_end (λ (second : PieceValue). begins_in second ≡ ends_in c.args.first.now → AreSettled c.args.ask.now c.loop-second.kept.items (c.args.first.now ∷ second ∷ []))
+    at_end (λ (second : PieceValue). begins_in second ≡ ends_in c.args.first.now → AreSettled c.args.ask.now c.loop-second.kept (c.args.first.now ∷ second ∷ []))
     c.args.legs.now c.loop-second.second-index c.loop-second-test.false c.loop-second.invariant.two
 
 pub returns-clause-three : goal.returns-clause-three
 returns-clause-three g c = λ second third there.
-    at_end (λ (one : PieceValue). begins_in one ≡ ends_in c.args.first.now → Contains c.args.legs.now third → begins_in third ≡ ends_in one → AreSettled c.args.ask.now c.loop-second.kept.items (c.args.first.now ∷ one ∷ third ∷ []))
+    at_end (λ (one : PieceValue). begins_in one ≡ ends_in c.args.first.now → Contains c.args.legs.now third → begins_in third ≡ ends_in one → AreSettled c.args.ask.now c.loop-second.kept (c.args.first.now ∷ one ∷ third ∷ []))
     c.args.legs.now c.loop-second.second-index c.loop-second-test.false (λ one one_there. c.loop-second.invariant.three one third one_there) second there

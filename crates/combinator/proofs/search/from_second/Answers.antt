@@ -15,11 +15,11 @@ try_third-requires-clause-third g c = subst (IsOf c.args.ask.now.set) (sym c.thi
 
 pub loop-third-preserved : goal.loop-third-preserved
 loop-third-preserved g c =
-    let before = c.loop-third.kept.items in
-    let after = c.try_third.new.kept.items in
+    let before = c.loop-third.kept in
+    let after = c.try_third.new.kept in
     let goes = c.in_ok-try_third.ensures.goes in
     record {
-      goes = goes_further c.args.ask.now c.args.kept.now.items before after c.loop-third.invariant.goes goes;
+      goes = goes_further c.args.ask.now c.args.kept.now before after c.loop-third.invariant.goes goes;
       two = settled_on c.args.ask.now before after (c.args.first.now ∷ c.args.second.now ∷ []) goes c.loop-third.invariant.two;
       three = by_items (λ (third : PieceValue). begins_in third ≡ ends_in c.args.second.now → AreSettled c.args.ask.now before (c.args.first.now ∷ c.args.second.now ∷ third ∷ []))
           (λ (third : PieceValue). begins_in third ≡ ends_in c.args.second.now → AreSettled c.args.ask.now after (c.args.first.now ∷ c.args.second.now ∷ third ∷ []))
@@ -30,5 +30,5 @@ loop-third-preserved g c =
 
 pub returns-clause-three : goal.returns-clause-three
 returns-clause-three g c =
-    at_end (λ (third : PieceValue). begins_in third ≡ ends_in c.args.second.now → AreSettled c.args.ask.now c.loop-third.kept.items (c.args.first.now ∷ c.args.second.now ∷ third ∷ []))
+    at_end (λ (third : PieceValue). begins_in third ≡ ends_in c.args.second.now → AreSettled c.args.ask.now c.loop-third.kept (c.args.first.now ∷ c.args.second.now ∷ third ∷ []))
     c.args.legs.now c.loop-third.third-index c.loop-third-test.false c.loop-third.invariant.three

@@ -5,7 +5,7 @@ use Rattle.combinator.proofs.search.from_second.Given as goal
 
 abbrev pub invariant-loop-third : goal.invariant-loop-third
 invariant-loop-third g l = record {
-  goes : GoesOn l.ask l.fn.kept.items l.kept.items;
-  two : AreSettled l.ask l.kept.items (l.first ∷ l.second ∷ []);
-  three : (third : PieceValue) → Contains (take l.third-index l.legs) third → begins_in third ≡ ends_in l.second → AreSettled l.ask l.kept.items (l.first ∷ l.second ∷ third ∷ []);
+  goes : GoesOn l.ask l.fn.kept l.kept;
+  two : AreSettled l.ask l.kept (l.first ∷ l.second ∷ []);
+  three : (third : PieceValue) → Contains (take l.third-index l.legs) third → begins_in third ≡ ends_in l.second → AreSettled l.ask l.kept (l.first ∷ l.second ∷ third ∷ []);
 }

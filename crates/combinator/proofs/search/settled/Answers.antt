@@ -11,12 +11,11 @@ try_first-requires-clause-first g c = subst (IsOf c.args.ask.now.set) (sym c.fir
 
 pub loop-first-preserved : goal.loop-first-preserved
 loop-first-preserved g c =
-    let before = c.loop-first.kept.items in
-    let after = c.try_first.new.kept.items in
+    let before = c.loop-first.kept in
+    let after = c.try_first.new.kept in
     let goes = c.in_ok-try_first.ensures.goes in
     record {
       sound = goes.sound c.loop-first.invariant.sound;
-      apart = goes.apart c.loop-first.invariant.apart;
       one = by_items (λ (first : PieceValue). begins_in first ≡ c.args.ask.now.src → AreSettled c.args.ask.now before (first ∷ []))
           (λ (first : PieceValue). begins_in first ≡ c.args.ask.now.src → AreSettled c.args.ask.now after (first ∷ []))
           c.args.legs.now c.loop-first.first-index c.first-item.result c.loop-first-test.true c.first-item.is
@@ -37,15 +36,15 @@ loop-first-preserved g c =
 
 pub returns-clause-one : goal.returns-clause-one
 returns-clause-one g c =
-    at_end (λ (first : PieceValue). begins_in first ≡ c.args.ask.now.src → AreSettled c.args.ask.now c.loop-first.kept.items (first ∷ []))
+    at_end (λ (first : PieceValue). begins_in first ≡ c.args.ask.now.src → AreSettled c.args.ask.now c.loop-first.kept (first ∷ []))
     c.args.legs.now c.loop-first.first-index c.loop-first-test.false c.loop-first.invariant.one
 
 pub returns-clause-two : goal.returns-clause-two
 returns-clause-two g c = λ first second there.
-    at_end (λ (one : PieceValue). begins_in one ≡ c.args.ask.now.src → Contains c.args.legs.now second → begins_in second ≡ ends_in one → AreSettled c.args.ask.now c.loop-first.kept.items (one ∷ second ∷ []))
+    at_end (λ (one : PieceValue). begins_in one ≡ c.args.ask.now.src → Contains c.args.legs.now second → begins_in second ≡ ends_in one → AreSettled c.args.ask.now c.loop-first.kept (one ∷ second ∷ []))
     c.args.legs.now c.loop-first.first-index c.loop-first-test.false (λ one one_there. c.loop-first.invariant.two one second one_there) first there
 
 pub returns-clause-three : goal.returns-clause-three
 returns-clause-three g c = λ first second third there.
-    at_end (λ (one : PieceValue). begins_in one ≡ c.args.ask.now.src → Contains c.args.legs.now second → begins_in second ≡ ends_in one → Contains c.args.legs.now third → begins_in third ≡ ends_in second → AreSettled c.args.ask.now c.loop-first.kept.items (one ∷ second ∷ third ∷ []))
+    at_end (λ (one : PieceValue). begins_in one ≡ c.args.ask.now.src → Contains c.args.legs.now second → begins_in second ≡ ends_in one → Contains c.args.legs.now third → begins_in third ≡ ends_in second → AreSettled c.args.ask.now c.loop-first.kept (one ∷ second ∷ third ∷ []))
     c.args.legs.now c.loop-first.first-index c.loop-first-test.false (λ one one_there. c.loop-first.invariant.three one second third one_there) first there
