@@ -1,6 +1,6 @@
 -- The index of an AS: where it is, and what is found in it.
 use Rattle.std.proofs.Common.{◌≡◌, ℕ, suc, ◌+◌, ◌<◌, ◌≤◌, false, eqb, List, [], ◌∷◌, length, get_or, drop, Option, Some, None, Result, Ok, Err, refl, sym, ap, ◌∙◌, arith, add-one, drop-cons, inl, inr, option_map}
-use Rattle.std.specs.Prelude.{slice_get}
+use Rattle.std.specs.Prelude.{slice_get, is_some}
 use Rattle.std.specs.List.{position_or_len}
 use Rattle.std.proofs.lemmas.Bool.{cases_Bool}
 use Rattle.std.proofs.lemmas.List.Folds.{find_at}
@@ -11,6 +11,7 @@ use Rattle.scion_topology.specs.declared.fault.TopologyFault.TheVariants as faul
 use Rattle.scion_topology.specs.declared.network.AsEntry.{AsEntry}
 use Rattle.scion_topology.specs.declared.network.Link.{Link}
 use Rattle.scion_topology.specs.Network.{Network, as_named}
+use Rattle.scion_topology.specs.Causes.{is_listed}
 use Rattle.scion_topology.specs.Index.{IndexValue, index_at, index_from, place_beside, index_in}
 
 -- the list from a place on
@@ -56,14 +57,19 @@ slice_get-past xs i past = elim (slice_get_cases xs i).1 [
   | inr none ↦ none.1
 ]
 
+-- an AS that has no index is not listed
+pub unlisted : (n : Network) (ia : ℕ) → index_from 0 n.ases n.links ia ≡ None → as_named n.ases ia ≡ None
+unlisted n ia none = none_of (as_named n.ases ia) (index_at (0 + place_of n.ases ia) ia n.links) (sym (index_from-named 0 n.ases n.links ia) ∙ none)
+
 pub index_in-none : (n : Network) (ia : ℕ) → index_from 0 n.ases n.links ia ≡ None → index_in n ia ≡ Err faults.UnknownAs
 index_in-none n ia none =
-    let unknown : as_named n.ases ia ≡ None = none_of (as_named n.ases ia) (index_at (0 + place_of n.ases ia) ia n.links) (sym (index_from-named 0 n.ases n.links ia) ∙ none) in
+    let unknown = unlisted n ia none in
     rw unknown refl
 
 -- the index that was found is of this AS, which stands at its position
 pub record Finds (n : Network) (ia : ℕ) (index : IndexValue) : Type 0 where
   pub within : index.position < length n.ases
+  pub stands : slice_get n.ases index.position ≡ as_named n.ases ia
   pub gives : (one : AsEntry) → one ≡ get_or n.ases index.position one → index_in n ia ≡ Ok (one, index)
 
 abbrev done : AsEntry → IndexValue → Result (AsEntry × IndexValue) TopologyFault
@@ -82,8 +88,21 @@ index_in-some n ia index some =
     let got : slice_get n.ases place ≡ Some named.0 = sym (find_at (λ one. eqb one.ia ia) n.ases) ∙ named.1 in
     record {
       within = rw at (slice_get-bound n.ases place named.0 got);
+      stands = rw at (got ∙ sym named.1);
       gives = λ one is. (
           let same : named.0 ≡ one = sym (get_or_from_slice_get n.ases place named.0 one got) ∙ ap (λ i. get_or n.ases i one) (sym at) ∙ sym is in
           rw named.1 (pair_of named.0 one (index_at place ia n.links) index same is_index)
           );
     }
+
+-- an AS is listed where there is one of its address
+pub listed_is : (ases : List AsEntry) (ia : ℕ) → is_some (as_named ases ia) ≡ is_listed ases ia
+listed_is [] ia = refl
+listed_is (one ∷ rest) ia = elim (cases_Bool (eqb one.ia ia)) [
+  | inl here ↦ rw here refl
+  | inr other ↦ rw other (listed_is rest ia)
+]
+
+pub is_some-map : {A B : Type 0} (f : A → B) (o : Option A) → is_some o ≡ is_some (option_map f o)
+is_some-map f None = refl
+is_some-map f (Some x) = refl

@@ -4,6 +4,7 @@ pub mod Judging
 pub mod RightViews
 pub mod AuthenticHops
 pub mod Indexes
+pub mod Filling
 pub mod Places
 pub mod Seeing
 pub mod Marking

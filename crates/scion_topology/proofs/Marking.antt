@@ -193,7 +193,7 @@ put_up-is place up links link below is =
 pub is_at-nat_cmp : (x y : ℕ) → is_at (nat_cmp y) x ≡ eqb x y
 is_at-nat_cmp x y = grind (arith, nat_tests)
 
--- one index of the index is marked
-pub mark_at : (place : ℕ) (up hit : Bool) (old new : Option AsIndex) (before after : AsIndex) → new ≡ cond hit (Some after) old → (hit ≡ true → old ≡ Some before) → seen after ≡ marked place up (seen before) → option_map seen new ≡ cond hit (option_map (marked place up) (option_map seen old)) (option_map seen old)
-mark_at place up true old new before after is at same = rw (is, at refl) (ap Some same)
-mark_at place up false old new before after is at same = ap (option_map seen) is
+-- one index of the indexes is changed
+pub changed_at : (f : IndexValue → IndexValue) (hit : Bool) (old new : Option AsIndex) (before after : AsIndex) → new ≡ cond hit (Some after) old → (hit ≡ true → old ≡ Some before) → seen after ≡ f (seen before) → option_map seen new ≡ cond hit (option_map f (option_map seen old)) (option_map seen old)
+changed_at f true old new before after is at same = rw (is, at refl) (ap Some same)
+changed_at f false old new before after is at same = ap (option_map seen) is

@@ -1,13 +1,16 @@
 -- What a topology keeps beside its lists so that it finds things fast. No clause of a public call
 -- speaks of it.
-use Rattle.std.specs.Prelude.{ℕ, zero, suc, ◌+◌, ◌==◌, Bool, if◌then◌else◌, List, [], ◌∷◌, Option, Some, None, Result, Ok, is_some, option_map, position}
+use Rattle.std.specs.Prelude.{ℕ, zero, suc, ◌+◌, ◌==◌, Bool, if◌then◌else◌, List, [], ◌∷◌, ◌++◌, Option, Some, None, Result, Ok, is_some, option_map, position}
 use Rattle.std.specs.List.{position_or_len}
 use Rattle.std.specs.Option.{ok_or}
+use Rattle.std.specs.Ordering.{nat_cmp}
+use Rattle.std.specs.BTreeMap.{get}
 use Rattle.refusal.specs.Refusal.{◌>>=◌}
 use Rattle.scion_topology.specs.declared.entry.IfEntry.{IfEntry}
 use Rattle.scion_topology.specs.declared.network.AsEntry.{AsEntry}
 use Rattle.scion_topology.specs.declared.network.Link.{Link}
 use Rattle.scion_topology.specs.declared.index.AsIndex.{AsIndex}
+use Rattle.scion_topology.specs.declared.lookup.Indexes.{Indexes}
 use Rattle.scion_topology.specs.declared.fault.TopologyFault.{TopologyFault}
 use Rattle.scion_topology.specs.declared.fault.TopologyFault.TheVariants as faults
 use Rattle.scion_topology.specs.Keys.{renewed}
@@ -23,6 +26,10 @@ pub record IndexValue : Type 0 where
 abbrev pub seen : AsIndex → IndexValue
 seen index =
     record { position = index.position; table = index.table.items; places = index.places.items }
+
+-- what the indexes of ASes have of one
+abbrev pub index_of : Indexes → ℕ → Option IndexValue
+index_of indexes ia = option_map seen (get nat_cmp indexes.by_address ia)
 
 -- the places, counted from base, of the links that end in an AS
 abbrev pub places_of : ℕ → ℕ → List Link → List ℕ
@@ -58,6 +65,31 @@ index_in n ia = do
 abbrev pub place_in : Network → ℕ → ℕ → Result ℕ TopologyFault
 place_in n ia number =
     known n ia >>= λ _. ok_or (position (λ link. has_end link ia number) n.links) faults.NoLink
+
+-- ---- links that are added
+
+-- the index with an interface more, and the place of its link
+abbrev pub added : IfEntry → ℕ → IndexValue → IndexValue
+added entry place index = record {
+  position = index.position;
+  table = index.table ++ entry ∷ [];
+  places = index.places ++ place ∷ [];
+}
+
+-- the same, where it is this AS's
+abbrev pub added_where : Bool → IfEntry → ℕ → Option IndexValue → Option IndexValue
+added_where here entry place index = if here then option_map (added entry place) index else index
+
+-- the index of an AS with the links from this place on
+abbrev pub with_links : ℕ → ℕ → List Link → IndexValue → IndexValue
+with_links base ia links index = record {
+  position = index.position;
+  table = index.table ++ table_of ia links;
+  places = index.places ++ places_of base ia links;
+}
+
+abbrev pub with_link : ℕ → ℕ → Link → IndexValue → IndexValue
+with_link place ia link index = with_links place ia (link ∷ []) index
 
 -- ---- a link that goes up or down
 

@@ -1,6 +1,4 @@
 ghost use Rattle.std.specs.Prelude.{◌≡◌, ◌<◌, Some, None, IfOk, MatchResult, length};
-ghost use Rattle.std.specs.Ordering.{nat_cmp};
-ghost use Rattle.std.specs.BTreeMap.{get};
 ghost use Rattle.std.specs.Option.{option_copied};
 ghost use Rattle.scion_topology.specs.Network.{as_named, interface_in};
 ghost use Rattle.refusal.specs.Refusal.{Gives};
@@ -15,7 +13,6 @@ use crate::network::{AsEntry, AsInfo, Link};
 use crate::topology::Topology;
 use crate::view::RouterView;
 use isd_as::{IfId, IsdAs};
-use std::collections::BTreeMap;
 
 impl Topology {
     /// What the topology says of an AS: [`TopologyFault::UnknownAs`] where it isn't listed.
@@ -110,7 +107,7 @@ impl Topology {
     pub(crate) fn indexed(&self, ia: IsdAs) -> Result<(&AsEntry, &AsIndex), TopologyFault>
         ensures { Gives (λ x. (x.0.now, seen x.1.now)) result (index_in self.now ia) }
     {
-        let Some(index) = index_of(&self.indexes, ia) else {
+        let Some(index) = self.indexes.get(ia) else {
             return Err(TopologyFault::UnknownAs);
         };
         Ok((&self.ases[index.position], index))
@@ -134,13 +131,6 @@ impl Topology {
         let place = self.place(ia, number)?;
         Ok(&self.links[place])
     }
-}
-
-/// The index of an AS.
-fn index_of(indexes: &BTreeMap<IsdAs, AsIndex>, ia: IsdAs) -> Option<&AsIndex>
-    ensures { option_copied result ≡ get nat_cmp indexes.now ia }
-{
-    indexes.get(&ia)
 }
 
 /// The interface of this number in a table.

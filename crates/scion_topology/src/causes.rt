@@ -6,6 +6,7 @@ ghost use Rattle.scion_topology.specs.Causes.{cause_of, is_too_many, is_listed, 
 
 use crate::doubled::{joins_twice, lists_twice};
 use crate::fault::TopologyFault;
+use crate::listed::Listed;
 use crate::network::{AsEntry, End, Link, LinkClass};
 use isd_as::{IfId, IsdAs};
 use std::alloc::Global;
@@ -19,18 +20,22 @@ const MAX_LINKS: usize = 4096;
 /// Why the ASes and links are no network, where they are none: each cause is looked for everywhere
 /// before the next.
 #[tactic(auto, unfolding(crate::specs::Causes::cause_of))]
-pub(crate) fn first_cause(alloc: Global, ases: &[AsEntry], links: &[Link]) -> Option<TopologyFault>
-    ensures { result ≡ cause_of ases.now links.now }
+pub(crate) fn first_cause(
+    alloc: Global,
+    listed: &Listed<'_>,
+    links: &[Link],
+) -> Option<TopologyFault>
+    ensures { result ≡ cause_of listed.now links.now }
 {
-    if is_too_many(ases, links) {
+    if is_too_many(listed.ases, links) {
         Some(TopologyFault::TooMany)
-    } else if lists_twice(alloc, ases) {
+    } else if lists_twice(alloc, listed.ases) {
         Some(TopologyFault::DuplicateAs)
-    } else if is_any_end_unknown(ases, links) {
+    } else if is_any_end_unknown(listed, links) {
         Some(TopologyFault::UnknownAs)
-    } else if is_any_router_missing(ases, links) {
+    } else if is_any_router_missing(listed, links) {
         Some(TopologyFault::NoRouter)
-    } else if is_any_ill_joined(ases, links) {
+    } else if is_any_ill_joined(listed, links) {
         Some(TopologyFault::BadKind)
     } else if joins_twice(alloc, links) {
         Some(TopologyFault::DuplicateIf)
@@ -45,87 +50,73 @@ fn is_too_many(ases: &[AsEntry], links: &[Link]) -> bool
     ases.is_empty() || ases.len() > MAX_ASES || links.len() > MAX_LINKS
 }
 
-/// Whether an AS of this address is listed.
-pub(crate) fn is_listed(ases: &[AsEntry], ia: IsdAs) -> bool
-    ensures { result ≡ is_listed ases.now ia }
+fn has_unknown_end(listed: &Listed<'_>, link: &Link) -> bool
+    ensures { result ≡ has_unknown_end listed.now link.now }
 {
-    ases.iter().any(|one| one.ia == ia)
-}
-
-fn has_unknown_end(ases: &[AsEntry], link: &Link) -> bool
-    ensures { result ≡ has_unknown_end ases.now link.now }
-{
-    !is_listed(ases, link.a.ia) || !is_listed(ases, link.b.ia)
+    !listed.has(link.a.ia) || !listed.has(link.b.ia)
 }
 
 /// Whether a link has an end in no AS of the list.
-fn is_any_end_unknown(ases: &[AsEntry], links: &[Link]) -> bool
-    ensures { result ≡ list_any (λ link. has_unknown_end ases.now link) links.now }
+fn is_any_end_unknown(listed: &Listed<'_>, links: &[Link]) -> bool
+    ensures { result ≡ list_any (λ link. has_unknown_end listed.now link) links.now }
 {
-    links.iter().any(|link| has_unknown_end(ases, link))
-}
-
-/// The AS of this address.
-fn as_named(ases: &[AsEntry], ia: IsdAs) -> Option<&AsEntry>
-    ensures { option_copied result ≡ as_named ases.now ia }
-{
-    ases.iter().find(|one| one.ia == ia)
+    links.iter().any(|link| has_unknown_end(listed, link))
 }
 
 /// Whether the AS of an end has no router of its number.
-fn lacks_router(ases: &[AsEntry], end: &End) -> bool
-    ensures { result ≡ lacks_router ases.now end.now }
+fn lacks_router(listed: &Listed<'_>, end: &End) -> bool
+    ensures { result ≡ lacks_router listed.now end.now }
 {
-    match as_named(ases, end.ia) {
+    match listed.named(end.ia) {
         Some(one) => one.routers <= end.router,
         None => false,
     }
 }
 
-fn has_no_router(ases: &[AsEntry], link: &Link) -> bool
-    ensures { result ≡ has_no_router ases.now link.now }
+fn has_no_router(listed: &Listed<'_>, link: &Link) -> bool
+    ensures { result ≡ has_no_router listed.now link.now }
 {
-    lacks_router(ases, &link.a) || lacks_router(ases, &link.b)
+    lacks_router(listed, &link.a) || lacks_router(listed, &link.b)
 }
 
 /// Whether a link has an end whose AS has no router of its number.
-fn is_any_router_missing(ases: &[AsEntry], links: &[Link]) -> bool
-    ensures { result ≡ list_any (λ link. has_no_router ases.now link) links.now }
+fn is_any_router_missing(listed: &Listed<'_>, links: &[Link]) -> bool
+    ensures { result ≡ list_any (λ link. has_no_router listed.now link) links.now }
 {
-    links.iter().any(|link| has_no_router(ases, link))
+    links.iter().any(|link| has_no_router(listed, link))
 }
 
 /// Whether a core AS of this address is listed.
-fn is_core(ases: &[AsEntry], ia: IsdAs) -> bool
-    ensures { result ≡ is_core ases.now ia }
+fn is_core(listed: &Listed<'_>, ia: IsdAs) -> bool
+    ensures { result ≡ is_core listed.now ia }
 {
-    match as_named(ases, ia) {
+    match listed.named(ia) {
         Some(one) => one.core,
         None => false,
     }
 }
 
 /// Whether the class of a link doesn't allow its ends.
-fn is_ill_classed(ases: &[AsEntry], class: LinkClass, a: IsdAs, b: IsdAs) -> bool
-    ensures { result ≡ is_ill_classed ases.now class a b }
+fn is_ill_classed(listed: &Listed<'_>, class: LinkClass, a: IsdAs, b: IsdAs) -> bool
+    ensures { result ≡ is_ill_classed listed.now class a b }
 {
     match class {
-        LinkClass::Core => !is_core(ases, a) || !is_core(ases, b),
-        LinkClass::Child => a.isd() != b.isd() || is_core(ases, b),
+        LinkClass::Core => !is_core(listed, a) || !is_core(listed, b),
+        LinkClass::Child => a.isd() != b.isd() || is_core(listed, b),
     }
 }
 
-fn is_ill_joined(ases: &[AsEntry], link: &Link) -> bool
-    ensures { result ≡ is_ill_joined ases.now link.now }
+fn is_ill_joined(listed: &Listed<'_>, link: &Link) -> bool
+    ensures { result ≡ is_ill_joined listed.now link.now }
 {
-    link.a.ia == link.b.ia || is_ill_classed(ases, link.class, link.a.ia, link.b.ia)
+    link.a.ia == link.b.ia || is_ill_classed(listed, link.class, link.a.ia, link.b.ia)
 }
 
 /// Whether a link joins what it may not.
-fn is_any_ill_joined(ases: &[AsEntry], links: &[Link]) -> bool
-    ensures { result ≡ list_any (λ link. is_ill_joined ases.now link) links.now }
+fn is_any_ill_joined(listed: &Listed<'_>, links: &[Link]) -> bool
+    ensures { result ≡ list_any (λ link. is_ill_joined listed.now link) links.now }
 {
-    links.iter().any(|link| is_ill_joined(ases, link))
+    links.iter().any(|link| is_ill_joined(listed, link))
 }
 
 /// Whether the end is this interface of this AS.

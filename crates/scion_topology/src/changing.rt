@@ -1,17 +1,12 @@
-ghost use Rattle.std.specs.Prelude.{◌≡◌, ℕ, ◌==◌, ◌<◌, true, false, vec_len, option_map, if◌then◌else◌};
-ghost use Rattle.std.specs.Ordering.{nat_cmp};
-ghost use Rattle.std.specs.BTreeMap.{get};
+ghost use Rattle.std.specs.Prelude.{◌≡◌, ◌<◌, true, false, vec_len};
 ghost use Rattle.scion_topology.specs.Topology.{Becomes, set_up, rotated};
-ghost use Rattle.scion_topology.specs.Index.{seen, marked_where, marked_table, set_from, keyed_at};
+ghost use Rattle.scion_topology.specs.Index.{set_from, keyed_at};
 
-use crate::entry::IfEntry;
 use crate::fault::TopologyFault;
-use crate::index::AsIndex;
 use crate::keys::Key;
 use crate::network::{AsEntry, Link};
 use crate::topology::Topology;
 use isd_as::{IfId, IsdAs};
-use std::collections::BTreeMap;
 
 impl Topology {
     /// Cuts the link at an interface, named by either end: [`TopologyFault::UnknownAs`], then
@@ -51,8 +46,8 @@ impl Topology {
         let place = self.place(ia, number)?;
         let link = self.links[place];
         put_up(&mut self.links, place, up);
-        mark(&mut self.indexes, link.a.ia, place, up);
-        mark(&mut self.indexes, link.b.ia, place, up);
+        self.indexes.mark(link.a.ia, place, up);
+        self.indexes.mark(link.b.ia, place, up);
         Ok(())
     }
 }
@@ -71,32 +66,4 @@ fn put_up(links: &mut Vec<Link>, place: usize, up: bool)
     ensures { links.new.items ≡ set_from 0 place up links.old.items }
 {
     links[place].up = up;
-}
-
-/// Sets the interface of the link at a place up or down in the table of an AS.
-fn mark(indexes: &mut BTreeMap<IsdAs, AsIndex>, ia: IsdAs, place: usize, up: bool)
-    ensures { (x : ℕ) → option_map seen (get nat_cmp indexes.new x)
-        ≡ marked_where (x == ia) place up (option_map seen (get nat_cmp indexes.old x)) }
-{
-    if let Some(index) = indexes.get_mut(&ia) {
-        mark_table(&mut index.table, &index.places, place, up);
-    }
-}
-
-/// Sets the interfaces of the link at a place up or down.
-fn mark_table(table: &mut Vec<IfEntry>, places: &Vec<usize>, place: usize, up: bool)
-    ensures { table.new.items ≡ marked_table place up table.old.items places.now.items }
-{
-    for at in 0..table.len().min(places.len()) {
-        mark_one(&mut table[at], places[at] == place, up);
-    }
-}
-
-/// Sets an interface up or down, where it is that of the link.
-fn mark_one(entry: &mut IfEntry, here: bool, up: bool)
-    ensures { entry.new ≡ (if here then record entry.old { up = up } else entry.old) }
-{
-    if here {
-        entry.up = up;
-    }
 }

@@ -6,7 +6,8 @@ ghost use Rattle.std.specs.List.{flat_map};
 ghost use Rattle.scion_topology.specs.Causes.{lists_twice, stands, joins_twice};
 ghost use Rattle.scion_topology.specs.Doubled.{HasBits, number_of, numbers_of};
 
-use crate::causes::{has_end, is_listed};
+use crate::causes::has_end;
+use crate::listed::is_listed;
 use crate::network::{AsEntry, End, Link};
 use doubles::has_double;
 use std::alloc::{AllocError, Global};

@@ -1,9 +1,9 @@
-ghost use Rattle.std.specs.Prelude.{◌≡◌, [], ◌∷◌, ◌++◌, IfOk, OnOk, is_some, if◌then◌else◌};
-ghost use Rattle.scion_topology.specs.Network.{end_as_interface, interface_of, kind_at_a, kind_at_b, with_first};
+ghost use Rattle.std.specs.Prelude.{◌≡◌, [], OnOk, if◌then◌else◌};
+ghost use Rattle.scion_topology.specs.Network.{end_as_interface, kind_at_a, kind_at_b};
+ghost use Rattle.scion_topology.specs.Index.{marked_table};
 
 use crate::entry::{IfEntry, LinkKind};
 use crate::network::{End, Link, LinkClass};
-use isd_as::IsdAs;
 use std::alloc::{AllocError, Global};
 
 /// What a topology finds of an AS at once: its place in the list, its interfaces, and for each of
@@ -16,48 +16,34 @@ pub struct AsIndex {
 }
 
 impl AsIndex {
-    ghost use Rattle.scion_topology.specs.Index.{seen, index_at};
+    ghost use Rattle.scion_topology.specs.Index.{seen, added, marked};
 
-    /// The index of an AS at this place of the list.
-    pub(crate) fn new(
-        alloc: Global,
-        position: usize,
-        ia: IsdAs,
-        links: &[Link],
-    ) -> Result<AsIndex, AllocError>
-        ensures { IfOk result (λ index. seen index ≡ index_at position ia links.now) }
+    /// The index of an AS at this place of the list, with no interface yet.
+    pub(crate) fn new(alloc: Global, position: usize) -> AsIndex
+        ensures { seen result ≡ record { position = position; table = []; places = [] } }
     {
-        let mut table = Vec::new(alloc);
-        let mut places = Vec::new(alloc);
-        for (place, link) in links.iter().enumerate() {
-            add_interface(&mut table, &mut places, place, ia, link)?;
-        }
-        Ok(AsIndex {
+        AsIndex {
             position,
-            table,
-            places,
-        })
+            table: Vec::new(alloc),
+            places: Vec::new(alloc),
+        }
     }
-}
 
-/// Adds the interface by which a link ends in an AS, where it does, and the link's place.
-fn add_interface(
-    table: &mut Vec<IfEntry>,
-    places: &mut Vec<usize>,
-    place: usize,
-    ia: IsdAs,
-    link: &Link,
-) -> Result<(), AllocError>
-    ensures table { OnOk result (table.new.items
-        ≡ table.old.items ++ with_first (interface_of ia link.now) []) }
-    ensures places { OnOk result (places.new.items
-        ≡ places.old.items ++ (if is_some (interface_of ia link.now) then place ∷ [] else [])) }
-{
-    if let Some(entry) = interface_of(ia, link) {
-        table.push(entry)?;
-        places.push(place)?;
+    /// Adds an interface and the place of its link.
+    pub(crate) fn add(&mut self, entry: IfEntry, place: usize) -> Result<(), AllocError>
+        ensures { OnOk result (seen self.new ≡ added entry place (seen self.old)) }
+    {
+        self.table.push(entry)?;
+        self.places.push(place)?;
+        Ok(())
     }
-    Ok(())
+
+    /// Sets the interface of the link at a place up or down.
+    pub(crate) fn mark(&mut self, place: usize, up: bool)
+        ensures { seen self.new ≡ marked place up (seen self.old) }
+    {
+        mark_table(&mut self.table, &self.places, place, up);
+    }
 }
 
 /// What the far AS is to the AS at end a.
@@ -92,15 +78,34 @@ fn end_as_interface(end: &End, kind: LinkKind, up: bool) -> IfEntry
     }
 }
 
-/// The interface by which the link ends in this AS.
-fn interface_of(ia: IsdAs, link: &Link) -> Option<IfEntry>
-    ensures { result ≡ interface_of ia link.now }
+/// The interface at end a of a link.
+pub(crate) fn interface_at_a(link: &Link) -> IfEntry
+    ensures { result ≡ end_as_interface link.now.a (kind_at_a link.now.class) link.now.up }
 {
-    if link.a.ia == ia {
-        Some(end_as_interface(&link.a, kind_at_a(link.class), link.up))
-    } else if link.b.ia == ia {
-        Some(end_as_interface(&link.b, kind_at_b(link.class), link.up))
-    } else {
-        None
+    end_as_interface(&link.a, kind_at_a(link.class), link.up)
+}
+
+/// The interface at end b of a link.
+pub(crate) fn interface_at_b(link: &Link) -> IfEntry
+    ensures { result ≡ end_as_interface link.now.b (kind_at_b link.now.class) link.now.up }
+{
+    end_as_interface(&link.b, kind_at_b(link.class), link.up)
+}
+
+/// Sets the interfaces of the link at a place up or down.
+fn mark_table(table: &mut Vec<IfEntry>, places: &Vec<usize>, place: usize, up: bool)
+    ensures { table.new.items ≡ marked_table place up table.old.items places.now.items }
+{
+    for at in 0..table.len().min(places.len()) {
+        mark_one(&mut table[at], places[at] == place, up);
+    }
+}
+
+/// Sets an interface up or down, where it is that of the link.
+fn mark_one(entry: &mut IfEntry, here: bool, up: bool)
+    ensures { entry.new ≡ (if here then record entry.old { up = up } else entry.old) }
+{
+    if here {
+        entry.up = up;
     }
 }

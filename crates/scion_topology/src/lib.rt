@@ -16,6 +16,8 @@ mod fields;
 mod index;
 mod keys;
 pub mod laws;
+mod listed;
+mod lookup;
 mod network;
 mod topology;
 mod view;

@@ -1,24 +1,20 @@
-ghost use Rattle.std.specs.Prelude.{◌≡◌, ℕ, Err, IfOk, IfSome, IsTrue, option_map};
+ghost use Rattle.std.specs.Prelude.{◌≡◌, Err, IfSome, IsTrue};
 ghost use Rattle.std.specs.List.{list_all};
-ghost use Rattle.std.specs.Ordering.{nat_cmp};
-ghost use Rattle.std.specs.BTreeMap.{get};
 ghost use Rattle.serde_json.specs.View.{view};
 ghost use Rattle.refusal.specs.Refusal.{Reads, unless};
 ghost use Rattle.scion_topology.specs.Causes.{is_as, is_link, cause_of};
 ghost use Rattle.scion_topology.specs.Topology.{network_of, network_in};
-ghost use Rattle.scion_topology.specs.Index.{seen, index_from};
 
 use crate::causes::first_cause;
 use crate::fault::{ReadError, TopologyFault};
 use crate::fields::{as_of, link_of};
-use crate::index::AsIndex;
+use crate::listed::Listed;
+use crate::lookup::Indexes;
 use crate::network::{AsEntry, Link};
-use isd_as::IsdAs;
 use json_fields::{document, items, list};
 use refusal::OrMemory;
 use serde_json::Value;
-use std::alloc::{AllocError, Global};
-use std::collections::BTreeMap;
+use std::alloc::Global;
 use std::marker::Model;
 
 /// A network: its ASes and its links.
@@ -30,24 +26,21 @@ use std::marker::Model;
 pub struct Topology {
     pub(crate) ases: Vec<AsEntry>,
     pub(crate) links: Vec<Link>,
-    pub(crate) indexes: BTreeMap<IsdAs, AsIndex>,
+    pub(crate) indexes: Indexes,
 }
 
 impl Model for Topology {
-    ghost use Rattle.std.specs.Prelude.{◌≡◌, ℕ, option_map};
-    ghost use Rattle.std.specs.Ordering.{nat_cmp};
-    ghost use Rattle.std.specs.BTreeMap.{get};
+    ghost use Rattle.std.specs.Prelude.{◌≡◌, ℕ};
     ghost use Rattle.scion_topology.specs.Network.{Network};
     ghost use Rattle.scion_topology.specs.Topology.{IsNetwork};
-    ghost use Rattle.scion_topology.specs.Index.{seen, index_from};
+    ghost use Rattle.scion_topology.specs.Index.{index_of, index_from};
 
     ghost Value = { Network };
 
     ghost view = { λ t. record { ases = t.ases.items; links = t.links.items } };
 
     ghost invariant = { λ t. IsNetwork (record { ases = t.ases.items; links = t.links.items })
-        × ((ia : ℕ) → option_map seen (get nat_cmp t.indexes ia)
-        ≡ index_from 0 t.ases.items t.links.items ia) };
+        × ((ia : ℕ) → index_of t.indexes ia ≡ index_from 0 t.ases.items t.links.items ia) };
 }
 
 impl Topology {
@@ -92,34 +85,15 @@ impl Topology {
         ensures refused { IfSome (cause_of ases.items links.items)
             (λ fault. result ≡ Err (OrMemory.Refused fault)) }
     {
-        if let Some(cause) = first_cause(alloc, &ases, &links) {
+        let listed = Listed::new(alloc, &ases);
+        if let Some(cause) = first_cause(alloc, &listed, &links) {
             return Err(OrMemory::Refused(cause));
         }
-        let indexes = indexes_of(alloc, &ases, &links)?;
+        let indexes = listed.into_indexes(&links)?;
         Ok(Topology {
             ases,
             links,
             indexes,
         })
     }
-}
-
-/// The index of each AS of a list. An AS that stands twice has that of its first place.
-fn indexes_of(
-    alloc: Global,
-    ases: &[AsEntry],
-    links: &[Link],
-) -> Result<BTreeMap<IsdAs, AsIndex>, AllocError>
-    ensures { IfOk result (λ indexes. (ia : ℕ)
-        → option_map seen (get nat_cmp indexes ia) ≡ index_from 0 ases.now links.now ia) }
-{
-    let mut indexes = BTreeMap::new(alloc);
-    let mut place = ases.len();
-    while place > 0 {
-        place -= 1;
-        let one = &ases[place];
-        let index = AsIndex::new(alloc, place, one.ia, links)?;
-        indexes.insert(one.ia, index)?;
-    }
-    Ok(indexes)
 }

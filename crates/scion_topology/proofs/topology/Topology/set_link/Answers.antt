@@ -1,12 +1,10 @@
 -- The link at its place is set, and the two tables that it stands in.
-use Rattle.std.proofs.Common.{◌≡◌, ◌∙◌, sym, ap, refl, arith, ◌<◌, length, Some, option_map}
+use Rattle.std.proofs.Common.{◌≡◌, ◌∙◌, sym, ap, refl, arith, ◌<◌, length, Some}
 use Rattle.std.specs.Prelude.{slice_get}
-use Rattle.std.specs.Ordering.{nat_cmp}
-use Rattle.std.specs.BTreeMap.{get}
 use Rattle.std.proofs.lemmas.Result.{err_from_is_err_and}
 use Rattle.std.proofs.lemmas.Option.{slice_get-get_or}
 use Rattle.scion_topology.specs.Network.{Network}
-use Rattle.scion_topology.specs.Index.{seen}
+use Rattle.scion_topology.specs.Index.{index_of}
 use Rattle.scion_topology.proofs.Relinked.{set_up-none, set_up-place_in, IsNetwork-relinked, marked_twice}
 use Rattle.scion_topology.proofs.topology.Topology.set_link.Goals as goal
 
@@ -24,7 +22,7 @@ invariant_of-self c =
     rw c.put_up.ensures (
       IsNetwork-relinked c.in_ok-place.place c.args.up n c.self.invariant.0,
       marked_twice c.in_ok-place.place c.args.up n link
-          (λ x. option_map seen (get nat_cmp c.self.inside.indexes x)) (λ x. option_map seen (get nat_cmp c.mark.new.indexes x)) (λ x. option_map seen (get nat_cmp c.mark-2.new.indexes x))
+          (index_of c.self.inside.indexes) (index_of c.mark.new.self) (index_of c.mark-2.new.self)
           c.self.invariant.0 found c.self.invariant.1 c.mark.ensures c.mark-2.ensures,
     )
 

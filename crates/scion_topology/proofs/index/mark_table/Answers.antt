@@ -1,6 +1,6 @@
 use Rattle.std.proofs.Common.{◌∙◌, sym, arith}
 use Rattle.scion_topology.proofs.Marking.{marked_table-done}
-use Rattle.scion_topology.proofs.changing.mark_table.Goals as goal
+use Rattle.scion_topology.proofs.index.mark_table.Goals as goal
 
 pub returns : goal.returns
 returns c =

@@ -1,7 +1,7 @@
 -- The front is marked, and marking the rest marks all.
 use Rattle.std.proofs.Common.{◌≡◌, ◌++◌, take, drop, length}
 use Rattle.scion_topology.specs.Index.{marked_table}
-use Rattle.scion_topology.proofs.changing.mark_table.Given as goal
+use Rattle.scion_topology.proofs.index.mark_table.Given as goal
 
 abbrev pub invariant-loop-at : goal.invariant-loop-at
 invariant-loop-at l = record {
