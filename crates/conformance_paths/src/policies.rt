@@ -51,6 +51,33 @@ fn does<A: Allocator + Clone>(
     Ok(text.as_str() == printed && sequence.matches(word) && !sequence.matches(other))
 }
 
+/// Whether the same holds of its clone in an arena, and of that clone's clone.
+fn do_clones(
+    alloc: Global,
+    sequence: &Seq<Global>,
+    printed: &str,
+    word: &[WalkHop],
+    other: &[WalkHop],
+) -> Result<bool, AllocError> {
+    let bump = Bump::new(alloc);
+    let placed = sequence.clone_in(&bump)?;
+    let back = placed.clone_in(alloc)?;
+    Ok(does(alloc, &placed, printed, word, other)? && does(alloc, &back, printed, word, other)?)
+}
+
+/// Whether the same holds of a text that is read in an arena.
+fn does_there(
+    alloc: Global,
+    text: &str,
+    printed: &str,
+    word: &[WalkHop],
+    other: &[WalkHop],
+) -> Result<bool, PolicyError> {
+    let bump = Bump::new(alloc);
+    let sequence = Seq::parse(&bump, text)?;
+    Ok(does(alloc, &sequence, printed, word, other)?)
+}
+
 /// Asserts the same of a sequence's text, of its clone in an arena, of that clone's clone, and of
 /// the text read in the arena.
 fn expect_sequence(
@@ -63,12 +90,8 @@ fn expect_sequence(
 ) -> Result<(), Fail> {
     let sequence = Seq::parse(alloc, text)?;
     assert!(rt; does(alloc, &sequence, printed, word, other)?);
-    let bump = Bump::new(alloc);
-    let placed = sequence.clone_in(&bump)?;
-    assert!(rt; does(alloc, &placed, printed, word, other)?);
-    assert!(rt; does(alloc, &placed.clone_in(alloc)?, printed, word, other)?);
-    let read_there = Seq::parse(&bump, text)?;
-    assert!(rt; does(alloc, &read_there, printed, word, other)?);
+    assert!(rt; do_clones(alloc, &sequence, printed, word, other)?);
+    assert!(rt; does_there(alloc, text, printed, word, other)?);
     Ok(())
 }
 
