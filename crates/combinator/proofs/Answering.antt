@@ -1,5 +1,5 @@
 -- What was found, settled and put in order is the answer.
-use Rattle.std.proofs.Common.{◌≡◌, ℕ, zero, suc, ◌+◌, ◌<◌, ◌≤◌, Bool, true, false, cond, List, [], ◌∷◌, length, get_or, All, Any, AllPairs, Contains, refl, sym, ap, subst, ◌∙◌, inl, inr, arith}
+use Rattle.std.proofs.Common.{◌≡◌, ℕ, suc, ◌+◌, ◌<◌, ◌≤◌, Bool, true, false, cond, List, [], ◌∷◌, length, get_or, All, Any, AllPairs, Contains, refl, sym, ap, subst, ◌∙◌, inl, inr, arith}
 use Rattle.std.specs.Prelude.{◌⊎◌}
 use Rattle.std.specs.declared.cmp.Ordering.TheVariants.{Less}
 use Rattle.std.proofs.lemmas.Bool.{cases_lt}
@@ -22,7 +22,7 @@ use Rattle.combinator.specs.Kept.{by_walk, IsNoWorse, IsMet, AreSettled}
 use Rattle.combinator.specs.Legs.{outer_of, IsCut, IsWhole}
 use Rattle.combinator.proofs.Ranks.{walks_total, tied_walks, same_shown, tied_shown}
 use Rattle.combinator.proofs.Agreeing.{best_is_one}
-use Rattle.combinator.proofs.Searched.{stand_before}
+use Rattle.combinator.proofs.Searched.{default_of, stand_before}
 
 -- ---- each piece of a candidate is listed
 
@@ -136,11 +136,6 @@ module _ (question : Question) (legs : List PieceValue)
     all_met path is = met_of path.pieces path.header is
 
 -- ---- each path that is kept stands for its walk
-
-default_of : (paths : List PathValue) (k : ℕ) (d e : PathValue) → k < length paths → get_or paths k d ≡ get_or paths k e
-default_of [] k d e within = absurd (omega arith)
-default_of (path ∷ paths) zero d e within = refl
-default_of (path ∷ paths) (suc k) d e within = default_of paths k d e (omega arith)
 
 apart_at : (paths : List PathValue) (j k : ℕ) (d e : PathValue) → InOrder by_walk paths → j < k → k < length paths → walk_of (get_or paths j d).pieces ≡ walk_of (get_or paths k e).pieces → ⊥
 apart_at paths j k d e order less within same =

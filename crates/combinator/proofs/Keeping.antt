@@ -16,6 +16,7 @@ use Rattle.combinator.specs.Placed.{InOrder, IsGap}
 use Rattle.combinator.specs.Kept.{by_walk, IsNoWorse, IsMet, GoesOn}
 use Rattle.combinator.proofs.Ranks.{bytes_total, walks_total, same_walk}
 use Rattle.combinator.proofs.Inserted.{placed_of, order_inserted}
+use Rattle.combinator.proofs.Searched.{default_of}
 
 -- ---- no worse, one after another
 
@@ -138,16 +139,11 @@ same_read (y ∷ ys) (suc i) x inside = same_read ys i x (omega arith)
 pub met_there : (paths : List PathValue) (k : ℕ) (path : PathValue) → k < length paths → HaveOneWalk (get_or paths k path) path → IsNoWorse (get_or paths k path) path → IsMet paths path
 met_there paths k path within same better = (k, get_or paths k path, within, same_read paths k path within, (same, better))
 
-any_default : (xs : List PathValue) (i : ℕ) (x y : PathValue) → i < length xs → get_or xs i x ≡ get_or xs i y
-any_default [] i x y inside = absurd (omega arith)
-any_default (z ∷ zs) zero x y inside = refl
-any_default (z ∷ zs) (suc i) x y inside = any_default zs i x y (omega arith)
-
 -- ---- as the code sees it
 
 pub one_walk : (paths : List PathValue) (k : ℕ) (read path : PathValue) → k < length paths → read ≡ get_or paths k read → by_walk read path ≡ Equal → HaveOneWalk (get_or paths k path) path
 one_walk paths k read path within at tie =
-    ap (λ (p : PathValue). walk_of p.pieces) (any_default paths k path read within ∙ sym at) ∙ same_walk (walk_of read.pieces) (walk_of path.pieces) tie
+    ap (λ (p : PathValue). walk_of p.pieces) (default_of paths k path read within ∙ sym at) ∙ same_walk (walk_of read.pieces) (walk_of path.pieces) tie
 
 module _ (old paths slice : List PathValue) (path : PathValue) (view : paths ≡ old) (same : slice ≡ paths) where
   module _ (k : ℕ) (last : PathValue) (is : last ≡ path) (within : k < length slice) (one : HaveOneWalk (get_or slice k path) path) where
@@ -163,7 +159,7 @@ module _ (old paths slice : List PathValue) (path : PathValue) (view : paths ≡
     pub goes_replaced : (question : Question) (read : PathValue) → read ≡ get_or paths k read → IsNoWorse path read → IsCandidate question path → GoesOn question old (set paths k last)
     goes_replaced question read at better candidate =
         subst (λ (p : PathValue). GoesOn question old (set paths k p)) (sym is) (subst (λ (xs : List PathValue). GoesOn question xs (set paths k path)) view
-        (set_goes_on question paths k path candidate walk (subst (IsNoWorse path) (at ∙ any_default paths k read path inside) better)))
+        (set_goes_on question paths k path candidate walk (subst (IsNoWorse path) (at ∙ default_of paths k read path inside) better)))
 
     pub met_replaced : IsMet (set paths k last) path
     met_replaced = subst (λ (p : PathValue). IsMet (set paths k p) path) (sym is) (set_meets paths k path inside)

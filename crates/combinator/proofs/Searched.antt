@@ -9,7 +9,8 @@ use Rattle.std.proofs.lemmas.Bool.{cases_lt}
 use Rattle.std.proofs.lemmas.List.Elements.{All-from_recursion}
 use Rattle.combinator.specs.Placed.{InOrder}
 
-default_of : {X : Type 0} (xs : List X) (k : ℕ) (d e : X) → k < length xs → get_or xs k d ≡ get_or xs k e
+-- what stands at a place of a list is the same for any default
+pub default_of : {X : Type 0} (xs : List X) (k : ℕ) (d e : X) → k < length xs → get_or xs k d ≡ get_or xs k e
 default_of [] k d e within = absurd (omega arith)
 default_of (x ∷ xs) zero d e within = refl
 default_of (x ∷ xs) (suc k) d e within = default_of xs k d e (omega arith)
