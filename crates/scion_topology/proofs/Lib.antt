@@ -5,6 +5,7 @@ pub mod RightViews
 pub mod AuthenticHops
 pub mod Indexes
 pub mod Filling
+pub mod Placing
 pub mod Places
 pub mod Seeing
 pub mod Marking

@@ -1,8 +1,8 @@
 -- What a topology keeps beside its lists so that it finds things fast. No clause of a public call
 -- speaks of it.
-use Rattle.std.specs.Prelude.{ℕ, zero, suc, ◌+◌, ◌==◌, Bool, if◌then◌else◌, List, [], ◌∷◌, ◌++◌, Option, Some, None, Result, Ok, is_some, option_map, position}
+use Rattle.std.specs.Prelude.{ℕ, zero, suc, ◌+◌, ◌==◌, Bool, if◌then◌else◌, List, [], ◌∷◌, ◌++◌, Option, Some, None, Result, Ok, is_some, option_map, position, slice_get}
 use Rattle.std.specs.List.{position_or_len}
-use Rattle.std.specs.Option.{ok_or}
+use Rattle.std.specs.Option.{ok_or, option_and_then}
 use Rattle.std.specs.Ordering.{nat_cmp}
 use Rattle.std.specs.BTreeMap.{get}
 use Rattle.refusal.specs.Refusal.{◌>>=◌}
@@ -27,9 +27,19 @@ abbrev pub seen : AsIndex → IndexValue
 seen index =
     record { position = index.position; table = index.table.items; places = index.places.items }
 
--- what the indexes of ASes have of one
+-- the place of the index of an AS
+abbrev pub spot_of : Indexes → ℕ → Option ℕ
+spot_of indexes ia = get nat_cmp indexes.places ia
+
+-- what the indexes have of an AS
 abbrev pub index_of : Indexes → ℕ → Option IndexValue
-index_of indexes ia = option_map seen (get nat_cmp indexes.by_address ia)
+index_of indexes ia =
+    option_map seen (option_and_then (slice_get indexes.list.items) (spot_of indexes ia))
+
+-- the index of an AS where it had one, and else this one where it is that AS's
+abbrev pub with_first_index : Bool → IndexValue → Option IndexValue → Option IndexValue
+with_first_index here new (Some old) = Some old
+with_first_index here new None = if here then Some new else None
 
 -- the places, counted from base, of the links that end in an AS
 abbrev pub places_of : ℕ → ℕ → List Link → List ℕ

@@ -9,5 +9,6 @@ pub mod Doubled
 pub mod Reading
 pub mod Topology
 pub mod Ends
+pub mod Placed
 pub mod Index
 pub mod ViewKeys

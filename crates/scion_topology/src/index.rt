@@ -1,28 +1,31 @@
-ghost use Rattle.std.specs.Prelude.{◌≡◌, [], OnOk, if◌then◌else◌};
+ghost use Rattle.std.specs.Prelude.{◌≡◌, ◌<◌, [], OnOk, vec_len, if◌then◌else◌};
 ghost use Rattle.scion_topology.specs.Network.{end_as_interface, kind_at_a, kind_at_b};
-ghost use Rattle.scion_topology.specs.Index.{marked_table};
+ghost use Rattle.scion_topology.specs.Placed.{IsChanged};
+ghost use Rattle.scion_topology.specs.Index.{seen, added, marked, marked_table};
 
 use crate::entry::{IfEntry, LinkKind};
 use crate::network::{End, Link, LinkClass};
+use isd_as::IsdAs;
 use std::alloc::{AllocError, Global};
 
 /// What a topology finds of an AS at once: its place in the list, its interfaces, and for each of
-/// them the place of its link.
+/// them the place of its link. Its address stands beside them.
 #[derive(Drop)]
 pub struct AsIndex {
+    pub(crate) ia: IsdAs,
     pub(crate) position: usize,
     pub(crate) table: Vec<IfEntry>,
     pub(crate) places: Vec<usize>,
 }
 
 impl AsIndex {
-    ghost use Rattle.scion_topology.specs.Index.{seen, added, marked};
-
     /// The index of an AS at this place of the list, with no interface yet.
-    pub(crate) fn new(alloc: Global, position: usize) -> AsIndex
-        ensures { seen result ≡ record { position = position; table = []; places = [] } }
+    pub(crate) fn new(alloc: Global, ia: IsdAs, position: usize) -> AsIndex
+        ensures ia { result.ia ≡ ia }
+        ensures value { seen result ≡ record { position = position; table = []; places = [] } }
     {
         AsIndex {
+            ia,
             position,
             table: Vec::new(alloc),
             places: Vec::new(alloc),
@@ -31,7 +34,8 @@ impl AsIndex {
 
     /// Adds an interface and the place of its link.
     pub(crate) fn add(&mut self, entry: IfEntry, place: usize) -> Result<(), AllocError>
-        ensures { OnOk result (seen self.new ≡ added entry place (seen self.old)) }
+        ensures ia { self.new.ia ≡ self.old.ia }
+        ensures value { OnOk result (seen self.new ≡ added entry place (seen self.old)) }
     {
         self.table.push(entry)?;
         self.places.push(place)?;
@@ -40,7 +44,8 @@ impl AsIndex {
 
     /// Sets the interface of the link at a place up or down.
     pub(crate) fn mark(&mut self, place: usize, up: bool)
-        ensures { seen self.new ≡ marked place up (seen self.old) }
+        ensures ia { self.new.ia ≡ self.old.ia }
+        ensures value { seen self.new ≡ marked place up (seen self.old) }
     {
         mark_table(&mut self.table, &self.places, place, up);
     }
@@ -90,6 +95,29 @@ pub(crate) fn interface_at_b(link: &Link) -> IfEntry
     ensures { result ≡ end_as_interface link.now.b (kind_at_b link.now.class) link.now.up }
 {
     end_as_interface(&link.b, kind_at_b(link.class), link.up)
+}
+
+/// Adds an interface to the index at a place, and the place of its link.
+pub(crate) fn add_at(
+    list: &mut Vec<AsIndex>,
+    at: usize,
+    entry: IfEntry,
+    place: usize,
+) -> Result<(), AllocError>
+    requires { at < vec_len list.old }
+    ensures { IsChanged (λ old new. OnOk result (seen new ≡ added entry place (seen old)))
+        at list.old.items list.new.items }
+{
+    list[at].add(entry, place)
+}
+
+/// Sets the interface of the link at a place up or down in the index at a place.
+pub(crate) fn mark_at(list: &mut Vec<AsIndex>, at: usize, place: usize, up: bool)
+    requires { at < vec_len list.old }
+    ensures { IsChanged (λ old new. seen new ≡ marked place up (seen old))
+        at list.old.items list.new.items }
+{
+    list[at].mark(place, up);
 }
 
 /// Sets the interfaces of the link at a place up or down.

@@ -13,6 +13,7 @@ mod doubled;
 mod entry;
 mod fault;
 mod fields;
+mod hints;
 mod index;
 mod keys;
 pub mod laws;

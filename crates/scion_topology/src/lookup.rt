@@ -1,43 +1,105 @@
-ghost use Rattle.std.specs.Prelude.{◌≡◌, ℕ, ◌==◌, [], IfOk, OnOk, option_map};
+ghost use Rattle.std.specs.Prelude.{◌≡◌, ℕ, ◌==◌, [], None, Some, IfOk, IsTrue, OnOk, option_map};
 ghost use Rattle.std.specs.Option.{option_copied};
 ghost use Rattle.std.specs.Ordering.{nat_cmp};
 ghost use Rattle.std.specs.BTreeMap.{get};
-ghost use Rattle.scion_topology.specs.Index.{seen, index_of, index_from, added_where, marked_where, with_link, with_links};
+ghost use Rattle.scion_topology.specs.Placed.{AreOwn};
 
 use crate::entry::IfEntry;
-use crate::index::{AsIndex, interface_at_a, interface_at_b};
+use crate::hints::Hints;
+use crate::index::{AsIndex, add_at, interface_at_a, interface_at_b, mark_at};
 use crate::network::{AsEntry, Link};
 use isd_as::IsdAs;
 use std::alloc::{AllocError, Global};
 use std::collections::BTreeMap;
 
-/// The indexes of ASes, found by their addresses.
+/// The indexes of ASes, found by their addresses: at once where a hint is right, and else in a tree.
 #[derive(Drop)]
 pub struct Indexes {
-    pub(crate) by_address: BTreeMap<IsdAs, AsIndex>,
+    list: Vec<AsIndex>,
+    places: BTreeMap<IsdAs, usize>,
+    hints: Hints,
+    ghost own: { AreOwn list.items (get nat_cmp places) },
 }
 
 impl Indexes {
+    ghost use Rattle.scion_topology.specs.Index.{seen, index_at, index_of, index_from, spot_of, added_where, marked_where, with_link, with_links, with_first_index};
+
     /// The index of each AS of a list, with no links yet. An AS that stands twice has that of its
     /// first place.
     pub(crate) fn new(alloc: Global, ases: &[AsEntry]) -> Result<Indexes, AllocError>
         ensures { IfOk result (λ indexes. (ia : ℕ)
             → index_of indexes ia ≡ index_from 0 ases.now [] ia) }
     {
-        let mut by_address = BTreeMap::new(alloc);
-        let mut place = ases.len();
-        while place > 0 {
-            place -= 1;
-            by_address.insert(ases[place].ia, AsIndex::new(alloc, place))?;
+        let mut indexes = Indexes::none(alloc)?;
+        for (position, one) in ases.iter().enumerate() {
+            indexes = indexes.with_as(alloc, position, one.ia)?;
         }
-        Ok(Indexes { by_address })
+        Ok(indexes)
+    }
+
+    /// The index of no AS.
+    fn none(alloc: Global) -> Result<Indexes, AllocError>
+        ensures { IfOk result (λ indexes. (ia : ℕ) → index_of indexes ia ≡ None) }
+    {
+        Ok(Indexes {
+            list: Vec::new(alloc),
+            places: BTreeMap::new(alloc),
+            hints: Hints::new(alloc)?,
+        })
+    }
+
+    /// These indexes, and that of an AS at this position, where it has none yet.
+    fn with_as(self, alloc: Global, position: usize, ia: IsdAs) -> Result<Indexes, AllocError>
+        ensures { IfOk result (λ indexes. (x : ℕ) → index_of indexes x
+            ≡ with_first_index (ia == x) (index_at position x []) (index_of self x)) }
+    {
+        if self.places.contains_key(&ia) {
+            return Ok(self);
+        }
+        let Indexes {
+            mut list,
+            mut places,
+            mut hints,
+        } = self;
+        hints.note(ia, list.len());
+        places.insert(ia, list.len())?;
+        list.push(AsIndex::new(alloc, ia, position))?;
+        Ok(Indexes {
+            list,
+            places,
+            hints,
+        })
     }
 
     /// The index of an AS.
     pub(crate) fn get(&self, ia: IsdAs) -> Option<&AsIndex>
         ensures { option_map seen (option_copied result) ≡ index_of self.now ia }
     {
-        self.by_address.get(&ia)
+        match self.place(ia) {
+            Some(place) => Some(&self.list[place]),
+            None => None,
+        }
+    }
+
+    /// The place of the index of an AS.
+    fn place(&self, ia: IsdAs) -> Option<usize>
+        ensures { result ≡ spot_of self.now ia }
+    {
+        let hint = self.hints.place(ia);
+        if self.is_at(hint, ia) {
+            return Some(hint);
+        }
+        self.places.get(&ia).copied()
+    }
+
+    /// Whether the index at a place is that of an AS.
+    fn is_at(&self, place: usize, ia: IsdAs) -> bool
+        ensures { IsTrue result → spot_of self.now ia ≡ Some place }
+    {
+        match self.list.get(place) {
+            Some(index) => index.ia == ia,
+            None => false,
+        }
     }
 
     /// Adds the interfaces at the ends of all links.
@@ -68,8 +130,8 @@ impl Indexes {
         ensures { OnOk result ((x : ℕ) → index_of self.new x
             ≡ added_where (x == ia) entry place (index_of self.old x)) }
     {
-        if let Some(index) = self.by_address.get_mut(&ia) {
-            index.add(entry, place)?;
+        if let Some(at) = self.place(ia) {
+            add_at(&mut self.list, at, entry, place)?;
         }
         Ok(())
     }
@@ -79,8 +141,8 @@ impl Indexes {
         ensures { (x : ℕ) → index_of self.new x
             ≡ marked_where (x == ia) place up (index_of self.old x) }
     {
-        if let Some(index) = self.by_address.get_mut(&ia) {
-            index.mark(place, up);
+        if let Some(at) = self.place(ia) {
+            mark_at(&mut self.list, at, place, up);
         }
     }
 }

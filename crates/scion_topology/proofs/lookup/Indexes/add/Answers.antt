@@ -1,18 +1,30 @@
--- The indexes have one interface more at this AS, and each other index as it was.
-use Rattle.std.proofs.Common.{◌≡◌, ◌∙◌, sym, ap, Bool, cond, eqb, Some}
-use Rattle.std.specs.Prelude.{is_some}
+-- The index of this AS has one interface more, and each other index is as it was.
+use Rattle.std.proofs.Common.{sym, arith}
+use Rattle.std.specs.Prelude.{slice_get}
 use Rattle.std.specs.Ordering.{nat_cmp}
 use Rattle.std.specs.BTreeMap.{get}
-use Rattle.std.proofs.lemmas.Bool.{eqb-true}
 use Rattle.scion_topology.specs.Index.{added}
-use Rattle.scion_topology.proofs.Marking.{is_at-nat_cmp, changed_at}
+use Rattle.scion_topology.proofs.Indexes.{slice_get-bound}
+use Rattle.scion_topology.proofs.Placing.{stands_there, own_changed, value_changed}
 use Rattle.scion_topology.proofs.lookup.Indexes.add.Goals as goal
 
-pub returns-in_ok-add : goal.returns-in_ok-add
-returns-in_ok-add c = λ x.
-    let was : get nat_cmp c.args.self.now.by_address c.args.ia ≡ Some c.in-Some.index.now = sym c.in-Some.ensures.value in
-    let updates = (c.get_mut.follows.holds c.add.new.self).3 (ap is_some was) in
-    changed_at (added c.args.entry c.args.place) (eqb x c.args.ia) (get nat_cmp c.args.self.now.by_address x) _ c.in-Some.index.now c.add.new.self
-    (updates.0 x ∙ ap (λ (b : Bool). cond b (Some c.add.new.self) (get nat_cmp c.args.self.now.by_address x)) (is_at-nat_cmp x c.args.ia))
-    (λ hit. ap (get nat_cmp c.args.self.now.by_address) (eqb-true x c.args.ia hit) ∙ was)
-    c.in_ok-add.ensures
+pub add_at-requires : goal.add_at-requires
+add_at-requires c =
+    let old = c.args.self.now in
+    let there = stands_there (slice_get old.list.items c.in-Some.at) c.args.ia (old.own.found c.args.ia c.in-Some.at (sym c.in-Some.ensures)) in
+    let below = slice_get-bound old.list.items c.in-Some.at there.0 there.1 in
+    omega (arith, below, old.list.ok)
+
+pub invariant_of-self : goal.invariant_of-self
+invariant_of-self c =
+    let old = c.args.self.now in
+    let there = stands_there (slice_get old.list.items c.in-Some.at) c.args.ia (old.own.found c.args.ia c.in-Some.at (sym c.in-Some.ensures)) in
+    let changed = c.add_at.ensures there.0 there.1 in
+    record { own = rw changed.1 (own_changed old.list.items (get nat_cmp old.places) c.in-Some.at there.0 changed.0 old.own there.1 changed.2) }
+
+pub returns-in_ok-add_at : goal.returns-in_ok-add_at
+returns-in_ok-add_at c = λ x.
+    let old = c.args.self.now in
+    let there = stands_there (slice_get old.list.items c.in-Some.at) c.args.ia (old.own.found c.args.ia c.in-Some.at (sym c.in-Some.ensures)) in
+    let changed = c.in_ok-add_at.ensures there.0 there.1 in
+    rw changed.1 (value_changed (added c.args.entry c.args.place) old.list.items (get nat_cmp old.places) c.in-Some.at c.args.ia there.0 changed.0 old.own (sym c.in-Some.ensures) there.1 changed.3 x)
