@@ -12,7 +12,7 @@ use isd_as::IsdAs;
 use std::alloc::{AllocError, Global};
 use std::collections::BTreeMap;
 
-/// The indexes of ASes, found by their addresses: at once where a hint is right, and else in a tree.
+/// The indexes of ASes, found by their addresses: at once where a hint is right, else in a tree.
 #[derive(Drop)]
 pub struct Indexes {
     list: Vec<AsIndex>,
