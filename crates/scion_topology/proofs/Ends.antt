@@ -41,7 +41,7 @@ found_passes f links ia number link found passes = elim (cases_Bool (list_any f 
 ]
 
 -- a link that ends at an interface stands there
-ends_stand : (first : Link) (rest : List Link) (ia number : ℕ) → has_end first ia number ≡ true → list_any (λ l. has_end l ia number) rest ≡ true → (stands rest first.a ≡ true) ⊎ (stands rest first.b ≡ true)
+pub ends_stand : (first : Link) (rest : List Link) (ia number : ℕ) → has_end first ia number ≡ true → list_any (λ l. has_end l ia number) rest ≡ true → (stands rest first.a ≡ true) ⊎ (stands rest first.b ≡ true)
 ends_stand first rest ia number here there = elim (or_cases (is_end first.a ia number) (is_end first.b ia number) here) [
   | inl at ↦ (let parts = and_parts (eqb first.a.ia ia) (eqb first.a.number number) at in inl (rw (eqb-true _ _ parts.0, eqb-true _ _ parts.1) there))
   | inr at ↦ (let parts = and_parts (eqb first.b.ia ia) (eqb first.b.number number) at in inr (rw (eqb-true _ _ parts.0, eqb-true _ _ parts.1) there))

@@ -1,29 +1,17 @@
 -- The index of an AS: where it is, and what is found in it.
-use Rattle.std.proofs.Common.{◌≡◌, ℕ, suc, ◌+◌, ◌<◌, ◌≤◌, false, eqb, List, [], ◌∷◌, length, get_or, drop, Option, Some, None, Result, Ok, Err, refl, sym, ap, ◌∙◌, arith, add-one, drop-cons, inl, inr, option_map}
+use Rattle.std.proofs.Common.{◌≡◌, ℕ, ◌+◌, ◌<◌, ◌≤◌, eqb, List, [], ◌∷◌, length, get_or, Option, Some, None, Result, Ok, Err, refl, sym, ap, ◌∙◌, arith, inl, inr, option_map}
 use Rattle.std.specs.Prelude.{slice_get, is_some}
 use Rattle.std.specs.List.{position_or_len}
 use Rattle.std.proofs.lemmas.Bool.{cases_Bool}
 use Rattle.std.proofs.lemmas.List.Folds.{find_at}
 use Rattle.std.proofs.lemmas.Option.{slice_get_cases, get_or_from_slice_get}
-use Rattle.scion_topology.specs.declared.entry.IfEntry.{IfEntry}
 use Rattle.scion_topology.specs.declared.fault.TopologyFault.{TopologyFault}
 use Rattle.scion_topology.specs.declared.fault.TopologyFault.TheVariants as faults
 use Rattle.scion_topology.specs.declared.network.AsEntry.{AsEntry}
 use Rattle.scion_topology.specs.declared.network.Link.{Link}
 use Rattle.scion_topology.specs.Network.{Network, as_named}
 use Rattle.scion_topology.specs.Causes.{is_listed}
-use Rattle.scion_topology.specs.Index.{IndexValue, index_at, index_from, place_beside, index_in}
-
--- the list from a place on
-pub drop-here : {A : Type 0} (xs : List A) (i : ℕ) (x : A) → i < length xs → x ≡ get_or xs i x → drop i xs ≡ x ∷ drop (i + 1) xs
-drop-here xs i x below is = drop-cons xs i x below ∙ ap (λ v. v ∷ drop (suc i) xs) (sym is) ∙ ap (λ n. x ∷ drop n xs) (sym (add-one i))
-
--- an interface of another number is passed over
-pub place_beside-skip : (number : ℕ) (table : List IfEntry) (places : List ℕ) (i : ℕ) (entry : IfEntry) → i < length table → length table ≡ length places → entry ≡ get_or table i entry → eqb entry.number number ≡ false → place_beside number (drop (i + 1) table) (drop (i + 1) places) ≡ place_beside number (drop i table) (drop i places)
-place_beside-skip number table places i entry below same is other =
-    let place = get_or places i 0 in
-    let places-here : drop i places ≡ place ∷ drop (i + 1) places = drop-cons places i 0 (omega arith) ∙ ap (λ n. place ∷ drop n places) (sym (add-one i)) in
-    rw (drop-here table i entry below is, places-here, other) refl
+use Rattle.scion_topology.specs.Index.{IndexValue, index_at, index_from, index_in}
 
 -- ---- the index of an AS
 

@@ -3,6 +3,7 @@ pub mod KeyTests
 pub mod Judging
 pub mod RightViews
 pub mod AuthenticHops
+pub mod Tables
 pub mod Indexes
 pub mod Filling
 pub mod Placing

@@ -1,23 +1,23 @@
 -- A link that goes up or down changes the two tables that it stands in, and nothing that a network
 -- is judged by.
-use Rattle.std.proofs.Common.{◌≡◌, ℕ, zero, suc, ◌+◌, ◌<◌, ◌≤◌, Bool, true, false, cond, eqb, List, [], ◌∷◌, length, Option, Some, None, refl, sym, ap, ◌∙◌, arith, inl, inr, ◌||◌, option_map, min, take, drop, ◌++◌, get_or, length-drop}
-use Rattle.std.proofs.lemmas.List.{take-append-drop}
+use Rattle.std.proofs.Common.{◌≡◌, ℕ, zero, suc, ◌+◌, ◌<◌, Bool, true, false, cond, eqb, not, List, [], ◌∷◌, length, Option, Some, None, refl, sym, ap, ◌∙◌, arith, inl, inr, ◌||◌, option_map, get_or}
 use Rattle.std.proofs.lemmas.Option.{slice_get-get_or}
 use Rattle.std.specs.Prelude.{is_some, position, slice_get, slice_set}
 use Rattle.std.specs.List.{list_all, list_any}
-use Rattle.std.proofs.lemmas.Bool.{cases_Bool, eq-eqb, eqb-true, ne_eqb}
+use Rattle.std.proofs.lemmas.Bool.{cases_Bool, eq-eqb, eqb-true, ne_eqb, and_parts}
 use Rattle.std.specs.Ordering.{nat_cmp}
 use Rattle.std.specs.BTreeMap.{is_at}
 use Rattle.std.proofs.lemmas.Bool.Decides.{nat_tests}
-use Rattle.scion_topology.specs.declared.index.AsIndex.{AsIndex}
 use Rattle.scion_topology.specs.declared.entry.IfEntry.{IfEntry}
 use Rattle.scion_topology.specs.declared.network.AsEntry.{AsEntry}
 use Rattle.scion_topology.specs.declared.network.Link.{Link}
 use Rattle.scion_topology.specs.Network.{has_end, interface_of, with_first, table_of}
 use Rattle.scion_topology.specs.Causes.{is_link, has_unknown_end, has_no_router, is_ill_joined, stands, joins_twice, cause_of}
 use Rattle.scion_topology.specs.Topology.{with_up}
-use Rattle.scion_topology.specs.Index.{IndexValue, seen, places_of, index_at, marked_table, marked, set_from}
-use Rattle.scion_topology.proofs.Places.{position-cons}
+use Rattle.scion_topology.specs.Table.{marked_table}
+use Rattle.scion_topology.specs.Index.{places_of, set_from}
+use Rattle.scion_topology.proofs.Places.{are_apart, is_numbered, ends_there}
+use Rattle.scion_topology.proofs.Tables.{position-cons, place_zero, place_suc}
 
 -- an interface with the link's new state, where it is that link's
 abbrev restated : Bool → Bool → IfEntry → IfEntry
@@ -46,42 +46,44 @@ places_of-set_from base x place count up [] = refl
 places_of-set_from base x place count up (link ∷ links) =
     rw (interface_of-restated (eqb count place) up x link, is_some-restated (eqb count place) up (interface_of x link), places_of-set_from (base + 1) x place (count + 1) up links) refl
 
-table_step : (o : Option IfEntry) (base place : ℕ) (up : Bool) (table rest : List IfEntry) (places : List ℕ) → rest ≡ marked_table place up table places → with_first (option_map (restated (eqb base place) up) o) rest ≡ marked_table place up (with_first o table) (cond (is_some o) (base ∷ places) places)
-table_step None base place up table rest places same = same
-table_step (Some e) base place up table rest places same = ap (λ (t : List IfEntry). restated (eqb base place) up e ∷ t) same
-
--- each table is the one before with that link's interfaces marked
-pub table_of-set_from : (base x place : ℕ) (up : Bool) (links : List Link) → table_of x (set_from base place up links) ≡ marked_table place up (table_of x links) (places_of base x links)
-table_of-set_from base x place up [] = refl
-table_of-set_from base x place up (link ∷ links) =
-    rw (interface_of-restated (eqb base place) up x link)
-    (table_step (interface_of x link) base place up (table_of x links) (table_of x (set_from (base + 1) place up links)) (places_of (base + 1) x links) (table_of-set_from (base + 1) x place up links))
-
--- the index of an AS is the one before, marked
-pub index_at-set_from : (position x place : ℕ) (up : Bool) (links : List Link) → index_at position x (set_from 0 place up links) ≡ marked place up (index_at position x links)
-index_at-set_from position x place up links = same_site position _ _ _ _ (table_of-set_from 0 x place up links) (places_of-set_from 0 x place 0 up links)
-  where
-    same_site : (position : ℕ) (t u : List IfEntry) (i j : List ℕ) → t ≡ u → i ≡ j → (let s : IndexValue = record { position = position; table = t; places = i } in s) ≡ (let s : IndexValue = record { position = position; table = u; places = j } in s)
-    same_site position t u i j e d = ap (λ (v : List IfEntry). (let s : IndexValue = record { position = position; table = v; places = i } in s)) e ∙ ap (λ (v : List ℕ). (let s : IndexValue = record { position = position; table = u; places = v } in s)) d
-
 -- the link at this place, counted from base, does not end in an AS
 abbrev pub Misses : ℕ → ℕ → ℕ → List Link → Type 0
 Misses base x place links = (k : ℕ) (link : Link) → slice_get links k ≡ Some link → base + k ≡ place → interface_of x link ≡ None
 
-miss_step : (o : Option IfEntry) (base place : ℕ) (up : Bool) (table : List IfEntry) (places : List ℕ) → (base ≡ place → o ≡ None) → marked_table place up table places ≡ table → marked_table place up (with_first o table) (cond (is_some o) (base ∷ places) places) ≡ with_first o table
-miss_step None base place up table places misses same = same
-miss_step (Some e) base place up table places misses same = elim (cases_Bool (eqb base place)) [
-  | inl here ↦ absurd (let none = misses (eqb-true base place here) in cc)
-  | inr other ↦ rw other (ap (λ (t : List IfEntry). e ∷ t) same)
-]
+miss_step : (here up : Bool) (o : Option IfEntry) → (here ≡ true → o ≡ None) → option_map (restated here up) o ≡ o
+miss_step here up None misses = refl
+miss_step true up (Some e) misses = absurd (let none = misses refl in cc)
+miss_step false up (Some e) misses = refl
 
 -- an AS in which the link does not end keeps its table
-pub marked_table-misses : (base x place : ℕ) (up : Bool) (links : List Link) → Misses base x place links → marked_table place up (table_of x links) (places_of base x links) ≡ table_of x links
-marked_table-misses base x place up [] misses = refl
-marked_table-misses base x place up (link ∷ links) misses =
-    miss_step (interface_of x link) base place up (table_of x links) (places_of (base + 1) x links)
-    (λ at. misses 0 link refl (omega arith))
-    (marked_table-misses (base + 1) x place up links (λ k other found at. misses (suc k) other found (omega arith)))
+pub table_of-misses : (base x place : ℕ) (up : Bool) (links : List Link) → Misses base x place links → table_of x (set_from base place up links) ≡ table_of x links
+table_of-misses base x place up [] misses = refl
+table_of-misses base x place up (link ∷ links) misses =
+    rw (
+      interface_of-restated (eqb base place) up x link,
+      miss_step (eqb base place) up (interface_of x link) (λ here. misses 0 link refl (omega (arith, eqb-true base place here))),
+      table_of-misses (base + 1) x place up links (λ k other found at. misses (suc k) other found (omega (arith, at))),
+    ) refl
+
+-- ---- the interface of a number is that of the link which ends there
+
+here_step : (number : ℕ) (up : Bool) (o : Option IfEntry) (table : List IfEntry) → is_numbered number o ≡ true → with_first (option_map (restated true up) o) table ≡ marked_table number up (with_first o table)
+here_step number up None table here = absurd cc
+here_step number up (Some e) table here = rw here refl
+
+other_step : (number : ℕ) (up : Bool) (o : Option IfEntry) (table : List IfEntry) → is_numbered number o ≡ false → with_first o (marked_table number up table) ≡ marked_table number up (with_first o table)
+other_step number up None table other = refl
+other_step number up (Some e) table other = rw other refl
+
+pub table_of-with_up : (x number : ℕ) (up : Bool) (links : List Link) → are_apart links ≡ true → table_of x (with_up up x number links) ≡ marked_table number up (table_of x links)
+table_of-with_up x number up [] apart = refl
+table_of-with_up x number up (link ∷ links) apart =
+    let parts = and_parts (not (eqb link.a.ia link.b.ia)) (are_apart links) apart in
+    let is = ends_there x number link parts.0 in
+    elim (cases_Bool (has_end link x number)) [
+      | inl here ↦ rw (here, interface_of-restated true up x link) (here_step number up (interface_of x link) (table_of x links) (sym is ∙ here))
+      | inr other ↦ rw (other, table_of-with_up x number up links parts.1) (other_step number up (interface_of x link) (table_of x links) (sym is ∙ other))
+    ]
 
 -- ---- the first link with an end
 
@@ -89,13 +91,6 @@ pub set_from-past : (base place : ℕ) (up : Bool) (links : List Link) → place
 set_from-past base place up [] past = refl
 set_from-past base place up (link ∷ links) past =
     rw (ne_eqb base place (λ e. omega arith), set_from-past (base + 1) place up links (omega arith)) refl
-
-place_zero : (o : Option ℕ) (k : ℕ) → cond true (Some 0) o ≡ Some k → 0 ≡ k
-place_zero o k e = cc
-
-place_suc : (o : Option ℕ) (k : ℕ) → cond false (Some 0) (option_map (λ (i : ℕ). 1 + i) o) ≡ Some k → (i : ℕ) × (o ≡ Some i) × (1 + i ≡ k)
-place_suc None k e = absurd cc
-place_suc (Some i) k e = (i, refl, cc)
 
 pub with_up-set_from : (base ia number k : ℕ) (up : Bool) (links : List Link) → position (λ link. has_end link ia number) links ≡ Some k → with_up up ia number links ≡ set_from base (base + k) up links
 with_up-set_from base ia number k up [] found = absurd cc
@@ -174,15 +169,6 @@ is_link-set_from base place up links = same_all is_link (λ l b. refl) base plac
 
 -- ---- the code's steps
 
--- nothing is left to mark
-pub marked_table-done : (place at : ℕ) (up : Bool) (table : List IfEntry) (places : List ℕ) → min (length table) (length places) ≤ at → take at table ++ marked_table place up (drop at table) (drop at places) ≡ table
-marked_table-done place at up table places done = ap (λ (t : List IfEntry). take at table ++ t) (rest (drop at table) (drop at places) (omega (arith, length-drop at table, length-drop at places))) ∙ take-append-drop at table
-  where
-    rest : (t : List IfEntry) (j : List ℕ) → min (length t) (length j) ≤ 0 → marked_table place up t j ≡ t
-    rest [] j h = refl
-    rest (e ∷ t) [] h = refl
-    rest (e ∷ t) (k ∷ j) h = absurd (omega arith)
-
 pub put_up-is : (place : ℕ) (up : Bool) (links : List Link) (link : Link) → place < length links → link ≡ get_or links place link → slice_set links place (record link { up = up }) ≡ set_from 0 place up links
 put_up-is place up links link below is =
     let found : slice_get links place ≡ Some link = slice_get-get_or links place link below ∙ ap Some (sym is) in
@@ -192,8 +178,3 @@ put_up-is place up links link below is =
 -- a query for a number finds that number
 pub is_at-nat_cmp : (x y : ℕ) → is_at (nat_cmp y) x ≡ eqb x y
 is_at-nat_cmp x y = grind (arith, nat_tests)
-
--- one index of the indexes is changed
-pub changed_at : (f : IndexValue → IndexValue) (hit : Bool) (old new : Option AsIndex) (before after : AsIndex) → new ≡ cond hit (Some after) old → (hit ≡ true → old ≡ Some before) → seen after ≡ f (seen before) → option_map seen new ≡ cond hit (option_map f (option_map seen old)) (option_map seen old)
-changed_at f true old new before after is at same = rw (is, at refl) (ap Some same)
-changed_at f false old new before after is at same = ap (option_map seen) is

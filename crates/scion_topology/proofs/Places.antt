@@ -1,5 +1,5 @@
 -- The link at an interface is the one whose place stands beside the interface in its AS's table.
-use Rattle.std.proofs.Common.{◌≡◌, ℕ, suc, ◌+◌, ◌<◌, ◌≤◌, Bool, true, false, cond, eqb, ltb, not, List, [], ◌∷◌, length, Option, Some, None, Result, Ok, Err, refl, sym, ap, ◌∙◌, arith, inl, inr, ◌&&◌, ◌||◌, find, option_map, get_or, IfOk}
+use Rattle.std.proofs.Common.{◌≡◌, ℕ, ◌+◌, ◌<◌, Bool, true, false, cond, eqb, ltb, not, List, [], ◌∷◌, length, Option, Some, None, Result, Ok, Err, refl, sym, ap, ◌∙◌, arith, inl, inr, ◌&&◌, ◌||◌, find, option_map, get_or, IfOk}
 use Rattle.std.specs.Prelude.{is_some, position}
 use Rattle.std.specs.List.{position_or_len, list_all, list_any}
 use Rattle.std.specs.Option.{ok_or}
@@ -17,29 +17,9 @@ use Rattle.scion_topology.specs.Topology.{IsNetwork, known, joined}
 use Rattle.scion_topology.specs.Index.{IndexValue, places_of, index_at, place_beside, index_in, place_in}
 use Rattle.std.proofs.lemmas.Option.{slice_get-get_or}
 use Rattle.scion_topology.proofs.Indexes.{slice_get-past}
+use Rattle.scion_topology.proofs.Tables.{position-cons, place_beside-cons}
 use Rattle.refusal.proofs.Steps.{bind_ok, ok_is, ok_or_ok}
 use Rattle.scion_topology.proofs.Judging.{IsFree-IsNetwork}
-
--- the first place in a list, one element at a time
-shifted : (n len : ℕ) → cond (ltb (1 + n) (suc len)) (Some (1 + n)) None ≡ option_map (λ (k : ℕ). 1 + k) (cond (ltb n len) (Some n) None)
-shifted n len = elim (cases_lt n len) [
-  | inl below ↦ (let next : 1 + n < suc len = omega arith in rw (lt-ltb n len below, lt-ltb (1 + n) (suc len) next) refl)
-  | inr past ↦ (let next : suc len ≤ 1 + n = omega arith in rw (le-ltb n len past, le-ltb (1 + n) (suc len) next) refl)
-]
-
-pub position-cons : {A : Type 0} (p : A → Bool) (x : A) (xs : List A) → position p (x ∷ xs) ≡ cond (p x) (Some 0) (option_map (λ k. 1 + k) (position p xs))
-position-cons p x xs = elim (cases_Bool (p x)) [
-  | inl here ↦ (let some : 0 < suc (length xs) = omega arith in rw (here, lt-ltb 0 (suc (length xs)) some) refl)
-  | inr other ↦ rw other (shifted (position_or_len p xs) (length xs))
-]
-
-length_step : (o : Option IfEntry) (base : ℕ) (table : List IfEntry) (places : List ℕ) → length table ≡ length places → length (with_first o table) ≡ length (cond (is_some o) (base ∷ places) places)
-length_step None base table places same = same
-length_step (Some e) base table places same = ap suc same
-
-pub length-places_of : (base ia : ℕ) (links : List Link) → length (table_of ia links) ≡ length (places_of base ia links)
-length-places_of base ia [] = refl
-length-places_of base ia (link ∷ links) = length_step (interface_of ia link) base (table_of ia links) (places_of (base + 1) ia links) (length-places_of (base + 1) ia links)
 
 -- no link joins an AS to itself
 abbrev pub are_apart : List Link → Bool
@@ -85,8 +65,8 @@ moved base (Some k) = ap Some (omega arith)
 place_step : (number base : ℕ) (o : Option IfEntry) (h : Bool) (table : List IfEntry) (places : List ℕ) (first : Option ℕ) → h ≡ is_numbered number o → place_beside number table places ≡ option_map (λ k. base + 1 + k) first → place_beside number (with_first o table) (cond (is_some o) (base ∷ places) places) ≡ option_map (λ k. base + k) (cond h (Some 0) (option_map (λ k. 1 + k) first))
 place_step number base None h table places first is rest = rw is (rest ∙ moved base first)
 place_step number base (Some e) h table places first is rest = elim (cases_Bool (eqb e.number number)) [
-  | inl here ↦ (let at : base + 0 ≡ base = omega arith in rw (is, here, at) refl)
-  | inr other ↦ rw (is, other) (rest ∙ moved base first)
+  | inl here ↦ (let at : base + 0 ≡ base = omega arith in rw (place_beside-cons number e table base places, is, here, at) refl)
+  | inr other ↦ rw (place_beside-cons number e table base places, is, other) (rest ∙ moved base first)
 ]
 
 pub place_beside-position : (number base ia : ℕ) (links : List Link) → are_apart links ≡ true → place_beside number (table_of ia links) (places_of base ia links) ≡ option_map (λ k. base + k) (position (λ link. has_end link ia number) links)
@@ -133,11 +113,6 @@ IsIndex-index_in n ia one index found =
       table = ap (λ (s : IndexValue). s.table) (sym is);
       places = ap (λ (s : IndexValue). s.places) (sym is);
     }
-
-pub length-index : (n : Network) (ia : ℕ) (one : AsEntry) (index : IndexValue) → index_in n ia ≡ Ok (one, index) → length index.table ≡ length index.places
-length-index n ia one index found =
-    let is = IsIndex-index_in n ia one index found in
-    ap length is.table ∙ length-places_of 0 ia n.links ∙ ap length (sym is.places)
 
 pub place_in-index : (n : Network) (ia number : ℕ) (one : AsEntry) (index : IndexValue) → IsNetwork n → index_in n ia ≡ Ok (one, index) → ok_or (place_beside number index.table index.places) faults.NoLink ≡ place_in n ia number
 place_in-index n ia number one index network found =

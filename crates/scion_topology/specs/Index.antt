@@ -15,6 +15,7 @@ use Rattle.scion_topology.specs.declared.fault.TopologyFault.{TopologyFault}
 use Rattle.scion_topology.specs.declared.fault.TopologyFault.TheVariants as faults
 use Rattle.scion_topology.specs.Keys.{renewed}
 use Rattle.scion_topology.specs.Network.{Network, has_end, interface_of, table_of}
+use Rattle.scion_topology.specs.Table.{place_in_table, marked_table}
 use Rattle.scion_topology.specs.Topology.{known}
 
 -- where an AS stands in the list, its interfaces, and where the link of each stands
@@ -25,7 +26,7 @@ pub record IndexValue : Type 0 where
 
 abbrev pub seen : AsIndex → IndexValue
 seen index =
-    record { position = index.position; table = index.table.items; places = index.places.items }
+    record { position = index.position; table = index.table; places = index.places.items }
 
 -- the place of the index of an AS
 abbrev pub spot_of : Indexes → ℕ → Option ℕ
@@ -58,12 +59,10 @@ index_from base [] links ia = None
 index_from base (one ∷ rest) links ia =
     if one.ia == ia then Some (index_at base ia links) else index_from (base + 1) rest links ia
 
--- what a table and the places of its links have for an interface
+-- what stands beside the interface of this number
 abbrev pub place_beside : ℕ → List IfEntry → List ℕ → Option ℕ
-place_beside number [] places = None
-place_beside number (entry ∷ table) [] = None
-place_beside number (entry ∷ table) (place ∷ places) =
-    if entry.number == number then Some place else place_beside number table places
+place_beside number table places =
+    option_and_then (slice_get places) (place_in_table table number)
 
 -- an AS and its index
 abbrev pub index_in : Network → ℕ → Result (AsEntry × IndexValue) TopologyFault
@@ -103,19 +102,13 @@ with_link place ia link index = with_links place ia (link ∷ []) index
 
 -- ---- a link that goes up or down
 
--- the interfaces with those of the link at this place up, or down
-abbrev pub marked_table : ℕ → Bool → List IfEntry → List ℕ → List IfEntry
-marked_table place up [] places = []
-marked_table place up (entry ∷ table) [] = entry ∷ table
-marked_table place up (entry ∷ table) (own ∷ places) =
-    (if own == place then record entry { up = up } else entry) ∷ marked_table place up table places
-
+-- the index with the interface of this number up, or down
 abbrev pub marked : ℕ → Bool → IndexValue → IndexValue
-marked place up index = record index { table = marked_table place up index.table index.places }
+marked number up index = record index { table = marked_table number up index.table }
 
 -- the same, where it is this AS's
 abbrev pub marked_where : Bool → ℕ → Bool → Option IndexValue → Option IndexValue
-marked_where here place up index = if here then option_map (marked place up) index else index
+marked_where here number up index = if here then option_map (marked number up) index else index
 
 -- the links with the one at this place, counted from base, up, or down
 abbrev pub set_from : ℕ → ℕ → Bool → List Link → List Link

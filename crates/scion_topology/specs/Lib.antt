@@ -10,5 +10,6 @@ pub mod Reading
 pub mod Topology
 pub mod Ends
 pub mod Placed
+pub mod Table
 pub mod Index
-pub mod ViewKeys
+pub mod Source

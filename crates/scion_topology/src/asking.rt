@@ -1,9 +1,8 @@
 ghost use Rattle.std.specs.Prelude.{◌≡◌, ◌<◌, Some, None, IfOk, MatchResult, length};
-ghost use Rattle.std.specs.Option.{option_copied};
-ghost use Rattle.scion_topology.specs.Network.{as_named, interface_in};
+ghost use Rattle.scion_topology.specs.Network.{as_named};
 ghost use Rattle.refusal.specs.Refusal.{Gives};
 ghost use Rattle.scion_topology.specs.Topology.{IsNetwork, known, joined, info_in, interface_at, far_end_in, owner_in, view_in};
-ghost use Rattle.scion_topology.specs.Index.{seen, place_beside, index_in, place_in};
+ghost use Rattle.scion_topology.specs.Index.{seen, index_in, place_in};
 
 use crate::causes::is_end;
 use crate::entry::IfEntry;
@@ -61,6 +60,7 @@ impl Topology {
     /// The view of a router of an AS: [`TopologyFault::UnknownAs`], then
     /// [`TopologyFault::NoRouter`] where the AS has no router of this number. The key and the table
     /// are lent.
+    #[inline]
     #[tactic(auto, unfolding(crate::specs::Topology::view_in))]
     pub fn view(&self, ia: IsdAs, router: u8) -> Result<RouterView<'_>, TopologyFault>
         ensures { result ≡ view_in self.now ia router }
@@ -92,7 +92,7 @@ impl Topology {
         // The read of a field brings what the type keeps.
         let _ = &self.links;
         let (_, index) = self.indexed(ia)?;
-        interface_in(&index.table, number).ok_or(TopologyFault::NoLink)
+        index.table.get(number).ok_or(TopologyFault::NoLink)
     }
 
     /// Does nothing, and tells its caller the rules that every topology keeps.
@@ -104,6 +104,7 @@ impl Topology {
     }
 
     /// An AS and what was prepared for it.
+    #[inline]
     pub(crate) fn indexed(&self, ia: IsdAs) -> Result<(&AsEntry, &AsIndex), TopologyFault>
         ensures { Gives (λ x. (x.0.now, seen x.1.now)) result (index_in self.now ia) }
     {
@@ -121,7 +122,7 @@ impl Topology {
         // The read of a field brings what the type keeps.
         let _ = &self.links;
         let (_, index) = self.indexed(ia)?;
-        place_beside(&index.table, &index.places, number).ok_or(TopologyFault::NoLink)
+        index.place(number).ok_or(TopologyFault::NoLink)
     }
 
     /// The link at an interface.
@@ -131,24 +132,4 @@ impl Topology {
         let place = self.place(ia, number)?;
         Ok(&self.links[place])
     }
-}
-
-/// The interface of this number in a table.
-fn interface_in(table: &[IfEntry], number: IfId) -> Option<&IfEntry>
-    ensures { option_copied result ≡ interface_in table.now number }
-{
-    table.iter().find(|entry| entry.number == number)
-}
-
-/// What a table and the places of its links have for an interface.
-fn place_beside(table: &[IfEntry], places: &[usize], number: IfId) -> Option<usize>
-    requires { length table.now ≡ length places.now }
-    ensures { result ≡ place_beside number table.now places.now }
-{
-    for (at, entry) in table.iter().enumerate() {
-        if entry.number == number {
-            return Some(places[at]);
-        }
-    }
-    None
 }

@@ -46,8 +46,8 @@ impl Topology {
         let place = self.place(ia, number)?;
         let link = self.links[place];
         put_up(&mut self.links, place, up);
-        self.indexes.mark(link.a.ia, place, up);
-        self.indexes.mark(link.b.ia, place, up);
+        self.indexes.mark(link.a.ia, link.a.number, up);
+        self.indexes.mark(link.b.ia, link.b.number, up);
         Ok(())
     }
 }

@@ -20,6 +20,7 @@ impl Hints {
     }
 
     /// Where an AS may stand.
+    #[inline]
     pub(crate) fn place(&self, ia: IsdAs) -> usize {
         match self.places.get(slot(ia)) {
             Some(place) => usize::from(*place),

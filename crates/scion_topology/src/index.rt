@@ -1,11 +1,12 @@
-ghost use Rattle.std.specs.Prelude.{◌≡◌, ◌<◌, [], OnOk, vec_len, if◌then◌else◌};
+ghost use Rattle.std.specs.Prelude.{◌≡◌, ◌<◌, [], OnOk, vec_len};
 ghost use Rattle.scion_topology.specs.Network.{end_as_interface, kind_at_a, kind_at_b};
 ghost use Rattle.scion_topology.specs.Placed.{IsChanged};
-ghost use Rattle.scion_topology.specs.Index.{seen, added, marked, marked_table};
+ghost use Rattle.scion_topology.specs.Index.{seen, added, marked, place_beside};
 
 use crate::entry::{IfEntry, LinkKind};
 use crate::network::{End, Link, LinkClass};
-use isd_as::IsdAs;
+use crate::table::Table;
+use isd_as::{IfId, IsdAs};
 use std::alloc::{AllocError, Global};
 
 /// What a topology finds of an AS at once: its place in the list, its interfaces, and for each of
@@ -14,7 +15,7 @@ use std::alloc::{AllocError, Global};
 pub struct AsIndex {
     pub(crate) ia: IsdAs,
     pub(crate) position: usize,
-    pub(crate) table: Vec<IfEntry>,
+    pub(crate) table: Table,
     pub(crate) places: Vec<usize>,
 }
 
@@ -27,7 +28,7 @@ impl AsIndex {
         AsIndex {
             ia,
             position,
-            table: Vec::new(alloc),
+            table: Table::new(alloc),
             places: Vec::new(alloc),
         }
     }
@@ -42,12 +43,20 @@ impl AsIndex {
         Ok(())
     }
 
-    /// Sets the interface of the link at a place up or down.
-    pub(crate) fn mark(&mut self, place: usize, up: bool)
-        ensures ia { self.new.ia ≡ self.old.ia }
-        ensures value { seen self.new ≡ marked place up (seen self.old) }
+    /// The place of the link at the interface of this number.
+    pub(crate) fn place(&self, number: IfId) -> Option<usize>
+        ensures { result ≡ place_beside number self.now.table self.now.places.items }
     {
-        mark_table(&mut self.table, &self.places, place, up);
+        let at = self.table.place(number)?;
+        self.places.get(at).copied()
+    }
+
+    /// Sets the interface of this number up or down, where there is one.
+    pub(crate) fn mark(&mut self, number: IfId, up: bool)
+        ensures ia { self.new.ia ≡ self.old.ia }
+        ensures value { seen self.new ≡ marked number up (seen self.old) }
+    {
+        self.table.mark(number, up);
     }
 }
 
@@ -111,29 +120,11 @@ pub(crate) fn add_at(
     list[at].add(entry, place)
 }
 
-/// Sets the interface of the link at a place up or down in the index at a place.
-pub(crate) fn mark_at(list: &mut Vec<AsIndex>, at: usize, place: usize, up: bool)
+/// Sets the interface of this number up or down in the index at a place.
+pub(crate) fn mark_at(list: &mut Vec<AsIndex>, at: usize, number: IfId, up: bool)
     requires { at < vec_len list.old }
-    ensures { IsChanged (λ old new. seen new ≡ marked place up (seen old))
+    ensures { IsChanged (λ old new. seen new ≡ marked number up (seen old))
         at list.old.items list.new.items }
 {
-    list[at].mark(place, up);
-}
-
-/// Sets the interfaces of the link at a place up or down.
-fn mark_table(table: &mut Vec<IfEntry>, places: &Vec<usize>, place: usize, up: bool)
-    ensures { table.new.items ≡ marked_table place up table.old.items places.now.items }
-{
-    for at in 0..table.len().min(places.len()) {
-        mark_one(&mut table[at], places[at] == place, up);
-    }
-}
-
-/// Sets an interface up or down, where it is that of the link.
-fn mark_one(entry: &mut IfEntry, here: bool, up: bool)
-    ensures { entry.new ≡ (if here then record entry.old { up = up } else entry.old) }
-{
-    if here {
-        entry.up = up;
-    }
+    list[at].mark(number, up);
 }

@@ -20,6 +20,7 @@ pub mod laws;
 mod listed;
 mod lookup;
 mod network;
+mod table;
 mod topology;
 mod view;
 

@@ -8,7 +8,7 @@ use crate::entry::IfEntry;
 use crate::hints::Hints;
 use crate::index::{AsIndex, add_at, interface_at_a, interface_at_b, mark_at};
 use crate::network::{AsEntry, Link};
-use isd_as::IsdAs;
+use isd_as::{IfId, IsdAs};
 use std::alloc::{AllocError, Global};
 use std::collections::BTreeMap;
 
@@ -72,6 +72,7 @@ impl Indexes {
     }
 
     /// The index of an AS.
+    #[inline]
     pub(crate) fn get(&self, ia: IsdAs) -> Option<&AsIndex>
         ensures { option_map seen (option_copied result) ≡ index_of self.now ia }
     {
@@ -82,6 +83,7 @@ impl Indexes {
     }
 
     /// The place of the index of an AS.
+    #[inline]
     fn place(&self, ia: IsdAs) -> Option<usize>
         ensures { result ≡ spot_of self.now ia }
     {
@@ -93,6 +95,7 @@ impl Indexes {
     }
 
     /// Whether the index at a place is that of an AS.
+    #[inline]
     fn is_at(&self, place: usize, ia: IsdAs) -> bool
         ensures { IsTrue result → spot_of self.now ia ≡ Some place }
     {
@@ -136,13 +139,13 @@ impl Indexes {
         Ok(())
     }
 
-    /// Sets the interface of the link at a place up or down in the table of an AS.
-    pub(crate) fn mark(&mut self, ia: IsdAs, place: usize, up: bool)
+    /// Sets the interface of this number of an AS up or down.
+    pub(crate) fn mark(&mut self, ia: IsdAs, number: IfId, up: bool)
         ensures { (x : ℕ) → index_of self.new x
-            ≡ marked_where (x == ia) place up (index_of self.old x) }
+            ≡ marked_where (x == ia) number up (index_of self.old x) }
     {
         if let Some(at) = self.place(ia) {
-            mark_at(&mut self.list, at, place, up);
+            mark_at(&mut self.list, at, number, up);
         }
     }
 }

@@ -20,8 +20,8 @@ use std::marker::Model;
 /// A network: its ASes and its links.
 ///
 /// It is read from JSON, asked by address and interface, and changed by cutting and mending links
-/// and by new keys. Only reading takes memory, and no question looks at more than the interfaces of
-/// one AS.
+/// and by new keys. Only reading takes memory. ASes and interfaces are found by a search, and no
+/// question goes through a list of them.
 #[derive(Drop)]
 pub struct Topology {
     pub(crate) ases: Vec<AsEntry>,

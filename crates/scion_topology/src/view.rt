@@ -7,47 +7,52 @@ ghost use Rattle.scion_topology.specs.Building.{is_named, names_twice, view_of};
 use crate::entry::IfEntry;
 use crate::fault::TopologyFault;
 use crate::keys::Keys;
+use crate::table::Table;
 use isd_as::{IfId, IsdAs};
 use std::marker::Model;
 
 /// What a router knows of its AS: its address, its own number, the AS's keys and its interfaces.
 ///
 /// Its type keeps that the address is no wildcard, that each key has 1 to 64 bytes, and that each
-/// interface is named once, none of them by 0. It borrows the table; the hash states of its keys
-/// are lent by a topology, or made once.
+/// interface is named once, none of them by 0. A topology lends the hash states of its keys and a
+/// table that is searched; else the states are made once, and the interfaces are borrowed as they
+/// are given.
 #[derive(Drop)]
 pub struct RouterView<'a> {
     ia: IsdAs,
     router: u8,
-    keys: ViewKeys<'a>,
-    table: &'a [IfEntry],
+    source: Source<'a>,
 }
 
-/// The keys of a view.
+/// Where a view has its keys and its interfaces from.
 #[derive(Drop)]
-enum ViewKeys<'a> {
-    /// Those of an AS of a topology.
-    Lent(&'a Keys),
-    /// Those that were given by their bytes.
-    Made(Keys),
+enum Source<'a> {
+    /// An AS of a topology lends both.
+    Lent(&'a Keys, &'a Table),
+    /// Both were given: the keys by their bytes, and the interfaces in any order.
+    Given(Keys, &'a [IfEntry]),
 }
 
 impl<'a> Model for RouterView<'a> {
     ghost use Rattle.std.specs.Prelude.{◌≡◌, All};
     ghost use Rattle.scion_topology.specs.View.{View, IsRight};
-    ghost use Rattle.scion_topology.specs.ViewKeys.{keys_in};
+    ghost use Rattle.scion_topology.specs.Source.{keys_in, table_in};
 
     ghost Value = { View };
 
     ghost view = { λ a. record {
       ia = a.ia;
       router = a.router;
-      keys = keys_in a.keys;
-      table = a.table.now;
+      keys = keys_in a.source;
+      table = table_in a.source;
     } };
 
-    ghost invariant = { λ a. IsRight
-        (record { ia = a.ia; router = a.router; keys = keys_in a.keys; table = a.table.now }) };
+    ghost invariant = { λ a. IsRight (record {
+      ia = a.ia;
+      router = a.router;
+      keys = keys_in a.source;
+      table = table_in a.source;
+    }) };
 }
 
 impl<'a> RouterView<'a> {
@@ -77,17 +82,17 @@ impl<'a> RouterView<'a> {
         Ok(RouterView {
             ia,
             router,
-            keys: ViewKeys::Made(keys),
-            table,
+            source: Source::Given(keys, table),
         })
     }
 
     /// The view of these parts, which are known to be right: no test is run and nothing is hashed.
+    #[inline]
     pub(crate) fn of_parts(
         ia: IsdAs,
         router: u8,
         keys: &'a Keys,
-        table: &'a [IfEntry],
+        table: &'a Table,
     ) -> RouterView<'a>
         requires { IsRight
             (record { ia = ia; router = router; keys = keys.now; table = table.now }) }
@@ -96,8 +101,7 @@ impl<'a> RouterView<'a> {
         RouterView {
             ia,
             router,
-            keys: ViewKeys::Lent(keys),
-            table,
+            source: Source::Lent(keys, table),
         }
     }
 
@@ -137,7 +141,10 @@ impl<'a> RouterView<'a> {
     pub fn entry(&self, number: IfId) -> Option<&'a IfEntry>
         ensures { option_copied result ≡ entry_of self.now number }
     {
-        self.table.iter().find(|entry| entry.number == number)
+        match &self.source {
+            Source::Lent(_, table) => table.get(number),
+            Source::Given(_, table) => table.iter().find(|entry| entry.number == number),
+        }
     }
 
     /// Whether `mac` is the authenticator of a hop of these values under the key in use or the one
@@ -165,9 +172,9 @@ impl<'a> RouterView<'a> {
     fn keys(&self) -> &Keys
         ensures { result.now ≡ self.now.keys }
     {
-        match &self.keys {
-            ViewKeys::Lent(keys) => keys,
-            ViewKeys::Made(keys) => keys,
+        match &self.source {
+            Source::Lent(keys, _) => keys,
+            Source::Given(keys, _) => keys,
         }
     }
 
@@ -176,7 +183,7 @@ impl<'a> RouterView<'a> {
         ensures { IsRight self.now }
     {
         // The read of a field brings what the type keeps.
-        let _ = &self.table;
+        let _ = &self.source;
     }
 }
 

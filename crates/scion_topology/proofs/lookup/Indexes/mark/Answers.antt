@@ -27,4 +27,4 @@ returns-in-Some c = λ x.
     let old = c.args.self.now in
     let there = stands_there (slice_get old.list.items c.in-Some.at) c.args.ia (old.own.found c.args.ia c.in-Some.at (sym c.in-Some.ensures)) in
     let changed = c.mark_at.ensures there.0 there.1 in
-    rw changed.1 (value_changed (marked c.args.place c.args.up) old.list.items (get nat_cmp old.places) c.in-Some.at c.args.ia there.0 changed.0 old.own (sym c.in-Some.ensures) there.1 changed.3 x)
+    rw changed.1 (value_changed (marked c.args.number c.args.up) old.list.items (get nat_cmp old.places) c.in-Some.at c.args.ia there.0 changed.0 old.own (sym c.in-Some.ensures) there.1 changed.3 x)

@@ -12,4 +12,4 @@ of_parts-requires c =
     let one = c.in_ok-one.one.now in
     let is = IsIndex-index_in c.args.self.now c.args.ia one (seen c.in_ok-one.index.now) c.in_ok-one.ensures in
     let seen = IsSeen-known c.args.self.now c.args.ia one network is.known in
-    rw (c.deref.ensures.value, is.table) (right c.args.ia c.args.router one.keys _ seen.keys seen.plain seen.numbered seen.once)
+    rw is.table (right c.args.ia c.args.router one.keys _ seen.keys seen.plain seen.numbered seen.once)

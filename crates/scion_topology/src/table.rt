@@ -1,0 +1,100 @@
+ghost use Rattle.std.specs.Prelude.{◌≡◌, ◌<◌, [], ◌∷◌, ◌++◌, OnOk, Some, slice_get, slice_set, vec_len};
+ghost use Rattle.std.specs.Option.{option_copied};
+ghost use Rattle.scion_topology.specs.Network.{interface_in};
+ghost use Rattle.scion_topology.specs.Table.{place_in_table, marked_table};
+ghost use Rattle.scion_topology.specs.declared.entry.IfEntry.{IfEntry};
+
+use crate::entry::IfEntry;
+use isd_as::IfId;
+use std::alloc::{AllocError, Global};
+use std::collections::BTreeMap;
+use std::marker::Model;
+
+/// The interfaces of an AS, each found by its number in a tree. Clauses see the list of them.
+///
+/// Where a number stands twice, it is the first of the two that is found.
+#[derive(Drop)]
+pub struct Table {
+    entries: Vec<IfEntry>,
+    places: BTreeMap<IfId, usize>,
+}
+
+impl Model for Table {
+    ghost use Rattle.std.specs.Prelude.{◌≡◌, ℕ, List};
+    ghost use Rattle.std.specs.Ordering.{nat_cmp};
+    ghost use Rattle.std.specs.BTreeMap.{get};
+    ghost use Rattle.scion_topology.specs.declared.entry.IfEntry.{IfEntry};
+    ghost use Rattle.scion_topology.specs.Table.{place_in_table};
+
+    ghost Value = { List IfEntry };
+
+    ghost view = { λ t. t.entries.items };
+
+    ghost invariant = { λ t. (number : ℕ)
+        → get nat_cmp t.places number ≡ place_in_table t.entries.items number };
+}
+
+impl Table {
+    /// The table of no interface.
+    pub(crate) fn new(alloc: Global) -> Table
+        ensures { result ≡ [] }
+    {
+        Table {
+            entries: Vec::new(alloc),
+            places: BTreeMap::new(alloc),
+        }
+    }
+
+    /// Adds an interface behind the others.
+    pub(crate) fn push(&mut self, entry: IfEntry) -> Result<(), AllocError>
+        ensures { OnOk result (self.new ≡ self.old ++ entry ∷ []) }
+    {
+        let place = self.entries.len();
+        self.entries.push(entry)?;
+        if self.places.contains_key(&entry.number) {
+            return Ok(());
+        }
+        match self.places.insert(entry.number, place) {
+            Ok(_) => Ok(()),
+            Err(_) => {
+                self.entries.pop();
+                Err(AllocError)
+            }
+        }
+    }
+
+    /// The interface of this number.
+    pub(crate) fn get(&self, number: IfId) -> Option<&IfEntry>
+        ensures { option_copied result ≡ interface_in self.now number }
+    {
+        match self.place(number) {
+            Some(place) => Some(&self.entries[place]),
+            None => None,
+        }
+    }
+
+    /// The place of the interface of this number.
+    pub(crate) fn place(&self, number: IfId) -> Option<usize>
+        ensures { result ≡ place_in_table self.now number }
+    {
+        self.places.get(&number).copied()
+    }
+
+    /// Sets the interface of this number up or down, where there is one.
+    pub(crate) fn mark(&mut self, number: IfId, up: bool)
+        ensures { self.new ≡ marked_table number up self.old }
+    {
+        if let Some(place) = self.place(number) {
+            mark_at(&mut self.entries, place, up);
+        }
+    }
+}
+
+/// Sets the interface at a place up or down.
+fn mark_at(entries: &mut Vec<IfEntry>, place: usize, up: bool)
+    requires { place < vec_len entries.old }
+    ensures { (entry : IfEntry) → slice_get entries.old.items place ≡ Some entry
+        → entries.new.items ≡ slice_set entries.old.items place (record entry { up = up }) }
+{
+    entries[place].up = up;
+}
