@@ -1,6 +1,6 @@
 -- The way back of a path that may be sent may be sent too, up to the moment at which the path
 -- expires, and no longer.
-use Rattle.std.proofs.Common.{◌≡◌, ℕ, ◌*◌, ◌<◌, ◌≤◌, List, Option, Some, sym, ap, subst, arith}
+use Rattle.std.proofs.Common.{◌≡◌, ℕ, ◌*◌, ◌<◌, ◌≤◌, List, sym, subst, arith}
 use Rattle.std.specs.Prelude.{◌↔◌}
 use Rattle.std.proofs.lemmas.List.Elements.{recursion_from_All}
 use Rattle.path_header.specs.Reversal.{reversed}
@@ -10,10 +10,10 @@ use Rattle.path_verifier.specs.declared.fault.VerifyFault.{VerifyFault}
 use Rattle.path_verifier.specs.declared.fault.VerifyFault.TheVariants as faults
 use Rattle.path_verifier.specs.Piece.{PieceValue, HasRange}
 use Rattle.path_verifier.specs.Header.{header_of}
-use Rattle.path_verifier.specs.Shape.{path_fault}
 use Rattle.path_verifier.specs.Accepted.{IsExpiry, MakesPath, request_of, IsAccepted}
-use Rattle.path_verifier.specs.Verdict.{IsRefusedAfter, IsRefused}
+use Rattle.path_verifier.specs.Verdict.{IsRefused}
 use Rattle.path_verifier.specs.Turned.{turned_piece, turned_pieces}
+use Rattle.path_verifier.proofs.Breaches.{by_code, refusals_are_one}
 use Rattle.path_verifier.proofs.Expiry.{live_up_to}
 use Rattle.path_verifier.proofs.Lengths.{path_is_short}
 use Rattle.path_verifier.proofs.TurnedPath.{path_turned}
@@ -43,29 +43,22 @@ back_in_time pieces src dst now moment least path is early = record {
   word = tt;
 }
 
--- past it the first rule that the way back breaks is that it is live
-back_late : (pieces : List PieceValue) (src dst now moment least : ℕ) → MakesPath pieces src dst now
-    → IsExpiry pieces least → least < 2 * moment
-    → path_fault (turned_pieces pieces) dst src moment ≡ Some faults.Expired
-back_late pieces src dst now moment least path is late =
-    let back = turned_pieces pieces in
-    too_late back dst src now moment (path_turned pieces src dst now now path path.live)
-    (λ live. (let up =
-    (live_up_to back least moment (expiry_turned pieces least is)).0 live in omega arith))
-
--- so it is refused for that, whatever its header and the policy
+-- past it the way back is refused for that, whatever its header and the policy
 pub back_expired : (pieces : List PieceValue) (src dst now moment least : ℕ) (header : HeaderValue)
     (rules : Rules) → MakesPath pieces src dst now → IsExpiry pieces least → least < 2 * moment
     → (fault : VerifyFault)
     → IsRefused (request_of (turned_pieces pieces) header dst src moment rules) fault
     ↔ (fault ≡ faults.Expired)
 back_expired pieces src dst now moment least header rules path is late fault =
-    let request = request_of (turned_pieces pieces) header dst src moment rules in
-    let first : IsRefused request fault ≡ (fault ≡ faults.Expired) =
-    ap (λ (found : Option VerifyFault). IsRefusedAfter found request fault)
-    (back_late pieces src dst now moment least path is late) in (
-      λ refused. subst (λ (T : Type 0). T) first refused,
-      λ same. subst (λ (T : Type 0). T) (sym first) same,
+    let back = turned_pieces pieces in
+    let request = request_of back header dst src moment rules in
+    let expired : IsRefused request faults.Expired =
+    too_late back dst src now moment header rules (path_turned pieces src dst now now path path.live)
+    (λ live. (let up =
+    (live_up_to back least moment (expiry_turned pieces least is)).0 live in omega arith)) in (
+      λ refused. by_code fault faults.Expired
+          (refusals_are_one request fault faults.Expired refused expired) (λ other. (omega arith)),
+      λ same. subst (IsRefused request) (sym same) expired,
     )
 
 -- a sound piece is sound the other way

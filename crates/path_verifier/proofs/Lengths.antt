@@ -1,5 +1,5 @@
 -- How many hops the walk of a path has, and of which kinds its pieces are.
-use Rattle.std.proofs.Common.{◌≡◌, ℕ, ◌+◌, ◌<◌, ◌≤◌, true, List, [], ◌∷◌, ◌++◌, length, map, ap, ◌∙◌, arith, refl, length-append}
+use Rattle.std.proofs.Common.{◌≡◌, ℕ, ◌+◌, ◌<◌, ◌≤◌, List, [], ◌∷◌, ◌++◌, length, map, ap, ◌∙◌, arith, refl, length-append}
 use Rattle.std.specs.List.{fold, AllByRecursion}
 use Rattle.std.proofs.lemmas.List.{length-map}
 use Rattle.std.proofs.lemmas.List.Elements.{recursion_from_All}
@@ -10,8 +10,7 @@ use Rattle.path_verifier.specs.declared.kind.PieceKind.TheVariants.{Up, Core, Do
 use Rattle.path_verifier.specs.Piece.{PieceValue, HasRange, kind_of}
 use Rattle.path_verifier.specs.Walk.{hops_of, left_by, entered_by, joined, walk_of}
 use Rattle.path_verifier.specs.Header.{len_of, hop_count}
-use Rattle.path_verifier.specs.Shape.{are_kinds}
-use Rattle.path_verifier.specs.Accepted.{MayAdjoin, MakesPath}
+use Rattle.path_verifier.specs.Accepted.{MayAdjoin, DoAdjoin, MakesPath}
 use Rattle.path_verifier.proofs.Course.{two_ases, joined_none}
 use Rattle.path_verifier.proofs.Hops.{length_left_by, length_hops_of}
 
@@ -84,56 +83,30 @@ walk_is_long pieces src dst now path =
 
 -- ---- kinds
 
-two_kinds : (a b : PieceKind) → are_kinds (a ∷ b ∷ []) ≡ true → MayAdjoin a b
-two_kinds Up Up e = absurd cc
-two_kinds Up Core e = tt
-two_kinds Up Down e = tt
-two_kinds Core Up e = absurd cc
-two_kinds Core Core e = absurd cc
-two_kinds Core Down e = tt
-two_kinds Down Up e = absurd cc
-two_kinds Down Core e = absurd cc
-two_kinds Down Down e = absurd cc
+no_four : (a b c d : PieceKind) → MayAdjoin a b → MayAdjoin b c → MayAdjoin c d → ⊥
+no_four Up Core Down d one two three = three
+no_four Up Core Up d one two three = two
+no_four Up Core Core d one two three = two
+no_four Up Up c d one two three = one
+no_four Up Down c d one two three = two
+no_four Core Up c d one two three = one
+no_four Core Core c d one two three = one
+no_four Core Down c d one two three = two
+no_four Down b c d one two three = one
 
-three_kinds : (a b c : PieceKind) → are_kinds (a ∷ b ∷ c ∷ []) ≡ true → MayAdjoin a b × MayAdjoin b c
-three_kinds Up Core Down e = (tt, tt)
-three_kinds Up Core Up e = absurd cc
-three_kinds Up Core Core e = absurd cc
-three_kinds Up Up c e = absurd cc
-three_kinds Up Down c e = absurd cc
-three_kinds Core Up c e = absurd cc
-three_kinds Core Core c e = absurd cc
-three_kinds Core Down c e = absurd cc
-three_kinds Down b c e = absurd cc
+pub three_at_most : (pieces : List PieceValue) → DoAdjoin (map kind_of pieces) → length pieces ≤ 3
+three_at_most [] adjoin = omega arith
+three_at_most (a ∷ []) adjoin = omega arith
+three_at_most (a ∷ b ∷ []) adjoin = omega arith
+three_at_most (a ∷ b ∷ c ∷ []) adjoin = omega arith
+three_at_most (a ∷ b ∷ c ∷ d ∷ more) adjoin =
+    absurd (no_four (kind_of a) (kind_of b) (kind_of c) (kind_of d) adjoin.0 adjoin.1.0 adjoin.1.1.0)
 
-pub no_four : (a b c d : PieceKind) (more : List PieceKind) → are_kinds (a ∷ b ∷ c ∷ d ∷ more) ≡ true → ⊥
-no_four Up Core Down d more e = absurd cc
-no_four Up Core Up d more e = absurd cc
-no_four Up Core Core d more e = absurd cc
-no_four Up Up c d more e = absurd cc
-no_four Up Down c d more e = absurd cc
-no_four Core Up c d more e = absurd cc
-no_four Core Core c d more e = absurd cc
-no_four Core Down c d more e = absurd cc
-no_four Down b c d more e = absurd cc
-
-three_at_most : (pieces : List PieceValue) → are_kinds (map kind_of pieces) ≡ true → length pieces ≤ 3
-three_at_most [] e = omega arith
-three_at_most (a ∷ []) e = omega arith
-three_at_most (a ∷ b ∷ []) e = omega arith
-three_at_most (a ∷ b ∷ c ∷ []) e = omega arith
-three_at_most (a ∷ b ∷ c ∷ d ∷ more) e = absurd (no_four (kind_of a) (kind_of b) (kind_of c) (kind_of d) (map kind_of more) e)
-
-adjoin_in : (past later : List PieceValue) (piece next : PieceValue) → are_kinds (map kind_of (past ++ (piece ∷ (next ∷ later)))) ≡ true → MayAdjoin (kind_of piece) (kind_of next)
-adjoin_in [] [] piece next e = two_kinds (kind_of piece) (kind_of next) e
-adjoin_in [] (c ∷ []) piece next e = (three_kinds (kind_of piece) (kind_of next) (kind_of c) e).0
-adjoin_in [] (c ∷ d ∷ more) piece next e = absurd (no_four (kind_of piece) (kind_of next) (kind_of c) (kind_of d) (map kind_of more) e)
-adjoin_in (a ∷ []) [] piece next e = (three_kinds (kind_of a) (kind_of piece) (kind_of next) e).1
-adjoin_in (a ∷ []) (d ∷ more) piece next e = absurd (no_four (kind_of a) (kind_of piece) (kind_of next) (kind_of d) (map kind_of more) e)
-adjoin_in (a ∷ b ∷ []) later piece next e = absurd (no_four (kind_of a) (kind_of b) (kind_of piece) (kind_of next) (map kind_of later) e)
-adjoin_in (a ∷ b ∷ c ∷ []) later piece next e = absurd (no_four (kind_of a) (kind_of b) (kind_of c) (kind_of piece) (map kind_of (next ∷ later)) e)
-adjoin_in (a ∷ b ∷ c ∷ d ∷ past) later piece next e =
-    absurd (no_four (kind_of a) (kind_of b) (kind_of c) (kind_of d) (map kind_of (past ++ (piece ∷ (next ∷ later)))) e)
+adjoin_in : (past later : List PieceValue) (piece next : PieceValue)
+    → DoAdjoin (map kind_of (past ++ (piece ∷ (next ∷ later)))) → MayAdjoin (kind_of piece) (kind_of next)
+adjoin_in [] later piece next adjoin = adjoin.0
+adjoin_in (a ∷ []) later piece next adjoin = adjoin.1.0
+adjoin_in (a ∷ b ∷ past) later piece next adjoin = adjoin_in (b ∷ past) later piece next adjoin.1
 
 -- ---- the laws
 

@@ -3,9 +3,10 @@ pub mod Doubled
 pub mod Ends
 pub mod Hops
 pub mod Headers
-pub mod Plain
+pub mod Breaches
 pub mod Course
 pub mod Expiry
+pub mod Living
 pub mod Lengths
 pub mod Turned
 pub mod TurnedCounts

@@ -11,10 +11,9 @@ use Rattle.path_verifier.specs.declared.kind.PieceKind.{PieceKind}
 use Rattle.path_verifier.specs.declared.kind.PieceKind.TheVariants.{Up, Core, Down}
 use Rattle.path_verifier.specs.Piece.{PieceValue, HasRange, kind_in, kind_of, entries_of, begins_in, ends_in}
 use Rattle.path_verifier.specs.Walk.{walk_of}
-use Rattle.path_verifier.specs.Shape.{are_kinds}
-use Rattle.path_verifier.specs.Accepted.{IsCore, AreCutWell, DoMeet, DoBeginIn, DoEndIn, NamesOnce, AreLive, MakesPath}
+use Rattle.path_verifier.specs.Accepted.{MayAdjoin, DoAdjoin, IsCore, AreCutWell, DoMeet, DoBeginIn, DoEndIn, NamesOnce, AreLive, MakesPath}
 use Rattle.path_verifier.specs.Turned.{turned_piece, turned_pieces, turned_walk}
-use Rattle.path_verifier.proofs.Lengths.{no_four}
+use Rattle.path_verifier.proofs.Lengths.{three_at_most}
 use Rattle.path_verifier.proofs.Turned.{reverse_cons, map_back, begins_turned, ends_turned}
 use Rattle.path_verifier.proofs.TurnedWalk.{walk_turned, once_turned}
 use Rattle.path_verifier.proofs.TurnedCounts.{IsLong, long_of, count_turned, length_turned_pieces}
@@ -141,57 +140,33 @@ core_turned piece is = kind_turned piece ∙ ap turned_kind is
 core_back : (piece : PieceValue) → IsCore (turned_piece piece) → IsCore piece
 core_back piece is = core_there (kind_of piece) (sym (kind_turned piece) ∙ is)
 
-two_turned : (a b : PieceKind) → are_kinds (a ∷ b ∷ []) ≡ true
-    → are_kinds (turned_kind b ∷ turned_kind a ∷ []) ≡ true
-two_turned Up Up e = absurd cc
-two_turned Up Core e = refl
-two_turned Up Down e = refl
-two_turned Core Up e = absurd cc
-two_turned Core Core e = absurd cc
-two_turned Core Down e = refl
-two_turned Down Up e = absurd cc
-two_turned Down Core e = absurd cc
-two_turned Down Down e = absurd cc
+adjoin_turned : (kind next : PieceKind) → MayAdjoin kind next
+    → MayAdjoin (turned_kind next) (turned_kind kind)
+adjoin_turned Up Up may = may
+adjoin_turned Up Core may = tt
+adjoin_turned Up Down may = tt
+adjoin_turned Core Up may = may
+adjoin_turned Core Core may = may
+adjoin_turned Core Down may = tt
+adjoin_turned Down Up may = may
+adjoin_turned Down Core may = may
+adjoin_turned Down Down may = may
 
-three_turned : (a b c : PieceKind) → are_kinds (a ∷ b ∷ c ∷ []) ≡ true
-    → are_kinds (turned_kind c ∷ turned_kind b ∷ turned_kind a ∷ []) ≡ true
-three_turned Up Core Down e = refl
-three_turned Up Core Up e = absurd cc
-three_turned Up Core Core e = absurd cc
-three_turned Up Up c e = absurd cc
-three_turned Up Down c e = absurd cc
-three_turned Core Up c e = absurd cc
-three_turned Core Core c e = absurd cc
-three_turned Core Down c e = absurd cc
-three_turned Down b c e = absurd cc
+pieces_turned : (piece next : PieceValue) → MayAdjoin (kind_of piece) (kind_of next)
+    → MayAdjoin (kind_of (turned_piece next)) (kind_of (turned_piece piece))
+pieces_turned piece next may =
+    subst (λ kind. MayAdjoin kind (kind_of (turned_piece piece))) (sym (kind_turned next))
+    (subst (λ kind. MayAdjoin (turned_kind (kind_of next)) kind) (sym (kind_turned piece))
+    (adjoin_turned (kind_of piece) (kind_of next) may))
 
-pub few_pieces : (pieces : List PieceValue) → are_kinds (map kind_of pieces) ≡ true
-    → length pieces ≤ 3
-few_pieces [] e = omega arith
-few_pieces (a ∷ []) e = omega arith
-few_pieces (a ∷ b ∷ []) e = omega arith
-few_pieces (a ∷ b ∷ c ∷ []) e = omega arith
-few_pieces (a ∷ b ∷ c ∷ d ∷ more) e =
-    absurd (no_four (kind_of a) (kind_of b) (kind_of c) (kind_of d) (map kind_of more) e)
-
-kinds_turned : (pieces : List PieceValue) → are_kinds (map kind_of pieces) ≡ true
-    → are_kinds (map kind_of (turned_pieces pieces)) ≡ true
-kinds_turned [] e = absurd cc
-kinds_turned (a ∷ []) e = refl
-kinds_turned (a ∷ b ∷ []) e =
-    ap (λ k. are_kinds (k ∷ kind_of (turned_piece a) ∷ [])) (kind_turned b)
-    ∙ ap (λ k. are_kinds (turned_kind (kind_of b) ∷ k ∷ [])) (kind_turned a)
-    ∙ two_turned (kind_of a) (kind_of b) e
-kinds_turned (a ∷ b ∷ c ∷ []) e =
-    ap (λ k. are_kinds (k ∷ kind_of (turned_piece b) ∷ kind_of (turned_piece a) ∷ []))
-    (kind_turned c)
-    ∙ ap (λ k. are_kinds (turned_kind (kind_of c) ∷ k ∷ kind_of (turned_piece a) ∷ []))
-    (kind_turned b)
-    ∙ ap (λ k. are_kinds (turned_kind (kind_of c) ∷ turned_kind (kind_of b) ∷ k ∷ []))
-    (kind_turned a)
-    ∙ three_turned (kind_of a) (kind_of b) (kind_of c) e
-kinds_turned (a ∷ b ∷ c ∷ d ∷ more) e =
-    absurd (no_four (kind_of a) (kind_of b) (kind_of c) (kind_of d) (map kind_of more) e)
+kinds_turned : (pieces : List PieceValue) → length pieces ≤ 3 → DoAdjoin (map kind_of pieces)
+    → DoAdjoin (map kind_of (turned_pieces pieces))
+kinds_turned [] three adjoin = tt
+kinds_turned (a ∷ []) three adjoin = tt
+kinds_turned (a ∷ b ∷ []) three adjoin = (pieces_turned a b adjoin.0, tt)
+kinds_turned (a ∷ b ∷ c ∷ []) three adjoin =
+    (pieces_turned b c adjoin.1.0, (pieces_turned a b adjoin.0, tt))
+kinds_turned (a ∷ b ∷ c ∷ d ∷ more) three adjoin = absurd (omega arith)
 
 -- ---- cuts
 
@@ -267,14 +242,14 @@ all_long (piece ∷ pieces) ranges = (long_of piece ranges.0, all_long pieces ra
 pub walk_back : (pieces : List PieceValue) (src dst now : ℕ) → MakesPath pieces src dst now
     → walk_of (turned_pieces pieces) ≡ turned_walk (walk_of pieces)
 walk_back pieces src dst now path =
-    walk_turned pieces (few_pieces pieces path.kinds)
+    walk_turned pieces (three_at_most pieces path.kinds)
     (all_long pieces (recursion_from_All HasRange pieces path.ranges)) path.meet
 
 -- the way back of a path is a path, at each second at which its hops are live
 pub path_turned : (pieces : List PieceValue) (src dst now m : ℕ) → MakesPath pieces src dst now
     → AreLive m pieces → MakesPath (turned_pieces pieces) dst src m
 path_turned pieces src dst now m path live =
-    let three = few_pieces pieces path.kinds in
+    let three = three_at_most pieces path.kinds in
     let count = length_turned_pieces pieces in
     let some = path.some in
     let hops = count_turned pieces in
@@ -284,7 +259,7 @@ path_turned pieces src dst now m path live =
       some = omega arith;
       ranges = all_turned HasRange HasRange
           (λ piece range. record { order = range.order; within = range.within }) pieces path.ranges;
-      kinds = kinds_turned pieces path.kinds;
+      kinds = kinds_turned pieces three path.kinds;
       cuts = cuts_turned pieces path.cuts;
       meet = meet_turned pieces three path.meet;
       source = source_turned dst pieces three path.destination;

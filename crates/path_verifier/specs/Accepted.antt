@@ -1,6 +1,6 @@
 -- Which paths may be sent, in plain facts (draft-dekater-scion-dataplane, segment combinations,
 -- without peering).
-use Rattle.std.specs.Prelude.{◌≡◌, ◌⊎◌, ℕ, ◌+◌, ◌<◌, ◌≤◌, List, [], ◌∷◌, length, map, All, Any, IsTrue, Some, slice_get}
+use Rattle.std.specs.Prelude.{◌≡◌, ◌⊎◌, ℕ, ◌+◌, ◌<◌, ◌≤◌, List, [], ◌∷◌, length, map, All, Any, Some, slice_get}
 use Rattle.hop_mac.specs.Lifetime.{expiry_of, IsLive}
 use Rattle.path_header.specs.Value.{HeaderValue}
 use Rattle.policy_expr.specs.declared.hop.WalkHop.{WalkHop}
@@ -10,7 +10,6 @@ use Rattle.path_verifier.specs.declared.kind.PieceKind.TheVariants.{Up, Core, Do
 use Rattle.path_verifier.specs.Piece.{PieceValue, HasRange, kind_of, entries_of, begins_in, ends_in}
 use Rattle.path_verifier.specs.Walk.{walk_of}
 use Rattle.path_verifier.specs.Header.{hop_count, header_of}
-use Rattle.path_verifier.specs.Shape.{are_kinds}
 
 -- the piece is a core piece
 abbrev pub IsCore : PieceValue → Type 0
@@ -22,6 +21,12 @@ MayAdjoin Up Core = Unit {0}
 MayAdjoin Up Down = Unit {0}
 MayAdjoin Core Down = Unit {0}
 MayAdjoin one next = ⊥
+
+-- each piece may come right behind the one before it
+abbrev pub DoAdjoin : List PieceKind → Type 0
+DoAdjoin [] = Unit {0}
+DoAdjoin (kind ∷ []) = Unit {0}
+DoAdjoin (kind ∷ next ∷ later) = MayAdjoin kind next × DoAdjoin (next ∷ later)
 
 -- where there is a core piece it is whole, and each other piece begins where its segment does;
 -- where there is none all pieces do, or none does
@@ -63,7 +68,7 @@ pub record IsExpiry (pieces : List PieceValue) (least : ℕ) : Type 0 where
 pub record MakesPath (pieces : List PieceValue) (src dst now : ℕ) : Type 0 where
   pub some : 0 < length pieces
   pub ranges : All HasRange pieces
-  pub kinds : IsTrue (are_kinds (map kind_of pieces))
+  pub kinds : DoAdjoin (map kind_of pieces)
   pub cuts : AreCutWell pieces
   pub meet : DoMeet pieces
   pub source : DoBeginIn src pieces

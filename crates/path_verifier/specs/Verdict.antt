@@ -1,30 +1,36 @@
--- By which fault a path is refused: the first rule that it breaks.
-use Rattle.std.specs.Prelude.{◌≡◌, ◌≢◌, List, Option, Some, None}
-use Rattle.policy_expr.specs.declared.hop.WalkHop.{WalkHop}
-use Rattle.policy_expr.specs.Policy.{Rules, AllowsHops, DeniesHop, HasWord}
+-- By which fault a path is refused: the first rule that it breaks, in the order of their numbers.
+use Rattle.std.specs.Prelude.{◌≡◌, ◌<◌, ◌≤◌, length, map, All}
+use Rattle.policy_expr.specs.Policy.{AllowsHops, DeniesHop, HasWord}
 use Rattle.path_verifier.specs.declared.fault.VerifyFault.{VerifyFault}
-use Rattle.path_verifier.specs.declared.fault.VerifyFault.TheVariants.{HeaderDiffers, AclDenied, SequenceMismatch}
+use Rattle.path_verifier.specs.declared.fault.VerifyFault.TheVariants.{PieceCount, Range, Kinds, CutAtCore, NotJoined, Source, Destination, TooManyHops, Loop, Expired, HeaderDiffers, AclDenied, SequenceMismatch}
+use Rattle.path_verifier.specs.Fault.{code_of}
+use Rattle.path_verifier.specs.Piece.{HasRange, kind_of}
 use Rattle.path_verifier.specs.Walk.{walk_of}
-use Rattle.path_verifier.specs.Header.{header_of}
-use Rattle.path_verifier.specs.Shape.{path_fault}
-use Rattle.path_verifier.specs.Accepted.{Request}
+use Rattle.path_verifier.specs.Header.{hop_count, header_of}
+use Rattle.path_verifier.specs.Accepted.{DoAdjoin, AreCutWell, DoMeet, DoBeginIn, DoEndIn, NamesOnce, AreLive, Request}
 
--- the policy forbids the walk by this fault: its list denies a hop, or, where it denies none, the
--- walk is no word of its sequence
-abbrev pub IsForbidden : Rules → List WalkHop → VerifyFault → Type 0
-IsForbidden rules walk (AclDenied denied) = DeniesHop rules.acl walk denied
-IsForbidden rules walk SequenceMismatch = AllowsHops rules.acl walk × ¬ HasWord rules.sequence walk
-IsForbidden rules walk fault = ⊥
+-- the rule of which this fault is the breach
+abbrev pub Keeps : Request → VerifyFault → Type 0
+Keeps request PieceCount = 0 < length request.pieces
+Keeps request Range = All HasRange request.pieces
+Keeps request Kinds = DoAdjoin (map kind_of request.pieces)
+Keeps request CutAtCore = AreCutWell request.pieces
+Keeps request NotJoined = DoMeet request.pieces
+Keeps request Source = DoBeginIn request.src request.pieces
+Keeps request Destination = DoEndIn request.dst request.pieces
+Keeps request TooManyHops = hop_count request.pieces ≤ 64
+Keeps request Loop = NamesOnce (walk_of request.pieces)
+Keeps request Expired = AreLive request.moment request.pieces
+Keeps request HeaderDiffers = request.header ≡ header_of request.pieces
+Keeps request (AclDenied denied) = AllowsHops request.rules.acl (walk_of request.pieces)
+Keeps request SequenceMismatch = HasWord request.rules.sequence (walk_of request.pieces)
 
--- the path is refused by this fault, where this is the first rule that it breaks, if any: its
--- header is another, or it is forbidden
-abbrev pub IsRefusedAfter : Option VerifyFault → Request → VerifyFault → Type 0
-IsRefusedAfter (Some first) request fault = fault ≡ first
-IsRefusedAfter None request HeaderDiffers = request.header ≢ header_of request.pieces
-IsRefusedAfter None request fault =
-    (request.header ≡ header_of request.pieces) × IsForbidden request.rules (walk_of request.pieces) fault
+-- the path breaks it, that of the access control list by the hop and the entry that the fault names
+abbrev pub Breaks : Request → VerifyFault → Type 0
+Breaks request (AclDenied denied) = DeniesHop request.rules.acl (walk_of request.pieces) denied
+Breaks request fault = ¬ Keeps request fault
 
--- the path is refused by this fault, and by none before it
-abbrev pub IsRefused : Request → VerifyFault → Type 0
-IsRefused request fault =
-    IsRefusedAfter (path_fault request.pieces request.src request.dst request.moment) request fault
+-- the path is refused by this fault: it breaks its rule, and keeps each of a lower number
+pub record IsRefused (request : Request) (fault : VerifyFault) : Type 0 where
+  pub broken : Breaks request fault
+  pub before : (earlier : VerifyFault) → code_of earlier < code_of fault → Keeps request earlier

@@ -1,20 +1,28 @@
 //! Laws of paths: each is the contract of a function that does nothing.
 
-ghost use Rattle.std.specs.Prelude.{◌≡◌, ◌↔◌, ℕ, ◌+◌, ◌-◌, ◌*◌, ◌≤◌, List, ◌∷◌, ◌++◌, Some, None, length, map, reverse, slice_get, All};
+ghost use Rattle.std.specs.Prelude.{◌≡◌, ◌↔◌, ℕ, ◌+◌, ◌-◌, ◌*◌, ◌≤◌, List, ◌∷◌, ◌++◌, Some, length, map, reverse, slice_get, All};
 ghost use Rattle.path_segment.specs.declared.entry.Entry.{Entry};
-ghost use Rattle.path_header.specs.Value.{IsHeader};
+ghost use Rattle.path_header.specs.Value.{HeaderValue, IsHeader};
+ghost use Rattle.policy_expr.specs.Policy.{Rules};
+ghost use Rattle.path_verifier.specs.declared.fault.VerifyFault.{VerifyFault};
 ghost use Rattle.path_verifier.specs.declared.fault.VerifyFault.TheVariants.{Expired};
+ghost use Rattle.path_verifier.specs.Fault.{code_of};
 ghost use Rattle.path_verifier.specs.Piece.{PieceValue, HasRange, kind_of, travelled};
 ghost use Rattle.path_verifier.specs.Header.{field_of, fields_of, len_of, header_of, hop_count};
 ghost use Rattle.path_verifier.specs.Walk.{hop_of, hops_of, walk_of};
-ghost use Rattle.path_verifier.specs.Shape.{path_fault};
-ghost use Rattle.path_verifier.specs.Accepted.{AreLive, IsExpiry, MakesPath, MayAdjoin};
+ghost use Rattle.path_verifier.specs.Accepted.{AreLive, IsAccepted, IsExpiry, MakesPath, MayAdjoin, Request, request_of};
+ghost use Rattle.path_verifier.specs.Verdict.{IsRefused, Keeps};
 ghost use Rattle.path_verifier.specs.Turned.{turned_piece, turned_pieces, turned_walk};
 
-/// The tests of pieces find no fault exactly where the pieces make a path in plain facts.
-pub fn paths_are_plain()
-    ensures { (pieces : List PieceValue) (src dst now : ℕ)
-        → (path_fault pieces src dst now ≡ None) ↔ MakesPath pieces src dst now }
+/// A path may be sent exactly where it keeps each rule of which a refusal is the breach; it is
+/// refused by at most one of them, and by none where it may be sent.
+pub fn refusals_are_breaches()
+    ensures kept { (request : Request)
+        → IsAccepted request ↔ ((fault : VerifyFault) → Keeps request fault) }
+    ensures one { (request : Request) (fault other : VerifyFault)
+        → IsRefused request fault → IsRefused request other → code_of fault ≡ code_of other }
+    ensures either { (request : Request) (fault : VerifyFault)
+        → IsRefused request fault → ¬ IsAccepted request }
 {}
 
 /// The walk of a path leads from its source to its destination.
@@ -82,9 +90,9 @@ pub fn paths_turn_back()
         → walk_of (turned_pieces pieces) ≡ turned_walk (walk_of pieces) }
     ensures expiry { (pieces : List PieceValue) (least : ℕ) → IsExpiry pieces least
         → IsExpiry (turned_pieces pieces) least }
-    ensures late { (pieces : List PieceValue) (src dst now moment : ℕ)
-        → MakesPath pieces src dst now → ¬ (AreLive moment pieces)
-        → path_fault pieces src dst moment ≡ Some Expired }
+    ensures late { (pieces : List PieceValue) (src dst now moment : ℕ) (header : HeaderValue)
+        (rules : Rules) → MakesPath pieces src dst now → ¬ (AreLive moment pieces)
+        → IsRefused (request_of pieces header src dst moment rules) Expired }
 
     // The entries of a piece, and its hop fields, are travelled from the last to the first.
     ensures entries { (piece : PieceValue) → travelled (turned_piece piece)

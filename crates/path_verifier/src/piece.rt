@@ -1,9 +1,8 @@
-ghost use Rattle.std.specs.Prelude.{◌≡◌, ◌+◌, ◌-◌, ◌<◌, ◌≤◌, length, slice_get, Some, IsTrue, nat_lt, nat_le, ◌*◌};
-ghost use Rattle.std.specs.List.{list_all};
-ghost use Rattle.hop_mac.specs.Lifetime.{expiry_of};
+ghost use Rattle.std.specs.Prelude.{◌≡◌, ◌↔◌, ◌+◌, ◌-◌, ◌<◌, ◌≤◌, All, length, slice_get, Some, IsTrue};
+ghost use Rattle.hop_mac.specs.Lifetime.{IsLive};
 ghost use Rattle.path_segment.specs.Chain.{between, IsLeastExpiry};
 ghost use Rattle.path_verifier.specs.Piece.{HasRange, kind_of, entries_of, travelled, first_place, begins_in, ends_in};
-ghost use Rattle.path_verifier.specs.Shape.{has_range, is_core, begins_first, ends_last, is_live};
+ghost use Rattle.path_verifier.specs.Accepted.{IsCore};
 ghost use Rattle.path_verifier.specs.Turned.{turned_piece};
 
 use crate::kind::PieceKind;
@@ -65,29 +64,28 @@ impl<'s> Piece<'s> {
 
     /// Whether its places are those of two entries, the first before the second.
     pub(crate) fn has_range(&self) -> bool
-        ensures value { result ≡ has_range self.now }
-        ensures range { IsTrue result → HasRange self.now }
+        ensures { IsTrue result ↔ HasRange self.now }
     {
         self.from < self.to && self.to < self.segment.entries().len()
     }
 
     /// Whether it is a core piece.
     pub(crate) fn is_core(&self) -> bool
-        ensures { result ≡ is_core self.now }
+        ensures { IsTrue result ↔ IsCore self.now }
     {
-        self.kind() == PieceKind::Core
+        matches!(self.kind(), PieceKind::Core)
     }
 
     /// Whether it has the entry in which its segment begins.
     pub(crate) fn begins_first(&self) -> bool
-        ensures { result ≡ begins_first self.now }
+        ensures { IsTrue result ↔ (self.now.from ≡ 0) }
     {
         self.from == 0
     }
 
     /// Whether it begins behind that entry.
     pub(crate) fn begins_later(&self) -> bool
-        ensures { result ≡ nat_lt 0 self.now.from }
+        ensures { IsTrue result ↔ (0 < self.now.from) }
     {
         self.from > 0
     }
@@ -95,7 +93,7 @@ impl<'s> Piece<'s> {
     /// Whether it has the entry in which its segment ends.
     pub(crate) fn ends_last(&self) -> bool
         requires { HasRange self.now }
-        ensures { result ≡ ends_last self.now }
+        ensures { IsTrue result ↔ (self.now.to + 1 ≡ length self.now.segment.entries) }
     {
         let segment = self.segment;
         self.to == segment.entries().len() - 1
@@ -122,7 +120,8 @@ impl<'s> Piece<'s> {
     /// Whether each of its hops is live at the second `now`.
     pub(crate) fn is_live(&self, now: u32) -> bool
         requires { HasRange self.now }
-        ensures { result ≡ is_live now self.now }
+        ensures { IsTrue result ↔ All
+            (λ entry. IsLive self.now.segment.timestamp entry.exp_time now) (entries_of self.now) }
     {
         are_live(self.segment.timestamp(), self.entries(), now)
     }
@@ -215,17 +214,10 @@ fn cut(entries: &[Entry], from: usize, to: usize) -> &[Entry]
 
 /// Whether each of these entries is live at the second `now`.
 fn are_live(timestamp: u32, entries: &[Entry], now: u32) -> bool
-    ensures { result ≡ list_all
-        (λ entry. nat_le (2 * now) (expiry_of timestamp entry.exp_time)) entries.now }
+    ensures { IsTrue result
+        ↔ All (λ entry. IsLive timestamp entry.exp_time now) entries.now }
 {
     entries
         .iter()
-        .all(|entry| is_live_at(timestamp, entry, now))
-}
-
-/// Whether an entry is live at the second `now`.
-fn is_live_at(timestamp: u32, entry: &Entry, now: u32) -> bool
-    ensures { result ≡ nat_le (2 * now) (expiry_of timestamp entry.now.exp_time) }
-{
-    hop_is_live(timestamp, entry.exp_time, now)
+        .all(|entry| hop_is_live(timestamp, entry.exp_time, now))
 }

@@ -1,53 +1,67 @@
 //! Which pieces make a path: their ranges, kinds, cuts and ends.
 
-ghost use Rattle.std.specs.Prelude.{◌≡◌, ◌==◌, ◌<◌, ◌≤◌, nat_lt, length, map, IsTrue, IfNone};
-ghost use Rattle.std.specs.List.{AllByRecursion, list_any, list_all};
+ghost use Rattle.std.specs.Prelude.{◌≡◌, ◌↔◌, ◌<◌, ◌≤◌, ◌+◌, ℕ, length, map, All, Any, IsTrue, IfErr, OnOk};
+ghost use Rattle.std.specs.List.{AllByRecursion};
+ghost use Rattle.path_header.specs.Value.{HeaderValue};
+ghost use Rattle.policy_expr.specs.Policy.{Rules};
+ghost use Rattle.path_verifier.specs.declared.fault.VerifyFault.{VerifyFault};
+ghost use Rattle.path_verifier.specs.Fault.{code_of};
 ghost use Rattle.path_verifier.specs.Piece.{HasRange, kind_of, begins_in, ends_in};
 ghost use Rattle.path_verifier.specs.Held.{pieces_in};
 ghost use Rattle.path_verifier.specs.Header.{hop_count};
-ghost use Rattle.path_verifier.specs.Accepted.{IsExpiry};
-ghost use Rattle.path_verifier.specs.Shape.{has_range, are_kinds, is_core, begins_first, fits_core, are_cut_well, all_meet, starts_in, finishes_in, shape_fault, is_live};
+ghost use Rattle.path_verifier.specs.Accepted.{AreCutWell, AreLive, DoAdjoin, DoBeginIn, DoEndIn, DoMeet, IsCore, IsExpiry, MayAdjoin, request_of};
+ghost use Rattle.path_verifier.specs.Verdict.{Keeps, IsRefused};
 
 use crate::fault::VerifyFault;
+use crate::kind::PieceKind;
 use crate::kind::PieceKind::{Core, Down, Up};
 use crate::piece::Piece;
 use crate::pieces::Held;
 use crate::walk::MAX_HOPS;
 use isd_as::IsdAs;
 
-/// The first rule that the pieces break, before their walk is looked at.
-#[tactic(auto, unfolding(crate::specs::Shape::shape_fault))]
-pub(crate) fn shape_fault(held: &Held<'_>, src: IsdAs, dst: IsdAs) -> Option<VerifyFault>
-    ensures value { result ≡ shape_fault (pieces_in held.now) src dst }
-    ensures some { IfNone result (0 < length (pieces_in held.now)) }
-    ensures ranges { IfNone result (AllByRecursion HasRange (pieces_in held.now)) }
-    ensures few { IfNone result (hop_count (pieces_in held.now) ≤ 64) }
+/// Whether the pieces keep each rule up to that on the number of hops, or the first that they break.
+pub(crate) fn check_shape(held: &Held<'_>, src: IsdAs, dst: IsdAs) -> Result<(), VerifyFault>
+    ensures kept { OnOk result ((header : HeaderValue) (now : ℕ) (rules : Rules)
+        (fault : VerifyFault) → code_of fault < 78
+        → Keeps (request_of (pieces_in held.now) header src dst now rules) fault) }
+    ensures fault { IfErr result (λ fault. (header : HeaderValue) (now : ℕ) (rules : Rules)
+        → IsRefused (request_of (pieces_in held.now) header src dst now rules) fault) }
+    ensures some { OnOk result (0 < length (pieces_in held.now)) }
+    ensures ranges { OnOk result (AllByRecursion HasRange (pieces_in held.now)) }
+    ensures few { OnOk result (hop_count (pieces_in held.now) ≤ 64) }
 {
     if held.is_empty() {
-        Some(VerifyFault::PieceCount)
-    } else if !are_in_range(held) {
-        Some(VerifyFault::Range)
-    } else if !are_kinds(held) {
-        Some(VerifyFault::Kinds)
-    } else if !are_cut_well(held) {
-        Some(VerifyFault::CutAtCore)
-    } else if !all_meet(held) {
-        Some(VerifyFault::NotJoined)
-    } else if !starts_in(held, src) {
-        Some(VerifyFault::Source)
-    } else if !finishes_in(held, dst) {
-        Some(VerifyFault::Destination)
-    } else if hop_count(held) > MAX_HOPS {
-        Some(VerifyFault::TooManyHops)
-    } else {
-        None
+        return Err(VerifyFault::PieceCount);
     }
+    if !are_in_range(held) {
+        return Err(VerifyFault::Range);
+    }
+    if !do_adjoin(held) {
+        return Err(VerifyFault::Kinds);
+    }
+    if !are_cut_well(held) {
+        return Err(VerifyFault::CutAtCore);
+    }
+    if !do_meet(held) {
+        return Err(VerifyFault::NotJoined);
+    }
+    if !begin_in(held, src) {
+        return Err(VerifyFault::Source);
+    }
+    if !end_in(held, dst) {
+        return Err(VerifyFault::Destination);
+    }
+    if hop_count(held) > MAX_HOPS {
+        return Err(VerifyFault::TooManyHops);
+    }
+    Ok(())
 }
 
 /// Whether the places of each piece are those of two entries, the first before the second.
 fn are_in_range(held: &Held<'_>) -> bool
-    ensures value { result ≡ list_all has_range (pieces_in held.now) }
-    ensures ranges { IsTrue result → AllByRecursion HasRange (pieces_in held.now) }
+    ensures fact { IsTrue result ↔ All HasRange (pieces_in held.now) }
+    ensures each { IsTrue result → AllByRecursion HasRange (pieces_in held.now) }
 {
     match held {
         Held::Zero => true,
@@ -59,31 +73,30 @@ fn are_in_range(held: &Held<'_>) -> bool
     }
 }
 
-/// Whether the pieces are of the kinds of a path.
-fn are_kinds(held: &Held<'_>) -> bool
-    ensures { result ≡ are_kinds (map kind_of (pieces_in held.now)) }
+/// Whether a piece of the second kind may come right behind one of the first.
+fn may_adjoin(kind: PieceKind, next: PieceKind) -> bool
+    ensures { IsTrue result ↔ MayAdjoin kind next }
+{
+    matches!((kind, next), (Up, Core) | (Up, Down) | (Core, Down))
+}
+
+/// Whether each piece may come right behind the one before it.
+fn do_adjoin(held: &Held<'_>) -> bool
+    ensures { IsTrue result ↔ DoAdjoin (map kind_of (pieces_in held.now)) }
 {
     match held {
-        Held::Zero => false,
-        Held::One(_) => true,
-        Held::Two(first, second) => match (first.kind(), second.kind()) {
-            (Up, Core) | (Core, Down) | (Up, Down) => true,
-            _ => false,
-        },
+        Held::Zero | Held::One(_) => true,
+        Held::Two(first, second) => may_adjoin(first.kind(), second.kind()),
         Held::Three(first, second, third) => {
-            match (first.kind(), second.kind(), third.kind()) {
-                (Up, Core, Down) => true,
-                _ => false,
-            }
+            may_adjoin(first.kind(), second.kind()) && may_adjoin(second.kind(), third.kind())
         }
     }
 }
 
 /// Whether the pieces are cut only where they may be.
-#[tactic(auto, unfolding(crate::specs::Shape::are_cut_well))]
 fn are_cut_well(held: &Held<'_>) -> bool
     requires { AllByRecursion HasRange (pieces_in held.now) }
-    ensures { result ≡ are_cut_well (pieces_in held.now) }
+    ensures { IsTrue result ↔ AreCutWell (pieces_in held.now) }
 {
     if has_core(held) {
         all_fit_core(held)
@@ -94,7 +107,7 @@ fn are_cut_well(held: &Held<'_>) -> bool
 
 /// Whether there is a core piece.
 fn has_core(held: &Held<'_>) -> bool
-    ensures { result ≡ list_any is_core (pieces_in held.now) }
+    ensures { IsTrue result ↔ Any IsCore (pieces_in held.now) }
 {
     match held {
         Held::Zero => false,
@@ -109,7 +122,8 @@ fn has_core(held: &Held<'_>) -> bool
 /// Whether a core piece is whole, and another one begins where its segment does.
 fn fits_core(piece: &Piece<'_>) -> bool
     requires { HasRange piece.now }
-    ensures { result ≡ fits_core piece.now }
+    ensures { IsTrue result ↔ ((piece.now.from ≡ 0)
+        × (IsCore piece.now → piece.now.to + 1 ≡ length piece.now.segment.entries)) }
 {
     piece.begins_first() && (!piece.is_core() || piece.ends_last())
 }
@@ -117,7 +131,8 @@ fn fits_core(piece: &Piece<'_>) -> bool
 /// Whether each piece is as it must be in a path with a core piece.
 fn all_fit_core(held: &Held<'_>) -> bool
     requires { AllByRecursion HasRange (pieces_in held.now) }
-    ensures { result ≡ list_all fits_core (pieces_in held.now) }
+    ensures { IsTrue result ↔ All (λ piece. (piece.from ≡ 0)
+        × (IsCore piece → piece.to + 1 ≡ length piece.segment.entries)) (pieces_in held.now) }
 {
     match held {
         Held::Zero => true,
@@ -131,7 +146,7 @@ fn all_fit_core(held: &Held<'_>) -> bool
 
 /// Whether each piece begins where its segment does.
 fn all_begin_first(held: &Held<'_>) -> bool
-    ensures { result ≡ list_all begins_first (pieces_in held.now) }
+    ensures { IsTrue result ↔ All (λ piece. piece.from ≡ 0) (pieces_in held.now) }
 {
     match held {
         Held::Zero => true,
@@ -145,7 +160,7 @@ fn all_begin_first(held: &Held<'_>) -> bool
 
 /// Whether each piece begins behind the entry in which its segment begins.
 fn all_begin_later(held: &Held<'_>) -> bool
-    ensures { result ≡ list_all (λ piece. nat_lt 0 piece.from) (pieces_in held.now) }
+    ensures { IsTrue result ↔ All (λ piece. 0 < piece.from) (pieces_in held.now) }
 {
     match held {
         Held::Zero => true,
@@ -161,15 +176,15 @@ fn all_begin_later(held: &Held<'_>) -> bool
 fn meets(piece: &Piece<'_>, next: &Piece<'_>) -> bool
     requires range { HasRange piece.now }
     requires next_range { HasRange next.now }
-    ensures { result ≡ (ends_in piece.now == begins_in next.now) }
+    ensures { IsTrue result ↔ (ends_in piece.now ≡ begins_in next.now) }
 {
     piece.ends_in() == next.begins_in()
 }
 
 /// Whether each piece ends in the AS in which the next one begins.
-fn all_meet(held: &Held<'_>) -> bool
+fn do_meet(held: &Held<'_>) -> bool
     requires { AllByRecursion HasRange (pieces_in held.now) }
-    ensures { result ≡ all_meet (pieces_in held.now) }
+    ensures { IsTrue result ↔ DoMeet (pieces_in held.now) }
 {
     match held {
         Held::Zero | Held::One(_) => true,
@@ -179,9 +194,9 @@ fn all_meet(held: &Held<'_>) -> bool
 }
 
 /// Whether the first piece begins in this AS.
-fn starts_in(held: &Held<'_>, src: IsdAs) -> bool
+fn begin_in(held: &Held<'_>, src: IsdAs) -> bool
     requires { AllByRecursion HasRange (pieces_in held.now) }
-    ensures { result ≡ starts_in src (pieces_in held.now) }
+    ensures { IsTrue result ↔ DoBeginIn src (pieces_in held.now) }
 {
     match held {
         Held::Zero => false,
@@ -192,9 +207,9 @@ fn starts_in(held: &Held<'_>, src: IsdAs) -> bool
 }
 
 /// Whether the last piece ends in this AS.
-fn finishes_in(held: &Held<'_>, dst: IsdAs) -> bool
+fn end_in(held: &Held<'_>, dst: IsdAs) -> bool
     requires { AllByRecursion HasRange (pieces_in held.now) }
-    ensures { result ≡ finishes_in dst (pieces_in held.now) }
+    ensures { IsTrue result ↔ DoEndIn dst (pieces_in held.now) }
 {
     match held {
         Held::Zero => false,
@@ -218,7 +233,7 @@ fn hop_count(held: &Held<'_>) -> usize
 /// Whether each hop of each piece is live at the second `now`.
 pub(crate) fn are_live(held: &Held<'_>, now: u32) -> bool
     requires { AllByRecursion HasRange (pieces_in held.now) }
-    ensures { result ≡ list_all (is_live now) (pieces_in held.now) }
+    ensures { IsTrue result ↔ AreLive now (pieces_in held.now) }
 {
     match held {
         Held::Zero => true,

@@ -1,21 +1,22 @@
 ghost use Rattle.std.specs.Prelude.{◌≡◌, ◌<◌, ◌≤◌, length, IfOk, IfErr, IsOk, OnOk};
-ghost use Rattle.std.specs.Result.{result_err};
 ghost use Rattle.std.specs.List.{AllByRecursion};
-ghost use Rattle.policy_expr.specs.Policy.{AllowsHops, HasWord};
+ghost use Rattle.path_header.specs.Value.{HeaderValue};
+ghost use Rattle.policy_expr.specs.Policy.{AllowsHops, HasWord, Rules};
 ghost use Rattle.path_verifier.specs.Piece.{HasRange};
 ghost use Rattle.path_verifier.specs.Header.{header_of, hop_count};
 ghost use Rattle.path_verifier.specs.Held.{pieces_in};
 ghost use Rattle.path_verifier.specs.Walk.{walk_of};
-ghost use Rattle.path_verifier.specs.Shape.{path_fault};
-ghost use Rattle.path_verifier.specs.Accepted.{request_of, IsAccepted};
-ghost use Rattle.path_verifier.specs.Verdict.{IsForbidden, IsRefused};
+ghost use Rattle.path_verifier.specs.declared.fault.VerifyFault.{VerifyFault};
+ghost use Rattle.path_verifier.specs.Fault.{code_of};
+ghost use Rattle.path_verifier.specs.Accepted.{Request, request_of, IsAccepted, MakesPath};
+ghost use Rattle.path_verifier.specs.Verdict.{Keeps, IsRefused};
 
 use crate::fault::VerifyFault;
 use crate::header::header_of;
 use crate::path::VerifiedPath;
 use crate::pieces::{Held, Pieces};
-use crate::shape::{are_live, shape_fault};
-use crate::walk::{Walk, names_twice};
+use crate::shape::{are_live, check_shape};
+use crate::walk::{Walk, names_once};
 use isd_as::IsdAs;
 use path_header::Header;
 use policy_expr::{Policy, WalkHop};
@@ -154,20 +155,19 @@ fn walk_and_header<A: Allocator + Clone>(
     Ok((walk, own))
 }
 
-/// The walk of the pieces, or the first rule that they break.
-#[tactic(auto, unfolding(crate::specs::Shape::walk_fault))]
+/// The walk of the pieces, where they make a path, or the first rule that they break.
 fn checked_walk(held: &Held<'_>, src: IsdAs, dst: IsdAs, now: u32) -> Result<Walk, VerifyFault>
     ensures walk { IfOk result (λ walk. walk ≡ walk_of (pieces_in held.now)) }
-    ensures fault { path_fault (pieces_in held.now) src dst now ≡ result_err result }
+    ensures path { OnOk result (MakesPath (pieces_in held.now) src dst now) }
+    ensures fault { IfErr result (λ fault. (header : HeaderValue) (rules : Rules)
+        → IsRefused (request_of (pieces_in held.now) header src dst now rules) fault) }
     ensures some { OnOk result (0 < length (pieces_in held.now)) }
     ensures ranges { OnOk result (AllByRecursion HasRange (pieces_in held.now)) }
     ensures few { OnOk result (hop_count (pieces_in held.now) ≤ 64) }
 {
-    if let Some(fault) = shape_fault(held, src, dst) {
-        return Err(fault);
-    }
+    check_shape(held, src, dst)?;
     let walk = Walk::of(held);
-    if names_twice(walk.as_slice()) {
+    if !names_once(walk.as_slice()) {
         return Err(VerifyFault::Loop);
     }
     if !are_live(held, now) {
@@ -185,7 +185,11 @@ fn check_policy<A: Allocator + Clone>(
         (AllowsHops policy.now.acl walk.now × HasWord policy.now.sequence walk.now) }
     ensures only { AllowsHops policy.now.acl walk.now → HasWord policy.now.sequence walk.now
         → IsOk result }
-    ensures exact { IfErr result (IsForbidden policy.now walk.now) }
+    // The fault is that of each path of this walk and policy that keeps the rules before.
+    ensures exact { IfErr result (λ fault. (request : Request) → walk.now ≡ walk_of request.pieces
+        → policy.now ≡ request.rules
+        → ((earlier : VerifyFault) → code_of earlier < 81 → Keeps request earlier)
+        → IsRefused request fault) }
 {
     if let Err(denied) = policy.verdict(walk) {
         return Err(VerifyFault::AclDenied(denied));

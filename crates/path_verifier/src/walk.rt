@@ -1,10 +1,10 @@
-ghost use Rattle.std.specs.Prelude.{◌≡◌, ◌+◌, ◌<◌, ◌≤◌, [], ◌∷◌, ◌++◌, length, map, drop, slice_get, Some};
+ghost use Rattle.std.specs.Prelude.{◌≡◌, ◌↔◌, ◌+◌, ◌<◌, ◌≤◌, [], ◌∷◌, ◌++◌, length, map, drop, slice_get, IsTrue, Some};
 ghost use Rattle.std.specs.List.{AllByRecursion};
 ghost use Rattle.path_verifier.specs.Piece.{HasRange};
 ghost use Rattle.path_verifier.specs.Held.{pieces_in};
 ghost use Rattle.path_verifier.specs.Walk.{hop_of, hops_of, entered_by, left_by, met, joined, walk_of};
 ghost use Rattle.path_verifier.specs.Header.{len_of, hop_count};
-ghost use Rattle.path_verifier.specs.Shape.{names_twice};
+ghost use Rattle.path_verifier.specs.Accepted.{NamesOnce};
 
 use crate::piece::Piece;
 use crate::pieces::Held;
@@ -191,13 +191,13 @@ impl Walk {
     }
 }
 
-/// Whether an AS stands in two of these hops.
-#[tactic(auto, using(crate::proofs::Doubled::doubles_are_twice))]
-pub(crate) fn names_twice(hops: &[WalkHop]) -> bool
+/// Whether no AS stands in two of these hops.
+#[tactic(auto, using(crate::proofs::Doubled::once_without_double))]
+pub(crate) fn names_once(hops: &[WalkHop]) -> bool
     requires { length hops.now ≤ 64 }
-    ensures { result ≡ names_twice hops.now }
+    ensures { IsTrue result ↔ NamesOnce hops.now }
 {
-    has_double(&mut numbers_of(hops))
+    !has_double(&mut numbers_of(hops))
 }
 
 /// The numbers of the ASes of these hops.

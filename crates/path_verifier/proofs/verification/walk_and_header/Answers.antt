@@ -1,19 +1,32 @@
-use Rattle.std.proofs.Common.{◌≡◌, sym, ap, ◌∙◌}
-use Rattle.path_verifier.specs.Walk.{walk_of}
+use Rattle.std.proofs.Common.{◌≡◌, refl, sym, ap, ◌∙◌, subst}
+use Rattle.std.proofs.lemmas.Result.{err_from_is_err_and}
 use Rattle.path_verifier.specs.Header.{header_of}
-use Rattle.path_verifier.proofs.Plain.{accepted, path_has_no_fault}
+use Rattle.path_verifier.specs.Walk.{walk_of}
+use Rattle.path_verifier.specs.Accepted.{MakesPath, request_of}
+use Rattle.path_verifier.specs.Verdict.{IsRefused}
+use Rattle.path_verifier.proofs.Breaches.{header_keeps, refused_is_not_accepted}
 use Rattle.path_verifier.proofs.verification.walk_and_header.Goals as goal
-
-pub returns-clause-found : goal.returns-clause-found
-returns-clause-found g c =
-    let none = rw c.pieces.view_is at c.in_ok-walk.ensures.fault in
-    let walk : c.as_slice.result.now ≡ walk_of c.args.pieces.now = c.as_slice.ensures.value ∙ c.in_ok-walk.ensures.walk ∙ ap walk_of c.pieces.view_is in
-    let same = c.is_same.ensures.0 c.if-not-is_same.false in
-    let header : c.args.header.now ≡ header_of c.args.pieces.now = sym same ∙ c.header_of-own.ensures ∙ ap header_of c.pieces.view_is in
-    let allowed = rw walk at c.in_ok-check_policy.ensures.found in
-    accepted _ none header allowed.0 allowed.1
 
 pub returns-in_err-walk-clause-only : goal.returns-in_err-walk-clause-only
 returns-in_err-walk-clause-only g c = λ accepted. absurd (
-    let some = rw c.pieces.view_is at c.in_err-walk.ensures.fault in
-    path_has_no_fault _ _ _ _ _ accepted.path some)
+    let request = request_of c.args.pieces.now c.args.header.now c.args.src c.args.dst c.args.now c.args.policy.now in
+    let refused = subst (λ pieces. IsRefused (request_of pieces c.args.header.now c.args.src c.args.dst c.args.now c.args.policy.now) c.in_err-walk.field-0.0)
+    c.pieces.view_is (c.in_err-walk.ensures.fault c.args.header.now c.args.policy.now) in
+    refused_is_not_accepted request c.in_err-walk.field-0.0 refused accepted)
+
+pub returns-in_err-walk-clause-exact : goal.returns-in_err-walk-clause-exact
+returns-in_err-walk-clause-exact g c =
+    let p = err_from_is_err_and c.from_residual.result c.from_residual.ensures.1 in
+    rw (p.1, p.2)
+    (subst (λ pieces. IsRefused (request_of pieces c.args.header.now c.args.src c.args.dst c.args.now c.args.policy.now) c.in_err-walk.field-0.0)
+    c.pieces.view_is (c.in_err-walk.ensures.fault c.args.header.now c.args.policy.now))
+
+pub returns-in_err-check_policy-clause-exact : goal.returns-in_err-check_policy-clause-exact
+returns-in_err-check_policy-clause-exact g c =
+    let p = err_from_is_err_and c.from_residual-in_err-check_policy.result c.from_residual-in_err-check_policy.ensures.1 in
+    let request = request_of c.args.pieces.now c.args.header.now c.args.src c.args.dst c.args.now c.args.policy.now in
+    let walk : c.as_slice.result.now ≡ walk_of c.args.pieces.now = c.as_slice.ensures.value ∙ c.in_ok-walk.ensures.walk ∙ ap walk_of c.pieces.view_is in
+    let path = subst (λ pieces. MakesPath pieces c.args.src c.args.dst c.args.now) c.pieces.view_is c.in_ok-walk.ensures.path in
+    let same = c.is_same.ensures.0 c.if-not-is_same.false in
+    let header : c.args.header.now ≡ header_of c.args.pieces.now = sym same ∙ c.header_of-own.ensures ∙ ap header_of c.pieces.view_is in
+    rw (p.1, p.2) (c.in_err-check_policy.ensures.exact request walk refl (header_keeps request path header))
