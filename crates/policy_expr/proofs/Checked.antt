@@ -1,16 +1,35 @@
 -- Judging the texts of a list finds what reading it answers.
-use Rattle.std.proofs.Common.{is_none, slice_get, subst, ◌≡◌, ℕ, zero, suc, ◌+◌, Bool, true, false, not, ◌||◌, cond, List, [], ◌∷◌, ◌++◌, length, Option, None, Some, Result, Ok, Err, refl, sym, ◌∙◌, ap, arith, append_assoc, length-append}
-use Rattle.std.specs.Prelude.{nat_lt, IsOk, IsSome}
-use Rattle.std.proofs.lemmas.List.{append-nil}
-use Rattle.std.proofs.lemmas.Bool.{ltb-false, le-ltb, not-false}
+use Rattle.std.proofs.Common.{is_none, slice_get, subst, ◌≡◌, ℕ, zero, suc, ◌+◌, ◌<◌, ◌≤◌, Bool, true, false, not, ◌||◌, cond, List, [], ◌∷◌, ◌++◌, length, Option, None, Some, Result, Ok, Err, refl, sym, ◌∙◌, ap, arith, append_assoc, length-append, map, get_or, drop, drop-cons}
+use Rattle.std.specs.Prelude.{nat_lt, if◌then◌else◌, IsOk, IsSome}
+use Rattle.std.specs.Result.{result_map_both}
+use Rattle.std.proofs.lemmas.List.{append-nil, length-map, at_drop_all}
+use Rattle.std.proofs.lemmas.Bool.{ltb-false, lt-ltb, le-ltb, not-false}
 use Rattle.refusal.specs.Refusal.{◌>>=◌, unless}
 use Rattle.policy_expr.specs.declared.hop.HopPred.{HopPred}
 use Rattle.policy_expr.specs.declared.acl.AclEntry.{AclEntry}
 use Rattle.policy_expr.specs.declared.fault.PolicyFault.{PolicyFault}
 use Rattle.policy_expr.specs.Acl.{entry_at, entries_at, is_bare, ends_bare, is_bare_before_last, acl_fault, acl_at, IsAcl}
-use Rattle.policy_expr.specs.Checking.{check_on}
-use Rattle.policy_expr.specs.Counting.{Judges}
+use Rattle.policy_expr.specs.Refusing.{Judges}
+use Rattle.policy_expr.specs.declared.fault.PolicyFault.TheVariants as faults
 use Rattle.policy_expr.proofs.Front.{with_front}
+
+-- ---- judging as the loop does
+
+-- whether the entry of a text is bare
+abbrev bare_at : List ℕ → Result Bool PolicyFault
+bare_at text = result_map_both is_bare (λ (fault : PolicyFault). fault) (entry_at text)
+
+-- the first refusal of a list of so many entries, of which these texts are left: whether the last
+-- one so far is bare, and whether one before it is
+abbrev pub check_on : ℕ → Bool → Bool → List (List ℕ) → Result (Unit {0}) PolicyFault
+check_on count last other [] =
+    if nat_lt 256 count then Err faults.TooLarge
+    else if not last then Err faults.NoDefault
+    else if other then Err faults.AfterDefault
+    else Ok tt
+check_on count last other (text ∷ texts) = do
+  bare ← bare_at text
+  check_on count bare (other || last) texts
 
 -- ---- one entry more at the end of a list
 
@@ -80,9 +99,45 @@ judges_forgotten : {A : Type 0} (r : Result A PolicyFault) (told : Result (Unit 
 judges_forgotten (Ok x) told e = rw e refl
 judges_forgotten (Err fault) told e = rw e refl
 
--- so that the answer is the list's
-pub check_judges : (texts : List (List ℕ)) (n : ℕ) (told : Result (Unit {0}) PolicyFault) → n ≡ length texts → told ≡ check_on n false false texts → Judges told (acl_at texts)
-check_judges texts n told count e = judges_forgotten (acl_at texts) told (e ∙ ap (λ m. check_on m false false texts) count ∙ check_is_acl texts)
+-- what the loop has judged so far, of so many texts of which these are left
+abbrev pub Stands : List (List ℕ) → Bool → Bool → List (List ℕ) → Type 0
+Stands texts last other rest = check_on (length texts) false false texts ≡ check_on (length texts) last other rest
+
+-- what is told is what is judged of the list
+pub judged_as : (texts rest : List (List ℕ)) (last other : Bool) (told : Result (Unit {0}) PolicyFault)
+    → Stands texts last other rest → told ≡ check_on (length texts) last other rest → Judges told (acl_at texts)
+judged_as texts rest last other told stands e =
+    judges_forgotten (acl_at texts) told (e ∙ sym stands ∙ check_is_acl texts)
+
+module _ {X : Type 0} (text_of : X → List ℕ) (items : List X) (i : ℕ) (last other : Bool) (stands : Stands (map text_of items) last other (map text_of (drop i items))) where
+  -- the next text can't be read
+  pub judged_refused : (item : X) (fault : PolicyFault) → i < length items → item ≡ get_or items i item
+      → result_map_both is_bare (λ (fault : PolicyFault). fault) (entry_at (text_of item)) ≡ Err fault → Judges (Err fault) (acl_at (map text_of items))
+  judged_refused item fault within is read =
+      let rest : drop i items ≡ item ∷ drop (suc i) items = drop-cons items i item within ∙ ap (λ (x : X). x ∷ drop (suc i) items) (sym is) in
+      let next : check_on (length (map text_of items)) last other (text_of item ∷ map text_of (drop (suc i) items)) ≡ Err fault = rw read refl in
+      judged_as (map text_of items) _ last other (Err fault) stands
+      (sym (ap (λ (xs : List X). check_on (length (map text_of items)) last other (map text_of xs)) rest ∙ next))
+
+  -- no text is left
+  pub judged_end : (told : Result (Unit {0}) PolicyFault) → length items ≤ i
+      → ((n : ℕ) → n ≡ length items → check_on n last other [] ≡ told) → Judges told (acl_at (map text_of items))
+  judged_end told past ends =
+      judged_as (map text_of items) _ last other told stands
+      (sym (at_drop_all (λ rest. check_on (length (map text_of items)) last other (map text_of rest)) items i past
+      ∙ ends (length (map text_of items)) (length-map items text_of)))
+
+pub too_large : (n : ℕ) (last other : Bool) → 256 < n → check_on n last other [] ≡ Err faults.TooLarge
+too_large n last other many = rw (lt-ltb 256 n many) refl
+
+pub no_default : (n : ℕ) (last other : Bool) → n ≤ 256 → last ≡ false → check_on n last other [] ≡ Err faults.NoDefault
+no_default n last other few none = rw (le-ltb 256 n few, none) refl
+
+pub after_default : (n : ℕ) (last other : Bool) → n ≤ 256 → last ≡ true → other ≡ true → check_on n last other [] ≡ Err faults.AfterDefault
+after_default n last other few one two = rw (le-ltb 256 n few, one, two) refl
+
+pub no_fault : (n : ℕ) (last other : Bool) → n ≤ 256 → last ≡ true → other ≡ false → check_on n last other [] ≡ Ok tt
+no_fault n last other few one two = rw (le-ltb 256 n few, one, two) refl
 
 -- ---- the rules of a list in plain facts
 

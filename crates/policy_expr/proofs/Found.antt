@@ -8,7 +8,8 @@ use Rattle.policy_expr.specs.declared.fault.PolicyFault.{PolicyFault}
 use Rattle.policy_expr.specs.declared.fault.PolicyFault.TheVariants as faults
 use Rattle.policy_expr.specs.Tree.{Tree, optional, repeated, once_or_more}
 use Rattle.policy_expr.specs.Grammar.{following, alternatives, item, Spells, predicate, in_parentheses, with_optional, with_repeated, with_once_or_more, one_alternative, one_more, one_part, behind}
-use Rattle.policy_expr.specs.Reading.{Level, Reading, new_level, with_choices, with_before, whole, wants, took, read_on, ended, item_begun, item_followed, level_closed, node_count, sequence_at, tree_at, within_size}
+use Rattle.policy_expr.specs.Reading.{Level, new_level, whole, node_count, sequence_at, tree_at, within_size}
+use Rattle.policy_expr.proofs.Steps.{Reading, with_choices, with_before, wants, took, read_on, ended, item_begun, item_followed, level_closed, tree_is_read}
 use Rattle.policy_expr.specs.Grammar.{SpellsSequence}
 use Rattle.policy_expr.specs.Tokens.{tokens}
 use Rattle.policy_expr.proofs.Spelled.{spelled_is_read}
@@ -267,6 +268,10 @@ read_is_spelled ts t e = all_read ts (wants [] new_level) [] t (record {
   last = refl;
 }) e
 
+-- the tree of a text
+pub tree_is_spelled : (text : List ℕ) (t : Tree) → tree_at text ≡ Ok t → SpellsSequence text t
+tree_is_spelled text t e = read_is_spelled (tokens text) t (tree_is_read text ∙ e)
+
 within_by : (tree t : Tree) (large : Bool) → nat_lt 256 (node_count tree) ≡ large → (if large then Err faults.TooLarge else Ok tree) ≡ Ok t → (tree ≡ t) × (node_count t ≤ 256)
 within_by tree t true test e = absurd cc
 within_by tree t false test e =
@@ -275,14 +280,16 @@ within_by tree t false test e =
     (same, subst (λ x. node_count x ≤ 256) same small)
 
 -- a tree within the size
-within : (read : Result Tree PolicyFault) (t : Tree) → (read >>= within_size) ≡ Ok t → (read ≡ Ok t) × (node_count t ≤ 256)
+pub within : (read : Result Tree PolicyFault) (t : Tree) → (read >>= within_size) ≡ Ok t → (read ≡ Ok t) × (node_count t ≤ 256)
 within (Ok tree) t e = let parts = within_by tree t (nat_lt 256 (node_count tree)) refl e in (ap Ok parts.0, parts.1)
 within (Err fault) t e = absurd cc
 
 pub sequence_is_spelled : (text : List ℕ) (t : Tree) → sequence_at text ≡ Ok t → SpellsSequence text t × (node_count t ≤ 256)
 sequence_is_spelled text t e =
     let parts = within (tree_at text) t e in
-    (read_is_spelled (tokens text) t parts.0, parts.1)
+    (tree_is_spelled text t parts.0, parts.1)
 
 pub spelled_is_sequence : (text : List ℕ) (t : Tree) → SpellsSequence text t → node_count t ≤ 256 → sequence_at text ≡ Ok t
-spelled_is_sequence text t s small = rw (spelled_is_read (tokens text) t s, le-ltb 256 (node_count t) small) refl
+spelled_is_sequence text t s small =
+    let read = sym (tree_is_read text) ∙ spelled_is_read (tokens text) t s in
+    rw (read, le-ltb 256 (node_count t) small) refl

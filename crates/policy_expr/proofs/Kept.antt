@@ -1,6 +1,6 @@
 -- What is read of a text is a sequence: its predicates are as they are read, and its parentheses
 -- nest no deeper than the text's.
-use Rattle.std.proofs.Common.{◌≡◌, ℕ, ◌+◌, ◌-◌, ◌^◌, ◌<◌, ◌≤◌, Bool, true, false, ◌&&◌, eqb, nat_lt, if◌then◌else◌, List, [], ◌∷◌, length, map, Option, Some, None, Result, Ok, Err, refl, sym, ◌∙◌, ap, subst, arith, inl, inr}
+use Rattle.std.proofs.Common.{◌≡◌, ℕ, ◌+◌, ◌-◌, ◌^◌, ◌<◌, ◌≤◌, Bool, true, false, ◌&&◌, eqb, nat_lt, if◌then◌else◌, List, [], ◌∷◌, length, map, Option, Some, None, Result, Ok, Err, refl, ◌∙◌, ap, subst, arith, inl, inr}
 use Rattle.std.specs.List.{AllByRecursion}
 use Rattle.std.proofs.lemmas.Bool.{ltb-true, ltb-false}
 use Rattle.std.proofs.lemmas.Bool.Decides.{nat_tests}
@@ -21,7 +21,8 @@ use Rattle.refusal.proofs.Steps.{bind_ok, guard_ok, guard_not, ok_is}
 use Rattle.policy_expr.specs.Predicate.{hash, one_interface, two_interfaces, as_part, cut_at, interface_at, cut_interfaces_at, interfaces_at, cut_plain_at, plain_at, cut_predicate_at, predicate_at}
 use Rattle.policy_expr.specs.Tokens.{is_mark, token_texts, token_of, read_token, sign_token, tokens}
 use Rattle.policy_expr.specs.Tree.{Tree, hop, followed, either, optional, repeated, once_or_more}
-use Rattle.policy_expr.specs.Reading.{Level, Reading, new_level, wants, has, with_choices, with_before, whole, item_begun, item_followed, level_closed, took, took_at, ended, ended_at, read_on, tree_at, sequence_at, within_size, node_count}
+use Rattle.policy_expr.specs.Reading.{Level, new_level, whole, tree_at, sequence_at, within_size, node_count}
+use Rattle.policy_expr.proofs.Steps.{Reading, wants, has, with_choices, with_before, item_begun, item_followed, level_closed, took, took_at, ended, ended_at, read_on, tree_is_read}
 use Rattle.policy_expr.specs.Printing.{strength, AreInterfaces, IsPredicate}
 use Rattle.policy_expr.proofs.Readable.{nested, depth, ArePredicates, IsReadable}
 
@@ -250,14 +251,8 @@ tokens_good (text ∷ texts) = (token_good text, tokens_good texts)
 -- the tree of a text is a sequence where it has not too many nodes
 pub tree_is_sequence : (text : List ℕ) (t : Tree) → tree_at text ≡ Ok t → node_count t ≤ 256 → IsReadable t
 tree_is_sequence text t e small =
-    let room = read_good (wants [] new_level) (tokens text) t (record { outer = tt; level = (tt, tt); item = tt }) (tokens_good (token_texts text)) e in
+    let room = read_good (wants [] new_level) (tokens text) t (record { outer = tt; level = (tt, tt); item = tt }) (tokens_good (token_texts text)) (tree_is_read text ∙ e) in
     record { small = small; shallow = plain_room 32 t room; predicates = room.0 }
-
--- the same where the number of nodes is known of the tree alone
-pub told_is_sequence : (text : List ℕ) (t told : Tree) → tree_at text ≡ Ok t → tree_at text ≡ Ok told → node_count told ≤ 256 → IsReadable t
-told_is_sequence text t told e told_is small =
-    let same : told ≡ t = ok_is told t (sym told_is ∙ e) in
-    tree_is_sequence text t e (subst (λ (x : Tree). node_count x ≤ 256) same small)
 
 -- what is read of a text is a sequence
 pub read_is_sequence : (text : List ℕ) (t : Tree) → sequence_at text ≡ Ok t → IsReadable t

@@ -11,12 +11,13 @@ pub mod Checked
 pub mod Again
 pub mod Texts
 pub mod Printed
+pub mod Steps
 pub mod Kept
-pub mod Counted
 pub mod Spelling
 pub mod Spelled
 pub mod Found
 pub mod Refusing
+pub mod Weights
 pub mod Sequences
 pub mod Weighed
 pub mod Fewest

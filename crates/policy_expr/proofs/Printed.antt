@@ -13,7 +13,8 @@ use Rattle.policy_expr.specs.Tree.{Tree, hop, followed, either, optional, repeat
 use Rattle.policy_expr.specs.Printing.{strength, in_parentheses, predicate_text, printed}
 use Rattle.policy_expr.proofs.Readable.{ArePredicates, IsReadable}
 use Rattle.policy_expr.proofs.Cutting.{marks_of, texts_of_run}
-use Rattle.policy_expr.specs.Reading.{new_level, wants, read_on, tree_at, sequence_at, node_count}
+use Rattle.policy_expr.specs.Reading.{new_level, tree_at, sequence_at, node_count}
+use Rattle.policy_expr.proofs.Steps.{wants, read_on, tree_is_read}
 use Rattle.policy_expr.proofs.Again.{closed_in, tokens_of, tokens_read}
 use Rattle.policy_expr.proofs.Texts.{IsMark, predicate_again, predicate_is_marks, predicate_is_some}
 
@@ -111,6 +112,6 @@ printed_tokens t are = ap tokens (sym (append-nil (printed t))) ∙ prints t are
 -- what is printed of a sequence is read as it
 pub printed_again : (t : Tree) → IsReadable t → sequence_at (printed t) ≡ Ok t
 printed_again t is =
-    let whole : tree_at (printed t) ≡ Ok t = ap (read_on (wants [] new_level)) (printed_tokens t is.predicates) ∙ tokens_read t is.shallow in
+    let whole : tree_at (printed t) ≡ Ok t = sym (tree_is_read (printed t)) ∙ ap (read_on (wants [] new_level)) (printed_tokens t is.predicates) ∙ tokens_read t is.shallow in
     let small : nat_lt 256 (node_count t) ≡ false = le-ltb 256 (node_count t) is.small in
     rw (whole, small) refl

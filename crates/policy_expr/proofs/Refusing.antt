@@ -13,20 +13,18 @@ use Rattle.policy_expr.specs.declared.token.Token.TheVariants as signs
 use Rattle.policy_expr.specs.Tokens.{tokens}
 use Rattle.policy_expr.specs.Tree.{Tree, hop, optional, repeated, once_or_more}
 use Rattle.policy_expr.specs.Grammar.{SpellsSequence}
-use Rattle.policy_expr.specs.Reading.{Level, new_level, with_choices, whole, wants, item_begun, level_closed, item_followed, took, ended, read_on, tree_at, node_count, within_size, sequence_at}
+use Rattle.policy_expr.specs.Reading.{Level, new_level, whole, next_level, next_choice, read_rest, tree_at, node_count, within_size, sequence_at}
 use Rattle.policy_expr.specs.Refusing.{fault_at, IsRefusal, Gets}
 use Rattle.policy_expr.proofs.Found.{sequence_is_spelled, spelled_is_sequence}
 
--- what these tokens answer at any point of a reading
+-- what these tokens give at any point of a reading
 abbrev Agrees : List Token → Type 0
 Agrees ts = (levels : List Level) (level : Level) (item : Option Tree)
-    → fault_at (length levels) (is_some item) ts ≡ result_err (read_on (record { open_levels = levels; level = level; item = item }) ts)
+    → fault_at (length levels) (is_some item) ts ≡ result_err (read_rest levels level item ts)
 
 end_agrees : Agrees []
-unfolding read_on ended
-end_agrees [] level None = refl
+end_agrees levels level None = refl
 end_agrees [] level (Some item) = refl
-end_agrees (outer ∷ levels) level None = refl
 end_agrees (outer ∷ levels) level (Some item) =
     let some : length (outer ∷ levels) ≢ 0 = omega arith in
     rw (ne_eqb (length (outer ∷ levels)) 0 some) refl
@@ -34,48 +32,51 @@ end_agrees (outer ∷ levels) level (Some item) =
 module _ (ts : List Token) (rest : Agrees ts) where
   open_agrees : (levels : List Level) (level : Level) (room : Bool)
       → cond room (fault_at (length levels + 1) false ts) (Some faults.TooDeep)
-      ≡ result_err (cond room (Ok (wants (level ∷ levels) new_level)) (Err faults.TooDeep) >>= λ r. read_on r ts)
+      ≡ result_err (cond room (read_rest (level ∷ levels) new_level None ts) (Err faults.TooDeep))
   open_agrees levels level true = rw add-one (rest (level ∷ levels) new_level None)
   open_agrees levels level false = refl
 
-  begun_agrees : (levels : List Level) (level : Level) (token : Token)
-      → fault_at (length levels) false (token ∷ ts) ≡ result_err (item_begun levels level token >>= λ r. read_on r ts)
-  begun_agrees levels level (signs.Hop pred) = rest levels level (Some (hop pred))
-  begun_agrees levels level signs.Open = open_agrees levels level (nat_lt (length levels) 32)
-  begun_agrees levels level signs.Optional = refl
-  begun_agrees levels level signs.OnceOrMore = refl
-  begun_agrees levels level signs.Repeated = refl
-  begun_agrees levels level signs.Or = refl
-  begun_agrees levels level signs.Close = refl
-  begun_agrees levels level signs.Other = refl
+  begun_agrees : (token : Token) (levels : List Level) (level : Level)
+      → fault_at (length levels) false (token ∷ ts) ≡ result_err (read_rest levels level None (token ∷ ts))
+  begun_agrees (signs.Hop pred) levels level = rest levels level (Some (hop pred))
+  begun_agrees signs.Open levels level = open_agrees levels level (nat_lt (length levels) 32)
+  begun_agrees signs.Optional levels level = refl
+  begun_agrees signs.OnceOrMore levels level = refl
+  begun_agrees signs.Repeated levels level = refl
+  begun_agrees signs.Or levels level = refl
+  begun_agrees signs.Close levels level = refl
+  begun_agrees signs.Other levels level = refl
 
-  closed_agrees : (levels : List Level) (item : Tree)
-      → fault_at (length levels) true (signs.Close ∷ ts) ≡ result_err (level_closed levels item >>= λ r. read_on r ts)
-  closed_agrees [] item = refl
-  closed_agrees (outer ∷ levels) item =
+  closed_agrees : (levels : List Level) (level : Level) (item : Tree)
+      → fault_at (length levels) true (signs.Close ∷ ts) ≡ result_err (read_rest levels level (Some item) (signs.Close ∷ ts))
+  closed_agrees [] level item = refl
+  closed_agrees (outer ∷ levels) level item =
       let some : length (outer ∷ levels) ≢ 0 = omega arith in
       let less : length (outer ∷ levels) - 1 ≡ length levels = omega arith in
-      rw (ne_eqb (length (outer ∷ levels)) 0 some, less) (rest levels outer (Some item))
+      rw (ne_eqb (length (outer ∷ levels)) 0 some, less) (rest levels outer (Some (whole level item)))
 
-  followed_agrees : (levels : List Level) (level : Level) (item : Tree) (token : Token)
-      → fault_at (length levels) true (token ∷ ts) ≡ result_err (item_followed levels level item token >>= λ r. read_on r ts)
-  followed_agrees levels level item signs.Optional = rest levels level (Some (optional item))
-  followed_agrees levels level item signs.OnceOrMore = rest levels level (Some (once_or_more item))
-  followed_agrees levels level item signs.Repeated = rest levels level (Some (repeated item))
-  followed_agrees levels level item signs.Or = rest levels (record { before = level.before; choices = Some (with_choices level.choices item) }) None
-  followed_agrees levels level item signs.Close = closed_agrees levels (whole level item)
-  followed_agrees levels level item signs.Other = refl
-  followed_agrees levels level item (signs.Hop pred) = begun_agrees levels (record { before = Some (whole level item); choices = None }) (signs.Hop pred)
-  followed_agrees levels level item signs.Open = begun_agrees levels (record { before = Some (whole level item); choices = None }) signs.Open
+  followed_agrees : (token : Token) (levels : List Level) (level : Level) (item : Tree)
+      → fault_at (length levels) true (token ∷ ts) ≡ result_err (read_rest levels level (Some item) (token ∷ ts))
+  followed_agrees (signs.Hop pred) levels level item = rest levels (next_level level (Some item)) (Some (hop pred))
+  followed_agrees signs.Open levels level item = open_agrees levels (next_level level (Some item)) (nat_lt (length levels) 32)
+  followed_agrees signs.Optional levels level item = rest levels level (Some (optional item))
+  followed_agrees signs.OnceOrMore levels level item = rest levels level (Some (once_or_more item))
+  followed_agrees signs.Repeated levels level item = rest levels level (Some (repeated item))
+  followed_agrees signs.Or levels level item = rest levels (next_choice level item) None
+  followed_agrees signs.Close levels level item = closed_agrees levels level item
+  followed_agrees signs.Other levels level item = refl
 
   one_agrees : (token : Token) → Agrees (token ∷ ts)
-  unfolding read_on took
-  one_agrees token levels level None = begun_agrees levels level token
-  one_agrees token levels level (Some item) = followed_agrees levels level item token
+  one_agrees token levels level None = begun_agrees token levels level
+  one_agrees token levels level (Some item) = followed_agrees token levels level item
 
 agrees : (ts : List Token) → Agrees ts
 agrees [] = end_agrees
 agrees (token ∷ ts) = one_agrees ts (agrees ts) token
+
+-- the first fault of a text is what reading it is refused by
+pub fault_is_read : (text : List ℕ) → fault_at 0 false (tokens text) ≡ result_err (tree_at text)
+fault_is_read text = agrees (tokens text) [] new_level None
 
 fault_is : (f : PolicyFault) (read : Result Tree PolicyFault) (found : Option PolicyFault) → found ≡ result_err read → (read >>= within_size) ≡ Err f → f ≡ unwrap_or found faults.TooLarge
 fault_is f (Err g) found is e = rw is (let same : g ≡ f = cc in sym same)
@@ -87,7 +88,7 @@ fault_is f (Ok tree) found is e = rw is (large (nat_lt 256 (node_count tree)) e)
 
 -- the refusal of a text is its first fault, and TooLarge where it has none
 pub refusal_is : (text : List ℕ) (f : PolicyFault) → sequence_at text ≡ Err f → f ≡ unwrap_or (fault_at 0 false (tokens text)) faults.TooLarge
-refusal_is text f e = fault_is f (tree_at text) (fault_at 0 false (tokens text)) (agrees (tokens text) [] new_level None) e
+refusal_is text f e = fault_is f (tree_at text) (fault_at 0 false (tokens text)) (fault_is_read text) e
 
 -- where the text is read, it spells a tree
 pub spelled_there : (text : List ℕ) → IsOk (sequence_at text) → (tree : Tree) × SpellsSequence text tree × (node_count tree ≤ 256)

@@ -1,12 +1,13 @@
 -- Sequences are trees whose texts are read again.
-use Rattle.std.proofs.Common.{◌≡◌, ℕ, ◌≤◌, List, Ok}
+use Rattle.std.proofs.Common.{◌≡◌, ◌∙◌, ℕ, true, false, List, Result, Ok, Err, IsOk, refl, ap}
+use Rattle.policy_expr.specs.declared.fault.PolicyFault.{PolicyFault}
 use Rattle.policy_expr.specs.Tree.{Tree}
 use Rattle.policy_expr.specs.Printing.{printed, IsSequence}
-use Rattle.policy_expr.specs.Reading.{node_count, tree_at, sequence_at}
+use Rattle.policy_expr.specs.Reading.{tree_at, sequence_at}
 use Rattle.policy_expr.proofs.Readable.{IsReadable}
 use Rattle.policy_expr.proofs.Printed.{printed_again}
-use Rattle.policy_expr.proofs.Kept.{read_is_sequence, told_is_sequence}
-use Rattle.policy_expr.proofs.Found.{sequence_is_spelled, spelled_is_sequence}
+use Rattle.policy_expr.proofs.Kept.{read_is_sequence}
+use Rattle.policy_expr.proofs.Found.{within, sequence_is_spelled, spelled_is_sequence}
 
 readable_is_sequence : (tree : Tree) → IsReadable tree → IsSequence tree
 readable_is_sequence tree readable = record {
@@ -22,5 +23,13 @@ sequence_again tree sequence = spelled_is_sequence (printed tree) tree sequence.
 pub read_sequence : (text : List ℕ) (tree : Tree) → sequence_at text ≡ Ok tree → IsSequence tree
 read_sequence text tree e = readable_is_sequence tree (read_is_sequence text tree e)
 
-pub told_sequence : (text : List ℕ) (t told : Tree) → tree_at text ≡ Ok t → tree_at text ≡ Ok told → node_count told ≤ 256 → IsSequence t
-told_sequence text t told e told_is small = readable_is_sequence t (told_is_sequence text t told e told_is small)
+-- what was judged to be a sequence is one once it is read as a tree
+pub judged_sequence : (text : List ℕ) (tree : Tree) → IsOk (sequence_at text) → tree_at text ≡ Ok tree → IsSequence tree
+judged_sequence text tree ok read = read_sequence text tree (whole (sequence_at text) refl ok)
+  where
+    one : (r : Result Tree PolicyFault) (a b : Tree) → r ≡ Ok a → r ≡ Ok b → a ≡ b
+    one r a b is_a is_b = cc
+
+    whole : (r : Result Tree PolicyFault) → sequence_at text ≡ r → IsOk r → sequence_at text ≡ Ok tree
+    whole (Ok other) is ok = (let same : other ≡ tree = one (tree_at text) other tree (within (tree_at text) other is).0 read in is ∙ ap Ok same)
+    whole (Err fault) is ok = absurd (let f : false ≡ true = ok in cc)

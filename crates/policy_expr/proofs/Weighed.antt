@@ -7,7 +7,8 @@ use Rattle.refusal.specs.declared.fault.OrMemory.TheVariants.{Memory, Refused}
 use Rattle.refusal.specs.Refusal.{◌>>=◌, check, Answers, Fails, Reads}
 use Rattle.policy_expr.specs.declared.option_fault.OptionFault.{OptionFault}
 use Rattle.policy_expr.specs.declared.option_fault.OptionFault.TheVariants.{OptionCount}
-use Rattle.policy_expr.specs.Options.{WeighedRules, OptionTexts, are_few, option_at, each_at, options_at, AreJudged}
+use Rattle.policy_expr.specs.Options.{WeighedRules, OptionTexts, are_few, option_at, each_at, options_at}
+use Rattle.policy_expr.specs.Refusing.{Judges}
 
 -- what was read so far, and then the rest
 abbrev pub behind : List WeighedRules → Result (List WeighedRules) OptionFault → Result (List WeighedRules) OptionFault
@@ -24,7 +25,7 @@ behind_more front option (Err fault) = refl
 
 -- one text more was judged
 pub judged_more : (told : Result (Unit {0}) OptionFault) (option : WeighedRules) (r : Result (List WeighedRules) OptionFault)
-    → AreJudged told r → AreJudged told (r >>= λ options. Ok (option ∷ options))
+    → Judges told r → Judges told (r >>= λ options. Ok (option ∷ options))
 judged_more (Ok done) option (Ok options) h = refl
 judged_more (Ok done) option (Err fault) h = absurd cc
 judged_more (Err fault) option (Ok options) h = absurd cc

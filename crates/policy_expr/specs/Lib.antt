@@ -12,8 +12,6 @@ pub mod Acl
 pub mod Policy
 pub mod Next
 pub mod Views
-pub mod Counting
-pub mod Checking
 pub mod Sets
 pub mod Table
 pub mod Code

@@ -1,5 +1,5 @@
 -- The options of a request for paths: several policies, each with a weight.
-use Rattle.std.specs.Prelude.{◌≡◌, ℕ, ◌&&◌, nat_le, Bool, List, [], ◌∷◌, length, Option, Result, Ok, Err, IsOk, codes}
+use Rattle.std.specs.Prelude.{ℕ, ◌&&◌, nat_le, Bool, List, [], ◌∷◌, length, Option, Result, Ok, Err, codes}
 use Rattle.refusal.specs.Refusal.{◌>>=◌, check}
 use Rattle.policy_expr.specs.declared.fault.PolicyFault.{PolicyFault}
 use Rattle.policy_expr.specs.declared.option_fault.OptionFault.{OptionFault}
@@ -56,8 +56,3 @@ unfoldable pub options_at : List OptionTexts → Result (List WeighedRules) Opti
 options_at texts = do
   few ← check (are_few texts) OptionCount
   each_at texts
-
--- what a call that judges texts answers: that options are read of them, or the refusal
-abbrev pub AreJudged : {X : Type 0} → Result (Unit {0}) OptionFault → Result X OptionFault → Type 0
-AreJudged (Ok done) wanted = IsOk wanted
-AreJudged (Err fault) wanted = wanted ≡ Err fault

@@ -1,5 +1,5 @@
 -- Which refusal of a sequence's text comes first, from left to right.
-use Rattle.std.specs.Prelude.{◌≡◌, ℕ, ◌+◌, ◌-◌, ◌≤◌, ◌==◌, nat_lt, Bool, true, false, if◌then◌else◌, List, [], ◌∷◌, Option, Some, None, unwrap_or, Result, Ok, Err}
+use Rattle.std.specs.Prelude.{◌≡◌, ℕ, ◌+◌, ◌-◌, ◌≤◌, ◌==◌, nat_lt, Bool, true, false, if◌then◌else◌, List, [], ◌∷◌, Option, Some, None, unwrap_or, Result, Ok, Err, IsOk}
 use Rattle.refusal.specs.declared.fault.OrMemory.{OrMemory}
 use Rattle.refusal.specs.declared.fault.OrMemory.TheVariants.{Memory, Refused}
 use Rattle.policy_expr.specs.declared.fault.PolicyFault.{PolicyFault}
@@ -35,3 +35,17 @@ abbrev pub Gets : Tree → Result Tree (OrMemory PolicyFault) → Type 0
 Gets tree (Ok read) = read ≡ tree
 Gets tree (Err Memory) = Unit {0}
 Gets tree (Err (Refused fault)) = ⊥
+
+-- what a call that judges a text answers: that something is read of it, or the refusal
+abbrev pub Judges : {A E : Type 0} → Result (Unit {0}) E → Result A E → Type 0
+Judges (Ok done) wanted = IsOk wanted
+Judges (Err fault) wanted = wanted ≡ Err fault
+
+-- what a token adds to a sequence: a predicate counts twice, and each sign behind an item once, so
+-- that they are one more than the nodes
+abbrev pub weight_of : Token → ℕ
+weight_of (signs.Hop p) = 2
+weight_of signs.Optional = 1
+weight_of signs.Repeated = 1
+weight_of signs.OnceOrMore = 1
+weight_of token = 0

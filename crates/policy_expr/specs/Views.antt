@@ -1,10 +1,14 @@
 -- What the code keeps of a reading under way.
-use Rattle.std.specs.Prelude.{List, map, reverse, option_map}
+use Rattle.std.specs.Prelude.{◌≡◌, List, map, reverse, option_map, Result, Ok, Err}
+use Rattle.refusal.specs.declared.fault.OrMemory.{OrMemory}
+use Rattle.refusal.specs.declared.fault.OrMemory.TheVariants.{Memory, Refused}
+use Rattle.policy_expr.specs.declared.fault.PolicyFault.{PolicyFault}
 use Rattle.policy_expr.specs.declared.reader.Level.{Level}
 use Rattle.policy_expr.specs.declared.reader.Reader.{Reader}
-use Rattle.policy_expr.specs.Tree.{tree_of}
+use Rattle.policy_expr.specs.declared.token.Token.{Token}
+use Rattle.policy_expr.specs.Tree.{Tree, tree_of}
 use Rattle.policy_expr.specs.Reading as reading
-use Rattle.policy_expr.specs.Reading.{Reading}
+use Rattle.policy_expr.specs.Reading.{read_rest}
 
 abbrev pub level_of : {A : _} → Level A → reading.Level
 level_of level = record { before = option_map tree_of level.before; choices = option_map tree_of level.choices }
@@ -13,5 +17,12 @@ level_of level = record { before = option_map tree_of level.before; choices = op
 abbrev pub levels_of : {A : _} → List (Level A) → List reading.Level
 levels_of levels = map level_of (reverse levels)
 
-abbrev pub reading_of : {A : _} → Reader A → Reading
-reading_of reader = record { open_levels = levels_of reader.levels.items; level = level_of reader.level; item = option_map tree_of reader.item }
+-- what the rest of the tokens gives
+abbrev pub gives : {A : _} → Reader A → List Token → Result Tree PolicyFault
+gives reader rest = read_rest (levels_of reader.levels.items) (level_of reader.level) (option_map tree_of reader.item) rest
+
+-- whatever the rest of the tokens, what they give is given behind the step
+abbrev pub GoesOn : {A : _} → (List Token → Result Tree PolicyFault) → Result (Reader A) (OrMemory PolicyFault) → Type 0
+GoesOn given (Ok next) = (rest : List Token) → given rest ≡ gives next rest
+GoesOn given (Err Memory) = Unit {0}
+GoesOn given (Err (Refused fault)) = (rest : List Token) → given rest ≡ Err fault

@@ -1,5 +1,8 @@
-ghost use Rattle.std.specs.Prelude.{◌≡◌};
-ghost use Rattle.policy_expr.specs.Counting.{Tells, begun_count, counted, counter, followed_count, one_more};
+ghost use Rattle.std.specs.Prelude.{◌≡◌, ◌≤◌, ◌+◌, [], ◌∷◌, List, Some, min, IfOk, IfErr};
+ghost use Rattle.std.specs.Result.{result_err};
+ghost use Rattle.policy_expr.specs.declared.token.Token.{Token};
+ghost use Rattle.policy_expr.specs.Reading.{sequence_at};
+ghost use Rattle.policy_expr.specs.Refusing.{Judges, fault_at, weight_of};
 
 use crate::fault::PolicyFault;
 use crate::token::{Token, next_token};
@@ -7,109 +10,99 @@ use crate::token::{Token, next_token};
 /// How many parentheses may be open at once.
 pub(crate) const MAX_OPEN: usize = 32;
 
-/// How many nodes a sequence may have.
-const MAX_NODES: usize = 256;
-
-/// A sequence's text under way, without its tree.
-#[derive(Clone, Copy)]
-pub(crate) struct Counter {
-    /// How many parentheses are open.
-    depth: usize,
-    /// Whether an item stands at the end, so that none must come.
-    has_item: bool,
-    /// How many nodes there are so far, at most one too many.
-    nodes: usize,
-}
+/// How much the tokens of a sequence of 256 nodes weigh, which is one more than its nodes.
+const MAX_WEIGHT: usize = 257;
 
 /// The first refusal of a sequence's text. Takes no memory.
 pub(crate) fn check_text(text: &str) -> Result<(), PolicyFault>
-    ensures { Tells result text.now }
+    ensures { Judges result (sequence_at text.now) }
 {
-    let mut counter = Counter {
+    let mut place = Place {
         depth: 0,
         has_item: false,
-        nodes: 0,
     };
+    let mut weight = 0;
     let mut rest = text.as_bytes();
     while let Some((token, behind)) = next_token(rest) {
-        counter = counter.take(token)?;
+        place = place.behind(&token)?;
+        weight = with_token(weight, &token);
         rest = behind;
     }
-    if !counter.has_item {
-        return Err(PolicyFault::UnexpectedEnd);
-    }
-    if counter.depth > 0 {
-        return Err(PolicyFault::Unbalanced);
-    }
-    if counter.nodes > MAX_NODES {
+    check_end(place.depth, place.has_item)?;
+    if weight > MAX_WEIGHT {
         return Err(PolicyFault::TooLarge);
     }
     Ok(())
 }
 
-impl Counter {
-    /// Takes one token more.
-    #[tactic(auto, unfolding(crate::specs::Counting::counted))]
-    fn take(self, token: Token) -> Result<Counter, PolicyFault>
-        ensures { result ≡ counted self token }
+/// A place in the text of a sequence.
+#[derive(Clone, Copy)]
+struct Place {
+    /// How many parentheses are open.
+    depth: usize,
+    /// Whether an item stands before it, so that none must come.
+    has_item: bool,
+}
+
+impl Place {
+    /// The place behind a token.
+    fn behind(self, token: &Token) -> Result<Place, PolicyFault>
+        ensures goes_on { IfOk result (λ next. (later : List Token)
+            → fault_at self.depth self.has_item (token.now ∷ later)
+            ≡ fault_at next.depth next.has_item later) }
+        ensures fault { IfErr result (λ fault. (later : List Token)
+            → fault_at self.depth self.has_item (token.now ∷ later) ≡ Some fault) }
     {
-        if self.has_item {
-            follow(self.depth, self.nodes, token)
-        } else {
-            begin(self.depth, self.nodes, token)
+        let Place { depth, has_item } = self;
+        match token {
+            Token::Hop(_) => Ok(Place {
+                depth,
+                has_item: true,
+            }),
+            Token::Open if depth < MAX_OPEN => Ok(Place {
+                depth: depth + 1,
+                has_item: false,
+            }),
+            Token::Open => Err(PolicyFault::TooDeep),
+            _ if !has_item => Err(PolicyFault::BadPredicate),
+            Token::Optional | Token::OnceOrMore | Token::Repeated => Ok(self),
+            Token::Or => Ok(Place {
+                depth,
+                has_item: false,
+            }),
+            Token::Close if depth == 0 => Err(PolicyFault::Unbalanced),
+            Token::Close => Ok(Place {
+                depth: depth - 1,
+                has_item: true,
+            }),
+            Token::Other => Err(PolicyFault::BadPredicate),
         }
     }
 }
 
-/// Takes a token where an item must come.
-fn begin(depth: usize, nodes: usize, token: Token) -> Result<Counter, PolicyFault>
-    ensures { result ≡ begun_count depth nodes token }
+/// Whether a sequence may end where so many parentheses are open and an item stands before the end
+/// or not.
+fn check_end(depth: usize, has_item: bool) -> Result<(), PolicyFault>
+    ensures { result_err result ≡ fault_at depth has_item [] }
 {
-    match token {
-        Token::Hop(_) => Ok(Counter {
-            depth,
-            has_item: true,
-            nodes: with_one_more(nodes),
-        }),
-        Token::Open if depth < MAX_OPEN => Ok(Counter {
-            depth: depth + 1,
-            has_item: false,
-            nodes,
-        }),
-        Token::Open => Err(PolicyFault::TooDeep),
-        _ => Err(PolicyFault::BadPredicate),
+    if !has_item {
+        return Err(PolicyFault::UnexpectedEnd);
     }
+    if depth > 0 {
+        return Err(PolicyFault::Unbalanced);
+    }
+    Ok(())
 }
 
-/// Takes a token behind an item.
-fn follow(depth: usize, nodes: usize, token: Token) -> Result<Counter, PolicyFault>
-    ensures { result ≡ followed_count depth nodes token }
+/// What tokens weigh with one more, at most one too much.
+fn with_token(weight: usize, token: &Token) -> usize
+    requires { weight ≤ 258 }
+    ensures { result ≡ min 258 (weight + weight_of token.now) }
 {
-    match token {
-        Token::Optional | Token::OnceOrMore | Token::Repeated => Ok(Counter {
-            depth,
-            has_item: true,
-            nodes: with_one_more(nodes),
-        }),
-        Token::Or => Ok(Counter {
-            depth,
-            has_item: false,
-            nodes: with_one_more(nodes),
-        }),
-        Token::Close if depth == 0 => Err(PolicyFault::Unbalanced),
-        Token::Close => Ok(Counter {
-            depth: depth - 1,
-            has_item: true,
-            nodes,
-        }),
-        Token::Other => Err(PolicyFault::BadPredicate),
-        Token::Hop(_) | Token::Open => begin(depth, with_one_more(nodes), token),
-    }
-}
-
-/// One node more, where there are not too many yet.
-fn with_one_more(nodes: usize) -> usize
-    ensures { result ≡ one_more nodes }
-{
-    if nodes > MAX_NODES { nodes } else { nodes + 1 }
+    let more = match token {
+        Token::Hop(_) => 2,
+        Token::Optional | Token::OnceOrMore | Token::Repeated => 1,
+        Token::Or | Token::Open | Token::Close | Token::Other => 0,
+    };
+    (weight + more).min(MAX_WEIGHT + 1)
 }

@@ -1,9 +1,9 @@
-ghost use Rattle.std.specs.Prelude.{◌≡◌, length, map, true, false};
+ghost use Rattle.std.specs.Prelude.{◌≡◌, map};
+ghost use Rattle.std.specs.Result.{result_map_both};
 ghost use Rattle.std.specs.String.{string_bytes};
 ghost use Rattle.refusal.specs.Refusal.{Reads};
-ghost use Rattle.policy_expr.specs.Counting.{Judges};
-ghost use Rattle.policy_expr.specs.Checking.{bare_at, check_on};
-ghost use Rattle.policy_expr.specs.Acl.{acl_at, entries_at, entry_at, entry_of, says_nothing, signed_at};
+ghost use Rattle.policy_expr.specs.Refusing.{Judges};
+ghost use Rattle.policy_expr.specs.Acl.{acl_at, entries_at, entry_at, entry_of, is_bare, says_nothing, signed_at};
 
 use crate::acl::AclEntry;
 use crate::acl_text::AclText;
@@ -24,7 +24,7 @@ pub(crate) fn check_acl(text: &AclText) -> Result<(), PolicyFault>
 
 /// The first refusal of these texts as a list.
 fn check_entries(texts: &[String]) -> Result<(), PolicyFault>
-    ensures { result ≡ check_on (length texts.now) false false (map string_bytes texts.now) }
+    ensures { Judges result (acl_at (map string_bytes texts.now)) }
 {
     let mut is_last_bare = false;
     let mut is_other_bare = false;
@@ -47,7 +47,7 @@ fn check_entries(texts: &[String]) -> Result<(), PolicyFault>
 
 /// Whether the entry of a text is bare.
 fn is_text_bare(text: &str) -> Result<bool, PolicyFault>
-    ensures { result ≡ bare_at text.now }
+    ensures { result ≡ result_map_both is_bare (λ fault. fault) (entry_at text.now) }
 {
     match read_entry(text) {
         Ok(entry) => Ok(entry.is_bare()),

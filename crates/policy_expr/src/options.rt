@@ -1,6 +1,7 @@
 ghost use Rattle.std.specs.Prelude.{◌≡◌, map, option_map, IfOk};
 ghost use Rattle.refusal.specs.Refusal.{Answers, Reads};
-ghost use Rattle.policy_expr.specs.Options.{option_at, each_at, options_at, AreJudged};
+ghost use Rattle.policy_expr.specs.Refusing.{Judges};
+ghost use Rattle.policy_expr.specs.Options.{option_at, each_at, options_at};
 
 use crate::option_fault::{OptionError, OptionFault};
 use crate::policy::{Policy, PolicyText, check_policy};
@@ -38,7 +39,7 @@ impl<'a> OptionText<'a> {
     /// memory.
     #[tactic(auto, unfolding(crate::specs::Options::options_at))]
     pub fn check_all(texts: &[OptionText<'_>]) -> Result<(), OptionFault>
-        ensures { AreJudged result (options_at texts.now) }
+        ensures { Judges result (options_at texts.now) }
     {
         if texts.is_empty() || texts.len() > MAX_OPTIONS {
             return Err(OptionFault::OptionCount);
@@ -97,7 +98,7 @@ impl<A: Allocator + Clone> PolicyOption<A> {
 
 /// The first refusal of these texts, one after another.
 fn check_each(texts: &[OptionText<'_>]) -> Result<(), OptionFault>
-    ensures { AreJudged result (each_at texts.now) }
+    ensures { Judges result (each_at texts.now) }
 {
     for text in texts {
         check_option(text)?;
@@ -108,7 +109,7 @@ fn check_each(texts: &[OptionText<'_>]) -> Result<(), OptionFault>
 /// The refusal of the texts of one option, if there is one.
 #[tactic(auto, unfolding(crate::specs::Options::option_at))]
 fn check_option(text: &OptionText<'_>) -> Result<(), OptionFault>
-    ensures { AreJudged result (option_at text.now) }
+    ensures { Judges result (option_at text.now) }
 {
     match check_policy(&text.text) {
         Ok(()) => Ok(()),

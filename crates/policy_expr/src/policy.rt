@@ -1,6 +1,6 @@
 ghost use Rattle.std.specs.Prelude.{◌≡◌, ◌↔◌, None, length, option_map, IsOk, IsTrue, IfErr, IfOk};
 ghost use Rattle.refusal.specs.Refusal.{Answers};
-ghost use Rattle.policy_expr.specs.Counting.{Judges};
+ghost use Rattle.policy_expr.specs.Refusing.{Judges};
 ghost use Rattle.blanks.specs.Blanks.{after_blanks};
 ghost use Rattle.policy_expr.specs.Policy.{AllowsHops, DeniesHop, HasWord, acl_part_at, policy_at, sequence_part_at};
 

@@ -1,8 +1,9 @@
-ghost use Rattle.std.specs.Prelude.{◌≡◌, [], IfOk, option_map};
+ghost use Rattle.std.specs.Prelude.{◌≡◌, [], ◌∷◌, List, None, Some, IfOk, option_map};
 ghost use Rattle.refusal.specs.Refusal.{Reads};
-ghost use Rattle.policy_expr.specs.Tree.{tree_of};
-ghost use Rattle.policy_expr.specs.Reading.{ended, item_begun, item_followed, new_level, took, tree_at, wants, whole, with_before, with_choices};
-ghost use Rattle.policy_expr.specs.Views.{level_of, levels_of, reading_of};
+ghost use Rattle.policy_expr.specs.declared.token.Token.{Token};
+ghost use Rattle.policy_expr.specs.Tree.{either, followed, tree_of};
+ghost use Rattle.policy_expr.specs.Reading.{joined, new_level, read_rest, tree_at, whole};
+ghost use Rattle.policy_expr.specs.Views.{GoesOn, gives, level_of, levels_of};
 
 use crate::counting::MAX_OPEN;
 use crate::fault::{PolicyError, PolicyFault};
@@ -43,7 +44,8 @@ pub(crate) struct Reader<A: Allocator> {
 impl<A: Allocator + Clone> Reader<A> {
     /// Nothing read yet.
     pub(crate) fn new(alloc: A) -> Result<Reader<A>, AllocError>
-        ensures { IfOk result (λ reader. reading_of reader ≡ wants [] new_level) }
+        ensures { IfOk result (λ reader. (rest : List Token)
+            → gives reader rest ≡ read_rest [] new_level None rest) }
     {
         let levels = Vec::new(alloc.clone()?);
         Ok(Reader {
@@ -55,9 +57,8 @@ impl<A: Allocator + Clone> Reader<A> {
     }
 
     /// Takes one token more.
-    #[tactic(auto, unfolding(crate::specs::Reading::took))]
     pub(crate) fn take(self, token: Token) -> Result<Reader<A>, PolicyError>
-        ensures { Reads (λ reader. reading_of reader) result (took (reading_of self) token) }
+        ensures { GoesOn (λ rest. gives self (token ∷ rest)) result }
     {
         let Reader {
             alloc,
@@ -72,9 +73,8 @@ impl<A: Allocator + Clone> Reader<A> {
     }
 
     /// The tree at the end of the text.
-    #[tactic(auto, unfolding(crate::specs::Reading::ended))]
     pub(crate) fn end(self) -> Result<SeqNode<A>, PolicyError>
-        ensures { Reads (λ node. tree_of node) result (ended (reading_of self)) }
+        ensures { Reads (λ node. tree_of node) result (gives self []) }
     {
         let Reader {
             alloc,
@@ -101,8 +101,8 @@ fn begin_item<A: Allocator + Clone>(
     level: Level<A>,
     token: Token,
 ) -> Result<Reader<A>, PolicyError>
-    ensures { Reads (λ reader. reading_of reader) result
-        (item_begun (levels_of levels.items) (level_of level) token) }
+    ensures { GoesOn (λ rest. read_rest (levels_of levels.items) (level_of level) None
+        (token ∷ rest)) result }
 {
     match token {
         Token::Hop(pred) => Ok(Reader {
@@ -135,8 +135,8 @@ fn follow_item<A: Allocator + Clone>(
     item: SeqNode<A>,
     token: Token,
 ) -> Result<Reader<A>, PolicyError>
-    ensures { Reads (λ reader. reading_of reader) result
-        (item_followed (levels_of levels.items) (level_of level) (tree_of item) token) }
+    ensures { GoesOn (λ rest. read_rest (levels_of levels.items) (level_of level)
+        (Some (tree_of item)) (token ∷ rest)) result }
 {
     match token {
         Token::Optional => {
@@ -224,7 +224,7 @@ fn join_choices<A: Allocator + Clone>(
     item: SeqNode<A>,
 ) -> Result<SeqNode<A>, AllocError>
     ensures { IfOk result
-        (λ node. tree_of node ≡ with_choices (option_map tree_of choices) (tree_of item)) }
+        (λ node. tree_of node ≡ joined either (option_map tree_of choices) (tree_of item)) }
 {
     match choices {
         None => Ok(item),
@@ -239,7 +239,7 @@ fn join_before<A: Allocator + Clone>(
     item: SeqNode<A>,
 ) -> Result<SeqNode<A>, AllocError>
     ensures { IfOk result
-        (λ node. tree_of node ≡ with_before (option_map tree_of before) (tree_of item)) }
+        (λ node. tree_of node ≡ joined followed (option_map tree_of before) (tree_of item)) }
 {
     match before {
         None => Ok(item),
@@ -248,7 +248,6 @@ fn join_before<A: Allocator + Clone>(
 }
 
 /// The tree of a text, however large.
-#[tactic(auto, unfolding(crate::specs::Reading::read_on))]
 pub(crate) fn read_tree<A: Allocator + Clone>(
     alloc: A,
     text: &str,

@@ -1,0 +1,136 @@
+-- Reading a sequence step by step, as what its tokens give in one go.
+use Rattle.std.proofs.Common.{◌≡◌, ℕ, Bool, true, false, cond, List, [], ◌∷◌, length, Option, Some, None, refl}
+use Rattle.std.specs.Prelude.{nat_lt, if◌then◌else◌, Result, Ok, Err}
+use Rattle.policy_expr.specs.declared.fault.PolicyFault.{PolicyFault}
+use Rattle.policy_expr.specs.declared.fault.PolicyFault.TheVariants as faults
+use Rattle.policy_expr.specs.declared.token.Token.{Token}
+use Rattle.policy_expr.specs.declared.token.Token.TheVariants as signs
+use Rattle.refusal.specs.Refusal.{◌>>=◌}
+use Rattle.policy_expr.specs.Tokens.{tokens}
+use Rattle.policy_expr.specs.Tree.{Tree, hop, followed, either, optional, repeated, once_or_more}
+use Rattle.policy_expr.specs.Reading.{Level, new_level, joined, whole, read_rest, tree_at}
+
+abbrev pub with_choices : Option Tree → Tree → Tree
+with_choices = joined either
+
+abbrev pub with_before : Option Tree → Tree → Tree
+with_before = joined followed
+
+-- how far the reading is: a level for each parenthesis that is open, the last one first, the level
+-- now, and the item at its end, or none where one must come
+pub record Reading : Type 0 where
+  pub open_levels : List Level
+  pub level : Level
+  pub item : Option Tree
+
+abbrev pub wants : List Level → Level → Reading
+wants levels level = record { open_levels = levels; level = level; item = None }
+
+abbrev pub has : List Level → Level → Tree → Reading
+has levels level item = record { open_levels = levels; level = level; item = Some item }
+
+-- a token where an item must come
+abbrev pub item_begun : List Level → Level → Token → Result Reading PolicyFault
+item_begun levels level (signs.Hop pred) = Ok (has levels level (hop pred))
+item_begun levels level signs.Open = if nat_lt (length levels) 32 then Ok (wants (level ∷ levels) new_level) else Err faults.TooDeep
+item_begun levels level token = Err faults.BadPredicate
+
+-- a parenthesis closed behind an item
+abbrev pub level_closed : List Level → Tree → Result Reading PolicyFault
+level_closed [] item = Err faults.Unbalanced
+level_closed (outer ∷ levels) item = Ok (has levels outer item)
+
+-- a token behind an item
+abbrev pub item_followed : List Level → Level → Tree → Token → Result Reading PolicyFault
+item_followed levels level item signs.Optional = Ok (has levels level (optional item))
+item_followed levels level item signs.OnceOrMore = Ok (has levels level (once_or_more item))
+item_followed levels level item signs.Repeated = Ok (has levels level (repeated item))
+item_followed levels level item signs.Or = Ok (wants levels (record { before = level.before; choices = Some (with_choices level.choices item) }))
+item_followed levels level item signs.Close = level_closed levels (whole level item)
+item_followed levels level item signs.Other = Err faults.BadPredicate
+item_followed levels level item token = item_begun levels (record { before = Some (whole level item); choices = None }) token
+
+abbrev pub took_at : List Level → Level → Option Tree → Token → Result Reading PolicyFault
+took_at levels level None token = item_begun levels level token
+took_at levels level (Some item) token = item_followed levels level item token
+
+-- the reading with one token more
+unfoldable pub took : Reading → Token → Result Reading PolicyFault
+took reading token = took_at reading.open_levels reading.level reading.item token
+
+abbrev pub ended_at : List Level → Level → Option Tree → Result Tree PolicyFault
+ended_at levels level None = Err faults.UnexpectedEnd
+ended_at [] level (Some item) = Ok (whole level item)
+ended_at (outer ∷ levels) level (Some item) = Err faults.Unbalanced
+
+-- the tree at the end of the text
+unfoldable pub ended : Reading → Result Tree PolicyFault
+ended reading = ended_at reading.open_levels reading.level reading.item
+
+-- the rest of the tokens
+unfoldable pub read_on : Reading → List Token → Result Tree PolicyFault
+read_on reading [] = ended reading
+read_on reading (token ∷ later) = do
+  next ← took reading token
+  read_on next later
+
+-- ---- step by step or in one go
+
+-- these tokens give the same at any point of a reading
+abbrev AreSame : List Token → Type 0
+AreSame ts = (levels : List Level) (level : Level) (item : Option Tree)
+    → read_on (record { open_levels = levels; level = level; item = item }) ts ≡ read_rest levels level item ts
+
+end_same : AreSame []
+unfolding read_on ended
+end_same [] level None = refl
+end_same (outer ∷ levels) level None = refl
+end_same [] level (Some item) = refl
+end_same (outer ∷ levels) level (Some item) = refl
+
+module _ (ts : List Token) (rest : AreSame ts) where
+  open_same : (levels : List Level) (level : Level) (room : Bool)
+      → (cond room (Ok (wants (level ∷ levels) new_level)) (Err faults.TooDeep) >>= λ r. read_on r ts)
+      ≡ cond room (read_rest (level ∷ levels) new_level None ts) (Err faults.TooDeep)
+  open_same levels level true = rest (level ∷ levels) new_level None
+  open_same levels level false = refl
+
+  begun_same : (levels : List Level) (level : Level) (token : Token)
+      → (item_begun levels level token >>= λ r. read_on r ts) ≡ read_rest levels level None (token ∷ ts)
+  begun_same levels level (signs.Hop pred) = rest levels level (Some (hop pred))
+  begun_same levels level signs.Open = open_same levels level (nat_lt (length levels) 32)
+  begun_same levels level signs.Optional = refl
+  begun_same levels level signs.OnceOrMore = refl
+  begun_same levels level signs.Repeated = refl
+  begun_same levels level signs.Or = refl
+  begun_same levels level signs.Close = refl
+  begun_same levels level signs.Other = refl
+
+  closed_same : (levels : List Level) (level : Level) (item : Tree)
+      → (level_closed levels (whole level item) >>= λ r. read_on r ts) ≡ read_rest levels level (Some item) (signs.Close ∷ ts)
+  closed_same [] level item = refl
+  closed_same (outer ∷ levels) level item = rest levels outer (Some (whole level item))
+
+  followed_same : (levels : List Level) (level : Level) (item : Tree) (token : Token)
+      → (item_followed levels level item token >>= λ r. read_on r ts) ≡ read_rest levels level (Some item) (token ∷ ts)
+  followed_same levels level item signs.Optional = rest levels level (Some (optional item))
+  followed_same levels level item signs.OnceOrMore = rest levels level (Some (once_or_more item))
+  followed_same levels level item signs.Repeated = rest levels level (Some (repeated item))
+  followed_same levels level item signs.Or = rest levels (record { before = level.before; choices = Some (with_choices level.choices item) }) None
+  followed_same levels level item signs.Close = closed_same levels level item
+  followed_same levels level item signs.Other = refl
+  followed_same levels level item (signs.Hop pred) = begun_same levels (record { before = Some (whole level item); choices = None }) (signs.Hop pred)
+  followed_same levels level item signs.Open = begun_same levels (record { before = Some (whole level item); choices = None }) signs.Open
+
+  one_same : (token : Token) → AreSame (token ∷ ts)
+  unfolding read_on took
+  one_same token levels level None = begun_same levels level token
+  one_same token levels level (Some item) = followed_same levels level item token
+
+all_same : (ts : List Token) → AreSame ts
+all_same [] = end_same
+all_same (token ∷ ts) = one_same ts (all_same ts) token
+
+-- the tree of a text, step by step
+pub tree_is_read : (text : List ℕ) → read_on (wants [] new_level) (tokens text) ≡ tree_at text
+tree_is_read text = all_same (tokens text) [] new_level None
