@@ -4,6 +4,8 @@ use isd_as::{IfId, IsdAs};
 use path_segment::{Beacon, Entry, SegKind, Segment};
 use refusal::OrMemory;
 use scion_topology::Topology;
+use std::alloc::Global;
+use std::process::Abort;
 use std::test::Fail;
 use worked::{at, pair, row};
 
@@ -54,23 +56,63 @@ fn are_wanted(segment: &Segment, all: &[Wanted]) -> bool {
     same
 }
 
+/// The segment of a beacon that begins and goes on at these ASes by these interfaces, and ends in
+/// the last AS.
+fn issued(
+    alloc: Global,
+    topology: &Topology,
+    first: (IsdAs, u16),
+    between: &[(IsdAs, u16)],
+    last: IsdAs,
+    beta0: u16,
+) -> Result<Segment, Fail> {
+    let mut beacon = originate(alloc, topology, first.0, IfId(first.1), 1000, beta0)?;
+    for (ia, egress) in between {
+        beacon = extend(alloc, topology, &beacon, *ia, IfId(*egress))?;
+    }
+    Ok(terminate(alloc, topology, &beacon, last)?)
+}
+
+/// Whether a segment is of this kind, with this first accumulator and these entries.
+fn is_issued(segment: &Segment, kind: SegKind, beta0: u16, all: &[Wanted]) -> bool {
+    segment.kind() == kind && segment.beta0() == beta0 && are_wanted(segment, all)
+}
+
 /// The segment of three ASes in a row.
 #[test]
 fn makes_a_segment(rt: HostRuntime) -> Result<(), Fail> {
     let alloc = rt.alloc();
     let topology = Topology::from_json(alloc, row().as_bytes())?;
-    let begun = originate(alloc, &topology, at(1, 0x110), IfId(1), 1000, 4660)?;
-    let passed_on = extend(alloc, &topology, &begun, at(1, 0x111), IfId(2))?;
-    let segment = terminate(alloc, &topology, &passed_on, at(1, 0x112))?;
-    assert!(rt; segment.kind() == SegKind::Intra);
-    assert_eq!(rt; segment.beta0(), 4660);
+    let between = [(at(1, 0x111), 2)];
+    let segment = issued(
+        alloc,
+        &topology,
+        (at(1, 0x110), 1),
+        &between,
+        at(1, 0x112),
+        4660,
+    )?;
     let all = [
         entry_of(1, 0x110, b"a0", 0, 1),
         entry_of(1, 0x111, b"a1", 1, 2),
         entry_of(1, 0x112, b"a2", 1, 0),
     ];
-    assert!(rt; are_wanted(&segment, &all));
+    assert!(rt; is_issued(&segment, SegKind::Intra, 4660, &all));
     Ok(())
+}
+
+/// Whether the segment from the core AS of an ISD down to the child of its child is as wanted.
+fn goes_down(
+    alloc: Global,
+    topology: &Topology,
+    ends: &[Wanted; 3],
+    out: u16,
+    beta0: u16,
+) -> Result<bool, Fail> {
+    let [first, middle, last] = ends;
+    let between = [(middle.ia, 2)];
+    let segment = issued(alloc, topology, (first.ia, out), &between, last.ia, beta0)?;
+    Ok(is_issued(&segment, SegKind::Intra, beta0, ends))
 }
 
 /// A segment to the children of each of two core ASes, and one between these.
@@ -78,35 +120,71 @@ fn makes_a_segment(rt: HostRuntime) -> Result<(), Fail> {
 fn makes_three_segments(rt: HostRuntime) -> Result<(), Fail> {
     let alloc = rt.alloc();
     let topology = Topology::from_json(alloc, pair().as_bytes())?;
-
-    let begun = originate(alloc, &topology, at(1, 0x110), IfId(1), 1000, 1)?;
-    let passed_on = extend(alloc, &topology, &begun, at(1, 0x111), IfId(2))?;
-    let up = terminate(alloc, &topology, &passed_on, at(1, 0x112))?;
-    let all = [
+    let up = [
         entry_of(1, 0x110, b"k", 0, 1),
         entry_of(1, 0x111, b"k", 1, 2),
         entry_of(1, 0x112, b"k", 1, 0),
     ];
-    assert!(rt; up.kind() == SegKind::Intra && up.beta0() == 1 && are_wanted(&up, &all));
-
-    let begun = originate(alloc, &topology, at(1, 0x110), IfId(2), 1000, 2)?;
-    let core = terminate(alloc, &topology, &begun, at(2, 0x210))?;
+    assert!(rt; goes_down(alloc, &topology, &up, 1, 1)?);
+    let core = issued(alloc, &topology, (at(1, 0x110), 2), &[], at(2, 0x210), 2)?;
     let all = [
         entry_of(1, 0x110, b"k", 0, 2),
         entry_of(2, 0x210, b"k", 1, 0),
     ];
-    assert!(rt; core.kind() == SegKind::Core && core.beta0() == 2 && are_wanted(&core, &all));
-
-    let begun = originate(alloc, &topology, at(2, 0x210), IfId(2), 1000, 3)?;
-    let passed_on = extend(alloc, &topology, &begun, at(2, 0x211), IfId(2))?;
-    let down = terminate(alloc, &topology, &passed_on, at(2, 0x212))?;
-    let all = [
+    assert!(rt; is_issued(&core, SegKind::Core, 2, &all));
+    let down = [
         entry_of(2, 0x210, b"k", 0, 2),
         entry_of(2, 0x211, b"k", 1, 2),
         entry_of(2, 0x212, b"k", 1, 0),
     ];
-    assert!(rt; down.kind() == SegKind::Intra && down.beta0() == 3 && are_wanted(&down, &all));
+    assert!(rt; goes_down(alloc, &topology, &down, 2, 3)?);
     Ok(())
+}
+
+/// The refusal to begin a beacon.
+fn not_begun(alloc: Global, topology: &Topology, ia: IsdAs, egress: u16) -> Option<BeaconFault> {
+    refusal(originate(alloc, topology, ia, IfId(egress), 1000, 4660))
+}
+
+/// The refusal to pass a beacon on.
+fn not_passed(
+    alloc: Global,
+    topology: &Topology,
+    beacon: &Beacon,
+    ia: IsdAs,
+    egress: u16,
+) -> Option<BeaconFault> {
+    refusal(extend(alloc, topology, beacon, ia, IfId(egress)))
+}
+
+/// The refusal to end a beacon.
+fn not_ended(
+    alloc: Global,
+    topology: &Topology,
+    beacon: &Beacon,
+    ia: IsdAs,
+) -> Option<BeaconFault> {
+    refusal(terminate(alloc, topology, beacon, ia))
+}
+
+/// Asserts the refusals on the three ASes in a row, for a beacon that has begun.
+fn expect_refusals(rt: &impl Abort, alloc: Global, topology: &Topology, begun: &Beacon) {
+    for (ia, egress, fault) in [
+        (at(1, 0x111), 2, BeaconFault::NotCore),
+        (at(1, 0x113), 0, BeaconFault::NotCore),
+        (at(1, 0x110), 0, BeaconFault::NoInterface),
+        (at(1, 0x110), 2, BeaconFault::NoInterface),
+    ] {
+        assert!(rt; not_begun(alloc, topology, ia, egress) == Some(fault));
+    }
+    for (ia, egress, fault) in [
+        (at(1, 0x112), 1, BeaconFault::NotHere),
+        (at(1, 0x113), 1, BeaconFault::NotHere),
+        (at(1, 0x111), 9, BeaconFault::NoInterface),
+        (at(1, 0x111), 1, BeaconFault::WrongKind),
+    ] {
+        assert!(rt; not_passed(alloc, topology, begun, ia, egress) == Some(fault));
+    }
 }
 
 /// The refusals on the three ASes in a row.
@@ -116,38 +194,23 @@ fn refuses_in_a_row(rt: HostRuntime) -> Result<(), Fail> {
     let mut topology = Topology::from_json(alloc, row().as_bytes())?;
     let begun = originate(alloc, &topology, at(1, 0x110), IfId(1), 1000, 4660)?;
     let passed_on = extend(alloc, &topology, &begun, at(1, 0x111), IfId(2))?;
-
-    let no_core = originate(alloc, &topology, at(1, 0x111), IfId(2), 1000, 4660);
-    assert!(rt; refusal(no_core) == Some(BeaconFault::NotCore));
-    let unknown = originate(alloc, &topology, at(1, 0x113), IfId(0), 1000, 4660);
-    assert!(rt; refusal(unknown) == Some(BeaconFault::NotCore));
-    for egress in [0, 2] {
-        let nowhere = originate(alloc, &topology, at(1, 0x110), IfId(egress), 1000, 4660);
-        assert!(rt; refusal(nowhere) == Some(BeaconFault::NoInterface));
-    }
-    for (ia, egress, fault) in [
-        (at(1, 0x112), 1, BeaconFault::NotHere),
-        (at(1, 0x113), 1, BeaconFault::NotHere),
-        (at(1, 0x111), 9, BeaconFault::NoInterface),
-        (at(1, 0x111), 1, BeaconFault::WrongKind),
-    ] {
-        let refused = extend(alloc, &topology, &begun, ia, IfId(egress));
-        assert!(rt; refusal(refused) == Some(fault));
-    }
-    let elsewhere = terminate(alloc, &topology, &passed_on, at(1, 0x111));
-    assert!(rt; refusal(elsewhere) == Some(BeaconFault::NotHere));
+    expect_refusals(&rt, alloc, &topology, &begun);
+    let elsewhere = not_ended(alloc, &topology, &passed_on, at(1, 0x111));
+    assert!(rt; elsewhere == Some(BeaconFault::NotHere));
 
     topology.cut_link(at(1, 0x110), IfId(1))?;
-    let cut = originate(alloc, &topology, at(1, 0x110), IfId(1), 1000, 4660);
-    assert!(rt; refusal(cut) == Some(BeaconFault::LinkDown));
-    let came_in = extend(alloc, &topology, &begun, at(1, 0x111), IfId(9));
-    assert!(rt; refusal(came_in) == Some(BeaconFault::LinkDown));
+    let cut = [
+        not_begun(alloc, &topology, at(1, 0x110), 1),
+        not_passed(alloc, &topology, &begun, at(1, 0x111), 9),
+    ];
+    assert!(rt; cut == [Some(BeaconFault::LinkDown); 2]);
     topology.mend_link(at(1, 0x111), IfId(1))?;
     topology.cut_link(at(1, 0x112), IfId(1))?;
-    let goes_out = extend(alloc, &topology, &begun, at(1, 0x111), IfId(2));
-    assert!(rt; refusal(goes_out) == Some(BeaconFault::LinkDown));
-    let ends = terminate(alloc, &topology, &passed_on, at(1, 0x112));
-    assert!(rt; refusal(ends) == Some(BeaconFault::LinkDown));
+    let cut = [
+        not_passed(alloc, &topology, &begun, at(1, 0x111), 2),
+        not_ended(alloc, &topology, &passed_on, at(1, 0x112)),
+    ];
+    assert!(rt; cut == [Some(BeaconFault::LinkDown); 2]);
     Ok(())
 }
 
@@ -170,42 +233,33 @@ fn core_beacons(rt: HostRuntime) -> Result<(), Fail> {
     Ok(())
 }
 
+/// A beacon of 62 entries, the last of them of the first AS of the row.
+fn long_beacon(alloc: Global) -> Result<Beacon, Fail> {
+    let mut entry = Entry {
+        ia: at(1, 1),
+        cons_ingress: IfId(0),
+        cons_egress: IfId(1),
+        exp_time: 63,
+        mac: [0; 6],
+    };
+    let mut beacon = Beacon::first(alloc, SegKind::Intra, 1000, 1, entry)?;
+    entry.cons_ingress = IfId(1);
+    for last in 2..63u64 {
+        entry.ia = at(1, if last == 62 { 0x110 } else { last });
+        beacon = beacon.with_entry(alloc, entry)?;
+    }
+    Ok(beacon)
+}
+
 /// A beacon of 62 entries is not passed on, though it would be refused for the interface too.
 #[test]
 fn longest_beacon(rt: HostRuntime) -> Result<(), Fail> {
     let alloc = rt.alloc();
     let topology = Topology::from_json(alloc, row().as_bytes())?;
-    let mut beacon = Beacon::first(
-        alloc,
-        SegKind::Intra,
-        1000,
-        1,
-        Entry {
-            ia: at(1, 1),
-            cons_ingress: IfId(0),
-            cons_egress: IfId(1),
-            exp_time: 63,
-            mac: [0; 6],
-        },
-    )?;
-    for last in 2..63u64 {
-        let ia = if last == 62 {
-            at(1, 0x110)
-        } else {
-            at(1, last)
-        };
-        let entry = Entry {
-            ia,
-            cons_ingress: IfId(1),
-            cons_egress: IfId(1),
-            exp_time: 63,
-            mac: [0; 6],
-        };
-        beacon = beacon.with_entry(alloc, entry)?;
-    }
+    let beacon = long_beacon(alloc)?;
     assert_eq!(rt; beacon.entries().len(), 62);
-    let longer = extend(alloc, &topology, &beacon, at(1, 0x111), IfId(9));
-    assert!(rt; refusal(longer) == Some(BeaconFault::TooLong));
+    let longer = not_passed(alloc, &topology, &beacon, at(1, 0x111), 9);
+    assert!(rt; longer == Some(BeaconFault::TooLong));
     let segment = terminate(alloc, &topology, &beacon, at(1, 0x111))?;
     assert_eq!(rt; segment.entries().len(), 63);
     Ok(())

@@ -3,6 +3,7 @@ use isd_as::{IfId, IsdAs};
 use path_header::{Header, HeaderFault, HopField, InfoField, encode};
 use router_step::{Arrival, Outcome, Refusal, step};
 use scion_topology::{IfEntry, LinkKind, RouterView, Topology};
+use std::process::Abort;
 use std::test::Fail;
 
 /// The key of every AS of these tests.
@@ -33,36 +34,48 @@ fn address(isd: u64, last: u64) -> IsdAs {
     IsdAs::from_number((isd % 4 << 48) + 0xff00_0000_0000 + last % 0x1_0000)
 }
 
+/// Asserts what a packet of a host is refused by, and that it stays as it is.
+fn expect_refused(
+    rt: &impl Abort,
+    view: &RouterView<'_>,
+    now: u32,
+    packet: [u8; 52],
+    refusal: Refusal,
+) {
+    let mut sent = packet;
+    assert_eq!(rt; step(view, now, Arrival::FromHost, &mut sent), Err(refusal));
+    assert!(rt; sent == packet);
+}
+
+/// Asserts that a packet without its last byte is refused, and stays as it is.
+fn expect_cut_off(rt: &impl Abort, view: &RouterView<'_>) {
+    let mut packet = UP;
+    let short = step(view, 21_701, Arrival::FromHost, &mut packet[..51]);
+    assert_eq!(rt; short, Err(Refusal::BadHeader(HeaderFault::Short)));
+    assert!(rt; packet == UP);
+}
+
 /// A packet of two hops: expired, cut off, sent on, and with a wrong authenticator.
 #[test]
 fn two_hops(rt: HostRuntime) -> Result<(), Fail> {
     let table = [entry(2, LinkKind::Parent, 0)];
     let view = RouterView::new(address(1, 0x111), 0, KEY, None, &table)?;
-
-    let mut packet = UP;
-    let expired = step(&view, 21_701, Arrival::FromHost, &mut packet);
-    assert_eq!(rt; expired, Err(Refusal::Expired));
-    assert_eq!(rt; packet, UP);
-
-    let short = step(&view, 21_701, Arrival::FromHost, &mut packet[..51]);
-    assert_eq!(rt; short, Err(Refusal::BadHeader(HeaderFault::Short)));
-    assert_eq!(rt; packet, UP);
+    expect_refused(&rt, &view, 21_701, UP, Refusal::Expired);
+    expect_cut_off(&rt, &view);
     assert_eq!(rt; Refusal::BadHeader(HeaderFault::Short).code(), 90);
     assert_eq!(rt; Refusal::Expired.name(), "Expired");
 
+    let mut packet = UP;
     packet[34..40].copy_from_slice(&hop_mac(KEY, 0xb396, 100, 63, 2, 0));
     let mut gone = packet;
     assert_eq!(rt; gone[16], 0);
     gone[16] = 1;
     let mut wrong = packet;
     wrong[39] ^= 1;
-    let as_sent = wrong;
     let sent = step(&view, 100, Arrival::FromHost, &mut packet);
     assert_eq!(rt; sent, Ok(Outcome::ToLink(IfId(2))));
-    assert_eq!(rt; packet, gone);
-    let refused = step(&view, 100, Arrival::FromHost, &mut wrong);
-    assert_eq!(rt; refused, Err(Refusal::BadMac));
-    assert_eq!(rt; wrong, as_sent);
+    assert!(rt; packet == gone);
+    expect_refused(&rt, &view, 100, wrong, Refusal::BadMac);
     Ok(())
 }
 
@@ -92,9 +105,8 @@ fn info(construction: bool, seg_id: u16) -> InfoField {
     }
 }
 
-/// An up, a core and a down segment through six ASes of two routers each.
-#[test]
-fn three_segments(rt: HostRuntime) -> Result<(), Fail> {
+/// The header of a path over an up, a core and a down segment, of three ASes, two and three.
+fn header_of_three() -> Result<Header, HeaderFault> {
     let mut up = [HopField::default(); 3];
     let mut core = [HopField::default(); 2];
     let mut down = [HopField::default(); 3];
@@ -105,105 +117,76 @@ fn three_segments(rt: HostRuntime) -> Result<(), Fail> {
         up[2], up[1], up[0], core[0], core[1], down[0], down[1], down[2],
     ];
     let infos = [info(false, seg_id), info(true, 2), info(true, 3)];
-    let header = Header::new([3, 2, 3], &infos, &hops)?;
+    Header::new([3, 2, 3], &infos, &hops)
+}
 
+/// Onto the link of this interface.
+fn to_link(number: u16) -> Outcome {
+    Outcome::ToLink(IfId(number))
+}
+
+/// From the link of this interface.
+fn from_link(number: u16) -> Arrival {
+    Arrival::Link(IfId(number))
+}
+
+/// Asserts what a turn of a router of an AS over a packet leads to.
+fn expect_turn(
+    rt: &impl Abort,
+    (ia, router): (IsdAs, u8),
+    table: &[IfEntry],
+    arrival: Arrival,
+    packet: &mut [u8],
+    outcome: Outcome,
+) -> Result<(), Fail> {
+    let view = RouterView::new(ia, router, KEY, None, table)?;
+    assert_eq!(rt; step(&view, NOW, arrival, packet), Ok(outcome));
+    Ok(())
+}
+
+/// An up, a core and a down segment through six ASes of two routers each.
+#[test]
+fn three_segments(rt: HostRuntime) -> Result<(), Fail> {
     let mut packet = [0u8; 141];
     packet[..8].copy_from_slice(&address(2, 0x212).to_bytes());
     packet[8..16].copy_from_slice(&address(1, 0x112).to_bytes());
     packet[140] = 0x77;
-    let _ = encode(&header, &mut packet[16..])?;
+    let _ = encode(&header_of_three()?, &mut packet[16..])?;
     assert!(rt; &packet[16..20] == [0x00, 0x00, 0x30, 0x83].as_slice());
 
     let leaf = [entry(1, LinkKind::Parent, 0)];
     let middle = [entry(1, LinkKind::Parent, 0), entry(2, LinkKind::Child, 1)];
     let first_core = [entry(1, LinkKind::Child, 0), entry(2, LinkKind::Core, 1)];
     let second_core = [entry(1, LinkKind::Core, 0), entry(2, LinkKind::Child, 1)];
-    let turns: [(u64, u64, u8, &[IfEntry], Arrival, Outcome); 10] = [
+    let inside = Arrival::Inside;
+    let other = Outcome::ToRouter(1);
+    let turns: [(IsdAs, u8, &[IfEntry], Arrival, Outcome); 10] = [
+        (address(1, 0x112), 0, &leaf, Arrival::FromHost, to_link(1)),
         (
-            1,
-            0x112,
-            0,
-            &leaf,
-            Arrival::FromHost,
-            Outcome::ToLink(IfId(1)),
-        ),
-        (
-            1,
-            0x111,
+            address(1, 0x111),
             1,
             &middle,
-            Arrival::Link(IfId(2)),
+            from_link(2),
             Outcome::ToRouter(0),
         ),
-        (
-            1,
-            0x111,
-            0,
-            &middle,
-            Arrival::Inside,
-            Outcome::ToLink(IfId(1)),
-        ),
-        (
-            1,
-            0x110,
-            0,
-            &first_core,
-            Arrival::Link(IfId(1)),
-            Outcome::ToRouter(1),
-        ),
-        (
-            1,
-            0x110,
-            1,
-            &first_core,
-            Arrival::Inside,
-            Outcome::ToLink(IfId(2)),
-        ),
-        (
-            2,
-            0x210,
-            0,
-            &second_core,
-            Arrival::Link(IfId(1)),
-            Outcome::ToRouter(1),
-        ),
-        (
-            2,
-            0x210,
-            1,
-            &second_core,
-            Arrival::Inside,
-            Outcome::ToLink(IfId(2)),
-        ),
-        (
-            2,
-            0x211,
-            0,
-            &middle,
-            Arrival::Link(IfId(1)),
-            Outcome::ToRouter(1),
-        ),
-        (
-            2,
-            0x211,
-            1,
-            &middle,
-            Arrival::Inside,
-            Outcome::ToLink(IfId(2)),
-        ),
-        (2, 0x212, 0, &leaf, Arrival::Link(IfId(1)), Outcome::Deliver),
+        (address(1, 0x111), 0, &middle, inside, to_link(1)),
+        (address(1, 0x110), 0, &first_core, from_link(1), other),
+        (address(1, 0x110), 1, &first_core, inside, to_link(2)),
+        (address(2, 0x210), 0, &second_core, from_link(1), other),
+        (address(2, 0x210), 1, &second_core, inside, to_link(2)),
+        (address(2, 0x211), 0, &middle, from_link(1), other),
+        (address(2, 0x211), 1, &middle, inside, to_link(2)),
+        (address(2, 0x212), 0, &leaf, from_link(1), Outcome::Deliver),
     ];
-    for (isd, last, router, table, arrival, outcome) in turns.iter() {
-        let view = RouterView::new(address(*isd, *last), *router, KEY, None, table)?;
-        assert_eq!(rt; step(&view, NOW, *arrival, &mut packet), Ok(*outcome));
+    for (ia, router, table, arrival, outcome) in turns {
+        expect_turn(&rt, (ia, router), table, arrival, &mut packet, outcome)?;
     }
     assert_eq!(rt; packet[140], 0x77);
     Ok(())
 }
 
-/// A shortcut at a common AS of an up and a down segment, with one router there and with two.
-#[test]
-fn shortcut(rt: HostRuntime) -> Result<(), Fail> {
+/// The packet of a host of the one child of an AS to one of the other, by a shortcut at that AS.
+fn over_a_shortcut() -> Result<[u8; 84], HeaderFault> {
     let mut up = [HopField::default(); 3];
     let mut down = [HopField::default(); 3];
     let (_, last) = make(&mut up, &[(0, 1), (1, 2), (1, 0)], 7);
@@ -211,33 +194,62 @@ fn shortcut(rt: HostRuntime) -> Result<(), Fail> {
     let infos = [info(false, last), info(true, second)];
     let travelled = [up[2], up[1], down[1], down[2]];
     let header = Header::new([2, 2, 0], &infos, &travelled)?;
+    let mut packet = [0u8; 84];
+    packet[..8].copy_from_slice(&address(1, 0x113).to_bytes());
+    packet[8..16].copy_from_slice(&address(1, 0x112).to_bytes());
+    let _ = encode(&header, &mut packet[16..])?;
+    Ok(packet)
+}
 
+/// A shortcut at a common AS of an up and a down segment, with one router there and with two.
+#[test]
+fn shortcut(rt: HostRuntime) -> Result<(), Fail> {
     let leaf = [entry(1, LinkKind::Parent, 0)];
+    let (first, common, last) = (address(1, 0x112), address(1, 0x111), address(1, 0x113));
     for routers in 1..3 {
         let middle = [
             entry(1, LinkKind::Parent, 0),
             entry(2, LinkKind::Child, 0),
             entry(3, LinkKind::Child, routers - 1),
         ];
-        let mut packet = [0u8; 84];
-        packet[..8].copy_from_slice(&address(1, 0x113).to_bytes());
-        packet[8..16].copy_from_slice(&address(1, 0x112).to_bytes());
-        let _ = encode(&header, &mut packet[16..])?;
-
-        let first = RouterView::new(address(1, 0x112), 0, KEY, None, &leaf)?;
-        let sent = step(&first, NOW, Arrival::FromHost, &mut packet);
-        assert_eq!(rt; sent, Ok(Outcome::ToLink(IfId(1))));
-        let second = RouterView::new(address(1, 0x111), 0, KEY, None, &middle)?;
-        let mut met = step(&second, NOW, Arrival::Link(IfId(2)), &mut packet);
+        let mut packet = over_a_shortcut()?;
+        expect_turn(
+            &rt,
+            (first, 0),
+            &leaf,
+            Arrival::FromHost,
+            &mut packet,
+            to_link(1),
+        )?;
         if routers == 2 {
-            assert_eq!(rt; met, Ok(Outcome::ToRouter(1)));
-            let other = RouterView::new(address(1, 0x111), 1, KEY, None, &middle)?;
-            met = step(&other, NOW, Arrival::Inside, &mut packet);
+            let other = Outcome::ToRouter(1);
+            expect_turn(&rt, (common, 0), &middle, from_link(2), &mut packet, other)?;
+            expect_turn(
+                &rt,
+                (common, 1),
+                &middle,
+                Arrival::Inside,
+                &mut packet,
+                to_link(3),
+            )?;
+        } else {
+            expect_turn(
+                &rt,
+                (common, 0),
+                &middle,
+                from_link(2),
+                &mut packet,
+                to_link(3),
+            )?;
         }
-        assert_eq!(rt; met, Ok(Outcome::ToLink(IfId(3))));
-        let third = RouterView::new(address(1, 0x113), 0, KEY, None, &leaf)?;
-        let came = step(&third, NOW, Arrival::Link(IfId(1)), &mut packet);
-        assert_eq!(rt; came, Ok(Outcome::Deliver));
+        expect_turn(
+            &rt,
+            (last, 0),
+            &leaf,
+            from_link(1),
+            &mut packet,
+            Outcome::Deliver,
+        )?;
     }
     Ok(())
 }

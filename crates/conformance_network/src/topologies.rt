@@ -4,6 +4,8 @@ use hop_mac::hop_mac;
 use isd_as::{IfId, IsdAs};
 use refusal::OrMemory;
 use scion_topology::{AsInfo, IfEntry, LinkKind, RouterView, Topology, TopologyFault};
+use std::alloc::Global;
+use std::process::Abort;
 use std::test::Fail;
 
 const IA: u64 = 0x0001_ff00_0000_0111;
@@ -69,77 +71,62 @@ fn at(number: u64) -> IsdAs {
 }
 
 /// The text with one change, at the first place where `old` stands in it.
-fn changed(rt: &HostRuntime, old: &str, new: &str) -> Result<String, Fail> {
+fn changed(alloc: Global, old: &str, new: &str) -> Result<String, Fail> {
     let (front, back) = THREE.split_once(old).ok_or("the text to change is there")?;
-    Ok(format!(in rt.alloc(); "{front}{new}{back}")?)
+    Ok(format!(in alloc; "{front}{new}{back}")?)
+}
+
+/// Asserts what the text is refused by with one change.
+fn expect_cause(
+    rt: &impl Abort,
+    alloc: Global,
+    old: &str,
+    new: &str,
+    fault: TopologyFault,
+    code: u16,
+) -> Result<(), Fail> {
+    let text = changed(alloc, old, new)?;
+    let read = Topology::from_json(alloc, text.as_bytes());
+    assert!(rt; read.err() == Some(OrMemory::Refused(fault)), "{new}");
+    assert_eq!(rt; fault.code(), code, "{new}");
+    Ok(())
+}
+
+/// Asserts what a change of a field to one that is not as it must be is refused by.
+fn expect_bad_field(rt: &impl Abort, alloc: Global, old: &str, new: &str) -> Result<(), Fail> {
+    expect_cause(rt, alloc, old, new, TopologyFault::BadField, 11)
 }
 
 /// One change each, and the refusal that it leads to.
 #[test]
 fn first_cause_is_reported(rt: HostRuntime) -> Result<(), Fail> {
-    let rows = [
-        (THREE, "{", TopologyFault::NotJson, 10),
-        (r#""exp":63"#, r#""exp":256"#, TopologyFault::BadField, 11),
-        (
-            r#""key":"6131""#,
-            r#""key":"613""#,
-            TopologyFault::BadField,
-            11,
-        ),
-        (
-            r#""core":true"#,
-            r#""core":null"#,
-            TopologyFault::BadField,
-            11,
-        ),
-        (
-            r#""routers":1"#,
-            r#""routers":1.0"#,
-            TopologyFault::BadField,
-            11,
-        ),
-        (
-            r#""ia":"1-ff00:0:110""#,
-            r#""ia":"0-ff00:0:110""#,
-            TopologyFault::BadField,
-            11,
-        ),
-        (r#""links""#, r#""places""#, TopologyFault::BadField, 11),
-        (
-            r#""ia":"1-ff00:0:111""#,
-            r#""ia":"1-ff00:0:110""#,
-            TopologyFault::DuplicateAs,
-            12,
-        ),
-        (
-            r#""b":{"ia":"1-ff00:0:112""#,
-            r#""b":{"ia":"1-ff00:0:113""#,
-            TopologyFault::UnknownAs,
-            14,
-        ),
-        (
-            r#""if":2,"router":0"#,
-            r#""if":2,"router":1"#,
-            TopologyFault::NoRouter,
-            16,
-        ),
-        (
-            r#""kind":"child""#,
-            r#""kind":"core""#,
-            TopologyFault::BadKind,
-            15,
-        ),
-        (r#""if":2"#, r#""if":1"#, TopologyFault::DuplicateIf, 13),
-    ];
-    for (old, new, fault, code) in rows {
-        let text = changed(&rt, old, new)?;
-        let read = Topology::from_json(rt.alloc(), text.as_bytes());
-        assert!(rt; read.err() == Some(OrMemory::Refused(fault)), "{new}");
-        assert_eq!(rt; fault.code(), code, "{new}");
-    }
-    let empty = Topology::from_json(rt.alloc(), br#"{"ases":[],"links":[]}"#);
+    let alloc = rt.alloc();
+    expect_cause(&rt, alloc, THREE, "{", TopologyFault::NotJson, 10)?;
+    expect_bad_field(&rt, alloc, r#""exp":63"#, r#""exp":256"#)?;
+    expect_bad_field(&rt, alloc, r#""key":"6131""#, r#""key":"613""#)?;
+    expect_bad_field(&rt, alloc, r#""core":true"#, r#""core":null"#)?;
+    expect_bad_field(&rt, alloc, r#""routers":1"#, r#""routers":1.0"#)?;
+    expect_bad_field(&rt, alloc, "1-ff00:0:110", "0-ff00:0:110")?;
+    expect_bad_field(&rt, alloc, r#""links""#, r#""places""#)?;
+    let (old, new) = ("1-ff00:0:111", "1-ff00:0:110");
+    expect_cause(&rt, alloc, old, new, TopologyFault::DuplicateAs, 12)?;
+    let (old, new) = (r#""b":{"ia":"1-ff00:0:112""#, r#""b":{"ia":"1-ff00:0:113""#);
+    expect_cause(&rt, alloc, old, new, TopologyFault::UnknownAs, 14)?;
+    let (old, new) = (r#""if":2,"router":0"#, r#""if":2,"router":1"#);
+    expect_cause(&rt, alloc, old, new, TopologyFault::NoRouter, 16)?;
+    let (old, new) = (r#""kind":"child""#, r#""kind":"core""#);
+    expect_cause(&rt, alloc, old, new, TopologyFault::BadKind, 15)?;
+    expect_cause(
+        &rt,
+        alloc,
+        r#""if":2"#,
+        r#""if":1"#,
+        TopologyFault::DuplicateIf,
+        13,
+    )?;
+    let empty = Topology::from_json(alloc, br#"{"ases":[],"links":[]}"#);
     assert!(rt; empty.err() == Some(OrMemory::Refused(TopologyFault::TooMany)));
-    let no_text = Topology::from_json(rt.alloc(), b"\"\xff\"");
+    let no_text = Topology::from_json(alloc, b"\"\xff\"");
     assert!(rt; no_text.err() == Some(OrMemory::Refused(TopologyFault::NotJson)));
     Ok(())
 }
@@ -152,6 +139,29 @@ fn fronts_are_not_json(rt: HostRuntime) {
         let read = Topology::from_json(rt.alloc(), &bytes[..len]);
         assert!(rt; read.err() == Some(OrMemory::Refused(TopologyFault::NotJson)));
     }
+}
+
+/// Asserts which ends of links the three ASes have.
+fn expect_ends(rt: &impl Abort, topology: &Topology) {
+    let ends = [
+        (at(TOP), IfId(1), Ok((at(MIDDLE), IfId(1)))),
+        (at(LEAF), IfId(1), Ok((at(MIDDLE), IfId(2)))),
+        (at(1), IfId(0), Err(TopologyFault::UnknownAs)),
+    ];
+    for (ia, number, end) in ends {
+        assert_eq!(rt; topology.far_end(ia, number), end);
+    }
+    assert!(rt; topology.owner(at(MIDDLE), IfId(2)) == Ok(0));
+    assert!(rt; topology.owner(at(TOP), IfId(2)) == Err(TopologyFault::NoLink));
+}
+
+/// Asserts what the view of the middle AS shows.
+fn expect_view(rt: &impl Abort, view: &RouterView<'_>) {
+    assert!(rt; view.key() == b"a1".as_slice());
+    assert!(rt; view.entry(IfId(1)) == Some(&entry(1, LinkKind::Parent, 0)));
+    assert!(rt; view.entry(IfId(2)) == Some(&entry(2, LinkKind::Child, 0)));
+    let mac = hop_mac(b"a1", 7, 100, 63, 1, 2);
+    assert!(rt; view.authenticates(&mac, 7, 100, 63, IfId(1), IfId(2)));
 }
 
 /// What is asked of the three ASes.
@@ -168,33 +178,34 @@ fn answers_what_was_read(rt: HostRuntime) -> Result<(), Fail> {
     assert!(rt; topology.as_entry(at(TOP))?.core);
     assert!(rt; topology.as_entry(at(1)).err() == Some(TopologyFault::UnknownAs));
     assert!(rt; topology.interface(at(MIDDLE), IfId(2))? == &entry(2, LinkKind::Child, 0));
-    assert_eq!(rt; topology.far_end(at(TOP), IfId(1))?, (at(MIDDLE), IfId(1)));
-    assert_eq!(rt; topology.far_end(at(LEAF), IfId(1))?, (at(MIDDLE), IfId(2)));
-    assert_eq!(rt; topology.owner(at(MIDDLE), IfId(2))?, 0);
-    assert_eq!(rt;
-        topology.owner(at(TOP), IfId(2)),
-        Err(TopologyFault::NoLink)
-    );
-    assert_eq!(rt;
-        topology.far_end(at(1), IfId(0)),
-        Err(TopologyFault::UnknownAs)
-    );
+    expect_ends(&rt, &topology);
     assert!(rt; topology.view(at(TOP), 1).err() == Some(TopologyFault::NoRouter));
-    let view = topology.view(at(MIDDLE), 0)?;
-    assert!(rt; view.key() == b"a1".as_slice());
-    assert!(rt; view.entry(IfId(1)) == Some(&entry(1, LinkKind::Parent, 0)));
-    assert!(rt; view.entry(IfId(2)) == Some(&entry(2, LinkKind::Child, 0)));
-    assert!(rt;
-        view.authenticates(
-            &hop_mac(b"a1", 7, 100, 63, 1, 2),
-            7,
-            100,
-            63,
-            IfId(1),
-            IfId(2)
-        )
-    );
+    expect_view(&rt, &topology.view(at(MIDDLE), 0)?);
     Ok(())
+}
+
+/// Whether the link at an interface of an AS is up, where the AS has it.
+fn is_up(topology: &Topology, ia: u64, number: u16) -> Result<Option<bool>, TopologyFault> {
+    let view = topology.view(at(ia), 0)?;
+    Ok(view.entry(IfId(number)).map(|entry| entry.up))
+}
+
+/// Whether an AS has this key, and the other before it.
+fn has_keys(
+    topology: &Topology,
+    ia: u64,
+    key: &[u8],
+    before: Option<&[u8]>,
+) -> Result<bool, TopologyFault> {
+    let view = topology.view(at(ia), 0)?;
+    Ok(view.key() == key && view.previous() == before)
+}
+
+/// Asserts what changes are refused by.
+fn expect_no_change(rt: &impl Abort, topology: &mut Topology) {
+    assert!(rt; topology.cut_link(at(TOP), IfId(0)) == Err(TopologyFault::NoLink));
+    assert!(rt; topology.rotate_key(at(LEAF), b"") == Err(TopologyFault::BadField));
+    assert!(rt; topology.rotate_key(at(1), b"") == Err(TopologyFault::UnknownAs));
 }
 
 /// A cut and a mend, named by either end, and another key.
@@ -209,37 +220,16 @@ fn changes_what_is_named(rt: HostRuntime) -> Result<(), Fail> {
         (MIDDLE, 1, true),
         (TOP, 1, true),
     ] {
-        let view = topology.view(at(ia), 0)?;
-        assert!(rt; view.entry(IfId(number)).map(|entry| entry.up) == Some(up));
+        assert!(rt; is_up(&topology, ia, number)? == Some(up));
     }
     topology.mend_link(at(MIDDLE), IfId(2))?;
-    assert!(rt;
-        topology
-            .view(at(LEAF), 0)?
-            .entry(IfId(1))
-            .map(|entry| entry.up)
-            == Some(true)
-    );
-    assert_eq!(rt;
-        topology.cut_link(at(TOP), IfId(0)),
-        Err(TopologyFault::NoLink)
-    );
-    assert_eq!(rt;
-        topology.rotate_key(at(LEAF), b""),
-        Err(TopologyFault::BadField)
-    );
-    assert_eq!(rt;
-        topology.rotate_key(at(1), b""),
-        Err(TopologyFault::UnknownAs)
-    );
+    assert!(rt; is_up(&topology, LEAF, 1)? == Some(true));
+    expect_no_change(&rt, &mut topology);
     for (key, before) in [(b"a3", b"a2"), (b"a4", b"a3")] {
         topology.rotate_key(at(LEAF), key)?;
-        let view = topology.view(at(LEAF), 0)?;
-        assert!(rt; view.key() == key.as_slice());
-        assert!(rt; view.previous() == Some(before.as_slice()));
+        assert!(rt; has_keys(&topology, LEAF, key, Some(before))?);
     }
-    assert!(rt; topology.view(at(MIDDLE), 0)?.previous().is_none());
-    assert!(rt; topology.view(at(MIDDLE), 0)?.key() == b"a1".as_slice());
+    assert!(rt; has_keys(&topology, MIDDLE, b"a1", None)?);
     Ok(())
 }
 

@@ -5,7 +5,9 @@ use path_header::encode;
 use path_segment::{Entry, SegKind, Segment};
 use path_server::{PathStore, SegmentSet};
 use policy_expr::{AclText, OptionText, PolicyOption, PolicyText, WalkHop};
-use std::alloc::Global;
+use std::alloc::{AllocError, Global};
+use std::process::Abort;
+use std::slice;
 use std::test::Fail;
 use worked::{at, policy};
 
@@ -136,6 +138,20 @@ fn only_header(
     header_of_one(alloc, &list)
 }
 
+/// Asserts the header of the only path over these segments at a second, by its fields' digits.
+fn expect_header(
+    rt: &impl Abort,
+    alloc: Global,
+    segments: &[Segment],
+    ends: (IsdAs, IsdAs),
+    now: u32,
+    fields: &[&str],
+) -> Result<(), Fail> {
+    let header = only_header(alloc, segments, ends.0, ends.1, now)?;
+    assert_eq!(rt; header.as_str(), joined(alloc, fields)?.as_str());
+    Ok(())
+}
+
 /// The worked segment of two ASes, made at a second with a first accumulator.
 fn two_ases(alloc: Global, timestamp: u32, beta0: u16) -> Result<Segment, Fail> {
     let rows = [
@@ -145,25 +161,28 @@ fn two_ases(alloc: Global, timestamp: u32, beta0: u16) -> Result<Segment, Fail> 
     segment(alloc, SegKind::Intra, timestamp, beta0, &rows)
 }
 
+/// Two segments of the worked walk, each made at a second with a first accumulator.
+fn twice(alloc: Global, first: (u32, u16), second: (u32, u16)) -> Result<Vec<Segment>, Fail> {
+    Ok(vec![in alloc;
+        two_ases(alloc, first.0, first.1)?,
+        two_ases(alloc, second.0, second.1)?,
+    ]?)
+}
+
 /// Of two segments of one walk the later one stands for it, and of two that expire at one moment
 /// the one with the lesser bytes, in either order of registration.
 #[test]
 fn one_header_for_a_walk(rt: HostRuntime) -> Result<(), Fail> {
-    let alloc = rt.alloc();
-    let (src, dst) = (at(1, 0x111), at(1, 0x110));
     let rows = [
-        (100, 4660, 100, 4660, "00000064"),
-        (100, 4660, 200, 4660, "000000c8"),
-        (200, 4660, 100, 4660, "000000c8"),
-        (100, 4660, 100, 4661, "00000064"),
-        (100, 4661, 100, 4660, "00000064"),
+        ((100, 4660), (100, 4660), "00000064"),
+        ((100, 4660), (200, 4660), "000000c8"),
+        ((200, 4660), (100, 4660), "000000c8"),
+        ((100, 4660), (100, 4661), "00000064"),
+        ((100, 4661), (100, 4660), "00000064"),
     ];
-    for (first, beta, second, other, timestamp) in rows {
-        let segments = vec![in alloc;
-            two_ases(alloc, first, beta)?,
-            two_ases(alloc, second, other)?,
-        ]?;
-        let header = only_header(alloc, &segments, src, dst, 100)?;
+    for (first, second, timestamp) in rows {
+        let segments = twice(rt.alloc(), first, second)?;
+        let ends = (at(1, 0x111), at(1, 0x110));
         let fields = [
             "00002000",
             "0000b396",
@@ -171,7 +190,7 @@ fn one_header_for_a_walk(rt: HostRuntime) -> Result<(), Fail> {
             "003f00020000b1b2b3b4b5b6",
             "003f00000001a1a2a3a4a5a6",
         ];
-        assert_eq!(rt; header.as_str(), joined(alloc, &fields)?.as_str());
+        expect_header(&rt, rt.alloc(), &segments, ends, 100, &fields)?;
     }
     Ok(())
 }
@@ -191,40 +210,37 @@ fn way_up() -> &'static str {
     "1; 1-ff00:0:112#0,1 1-ff00:0:111#2,1 1-ff00:0:110#1,0"
 }
 
+/// Asserts the answer over the three ASes in a row between two of them, under a policy.
+fn expect_answer(
+    rt: &impl Abort,
+    alloc: Global,
+    ends: (u64, u64),
+    acl: &[&str],
+    sequence: &str,
+    told: &str,
+) -> Result<(), Fail> {
+    let segment = three_ases(alloc)?;
+    let (src, dst) = (at(1, ends.0), at(1, ends.1));
+    let set = set_of(alloc, slice::from_ref(&segment), src, dst, 1000)?;
+    let answer = ask(alloc, &set, src, dst, acl, sequence)?;
+    assert_eq!(rt; answer.as_str(), told);
+    Ok(())
+}
+
 /// Paths that end and begin inside a segment, and paths that a policy denies or asks for.
 #[test]
 fn three_ases_in_a_row(rt: HostRuntime) -> Result<(), Fail> {
     let alloc = rt.alloc();
-    let segments = vec![in alloc; three_ases(alloc)?]?;
+    let whole = (0x112, 0x110);
     let deny = ["- 1-ff00:0:111", "+"];
-    let rows = [
-        (0x112, 0x110, false, "", way_up()),
-        (
-            0x112,
-            0x111,
-            false,
-            "",
-            "1; 1-ff00:0:112#0,1 1-ff00:0:111#2,0",
-        ),
-        (
-            0x111,
-            0x112,
-            false,
-            "",
-            "1; 1-ff00:0:111#0,2 1-ff00:0:112#1,0",
-        ),
-        (0x111, 0x111, false, "", "no 85 SameAs"),
-        (0x112, 0x110, true, "", "0"),
-        (0x112, 0x110, false, "0* 1-ff00:0:110", way_up()),
-    ];
-    for (src, dst, denies, sequence, told) in rows {
-        let (src, dst) = (at(1, src), at(1, dst));
-        let acl: &[&str] = if denies { &deny } else { &[] };
-        let set = set_of(alloc, &segments, src, dst, 1000)?;
-        let answer = ask(alloc, &set, src, dst, acl, sequence)?;
-        assert_eq!(rt; answer.as_str(), told);
-    }
-    Ok(())
+    expect_answer(&rt, alloc, whole, &[], "", way_up())?;
+    let told = "1; 1-ff00:0:112#0,1 1-ff00:0:111#2,0";
+    expect_answer(&rt, alloc, (0x112, 0x111), &[], "", told)?;
+    let told = "1; 1-ff00:0:111#0,2 1-ff00:0:112#1,0";
+    expect_answer(&rt, alloc, (0x111, 0x112), &[], "", told)?;
+    expect_answer(&rt, alloc, (0x111, 0x111), &[], "", "no 85 SameAs")?;
+    expect_answer(&rt, alloc, whole, &deny, "", "0")?;
+    expect_answer(&rt, alloc, whole, &[], "0* 1-ff00:0:110", way_up())
 }
 
 /// A segment in each of two ISDs, and one between their core ASes, with the key `k` everywhere.
@@ -257,6 +273,20 @@ fn ask_plainly(alloc: Global, segments: &[Segment], src: &str, dst: &str) -> Res
     ask(alloc, &set, src, dst, &[], "")
 }
 
+/// Asserts that answer, by its parts.
+fn expect_told(
+    rt: &impl Abort,
+    alloc: Global,
+    segments: &[Segment],
+    src: &str,
+    dst: &str,
+    told: &[&str],
+) -> Result<(), Fail> {
+    let answer = ask_plainly(alloc, segments, src, dst)?;
+    assert_eq!(rt; answer.as_str(), joined(alloc, told)?.as_str());
+    Ok(())
+}
+
 /// Paths of one core segment either way, beside an up and a down segment, and between both.
 #[test]
 fn two_core_ases(rt: HostRuntime) -> Result<(), Fail> {
@@ -274,8 +304,7 @@ fn two_core_ases(rt: HostRuntime) -> Result<(), Fail> {
         ("1-ff00:0:112", "3-1", ["0", "", ""]),
     ];
     for (src, dst, told) in rows {
-        let answer = ask_plainly(alloc, &segments, src, dst)?;
-        assert_eq!(rt; answer.as_str(), joined(alloc, &told)?.as_str());
+        expect_told(&rt, alloc, &segments, src, dst, &told)?;
     }
     Ok(())
 }
@@ -284,9 +313,8 @@ fn two_core_ases(rt: HostRuntime) -> Result<(), Fail> {
 /// travel.
 #[test]
 fn header_of_three_pieces(rt: HostRuntime) -> Result<(), Fail> {
-    let alloc = rt.alloc();
-    let segments = two_isds(alloc)?;
-    let header = only_header(alloc, &segments, at(1, 0x112), at(2, 0x212), 1000)?;
+    let segments = two_isds(rt.alloc())?;
+    let ends = (at(1, 0x112), at(2, 0x212));
     let fields = [
         "00003083",
         "0000aeca000003e8",
@@ -301,15 +329,11 @@ fn header_of_three_pieces(rt: HostRuntime) -> Result<(), Fail> {
         "003f00010002d3b7021bbb48",
         "003f00010000eb377de2cb1b",
     ];
-    assert_eq!(rt; header.as_str(), joined(alloc, &fields)?.as_str());
-    Ok(())
+    expect_header(&rt, rt.alloc(), &segments, ends, 1000, &fields)
 }
 
-/// Two children of one AS: the path between them turns there, and not in the core AS, where its
-/// walk would name that AS twice.
-#[test]
-fn two_children(rt: HostRuntime) -> Result<(), Fail> {
-    let alloc = rt.alloc();
+/// A segment to each of two children of one AS.
+fn to_two_children(alloc: Global) -> Result<Vec<Segment>, Fail> {
     let (core, middle) = (at(1, 0x110), at(1, 0x111));
     let one = [
         (core, 0, 1, 0x332c_9785_f7e4),
@@ -321,14 +345,20 @@ fn two_children(rt: HostRuntime) -> Result<(), Fail> {
         (middle, 1, 3, 0xb3a2_9c66_42fc),
         (at(1, 0x113), 1, 0, 0x85de_5807_e161),
     ];
-    let segments = vec![in alloc;
+    Ok(vec![in alloc;
         segment(alloc, SegKind::Intra, 1000, 7, &one)?,
         segment(alloc, SegKind::Intra, 1000, 7, &other)?,
-    ]?;
-    let answer = ask_plainly(alloc, &segments, "1-ff00:0:112", "1-ff00:0:113")?;
-    let told = "1; 1-ff00:0:112#0,1 1-ff00:0:111#2,3 1-ff00:0:113#1,0";
-    assert_eq!(rt; answer.as_str(), told);
-    let header = only_header(alloc, &segments, at(1, 0x112), at(1, 0x113), 1000)?;
+    ]?)
+}
+
+/// Two children of one AS: the path between them turns there, and not in the core AS, where its
+/// walk would name that AS twice.
+#[test]
+fn two_children(rt: HostRuntime) -> Result<(), Fail> {
+    let alloc = rt.alloc();
+    let segments = to_two_children(alloc)?;
+    let told = ["1; 1-ff00:0:112#0,1 1-ff00:0:111#2,3 1-ff00:0:113#1,0"];
+    expect_told(&rt, alloc, &segments, "1-ff00:0:112", "1-ff00:0:113", &told)?;
     let fields = [
         "00002080",
         "000075fa000003e8",
@@ -338,8 +368,8 @@ fn two_children(rt: HostRuntime) -> Result<(), Fail> {
         "003f00010003b3a29c6642fc",
         "003f0001000085de5807e161",
     ];
-    assert_eq!(rt; header.as_str(), joined(alloc, &fields)?.as_str());
-    Ok(())
+    let ends = (at(1, 0x112), at(1, 0x113));
+    expect_header(&rt, alloc, &segments, ends, 1000, &fields)
 }
 
 /// Of the three ASes in a row a segment over each of two links between the first two, whose first
@@ -377,56 +407,62 @@ fn order_of_two_links(rt: HostRuntime) -> Result<(), Fail> {
     let other = "1-ff00:0:112#0,1 1-ff00:0:111#2,3 1-ff00:0:110#2,0";
     for (turned, first, second) in [(false, one, other), (true, other, one)] {
         let mut segments = two_links(alloc, turned)?;
-        let told = joined(alloc, &["2; ", first, "; ", second])?;
+        let told = ["2; ", first, "; ", second];
         for _ in 0..2 {
-            let answer = ask_plainly(alloc, &segments, "1-ff00:0:112", "1-ff00:0:110")?;
-            assert_eq!(rt; answer.as_str(), told.as_str());
+            expect_told(&rt, alloc, &segments, "1-ff00:0:112", "1-ff00:0:110", &told)?;
             segments.reverse();
         }
     }
     Ok(())
 }
 
+/// The answer of one path over two links, as lines of text print it.
+fn first_told(alloc: Global, turned: bool) -> Result<String, Fail> {
+    let (src, dst) = (at(1, 0x112), at(1, 0x110));
+    let segments = two_links(alloc, turned)?;
+    let set = set_of(alloc, &segments, src, dst, 1000)?;
+    let policy = policy(alloc, &[], "")?;
+    let options = [PolicyOption { policy, weight: 0 }];
+    let list = combine(alloc, &set, src, dst, &options, 1)?;
+    told_of(alloc, &list)
+}
+
 /// A limit of 1 leaves the path that stands first.
 #[test]
 fn first_of_two_links(rt: HostRuntime) -> Result<(), Fail> {
-    let alloc = rt.alloc();
-    let (src, dst) = (at(1, 0x112), at(1, 0x110));
-    let rows = [
-        (
-            false,
-            "1; 1-ff00:0:112#0,1 1-ff00:0:111#2,1 1-ff00:0:110#1,0",
-        ),
-        (
-            true,
-            "1; 1-ff00:0:112#0,1 1-ff00:0:111#2,3 1-ff00:0:110#2,0",
-        ),
-    ];
-    for (turned, told) in rows {
-        let segments = two_links(alloc, turned)?;
-        let set = set_of(alloc, &segments, src, dst, 1000)?;
-        let policy = policy(alloc, &[], "")?;
-        let options = [PolicyOption { policy, weight: 0 }];
-        let list = combine(alloc, &set, src, dst, &options, 1)?;
-        assert_eq!(rt; told_of(alloc, &list)?.as_str(), told);
-    }
+    assert_eq!(rt; first_told(rt.alloc(), false)?.as_str(), way_up());
+    let told = first_told(rt.alloc(), true)?;
+    assert_eq!(rt;
+        told.as_str(),
+        "1; 1-ff00:0:112#0,1 1-ff00:0:111#2,3 1-ff00:0:110#2,0"
+    );
     Ok(())
+}
+
+/// The list that denies the AS in the middle.
+fn without_the_middle(alloc: Global) -> Result<AclText, AllocError> {
+    let mut acl = AclText::new(alloc);
+    acl.push(alloc, "- 1-ff00:0:111")?;
+    acl.push(alloc, "+")?;
+    Ok(acl)
+}
+
+/// The answer over the three ASes in a row, under these options.
+fn combine_in_a_row(alloc: Global, texts: &[OptionText<'_>]) -> Result<PathList, Fail> {
+    let (src, dst) = (at(1, 0x112), at(1, 0x110));
+    let segment = three_ases(alloc)?;
+    let set = set_of(alloc, slice::from_ref(&segment), src, dst, 1000)?;
+    combine_in_arena(alloc, &set, src, dst, texts)
 }
 
 /// A heavier option that denies an AS of every path gives way to a lighter one; and an answer stays
 /// when the arena of the options is gone.
 #[test]
 fn lighter_option(rt: HostRuntime) -> Result<(), Fail> {
-    let alloc = rt.alloc();
-    let (src, dst) = (at(1, 0x112), at(1, 0x110));
-    let segments = vec![in alloc; three_ases(alloc)?]?;
-    let set = set_of(alloc, &segments, src, dst, 1000)?;
-    let mut acl = AclText::new(alloc);
-    acl.push(alloc, "- 1-ff00:0:111")?;
-    acl.push(alloc, "+")?;
+    let acl = without_the_middle(rt.alloc())?;
     let texts = [option_of(None, 1), option_of(Some(&acl), 5)];
-    let list = combine_in_arena(alloc, &set, src, dst, &texts)?;
-    assert_eq!(rt; told_of(alloc, &list)?.as_str(), way_up());
+    let list = combine_in_a_row(rt.alloc(), &texts)?;
+    assert_eq!(rt; told_of(rt.alloc(), &list)?.as_str(), way_up());
     assert!(rt; list.option() == Some(0));
     Ok(())
 }

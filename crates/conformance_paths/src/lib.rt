@@ -12,3 +12,5 @@ mod options;
 mod paths;
 #[cfg(test)]
 mod policies;
+#[cfg(test)]
+mod texts;

@@ -4,6 +4,7 @@ use path_segment::{Entry, SegKind, Segment};
 use path_verifier::{Piece, PieceKind, Pieces, VerifyFault, verify};
 use policy_expr::{AclText, Denied, Policy, PolicyText, WalkHop};
 use std::alloc::{AllocError, Global};
+use std::process::Abort;
 use std::test::Fail;
 use worked::{header_of, hop, piece, pieces_of, policy};
 
@@ -58,6 +59,22 @@ fn code_of(
     }
 }
 
+/// What the worked path is, where it is accepted: how many pieces it has, whether it has its header
+/// and its walk, and when it expires.
+fn accepted(
+    alloc: Global,
+    pieces: &Pieces<'_>,
+    header: &Header,
+) -> Result<(usize, bool, bool, u64), Fail> {
+    let policy = policy(alloc, &[], "")?;
+    let path = verify(pieces, header, ia(1, 0x111), ia(1, 0x110), 100, &policy)?;
+    path.known();
+    let walk = [hop(ia(1, 0x111), 0, 2), hop(ia(1, 0x110), 1, 0)];
+    let has_header = path.header().is_same(header);
+    let has_walk = path.walk() == walk.as_slice();
+    Ok((path.pieces().len(), has_header, has_walk, path.expiry()))
+}
+
 /// The worked path is accepted, with its walk.
 #[test]
 fn one_piece(rt: HostRuntime) -> Result<(), Fail> {
@@ -69,14 +86,33 @@ fn one_piece(rt: HostRuntime) -> Result<(), Fail> {
     let up = piece(&segment, 0, 1, false);
     assert_eq!(rt; up.kind(), PieceKind::Up);
     pieces.push(up)?;
-    let policy = policy(alloc, &[], "")?;
-    let path = verify(&pieces, &header, ia(1, 0x111), ia(1, 0x110), 100, &policy)?;
-    assert!(rt; path.header().is_same(&header) && path.pieces().len() == 1);
-    let walk = [hop(ia(1, 0x111), 0, 2), hop(ia(1, 0x110), 1, 0)];
-    assert_eq!(rt; path.walk(), walk.as_slice());
-    assert_eq!(rt; path.expiry(), 43_400);
-    path.known();
+    assert_eq!(rt; accepted(alloc, &pieces, &header)?, (1, true, true, 43_400));
     Ok(())
+}
+
+/// What the worked path is refused by with one change, and under a copy of its policy: with so many
+/// pieces up to this place, to this AS, at this second, with this accumulator, under this policy.
+fn changed(
+    alloc: Global,
+    count: usize,
+    to: usize,
+    dst: u16,
+    now: u32,
+    seg_id: [u8; 2],
+    policy: &Policy<Global>,
+) -> Result<[u16; 2], Fail> {
+    let segment = &worked_segment(alloc)?;
+    let header = worked_header(seg_id)?;
+    let mut pieces = Pieces::new();
+    for _ in 0..count {
+        pieces.push(piece(segment, 0, to, false))?;
+    }
+    let (src, dst) = (ia(1, 0x111), ia(1, dst));
+    let copy = policy.clone_in(alloc)?;
+    Ok([
+        code_of(&pieces, &header, src, dst, now, policy),
+        code_of(&pieces, &header, src, dst, now, &copy),
+    ])
 }
 
 /// The worked path with one change is refused by each fault that can come of it, and so under a
@@ -84,8 +120,6 @@ fn one_piece(rt: HostRuntime) -> Result<(), Fail> {
 #[test]
 fn one_change(rt: HostRuntime) -> Result<(), Fail> {
     let alloc = rt.alloc();
-    let segment = worked_segment(alloc)?;
-    let segment = &segment;
     let deny = ["- 1-ff00:0:110", "+"];
     let rows = [
         (1, 1, 0x110, 100, [0xb3, 0x96], false, "", 0),
@@ -99,44 +133,44 @@ fn one_change(rt: HostRuntime) -> Result<(), Fail> {
         (1, 1, 0x110, 100, [0xb3, 0x96], false, "0", 82),
     ];
     for (count, to, dst, now, seg_id, denies, sequence, code) in rows {
-        let mut pieces = Pieces::new();
-        for _ in 0..count {
-            pieces.push(piece(segment, 0, to, false))?;
-        }
-        let header = worked_header(seg_id)?;
         let acl: &[&str] = if denies { &deny } else { &[] };
         let policy = policy(alloc, acl, sequence)?;
-        let (src, dst) = (ia(1, 0x111), ia(1, dst));
-        assert_eq!(rt; code_of(&pieces, &header, src, dst, now, &policy), code);
-        let copy = policy.clone_in(alloc)?;
-        assert_eq!(rt; code_of(&pieces, &header, src, dst, now, &copy), code);
+        let codes = changed(alloc, count, to, dst, now, seg_id, &policy)?;
+        assert_eq!(rt; codes, [code, code]);
     }
     Ok(())
+}
+
+/// The hop by which a policy denies the worked path.
+fn denied(alloc: Global, acl: &[&str]) -> Result<Option<Denied>, Fail> {
+    let segment = worked_segment(alloc)?;
+    let header = worked_header([0xb3, 0x96])?;
+    let mut pieces = Pieces::new();
+    pieces.push(piece(&segment, 0, 1, false))?;
+    let policy = policy(alloc, acl, "")?;
+    match verify(&pieces, &header, ia(1, 0x111), ia(1, 0x110), 100, &policy) {
+        Err(VerifyFault::AclDenied(denied)) => Ok(Some(denied)),
+        _ => Ok(None),
+    }
 }
 
 /// The first hop that is denied is reported, with the entry that decides it.
 #[test]
 fn denied_hop(rt: HostRuntime) -> Result<(), Fail> {
-    let alloc = rt.alloc();
-    let segment = worked_segment(alloc)?;
-    let header = worked_header([0xb3, 0x96])?;
-    let mut pieces = Pieces::new();
-    pieces.push(piece(&segment, 0, 1, false))?;
-    let policy = policy(alloc, &["- 1-ff00:0:110", "+"], "")?;
-    match verify(&pieces, &header, ia(1, 0x111), ia(1, 0x110), 100, &policy) {
-        Err(VerifyFault::AclDenied(denied)) => {
-            assert_eq!(rt; denied, Denied { hop: 1, entry: 0 });
-        }
-        _ => assert!(rt; false),
-    }
+    let denied = denied(rt.alloc(), &["- 1-ff00:0:110", "+"])?;
+    assert_eq!(rt; denied, Some(Denied { hop: 1, entry: 0 }));
     Ok(())
+}
+
+/// Whether the piece at a place is of this kind.
+fn is_kind(pieces: &Pieces<'_>, place: usize, kind: PieceKind) -> bool {
+    pieces.get(place).is_some_and(|piece| piece.kind() == kind)
 }
 
 /// A fourth piece is not taken.
 #[test]
 fn three_pieces(rt: HostRuntime) -> Result<(), Fail> {
-    let alloc = rt.alloc();
-    let segment = worked_segment(alloc)?;
+    let segment = worked_segment(rt.alloc())?;
     let segment = &segment;
     let mut pieces = Pieces::new();
     for count in 0..4 {
@@ -144,10 +178,9 @@ fn three_pieces(rt: HostRuntime) -> Result<(), Fail> {
         assert_eq!(rt; answer.is_ok(), count < 3);
     }
     assert_eq!(rt; pieces.len(), 3);
-    let kinds = [PieceKind::Down, PieceKind::Up, PieceKind::Up];
-    for (place, kind) in kinds.iter().enumerate() {
-        assert!(rt; pieces.get(place).is_some_and(|piece| piece.kind() == *kind));
-    }
+    assert!(rt; is_kind(&pieces, 0, PieceKind::Down));
+    assert!(rt; is_kind(&pieces, 1, PieceKind::Up));
+    assert!(rt; is_kind(&pieces, 2, PieceKind::Up));
     assert!(rt; pieces.get(3).is_none());
     Ok(())
 }
@@ -162,22 +195,94 @@ fn segment_of(alloc: Global, kind: SegKind, ases: &[(IsdAs, u16, u16)]) -> Resul
     Ok(Segment::new(kind, 1000, 7, entries)?)
 }
 
+/// A part of a path: a segment from a place to its end, along it or against it.
+type Part<'s> = (&'s Segment, usize, bool);
+
+/// The segments of a path up, over a core link and down.
+#[derive(Drop)]
+struct Way {
+    up: Segment,
+    core: Segment,
+    down: Segment,
+}
+
+impl Way {
+    /// The segments from 1-ff00:0:112 by the core ASes of both ISDs to 2-ff00:0:212.
+    fn new(alloc: Global) -> Result<Way, Fail> {
+        let (near, far) = (ia(1, 0x110), ia(2, 0x210));
+        let up = [(near, 0, 1), (ia(1, 0x111), 1, 2), (ia(1, 0x112), 1, 0)];
+        let down = [(far, 0, 2), (ia(2, 0x211), 1, 2), (ia(2, 0x212), 1, 0)];
+        Ok(Way {
+            up: segment_of(alloc, SegKind::Intra, &up)?,
+            core: segment_of(alloc, SegKind::Core, &[(near, 0, 2), (far, 1, 0)])?,
+            down: segment_of(alloc, SegKind::Intra, &down)?,
+        })
+    }
+
+    /// The parts of the path, of which the first ends at this place of its segment, and the second
+    /// goes this way.
+    fn parts(&self, place: usize, along: bool) -> [Part<'_>; 3] {
+        [
+            (&self.up, place, false),
+            (&self.core, 0, along),
+            (&self.down, 0, true),
+        ]
+    }
+}
+
+/// Asserts what a path of these parts is refused by at the second 1000, with this header between
+/// these ASes; 0 where it is accepted.
+fn expect_code(
+    rt: &impl Abort,
+    alloc: Global,
+    parts: &[Part<'_>],
+    header: &Header,
+    ends: (IsdAs, IsdAs),
+    code: u16,
+) -> Result<(), Fail> {
+    let pieces = pieces_of(parts)?;
+    let policy = policy(alloc, &[], "")?;
+    assert_eq!(rt;
+        code_of(&pieces, header, ends.0, ends.1, 1000, &policy),
+        code
+    );
+    Ok(())
+}
+
+/// Asserts that the path of these parts is accepted, with its own header.
+fn expect_path(
+    rt: &impl Abort,
+    alloc: Global,
+    parts: &[Part<'_>],
+    lens: [u8; 3],
+    ends: (IsdAs, IsdAs),
+) -> Result<(), Fail> {
+    let header = header_of(alloc, lens, parts)?;
+    expect_code(rt, alloc, parts, &header, ends, 0)
+}
+
+/// Whether the path of these pieces is accepted at the second 1000, with this walk.
+fn has_walk(
+    alloc: Global,
+    pieces: &Pieces<'_>,
+    header: &Header,
+    ends: (IsdAs, IsdAs),
+    walk: &[WalkHop],
+) -> Result<bool, Fail> {
+    let policy = policy(alloc, &[], "")?;
+    let path = verify(pieces, header, ends.0, ends.1, 1000, &policy)?;
+    Ok(path.walk() == walk)
+}
+
 /// A path up, over a core link and down, and what is left of it with one change each.
 #[test]
 fn up_core_down(rt: HostRuntime) -> Result<(), Fail> {
     let alloc = rt.alloc();
-    let (near, far) = (ia(1, 0x110), ia(2, 0x210));
-    let up = [(near, 0, 1), (ia(1, 0x111), 1, 2), (ia(1, 0x112), 1, 0)];
-    let down = [(far, 0, 2), (ia(2, 0x211), 1, 2), (ia(2, 0x212), 1, 0)];
-    let up = segment_of(alloc, SegKind::Intra, &up)?;
-    let core = segment_of(alloc, SegKind::Core, &[(near, 0, 2), (far, 1, 0)])?;
-    let down = segment_of(alloc, SegKind::Intra, &down)?;
-    let whole = [(&up, 0, false), (&core, 0, true), (&down, 0, true)];
+    let way = Way::new(alloc)?;
+    let whole = way.parts(0, true);
     let header = header_of(alloc, [3, 2, 3], &whole)?;
-    let policy = policy(alloc, &[], "")?;
+    let (near, far) = (ia(1, 0x110), ia(2, 0x210));
     let (src, dst) = (ia(1, 0x112), ia(2, 0x212));
-    let pieces = pieces_of(&whole)?;
-    let path = verify(&pieces, &header, src, dst, 1000, &policy)?;
     let walk = [
         hop(src, 0, 1),
         hop(ia(1, 0x111), 2, 1),
@@ -186,47 +291,42 @@ fn up_core_down(rt: HostRuntime) -> Result<(), Fail> {
         hop(ia(2, 0x211), 1, 2),
         hop(dst, 1, 0),
     ];
-    assert_eq!(rt; path.walk(), walk.as_slice());
-    assert_eq!(rt; code_of(&pieces, &header, near, dst, 1000, &policy), 75);
-    let cut = pieces_of(&[(&up, 1, false), (&core, 0, true), (&down, 0, true)])?;
-    assert_eq!(rt; code_of(&cut, &header, src, dst, 1000, &policy), 73);
-    let apart = pieces_of(&[(&up, 0, false), (&core, 0, false), (&down, 0, true)])?;
-    assert_eq!(rt; code_of(&apart, &header, src, dst, 1000, &policy), 74);
-    let parts = [
-        (&whole[..2], [3, 2, 0], src, far),
-        (&whole[1..], [2, 3, 0], near, dst),
-        (&whole[1..2], [2, 0, 0], near, far),
-    ];
-    for (part, lens, src, dst) in parts {
-        let pieces = pieces_of(part)?;
-        let header = header_of(alloc, lens, part)?;
-        assert_eq!(rt; code_of(&pieces, &header, src, dst, 1000, &policy), 0);
-    }
-    Ok(())
+    assert!(rt; has_walk(alloc, &pieces_of(&whole)?, &header, (src, dst), &walk)?);
+    expect_code(&rt, alloc, &whole, &header, (near, dst), 75)?;
+    expect_code(&rt, alloc, &way.parts(1, true), &header, (src, dst), 73)?;
+    expect_code(&rt, alloc, &way.parts(0, false), &header, (src, dst), 74)?;
+    expect_path(&rt, alloc, &whole[..2], [3, 2, 0], (src, far))?;
+    expect_path(&rt, alloc, &whole[1..], [2, 3, 0], (near, dst))?;
+    expect_path(&rt, alloc, &whole[1..2], [2, 0, 0], (near, far))
+}
+
+/// The segments of two children of one AS, up from the first and down to the second.
+fn two_children(alloc: Global) -> Result<(Segment, Segment), Fail> {
+    let (top, middle) = (ia(1, 0x110), ia(1, 0x111));
+    let up = [(top, 0, 1), (middle, 1, 2), (ia(1, 0x112), 1, 0)];
+    let down = [(top, 0, 1), (middle, 1, 3), (ia(1, 0x113), 1, 0)];
+    let up = segment_of(alloc, SegKind::Intra, &up)?;
+    Ok((up, segment_of(alloc, SegKind::Intra, &down)?))
 }
 
 /// A shortcut at a common AS, which a path by the core would name twice.
 #[test]
 fn shortcut(rt: HostRuntime) -> Result<(), Fail> {
     let alloc = rt.alloc();
-    let (top, middle) = (ia(1, 0x110), ia(1, 0x111));
-    let (src, dst) = (ia(1, 0x112), ia(1, 0x113));
-    let up = [(top, 0, 1), (middle, 1, 2), (src, 1, 0)];
-    let up = segment_of(alloc, SegKind::Intra, &up)?;
-    let down = [(top, 0, 1), (middle, 1, 3), (dst, 1, 0)];
-    let down = segment_of(alloc, SegKind::Intra, &down)?;
+    let (up, down) = two_children(alloc)?;
     let parts = [(&up, 1, false), (&down, 1, true)];
     let header = header_of(alloc, [2, 2, 0], &parts)?;
-    let policy = policy(alloc, &[], "")?;
-    let pieces = pieces_of(&parts)?;
-    let path = verify(&pieces, &header, src, dst, 1000, &policy)?;
-    let walk = [hop(src, 0, 1), hop(middle, 2, 3), hop(dst, 1, 0)];
-    assert_eq!(rt; path.walk(), walk.as_slice());
-    let whole = pieces_of(&[(&up, 0, false), (&down, 0, true)])?;
-    assert_eq!(rt; code_of(&whole, &header, src, dst, 1000, &policy), 78);
-    let half = pieces_of(&[(&up, 0, false), (&down, 1, true)])?;
-    assert_eq!(rt; code_of(&half, &header, src, dst, 1000, &policy), 73);
-    Ok(())
+    let ends = (ia(1, 0x112), ia(1, 0x113));
+    let walk = [
+        hop(ends.0, 0, 1),
+        hop(ia(1, 0x111), 2, 3),
+        hop(ends.1, 1, 0),
+    ];
+    assert!(rt; has_walk(alloc, &pieces_of(&parts)?, &header, ends, &walk)?);
+    let whole = [(&up, 0, false), (&down, 0, true)];
+    expect_code(&rt, alloc, &whole, &header, ends, 78)?;
+    let half = [(&up, 0, false), (&down, 1, true)];
+    expect_code(&rt, alloc, &half, &header, ends, 73)
 }
 
 /// A segment of so many ASes below 1-ff00:0:1, the first of them with this number.
@@ -239,25 +339,47 @@ fn long(alloc: Global, first: u16, count: u16) -> Result<Segment, Fail> {
     segment_of(alloc, SegKind::Intra, &ases)
 }
 
+/// Asserts what a path is refused by of one segment of 32 ASes up and one of so many down, the last
+/// of them with this number, with the header of 32 and 32 hop fields.
+fn expect_most(
+    rt: &impl Abort,
+    alloc: Global,
+    count: u16,
+    last: u16,
+    code: u16,
+) -> Result<(), Fail> {
+    let (up, full) = (long(alloc, 0x100, 32)?, long(alloc, 0x200, 32)?);
+    let header = header_of(alloc, [32, 32, 0], &[(&up, 0, false), (&full, 0, true)])?;
+    let down = long(alloc, 0x200, count)?;
+    let parts = [(&up, 0, false), (&down, 0, true)];
+    expect_code(
+        rt,
+        alloc,
+        &parts,
+        &header,
+        (ia(1, 0x11f), ia(1, last)),
+        code,
+    )
+}
+
 /// A path of 64 hop fields is accepted, and one of 65 is not.
 #[test]
 fn most_hop_fields(rt: HostRuntime) -> Result<(), Fail> {
-    let alloc = rt.alloc();
-    let up = long(alloc, 0x100, 32)?;
-    let policy = policy(alloc, &[], "")?;
-    let rows = [(32, 0x21f, 0), (33, 0x220, 77)];
-    for (count, last, code) in rows {
-        let down = long(alloc, 0x200, count)?;
-        let parts = [(&up, 0, false), (&down, 0, true)];
-        let (src, dst) = (ia(1, 0x11f), ia(1, last));
-        let pieces = pieces_of(&parts)?;
-        let header = header_of(
-            alloc,
-            [32, 32, 0],
-            &[(&up, 0, false), (&long(alloc, 0x200, 32)?, 0, true)],
-        )?;
-        assert_eq!(rt; code_of(&pieces, &header, src, dst, 1000, &policy), code);
-    }
+    expect_most(&rt, rt.alloc(), 32, 0x21f, 0)?;
+    expect_most(&rt, rt.alloc(), 33, 0x220, 77)
+}
+
+/// Asserts by which number, name and sentence a refusal is reported.
+fn expect_report(
+    rt: &impl Abort,
+    alloc: Global,
+    fault: VerifyFault,
+    code: u16,
+    name: &str,
+    sentence: &str,
+) -> Result<(), AllocError> {
+    assert!(rt; fault.code() == code && fault.name() == name);
+    assert_eq!(rt; format!(in alloc; "{fault}")?.as_str(), sentence);
     Ok(())
 }
 
@@ -265,85 +387,60 @@ fn most_hop_fields(rt: HostRuntime) -> Result<(), Fail> {
 #[test]
 fn refusals(rt: HostRuntime) -> Result<(), Fail> {
     let alloc = rt.alloc();
-    let denied = Denied { hop: 1, entry: 0 };
-    let rows = [
-        (
-            VerifyFault::PieceCount,
-            70,
-            "PieceCount",
-            "a path has one to three pieces",
-        ),
-        (
-            VerifyFault::Range,
-            71,
-            "Range",
-            "a piece is not from one entry of its segment to a later one",
-        ),
-        (
-            VerifyFault::Kinds,
-            72,
-            "Kinds",
-            "the pieces are not up, core and down in this order",
-        ),
-        (
-            VerifyFault::CutAtCore,
-            73,
-            "CutAtCore",
-            "a piece is cut where it may not be",
-        ),
-        (
-            VerifyFault::NotJoined,
-            74,
-            "NotJoined",
-            "adjoining pieces don't meet in one AS",
-        ),
-        (
-            VerifyFault::Source,
-            75,
-            "Source",
-            "the path does not begin in the source",
-        ),
-        (
-            VerifyFault::Destination,
-            76,
-            "Destination",
-            "the path does not end in the destination",
-        ),
-        (
-            VerifyFault::TooManyHops,
-            77,
-            "TooManyHops",
-            "a path has at most 64 hop fields",
-        ),
-        (VerifyFault::Loop, 78, "Loop", "the walk names an AS twice"),
-        (
-            VerifyFault::Expired,
-            79,
-            "Expired",
-            "a hop of the path has expired",
-        ),
-        (
-            VerifyFault::HeaderDiffers,
-            80,
-            "HeaderDiffers",
-            "the header is not that of the pieces",
-        ),
-        (
-            VerifyFault::AclDenied(denied),
-            81,
-            "AclDenied",
-            "the policy denies a hop of the walk",
-        ),
-        (
-            VerifyFault::SequenceMismatch,
-            82,
-            "SequenceMismatch",
-            "the walk is not a word of the policy's sequence",
-        ),
-    ];
-    for (fault, code, name, text) in rows {
-        assert!(rt; fault.code() == code && fault.name() == name);
-        assert_eq!(rt; format!(in alloc; "{fault}")?.as_str(), text);
-    }
+    let text = "a path has one to three pieces";
+    expect_report(&rt, alloc, VerifyFault::PieceCount, 70, "PieceCount", text)?;
+    let text = "a piece is not from one entry of its segment to a later one";
+    expect_report(&rt, alloc, VerifyFault::Range, 71, "Range", text)?;
+    let text = "the pieces are not up, core and down in this order";
+    expect_report(&rt, alloc, VerifyFault::Kinds, 72, "Kinds", text)?;
+    let text = "a piece is cut where it may not be";
+    expect_report(&rt, alloc, VerifyFault::CutAtCore, 73, "CutAtCore", text)?;
+    let text = "adjoining pieces don't meet in one AS";
+    expect_report(&rt, alloc, VerifyFault::NotJoined, 74, "NotJoined", text)?;
+    let text = "the path does not begin in the source";
+    expect_report(&rt, alloc, VerifyFault::Source, 75, "Source", text)?;
+    let text = "the path does not end in the destination";
+    expect_report(
+        &rt,
+        alloc,
+        VerifyFault::Destination,
+        76,
+        "Destination",
+        text,
+    )?;
+    let text = "a path has at most 64 hop fields";
+    expect_report(
+        &rt,
+        alloc,
+        VerifyFault::TooManyHops,
+        77,
+        "TooManyHops",
+        text,
+    )?;
+    let text = "the walk names an AS twice";
+    expect_report(&rt, alloc, VerifyFault::Loop, 78, "Loop", text)?;
+    let text = "a hop of the path has expired";
+    expect_report(&rt, alloc, VerifyFault::Expired, 79, "Expired", text)?;
+    let text = "the header is not that of the pieces";
+    expect_report(
+        &rt,
+        alloc,
+        VerifyFault::HeaderDiffers,
+        80,
+        "HeaderDiffers",
+        text,
+    )?;
+    let denied = VerifyFault::AclDenied(Denied { hop: 1, entry: 0 });
+    let text = "the policy denies a hop of the walk";
+    expect_report(&rt, alloc, denied, 81, "AclDenied", text)?;
+    let text = "the walk is not a word of the policy's sequence";
+    expect_report(
+        &rt,
+        alloc,
+        VerifyFault::SequenceMismatch,
+        82,
+        "SequenceMismatch",
+        text,
+    )?;
     Ok(())
 }

@@ -1,3 +1,4 @@
+use crate::texts::{levels_text, long_text, nested, pluses, printed_stars, stars};
 use bumpalo::Bump;
 use isd_as::{IfId, IsdAs};
 use policy_expr::{
@@ -51,6 +52,19 @@ fn does<A: Allocator + Clone>(
     Ok(text.as_str() == printed && sequence.matches(word) && !sequence.matches(other))
 }
 
+/// Whether the same holds of its clone under another allocator.
+fn does_its_clone<A: Allocator + Clone, B: Allocator + Clone>(
+    alloc: Global,
+    sequence: &Seq<A>,
+    place: B,
+    printed: &str,
+    word: &[WalkHop],
+    other: &[WalkHop],
+) -> Result<bool, AllocError> {
+    let clone = sequence.clone_in(place)?;
+    does(alloc, &clone, printed, word, other)
+}
+
 /// Whether the same holds of its clone in an arena, and of that clone's clone.
 fn do_clones(
     alloc: Global,
@@ -61,8 +75,21 @@ fn do_clones(
 ) -> Result<bool, AllocError> {
     let bump = Bump::new(alloc);
     let placed = sequence.clone_in(&bump)?;
-    let back = placed.clone_in(alloc)?;
-    Ok(does(alloc, &placed, printed, word, other)? && does(alloc, &back, printed, word, other)?)
+    let is_placed = does(alloc, &placed, printed, word, other)?;
+    Ok(is_placed && does_its_clone(alloc, &placed, alloc, printed, word, other)?)
+}
+
+/// Whether the same holds of a text, of its clone in an arena, and of that clone's clone.
+fn does_here(
+    alloc: Global,
+    text: &str,
+    printed: &str,
+    word: &[WalkHop],
+    other: &[WalkHop],
+) -> Result<bool, PolicyError> {
+    let sequence = Seq::parse(alloc, text)?;
+    let is_read = does(alloc, &sequence, printed, word, other)?;
+    Ok(is_read && do_clones(alloc, &sequence, printed, word, other)?)
 }
 
 /// Whether the same holds of a text that is read in an arena.
@@ -88,9 +115,7 @@ fn expect_sequence(
     word: &[WalkHop],
     other: &[WalkHop],
 ) -> Result<(), Fail> {
-    let sequence = Seq::parse(alloc, text)?;
-    assert!(rt; does(alloc, &sequence, printed, word, other)?);
-    assert!(rt; do_clones(alloc, &sequence, printed, word, other)?);
+    assert!(rt; does_here(alloc, text, printed, word, other)?);
     assert!(rt; does_there(alloc, text, printed, word, other)?);
     Ok(())
 }
@@ -141,90 +166,81 @@ fn repeats_and_goes_back(rt: HostRuntime) -> Result<(), Fail> {
     expect_sequence(&rt, rt.alloc(), "1|(2|3)", "1|(2|3)", &one, &none)
 }
 
+/// Asserts that a repetition of an item that may be left out, and one more behind it, have the one
+/// word of ISDs and not the other.
+fn expect_word(rt: &impl Abort, alloc: Global, word: &[u16], other: &[u16]) -> Result<(), Fail> {
+    let text = "(1? 2)+ 1*";
+    let word = in_isds(alloc, word)?;
+    let other = in_isds(alloc, other)?;
+    expect_sequence(rt, alloc, text, text, &word, &other)
+}
+
 /// A repetition of an item that may be left out, and one more behind it: words by their ISDs.
 #[test]
 fn has_words(rt: HostRuntime) -> Result<(), Fail> {
     let alloc = rt.alloc();
-    let text = "(1? 2)+ 1*";
-    let wrong: [&[u16]; 4] = [&[], &[1], &[1, 1, 2], &[2, 1, 1, 2]];
-    let right: [&[u16]; 4] = [&[2], &[1, 2], &[2, 1, 2], &[2, 2, 1, 1]];
-    for (word, other) in right.iter().zip(wrong.iter()) {
-        let word = in_isds(alloc, word)?;
-        let other = in_isds(alloc, other)?;
-        expect_sequence(&rt, alloc, text, text, &word, &other)?;
-    }
-    Ok(())
+    expect_word(&rt, alloc, &[2], &[])?;
+    expect_word(&rt, alloc, &[1, 2], &[1])?;
+    expect_word(&rt, alloc, &[2, 1, 2], &[1, 1, 2])?;
+    expect_word(&rt, alloc, &[2, 2, 1, 1], &[2, 1, 1, 2])
 }
 
-/// The text so many times.
-fn times(alloc: Global, text: &str, count: usize) -> Result<String, AllocError> {
-    let mut all = String::new(alloc);
-    for _ in 0..count {
-        all.push_str(text)?;
-    }
-    Ok(all)
-}
-
-/// `0* 1-100`, repeated and followed by `1-101`, the whole of it repeated and followed by `1-102`,
-/// and so on.
-fn levels_text(alloc: Global, levels: u64) -> Result<String, AllocError> {
-    let mut text = "0* 1-100".to_string(alloc)?;
-    for level in 0..levels {
-        let last = level % 1000 + 101;
-        text = format!(in alloc; "({text})* 1-{last}")?;
-    }
-    Ok(text)
-}
-
-/// Repetitions inside one another: 64 hops are answered at once.
-#[test]
-fn repeats_repetitions(rt: HostRuntime) -> Result<(), Fail> {
-    let alloc = rt.alloc();
-    let none: [WalkHop; 0] = [];
-    let same = [hop(100, 0, 0); 64];
-    let signs = times(alloc, "+", 255)?;
-    let pluses = format!(in alloc; "0{signs}")?;
-    expect_sequence(&rt, alloc, pluses.as_str(), pluses.as_str(), &same, &none)?;
-    let open = times(alloc, "(", 32)?;
-    let closed = times(alloc, ")*", 32)?;
-    let stars = format!(in alloc; "{open}1-100{closed}")?;
-    let signs = times(alloc, "*", 32)?;
-    let printed = format!(in alloc; "1-100{signs}")?;
-    let mut other = [hop(100, 0, 0); 64];
-    other[63] = hop(101, 0, 0);
-    expect_sequence(&rt, alloc, stars.as_str(), printed.as_str(), &same, &other)?;
-    let levels = levels_text(alloc, 32)?;
+/// A word of the 32 levels: 32 hops of one AS, and then one of each level's.
+fn levels_word() -> [WalkHop; 64] {
     let mut word = [hop(100, 0, 0); 64];
     let mut as_number = 100;
     for place in word.iter_mut().skip(32) {
         as_number = as_number % 1000 + 1;
         *place = hop(as_number, 0, 0);
     }
-    expect_sequence(&rt, alloc, levels.as_str(), levels.as_str(), &word, &same)
+    word
+}
+
+/// Repetitions inside one another: 64 hops are answered at once.
+#[test]
+fn repeats_repetitions(rt: HostRuntime) -> Result<(), Fail> {
+    let alloc = rt.alloc();
+    let same = [hop(100, 0, 0); 64];
+    let mut other = [hop(100, 0, 0); 64];
+    other[63] = hop(101, 0, 0);
+    let text = pluses(alloc)?;
+    expect_sequence(&rt, alloc, text.as_str(), text.as_str(), &same, &[])?;
+    let text = stars(alloc)?;
+    let printed = printed_stars(alloc)?;
+    expect_sequence(&rt, alloc, text.as_str(), printed.as_str(), &same, &other)?;
+    let text = levels_text(alloc, 32)?;
+    expect_sequence(
+        &rt,
+        alloc,
+        text.as_str(),
+        text.as_str(),
+        &levels_word(),
+        &same,
+    )
+}
+
+/// Asserts what a text that is no sequence is refused by.
+fn expect_refusal(rt: &impl Abort, alloc: Global, text: &str, code: u16) {
+    assert_eq!(rt; code_of(Seq::parse(alloc, text)), code, "{text}");
 }
 
 /// The number of nodes and of open parentheses, each at its limit, and each refusal of a sequence.
 #[test]
 fn refuses_sequences(rt: HostRuntime) -> Result<(), Fail> {
     let alloc = rt.alloc();
-    assert!(rt; code_of(Seq::parse(alloc, "")) == 60 && code_of(Seq::parse(alloc, "1 |")) == 60);
-    assert!(rt; code_of(Seq::parse(alloc, "(1")) == 62 && code_of(Seq::parse(alloc, "1)")) == 62);
-    assert!(rt; code_of(Seq::parse(alloc, "| 1")) == 61 && code_of(Seq::parse(alloc, "1 é")) == 61);
-    let one = [last_hop()];
-    let none: [WalkHop; 0] = [];
-    let open = times(alloc, "(", 32)?;
-    let closed = times(alloc, ")", 32)?;
-    let deep = format!(in alloc; "{open}0{closed}")?;
-    expect_sequence(&rt, alloc, deep.as_str(), "0", &one, &none)?;
-    let too_deep = format!(in alloc; "({deep})")?;
-    assert!(rt; code_of(Seq::parse(alloc, too_deep.as_str())) == 63);
-    let pairs = times(alloc, "1|0 ", 63)?;
-    let long = format!(in alloc; "{pairs}0 1")?;
-    let walk = [last_hop(); 65];
-    let short = [last_hop(); 64];
+    expect_refusal(&rt, alloc, "", 60);
+    expect_refusal(&rt, alloc, "1 |", 60);
+    expect_refusal(&rt, alloc, "(1", 62);
+    expect_refusal(&rt, alloc, "1)", 62);
+    expect_refusal(&rt, alloc, "| 1", 61);
+    expect_refusal(&rt, alloc, "1 é", 61);
+    let deep = nested(alloc, 32)?;
+    expect_sequence(&rt, alloc, deep.as_str(), "0", &[last_hop()], &[])?;
+    expect_refusal(&rt, alloc, nested(alloc, 33)?.as_str(), 63);
+    let long = long_text(alloc, "0 1")?;
+    let (walk, short) = ([last_hop(); 65], [last_hop(); 64]);
     expect_sequence(&rt, alloc, long.as_str(), long.as_str(), &walk, &short)?;
-    let too_long = format!(in alloc; "{long} 0")?;
-    assert!(rt; code_of(Seq::parse(alloc, too_long.as_str())) == 64);
+    expect_refusal(&rt, alloc, long_text(alloc, "0 1 0")?.as_str(), 64);
     Ok(())
 }
 
@@ -238,100 +254,161 @@ fn acl_text(alloc: Global, texts: &[&str]) -> Result<AclText, AllocError> {
 }
 
 /// Whether a list denies the second hop of the one walk by its first entry, and allows the other.
-fn decides<A: Allocator + Clone>(acl: &Acl<A>, denied: &[WalkHop], allowed: &[WalkHop]) -> bool {
+fn decides<A: Allocator + Clone>(acl: &Acl<A>) -> bool {
+    let denied = [hop(0xff00_0000_0133, 1, 2), hop(0xff00_0000_0133, 2, 1)];
+    let allowed = [hop(0xff00_0000_0133, 1, 2), hop(0xff00_0000_0134, 2, 1)];
     let entries = acl.entries().len();
-    acl.verdict(denied) == Err(Denied { hop: 1, entry: 0 })
-        && acl.verdict(allowed) == Ok(())
+    acl.verdict(&denied) == Err(Denied { hop: 1, entry: 0 })
+        && acl.verdict(&allowed) == Ok(())
         && entries == 2
+}
+
+/// Whether its clone under another allocator does.
+fn its_clone_decides<A: Allocator + Clone, B: Allocator + Clone>(
+    acl: &Acl<A>,
+    place: B,
+) -> Result<bool, AllocError> {
+    let clone = acl.clone_in(place)?;
+    Ok(decides(&clone))
+}
+
+/// Whether its clone in an arena does, and that clone's clone.
+fn clones_decide(alloc: Global, acl: &Acl<Global>) -> Result<bool, AllocError> {
+    let bump = Bump::new(alloc);
+    let placed = acl.clone_in(&bump)?;
+    Ok(decides(&placed) && its_clone_decides(&placed, alloc)?)
+}
+
+/// Whether the list of a text does, and its clones.
+fn decides_here(alloc: Global, text: &AclText) -> Result<bool, PolicyError> {
+    let acl = Acl::parse(alloc, text)?;
+    Ok(decides(&acl) && clones_decide(alloc, &acl)?)
+}
+
+/// Whether a text does that is read in an arena.
+fn decides_there(alloc: Global, text: &AclText) -> Result<bool, PolicyError> {
+    let bump = Bump::new(alloc);
+    let acl = Acl::parse(&bump, text)?;
+    Ok(decides(&acl))
 }
 
 /// One interface wanted, on a list, on its clone in an arena, and on that clone's clone.
 #[test]
 fn decides_by_first_entry(rt: HostRuntime) -> Result<(), Fail> {
-    let alloc = rt.alloc();
-    let denied = [hop(0xff00_0000_0133, 1, 2), hop(0xff00_0000_0133, 2, 1)];
-    let allowed = [hop(0xff00_0000_0133, 1, 2), hop(0xff00_0000_0134, 2, 1)];
-    let text = acl_text(alloc, &["- 1-ff00:0:133#2,0", " + "])?;
+    let text = acl_text(rt.alloc(), &["- 1-ff00:0:133#2,0", " + "])?;
     assert!(rt; text.texts().len() == 2);
-    let acl = Acl::parse(alloc, &text)?;
-    assert!(rt; decides(&acl, &denied, &allowed));
-    let bump = Bump::new(alloc);
-    let placed = acl.clone_in(&bump)?;
-    assert!(rt; decides(&placed, &denied, &allowed));
-    let back = placed.clone_in(alloc)?;
-    assert!(rt; decides(&back, &denied, &allowed));
-    let read_there = Acl::parse(&bump, &text)?;
-    assert!(rt; decides(&read_there, &denied, &allowed));
+    assert!(rt; decides_here(rt.alloc(), &text)?);
+    assert!(rt; decides_there(rt.alloc(), &text)?);
     Ok(())
+}
+
+/// What the list of these texts is refused by, and 0 where there is none.
+fn code_of_list(alloc: Global, texts: &[&str]) -> Result<u16, AllocError> {
+    let list = acl_text(alloc, texts)?;
+    Ok(code_of(Acl::parse(alloc, &list)))
+}
+
+/// What a list of 255 entries and so many defaults is refused by.
+fn code_of_long_list(alloc: Global, defaults: usize) -> Result<u16, AllocError> {
+    let mut list = AclText::new(alloc);
+    for _ in 0..255 {
+        list.push(alloc, "- 1")?;
+    }
+    for _ in 0..defaults {
+        list.push(alloc, "+")?;
+    }
+    Ok(code_of(Acl::parse(alloc, &list)))
 }
 
 /// Each refusal of a list.
 #[test]
 fn refuses_lists(rt: HostRuntime) -> Result<(), Fail> {
     let alloc = rt.alloc();
-    assert!(rt; code_of(Acl::parse(alloc, &acl_text(alloc, &["- x", "+"])?)) == 61);
-    assert!(rt; code_of(Acl::parse(alloc, &acl_text(alloc, &["- 1"])?)) == 65);
-    assert!(rt; code_of(Acl::parse(alloc, &acl_text(alloc, &[])?)) == 65);
-    assert!(rt; code_of(Acl::parse(alloc, &acl_text(alloc, &["+", "- 1", "-"])?)) == 66);
-    assert!(rt; code_of(Acl::parse(alloc, &acl_text(alloc, &["\t-\r0-0#0,0\n"])?)) == 0);
-    let mut long = AclText::new(alloc);
-    for _ in 0..255 {
-        long.push(alloc, "- 1")?;
-    }
-    long.push(alloc, "+")?;
-    assert!(rt; code_of(Acl::parse(alloc, &long)) == 0);
-    long.push(alloc, "+")?;
-    assert!(rt; code_of(Acl::parse(alloc, &long)) == 64);
+    let codes = [
+        code_of_list(alloc, &["- x", "+"])?,
+        code_of_list(alloc, &["- 1"])?,
+        code_of_list(alloc, &[])?,
+        code_of_list(alloc, &["+", "- 1", "-"])?,
+        code_of_list(alloc, &["\t-\r0-0#0,0\n"])?,
+        code_of_long_list(alloc, 1)?,
+        code_of_long_list(alloc, 2)?,
+    ];
+    assert_eq!(rt; codes, [61, 65, 65, 66, 0, 0, 64]);
     Ok(())
 }
 
 /// Whether a policy denies the one walk at its first hop, has the second as a word, and allows the
 /// third, which is no word.
-fn judges<A: Allocator + Clone>(
+fn judges<A: Allocator + Clone>(policy: &Policy<A>) -> bool {
+    let other = [hop(1, 0, 0), hop(3, 0, 0)];
+    policy.verdict(&[hop(2, 0, 0)]) == Err(Denied { hop: 0, entry: 0 })
+        && policy.verdict(&other) == Ok(())
+        && policy.matches(&[hop(1, 0, 0)])
+        && !policy.matches(&other)
+}
+
+/// Whether its clone under another allocator does.
+fn its_clone_judges<A: Allocator + Clone, B: Allocator + Clone>(
     policy: &Policy<A>,
-    denied: &[WalkHop; 1],
-    word: &[WalkHop; 1],
-    other: &[WalkHop; 2],
-) -> bool {
-    policy.verdict(denied) == Err(Denied { hop: 0, entry: 0 })
-        && policy.verdict(other) == Ok(())
-        && policy.matches(word)
-        && !policy.matches(other)
+    place: B,
+) -> Result<bool, AllocError> {
+    let clone = policy.clone_in(place)?;
+    Ok(judges(&clone))
+}
+
+/// Whether its clone in an arena does, and that clone's clone.
+fn clones_judge(alloc: Global, policy: &Policy<Global>) -> Result<bool, AllocError> {
+    let bump = Bump::new(alloc);
+    let placed = policy.clone_in(&bump)?;
+    Ok(judges(&placed) && its_clone_judges(&placed, alloc)?)
+}
+
+/// Whether the policy of a text does, and its clones.
+fn judges_here(alloc: Global, text: &PolicyText<'_>) -> Result<bool, PolicyError> {
+    let policy = Policy::parse(alloc, text)?;
+    Ok(judges(&policy) && clones_judge(alloc, &policy)?)
+}
+
+/// Whether a text does that is read in an arena.
+fn judges_there(alloc: Global, text: &PolicyText<'_>) -> Result<bool, PolicyError> {
+    let bump = Bump::new(alloc);
+    let policy = Policy::parse(&bump, text)?;
+    Ok(judges(&policy))
+}
+
+/// Whether a policy of blanks allows a walk, which is a word of it.
+fn blanks_are_open(alloc: Global) -> Result<bool, PolicyError> {
+    let blank = PolicyText {
+        acl: None,
+        sequence: Some(" \t\r\n"),
+    };
+    let walk = [hop(2, 0, 0)];
+    let open = Policy::parse(alloc, &blank)?;
+    Ok(open.verdict(&walk) == Ok(()) && open.matches(&walk))
+}
+
+/// What a policy of this list and this sequence is refused by, and 0 where there is none.
+fn code_of_both(alloc: Global, list: &[&str], sequence: &str) -> Result<u16, AllocError> {
+    let list = acl_text(alloc, list)?;
+    let text = PolicyText {
+        acl: Some(&list),
+        sequence: Some(sequence),
+    };
+    Ok(code_of(Policy::parse(alloc, &text)))
 }
 
 /// A policy of both parts, one of blanks, and the refusals of either part, the list's first.
 #[test]
 fn policies(rt: HostRuntime) -> Result<(), Fail> {
-    let alloc = rt.alloc();
-    let list = acl_text(alloc, &["- 1-2", "+"])?;
+    let list = acl_text(rt.alloc(), &["- 1-2", "+"])?;
     let text = PolicyText {
         acl: Some(&list),
         sequence: Some("0"),
     };
-    let denied = [hop(2, 0, 0)];
-    let word = [hop(1, 0, 0)];
-    let other = [hop(1, 0, 0), hop(3, 0, 0)];
-    let policy = Policy::parse(alloc, &text)?;
-    assert!(rt; judges(&policy, &denied, &word, &other));
-    let bump = Bump::new(alloc);
-    let placed = policy.clone_in(&bump)?;
-    assert!(rt; judges(&placed, &denied, &word, &other));
-    let back = placed.clone_in(alloc)?;
-    assert!(rt; judges(&back, &denied, &word, &other));
-    let read_there = Policy::parse(&bump, &text)?;
-    assert!(rt; judges(&read_there, &denied, &word, &other));
-    let blank = PolicyText {
-        acl: None,
-        sequence: Some(" \t\r\n"),
-    };
-    let open = Policy::parse(alloc, &blank)?;
-    assert!(rt; open.verdict(&denied) == Ok(()) && open.matches(&denied));
-    let wrong_list = acl_text(alloc, &["- 1"])?;
-    let wrong = PolicyText {
-        acl: Some(&wrong_list),
-        sequence: Some("1 |"),
-    };
-    assert!(rt; code_of(Policy::parse(alloc, &wrong)) == 65);
+    assert!(rt; judges_here(rt.alloc(), &text)?);
+    assert!(rt; judges_there(rt.alloc(), &text)?);
+    assert!(rt; blanks_are_open(rt.alloc())?);
+    assert_eq!(rt; code_of_both(rt.alloc(), &["- 1"], "1 |")?, 65);
     Ok(())
 }
 
@@ -381,23 +458,11 @@ fn expect_report(
 fn reports_sequences(rt: HostRuntime) -> Result<(), Fail> {
     let alloc = rt.alloc();
     let text = "a sequence ends where an item must come";
-    expect_report(
-        &rt,
-        alloc,
-        PolicyFault::UnexpectedEnd,
-        60,
-        "UnexpectedEnd",
-        text,
-    )?;
+    let fault = PolicyFault::UnexpectedEnd;
+    expect_report(&rt, alloc, fault, 60, "UnexpectedEnd", text)?;
     let text = "a hop predicate can't be read";
-    expect_report(
-        &rt,
-        alloc,
-        PolicyFault::BadPredicate,
-        61,
-        "BadPredicate",
-        text,
-    )?;
+    let fault = PolicyFault::BadPredicate;
+    expect_report(&rt, alloc, fault, 61, "BadPredicate", text)?;
     let text = "the parentheses of a sequence don't match";
     expect_report(&rt, alloc, PolicyFault::Unbalanced, 62, "Unbalanced", text)?;
     let text = "a sequence has at most 32 parentheses open at once";

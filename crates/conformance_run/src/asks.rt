@@ -1,11 +1,12 @@
 //! Asking for paths: ends, policies and options.
 
-use crate::table::{row_sent, row_turns, talk};
+use crate::table::{expect_talk, row_sent, row_turns};
 use std::test::Fail;
 
 #[test]
 fn other_ends_of_the_row(rt: HostRuntime) -> Result<(), Fail> {
-    let (answers, wanted) = talk(
+    expect_talk(
+        &rt,
         rt.alloc(),
         &row_sent(),
         &[
@@ -30,14 +31,13 @@ fn other_ends_of_the_row(rt: HostRuntime) -> Result<(), Fail> {
                 "ask 4 1; 1-ff00:0:112#0,1 1-ff00:0:111#2,1 1-ff00:0:110#1,0",
             ),
         ],
-    )?;
-    assert_eq!(rt; answers.as_str(), wanted.as_str());
-    Ok(())
+    )
 }
 
 #[test]
 fn options_of_a_policy(rt: HostRuntime) -> Result<(), Fail> {
-    let (answers, wanted) = talk(
+    expect_talk(
+        &rt,
         rt.alloc(),
         &row_sent(),
         &[
@@ -58,14 +58,13 @@ fn options_of_a_policy(rt: HostRuntime) -> Result<(), Fail> {
                 "no 140 BadLine",
             ),
         ],
-    )?;
-    assert_eq!(rt; answers.as_str(), wanted.as_str());
-    Ok(())
+    )
 }
 
 #[test]
 fn refused_in_order(rt: HostRuntime) -> Result<(), Fail> {
-    let (answers, wanted) = talk(
+    expect_talk(
+        &rt,
         rt.alloc(),
         &row_sent(),
         &[
@@ -90,15 +89,14 @@ fn refused_in_order(rt: HostRuntime) -> Result<(), Fail> {
                 "no 133 NoAnswer",
             ),
         ],
-    )?;
-    assert_eq!(rt; answers.as_str(), wanted.as_str());
-    Ok(())
+    )
 }
 
 #[test]
 fn keys_change_once(rt: HostRuntime) -> Result<(), Fail> {
     let [first, second, third] = row_turns();
-    let (answers, wanted) = talk(
+    expect_talk(
+        &rt,
         rt.alloc(),
         &row_sent(),
         &[
@@ -107,14 +105,13 @@ fn keys_change_once(rt: HostRuntime) -> Result<(), Fail> {
             second,
             third,
         ],
-    )?;
-    assert_eq!(rt; answers.as_str(), wanted.as_str());
-    Ok(())
+    )
 }
 
 #[test]
 fn keys_change_twice(rt: HostRuntime) -> Result<(), Fail> {
-    let (answers, wanted) = talk(
+    expect_talk(
+        &rt,
         rt.alloc(),
         &row_sent(),
         &[
@@ -122,7 +119,5 @@ fn keys_change_twice(rt: HostRuntime) -> Result<(), Fail> {
             (r#"{"do":"rotate","ia":"1-ff00:0:112","key":"6134"}"#, "ok"),
             (r#"{"do":"turn","packet":0}"#, "refused 94 BadMac"),
         ],
-    )?;
-    assert_eq!(rt; answers.as_str(), wanted.as_str());
-    Ok(())
+    )
 }

@@ -2,12 +2,13 @@
 //! same happening beside a packet that keeps them all.
 
 use crate::scripts::{fork, pair_sent, wide_fork};
-use crate::table::{row_sent, row_turns, talk};
+use crate::table::{expect_talk, row_sent, row_turns};
 use std::test::Fail;
 
 #[test]
 fn an_altered_packet_is_refused(rt: HostRuntime) -> Result<(), Fail> {
-    let (answers, wanted) = talk(
+    expect_talk(
+        &rt,
         rt.alloc(),
         &row_sent(),
         &[
@@ -18,14 +19,13 @@ fn an_altered_packet_is_refused(rt: HostRuntime) -> Result<(), Fail> {
                 "refused 1-ff00:0:112 0 94 BadMac",
             ),
         ],
-    )?;
-    assert_eq!(rt; answers.as_str(), wanted.as_str());
-    Ok(())
+    )
 }
 
 #[test]
 fn a_packet_that_is_no_longer_one(rt: HostRuntime) -> Result<(), Fail> {
-    let (answers, wanted) = talk(
+    expect_talk(
+        &rt,
         rt.alloc(),
         &row_sent(),
         &[
@@ -43,14 +43,13 @@ fn a_packet_that_is_no_longer_one(rt: HostRuntime) -> Result<(), Fail> {
                 "no 131 NotInFlight",
             ),
         ],
-    )?;
-    assert_eq!(rt; answers.as_str(), wanted.as_str());
-    Ok(())
+    )
 }
 
 #[test]
 fn a_lost_packet_does_not_arrive(rt: HostRuntime) -> Result<(), Fail> {
-    let (answers, wanted) = talk(
+    expect_talk(
+        &rt,
         rt.alloc(),
         &row_sent(),
         &[
@@ -59,14 +58,13 @@ fn a_lost_packet_does_not_arrive(rt: HostRuntime) -> Result<(), Fail> {
             (r#"{"do":"turn","packet":0}"#, "no 131 NotInFlight"),
             (r#"{"do":"show","packet":0}"#, "lost; 1-ff00:0:112#0,1"),
         ],
-    )?;
-    assert_eq!(rt; answers.as_str(), wanted.as_str());
-    Ok(())
+    )
 }
 
 #[test]
 fn a_cut_link_refuses(rt: HostRuntime) -> Result<(), Fail> {
-    let (answers, wanted) = talk(
+    expect_talk(
+        &rt,
         rt.alloc(),
         &row_sent(),
         &[
@@ -74,14 +72,13 @@ fn a_cut_link_refuses(rt: HostRuntime) -> Result<(), Fail> {
             (r#"{"do":"cut","ia":"1-ff00:0:111","if":1}"#, "ok"),
             (r#"{"do":"turn","packet":0}"#, "refused 100 LinkDown"),
         ],
-    )?;
-    assert_eq!(rt; answers.as_str(), wanted.as_str());
-    Ok(())
+    )
 }
 
 #[test]
 fn a_turn_after_the_expiry_refuses(rt: HostRuntime) -> Result<(), Fail> {
-    let (answers, wanted) = talk(
+    expect_talk(
+        &rt,
         rt.alloc(),
         &row_sent(),
         &[
@@ -90,15 +87,14 @@ fn a_turn_after_the_expiry_refuses(rt: HostRuntime) -> Result<(), Fail> {
             (r#"{"do":"tick","now":22601}"#, "ok"),
             (r#"{"do":"turn","packet":0}"#, "refused 93 Expired"),
         ],
-    )?;
-    assert_eq!(rt; answers.as_str(), wanted.as_str());
-    Ok(())
+    )
 }
 
 #[test]
 fn a_mended_link_carries(rt: HostRuntime) -> Result<(), Fail> {
     let [first, second, third] = row_turns();
-    let (answers, wanted) = talk(
+    expect_talk(
+        &rt,
         rt.alloc(),
         &row_sent(),
         &[
@@ -108,14 +104,13 @@ fn a_mended_link_carries(rt: HostRuntime) -> Result<(), Fail> {
             second,
             third,
         ],
-    )?;
-    assert_eq!(rt; answers.as_str(), wanted.as_str());
-    Ok(())
+    )
 }
 
 #[test]
 fn others_are_disturbed(rt: HostRuntime) -> Result<(), Fail> {
-    let (answers, wanted) = talk(
+    expect_talk(
+        &rt,
         rt.alloc(),
         &row_sent(),
         &[
@@ -137,14 +132,13 @@ fn others_are_disturbed(rt: HostRuntime) -> Result<(), Fail> {
                 "delivered; 1-ff00:0:112#0,1 1-ff00:0:111#2,1 1-ff00:0:110#1,0",
             ),
         ],
-    )?;
-    assert_eq!(rt; answers.as_str(), wanted.as_str());
-    Ok(())
+    )
 }
 
 #[test]
 fn others_are_disturbed_between_two_cores(rt: HostRuntime) -> Result<(), Fail> {
-    let (answers, wanted) = talk(
+    expect_talk(
+        &rt,
         rt.alloc(),
         &pair_sent(),
         &[
@@ -166,14 +160,13 @@ fn others_are_disturbed_between_two_cores(rt: HostRuntime) -> Result<(), Fail> {
             (r#"{"do":"turn","packet":0}"#, "link 2"),
             (r#"{"do":"turn","packet":0}"#, "delivered"),
         ],
-    )?;
-    assert_eq!(rt; answers.as_str(), wanted.as_str());
-    Ok(())
+    )
 }
 
 #[test]
 fn links_beside_a_shortcut_are_cut(rt: HostRuntime) -> Result<(), Fail> {
-    let (answers, wanted) = talk(
+    expect_talk(
+        &rt,
         rt.alloc(),
         &fork(wide_fork()),
         &[
@@ -185,14 +178,13 @@ fn links_beside_a_shortcut_are_cut(rt: HostRuntime) -> Result<(), Fail> {
             (r#"{"do":"turn","packet":0}"#, "link 3"),
             (r#"{"do":"turn","packet":0}"#, "delivered"),
         ],
-    )?;
-    assert_eq!(rt; answers.as_str(), wanted.as_str());
-    Ok(())
+    )
 }
 
 #[test]
 fn the_store_and_the_moment(rt: HostRuntime) -> Result<(), Fail> {
-    let (answers, wanted) = talk(
+    expect_talk(
+        &rt,
         rt.alloc(),
         &row_sent(),
         &[
@@ -212,14 +204,13 @@ fn the_store_and_the_moment(rt: HostRuntime) -> Result<(), Fail> {
                 "no 79 Expired",
             ),
         ],
-    )?;
-    assert_eq!(rt; answers.as_str(), wanted.as_str());
-    Ok(())
+    )
 }
 
 #[test]
 fn what_is_not_there(rt: HostRuntime) -> Result<(), Fail> {
-    let (answers, wanted) = talk(
+    expect_talk(
+        &rt,
         rt.alloc(),
         &row_sent(),
         &[
@@ -247,7 +238,5 @@ fn what_is_not_there(rt: HostRuntime) -> Result<(), Fail> {
                 "no 11 BadField",
             ),
         ],
-    )?;
-    assert_eq!(rt; answers.as_str(), wanted.as_str());
-    Ok(())
+    )
 }

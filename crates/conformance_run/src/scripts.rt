@@ -1,6 +1,6 @@
 //! Whole networks, up to a packet's delivery.
 
-use crate::table::{Row, row_sent, row_turns, talk};
+use crate::table::{Row, expect_talk, row_sent, row_turns};
 use std::test::Fail;
 
 /// Two core ASes, each with a child, and that with another, two routers each, up to a packet from
@@ -97,14 +97,13 @@ pub(crate) fn fork(topology: &'static str) -> [Row; 9] {
 
 #[test]
 fn up_a_row(rt: HostRuntime) -> Result<(), Fail> {
-    let (answers, wanted) = talk(rt.alloc(), &row_sent(), &row_turns())?;
-    assert_eq!(rt; answers.as_str(), wanted.as_str());
-    Ok(())
+    expect_talk(&rt, rt.alloc(), &row_sent(), &row_turns())
 }
 
 #[test]
 fn up_a_row_and_shown(rt: HostRuntime) -> Result<(), Fail> {
-    let (answers, wanted) = talk(
+    expect_talk(
+        &rt,
         rt.alloc(),
         &row_sent(),
         &[
@@ -122,14 +121,13 @@ fn up_a_row_and_shown(rt: HostRuntime) -> Result<(), Fail> {
             ),
             (r#"{"do":"turn","packet":0}"#, "no 131 NotInFlight"),
         ],
-    )?;
-    assert_eq!(rt; answers.as_str(), wanted.as_str());
-    Ok(())
+    )
 }
 
 #[test]
 fn up_across_and_down(rt: HostRuntime) -> Result<(), Fail> {
-    let (answers, wanted) = talk(
+    expect_talk(
+        &rt,
         rt.alloc(),
         &pair_sent(),
         &[
@@ -144,14 +142,13 @@ fn up_across_and_down(rt: HostRuntime) -> Result<(), Fail> {
             (r#"{"do":"turn","packet":0}"#, "link 2"),
             (r#"{"do":"turn","packet":0}"#, "delivered"),
         ],
-    )?;
-    assert_eq!(rt; answers.as_str(), wanted.as_str());
-    Ok(())
+    )
 }
 
 #[test]
 fn asks_between_all_kinds_of_ends(rt: HostRuntime) -> Result<(), Fail> {
-    let (answers, wanted) = talk(
+    expect_talk(
+        &rt,
         rt.alloc(),
         &pair_sent(),
         &[
@@ -176,14 +173,13 @@ fn asks_between_all_kinds_of_ends(rt: HostRuntime) -> Result<(), Fail> {
                 "ask 5 0",
             ),
         ],
-    )?;
-    assert_eq!(rt; answers.as_str(), wanted.as_str());
-    Ok(())
+    )
 }
 
 #[test]
 fn shortcut_through_one_router(rt: HostRuntime) -> Result<(), Fail> {
-    let (answers, wanted) = talk(
+    expect_talk(
+        &rt,
         rt.alloc(),
         &fork(narrow_fork()),
         &[
@@ -192,14 +188,13 @@ fn shortcut_through_one_router(rt: HostRuntime) -> Result<(), Fail> {
             (r#"{"do":"turn","packet":0}"#, "delivered"),
             (r#"{"do":"back","packet":0,"payload":""}"#, "packet 1"),
         ],
-    )?;
-    assert_eq!(rt; answers.as_str(), wanted.as_str());
-    Ok(())
+    )
 }
 
 #[test]
 fn shortcut_through_two_routers(rt: HostRuntime) -> Result<(), Fail> {
-    let (answers, wanted) = talk(
+    expect_talk(
+        &rt,
         rt.alloc(),
         &fork(wide_fork()),
         &[
@@ -209,7 +204,5 @@ fn shortcut_through_two_routers(rt: HostRuntime) -> Result<(), Fail> {
             (r#"{"do":"turn","packet":0}"#, "delivered"),
             (r#"{"do":"back","packet":0,"payload":""}"#, "packet 1"),
         ],
-    )?;
-    assert_eq!(rt; answers.as_str(), wanted.as_str());
-    Ok(())
+    )
 }

@@ -2,6 +2,7 @@
 
 use event_lines::{RunFault, run_lines};
 use std::alloc::Global;
+use std::process::Abort;
 use std::test::Fail;
 use streams::{Reader, Writer};
 
@@ -37,11 +38,11 @@ pub(crate) fn answers_of(alloc: Global, table: &[Row]) -> Result<String, Fail> {
 }
 
 /// What a run answers, and what it was to answer.
-pub(crate) type Answers = (String, String);
+type Answers = (String, String);
 
 /// What a run over the lines of these tables answers, one table behind the other, and what it was
 /// to answer. Fails where the run does.
-pub(crate) fn talk(alloc: Global, first: &[Row], then: &[Row]) -> Result<Answers, Fail> {
+fn talk(alloc: Global, first: &[Row], then: &[Row]) -> Result<Answers, Fail> {
     let mut input = lines_of(alloc, first)?;
     input.push_str(lines_of(alloc, then)?.as_str())?;
     let mut wanted = answers_of(alloc, first)?;
@@ -50,6 +51,19 @@ pub(crate) fn talk(alloc: Global, first: &[Row], then: &[Row]) -> Result<Answers
     result?;
     let answers = String::from_str(alloc, std::str::from_utf8(&output)?)?;
     Ok((answers, wanted))
+}
+
+/// Asserts that a run over the lines of these tables, one table behind the other, answers what it
+/// was to answer.
+pub(crate) fn expect_talk(
+    rt: &impl Abort,
+    alloc: Global,
+    first: &[Row],
+    then: &[Row],
+) -> Result<(), Fail> {
+    let (answers, wanted) = talk(alloc, first, then)?;
+    assert_eq!(rt; answers.as_str(), wanted.as_str());
+    Ok(())
 }
 
 /// Three ASes in a row with one router each: a core AS, its child, and the child of that, up to a

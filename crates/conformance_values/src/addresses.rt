@@ -1,5 +1,22 @@
 use isd_as::{AddrFault, AsNumber, IfId, Isd, IsdAs, MAX_TEXT_LEN};
+use std::alloc::{AllocError, Global};
+use std::process::Abort;
 use std::test::Fail;
+
+/// Asserts that an address prints so, and that no byte behind its text is written.
+fn expect_text(
+    rt: &impl Abort,
+    alloc: Global,
+    address: IsdAs,
+    text: &str,
+) -> Result<(), AllocError> {
+    assert_eq!(rt; format!(in alloc; "{address}")?.as_str(), text);
+    let mut room = [b'#'; MAX_TEXT_LEN];
+    let len = address.write_text(&mut room);
+    assert_eq!(rt; &room[..len], text.as_bytes());
+    assert!(rt; room[len..].iter().all(|byte| *byte == b'#'));
+    Ok(())
+}
 
 #[test]
 fn addresses_have_their_bytes_and_texts(rt: HostRuntime) -> Result<(), Fail> {
@@ -14,12 +31,7 @@ fn addresses_have_their_bytes_and_texts(rt: HostRuntime) -> Result<(), Fail> {
         let address = IsdAs::parse(text)?;
         assert_eq!(rt; address.to_bytes(), bytes, "{text}");
         assert_eq!(rt; IsdAs::from_bytes(bytes), address, "{text}");
-        assert_eq!(rt; format!(in rt.alloc(); "{address}")?.as_str(), text);
-
-        let mut room = [b'#'; MAX_TEXT_LEN];
-        let len = address.write_text(&mut room);
-        assert_eq!(rt; &room[..len], text.as_bytes());
-        assert!(rt; room[len..].iter().all(|byte| *byte == b'#'));
+        expect_text(&rt, rt.alloc(), address, text)?;
     }
     Ok(())
 }
@@ -40,43 +52,48 @@ fn other_spellings_print_canonically(rt: HostRuntime) -> Result<(), Fail> {
     Ok(())
 }
 
+/// Asserts by which fault, number and name a text is refused.
+fn expect_refusal(rt: &impl Abort, text: &str, fault: AddrFault, code: u16, name: &str) {
+    assert_eq!(rt; IsdAs::parse(text), Err(fault), "{text}");
+    assert!(rt; fault.code() == code && fault.name() == name, "{text}");
+}
+
+/// Asserts that a character of a text is no digit of its number.
+fn expect_bad_digit(rt: &impl Abort, text: &str) {
+    expect_refusal(rt, text, AddrFault::BadDigit, 2, "BadDigit");
+}
+
+/// Asserts that a text is refused for its groups.
+fn expect_bad_groups(rt: &impl Abort, text: &str) {
+    expect_refusal(rt, text, AddrFault::BadGroups, 5, "BadGroups");
+}
+
 #[test]
 fn the_first_refusal_is_given(rt: HostRuntime) {
-    let rows = [
-        ("1-4294967296", AddrFault::AsRange, 4, "AsRange"),
-        ("1-ff00:0", AddrFault::BadGroups, 5, "BadGroups"),
-        ("1", AddrFault::NoDash, 1, "NoDash"),
-        ("65536-1", AddrFault::IsdRange, 3, "IsdRange"),
-        ("1-", AddrFault::BadDigit, 2, "BadDigit"),
-        ("1-2-3", AddrFault::BadDigit, 2, "BadDigit"),
-        // Which of two refusals comes first.
-        ("x", AddrFault::NoDash, 1, "NoDash"),
-        ("65536-", AddrFault::IsdRange, 3, "IsdRange"),
-        ("x-0:0", AddrFault::BadDigit, 2, "BadDigit"),
-        (
-            "99999999999999999999999x-1",
-            AddrFault::BadDigit,
-            2,
-            "BadDigit",
-        ),
-        (
-            "1-99999999999999999999999x",
-            AddrFault::BadDigit,
-            2,
-            "BadDigit",
-        ),
-        ("1-xyz:0:00000", AddrFault::BadGroups, 5, "BadGroups"),
-        // A group has 1 to 4 characters, however many bytes they take.
-        ("1-ééé:0:0", AddrFault::BadDigit, 2, "BadDigit"),
-        ("1-0::0", AddrFault::BadGroups, 5, "BadGroups"),
-        ("1-0:0:0:0", AddrFault::BadGroups, 5, "BadGroups"),
-        ("+1-1", AddrFault::BadDigit, 2, "BadDigit"),
-    ];
-    for (text, fault, code, name) in rows {
-        assert_eq!(rt; IsdAs::parse(text), Err(fault), "{text}");
-        assert_eq!(rt; fault.code(), code, "{text}");
-        assert_eq!(rt; fault.name(), name, "{text}");
-    }
+    expect_refusal(&rt, "1-4294967296", AddrFault::AsRange, 4, "AsRange");
+    expect_bad_groups(&rt, "1-ff00:0");
+    expect_refusal(&rt, "1", AddrFault::NoDash, 1, "NoDash");
+    expect_refusal(&rt, "65536-1", AddrFault::IsdRange, 3, "IsdRange");
+    expect_bad_digit(&rt, "1-");
+    expect_bad_digit(&rt, "1-2-3");
+    // Which of two refusals comes first.
+    expect_refusal(&rt, "x", AddrFault::NoDash, 1, "NoDash");
+    expect_refusal(&rt, "65536-", AddrFault::IsdRange, 3, "IsdRange");
+    expect_bad_digit(&rt, "x-0:0");
+    expect_bad_digit(&rt, "99999999999999999999999x-1");
+    expect_bad_digit(&rt, "1-99999999999999999999999x");
+    expect_bad_groups(&rt, "1-xyz:0:00000");
+    // A group has 1 to 4 characters, however many bytes they take.
+    expect_bad_digit(&rt, "1-ééé:0:0");
+    expect_bad_groups(&rt, "1-0::0");
+    expect_bad_groups(&rt, "1-0:0:0:0");
+    expect_bad_digit(&rt, "+1-1");
+}
+
+/// Whether an address is more than the one and less than the other.
+fn is_between(address: IsdAs, low: &str, high: &str) -> Result<bool, AddrFault> {
+    let (low, high) = (IsdAs::parse(low)?, IsdAs::parse(high)?);
+    Ok(low < address && address < high)
 }
 
 #[test]
@@ -85,14 +102,13 @@ fn an_address_has_its_parts(rt: HostRuntime) -> Result<(), Fail> {
     let as_number = AsNumber::parse("ff00:0:110")?;
     let address = IsdAs::new(isd, as_number);
     assert_eq!(rt; address.number(), 0x0001_ff00_0000_0110);
-    assert_eq!(rt; IsdAs::from_number(address.number()), address);
-    assert_eq!(rt; address.isd(), isd);
-    assert_eq!(rt; address.as_number(), as_number);
-    assert_eq!(rt; as_number.number(), 0xff00_0000_0110);
+    assert!(rt; IsdAs::from_number(address.number()) == address);
+    assert!(rt; address.isd() == isd && address.as_number() == as_number);
+    assert!(rt; as_number.number() == 0xff00_0000_0110);
     assert!(rt; !address.is_wildcard() && !isd.is_wildcard() && !as_number.is_wildcard());
     assert!(rt; IsdAs::new(Isd(0), as_number).is_wildcard());
-    assert_eq!(rt; AsNumber::new(1 << 48), None);
-    assert!(rt; IsdAs::parse("1-2")? < address && address < IsdAs::parse("2-1")?);
+    assert!(rt; AsNumber::new(1 << 48).is_none());
+    assert!(rt; is_between(address, "1-2", "2-1")?);
 
     let shown = format!(in rt.alloc(); "{isd} {as_number} {} {}", IfId(7), AddrFault::NoDash)?;
     assert_eq!(rt;

@@ -1,5 +1,6 @@
 use isd_as::IfId;
 use path_header::{Header, HeaderFault, HeaderMut, HopField, InfoField, decode, encode};
+use std::process::Abort;
 use std::test::Fail;
 
 /// A path of one segment of two hop fields, travelled in construction direction, at its second hop.
@@ -144,19 +145,43 @@ fn new_header_is_spelled(rt: HostRuntime) -> Result<(), Fail> {
     Ok(())
 }
 
+/// The first four bytes of a header that takes 124.
+fn meta_of(header: &Header) -> Result<[u8; 4], HeaderFault> {
+    let mut room = [0; 124];
+    if encode(header, &mut room)? != 124 {
+        return Err(HeaderFault::Short);
+    }
+    Ok([room[0], room[1], room[2], room[3]])
+}
+
 #[test]
 fn meta_fields_are_spelled(rt: HostRuntime) -> Result<(), Fail> {
     let mut header = Header::new([3, 2, 3], &[UP_INFO; 3], &[LEAF_HOP; 8])?;
-    let mut room = [0; 124];
-    assert_eq!(rt; encode(&header, &mut room)?, 124);
-    assert_eq!(rt; &room[..4], [0x00, 0x00, 0x30, 0x83].as_slice());
+    assert_eq!(rt; meta_of(&header)?, [0x00, 0x00, 0x30, 0x83]);
     if header.info_count() > 1 && header.hop_count() > 3 {
         header.set_indices(1, 3);
-        assert_eq!(rt; header.segment_of(2), 0);
-        assert_eq!(rt; header.segment_of(3), 1);
+        assert!(rt; header.segment_of(2) == 0 && header.segment_of(3) == 1);
     }
-    assert_eq!(rt; encode(&header, &mut room)?, 124);
-    assert_eq!(rt; &room[..4], [0x43, 0x00, 0x30, 0x83].as_slice());
+    assert_eq!(rt; meta_of(&header)?, [0x43, 0x00, 0x30, 0x83]);
+    Ok(())
+}
+
+/// Asserts what the header of [`WORKED`] shows.
+fn expect_worked(rt: &impl Abort, header: &Header) {
+    assert!(rt; header.curr_inf() == 0 && header.curr_hf() == 1);
+    assert!(rt; header.seg_lens().first == 2);
+    assert!(rt; header.info(header.curr_inf()) == header.current_info());
+    assert!(rt; header.hop(header.curr_hf()) == header.current_hop());
+    assert!(rt; header.current_hop() == LEAF_HOP);
+}
+
+/// Asserts that a header is written as [`BACK`], and not at all where the room is too small.
+fn expect_back(rt: &impl Abort, header: &Header) -> Result<(), HeaderFault> {
+    let mut room = [0xee; 36];
+    assert_eq!(rt; code_of(encode(header, &mut room[..35])), 27);
+    assert!(rt; room == [0xee; 36]);
+    assert_eq!(rt; encode(header, &mut room)?, header.encoded_len());
+    assert_eq!(rt; room, BACK);
     Ok(())
 }
 
@@ -164,19 +189,11 @@ fn meta_fields_are_spelled(rt: HostRuntime) -> Result<(), Fail> {
 fn header_is_read_and_reversed(rt: HostRuntime) -> Result<(), Fail> {
     let (mut header, len) = decode(&WORKED)?;
     assert_eq!(rt; len, 36);
-    assert_eq!(rt; (header.curr_inf(), header.curr_hf()), (0, 1));
-    assert_eq!(rt; header.seg_lens().first, 2);
-    assert_eq!(rt; header.info(header.curr_inf()), header.current_info());
-    assert_eq!(rt; header.hop(header.curr_hf()), header.current_hop());
-    assert_eq!(rt; header.current_hop(), LEAF_HOP);
+    expect_worked(&rt, &header);
     let before = header.clone()?;
     header.reverse();
     assert!(rt; !header.is_same(&before));
-    let mut room = [0xee; 36];
-    assert_eq!(rt; code_of(encode(&header, &mut room[..35])), 27);
-    assert_eq!(rt; room, [0xee; 36]);
-    assert_eq!(rt; encode(&header, &mut room)?, header.encoded_len());
-    assert_eq!(rt; room, BACK);
+    expect_back(&rt, &header)?;
     header.set_seg_id(0, 0xb396);
     assert_eq!(rt; header.current_info(), UP_INFO);
     Ok(())

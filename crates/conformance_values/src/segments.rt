@@ -2,6 +2,7 @@ use isd_as::{IfId, IsdAs};
 use path_segment::{Beacon, Entry, SegKind, Segment, SegmentError, SegmentFault};
 use refusal::OrMemory;
 use std::alloc::Global;
+use std::process::Abort;
 use std::test::Fail;
 
 /// The text of the worked segment.
@@ -51,24 +52,32 @@ fn code_of<T: Drop>(answer: Result<T, SegmentError>) -> u16 {
     }
 }
 
+/// Asserts what the worked segment shows in calls.
+fn expect_worked(rt: &impl Abort, segment: &Segment) {
+    assert!(rt; segment.kind() == SegKind::Intra && segment.timestamp() == 100);
+    assert!(rt; segment.beta0() == 4660 && segment.entries().len() == 2);
+    let betas = [segment.beta_at(0), segment.beta_at(1), segment.beta_at(2)];
+    assert_eq!(rt; betas, [0x1234, 0xb396, 0x0224]);
+    assert_eq!(rt; segment.least_expiry(0, 1), 43_400);
+    assert!(rt; segment.is_live(0) && segment.is_live(21_700) && !segment.is_live(21_701));
+}
+
+/// Whether the text is that of the segment.
+fn is_text_of(alloc: Global, segment: &Segment, text: &str) -> Result<bool, Fail> {
+    Ok(Segment::from_json(alloc, text.as_bytes())?.is_same(segment))
+}
+
 /// The worked segment shows what it should, in calls and as text, and is read again.
 #[test]
 fn worked(rt: HostRuntime) -> Result<(), Fail> {
     let alloc = rt.alloc();
     let entries = vec![in alloc; first_entry(), last_entry()]?;
     let segment = Segment::new(SegKind::Intra, 100, 4660, entries)?;
-    assert!(rt; segment.kind() == SegKind::Intra && segment.timestamp() == 100);
-    assert!(rt; segment.beta0() == 4660 && segment.entries().len() == 2);
-    assert_eq!(rt; segment.beta_at(0), 0x1234);
-    assert_eq!(rt; segment.beta_at(1), 0xb396);
-    assert_eq!(rt; segment.beta_at(2), 0x0224);
-    assert_eq!(rt; segment.least_expiry(0, 1), 43_400);
-    assert!(rt; segment.is_live(0) && segment.is_live(21_700) && !segment.is_live(21_701));
+    expect_worked(&rt, &segment);
     assert_eq!(rt; segment.to_json(alloc)?.as_str(), text());
-
     assert!(rt; segment.try_clone(alloc)?.is_same(&segment));
-    assert!(rt; Segment::from_json(alloc, text().as_bytes())?.is_same(&segment));
-    assert!(rt; Segment::from_json(alloc, other_text().as_bytes())?.is_same(&segment));
+    assert!(rt; is_text_of(alloc, &segment, text())?);
+    assert!(rt; is_text_of(alloc, &segment, other_text())?);
     Ok(())
 }
 
@@ -95,32 +104,66 @@ fn entries_of(alloc: Global, count: u16) -> Result<Vec<Entry>, Fail> {
     Ok(entries)
 }
 
+/// What a core segment of as many entries is refused by.
+fn code_of_length(alloc: Global, count: u16) -> Result<u16, Fail> {
+    let segment = Segment::new(SegKind::Core, 0, 0, entries_of(alloc, count)?);
+    Ok(segment.err().map_or(0, SegmentFault::code))
+}
+
+/// A beacon of one entry.
+fn short_beacon(alloc: Global) -> Result<Beacon, Fail> {
+    Ok(Beacon::first(alloc, SegKind::Core, 0, 0, entry(0, 0, 1, [0; 6]))?)
+}
+
+/// A beacon of 62 entries, the most.
+fn long_beacon(alloc: Global) -> Result<Beacon, Fail> {
+    let mut beacon = short_beacon(alloc)?;
+    for i in 1..62 {
+        beacon = beacon.with_entry(alloc, entry(i, 1, 1, [0; 6]))?;
+    }
+    Ok(beacon)
+}
+
+/// Asserts that the longest beacon takes no further entry but its segment's last.
+fn expect_longest(rt: &impl Abort, alloc: Global, beacon: &Beacon) -> Result<(), Fail> {
+    assert_eq!(rt; beacon.entries().len(), 62);
+    let longer = beacon.with_entry(alloc, entry(0, 0, 0, [0; 6]));
+    assert_eq!(rt; code_of(longer), 31);
+    let segment = beacon.finish(alloc, entry(62, 1, 0, [0; 6]))?;
+    assert_eq!(rt; segment.entries().len(), 63);
+    Ok(())
+}
+
+/// Asserts by which number and name a refusal is reported.
+fn expect_named(rt: &impl Abort, fault: SegmentFault, code: u16, name: &str) {
+    assert!(rt; fault.code() == code && fault.name() == name);
+}
+
+/// What an entry of these interfaces is refused by as the first of a beacon, behind a beacon's
+/// first, and as a segment's last behind that.
+fn codes_of_ends(
+    alloc: Global,
+    beacon: &Beacon,
+    ia: u64,
+    ingress: u16,
+    egress: u16,
+) -> (u16, u16, u16) {
+    let first = entry(ia, ingress, egress, [0; 6]);
+    let first = code_of(Beacon::first(alloc, SegKind::Core, 0, 0, first));
+    let next = entry(ia, ingress, egress, [0; 6]);
+    let next = code_of(beacon.with_entry(alloc, next));
+    let last = entry(ia, ingress, egress, [0; 6]);
+    (first, next, code_of(beacon.finish(alloc, last)))
+}
+
 /// Lengths, ends and loops, and which refusal comes first.
 #[test]
 fn rules(rt: HostRuntime) -> Result<(), Fail> {
     let alloc = rt.alloc();
-    let lengths = [(0, 30), (1, 30), (2, 0), (63, 0), (64, 31)];
-    for (count, code) in lengths {
-        let segment = Segment::new(SegKind::Core, 0, 0, entries_of(alloc, count)?);
-        assert_eq!(rt; segment.err().map_or(0, SegmentFault::code), code);
+    for (count, code) in [(0, 30), (1, 30), (2, 0), (63, 0), (64, 31)] {
+        assert_eq!(rt; code_of_length(alloc, count)?, code);
     }
-    let mut beacon = Beacon::first(alloc, SegKind::Core, 0, 0, entry(0, 0, 1, [0; 6]))?;
-    for i in 1..62 {
-        beacon = beacon.with_entry(alloc, entry(i, 1, 1, [0; 6]))?;
-    }
-    assert_eq!(rt; beacon.entries().len(), 62);
-    assert_eq!(rt;
-        code_of(beacon.with_entry(alloc, entry(0, 0, 0, [0; 6]))),
-        31
-    );
-    assert_eq!(rt;
-        beacon
-            .finish(alloc, entry(62, 1, 0, [0; 6]))?
-            .entries()
-            .len(),
-        63
-    );
-
+    expect_longest(&rt, alloc, &long_beacon(alloc)?)?;
     let ends = [
         (0, 0, 0, 32, 32),
         (0, 1, 1, 33, 32),
@@ -128,30 +171,16 @@ fn rules(rt: HostRuntime) -> Result<(), Fail> {
         (1, 1, 1, 0, 32),
         (1, 0, 0, 32, 32),
     ];
-    let beacon = Beacon::first(alloc, SegKind::Core, 0, 0, entry(0, 0, 1, [0; 6]))?;
+    let beacon = short_beacon(alloc)?;
     for (ia, ingress, egress, next, last) in ends {
-        let one = entry(ia, ingress, egress, [0; 6]);
-        let first = Beacon::first(
-            alloc,
-            SegKind::Core,
-            0,
-            0,
-            entry(ia, ingress, egress, [0; 6]),
-        );
-        assert_eq!(rt; code_of(first), 32);
-        assert_eq!(rt; code_of(beacon.with_entry(alloc, one)), next);
-        assert_eq!(rt; code_of(beacon.finish(alloc, one)), last);
+        let codes = codes_of_ends(alloc, &beacon, ia, ingress, egress);
+        assert_eq!(rt; codes, (32, next, last));
     }
-    let names = [
-        (SegmentFault::TooShort, 30, "TooShort"),
-        (SegmentFault::TooLong, 31, "TooLong"),
-        (SegmentFault::BadEnds, 32, "BadEnds"),
-        (SegmentFault::Loop, 33, "Loop"),
-        (SegmentFault::NotJson, 34, "NotJson"),
-    ];
-    for (fault, code, name) in names {
-        assert!(rt; fault.code() == code && fault.name() == name);
-    }
+    expect_named(&rt, SegmentFault::TooShort, 30, "TooShort");
+    expect_named(&rt, SegmentFault::TooLong, 31, "TooLong");
+    expect_named(&rt, SegmentFault::BadEnds, 32, "BadEnds");
+    expect_named(&rt, SegmentFault::Loop, 33, "Loop");
+    expect_named(&rt, SegmentFault::NotJson, 34, "NotJson");
     Ok(())
 }
 

@@ -3,6 +3,7 @@ use path_segment::{Entry, SegKind, Segment};
 use path_server::{PathStore, StoreFault, StoreOp};
 use refusal::OrMemory;
 use std::alloc::{AllocError, Global};
+use std::process::Abort;
 use std::test::Fail;
 
 /// An AS of ISD 1: `110` stands for `1-ff00:0:110`.
@@ -65,6 +66,39 @@ fn are_same(segments: &[Segment], others: &[&Segment]) -> bool {
             .all(|(segment, other)| segment.is_same(other))
 }
 
+/// Whether a look-up between these ASes at a second finds these segments up and down, and no core
+/// segment.
+fn looks_up(
+    alloc: Global,
+    store: &PathStore,
+    ends: (u64, u64),
+    now: u32,
+    ups: &[&Segment],
+    downs: &[&Segment],
+) -> Result<bool, AllocError> {
+    let set = store.segments_for(alloc, ia(ends.0), ia(ends.1), now)?;
+    let is_told = set.cores().is_empty() && set.now() == now;
+    Ok(is_told && are_same(set.ups(), ups) && are_same(set.downs(), downs))
+}
+
+/// Whether a copy of what is found from the worked segment's last AS has that segment.
+fn copies(alloc: Global, store: &PathStore, worked: &Segment) -> Result<bool, AllocError> {
+    let set = store.segments_for(alloc, ia(0x111), ia(0x110), 100)?;
+    let copy = set.try_clone(alloc)?;
+    Ok(are_same(copy.ups(), &[worked]) && copy.now() == 100)
+}
+
+/// What registering a segment answers at first, once more, and when it has expired.
+fn answers_to(
+    alloc: Global,
+    store: &mut PathStore,
+    segment: &Segment,
+) -> Result<[u16; 3], AllocError> {
+    let first = answer_to(alloc, store, segment, 100)?;
+    let again = answer_to(alloc, store, segment, 100)?;
+    Ok([first, again, answer_to(alloc, store, segment, 21_701)?])
+}
+
 /// The worked segment is taken in once, found from its last AS, and swept when it has expired.
 #[test]
 fn one_segment(rt: HostRuntime) -> Result<(), Fail> {
@@ -72,24 +106,18 @@ fn one_segment(rt: HostRuntime) -> Result<(), Fail> {
     let s = worked(alloc, 4660)?;
     let mut store = PathStore::new(alloc);
     assert!(rt; store.is_empty());
-    assert_eq!(rt; answer_to(alloc, &mut store, &s, 100)?, 1);
-    assert_eq!(rt; answer_to(alloc, &mut store, &s, 100)?, 0);
-    assert_eq!(rt; answer_to(alloc, &mut store, &s, 21_701)?, 51);
+    assert_eq!(rt; answers_to(alloc, &mut store, &s)?, [1, 0, 51]);
     assert!(rt; store.len() == 1 && are_same(store.segments(), &[&s]));
-
-    let set = store.segments_for(alloc, ia(0x111), ia(0x110), 100)?;
-    assert!(rt; are_same(set.ups(), &[&s]) && set.now() == 100);
-    assert!(rt; set.cores().is_empty() && set.downs().is_empty());
-    let copy = set.try_clone(alloc)?;
-    assert!(rt; are_same(copy.ups(), &[&s]) && copy.now() == 100);
-    let back = store.segments_for(alloc, ia(0x110), ia(0x111), 21_700)?;
-    assert!(rt; back.ups().is_empty() && are_same(back.downs(), &[&s]));
-    let late = store.segments_for(alloc, ia(0x111), ia(0x110), 21_701)?;
-    assert!(rt; late.ups().is_empty() && late.downs().is_empty());
-
-    assert_eq!(rt; store.sweep(21_700), 0);
-    assert_eq!(rt; store.sweep(21_701), 1);
-    assert_eq!(rt; store.sweep(21_701), 0);
+    assert!(rt; looks_up(alloc, &store, (0x111, 0x110), 100, &[&s], &[])?);
+    assert!(rt; copies(alloc, &store, &s)?);
+    assert!(rt; looks_up(alloc, &store, (0x110, 0x111), 21_700, &[], &[&s])?);
+    assert!(rt; looks_up(alloc, &store, (0x111, 0x110), 21_701, &[], &[])?);
+    let swept = [
+        store.sweep(21_700),
+        store.sweep(21_701),
+        store.sweep(21_701),
+    ];
+    assert_eq!(rt; swept, [0, 1, 0]);
     assert!(rt; store.is_empty());
     Ok(())
 }
@@ -141,15 +169,45 @@ fn finds(
     left: &Segment,
     right: &Segment,
 ) -> Result<bool, AllocError> {
-    let there = store.segments_for(alloc, ia(0x112), ia(0x113), 1000)?;
-    let back = store.segments_for(alloc, ia(0x113), ia(0x112), 1000)?;
-    Ok(
-        are_same(there.ups(), &[left])
-            && are_same(there.downs(), &[right])
-            && are_same(back.ups(), &[right])
-            && are_same(back.downs(), &[left])
-            && there.cores().is_empty(),
-    )
+    let is_there = looks_up(alloc, store, (0x112, 0x113), 1000, &[left], &[right])?;
+    Ok(is_there && looks_up(alloc, store, (0x113, 0x112), 1000, &[right], &[left])?)
+}
+
+/// Asserts that 32 worked segments are taken in, and no further one.
+fn expect_full(rt: &impl Abort, alloc: Global, store: &mut PathStore) -> Result<(), Fail> {
+    for beta0 in 1..=32 {
+        let one = worked(alloc, beta0)?;
+        assert_eq!(rt; answer_to(alloc, store, &one, 100)?, 1);
+    }
+    let one = worked(alloc, 33)?;
+    assert_eq!(rt; answer_to(alloc, store, &one, 100)?, 50);
+    Ok(())
+}
+
+/// Whether a look-up finds the worked segments up, in their order, and this one down.
+fn finds_worked(alloc: Global, store: &PathStore, down: &Segment) -> Result<bool, AllocError> {
+    let set = store.segments_for(alloc, ia(0x111), ia(0x112), 1000)?;
+    let mut ups = set.ups().iter().zip(1..);
+    let are_in_order = ups.all(|(up, beta0)| up.beta0() == beta0);
+    Ok(are_in_order && set.ups().len() == 32 && are_same(set.downs(), &[down]))
+}
+
+/// Asserts that both are taken in beside the 32 worked segments, and found, and stay when these are
+/// swept.
+fn expect_two(
+    rt: &impl Abort,
+    alloc: Global,
+    store: &mut PathStore,
+    left: &Segment,
+    right: &Segment,
+) -> Result<(), Fail> {
+    assert_eq!(rt; answer_to(alloc, store, left, 1000)?, 1);
+    assert_eq!(rt; answer_to(alloc, store, right, 1000)?, 1);
+    assert!(rt; finds(alloc, store, left, right)?);
+    assert_eq!(rt; store.sweep(21_701), 32);
+    assert!(rt; are_same(store.segments(), &[left, right]));
+    assert!(rt; finds(alloc, store, left, right)?);
+    Ok(())
 }
 
 /// A sweep that takes 32 segments out leaves a shortcut's two, and look-ups find them, also after
@@ -158,28 +216,12 @@ fn finds(
 fn swept_beside_others(rt: HostRuntime) -> Result<(), Fail> {
     let alloc = rt.alloc();
     let mut store = store_of(alloc, 32)?;
-    let (left, right) = (half(alloc, 2, 0x112)?, half(alloc, 3, 0x113)?);
-    assert_eq!(rt; answer_to(alloc, &mut store, &left, 1000)?, 1);
-    assert_eq!(rt; answer_to(alloc, &mut store, &right, 1000)?, 1);
-    assert!(rt; finds(alloc, &store, &left, &right)?);
-    assert_eq!(rt; store.sweep(21_701), 32);
-    assert!(rt; are_same(store.segments(), &[&left, &right]));
-    assert!(rt; finds(alloc, &store, &left, &right)?);
-
-    for beta0 in 1..=32 {
-        let one = worked(alloc, beta0)?;
-        assert_eq!(rt; answer_to(alloc, &mut store, &one, 100)?, 1);
-    }
-    assert_eq!(rt; answer_to(alloc, &mut store, &worked(alloc, 33)?, 100)?, 50);
+    let left = half(alloc, 2, 0x112)?;
+    let right = half(alloc, 3, 0x113)?;
+    expect_two(&rt, alloc, &mut store, &left, &right)?;
+    expect_full(&rt, alloc, &mut store)?;
     assert!(rt; store.len() == 34 && finds(alloc, &store, &left, &right)?);
-    let set = store.segments_for(alloc, ia(0x111), ia(0x112), 1000)?;
-    assert!(rt; set.ups().len() == 32 && are_same(set.downs(), &[&left]));
-    assert!(rt;
-        set.ups()
-            .iter()
-            .zip(1..)
-            .all(|(up, beta0)| up.beta0() == beta0)
-    );
+    assert!(rt; finds_worked(alloc, &store, &left)?);
     Ok(())
 }
 
