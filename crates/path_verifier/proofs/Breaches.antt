@@ -1,19 +1,18 @@
 -- Rules and the faults that are their breaches, in the order of the faults' numbers.
-use Rattle.std.proofs.Common.{◌≡◌, ℕ, suc, ◌<◌, ◌≤◌, ◌==◌, cond, List, Option, Some, None, length, map, All, refl, sym, ap, ◌∙◌, subst, inl, inr, arith}
+use Rattle.std.proofs.Common.{◌≡◌, ℕ, suc, ◌<◌, ◌≤◌, ◌==◌, cond, List, Option, Some, None, refl, sym, ap, ◌∙◌, subst, inl, inr, arith}
 use Rattle.std.specs.Prelude.{◌↔◌, nat_lt}
 use Rattle.std.proofs.lemmas.Bool.{cases_Bool, eqb-true, eqb-false, ltb-true, ltb-false}
 use Rattle.policy_expr.specs.declared.hop.WalkHop.{WalkHop}
 use Rattle.policy_expr.specs.declared.acl.AclEntry.{AclEntry}
 use Rattle.policy_expr.specs.declared.acl.Denied.{Denied}
-use Rattle.policy_expr.specs.Policy.{AllowsHops, DeniesHop, HasWord}
+use Rattle.policy_expr.specs.Policy.{AllowsHops, DeniesHop}
 use Rattle.policy_expr.proofs.Deciding.{denial_denies}
 use Rattle.path_verifier.specs.declared.fault.VerifyFault.{VerifyFault}
 use Rattle.path_verifier.specs.declared.fault.VerifyFault.TheVariants.{PieceCount, Range, Kinds, CutAtCore, NotJoined, Source, Destination, TooManyHops, Loop, Expired, HeaderDiffers, AclDenied, SequenceMismatch}
 use Rattle.path_verifier.specs.Fault.{code_of}
-use Rattle.path_verifier.specs.Piece.{HasRange, kind_of}
 use Rattle.path_verifier.specs.Walk.{walk_of}
-use Rattle.path_verifier.specs.Header.{hop_count, header_of}
-use Rattle.path_verifier.specs.Accepted.{DoAdjoin, AreCutWell, DoMeet, DoBeginIn, DoEndIn, NamesOnce, AreLive, MakesPath, Request, IsAccepted}
+use Rattle.path_verifier.specs.Header.{header_of}
+use Rattle.path_verifier.specs.Accepted.{NamesOnce, AreLive, MakesPath, Request, IsAccepted}
 use Rattle.path_verifier.specs.Verdict.{Keeps, Breaks, IsRefused}
 
 -- ---- rules by their numbers
