@@ -1,8 +1,7 @@
 -- Letting each of some predicates be followed by each of others.
-use Rattle.std.proofs.Common.{◌≡◌, ◌≢◌, ◌⊎◌, ◌↔◌, ℕ, zero, suc, ◌<◌, List, [], ◌∷◌, ◌++◌, length, take, drop, Some, slice_get, set, inl, inr, sym, ◌∙◌, ap, refl, subst, arith}
+use Rattle.std.proofs.Common.{◌≡◌, ◌≢◌, ◌⊎◌, ◌↔◌, ℕ, zero, suc, ◌<◌, List, [], ◌∷◌, length, Some, slice_get, set, inl, inr, sym, ◌∙◌, ap, refl, subst, arith}
 use Rattle.std.proofs.lemmas.Bool.Decides.{eqb_tells}
 use Rattle.std.proofs.Math.ListN.{length-set}
-use Rattle.std.proofs.lemmas.List.{append-nil}
 use Rattle.policy_expr.specs.declared.hop.HopPred.{HopPred}
 use Rattle.policy_expr.specs.declared.table.Line.{Line}
 use Rattle.policy_expr.specs.Sets.{Has, IsSplit}
@@ -22,21 +21,6 @@ get_set_other (l ∷ ls) zero zero x apart = absurd (apart refl)
 get_set_other (l ∷ ls) zero (suc k) x apart = refl
 get_set_other (l ∷ ls) (suc i) zero x apart = refl
 get_set_other (l ∷ ls) (suc i) (suc k) x apart = get_set_other ls i k x (λ e. apart (ap suc e))
-
--- ---- the lines of a vector, written through the slice of all of them
-
-drop_all : (xs : List Line) → drop (length xs) xs ≡ []
-drop_all [] = refl
-drop_all (x ∷ xs) = drop_all xs
-
-take_all : (xs : List Line) → take (length xs) xs ≡ xs
-take_all [] = refl
-take_all (x ∷ xs) = ap (λ (r : List Line). x ∷ r) (take_all xs)
-
-pub through_slice : (new items : List Line) (n : ℕ) → length new ≡ length items → n ≡ length items → take n (new ++ drop (length new) items) ≡ new
-through_slice new items n same count =
-    let none : drop (length new) items ≡ [] = rw same (drop_all items) in
-    rw (none, append-nil new, count ∙ sym same) (take_all new)
 
 -- ---- the loop over a set's predicates
 

@@ -1,6 +1,6 @@
-ghost use Rattle.std.specs.Prelude.{◌≡◌, ℕ, ◌+◌, ◌≤◌, ◌<◌, ◌⊎◌, ◌↔◌, length, vec_len, IfOk, IsTrue};
+ghost use Rattle.std.specs.Prelude.{◌≡◌, ℕ, ◌+◌, ◌≤◌, ◌<◌, ◌⊎◌, ◌↔◌, true, length, vec_len, IfOk, IsTrue};
 ghost use Rattle.policy_expr.specs.Sets.{Has};
-ghost use Rattle.policy_expr.specs.Table.{Accepts, Adds, IsTableOf, IsWithin, Links, MayFollow, MeetsAt, StepsTo, pred_count};
+ghost use Rattle.policy_expr.specs.Table.{Accepts, Adds, IsTableOf, IsThen, IsWithin, Links, MayFollow, MeetsAt, StepsTo, pred_count};
 ghost use Rattle.policy_expr.specs.Tree.{tree_of};
 
 use crate::ends::Ends;
@@ -130,8 +130,7 @@ impl<A: Allocator> SeqNode<A> {
             SeqNode::Then(front, back) => {
                 let front = front.add_lines(lines)?;
                 let back = back.add_lines(lines)?;
-                link(lines, front.last, back.first);
-                Ok(front.then(back))
+                Ok(followed(lines, front, back))
             }
             SeqNode::Or(one, other) => {
                 let one = one.add_lines(lines)?;
@@ -143,17 +142,45 @@ impl<A: Allocator> SeqNode<A> {
                 Ok(item.or_nothing())
             }
             SeqNode::Repeated(item) => {
-                let again = item.add_lines(lines)?;
-                link(lines, again.last, again.first);
-                Ok(again.or_nothing())
+                let item = item.add_lines(lines)?;
+                Ok(repeated(lines, item))
             }
             SeqNode::OnceOrMore(item) => {
-                let once = item.add_lines(lines)?;
-                link(lines, once.last, once.first);
-                Ok(once)
+                let item = item.add_lines(lines)?;
+                Ok(once_or_more(lines, item))
             }
         }
     }
+}
+
+/// Lets a part be followed by the other: the ends of both.
+fn followed<B: Allocator>(lines: &mut Vec<Line, B>, front: Ends, back: Ends) -> Ends
+    requires { (k : ℕ) → Has front.last k → k < vec_len lines.old }
+    ensures links { Links lines.old.items lines.new.items front.last back.first }
+    ensures ends { IsThen front back result }
+{
+    link(lines, front.last, back.first);
+    front.then(back)
+}
+
+/// Lets a part begin again behind its end: its ends, or nothing.
+fn repeated<B: Allocator>(lines: &mut Vec<Line, B>, again: Ends) -> Ends
+    requires { (k : ℕ) → Has again.last k → k < vec_len lines.old }
+    ensures links { Links lines.old.items lines.new.items again.last again.first }
+    ensures ends { result ≡ record again { has_empty = true } }
+{
+    link(lines, again.last, again.first);
+    again.or_nothing()
+}
+
+/// Lets a part begin again behind its end: its ends.
+fn once_or_more<B: Allocator>(lines: &mut Vec<Line, B>, once: Ends) -> Ends
+    requires { (k : ℕ) → Has once.last k → k < vec_len lines.old }
+    ensures links { Links lines.old.items lines.new.items once.last once.first }
+    ensures ends { result ≡ once }
+{
+    link(lines, once.last, once.first);
+    once
 }
 
 /// Lets each of the one predicates be followed by each of the others.
