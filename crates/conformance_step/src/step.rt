@@ -2,6 +2,7 @@ use commands::{CommandFault, step_line};
 use hex::encode;
 use hop_mac::hop_mac;
 use std::alloc::{AllocError, Global};
+use std::process::Abort;
 use std::test::Fail;
 
 /// The words of a router of 1-ff00:0:111 and a packet of a host, but for the second and the
@@ -41,6 +42,18 @@ fn words<'a>(now: &'a str, from: &'a str, interface: &'a str) -> [&'a str; 12] {
     ]
 }
 
+/// Asserts that a turn with these words over this packet prints this line.
+fn expect_line(
+    rt: &impl Abort,
+    alloc: Global,
+    words: &[&str],
+    packet: &str,
+    line: &str,
+) -> Result<(), Fail> {
+    assert_eq!(rt; step_line(alloc, words, packet)?.as_str(), line);
+    Ok(())
+}
+
 /// Each form of a refusal, and what a packet's text may look like.
 #[test]
 fn refusals(rt: HostRuntime) -> Result<(), Fail> {
@@ -54,7 +67,7 @@ fn refusals(rt: HostRuntime) -> Result<(), Fail> {
         (" \n", "refused 90 BadHeader 20 Short"),
     ];
     for (packet, line) in rows {
-        assert_eq!(rt; step_line(rt.alloc(), &late, packet)?.as_str(), line);
+        expect_line(&rt, rt.alloc(), &late, packet, line)?;
     }
     Ok(())
 }
@@ -73,30 +86,17 @@ fn sent_on(rt: HostRuntime) -> Result<(), Fail> {
     let packet = up_packet(alloc, UP, mac)?;
     let own = words("100", "host", "2,parent,0,up");
     let line = format!(in alloc; "link 2 {}", up_packet(alloc, MOVED, mac)?.as_str())?;
-    assert_eq!(rt;
-        step_line(alloc, &own, packet.as_str())?.as_str(),
-        line.as_str()
-    );
+    expect_line(&rt, alloc, &own, &packet, &line)?;
     let mut changed = mac;
     changed[5] ^= 1;
     for wrong in [up_packet(alloc, UP, changed)?.as_str(), WRONG] {
-        assert_eq!(rt;
-            step_line(alloc, &own, wrong)?.as_str(),
-            "refused 94 BadMac"
-        );
+        expect_line(&rt, alloc, &own, wrong, "refused 94 BadMac")?;
     }
     let other = words("100", "host", "2,parent,63,up");
     let line = format!(in alloc; "router 63 {}", packet.as_str())?;
-    assert_eq!(rt;
-        step_line(alloc, &other, packet.as_str())?.as_str(),
-        line.as_str()
-    );
+    expect_line(&rt, alloc, &other, &packet, &line)?;
     let down = words("100", "host", "2,parent,0,down");
-    assert_eq!(rt;
-        step_line(alloc, &down, packet.as_str())?.as_str(),
-        "refused 100 LinkDown"
-    );
-    Ok(())
+    expect_line(&rt, alloc, &down, &packet, "refused 100 LinkDown")
 }
 
 /// A packet at its last hop is delivered.
@@ -116,11 +116,7 @@ fn delivered(rt: HostRuntime) -> Result<(), Fail> {
         "--from=inside",
     ];
     let line = format!(in alloc; "deliver {}", packet.as_str())?;
-    assert_eq!(rt;
-        step_line(alloc, &words, packet.as_str())?.as_str(),
-        line.as_str()
-    );
-    Ok(())
+    expect_line(&rt, alloc, &words, &packet, &line)
 }
 
 /// Text that is no packet.
@@ -246,10 +242,9 @@ fn previous_key(rt: HostRuntime) -> Result<(), Fail> {
             "host",
             "2,parent,0,up",
         ];
-        let printed = step_line(alloc, &words, &packet);
         match line {
-            Some(line) => assert_eq!(rt; printed?.as_str(), line),
-            None => assert!(rt; matches!(&printed, Err(CommandFault::Usage(_)))),
+            Some(line) => expect_line(&rt, alloc, &words, &packet, line)?,
+            None => assert!(rt; is_refused(&rt, &words)),
         }
     }
     Ok(())
