@@ -13,7 +13,7 @@ use Rattle.path_verifier.specs.Header.{header_of}
 use Rattle.path_verifier.specs.Accepted.{IsExpiry, MakesPath, request_of, IsAccepted}
 use Rattle.path_verifier.specs.Verdict.{IsRefused}
 use Rattle.path_verifier.specs.Turned.{turned_piece, turned_pieces}
-use Rattle.path_verifier.proofs.Breaches.{by_code, refusals_are_one}
+use Rattle.path_verifier.proofs.Breaches.{refusal_is_one}
 use Rattle.path_verifier.proofs.Expiry.{live_up_to}
 use Rattle.path_verifier.proofs.Lengths.{path_is_short}
 use Rattle.path_verifier.proofs.TurnedPath.{path_turned}
@@ -56,8 +56,7 @@ back_expired pieces src dst now moment least header rules path is late fault =
     too_late back dst src now moment header rules (path_turned pieces src dst now now path path.live)
     (λ live. (let up =
     (live_up_to back least moment (expiry_turned pieces least is)).0 live in omega arith)) in (
-      λ refused. by_code fault faults.Expired
-          (refusals_are_one request fault faults.Expired refused expired) (λ other. (omega arith)),
+      λ refused. refusal_is_one request fault faults.Expired refused expired,
       λ same. subst (IsRefused request) (sym same) expired,
     )
 

@@ -6,7 +6,7 @@ use Rattle.policy_expr.specs.declared.hop.WalkHop.{WalkHop}
 use Rattle.policy_expr.specs.declared.acl.AclEntry.{AclEntry}
 use Rattle.policy_expr.specs.declared.acl.Denied.{Denied}
 use Rattle.policy_expr.specs.Policy.{AllowsHops, DeniesHop}
-use Rattle.policy_expr.proofs.Deciding.{denial_denies}
+use Rattle.policy_expr.proofs.Deciding.{denial_denies, one_denial}
 use Rattle.path_verifier.specs.declared.fault.VerifyFault.{VerifyFault}
 use Rattle.path_verifier.specs.declared.fault.VerifyFault.TheVariants.{PieceCount, Range, Kinds, CutAtCore, NotJoined, Source, Destination, TooManyHops, Loop, Expired, HeaderDiffers, AclDenied, SequenceMismatch}
 use Rattle.path_verifier.specs.Fault.{code_of}
@@ -58,7 +58,7 @@ determined (AclDenied denied) other = absurd (other refl)
 determined SequenceMismatch other = refl
 
 -- a fault is known by its number, but for what it says of an access control list
-pub by_code : (fault other : VerifyFault) → code_of fault ≡ code_of other
+by_code : (fault other : VerifyFault) → code_of fault ≡ code_of other
     → (code_of other ≡ 81 → ⊥) → fault ≡ other
 by_code fault other same apart =
     determined fault (λ is. apart (sym same ∙ is)) ∙ ap fault_of same ∙ sym (determined other apart)
@@ -215,14 +215,50 @@ pub refused_is_not_accepted : (request : Request) (fault : VerifyFault) → IsRe
 refused_is_not_accepted request fault refused accepted =
     not_both request fault refused.broken (accepted_keeps request accepted fault)
 
--- there is one refusal
-pub refusals_are_one : (request : Request) (fault other : VerifyFault) → IsRefused request fault
+-- there is one refusal: by its number
+one_code : (request : Request) (fault other : VerifyFault) → IsRefused request fault
     → IsRefused request other → code_of fault ≡ code_of other
-refusals_are_one request fault other one two =
+one_code request fault other one two =
     elim (cases_Bool (nat_lt (code_of fault) (code_of other))) [
       | inl less ↦ absurd (not_both request fault one.broken (two.before fault (ltb-true _ _ less)))
       | inr least ↦ elim (cases_Bool (nat_lt (code_of other) (code_of fault))) [
         | inl less ↦ absurd (not_both request other two.broken (one.before other (ltb-true _ _ less)))
         | inr most ↦ (let a = ltb-false _ _ least in let b = ltb-false _ _ most in omega arith)
       ]
+    ]
+
+one_breach : (acl : Option (List AclEntry)) (walk : List WalkHop) (one other : Denied)
+    → DeniesHop acl walk one → DeniesHop acl walk other → one ≡ other
+one_breach None walk one other a b = absurd a
+one_breach (Some entries) walk one other a b = one_denial entries walk one other a b
+
+denied_of : (fault : VerifyFault) → code_of fault ≡ 81 → (denied : Denied) × (fault ≡ AclDenied denied)
+denied_of (AclDenied denied) is = (denied, refl)
+denied_of PieceCount is = absurd (omega arith)
+denied_of Range is = absurd (omega arith)
+denied_of Kinds is = absurd (omega arith)
+denied_of CutAtCore is = absurd (omega arith)
+denied_of NotJoined is = absurd (omega arith)
+denied_of Source is = absurd (omega arith)
+denied_of Destination is = absurd (omega arith)
+denied_of TooManyHops is = absurd (omega arith)
+denied_of Loop is = absurd (omega arith)
+denied_of Expired is = absurd (omega arith)
+denied_of HeaderDiffers is = absurd (omega arith)
+denied_of SequenceMismatch is = absurd (omega arith)
+
+-- also in what it says of an access control list
+pub refusal_is_one : (request : Request) (fault other : VerifyFault) → IsRefused request fault
+    → IsRefused request other → fault ≡ other
+refusal_is_one request fault other one two =
+    let same = one_code request fault other one two in
+    elim (cases_Bool (code_of other == 81)) [
+      | inl is ↦
+          (let a = denied_of fault (same ∙ eqb-true _ _ is) in
+          let b = denied_of other (eqb-true _ _ is) in
+          a.1
+          ∙ ap AclDenied (one_breach request.rules.acl (walk_of request.pieces) a.0 b.0
+          (subst (Breaks request) a.1 one.broken) (subst (Breaks request) b.1 two.broken))
+          ∙ sym b.1)
+      | inr apart ↦ by_code fault other same (eqb-false _ _ apart)
     ]

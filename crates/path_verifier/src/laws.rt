@@ -6,7 +6,6 @@ ghost use Rattle.path_header.specs.Value.{HeaderValue, IsHeader};
 ghost use Rattle.policy_expr.specs.Policy.{Rules};
 ghost use Rattle.path_verifier.specs.declared.fault.VerifyFault.{VerifyFault};
 ghost use Rattle.path_verifier.specs.declared.fault.VerifyFault.TheVariants.{Expired};
-ghost use Rattle.path_verifier.specs.Fault.{code_of};
 ghost use Rattle.path_verifier.specs.Piece.{PieceValue, HasRange, kind_of, travelled};
 ghost use Rattle.path_verifier.specs.Header.{field_of, fields_of, len_of, header_of, hop_count};
 ghost use Rattle.path_verifier.specs.Walk.{hop_of, hops_of, walk_of};
@@ -15,12 +14,12 @@ ghost use Rattle.path_verifier.specs.Verdict.{IsRefused, Keeps};
 ghost use Rattle.path_verifier.specs.Turned.{turned_piece, turned_pieces, turned_walk};
 
 /// A path may be sent exactly where it keeps each rule of which a refusal is the breach; it is
-/// refused by at most one of them, and by none where it may be sent.
+/// refused by one fault at most, and by none where it may be sent.
 pub fn refusals_are_breaches()
     ensures kept { (request : Request)
         → IsAccepted request ↔ ((fault : VerifyFault) → Keeps request fault) }
     ensures one { (request : Request) (fault other : VerifyFault)
-        → IsRefused request fault → IsRefused request other → code_of fault ≡ code_of other }
+        → IsRefused request fault → IsRefused request other → fault ≡ other }
     ensures either { (request : Request) (fault : VerifyFault)
         → IsRefused request fault → ¬ IsAccepted request }
 {}

@@ -1,12 +1,12 @@
 -- Each hop is decided by one entry of a list whose last entry is bare.
-use Rattle.std.proofs.Common.{◌≡◌, ℕ, ◌<◌, ◌≤◌, true, false, List, [], ◌∷◌, ◌++◌, length, Option, Some, None, is_none, slice_get, inl, inr, refl, sym, ◌∙◌, ap, arith}
+use Rattle.std.proofs.Common.{◌≡◌, ℕ, ◌<◌, ◌≤◌, true, false, List, [], ◌∷◌, ◌++◌, length, Option, Some, None, is_none, slice_get, inl, inr, refl, sym, ◌∙◌, ap, subst, arith}
 use Rattle.std.proofs.lemmas.Option.{slice_get_within}
 use Rattle.std.proofs.lemmas.Bool.{cases_order}
 use Rattle.policy_expr.specs.declared.hop.HopPred.{HopPred}
 use Rattle.policy_expr.specs.declared.hop.WalkHop.{WalkHop}
 use Rattle.policy_expr.specs.declared.acl.AclEntry.{AclEntry}
 use Rattle.policy_expr.specs.declared.acl.Denied.{Denied}
-use Rattle.policy_expr.specs.Acl.{MatchesBy, Decides, AllowsWalk, IsDenial, is_bare, IsAcl}
+use Rattle.policy_expr.specs.Acl.{MatchesBy, Decides, Allowed, DeniedAt, AllowsWalk, IsDenial, is_bare, IsAcl}
 
 -- a bare entry stands somewhere
 get_last : (front : List AclEntry) (last : AclEntry) → slice_get (front ++ last ∷ []) (length front) ≡ Some last
@@ -39,12 +39,29 @@ one_place entries hop j k one other a b = elim (cases_order j k) [
   ]
 ]
 
+-- a hop that is denied is not allowed
+not_both : (entries : List AclEntry) (hop : WalkHop) (place : ℕ) → DeniedAt entries hop place → Allowed entries hop → ⊥
+not_both entries hop place denied allowed =
+    let same = one_place entries hop allowed.0 place allowed.1 denied.0 allowed.2 denied.1 in
+    let e : Some allowed.1 ≡ Some denied.0 = sym allowed.2.there ∙ ap (slice_get entries) same ∙ denied.1.there in
+    let e' : allowed.1 ≡ denied.0 = cc in
+    let f : true ≡ false = sym allowed.3 ∙ ap (λ (x : AclEntry). x.allows) e' ∙ denied.2 in
+    absurd (let g : true ≡ false = f in cc)
+
 -- a walk with a denial is not allowed
 pub denial_denies : (entries : List AclEntry) (walk : List WalkHop) (denied : Denied) → IsDenial entries walk denied → AllowsWalk entries walk → ⊥
-denial_denies entries walk denied d allows =
-    let a = allows denied.hop d.hop d.there in
-    let same = one_place entries d.hop a.0 denied.entry a.1 d.by.0 a.2 d.by.1 in
-    let e : Some a.1 ≡ Some d.by.0 = sym a.2.there ∙ ap (slice_get entries) same ∙ d.by.1.there in
-    let e' : a.1 ≡ d.by.0 = cc in
-    let f : true ≡ false = sym a.3 ∙ ap (λ (x : AclEntry). x.allows) e' ∙ d.by.2 in
-    absurd (let g : true ≡ false = f in cc)
+denial_denies entries walk denied d allows = not_both entries d.hop denied.entry d.by (allows denied.hop d.hop d.there)
+
+-- a walk has one denial at most
+pub one_denial : (entries : List AclEntry) (walk : List WalkHop) (one other : Denied) → IsDenial entries walk one → IsDenial entries walk other → one ≡ other
+one_denial entries walk one other a b = elim (cases_order one.hop other.hop) [
+  | inl same ↦
+      (let e : Some a.hop ≡ Some b.hop = sym a.there ∙ ap (slice_get walk) same ∙ b.there in
+      let hop : a.hop ≡ b.hop = cc in
+      let entry = one_place entries b.hop one.entry other.entry a.by.0 b.by.0 (subst (λ (h : WalkHop). Decides entries h one.entry a.by.0) hop a.by.1) b.by.1 in
+      ap (λ (i : ℕ). record { hop = i; entry = one.entry }) same ∙ ap (λ (i : ℕ). record { hop = other.hop; entry = i }) entry)
+  | inr apart ↦ elim apart [
+    | inl less ↦ absurd (not_both entries a.hop one.entry a.by (b.before one.hop a.hop less a.there))
+    | inr greater ↦ absurd (not_both entries b.hop other.entry b.by (a.before other.hop b.hop greater b.there))
+  ]
+]

@@ -96,13 +96,22 @@ tree_there text none = by (tree_at text) refl (sym (fault_is_read text) ∙ none
     by (Ok tree) is e = (tree, is, weights_of_tree 32 following (tokens text) tree (tree_is_spelled text tree is))
     by (Err fault) is e = absurd cc
 
-pub end_large : (text rest : List ℕ) (depth : ℕ) (item : Bool) (weight : ℕ)
-    → StandsAt text rest depth item weight → tokens rest ≡ [] → fault_at depth item [] ≡ None → 257 < weight → sequence_at text ≡ Err faults.TooLarge
-end_large text rest depth item weight s none found many =
+-- so it is at the end, where the weight of all tokens is known
+end_tree : (text rest : List ℕ) (depth : ℕ) (item : Bool) (weight : ℕ)
+    → StandsAt text rest depth item weight → tokens rest ≡ [] → fault_at depth item [] ≡ None
+    → (tree : Tree) × (tree_at text ≡ Ok tree) × (weight ≡ min 258 (node_count tree + 1))
+end_tree text rest depth item weight s none found =
     let t = tree_there text (s.same ∙ ap (fault_at depth item) none ∙ found) in
     let rest_weighs : weights (tokens rest) ≡ 0 = ap weights none in
     let all = s.all in
     let weighed = s.weighed in
+    let nodes = t.2 in
+    (t.0, t.1, omega arith)
+
+pub end_large : (text rest : List ℕ) (depth : ℕ) (item : Bool) (weight : ℕ)
+    → StandsAt text rest depth item weight → tokens rest ≡ [] → fault_at depth item [] ≡ None → 257 < weight → sequence_at text ≡ Err faults.TooLarge
+end_large text rest depth item weight s none found many =
+    let t = end_tree text rest depth item weight s none found in
     let nodes = t.2 in
     let large : nat_lt 256 (node_count t.0) ≡ true = lt-ltb 256 (node_count t.0) (omega arith) in
     rw (t.1, large) refl
@@ -110,10 +119,7 @@ end_large text rest depth item weight s none found many =
 pub end_small : (text rest : List ℕ) (depth : ℕ) (item : Bool) (weight : ℕ)
     → StandsAt text rest depth item weight → tokens rest ≡ [] → fault_at depth item [] ≡ None → weight ≤ 257 → IsOk (sequence_at text)
 end_small text rest depth item weight s none found few =
-    let t = tree_there text (s.same ∙ ap (fault_at depth item) none ∙ found) in
-    let rest_weighs : weights (tokens rest) ≡ 0 = ap weights none in
-    let all = s.all in
-    let weighed = s.weighed in
+    let t = end_tree text rest depth item weight s none found in
     let nodes = t.2 in
     let small : nat_lt 256 (node_count t.0) ≡ false = le-ltb 256 (node_count t.0) (omega arith) in
     rw (t.1, small) refl
