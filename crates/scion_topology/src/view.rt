@@ -137,7 +137,8 @@ impl<'a> RouterView<'a> {
         }
     }
 
-    /// The interface of this number, where the AS has one.
+    /// The interface of this number, where the AS has one. A view that a topology lends searches a
+    /// tree for it; one that was made goes through the interfaces that it was given.
     pub fn entry(&self, number: IfId) -> Option<&'a IfEntry>
         ensures { option_copied result ≡ entry_of self.now number }
     {
