@@ -3,7 +3,6 @@ use Rattle.std.proofs.Common.{◌≡◌, ℕ, true, Ok, sym, ap, ◌∙◌, inl,
 use Rattle.refusal.proofs.Steps.{ok_is}
 use Rattle.scion_topology.specs.declared.entry.IfEntry.{IfEntry}
 use Rattle.scion_topology.specs.declared.network.End.{End}
-use Rattle.scion_topology.specs.declared.network.Link.{Link}
 use Rattle.scion_topology.specs.Network.{Network}
 use Rattle.scion_topology.specs.Topology.{IsNetwork, interface_at, far_end_in}
 use Rattle.scion_topology.specs.Ends.{IsAt, IsUp, at_a, at_b}

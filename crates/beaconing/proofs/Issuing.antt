@@ -1,5 +1,5 @@
 -- What the calls answer is made as the network makes it.
-use Rattle.std.proofs.Common.{◌≡◌, ◌≢◌, ℕ, zero, suc, ◌+◌, ◌-◌, ◌<◌, ◌≤◌, Bool, true, false, eqb, not, List, [], ◌∷◌, ◌++◌, length, Option, Some, None, Result, Ok, Err, refl, sym, ap, ◌∙◌, arith, inl, inr, ◌⊎◌, Any, length-append}
+use Rattle.std.proofs.Common.{◌≡◌, ◌≢◌, ℕ, zero, suc, ◌+◌, ◌-◌, ◌<◌, ◌≤◌, true, false, eqb, List, [], ◌∷◌, ◌++◌, length, Some, None, Result, Ok, Err, refl, sym, ap, ◌∙◌, arith, inl, inr, ◌⊎◌, Any, length-append}
 use Rattle.std.specs.Prelude.{slice_get, nat_lt, nat_le}
 use Rattle.std.specs.List.{list_any}
 use Rattle.std.specs.Option.{ok_or}
@@ -21,10 +21,10 @@ use Rattle.path_segment.proofs.Chained.{beta_of-with_last}
 use Rattle.path_segment.proofs.Next.{next_is, last_is, IsFree-beacon_fault}
 use Rattle.beaconing.specs.declared.fault.BeaconFault.{BeaconFault}
 use Rattle.beaconing.specs.declared.fault.BeaconFault.TheVariants.{TooLong, Loop, NotCore, NoInterface, LinkDown, WrongKind, NotHere}
-use Rattle.refusal.specs.Refusal.{check}
+use Rattle.refusal.specs.Refusal.{check, or_else}
 use Rattle.refusal.proofs.Steps.{bind_ok, check_ok, ok_or_ok, ok_is}
 use Rattle.beaconing.specs.Entry.{key_of, entry_by, added_by, kind_over, goes_on}
-use Rattle.beaconing.specs.Calls.{or_else, originated, last_of, come_to, is_new, extended, terminated}
+use Rattle.beaconing.specs.Calls.{originated, last_of, come_to, is_new, extended, terminated}
 use Rattle.beaconing.specs.Issued.{IsEntryOf, LeadsOn, IsMade, IsUnderWay, IsIssued}
 use Rattle.beaconing.proofs.Reaching.{ia_of_named, leads_on, core_goes_on}
 

@@ -4,7 +4,7 @@ use Rattle.std.proofs.Common.{◌≡◌, ℕ, List, [], ◌∷◌, ◌++◌, len
 use Rattle.std.specs.Prelude.{map, nat_lt}
 use Rattle.std.specs.Option.{ok_or}
 use Rattle.std.proofs.lemmas.List.{map-append}
-use Rattle.refusal.specs.Refusal.{check}
+use Rattle.refusal.specs.Refusal.{check, or_else}
 use Rattle.refusal.proofs.Steps.{bind_ok, ok_or_ok, ok_is}
 use Rattle.scion_topology.specs.declared.network.AsEntry.{AsEntry}
 use Rattle.scion_topology.specs.Network.{Network, as_named}
@@ -13,7 +13,7 @@ use Rattle.path_segment.specs.declared.entry.Entry.{Entry}
 use Rattle.path_segment.specs.Chain.{Chain, chain_of, with_last}
 use Rattle.beaconing.specs.declared.fault.BeaconFault.TheVariants.{TooLong, Loop, NotCore, NoInterface, LinkDown, WrongKind, NotHere}
 use Rattle.beaconing.specs.Entry.{key_of, key_in, entry_by, added_by, kind_over, goes_on}
-use Rattle.beaconing.specs.Calls.{or_else, originated, come_to, is_new, extended, terminated}
+use Rattle.beaconing.specs.Calls.{originated, come_to, is_new, extended, terminated}
 use Rattle.beaconing.specs.Issued.{IsUnderWay, IsIssued, keys_in, passed_on, Grows}
 use Rattle.beaconing.proofs.Reaching.{ia_of_named}
 use Rattle.beaconing.proofs.Issuing.{begun, ended}

@@ -1,22 +1,16 @@
 -- What the calls of beaconing give, or the first cause why not (draft-dekater-scion-controlplane,
 -- path construction).
-use Rattle.std.specs.Prelude.{ℕ, ◌-◌, Bool, ◌==◌, not, nat_lt, [], ◌∷◌, length, slice_get, Option, Result, Ok, Err}
+use Rattle.std.specs.Prelude.{ℕ, ◌-◌, Bool, ◌==◌, not, nat_lt, [], ◌∷◌, length, slice_get, Option, Result, Ok}
 use Rattle.std.specs.List.{list_any}
 use Rattle.std.specs.Option.{ok_or}
-use Rattle.scion_topology.specs.declared.fault.TopologyFault.{TopologyFault}
 use Rattle.scion_topology.specs.Network.{Network, as_named}
 use Rattle.scion_topology.specs.Topology.{interface_at, far_end_in}
 use Rattle.path_segment.specs.declared.entry.Entry.{Entry}
 use Rattle.path_segment.specs.Chain.{Chain, chain_of, with_last}
 use Rattle.beaconing.specs.declared.fault.BeaconFault.{BeaconFault}
 use Rattle.beaconing.specs.declared.fault.BeaconFault.TheVariants.{TooLong, Loop, NotCore, NoInterface, LinkDown, WrongKind, NotHere}
-use Rattle.refusal.specs.Refusal.{◌>>=◌, check}
+use Rattle.refusal.specs.Refusal.{◌>>=◌, check, or_else}
 use Rattle.beaconing.specs.Entry.{entry_by, added_by, kind_over, goes_on}
-
--- what a topology answers, or this refusal
-abbrev pub or_else : {A : Type 0} → BeaconFault → Result A TopologyFault → Result A BeaconFault
-or_else fault (Ok x) = Ok x
-or_else fault (Err f) = Err fault
 
 -- the beacon of a core AS over one of its links: NotCore, NoInterface, LinkDown
 unfoldable pub originated : Network → ℕ → ℕ → ℕ → ℕ → Result Chain BeaconFault

@@ -3,22 +3,18 @@ use Rattle.std.specs.Prelude.{ℕ, List, codes}
 use Rattle.beaconing.specs.declared.fault.BeaconFault.{BeaconFault}
 use Rattle.beaconing.specs.declared.fault.BeaconFault.TheVariants.{TooLong, Loop, NotCore, NoInterface, LinkDown, WrongKind, NotHere}
 
--- the number of a refusal
-abbrev pub code_of : BeaconFault → ℕ
-code_of TooLong = 31
-code_of Loop = 33
-code_of NotCore = 40
-code_of NoInterface = 41
-code_of LinkDown = 42
-code_of WrongKind = 43
-code_of NotHere = 44
+-- the number and the name of a refusal
+abbrev pub told : BeaconFault → ℕ × List ℕ
+told TooLong = (31, codes "TooLong")
+told Loop = (33, codes "Loop")
+told NotCore = (40, codes "NotCore")
+told NoInterface = (41, codes "NoInterface")
+told LinkDown = (42, codes "LinkDown")
+told WrongKind = (43, codes "WrongKind")
+told NotHere = (44, codes "NotHere")
 
--- the name of a refusal
+abbrev pub code_of : BeaconFault → ℕ
+code_of refusal = (told refusal).0
+
 abbrev pub name_of : BeaconFault → List ℕ
-name_of TooLong = codes "TooLong"
-name_of Loop = codes "Loop"
-name_of NotCore = codes "NotCore"
-name_of NoInterface = codes "NoInterface"
-name_of LinkDown = codes "LinkDown"
-name_of WrongKind = codes "WrongKind"
-name_of NotHere = codes "NotHere"
+name_of refusal = (told refusal).1

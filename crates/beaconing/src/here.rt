@@ -4,8 +4,8 @@ ghost use Rattle.std.specs.Prelude.{◌≡◌, ◌≢◌, ◌==◌, false, IfOk,
 ghost use Rattle.std.specs.List.{list_any};
 ghost use Rattle.scion_topology.specs.Topology.{interface_at};
 ghost use Rattle.beaconing.specs.Entry.{entry_by, added_by, kind_over, goes_on};
-ghost use Rattle.beaconing.specs.Calls.{or_else, come_to, is_new};
-ghost use Rattle.refusal.specs.Refusal.{Gives};
+ghost use Rattle.beaconing.specs.Calls.{come_to, is_new};
+ghost use Rattle.refusal.specs.Refusal.{Gives, or_else};
 
 use crate::fault::BeaconFault;
 use isd_as::{IfId, IsdAs};

@@ -4,13 +4,15 @@ use Rattle.refusal.specs.Refusal.{check}
 use Rattle.combinator.specs.declared.fault.CombineFault.{CombineFault}
 use Rattle.combinator.specs.declared.fault.CombineFault.TheVariants.{SameAs}
 
--- the number of a refusal
-abbrev pub code_of : CombineFault → ℕ
-code_of SameAs = 85
+-- the number and the name of a refusal
+abbrev pub told : CombineFault → ℕ × List ℕ
+told SameAs = (85, codes "SameAs")
 
--- the name of a refusal
+abbrev pub code_of : CombineFault → ℕ
+code_of refusal = (told refusal).0
+
 abbrev pub name_of : CombineFault → List ℕ
-name_of SameAs = codes "SameAs"
+name_of refusal = (told refusal).1
 
 -- the ends of a request are two ASes, or it is refused
 abbrev pub ends_at : ℕ → ℕ → Result (Unit {0}) CombineFault

@@ -16,7 +16,7 @@ use std::test::Fail;
 use worked::{at, header_of, pieces_of, row};
 
 /// An entry of a segment of the row of three ASes.
-fn entry(last: u64, cons_ingress: u16, cons_egress: u16, mac: [u8; 6]) -> Entry {
+fn entry(last: u16, cons_ingress: u16, cons_egress: u16, mac: [u8; 6]) -> Entry {
     Entry {
         ia: at(1, last),
         cons_ingress: IfId(cons_ingress),

@@ -26,7 +26,7 @@ struct Wanted {
     egress: u16,
 }
 
-fn entry_of(isd: u64, last: u64, key: &'static [u8], ingress: u16, egress: u16) -> Wanted {
+fn entry_of(isd: u16, last: u16, key: &'static [u8], ingress: u16, egress: u16) -> Wanted {
     Wanted {
         ia: at(isd, last),
         key,
@@ -244,7 +244,7 @@ fn long_beacon(alloc: Global) -> Result<Beacon, Fail> {
     };
     let mut beacon = Beacon::first(alloc, SegKind::Intra, 1000, 1, entry)?;
     entry.cons_ingress = IfId(1);
-    for last in 2..63u64 {
+    for last in 2..63u16 {
         entry.ia = at(1, if last == 62 { 0x110 } else { last });
         beacon = beacon.with_entry(alloc, entry)?;
     }

@@ -214,7 +214,7 @@ fn way_up() -> &'static str {
 fn expect_answer(
     rt: &impl Abort,
     alloc: Global,
-    ends: (u64, u64),
+    ends: (u16, u16),
     acl: &[&str],
     sequence: &str,
     told: &str,

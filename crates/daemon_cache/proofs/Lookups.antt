@@ -6,7 +6,7 @@ use Rattle.std.proofs.lemmas.List.Elements.{All-weaker, All-contains_itself}
 use Rattle.path_segment.specs.Chain.{Chain, AreLive}
 use Rattle.path_server.specs.Lookup.{Selection, segments_for}
 use Rattle.path_server.proofs.Plain.{ups_are_plain, downs_are_plain, cores_are_plain}
-use Rattle.refusal.specs.Refusal.{◌>>=◌, check}
+use Rattle.refusal.specs.Refusal.{◌>>=◌, check, refused_as}
 use Rattle.refusal.specs.declared.fault.OrMemory.TheVariants.{Refused}
 use Rattle.refusal.proofs.Steps.{bind_ok, check_ok}
 use Rattle.policy_expr.specs.declared.option_fault.OptionFault.{OptionFault}
@@ -18,7 +18,7 @@ use Rattle.daemon_cache.specs.Entry.{HasSegmentsOf, IsOwn}
 use Rattle.segment_board.specs.Board.{Known}
 use Rattle.daemon_cache.specs.declared.fault.AskFault.{AskFault}
 use Rattle.daemon_cache.specs.declared.fault.AskFault.TheVariants as fault
-use Rattle.daemon_cache.specs.Request.{RequestValue, IsAnswerTo, GivesNoAnswer, of_options, lawful_at}
+use Rattle.daemon_cache.specs.Request.{RequestValue, IsAnswerTo, GivesNoAnswer, lawful_at}
 
 -- what a look-up gives is live at its second
 pub found_is_live : (segments : List Chain) (src dst now : ℕ) → AreAllLive (segments_for segments src dst now) now
@@ -53,13 +53,13 @@ served_answers request own set answer is segments live =
 pub lawful_wants : (request : RequestValue) → lawful_at request ≡ Ok tt → 0 < request.limit
 unfolding lawful_at
 lawful_wants request is =
-    let checked = bind_ok (check (nat_le 1 request.limit && nat_le request.limit 64) fault.BadLimit) (λ few. of_options (options_at request.texts) >>= (λ options. check (not (request.src == request.dst)) fault.SameAs)) tt is in
+    let checked = bind_ok (check (nat_le 1 request.limit && nat_le request.limit 64) fault.BadLimit) (λ few. refused_as fault.Options (options_at request.texts) >>= (λ options. check (not (request.src == request.dst)) fault.SameAs)) tt is in
     let holds = and_parts (nat_le 1 request.limit) (nat_le request.limit 64) (check_ok (nat_le 1 request.limit && nat_le request.limit 64) fault.BadLimit checked.0 checked.1) in
     let least : nat_le 1 request.limit ≡ true = holds.0 in
     grind (arith, nat_tests)
 
 -- no request is refused as NoEntry
-no_entry : (b c : Bool) (read : Result (List WeighedRules) OptionFault) → (check b fault.BadLimit >>= (λ few. of_options read >>= (λ options. check c fault.SameAs))) ≢ Err fault.NoEntry
+no_entry : (b c : Bool) (read : Result (List WeighedRules) OptionFault) → (check b fault.BadLimit >>= (λ few. refused_as fault.Options read >>= (λ options. check c fault.SameAs))) ≢ Err fault.NoEntry
 no_entry false c read e = absurd cc
 no_entry true c (Err refusal) e = absurd cc
 no_entry true false (Ok options) e = absurd cc

@@ -4,16 +4,15 @@ use Rattle.policy_expr.specs.Options as options
 use Rattle.daemon_cache.specs.declared.fault.AskFault.{AskFault}
 use Rattle.daemon_cache.specs.declared.fault.AskFault.TheVariants.{BadLimit, Options, SameAs, NoEntry}
 
--- the number of a refusal
-abbrev pub code_of : AskFault → ℕ
-code_of BadLimit = 137
-code_of (Options fault) = options.code_of fault
-code_of SameAs = 85
-code_of NoEntry = 111
+-- the number and the name of a refusal
+abbrev pub told : AskFault → ℕ × List ℕ
+told BadLimit = (137, codes "BadLimit")
+told (Options fault) = options.told fault
+told SameAs = (85, codes "SameAs")
+told NoEntry = (111, codes "NoEntry")
 
--- the name of a refusal
+abbrev pub code_of : AskFault → ℕ
+code_of refusal = (told refusal).0
+
 abbrev pub name_of : AskFault → List ℕ
-name_of BadLimit = codes "BadLimit"
-name_of (Options fault) = options.name_of fault
-name_of SameAs = codes "SameAs"
-name_of NoEntry = codes "NoEntry"
+name_of refusal = (told refusal).1

@@ -1,10 +1,9 @@
 -- What a daemon is asked, what answers it, and when it is refused.
 use Rattle.std.specs.Prelude.{◌≡◌, ℕ, ◌==◌, ◌&&◌, nat_le, not, List, Result, Ok, Err}
-use Rattle.refusal.specs.Refusal.{◌>>=◌, check}
+use Rattle.refusal.specs.Refusal.{◌>>=◌, check, refused_as}
 use Rattle.refusal.specs.declared.fault.OrMemory.{OrMemory}
 use Rattle.refusal.specs.declared.fault.OrMemory.TheVariants.{Memory, Refused}
 use Rattle.path_server.specs.Lookup.{Selection}
-use Rattle.policy_expr.specs.declared.option_fault.OptionFault.{OptionFault}
 use Rattle.policy_expr.specs.Options.{OptionTexts, WeighedRules, options_at}
 use Rattle.combinator.specs.Answer.{AnswersWith, AnswerValue}
 use Rattle.segment_board.specs.Board.{Known}
@@ -28,16 +27,11 @@ pub record IsAnswerTo (request : RequestValue) (set : Selection) (answer : Answe
   pub read : options_at request.texts ≡ Ok options
   pub answers : AnswersWith set request.src request.dst options request.limit answer.used answer.paths
 
--- the same refusal, as that of a daemon
-abbrev pub of_options : {X : Type 0} → Result X OptionFault → Result X AskFault
-of_options (Ok x) = Ok x
-of_options (Err refusal) = Err (fault.Options refusal)
-
 -- the request is lawful, or the first cause why it is refused: its limit, its options, its ends
 unfoldable pub lawful_at : RequestValue → Result (Unit {0}) AskFault
 lawful_at request = do
   few ← check (nat_le 1 request.limit && nat_le request.limit 64) fault.BadLimit
-  options ← of_options (options_at request.texts)
+  options ← refused_as fault.Options (options_at request.texts)
   check (not (request.src == request.dst)) fault.SameAs
 
 -- why there is no answer: the reader could not enter the board, or memory ran out, both where the

@@ -3,7 +3,7 @@ use Rattle.std.proofs.Common.{◌≡◌, ℕ, ◌-◌, ◌≤◌, true, List, []
 use Rattle.std.specs.Prelude.{slice_get}
 use Rattle.std.specs.Option.{ok_or, option_map_or, unwrap_or}
 use Rattle.std.proofs.lemmas.Option.{same_Some}
-use Rattle.refusal.specs.Refusal.{check}
+use Rattle.refusal.specs.Refusal.{check, or_else}
 use Rattle.refusal.proofs.Steps.{bind_ok, ok_or_ok, ok_is}
 use Rattle.scion_topology.specs.declared.network.AsEntry.{AsEntry}
 use Rattle.scion_topology.specs.Network.{Network, as_named}
@@ -15,7 +15,7 @@ use Rattle.path_segment.specs.declared.entry.Entry.{Entry}
 use Rattle.path_segment.specs.Chain.{Chain, chain_of, with_last}
 use Rattle.beaconing.specs.declared.fault.BeaconFault.TheVariants.{NotCore, NoInterface, LinkDown}
 use Rattle.beaconing.specs.Entry.{key_of, key_in, entry_by, kind_over}
-use Rattle.beaconing.specs.Calls.{or_else, originated, last_of, extended, terminated}
+use Rattle.beaconing.specs.Calls.{originated, last_of, extended, terminated}
 use Rattle.beaconing.specs.Issued.{IsUnderWay, Grows}
 use Rattle.beaconing.proofs.Made.{extended_grows, terminated_grows}
 use Rattle.beaconing.proofs.Coming.{comes_over}

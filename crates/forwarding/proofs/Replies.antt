@@ -10,8 +10,7 @@ use Rattle.path_verifier.specs.declared.fault.VerifyFault.{VerifyFault}
 use Rattle.path_verifier.specs.declared.fault.VerifyFault.TheVariants as faults
 use Rattle.path_verifier.specs.Piece.{PieceValue, HasRange}
 use Rattle.path_verifier.specs.Header.{header_of}
-use Rattle.path_verifier.specs.Accepted.{IsExpiry, MakesPath, request_of, IsAccepted}
-use Rattle.path_verifier.specs.Verdict.{IsRefused}
+use Rattle.path_verifier.specs.Accepted.{IsExpiry, MakesPath, request_of, IsAccepted, IsRefused}
 use Rattle.path_verifier.specs.Turned.{turned_piece, turned_pieces}
 use Rattle.path_verifier.proofs.Breaches.{refusal_is_one}
 use Rattle.path_verifier.proofs.Expiry.{live_up_to}

@@ -10,7 +10,8 @@ use Rattle.path_segment.specs.declared.entry.Entry.{Entry}
 use Rattle.policy_expr.specs.declared.hop.WalkHop.{WalkHop}
 use Rattle.path_verifier.specs.declared.kind.PieceKind.{PieceKind}
 use Rattle.path_verifier.specs.declared.kind.PieceKind.TheVariants.{Up, Core, Down}
-use Rattle.path_verifier.specs.Piece.{PieceValue, HasRange, kind_of, entries_of, in_order, travelled, as_at, begins_in, ends_in}
+use Rattle.path_segment.specs.Chain.{as_at}
+use Rattle.path_verifier.specs.Piece.{PieceValue, HasRange, kind_of, entries_of, in_order, travelled, begins_in, ends_in}
 use Rattle.path_verifier.specs.Walk.{walk_of}
 use Rattle.path_verifier.specs.Header.{len_of}
 use Rattle.path_verifier.specs.Accepted.{DoMeet, MayAdjoin, MakesPath}

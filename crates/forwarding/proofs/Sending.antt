@@ -10,7 +10,8 @@ use Rattle.path_segment.specs.declared.entry.Entry.{Entry}
 use Rattle.path_header.specs.declared.fields.InfoField.{InfoField}
 use Rattle.path_header.specs.Value.{HeaderValue, lens_from}
 use Rattle.policy_expr.specs.declared.hop.WalkHop.{WalkHop}
-use Rattle.path_verifier.specs.Piece.{PieceValue, HasRange, travelled, as_at, begins_in}
+use Rattle.path_segment.specs.Chain.{as_at}
+use Rattle.path_verifier.specs.Piece.{PieceValue, HasRange, travelled, begins_in}
 use Rattle.path_verifier.specs.Walk.{walk_of}
 use Rattle.path_verifier.specs.Header.{fields_of, len_of, header_of}
 use Rattle.path_verifier.specs.Header as path

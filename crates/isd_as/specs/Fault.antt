@@ -3,18 +3,16 @@ use Rattle.std.specs.Prelude.{ℕ, List, codes}
 use Rattle.isd_as.specs.declared.fault.AddrFault.{AddrFault}
 use Rattle.isd_as.specs.declared.fault.AddrFault.TheVariants.{NoDash, BadDigit, IsdRange, AsRange, BadGroups}
 
--- the number of a refusal
-abbrev pub code_of : AddrFault → ℕ
-code_of NoDash = 1
-code_of BadDigit = 2
-code_of IsdRange = 3
-code_of AsRange = 4
-code_of BadGroups = 5
+-- the number and the name of a refusal
+abbrev pub told : AddrFault → ℕ × List ℕ
+told NoDash = (1, codes "NoDash")
+told BadDigit = (2, codes "BadDigit")
+told IsdRange = (3, codes "IsdRange")
+told AsRange = (4, codes "AsRange")
+told BadGroups = (5, codes "BadGroups")
 
--- the name of a refusal
+abbrev pub code_of : AddrFault → ℕ
+code_of refusal = (told refusal).0
+
 abbrev pub name_of : AddrFault → List ℕ
-name_of NoDash = codes "NoDash"
-name_of BadDigit = codes "BadDigit"
-name_of IsdRange = codes "IsdRange"
-name_of AsRange = codes "AsRange"
-name_of BadGroups = codes "BadGroups"
+name_of refusal = (told refusal).1

@@ -1,7 +1,7 @@
 -- No event takes from a packet the interface by which it departs.
-use Rattle.std.proofs.Common.{◌≡◌, ℕ, zero, suc, ◌⊎◌, true, false, ltb, leb, List, [], ◌∷◌, ◌++◌, length, set, Some, IsOk, Result, Ok, Err, refl, sym, ap, subst, inl, inr}
+use Rattle.std.proofs.Common.{◌≡◌, ℕ, zero, suc, ◌⊎◌, true, false, ltb, leb, List, [], ◌∷◌, ◌++◌, length, set, Some, IsOk, Result, Ok, Err, refl, sym, subst, inl, inr}
 use Rattle.std.specs.Prelude.{slice_get}
-use Rattle.refusal.specs.Refusal.{◌>>=◌, check}
+use Rattle.refusal.specs.Refusal.{◌>>=◌, check, refused_as}
 use Rattle.refusal.proofs.Steps.{ok_or_ok}
 use Rattle.scion_topology.specs.Network.{Network}
 use Rattle.scion_topology.specs.Topology.{owner_in, set_up, rotated}
@@ -17,7 +17,7 @@ use Rattle.network_core.specs.declared.fault.EventFault.TheVariants as faults
 use Rattle.network_core.specs.declared.reply.Reply.{Reply}
 use Rattle.network_core.specs.Event.{EventValue, Tick, Originate, Extend, Terminate, Sweep, Ask, Send, Turn, Lose, Alter, Back, CutLink, MendLink, RotateKey}
 use Rattle.network_core.specs.Value.{SentValue, PacketValue, NetValue, new_net}
-use Rattle.network_core.specs.Step.{refused_as, Made, ticked, originates, extends, terminates, cleared, with_beacon, with_segment, begun, passed_on, ended, with_network, with_packet, is_in_flight, packet_at, flying_at, turns, loses, alters, options_asked, sent_by, replied, packet_of, departs, Leads, Asks, Sends, Step}
+use Rattle.network_core.specs.Step.{Made, ticked, originates, extends, terminates, cleared, with_beacon, with_segment, begun, passed_on, ended, with_network, with_packet, is_in_flight, packet_at, flying_at, turns, loses, alters, options_asked, sent_by, replied, packet_of, departs, Asks, Sends, Step}
 use Rattle.network_core.specs.Delivery.{MayDepart, AllMayDepart}
 use Rattle.network_core.proofs.Effects.{done_below, both_done}
 use Rattle.network_core.proofs.Issuing.{last_or}

@@ -5,7 +5,7 @@ use Rattle.std.specs.Option.{ok_or}
 use Rattle.std.proofs.lemmas.Bool.{cases_Bool, ltb-true, ltb-false}
 use Rattle.std.proofs.lemmas.Option.{slice_get_within, get_or_from_slice_get}
 use Rattle.std.proofs.lemmas.List.Elements.{All-nil, All-cons, All-head, All-tail, All-weaker}
-use Rattle.refusal.specs.Refusal.{check}
+use Rattle.refusal.specs.Refusal.{check, refused_as}
 use Rattle.refusal.proofs.Steps.{ok_is, ok_or_ok}
 use Rattle.scion_topology.specs.Network.{Network}
 use Rattle.scion_topology.specs.Topology.{IsNetwork, set_up, rotated}
@@ -21,7 +21,7 @@ use Rattle.network_core.specs.declared.reply.Reply.{Reply}
 use Rattle.network_core.specs.declared.reply.Reply.TheVariants as replies
 use Rattle.network_core.specs.Event.{ByAnswer, EventValue, Tick, Originate, Extend, Terminate, Sweep, Ask, Send, Turn, Lose, Alter, Back, CutLink, MendLink, RotateKey}
 use Rattle.network_core.specs.Value.{Way, KeptAnswer, way_on, SentValue, NetValue, new_net}
-use Rattle.network_core.specs.Step.{refused_as, with_network, options_asked, sent_by, way_by, sent_with, IsAnswerTo, GivesAnswer, Asks, Step}
+use Rattle.network_core.specs.Step.{with_network, options_asked, sent_by, way_by, sent_with, IsAnswerTo, GivesAnswer, Asks, Step}
 use Rattle.network_core.specs.History.{Moment, IsHistory, net_at, Answers, IssuedIn, IssuedBefore, IsAskedBefore}
 use Rattle.network_core.specs.Headline.{HaveBeginning}
 use Rattle.network_core.proofs.Effects.{done_below, both_done}

@@ -1,7 +1,7 @@
 -- A packet that was sent, after any events that let it go on.
 use Rattle.std.proofs.Common.{◌≡◌, ℕ, zero, suc, ◌+◌, ltb, List, [], ◌∷◌, ◌++◌, length, take, Some, Ok, Err, Result, refl, sym, ap, ◌∙◌, subst, arith, inl, inr, append-nil}
 use Rattle.std.specs.Prelude.{slice_get}
-use Rattle.refusal.specs.Refusal.{check}
+use Rattle.refusal.specs.Refusal.{check, refused_as}
 use Rattle.refusal.proofs.Steps.{bind_ok, ok_is}
 use Rattle.scion_topology.specs.declared.fault.TopologyFault.{TopologyFault}
 use Rattle.scion_topology.specs.Topology.{IsNetwork, owner_in}
@@ -17,7 +17,7 @@ use Rattle.network_core.specs.declared.fault.EventFault.TheVariants as faults
 use Rattle.network_core.specs.declared.reply.Reply.{Reply}
 use Rattle.network_core.specs.declared.reply.Reply.TheVariants as replies
 use Rattle.network_core.specs.Value.{asked_at, SentValue, NetValue}
-use Rattle.network_core.specs.Step.{refused_as, Made, packet_of, departs, Leads, Sends}
+use Rattle.network_core.specs.Step.{Made, packet_of, departs, Leads, Sends}
 use Rattle.network_core.specs.History.{Moment, IsHistory, net_after}
 use Rattle.network_core.specs.Delivery.{AllLetGoOn, turns_of, IsRefusedAt, IsAtRouter, IsForwarded, AreSound, AllLeaveUndisturbed}
 use Rattle.network_core.proofs.Carrying.{Carried, standing_some, carried_through}

@@ -1,7 +1,7 @@
 -- What an event does to topology, beacons and store.
 use Rattle.std.proofs.Common.{◌≡◌, ℕ, Bool, true, false, ltb, leb, ◌⊎◌, List, [], ◌∷◌, ◌++◌, length, Some, Result, Ok, Err, refl, sym, ap, subst, inl, inr}
 use Rattle.std.specs.Prelude.{slice_get}
-use Rattle.refusal.specs.Refusal.{◌>>=◌, check}
+use Rattle.refusal.specs.Refusal.{◌>>=◌, check, refused_as}
 use Rattle.refusal.proofs.Steps.{ok_or_ok}
 use Rattle.scion_topology.specs.declared.fault.TopologyFault.{TopologyFault}
 use Rattle.scion_topology.specs.Network.{Network}
@@ -18,7 +18,7 @@ use Rattle.network_core.specs.declared.reply.Reply.TheVariants.{Begun, Registere
 use Rattle.network_core.specs.Event.{EventValue, Tick, Originate, Extend, Terminate, Sweep, Ask, Send, Turn, Lose, Alter, Back, CutLink, MendLink, RotateKey}
 use Rattle.network_core.specs.Value.{SentValue, NetValue}
 use Rattle.policy_expr.specs.Options.{WeighedRules}
-use Rattle.network_core.specs.Step.{refused_as, Made, with_beacon, with_segment, begun, passed_on, ended, beacon_at, with_network, flying_at, turns, loses, alters, options_asked, sent_by, replied, departs, Leads, Asks, Sends, Step}
+use Rattle.network_core.specs.Step.{Made, with_beacon, with_segment, begun, passed_on, ended, beacon_at, with_network, flying_at, turns, loses, alters, options_asked, sent_by, replied, departs, Leads, Asks, Sends, Step}
 
 -- ---- steps of a definition
 

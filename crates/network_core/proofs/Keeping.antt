@@ -1,7 +1,7 @@
 -- An event that does not name a packet leaves it as it is.
 use Rattle.std.proofs.Common.{◌≡◌, ◌≢◌, ℕ, zero, suc, ◌<◌, true, false, ltb, leb, List, [], ◌∷◌, ◌++◌, length, set, Result, Ok, Err, refl, sym, ap, subst, arith, inl, inr}
 use Rattle.std.specs.Prelude.{slice_get}
-use Rattle.refusal.specs.Refusal.{◌>>=◌, check}
+use Rattle.refusal.specs.Refusal.{◌>>=◌, check, refused_as}
 use Rattle.scion_topology.specs.Topology.{owner_in, set_up, rotated}
 use Rattle.path_segment.specs.Chain.{Chain}
 use Rattle.path_server.specs.Store.{answer_to}
@@ -14,7 +14,7 @@ use Rattle.network_core.specs.declared.reply.Reply.{Reply}
 use Rattle.network_core.specs.Event.{EventValue, Tick, Originate, Extend, Terminate, Sweep, Ask, Send, Turn, Lose, Alter, Back, CutLink, MendLink, RotateKey}
 use Rattle.network_core.specs.Value.{SentValue, PacketValue, NetValue}
 use Rattle.policy_expr.specs.Options.{WeighedRules}
-use Rattle.network_core.specs.Step.{refused_as, Made, ticked, originates, extends, terminates, cleared, with_beacon, with_segment, begun, passed_on, ended, with_network, flying_at, turns, loses, alters, options_asked, sent_by, replied, packet_of, departs, Leads, Asks, Sends, Step}
+use Rattle.network_core.specs.Step.{Made, ticked, originates, extends, terminates, cleared, with_beacon, with_segment, begun, passed_on, ended, with_network, flying_at, turns, loses, alters, options_asked, sent_by, replied, packet_of, departs, Leads, Asks, Sends, Step}
 
 -- ---- what is so of each network that an event makes
 

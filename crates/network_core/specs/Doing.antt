@@ -12,8 +12,7 @@ use Rattle.network_core.specs.Event.{EventValue}
 use Rattle.network_core.specs.Value.{KeptAnswer, asked_at, SentValue, PacketValue, NetValue}
 use Rattle.network_core.specs.Step.{Made, flying_at, departs, IsAnswerTo, Asks, Sends, Departs, Step, TakesMemory}
 use Rattle.path_verifier.specs.declared.fault.VerifyFault.{VerifyFault}
-use Rattle.path_verifier.specs.Accepted.{IsAccepted}
-use Rattle.path_verifier.specs.Verdict.{IsRefused}
+use Rattle.path_verifier.specs.Accepted.{IsAccepted, IsRefused}
 
 -- what was to be made was made, or its refusal or want of memory is told and nothing is changed
 abbrev pub Does : Made → Type 0 → NetValue → NetValue → Result Reply (OrMemory EventFault) → Type 0

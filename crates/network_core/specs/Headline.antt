@@ -7,8 +7,7 @@ use Rattle.path_verifier.specs.Header.{hop_count}
 use Rattle.path_verifier.specs.declared.fault.VerifyFault.{VerifyFault}
 use Rattle.path_verifier.specs.declared.fault.VerifyFault.TheVariants.{Expired}
 use Rattle.path_verifier.specs.Turned.{turned_pieces}
-use Rattle.path_verifier.specs.Accepted.{IsExpiry, IsAccepted}
-use Rattle.path_verifier.specs.Verdict.{IsRefused}
+use Rattle.path_verifier.specs.Accepted.{IsExpiry, IsAccepted, IsRefused}
 use Rattle.forwarding.specs.declared.place.Place.TheVariants.{Delivered}
 use Rattle.forwarding.specs.Journey.{turns_for}
 use Rattle.forwarding.specs.Sound.{PassesBy, LeavesAlone}

@@ -2,7 +2,7 @@
 -- beaconing and registration of path segments; draft-dekater-scion-dataplane).
 use Rattle.std.specs.Prelude.{◌≡◌, ◌⊎◌, ℕ, true, false, nat_lt, nat_le, ◌&&◌, List, [], ◌∷◌, ◌++◌, length, slice_get, slice_set, Option, Some, None, Result, Ok, Err, IsOk}
 use Rattle.std.specs.Option.{ok_or, option_map_or}
-use Rattle.refusal.specs.Refusal.{◌>>=◌, check}
+use Rattle.refusal.specs.Refusal.{◌>>=◌, check, refused_as}
 use Rattle.scion_topology.specs.declared.fault.TopologyFault.{TopologyFault}
 use Rattle.scion_topology.specs.Network.{Network}
 use Rattle.scion_topology.specs.Topology.{owner_in, set_up, rotated}
@@ -17,8 +17,7 @@ use Rattle.path_header.specs.Reversal.{reversed}
 use Rattle.path_verifier.specs.declared.fault.VerifyFault.{VerifyFault}
 use Rattle.path_verifier.specs.Walk.{walk_of}
 use Rattle.path_verifier.specs.Turned.{turned_pieces}
-use Rattle.path_verifier.specs.Accepted.{IsAccepted}
-use Rattle.path_verifier.specs.Verdict.{IsRefused}
+use Rattle.path_verifier.specs.Accepted.{IsAccepted, IsRefused}
 use Rattle.combinator.specs.Answer.{AnswersWith}
 use Rattle.combinator.specs.Fault.{ends_at}
 use Rattle.router_step.specs.declared.fault.Refusal.{Refusal}
@@ -35,11 +34,6 @@ use Rattle.network_core.specs.declared.reply.Reply.{Reply}
 use Rattle.network_core.specs.declared.reply.Reply.TheVariants.{Done, Begun, Registered, Swept, Answered, Sent, Turned, Refused}
 use Rattle.network_core.specs.Event.{RouteValue, ByAnswer, ByWay, EventValue, Tick, Originate, Extend, Terminate, Sweep, Ask, Send, Turn, Lose, Alter, Back, CutLink, MendLink, RotateKey}
 use Rattle.network_core.specs.Value.{Way, KeptAnswer, way_on, asked_at, SentValue, PacketValue, NetValue}
-
--- what a lower call answers, its refusal as the event's
-abbrev pub refused_as : {A F : Type 0} → (F → EventFault) → Result A F → Result A EventFault
-refused_as of_fault (Ok x) = Ok x
-refused_as of_fault (Err fault) = Err (of_fault fault)
 
 -- what an event that is done makes of a network
 abbrev pub Made : Type 0

@@ -3,24 +3,19 @@ use Rattle.std.specs.Prelude.{ℕ, List, codes}
 use Rattle.path_header.specs.declared.fault.HeaderFault.{HeaderFault}
 use Rattle.path_header.specs.declared.fault.HeaderFault.TheVariants.{Short, Reserved, PeerFlag, AlertFlag, SegLens, TooManyHops, BadIndex, RoomTooSmall}
 
--- the number of a refusal
-abbrev pub code_of : HeaderFault → ℕ
-code_of Short = 20
-code_of Reserved = 21
-code_of PeerFlag = 22
-code_of AlertFlag = 23
-code_of SegLens = 24
-code_of TooManyHops = 25
-code_of BadIndex = 26
-code_of RoomTooSmall = 27
+-- the number and the name of a refusal
+abbrev pub told : HeaderFault → ℕ × List ℕ
+told Short = (20, codes "Short")
+told Reserved = (21, codes "Reserved")
+told PeerFlag = (22, codes "PeerFlag")
+told AlertFlag = (23, codes "AlertFlag")
+told SegLens = (24, codes "SegLens")
+told TooManyHops = (25, codes "TooManyHops")
+told BadIndex = (26, codes "BadIndex")
+told RoomTooSmall = (27, codes "RoomTooSmall")
 
--- the name of a refusal
+abbrev pub code_of : HeaderFault → ℕ
+code_of refusal = (told refusal).0
+
 abbrev pub name_of : HeaderFault → List ℕ
-name_of Short = codes "Short"
-name_of Reserved = codes "Reserved"
-name_of PeerFlag = codes "PeerFlag"
-name_of AlertFlag = codes "AlertFlag"
-name_of SegLens = codes "SegLens"
-name_of TooManyHops = codes "TooManyHops"
-name_of BadIndex = codes "BadIndex"
-name_of RoomTooSmall = codes "RoomTooSmall"
+name_of refusal = (told refusal).1

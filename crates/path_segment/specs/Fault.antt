@@ -3,18 +3,16 @@ use Rattle.std.specs.Prelude.{ℕ, List, codes}
 use Rattle.path_segment.specs.declared.fault.SegmentFault.{SegmentFault}
 use Rattle.path_segment.specs.declared.fault.SegmentFault.TheVariants.{TooShort, TooLong, BadEnds, Loop, NotJson}
 
--- the number of a refusal
-abbrev pub code_of : SegmentFault → ℕ
-code_of TooShort = 30
-code_of TooLong = 31
-code_of BadEnds = 32
-code_of Loop = 33
-code_of NotJson = 34
+-- the number and the name of a refusal
+abbrev pub told : SegmentFault → ℕ × List ℕ
+told TooShort = (30, codes "TooShort")
+told TooLong = (31, codes "TooLong")
+told BadEnds = (32, codes "BadEnds")
+told Loop = (33, codes "Loop")
+told NotJson = (34, codes "NotJson")
 
--- the name of a refusal
+abbrev pub code_of : SegmentFault → ℕ
+code_of refusal = (told refusal).0
+
 abbrev pub name_of : SegmentFault → List ℕ
-name_of TooShort = codes "TooShort"
-name_of TooLong = codes "TooLong"
-name_of BadEnds = codes "BadEnds"
-name_of Loop = codes "Loop"
-name_of NotJson = codes "NotJson"
+name_of refusal = (told refusal).1

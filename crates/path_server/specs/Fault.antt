@@ -7,15 +7,16 @@ use Rattle.path_segment.specs.Chain.{Chain}
 use Rattle.path_server.specs.declared.fault.StoreFault.{StoreFault}
 use Rattle.path_server.specs.declared.fault.StoreFault.TheVariants.{Full, Expired}
 
--- the number of a refusal
-abbrev pub code_of : StoreFault → ℕ
-code_of Full = 50
-code_of Expired = 51
+-- the number and the name of a refusal
+abbrev pub told : StoreFault → ℕ × List ℕ
+told Full = (50, codes "Full")
+told Expired = (51, codes "Expired")
 
--- the name of a refusal
+abbrev pub code_of : StoreFault → ℕ
+code_of refusal = (told refusal).0
+
 abbrev pub name_of : StoreFault → List ℕ
-name_of Full = codes "Full"
-name_of Expired = codes "Expired"
+name_of refusal = (told refusal).1
 
 -- an error that fits what was to come: the refusal, or want of memory where a new segment was to be
 -- taken in

@@ -12,8 +12,7 @@ use Rattle.path_verifier.specs.declared.fault.VerifyFault.TheVariants.{PieceCoun
 use Rattle.path_verifier.specs.Fault.{code_of}
 use Rattle.path_verifier.specs.Walk.{walk_of}
 use Rattle.path_verifier.specs.Header.{header_of}
-use Rattle.path_verifier.specs.Accepted.{NamesOnce, AreLive, MakesPath, Request, IsAccepted}
-use Rattle.path_verifier.specs.Verdict.{Keeps, Breaks, IsRefused}
+use Rattle.path_verifier.specs.Accepted.{NamesOnce, AreLive, MakesPath, Request, IsAccepted, Keeps, Breaks, IsRefused}
 
 -- ---- rules by their numbers
 

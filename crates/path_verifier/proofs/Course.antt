@@ -8,7 +8,8 @@ use Rattle.std.proofs.lemmas.List.Elements.{recursion_from_All}
 use Rattle.std.proofs.lemmas.Option.{slice_get-get_or}
 use Rattle.path_segment.specs.declared.entry.Entry.{Entry}
 use Rattle.policy_expr.specs.declared.hop.WalkHop.{WalkHop}
-use Rattle.path_verifier.specs.Piece.{PieceValue, HasRange, as_at, travelled, begins_in, ends_in}
+use Rattle.path_segment.specs.Chain.{as_at}
+use Rattle.path_verifier.specs.Piece.{PieceValue, HasRange, travelled, begins_in, ends_in}
 use Rattle.path_verifier.specs.Walk.{hop_of, hops_of, left_by, entered_by, joined, walk_of}
 use Rattle.path_verifier.specs.Accepted.{DoBeginIn, DoEndIn, MakesPath}
 use Rattle.path_verifier.proofs.Entries.{length_travelled}

@@ -4,7 +4,8 @@ use Rattle.std.specs.Prelude.{reverse}
 use Rattle.std.proofs.lemmas.List.{reverse-append, reverse-reverse, length-reverse, map-append, get_or-reverse}
 use Rattle.path_segment.specs.declared.entry.Entry.{Entry}
 use Rattle.policy_expr.specs.declared.hop.WalkHop.{WalkHop}
-use Rattle.path_verifier.specs.Piece.{PieceValue, entries_of, in_order, travelled, as_at, begins_in, ends_in}
+use Rattle.path_segment.specs.Chain.{as_at}
+use Rattle.path_verifier.specs.Piece.{PieceValue, entries_of, in_order, travelled, begins_in, ends_in}
 use Rattle.path_verifier.specs.Walk.{hop_of, hops_of}
 use Rattle.path_verifier.specs.Header.{field_of, fields_of, len_of}
 use Rattle.path_verifier.specs.Turned.{turned_piece, turned_hop, turned_walk}

@@ -5,8 +5,7 @@ use Rattle.path_header.specs.Value.{HeaderValue}
 use Rattle.policy_expr.specs.Policy.{Rules}
 use Rattle.path_verifier.specs.declared.fault.VerifyFault.TheVariants as faults
 use Rattle.path_verifier.specs.Piece.{PieceValue, entries_of}
-use Rattle.path_verifier.specs.Accepted.{AreLive, IsExpiry, MakesPath, request_of}
-use Rattle.path_verifier.specs.Verdict.{IsRefused}
+use Rattle.path_verifier.specs.Accepted.{AreLive, IsExpiry, MakesPath, request_of, IsRefused}
 use Rattle.path_verifier.specs.Turned.{turned_pieces}
 use Rattle.path_verifier.proofs.Breaches.{keeps_but_time, refused}
 use Rattle.path_verifier.proofs.TurnedPath.{all_turned, any_turned}

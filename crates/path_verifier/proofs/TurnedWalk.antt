@@ -6,7 +6,8 @@ use Rattle.std.proofs.lemmas.List.{reverse-append, length-reverse, length-map, m
 use Rattle.std.proofs.lemmas.Option.{slice_get-map, slice_get-get_or, slice_get_within, get_or_from_slice_get, same_Some}
 use Rattle.path_segment.specs.declared.entry.Entry.{Entry}
 use Rattle.policy_expr.specs.declared.hop.WalkHop.{WalkHop}
-use Rattle.path_verifier.specs.Piece.{PieceValue, travelled, as_at, begins_in, ends_in}
+use Rattle.path_segment.specs.Chain.{as_at}
+use Rattle.path_verifier.specs.Piece.{PieceValue, travelled, begins_in, ends_in}
 use Rattle.path_verifier.specs.Walk.{hop_of, hops_of, left_by, entered_by, met, joined, walk_of}
 use Rattle.path_verifier.specs.Accepted.{DoMeet, NamesOnce}
 use Rattle.path_verifier.proofs.Hops.{length_hops_of, length_left_by}

@@ -1,12 +1,16 @@
 -- Which paths may be sent, in plain facts (draft-dekater-scion-dataplane, segment combinations,
--- without peering).
+-- without peering), and by which fault any other is refused: the first rule that it breaks, in the
+-- order of the faults' numbers.
 use Rattle.std.specs.Prelude.{◌≡◌, ◌⊎◌, ℕ, ◌+◌, ◌<◌, ◌≤◌, List, [], ◌∷◌, length, map, All, Any, Some, slice_get}
 use Rattle.hop_mac.specs.Lifetime.{expiry_of, IsLive}
 use Rattle.path_header.specs.Value.{HeaderValue}
 use Rattle.policy_expr.specs.declared.hop.WalkHop.{WalkHop}
-use Rattle.policy_expr.specs.Policy.{Rules, AllowsHops, HasWord}
+use Rattle.policy_expr.specs.Policy.{Rules, AllowsHops, DeniesHop, HasWord}
 use Rattle.path_verifier.specs.declared.kind.PieceKind.{PieceKind}
 use Rattle.path_verifier.specs.declared.kind.PieceKind.TheVariants.{Up, Core, Down}
+use Rattle.path_verifier.specs.declared.fault.VerifyFault.{VerifyFault}
+use Rattle.path_verifier.specs.declared.fault.VerifyFault.TheVariants.{PieceCount, Range, Kinds, CutAtCore, NotJoined, Source, Destination, TooManyHops, Loop, Expired, HeaderDiffers, AclDenied, SequenceMismatch}
+use Rattle.path_verifier.specs.Fault.{code_of}
 use Rattle.path_verifier.specs.Piece.{PieceValue, HasRange, kind_of, entries_of, begins_in, ends_in}
 use Rattle.path_verifier.specs.Walk.{walk_of}
 use Rattle.path_verifier.specs.Header.{hop_count, header_of}
@@ -96,3 +100,29 @@ pub record IsAccepted (request : Request) : Type 0 where
   pub header : request.header ≡ header_of request.pieces
   pub hops : AllowsHops request.rules.acl (walk_of request.pieces)
   pub word : HasWord request.rules.sequence (walk_of request.pieces)
+
+-- the rule of which this fault is the breach
+abbrev pub Keeps : Request → VerifyFault → Type 0
+Keeps request PieceCount = 0 < length request.pieces
+Keeps request Range = All HasRange request.pieces
+Keeps request Kinds = DoAdjoin (map kind_of request.pieces)
+Keeps request CutAtCore = AreCutWell request.pieces
+Keeps request NotJoined = DoMeet request.pieces
+Keeps request Source = DoBeginIn request.src request.pieces
+Keeps request Destination = DoEndIn request.dst request.pieces
+Keeps request TooManyHops = hop_count request.pieces ≤ 64
+Keeps request Loop = NamesOnce (walk_of request.pieces)
+Keeps request Expired = AreLive request.moment request.pieces
+Keeps request HeaderDiffers = request.header ≡ header_of request.pieces
+Keeps request (AclDenied denied) = AllowsHops request.rules.acl (walk_of request.pieces)
+Keeps request SequenceMismatch = HasWord request.rules.sequence (walk_of request.pieces)
+
+-- the path breaks it, that of the access control list by the hop and the entry that the fault names
+abbrev pub Breaks : Request → VerifyFault → Type 0
+Breaks request (AclDenied denied) = DeniesHop request.rules.acl (walk_of request.pieces) denied
+Breaks request fault = ¬ Keeps request fault
+
+-- the path is refused by this fault: it breaks its rule, and keeps each of a lower number
+pub record IsRefused (request : Request) (fault : VerifyFault) : Type 0 where
+  pub broken : Breaks request fault
+  pub before : (earlier : VerifyFault) → code_of earlier < code_of fault → Keeps request earlier

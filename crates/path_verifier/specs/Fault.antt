@@ -3,34 +3,24 @@ use Rattle.std.specs.Prelude.{ℕ, List, codes}
 use Rattle.path_verifier.specs.declared.fault.VerifyFault.{VerifyFault}
 use Rattle.path_verifier.specs.declared.fault.VerifyFault.TheVariants.{PieceCount, Range, Kinds, CutAtCore, NotJoined, Source, Destination, TooManyHops, Loop, Expired, HeaderDiffers, AclDenied, SequenceMismatch}
 
--- the number of a refusal
-abbrev pub code_of : VerifyFault → ℕ
-code_of PieceCount = 70
-code_of Range = 71
-code_of Kinds = 72
-code_of CutAtCore = 73
-code_of NotJoined = 74
-code_of Source = 75
-code_of Destination = 76
-code_of TooManyHops = 77
-code_of Loop = 78
-code_of Expired = 79
-code_of HeaderDiffers = 80
-code_of (AclDenied denied) = 81
-code_of SequenceMismatch = 82
+-- the number and the name of a refusal
+abbrev pub told : VerifyFault → ℕ × List ℕ
+told PieceCount = (70, codes "PieceCount")
+told Range = (71, codes "Range")
+told Kinds = (72, codes "Kinds")
+told CutAtCore = (73, codes "CutAtCore")
+told NotJoined = (74, codes "NotJoined")
+told Source = (75, codes "Source")
+told Destination = (76, codes "Destination")
+told TooManyHops = (77, codes "TooManyHops")
+told Loop = (78, codes "Loop")
+told Expired = (79, codes "Expired")
+told HeaderDiffers = (80, codes "HeaderDiffers")
+told (AclDenied denied) = (81, codes "AclDenied")
+told SequenceMismatch = (82, codes "SequenceMismatch")
 
--- the name of a refusal
+abbrev pub code_of : VerifyFault → ℕ
+code_of refusal = (told refusal).0
+
 abbrev pub name_of : VerifyFault → List ℕ
-name_of PieceCount = codes "PieceCount"
-name_of Range = codes "Range"
-name_of Kinds = codes "Kinds"
-name_of CutAtCore = codes "CutAtCore"
-name_of NotJoined = codes "NotJoined"
-name_of Source = codes "Source"
-name_of Destination = codes "Destination"
-name_of TooManyHops = codes "TooManyHops"
-name_of Loop = codes "Loop"
-name_of Expired = codes "Expired"
-name_of HeaderDiffers = codes "HeaderDiffers"
-name_of (AclDenied denied) = codes "AclDenied"
-name_of SequenceMismatch = codes "SequenceMismatch"
+name_of refusal = (told refusal).1

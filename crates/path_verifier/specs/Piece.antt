@@ -1,11 +1,10 @@
 -- Pieces of segments, of which paths are made (draft-dekater-scion-dataplane, segment
 -- combinations).
-use Rattle.std.specs.Prelude.{ℕ, ◌-◌, ◌<◌, Bool, true, false, if◌then◌else◌, List, length, reverse, slice_get}
-use Rattle.std.specs.Option.{option_map_or}
+use Rattle.std.specs.Prelude.{ℕ, ◌-◌, ◌<◌, Bool, true, false, if◌then◌else◌, List, length, reverse}
 use Rattle.path_segment.specs.declared.entry.Entry.{Entry}
 use Rattle.path_segment.specs.declared.kind.SegKind.{SegKind}
 use Rattle.path_segment.specs.declared.kind.SegKind.TheVariants.{Core, Intra}
-use Rattle.path_segment.specs.Chain.{Chain, between}
+use Rattle.path_segment.specs.Chain.{Chain, as_at, between}
 use Rattle.path_verifier.specs.declared.kind.PieceKind.{PieceKind}
 use Rattle.path_verifier.specs.declared.kind.PieceKind.TheVariants as kinds
 
@@ -48,10 +47,6 @@ travelled piece = in_order piece.along (entries_of piece)
 -- the place in the segment of the entry that is travelled first
 abbrev pub first_place : PieceValue → ℕ
 first_place piece = if piece.along then piece.from else piece.to
-
--- the AS of the entry at a place, and 0 where there is none
-abbrev pub as_at : List Entry → ℕ → ℕ
-as_at entries i = option_map_or (λ entry. entry.ia) (slice_get entries i) 0
 
 -- the AS in which the travel along a piece begins
 unfoldable pub begins_in : PieceValue → ℕ

@@ -2,8 +2,8 @@ ghost use Rattle.std.specs.Prelude.{◌≡◌, ◌+◌, ◌<◌, ◌≤◌, ◌+
 ghost use Rattle.std.specs.List.{AllByRecursion, flat_map};
 ghost use Rattle.path_header.specs.Value.{IsHeader, lens_from};
 ghost use Rattle.path_header.specs.Building.{first_header};
-ghost use Rattle.path_verifier.specs.Piece.{HasRange};
 ghost use Rattle.path_verifier.specs.Held.{pieces_in};
+ghost use Rattle.path_verifier.specs.Piece.{HasRange};
 ghost use Rattle.path_verifier.specs.Header.{field_of, fields_of, info_of, header_of, len_of, hop_count, HaveSixBits};
 
 use crate::piece::Piece;

@@ -9,8 +9,7 @@ ghost use Rattle.path_verifier.specs.declared.fault.VerifyFault.TheVariants.{Exp
 ghost use Rattle.path_verifier.specs.Piece.{PieceValue, HasRange, kind_of, travelled};
 ghost use Rattle.path_verifier.specs.Header.{field_of, fields_of, len_of, header_of, hop_count};
 ghost use Rattle.path_verifier.specs.Walk.{hop_of, hops_of, walk_of};
-ghost use Rattle.path_verifier.specs.Accepted.{AreLive, IsAccepted, IsExpiry, MakesPath, MayAdjoin, Request, request_of};
-ghost use Rattle.path_verifier.specs.Verdict.{IsRefused, Keeps};
+ghost use Rattle.path_verifier.specs.Accepted.{AreLive, IsAccepted, IsExpiry, MakesPath, MayAdjoin, Request, request_of, IsRefused, Keeps};
 ghost use Rattle.path_verifier.specs.Turned.{turned_piece, turned_pieces, turned_walk};
 
 /// A path may be sent exactly where it keeps each rule of which a refusal is the breach; it is

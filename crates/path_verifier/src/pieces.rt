@@ -24,11 +24,10 @@ pub(crate) enum Held<'s> {
 
 impl<'s> Model for Pieces<'s> {
     ghost use Rattle.std.specs.Prelude.{List};
+    ghost use Rattle.path_verifier.specs.Held.{pieces_in};
     ghost use Rattle.path_verifier.specs.Piece.{PieceValue};
 
     ghost Value = { List PieceValue };
-
-    ghost use Rattle.path_verifier.specs.Held.{pieces_in};
 
     ghost view = { λ p. pieces_in p.held };
 }

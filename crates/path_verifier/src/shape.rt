@@ -6,11 +6,10 @@ ghost use Rattle.path_header.specs.Value.{HeaderValue};
 ghost use Rattle.policy_expr.specs.Policy.{Rules};
 ghost use Rattle.path_verifier.specs.declared.fault.VerifyFault.{VerifyFault};
 ghost use Rattle.path_verifier.specs.Fault.{code_of};
-ghost use Rattle.path_verifier.specs.Piece.{HasRange, kind_of, begins_in, ends_in};
 ghost use Rattle.path_verifier.specs.Held.{pieces_in};
+ghost use Rattle.path_verifier.specs.Piece.{HasRange, kind_of, begins_in, ends_in};
 ghost use Rattle.path_verifier.specs.Header.{hop_count};
-ghost use Rattle.path_verifier.specs.Accepted.{AreCutWell, AreLive, DoAdjoin, DoBeginIn, DoEndIn, DoMeet, IsCore, IsExpiry, MayAdjoin, request_of};
-ghost use Rattle.path_verifier.specs.Verdict.{Keeps, IsRefused};
+ghost use Rattle.path_verifier.specs.Accepted.{AreCutWell, AreLive, DoAdjoin, DoBeginIn, DoEndIn, DoMeet, IsCore, IsExpiry, MayAdjoin, request_of, Keeps, IsRefused};
 
 use crate::fault::VerifyFault;
 use crate::kind::PieceKind;

@@ -2,14 +2,13 @@ ghost use Rattle.std.specs.Prelude.{◌≡◌, ◌<◌, ◌≤◌, length, IfOk,
 ghost use Rattle.std.specs.List.{AllByRecursion};
 ghost use Rattle.path_header.specs.Value.{HeaderValue};
 ghost use Rattle.policy_expr.specs.Policy.{AllowsHops, HasWord, Rules};
+ghost use Rattle.path_verifier.specs.Held.{pieces_in};
 ghost use Rattle.path_verifier.specs.Piece.{HasRange};
 ghost use Rattle.path_verifier.specs.Header.{header_of, hop_count};
-ghost use Rattle.path_verifier.specs.Held.{pieces_in};
 ghost use Rattle.path_verifier.specs.Walk.{walk_of};
 ghost use Rattle.path_verifier.specs.declared.fault.VerifyFault.{VerifyFault};
 ghost use Rattle.path_verifier.specs.Fault.{code_of};
-ghost use Rattle.path_verifier.specs.Accepted.{Request, request_of, IsAccepted, MakesPath};
-ghost use Rattle.path_verifier.specs.Verdict.{Keeps, IsRefused};
+ghost use Rattle.path_verifier.specs.Accepted.{Request, request_of, IsAccepted, MakesPath, Keeps, IsRefused};
 
 use crate::fault::VerifyFault;
 use crate::header::header_of;

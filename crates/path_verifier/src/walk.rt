@@ -1,7 +1,7 @@
 ghost use Rattle.std.specs.Prelude.{◌≡◌, ◌↔◌, ◌+◌, ◌<◌, ◌≤◌, [], ◌∷◌, ◌++◌, length, map, drop, slice_get, IsTrue, Some};
 ghost use Rattle.std.specs.List.{AllByRecursion};
-ghost use Rattle.path_verifier.specs.Piece.{HasRange};
 ghost use Rattle.path_verifier.specs.Held.{pieces_in};
+ghost use Rattle.path_verifier.specs.Piece.{HasRange};
 ghost use Rattle.path_verifier.specs.Walk.{hop_of, hops_of, entered_by, left_by, met, joined, walk_of};
 ghost use Rattle.path_verifier.specs.Header.{len_of, hop_count};
 ghost use Rattle.path_verifier.specs.Accepted.{NamesOnce};

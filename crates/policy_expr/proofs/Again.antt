@@ -4,7 +4,7 @@ use Rattle.std.proofs.lemmas.List.{append-nil}
 use Rattle.std.proofs.lemmas.Bool.Decides.{nat_tests}
 use Rattle.policy_expr.specs.declared.token.Token.{Token}
 use Rattle.policy_expr.specs.declared.token.Token.TheVariants as signs
-use Rattle.policy_expr.specs.Tree.{Tree, hop, followed, either, optional, repeated, once_or_more}
+use Rattle.policy_expr.specs.Language.{Tree, hop, followed, either, optional, repeated, once_or_more}
 use Rattle.policy_expr.specs.Reading.{Level, new_level, whole}
 use Rattle.policy_expr.proofs.Steps.{Reading, wants, has, with_choices, took, ended, read_on}
 use Rattle.policy_expr.specs.Printing.{strength}

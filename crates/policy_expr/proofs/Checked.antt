@@ -1,15 +1,17 @@
 -- Judging the texts of a list finds what reading it answers.
 use Rattle.std.proofs.Common.{is_none, slice_get, subst, ◌≡◌, ℕ, zero, suc, ◌+◌, ◌<◌, ◌≤◌, Bool, true, false, not, ◌||◌, cond, List, [], ◌∷◌, ◌++◌, length, Option, None, Some, Result, Ok, Err, refl, sym, ◌∙◌, ap, arith, append_assoc, length-append, map, get_or, drop, drop-cons}
-use Rattle.std.specs.Prelude.{nat_lt, if◌then◌else◌, IsOk, IsSome}
+use Rattle.std.specs.Prelude.{nat_lt, reverse, if◌then◌else◌, IsOk, IsSome}
 use Rattle.std.specs.Result.{result_map_both}
-use Rattle.std.proofs.lemmas.List.{append-nil, length-map, at_drop_all}
+use Rattle.std.specs.List.{list_any}
+use Rattle.std.proofs.lemmas.List.{append-nil, length-map, at_drop_all, reverse-append}
+use Rattle.std.proofs.lemmas.List.Folds.{list_any-append}
 use Rattle.std.proofs.lemmas.Bool.{ltb-false, lt-ltb, le-ltb, not-false}
-use Rattle.refusal.specs.Refusal.{◌>>=◌, unless}
+use Rattle.refusal.specs.Refusal.{◌>>=◌, each, unless}
 use Rattle.policy_expr.specs.declared.hop.HopPred.{HopPred}
 use Rattle.policy_expr.specs.declared.acl.AclEntry.{AclEntry}
 use Rattle.policy_expr.specs.declared.fault.PolicyFault.{PolicyFault}
-use Rattle.policy_expr.specs.Acl.{entry_at, entries_at, is_bare, ends_bare, is_bare_before_last, acl_fault, acl_at, IsAcl}
-use Rattle.policy_expr.specs.Refusing.{Judges}
+use Rattle.policy_expr.specs.Acl.{entry_at, is_bare, default_fault, acl_fault, acl_at, IsAcl}
+use Rattle.policy_expr.specs.Reading.{Judges}
 use Rattle.policy_expr.specs.declared.fault.PolicyFault.TheVariants as faults
 use Rattle.policy_expr.proofs.Front.{with_front}
 
@@ -30,6 +32,20 @@ check_on count last other [] =
 check_on count last other (text ∷ texts) = do
   bare ← bare_at text
   check_on count bare (other || last) texts
+
+-- ---- the entries of a list from the first on
+
+-- the last entry is bare
+abbrev ends_bare : List AclEntry → Bool
+ends_bare [] = false
+ends_bare (entry ∷ []) = is_bare entry
+ends_bare (entry ∷ next ∷ later) = ends_bare (next ∷ later)
+
+-- an entry before the last is bare
+abbrev is_bare_before_last : List AclEntry → Bool
+is_bare_before_last [] = false
+is_bare_before_last (entry ∷ []) = false
+is_bare_before_last (entry ∷ next ∷ later) = is_bare entry || is_bare_before_last (next ∷ later)
 
 -- ---- one entry more at the end of a list
 
@@ -52,6 +68,51 @@ before_pushed (x ∷ []) e = or_none (is_bare x)
 before_pushed (x ∷ y ∷ later) e =
     ap (λ (b : Bool). is_bare x || b) (before_pushed (y ∷ later) e) ∙ or_both (is_bare x) (is_bare_before_last (y ∷ later)) (ends_bare (y ∷ later))
 
+-- ---- the rules, by the entries from the first on
+
+turned : (p q x : Bool) → ((p || q) || (x || false)) ≡ ((x || p) || q)
+turned true q true = refl
+turned true q false = refl
+turned false true true = refl
+turned false true false = refl
+turned false false true = refl
+turned false false false = refl
+
+bare_among : (front : List AclEntry) → list_any is_bare (reverse front) ≡ (is_bare_before_last front || ends_bare front)
+bare_among [] = refl
+bare_among (x ∷ []) = or_none (is_bare x)
+bare_among (x ∷ y ∷ later) =
+    ap (list_any is_bare) (reverse-append (x ∷ []) (y ∷ later)) ∙ list_any-append is_bare (reverse (y ∷ later)) (x ∷ [])
+    ∙ ap (λ (b : Bool). b || (is_bare x || false)) (bare_among (y ∷ later))
+    ∙ turned (is_bare_before_last (y ∷ later)) (ends_bare (y ∷ later)) (is_bare x)
+
+abbrev by_flags : Bool → Bool → Option PolicyFault
+by_flags last other = if not last then Some faults.NoDefault else if other then Some faults.AfterDefault else None
+
+default_pushed : (front : List AclEntry) (e : AclEntry)
+    → default_fault (reverse (front ++ e ∷ [])) ≡ by_flags (ends_bare (front ++ e ∷ [])) (is_bare_before_last (front ++ e ∷ []))
+default_pushed front e =
+    rw (reverse-append front (e ∷ []), ends_pushed front e, before_pushed front e, bare_among front) refl
+
+-- the entries before the last, and the last
+last_of : (x : AclEntry) (later : List AclEntry) → (front : List AclEntry) × (e : AclEntry) × (x ∷ later ≡ front ++ e ∷ [])
+last_of x [] = ([], x, refl)
+last_of x (y ∷ later) = let rest = last_of y later in (x ∷ rest.0, rest.1, ap (λ (xs : List AclEntry). x ∷ xs) rest.2)
+
+default_is : (entries : List AclEntry) → default_fault (reverse entries) ≡ by_flags (ends_bare entries) (is_bare_before_last entries)
+default_is [] = refl
+default_is (x ∷ later) =
+    let parts = last_of x later in
+    subst (λ (xs : List AclEntry). default_fault (reverse xs) ≡ by_flags (ends_bare xs) (is_bare_before_last xs))
+    (sym parts.2) (default_pushed parts.0 parts.1)
+
+abbrev fault_by : List AclEntry → Option PolicyFault
+fault_by entries = if nat_lt 256 (length entries) then Some faults.TooLarge else by_flags (ends_bare entries) (is_bare_before_last entries)
+
+fault_is : (entries : List AclEntry) → acl_fault entries ≡ fault_by entries
+unfolding acl_fault
+fault_is entries = rw (default_is entries) refl
+
 -- ---- what is answered, without its value
 
 abbrev forgotten : {A : Type 0} → Result A PolicyFault → Result (Unit {0}) PolicyFault
@@ -63,11 +124,10 @@ judged entries = unless (acl_fault entries) entries
 
 by_rules : (big last other : Bool) (entries : List AclEntry) (n : ℕ) → nat_lt 256 n ≡ big → ends_bare entries ≡ last → is_bare_before_last entries ≡ other → n ≡ length entries
     → check_on n last other [] ≡ forgotten (judged entries)
-unfolding acl_fault
-by_rules true last other entries n b l o e = rw (b, (ap (nat_lt 256) (sym e) ∙ b)) refl
-by_rules false false other entries n b l o e = rw (b, (ap (nat_lt 256) (sym e) ∙ b), l) refl
-by_rules false true true entries n b l o e = rw (b, (ap (nat_lt 256) (sym e) ∙ b), l, o) refl
-by_rules false true false entries n b l o e = rw (b, (ap (nat_lt 256) (sym e) ∙ b), l, o) refl
+by_rules true last other entries n b l o e = rw (fault_is entries, b, (ap (nat_lt 256) (sym e) ∙ b)) refl
+by_rules false false other entries n b l o e = rw (fault_is entries, b, (ap (nat_lt 256) (sym e) ∙ b), l) refl
+by_rules false true true entries n b l o e = rw (fault_is entries, b, (ap (nat_lt 256) (sym e) ∙ b), l, o) refl
+by_rules false true false entries n b l o e = rw (fault_is entries, b, (ap (nat_lt 256) (sym e) ∙ b), l, o) refl
 
 front_later : (front : List AclEntry) (e : AclEntry) (r : Result (List AclEntry) PolicyFault)
     → with_front (front ++ e ∷ []) r ≡ with_front front (r >>= λ entries. Ok (e ∷ entries))
@@ -75,14 +135,14 @@ front_later front e (Ok entries) = ap Ok (append_assoc front (e ∷ []) entries)
 front_later front e (Err fault) = refl
 
 check_step : (front : List AclEntry) (n : ℕ) (text : List ℕ) (texts : List (List ℕ)) (read : Result AclEntry PolicyFault) → entry_at text ≡ read
-    → ((e : AclEntry) → check_on n (ends_bare (front ++ e ∷ [])) (is_bare_before_last (front ++ e ∷ [])) texts ≡ forgotten (with_front (front ++ e ∷ []) (entries_at texts) >>= judged))
-    → check_on n (ends_bare front) (is_bare_before_last front) (text ∷ texts) ≡ forgotten (with_front front (entries_at (text ∷ texts)) >>= judged)
+    → ((e : AclEntry) → check_on n (ends_bare (front ++ e ∷ [])) (is_bare_before_last (front ++ e ∷ [])) texts ≡ forgotten (with_front (front ++ e ∷ []) (each entry_at texts) >>= judged))
+    → check_on n (ends_bare front) (is_bare_before_last front) (text ∷ texts) ≡ forgotten (with_front front (each entry_at (text ∷ texts)) >>= judged)
 check_step front n text texts (Err fault) is rest = rw is refl
 check_step front n text texts (Ok e) is rest =
-    rw (is, ← front_later front e (entries_at texts), ← ends_pushed front e, ← before_pushed front e) (rest e)
+    rw (is, ← front_later front e (each entry_at texts), ← ends_pushed front e, ← before_pushed front e) (rest e)
 
 check_from : (texts : List (List ℕ)) (front : List AclEntry) (n : ℕ) → n ≡ length front + length texts
-    → check_on n (ends_bare front) (is_bare_before_last front) texts ≡ forgotten (with_front front (entries_at texts) >>= judged)
+    → check_on n (ends_bare front) (is_bare_before_last front) texts ≡ forgotten (with_front front (each entry_at texts) >>= judged)
 check_from [] front n count =
     rw (append-nil front) (by_rules (nat_lt 256 n) (ends_bare front) (is_bare_before_last front) front n refl refl refl (omega arith))
 check_from (text ∷ texts) front n count = check_step front n text texts (entry_at text) refl
@@ -93,7 +153,7 @@ front_none (Ok entries) = refl
 front_none (Err fault) = refl
 
 pub check_is_acl : (texts : List (List ℕ)) → check_on (length texts) false false texts ≡ forgotten (acl_at texts)
-check_is_acl texts = check_from texts [] (length texts) (omega arith) ∙ ap (λ (r : Result (List AclEntry) PolicyFault). forgotten (r >>= judged)) (front_none (entries_at texts))
+check_is_acl texts = check_from texts [] (length texts) (omega arith) ∙ ap (λ (r : Result (List AclEntry) PolicyFault). forgotten (r >>= judged)) (front_none (each entry_at texts))
 
 judges_forgotten : {A : Type 0} (r : Result A PolicyFault) (told : Result (Unit {0}) PolicyFault) → told ≡ forgotten r → Judges told r
 judges_forgotten (Ok x) told e = rw e refl
@@ -191,9 +251,8 @@ parted (e ∷ next ∷ later) ends before =
     in_front e front here there (suc k) entry is = there k entry is
 
 pub plain_of : (entries : List AclEntry) → acl_fault entries ≡ None → IsAcl entries
-unfolding acl_fault
 plain_of entries none =
-    let a = guard (nat_lt 256 (length entries)) _ _ none in
+    let a = guard (nat_lt 256 (length entries)) _ _ (sym (fault_is entries) ∙ none) in
     let b = guard (not (ends_bare entries)) _ _ a.1 in
     let c = guard (is_bare_before_last entries) _ _ b.1 in
     let p = parted entries (not-false _ b.0) c.0 in
@@ -210,19 +269,18 @@ none_before (x ∷ []) last others = rw (bare_of x.pred (others zero x refl)) re
 none_before (x ∷ y ∷ later) last others = rw (bare_of x.pred (others zero x refl)) (none_before (y ∷ later) last (λ k entry there. others (suc k) entry there))
 
 pub fault_of_plain : (entries : List AclEntry) → IsAcl entries → acl_fault entries ≡ None
-unfolding acl_fault
 fault_of_plain entries acl =
     let few : nat_lt 256 (length entries) ≡ false = le-ltb 256 (length entries) acl.few in
     let ends : ends_bare entries ≡ true = ap ends_bare acl.parts ∙ ends_pushed acl.front acl.last ∙ ap is_none acl.bare in
     let before : is_bare_before_last entries ≡ false = ap is_bare_before_last acl.parts ∙ none_before acl.front acl.last acl.others in
-    rw (few, ends, before) refl
+    fault_is entries ∙ rw (few, ends, before) refl
 
 -- what was judged to be a list is one once it is read
 passed : (fault : Option PolicyFault) (entries : List AclEntry) → IsOk (unless fault entries) → fault ≡ None
 passed None entries ok = refl
 passed (Some fault) entries ok = absurd (let f : false ≡ true = ok in cc)
 
-pub read_judged : (texts : List (List ℕ)) (entries : List AclEntry) → IsOk (acl_at texts) → entries_at texts ≡ Ok entries → IsAcl entries × (acl_at texts ≡ Ok entries)
+pub read_judged : (texts : List (List ℕ)) (entries : List AclEntry) → IsOk (acl_at texts) → each entry_at texts ≡ Ok entries → IsAcl entries × (acl_at texts ≡ Ok entries)
 read_judged texts entries ok read =
     let ok' : IsOk (judged entries) = rw read at ok in
     let none = passed (acl_fault entries) entries ok' in

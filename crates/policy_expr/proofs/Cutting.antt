@@ -7,9 +7,8 @@ use Rattle.std.proofs.lemmas.Str.Ascii.{IsAscii-nil, IsAscii-cons}
 use Rattle.std.specs.Str.{IsAscii}
 use Rattle.policy_expr.specs.declared.token.Token.{Token}
 use Rattle.policy_expr.specs.Predicate.{predicate_at}
-use Rattle.policy_expr.specs.Tokens.{is_mark, with_byte, token_texts, read_token, sign_token, token_of, tokens}
+use Rattle.policy_expr.specs.Tokens.{after_marks, is_mark, with_byte, token_texts, read_token, sign_token, token_of, tokens}
 use Rattle.blanks.specs.Blanks.{is_blank, after_blanks}
-use Rattle.policy_expr.specs.Next.{after_marks}
 
 -- a mark is below 128, and no blank
 pub mark_is_ascii : (b : ℕ) → is_mark b ≡ true → b < 128

@@ -10,6 +10,7 @@ use Rattle.std.proofs.Math.Nat.{pow-le-pow_right}
 use Rattle.isd_as.specs.Address.{address_of, WritesGroup, SpellsAs}
 use Rattle.isd_as.specs.Reading.{isd_at, address_at}
 use Rattle.isd_as.proofs.Spelled.{Spells-address_at, SpellsIsd-isd_at}
+use Rattle.refusal.specs.Refusal.{or_else}
 use Rattle.policy_expr.specs.declared.fault.PolicyFault.{PolicyFault}
 use Rattle.policy_expr.specs.declared.fault.PolicyFault.TheVariants as faults
 use Rattle.policy_expr.specs.declared.hop.HopPred.{HopPred}
@@ -18,9 +19,9 @@ use Rattle.policy_expr.specs.declared.hop.Interfaces.TheVariants.{Any, Either, B
 use Rattle.policy_expr.specs.declared.token.Token.{Token}
 use Rattle.policy_expr.specs.declared.token.Token.TheVariants as signs
 use Rattle.refusal.proofs.Steps.{bind_ok, guard_ok, guard_not, ok_is}
-use Rattle.policy_expr.specs.Predicate.{hash, one_interface, two_interfaces, as_part, cut_at, interface_at, cut_interfaces_at, interfaces_at, cut_plain_at, plain_at, cut_predicate_at, predicate_at}
+use Rattle.policy_expr.specs.Predicate.{hash, one_interface, two_interfaces, cut_at, interface_at, cut_interfaces_at, interfaces_at, cut_plain_at, plain_at, cut_predicate_at, predicate_at}
 use Rattle.policy_expr.specs.Tokens.{is_mark, token_texts, token_of, read_token, sign_token, tokens}
-use Rattle.policy_expr.specs.Tree.{Tree, hop, followed, either, optional, repeated, once_or_more}
+use Rattle.policy_expr.specs.Language.{Tree, hop, followed, either, optional, repeated, once_or_more}
 use Rattle.policy_expr.specs.Reading.{Level, new_level, whole, tree_at, sequence_at, within_size, node_count}
 use Rattle.policy_expr.proofs.Steps.{Reading, wants, has, with_choices, with_before, item_begun, item_followed, level_closed, took, took_at, ended, ended_at, read_on, tree_is_read}
 use Rattle.policy_expr.specs.Printing.{strength, AreInterfaces, IsPredicate}
@@ -87,6 +88,10 @@ two_small m n fits_m fits_n false some = (grind (arith, nat_tests), fits_m, fits
 one_small : (n : ℕ) → n < 2 ^ 16 → (test : Bool) → eqb n 0 ≡ test → AreInterfaces (if test then Any else Either n)
 one_small n fits true none = tt
 one_small n fits false some = (grind (arith, nat_tests), fits)
+
+-- what an address or a number is read as, any refusal being BadPredicate
+abbrev pub as_part : {A : Type 0} → Result A AddrFault → Result A PolicyFault
+as_part read = or_else faults.BadPredicate read
 
 pub part_ok : {A : Type 0} (r : Result A AddrFault) (x : A) → as_part r ≡ Ok x → r ≡ Ok x
 part_ok (Ok y) x e = (let same : y ≡ x = cc in ap Ok same)

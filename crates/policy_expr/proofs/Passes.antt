@@ -8,7 +8,7 @@ use Rattle.policy_expr.specs.declared.ends.Ends.{Ends}
 use Rattle.policy_expr.specs.declared.table.Line.{Line}
 use Rattle.policy_expr.specs.Hop.{Matches}
 use Rattle.policy_expr.specs.Sets.{Has, IsSplit}
-use Rattle.policy_expr.specs.Table.{MayFollow, MeetsAt, StepsTo, After, Accepts}
+use Rattle.policy_expr.specs.Table.{MayFollow, MeetsAt, After, Accepts}
 
 -- ---- visits of a set's predicates, one by one
 
@@ -35,6 +35,10 @@ pub sub_more : (set rest number others : ℕ) → IsSplit rest number others →
 sub_more set rest number others split sub j has = sub j ((split.rest j).0 has).0
 
 -- ---- what is wanted behind a hop
+
+-- a predicate of the set matches the hop, and this one may follow it
+abbrev StepsTo : List Line → ℕ → WalkHop → ℕ → Type 0
+StepsTo lines set h j = (k : ℕ) × Has set k × MeetsAt lines k h × MayFollow lines k j
 
 module _ (lines : List Line) (wanted : ℕ) (hop : WalkHop) where
   -- so far: of the visited predicates that match, those that may follow

@@ -7,9 +7,8 @@ use Rattle.policy_expr.specs.declared.hop.HopPred.{HopPred}
 use Rattle.policy_expr.specs.declared.token.Token.{Token}
 use Rattle.policy_expr.specs.declared.token.Token.TheVariants as signs
 use Rattle.policy_expr.specs.Predicate.{predicate_at}
-use Rattle.policy_expr.specs.Tokens.{is_mark, begins_with_mark, token_texts, token_of, read_token, tokens}
-use Rattle.policy_expr.specs.Next.{after_marks}
-use Rattle.policy_expr.specs.Tree.{Tree, hop, followed, either, optional, repeated, once_or_more}
+use Rattle.policy_expr.specs.Tokens.{after_marks, is_mark, begins_with_mark, token_texts, token_of, read_token, tokens}
+use Rattle.policy_expr.specs.Language.{Tree, hop, followed, either, optional, repeated, once_or_more}
 use Rattle.policy_expr.specs.Printing.{strength, in_parentheses, predicate_text, printed}
 use Rattle.policy_expr.proofs.Readable.{ArePredicates, IsReadable}
 use Rattle.policy_expr.proofs.Cutting.{marks_of, texts_of_run}

@@ -3,7 +3,7 @@
 use Rattle.std.proofs.Common.{ℕ, ◌+◌, ◌≤◌, max, Bool}
 use Rattle.std.specs.Prelude.{nat_lt, if◌then◌else◌}
 use Rattle.policy_expr.specs.Reading.{node_count}
-use Rattle.policy_expr.specs.Tree.{Tree, hop, followed, either, optional, repeated, once_or_more}
+use Rattle.policy_expr.specs.Language.{Tree, hop, followed, either, optional, repeated, once_or_more}
 use Rattle.policy_expr.specs.Printing.{strength, IsPredicate}
 
 -- one more where the text stands in parentheses

@@ -11,10 +11,9 @@ use Rattle.policy_expr.specs.declared.fault.PolicyFault.TheVariants as faults
 use Rattle.policy_expr.specs.declared.token.Token.{Token}
 use Rattle.policy_expr.specs.declared.token.Token.TheVariants as signs
 use Rattle.policy_expr.specs.Tokens.{tokens}
-use Rattle.policy_expr.specs.Tree.{Tree, hop, optional, repeated, once_or_more}
+use Rattle.policy_expr.specs.Language.{Tree, hop, optional, repeated, once_or_more}
 use Rattle.policy_expr.specs.Grammar.{SpellsSequence}
-use Rattle.policy_expr.specs.Reading.{Level, new_level, whole, next_level, next_choice, read_rest, tree_at, node_count, within_size, sequence_at}
-use Rattle.policy_expr.specs.Refusing.{fault_at, IsRefusal, Gets}
+use Rattle.policy_expr.specs.Reading.{Level, new_level, whole, next_level, next_choice, read_rest, tree_at, node_count, within_size, sequence_at, fault_at, IsRefusal, Gets}
 use Rattle.policy_expr.proofs.Found.{sequence_is_spelled, spelled_is_sequence}
 
 -- what these tokens give at any point of a reading

@@ -1,7 +1,7 @@
 -- Sequences are trees whose texts are read again.
 use Rattle.std.proofs.Common.{◌≡◌, ◌∙◌, ℕ, true, false, List, Result, Ok, Err, IsOk, refl, ap}
 use Rattle.policy_expr.specs.declared.fault.PolicyFault.{PolicyFault}
-use Rattle.policy_expr.specs.Tree.{Tree}
+use Rattle.policy_expr.specs.Language.{Tree}
 use Rattle.policy_expr.specs.Printing.{printed, IsSequence}
 use Rattle.policy_expr.specs.Reading.{tree_at, sequence_at}
 use Rattle.policy_expr.proofs.Readable.{IsReadable}

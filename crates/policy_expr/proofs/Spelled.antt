@@ -5,7 +5,7 @@ use Rattle.std.proofs.lemmas.List.{append_assoc}
 use Rattle.policy_expr.specs.declared.hop.HopPred.{HopPred}
 use Rattle.policy_expr.specs.declared.token.Token.{Token}
 use Rattle.policy_expr.specs.declared.token.Token.TheVariants as signs
-use Rattle.policy_expr.specs.Tree.{Tree, hop, followed, optional, repeated, once_or_more}
+use Rattle.policy_expr.specs.Language.{Tree, hop, followed, optional, repeated, once_or_more}
 use Rattle.policy_expr.specs.Grammar.{Part, following, alternatives, item, Spells, predicate, in_parentheses, with_optional, with_repeated, with_once_or_more, one_alternative, one_more, one_part, behind}
 use Rattle.policy_expr.specs.Reading.{Level, new_level, whole}
 use Rattle.policy_expr.proofs.Steps.{with_choices, with_before, wants, has, took, read_on, ended}

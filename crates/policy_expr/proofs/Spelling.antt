@@ -11,9 +11,9 @@ use Rattle.policy_expr.specs.declared.hop.HopPred.{HopPred}
 use Rattle.policy_expr.specs.declared.hop.Interfaces.{Interfaces}
 use Rattle.policy_expr.specs.declared.hop.Interfaces.TheVariants.{Any}
 use Rattle.refusal.specs.Refusal.{◌>>=◌}
-use Rattle.policy_expr.specs.Predicate.{hash, comma, one_interface, two_interfaces, as_part, cut_at, interface_at, cut_interfaces_at, interfaces_at, cut_plain_at, plain_at, cut_predicate_at, predicate_at, SpellsInterfaces, one, two, SpellsPredicate, isd_alone, address, with_interfaces}
+use Rattle.policy_expr.specs.Predicate.{hash, comma, one_interface, two_interfaces, cut_at, interface_at, cut_interfaces_at, interfaces_at, cut_plain_at, plain_at, cut_predicate_at, predicate_at, SpellsInterfaces, one, two, SpellsPredicate, isd_alone, address, with_interfaces}
 use Rattle.refusal.proofs.Steps.{bind_ok, ok_is}
-use Rattle.policy_expr.proofs.Kept.{part_ok}
+use Rattle.policy_expr.proofs.Kept.{as_part, part_ok}
 use Rattle.policy_expr.proofs.Texts.{IsPlain, all_append, plain_digits, no_hash_in, no_comma_in, cut_none, cut_some}
 
 cut_parts_by : (test : Bool) (x y : List ℕ × List ℕ) → cond test (Some x) None ≡ Some y → cond test (Ok x) (Err address_faults.NoDash) ≡ Ok y

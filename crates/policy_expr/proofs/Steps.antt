@@ -7,7 +7,7 @@ use Rattle.policy_expr.specs.declared.token.Token.{Token}
 use Rattle.policy_expr.specs.declared.token.Token.TheVariants as signs
 use Rattle.refusal.specs.Refusal.{◌>>=◌}
 use Rattle.policy_expr.specs.Tokens.{tokens}
-use Rattle.policy_expr.specs.Tree.{Tree, hop, followed, either, optional, repeated, once_or_more}
+use Rattle.policy_expr.specs.Language.{Tree, hop, followed, either, optional, repeated, once_or_more}
 use Rattle.policy_expr.specs.Reading.{Level, new_level, joined, whole, read_rest, tree_at}
 
 abbrev pub with_choices : Option Tree → Tree → Tree

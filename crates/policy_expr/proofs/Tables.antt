@@ -5,11 +5,10 @@ use Rattle.policy_expr.specs.declared.hop.WalkHop.{WalkHop}
 use Rattle.policy_expr.specs.declared.ends.Ends.{Ends}
 use Rattle.policy_expr.specs.declared.table.Line.{Line}
 use Rattle.policy_expr.specs.Hop.{Matches}
-use Rattle.policy_expr.specs.Language.{Lang}
+use Rattle.policy_expr.specs.Language.{Lang, Tree, hop, followed, either, optional, repeated, once_or_more}
 use Rattle.policy_expr.specs.Reading.{node_count}
 use Rattle.policy_expr.specs.Sets.{Has}
-use Rattle.policy_expr.specs.Tree.{Tree, hop, followed, either, optional, repeated, once_or_more}
-use Rattle.policy_expr.specs.Table.{pred_count, has_empty, Names, ComesFirst, ComesLast, Follows, HasPred, MayFollow, MeetsAt, Adds, IsTableOf, Links, IsThen, IsEither, IsWithin, Accepts}
+use Rattle.policy_expr.specs.Table.{pred_count, has_empty, Names, ComesFirst, ComesLast, Follows, HasPred, MayFollow, MeetsAt, Adds, IsTableOf, Links, IsThen, IsEither, Accepts}
 use Rattle.policy_expr.proofs.Runs.{first_in, last_in, follows_in, after_map, Meets, IsWord, word_of_lang, lang_of_word}
 
 -- ---- one line more
@@ -224,7 +223,12 @@ module _ (t : Tree) (lines : List Line) (ends : Ends) (table : IsTableOf t lines
     λ m. let has = (table.preds k m.0).1 (inr m.1) in (has.0, has.1, subst (λ (p : HopPred). Matches p h) (sym has.2) m.2),
   )
 
-  pub table_within : IsWithin lines ends
+  -- no set has a number beyond the lines
+  pub record IsWithin : Type 0 where
+    pub first : (k : ℕ) → Has ends.first k → k < length lines
+    pub next : (j k : ℕ) → MayFollow lines j k → k < length lines
+
+  pub table_within : IsWithin
   table_within = record {
     first = λ k has. let i = first_in t 0 k ((table.first k).0 has) in omega (arith, i.high, table.count);
     next = λ j k m. let i = (follows_in t 0 j k ((steps j k).0 m)).1 in omega (arith, i.high, table.count);

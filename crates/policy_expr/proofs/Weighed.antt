@@ -4,22 +4,19 @@ use Rattle.std.specs.Prelude.{IsOk}
 use Rattle.std.proofs.lemmas.List.{append-nil, drop_all}
 use Rattle.refusal.specs.declared.fault.OrMemory.{OrMemory}
 use Rattle.refusal.specs.declared.fault.OrMemory.TheVariants.{Memory, Refused}
-use Rattle.refusal.specs.Refusal.{◌>>=◌, check, Answers, Fails, Reads}
+use Rattle.refusal.specs.Refusal.{◌>>=◌, check, each, Answers, Fails, Reads}
 use Rattle.policy_expr.specs.declared.option_fault.OptionFault.{OptionFault}
 use Rattle.policy_expr.specs.declared.option_fault.OptionFault.TheVariants.{OptionCount}
-use Rattle.policy_expr.specs.Options.{WeighedRules, OptionTexts, are_few, option_at, each_at, options_at}
-use Rattle.policy_expr.specs.Refusing.{Judges}
+use Rattle.policy_expr.specs.Options.{WeighedRules, OptionTexts, are_few, option_at, options_at}
+use Rattle.policy_expr.specs.Reading.{Judges}
+use Rattle.policy_expr.proofs.Front.{with_front}
 
--- what was read so far, and then the rest
-abbrev pub behind : List WeighedRules → Result (List WeighedRules) OptionFault → Result (List WeighedRules) OptionFault
-behind front reading = reading >>= λ options. Ok (front ++ options)
-
-pub behind_none : (r : Result (List WeighedRules) OptionFault) → behind [] r ≡ r
+pub behind_none : (r : Result (List WeighedRules) OptionFault) → with_front [] r ≡ r
 behind_none (Ok options) = refl
 behind_none (Err fault) = refl
 
 pub behind_more : (front : List WeighedRules) (option : WeighedRules) (r : Result (List WeighedRules) OptionFault)
-    → behind (front ++ option ∷ []) r ≡ behind front (r >>= λ options. Ok (option ∷ options))
+    → with_front (front ++ option ∷ []) r ≡ with_front front (r >>= λ options. Ok (option ∷ options))
 behind_more front option (Ok options) = ap Ok (append_assoc front (option ∷ []) options)
 behind_more front option (Err fault) = refl
 
@@ -39,41 +36,41 @@ opened texts i text within at =
 
 -- what the texts from this one on are read as, by what this one is
 abbrev onward : List OptionTexts → Result WeighedRules OptionFault → Result (List WeighedRules) OptionFault
-onward later reading = reading >>= λ option. (each_at later >>= λ options. Ok (option ∷ options))
+onward later reading = reading >>= λ option. (each option_at later >>= λ options. Ok (option ∷ options))
 
 from_here : (texts : List OptionTexts) (i : ℕ) (text : OptionTexts) (reading : Result WeighedRules OptionFault) → i < length texts → text ≡ get_or texts i text
-    → option_at text ≡ reading → each_at (drop i texts) ≡ onward (drop (i + 1) texts) reading
-from_here texts i text reading within at read = ap each_at (opened texts i text within at) ∙ ap (onward (drop (i + 1) texts)) read
+    → option_at text ≡ reading → each option_at (drop i texts) ≡ onward (drop (i + 1) texts) reading
+from_here texts i text reading within at read = ap (each option_at) (opened texts i text within at) ∙ ap (onward (drop (i + 1) texts)) read
 
 pub read_more : (texts : List OptionTexts) (i : ℕ) (text : OptionTexts) (option : WeighedRules) (front front' : List WeighedRules) → i < length texts
     → text ≡ get_or texts i text → option_at text ≡ Ok option → front' ≡ front ++ option ∷ []
-    → behind front (each_at (drop i texts)) ≡ each_at texts → behind front' (each_at (drop (i + 1) texts)) ≡ each_at texts
+    → with_front front (each option_at (drop i texts)) ≡ each option_at texts → with_front front' (each option_at (drop (i + 1) texts)) ≡ each option_at texts
 read_more texts i text option front front' within at read longer so_far =
-    ap (λ (f : List WeighedRules). behind f (each_at (drop (i + 1) texts))) longer ∙ behind_more front option (each_at (drop (i + 1) texts))
-    ∙ ap (behind front) (sym (from_here texts i text (Ok option) within at read)) ∙ so_far
+    ap (λ (f : List WeighedRules). with_front f (each option_at (drop (i + 1) texts))) longer ∙ behind_more front option (each option_at (drop (i + 1) texts))
+    ∙ ap (with_front front) (sym (from_here texts i text (Ok option) within at read)) ∙ so_far
 
 read_stops : (texts : List OptionTexts) (i : ℕ) (text : OptionTexts) (fault : OptionFault) (front : List WeighedRules) → i < length texts
-    → text ≡ get_or texts i text → option_at text ≡ Err fault → behind front (each_at (drop i texts)) ≡ each_at texts → each_at texts ≡ Err fault
+    → text ≡ get_or texts i text → option_at text ≡ Err fault → with_front front (each option_at (drop i texts)) ≡ each option_at texts → each option_at texts ≡ Err fault
 read_stops texts i text fault front within at read so_far =
-    sym so_far ∙ ap (behind front) (from_here texts i text (Err fault) within at read)
+    sym so_far ∙ ap (with_front front) (from_here texts i text (Err fault) within at read)
 
 pub stops : {X : Type 0} (view : X → List WeighedRules) (texts : List OptionTexts) (i : ℕ) (text : OptionTexts) (front : List WeighedRules) (error : OrMemory OptionFault)
     (result : Result X (OrMemory OptionFault)) → i < length texts → text ≡ get_or texts i text → Fails error (option_at text)
-    → behind front (each_at (drop i texts)) ≡ each_at texts → result ≡ Err error → Reads view result (each_at texts)
+    → with_front front (each option_at (drop i texts)) ≡ each option_at texts → result ≡ Err error → Reads view result (each option_at texts)
 stops view texts i text front Memory result within at read so_far is = rw is tt
 stops view texts i text front (Refused fault) result within at read so_far is = rw is (read_stops texts i text fault front within at read so_far)
 
-pub read_all : (texts : List OptionTexts) (i : ℕ) (front : List WeighedRules) → length texts ≤ i → behind front (each_at (drop i texts)) ≡ each_at texts → each_at texts ≡ Ok front
+pub read_all : (texts : List OptionTexts) (i : ℕ) (front : List WeighedRules) → length texts ≤ i → with_front front (each option_at (drop i texts)) ≡ each option_at texts → each option_at texts ≡ Ok front
 read_all texts i front past so_far =
-    sym so_far ∙ ap (λ (rest : List OptionTexts). behind front (each_at rest)) (drop_all i texts past) ∙ ap Ok (append-nil front)
+    sym so_far ∙ ap (λ (rest : List OptionTexts). with_front front (each option_at rest)) (drop_all i texts past) ∙ ap Ok (append-nil front)
 
 -- ---- options that are judged and then read
 
-by_count : (few : Bool) (texts : List OptionTexts) → IsOk (check few OptionCount >>= λ _. each_at texts) → (check few OptionCount >>= λ _. each_at texts) ≡ each_at texts
+by_count : (few : Bool) (texts : List OptionTexts) → IsOk (check few OptionCount >>= λ _. each option_at texts) → (check few OptionCount >>= λ _. each option_at texts) ≡ each option_at texts
 by_count true texts ok = refl
 by_count false texts ok = absurd cc
 
-pub options_are : (texts : List OptionTexts) → IsOk (options_at texts) → options_at texts ≡ each_at texts
+pub options_are : (texts : List OptionTexts) → IsOk (options_at texts) → options_at texts ≡ each option_at texts
 unfolding options_at
 options_are texts ok = by_count (are_few texts) texts ok
 
@@ -84,6 +81,6 @@ answer_of view wanted (Err Memory) ok reads = ok
 answer_of view wanted (Err (Refused fault)) ok reads = reads
 
 pub judged_read : {X : Type 0} (view : X → List WeighedRules) (texts : List OptionTexts) (result : Result X (OrMemory OptionFault))
-    → IsOk (options_at texts) → Reads view result (each_at texts) → Answers view result (options_at texts)
+    → IsOk (options_at texts) → Reads view result (each option_at texts) → Answers view result (options_at texts)
 judged_read view texts result ok reads =
     answer_of view (options_at texts) result ok (subst (λ wanted. Reads view result wanted) (sym (options_are texts ok)) reads)

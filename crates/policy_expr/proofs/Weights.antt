@@ -10,10 +10,9 @@ use Rattle.policy_expr.specs.declared.fault.PolicyFault.TheVariants as faults
 use Rattle.policy_expr.specs.declared.token.Token.{Token}
 use Rattle.policy_expr.specs.declared.token.Token.TheVariants as signs
 use Rattle.policy_expr.specs.Tokens.{tokens}
-use Rattle.policy_expr.specs.Tree.{Tree}
+use Rattle.policy_expr.specs.Language.{Tree}
 use Rattle.policy_expr.specs.Grammar.{Part, following, Spells, predicate, in_parentheses, with_optional, with_repeated, with_once_or_more, one_alternative, one_more, one_part, behind}
-use Rattle.policy_expr.specs.Reading.{tree_at, within_size, sequence_at, node_count}
-use Rattle.policy_expr.specs.Refusing.{fault_at, weight_of}
+use Rattle.policy_expr.specs.Reading.{tree_at, within_size, sequence_at, node_count, fault_at, weight_of}
 use Rattle.policy_expr.proofs.Found.{tree_is_spelled}
 use Rattle.policy_expr.proofs.Refusing.{fault_is_read}
 

@@ -1,5 +1,6 @@
 -- Access control lists (path policy language): the first entry that matches a hop decides it.
-use Rattle.std.specs.Prelude.{◌≡◌, ℕ, ◌<◌, ◌≤◌, ◌++◌, IsSome, Bool, true, false, not, ◌&&◌, ◌||◌, ◌==◌, nat_lt, if◌then◌else◌, List, [], ◌∷◌, length, Option, Some, None, is_none, slice_get, Result, Ok, Err}
+use Rattle.std.specs.Prelude.{◌≡◌, ℕ, ◌<◌, ◌≤◌, ◌++◌, IsSome, Bool, true, false, not, ◌&&◌, ◌==◌, nat_lt, if◌then◌else◌, List, [], ◌∷◌, length, reverse, Option, Some, None, is_none, slice_get, Result, Ok, Err}
+use Rattle.std.specs.List.{list_any}
 use Rattle.policy_expr.specs.declared.fault.PolicyFault.{PolicyFault}
 use Rattle.policy_expr.specs.declared.fault.PolicyFault.TheVariants as faults
 use Rattle.policy_expr.specs.declared.hop.HopPred.{HopPred}
@@ -9,7 +10,7 @@ use Rattle.policy_expr.specs.declared.hop.WalkHop.{WalkHop}
 use Rattle.policy_expr.specs.declared.acl.AclEntry.{AclEntry}
 use Rattle.policy_expr.specs.declared.acl.Denied.{Denied}
 use Rattle.policy_expr.specs.Hop.{Matches}
-use Rattle.refusal.specs.Refusal.{◌>>=◌, unless}
+use Rattle.refusal.specs.Refusal.{◌>>=◌, each, unless}
 use Rattle.policy_expr.specs.Predicate.{predicate_at}
 use Rattle.blanks.specs.Blanks.{after_blanks, trimmed}
 
@@ -71,37 +72,21 @@ trimmed_at (sign ∷ rest) =
 unfoldable pub entry_at : List ℕ → Result AclEntry PolicyFault
 entry_at text = trimmed_at (trimmed text)
 
--- the entries of texts, or the refusal of the first that can't be read
-abbrev pub entries_at : List (List ℕ) → Result (List AclEntry) PolicyFault
-entries_at [] = Ok []
-entries_at (text ∷ texts) = do
-  entry ← entry_at text
-  entries ← entries_at texts
-  Ok (entry ∷ entries)
-
 -- an entry without a predicate
 abbrev pub is_bare : AclEntry → Bool
 is_bare entry = is_none entry.pred
 
--- the last entry is bare
-abbrev pub ends_bare : List AclEntry → Bool
-ends_bare [] = false
-ends_bare (entry ∷ []) = is_bare entry
-ends_bare (entry ∷ next ∷ later) = ends_bare (next ∷ later)
-
--- an entry before the last is bare
-abbrev pub is_bare_before_last : List AclEntry → Bool
-is_bare_before_last [] = false
-is_bare_before_last (entry ∷ []) = false
-is_bare_before_last (entry ∷ next ∷ later) = is_bare entry || is_bare_before_last (next ∷ later)
-
--- the first rule that a list of entries would break: at most 256, the last is bare, no other is
-unfoldable pub acl_fault : List AclEntry → Option PolicyFault
-acl_fault entries =
-    if nat_lt 256 (length entries) then Some faults.TooLarge
-    else if not (ends_bare entries) then Some faults.NoDefault
-    else if is_bare_before_last entries then Some faults.AfterDefault
+-- the first rule that entries, the last one first, would break: the last is bare, no other is
+abbrev pub default_fault : List AclEntry → Option PolicyFault
+default_fault [] = Some faults.NoDefault
+default_fault (last ∷ others) =
+    if not (is_bare last) then Some faults.NoDefault
+    else if list_any is_bare others then Some faults.AfterDefault
     else None
+
+-- the first rule that a list of entries would break: at most 256, and then those of its default
+unfoldable pub acl_fault : List AclEntry → Option PolicyFault
+acl_fault entries = if nat_lt 256 (length entries) then Some faults.TooLarge else default_fault (reverse entries)
 
 -- what is never false of an access control list: at most 256 entries, of which the last has no
 -- predicate and each other has one
@@ -116,5 +101,5 @@ pub record IsAcl (entries : List AclEntry) : Type 0 where
 -- the access control list of texts
 abbrev pub acl_at : List (List ℕ) → Result (List AclEntry) PolicyFault
 acl_at texts = do
-  entries ← entries_at texts
+  entries ← each entry_at texts
   unless (acl_fault entries) entries

@@ -4,7 +4,7 @@ use Rattle.std.proofs.Common.{sym, ◌∙◌, ap}
 use base.Stored.{Coded, Gv, gnil, gnum, gcons}
 use Rattle.policy_expr.specs.declared.hop.Interfaces.{Interfaces}
 use Rattle.policy_expr.specs.declared.hop.Interfaces.TheVariants.{Any, Either, Both}
-use Rattle.policy_expr.specs.Tree.{Tree, hop, followed, either, optional, repeated, once_or_more}
+use Rattle.policy_expr.specs.Language.{Tree, hop, followed, either, optional, repeated, once_or_more}
 
 abbrev interfaces_code : Interfaces → Gv
 interfaces_code Any = gnil

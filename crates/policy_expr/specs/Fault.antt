@@ -3,22 +3,18 @@ use Rattle.std.specs.Prelude.{ℕ, List, codes}
 use Rattle.policy_expr.specs.declared.fault.PolicyFault.{PolicyFault}
 use Rattle.policy_expr.specs.declared.fault.PolicyFault.TheVariants.{UnexpectedEnd, BadPredicate, Unbalanced, TooDeep, TooLarge, NoDefault, AfterDefault}
 
--- the number of a refusal
-abbrev pub code_of : PolicyFault → ℕ
-code_of UnexpectedEnd = 60
-code_of BadPredicate = 61
-code_of Unbalanced = 62
-code_of TooDeep = 63
-code_of TooLarge = 64
-code_of NoDefault = 65
-code_of AfterDefault = 66
+-- the number and the name of a refusal
+abbrev pub told : PolicyFault → ℕ × List ℕ
+told UnexpectedEnd = (60, codes "UnexpectedEnd")
+told BadPredicate = (61, codes "BadPredicate")
+told Unbalanced = (62, codes "Unbalanced")
+told TooDeep = (63, codes "TooDeep")
+told TooLarge = (64, codes "TooLarge")
+told NoDefault = (65, codes "NoDefault")
+told AfterDefault = (66, codes "AfterDefault")
 
--- the name of a refusal
+abbrev pub code_of : PolicyFault → ℕ
+code_of refusal = (told refusal).0
+
 abbrev pub name_of : PolicyFault → List ℕ
-name_of UnexpectedEnd = codes "UnexpectedEnd"
-name_of BadPredicate = codes "BadPredicate"
-name_of Unbalanced = codes "Unbalanced"
-name_of TooDeep = codes "TooDeep"
-name_of TooLarge = codes "TooLarge"
-name_of NoDefault = codes "NoDefault"
-name_of AfterDefault = codes "AfterDefault"
+name_of refusal = (told refusal).1

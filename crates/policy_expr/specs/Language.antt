@@ -2,9 +2,28 @@
 -- a list of hops.
 use Rattle.std.specs.Prelude.{◌≡◌, ◌⊎◌, ◌<◌, List, [], ◌∷◌, ◌++◌, length}
 use Rattle.std.specs.List.{AllByRecursion}
+use Rattle.policy_expr.specs.declared.hop.HopPred.{HopPred}
 use Rattle.policy_expr.specs.declared.hop.WalkHop.{WalkHop}
+use Rattle.policy_expr.specs.declared.node.SeqNode.{SeqNode}
+use Rattle.policy_expr.specs.declared.node.SeqNode.TheVariants.{Hop, Then', Or', Optional', Repeated', OnceOrMore'}
 use Rattle.policy_expr.specs.Hop.{Matches}
-use Rattle.policy_expr.specs.Tree.{Tree, hop, followed, either, optional, repeated, once_or_more}
+
+-- a sequence: a regular expression over hops
+pub data Tree : Type 0 where
+  hop : HopPred → Tree
+  followed : Tree → Tree → Tree
+  either : Tree → Tree → Tree
+  optional : Tree → Tree
+  repeated : Tree → Tree
+  once_or_more : Tree → Tree
+
+abbrev pub tree_of : {A : _} → SeqNode A → Tree
+tree_of (Hop p) = hop p
+tree_of (Then' p a q b) = followed (tree_of a) (tree_of b)
+tree_of (Or' p a q b) = either (tree_of a) (tree_of b)
+tree_of (Optional' p a) = optional (tree_of a)
+tree_of (Repeated' p a) = repeated (tree_of a)
+tree_of (OnceOrMore' p a) = once_or_more (tree_of a)
 
 -- some words one after another
 abbrev pub joined : List (List WalkHop) → List WalkHop

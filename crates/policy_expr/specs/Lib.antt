@@ -1,16 +1,13 @@
 pub mod Fault
 pub mod Hop
 pub mod Predicate
-pub mod Tree
 pub mod Language
 pub mod Tokens
 pub mod Grammar
 pub mod Reading
-pub mod Refusing
 pub mod Printing
 pub mod Acl
 pub mod Policy
-pub mod Next
 pub mod Views
 pub mod Sets
 pub mod Table

@@ -1,12 +1,10 @@
 -- Reading a hop predicate (path policy language): `ISD`, `ISD-AS`, `ISD-AS#IF` or `ISD-AS#IN,OUT`.
 -- The relation says which texts stand for a predicate, and `predicate_at` is what reading answers.
-use Rattle.std.specs.Prelude.{◌≡◌, ℕ, ◌==◌, ◌&&◌, nat_lt, if◌then◌else◌, List, ◌∷◌, ◌++◌, length, Option, Some, None, Result, Ok, Err}
+use Rattle.std.specs.Prelude.{ℕ, ◌==◌, ◌&&◌, nat_lt, if◌then◌else◌, List, ◌∷◌, ◌++◌, length, Option, Some, None, Result, Ok}
 use Rattle.std.specs.List.{position_or_len, before_first, after_first}
-use Rattle.std.specs.Borrow.{Bor}
-use Rattle.refusal.specs.Refusal.{◌>>=◌}
+use Rattle.refusal.specs.Refusal.{◌>>=◌, or_else}
 use Rattle.isd_as.specs.Address.{Spells, SpellsIsd, address_of, dash}
 use Rattle.isd_as.specs.Reading.{isd_at, address_at}
-use Rattle.isd_as.specs.declared.fault.AddrFault.{AddrFault}
 use Rattle.policy_expr.specs.declared.fault.PolicyFault.{PolicyFault}
 use Rattle.policy_expr.specs.declared.fault.PolicyFault.TheVariants as faults
 use Rattle.policy_expr.specs.declared.hop.HopPred.{HopPred}
@@ -40,24 +38,14 @@ pub data SpellsPredicate : List ℕ → HopPred → Type 0 where
   with_interfaces : (front back : List ℕ) (n : ℕ) (ways : Interfaces) → Spells front n → SpellsInterfaces back ways
       → SpellsPredicate (front ++ (hash ∷ back)) (record { ia = n; interfaces = ways })
 
--- what an address or a number is read as, any refusal being BadPredicate
-abbrev pub as_part : {A : Type 0} → Result A AddrFault → Result A PolicyFault
-as_part (Ok x) = Ok x
-as_part (Err e) = Err faults.BadPredicate
-
 -- the text before and the text after the first such sign
 abbrev pub cut_at : ℕ → List ℕ → Option (List ℕ × List ℕ)
 cut_at sign text = if nat_lt (position_or_len (λ b. b == sign) text) (length text)
     then Some (before_first (λ b. b == sign) text, after_first (λ b. b == sign) text) else None
 
--- what a function of the code returned are the two parts
-abbrev pub GivesParts : Option (Bor (List ℕ) × Bor (List ℕ)) → Option (List ℕ × List ℕ) → Type 0
-GivesParts (Some x) parts = parts ≡ Some (x.0.now, x.1.now)
-GivesParts None parts = parts ≡ None
-
 -- an interface: decimal digits up to 65535, as of an ISD
 abbrev pub interface_at : List ℕ → Result ℕ PolicyFault
-interface_at text = as_part (isd_at text)
+interface_at text = or_else faults.BadPredicate (isd_at text)
 
 abbrev pub cut_interfaces_at : List ℕ → Option (List ℕ × List ℕ) → Result Interfaces PolicyFault
 cut_interfaces_at text None = do
@@ -74,10 +62,10 @@ interfaces_at text = cut_interfaces_at text (cut_at comma text)
 
 abbrev pub cut_plain_at : List ℕ → Option (List ℕ × List ℕ) → Result HopPred PolicyFault
 cut_plain_at text None = do
-  isd ← as_part (isd_at text)
+  isd ← or_else faults.BadPredicate (isd_at text)
   Ok (record { ia = address_of isd 0; interfaces = Any })
 cut_plain_at text (Some parts) = do
-  ia ← as_part (address_at text)
+  ia ← or_else faults.BadPredicate (address_at text)
   Ok (record { ia = ia; interfaces = Any })
 
 -- the predicate of a text without interfaces: with a '-' an address, else an ISD
@@ -87,7 +75,7 @@ plain_at text = cut_plain_at text (cut_at dash text)
 abbrev pub cut_predicate_at : List ℕ → Option (List ℕ × List ℕ) → Result HopPred PolicyFault
 cut_predicate_at text None = plain_at text
 cut_predicate_at text (Some parts) = do
-  ia ← as_part (address_at parts.0)
+  ia ← or_else faults.BadPredicate (address_at parts.0)
   interfaces ← interfaces_at parts.1
   Ok (record { ia = ia; interfaces = interfaces })
 

@@ -1,13 +1,13 @@
 -- Sequences as tables: the predicates of a sequence, numbered from left to right, and which of them
 -- may come first, last and one behind the other.
-use Rattle.std.specs.Prelude.{◌≡◌, ◌⊎◌, ◌↔◌, ℕ, ◌+◌, ◌<◌, Bool, true, false, ◌&&◌, ◌||◌, List, [], ◌∷◌, length, Some, slice_get}
+use Rattle.std.specs.Prelude.{◌≡◌, ◌⊎◌, ◌↔◌, ℕ, ◌+◌, Bool, true, false, ◌&&◌, ◌||◌, List, [], ◌∷◌, length, Some, slice_get}
 use Rattle.policy_expr.specs.declared.hop.HopPred.{HopPred}
 use Rattle.policy_expr.specs.declared.hop.WalkHop.{WalkHop}
 use Rattle.policy_expr.specs.declared.ends.Ends.{Ends}
 use Rattle.policy_expr.specs.declared.table.Line.{Line}
 use Rattle.policy_expr.specs.Hop.{Matches}
 use Rattle.policy_expr.specs.Sets.{Has}
-use Rattle.policy_expr.specs.Tree.{Tree, hop, followed, either, optional, repeated, once_or_more}
+use Rattle.policy_expr.specs.Language.{Tree, hop, followed, either, optional, repeated, once_or_more}
 
 -- ---- what the predicates of a tree are, where they are numbered from a number on
 
@@ -80,10 +80,6 @@ MayFollow lines j k = (line : Line) × (slice_get lines j ≡ Some line) × Has 
 abbrev pub MeetsAt : List Line → ℕ → WalkHop → Type 0
 MeetsAt lines k h = (line : Line) × (slice_get lines k ≡ Some line) × Matches line.pred h
 
--- a predicate of the set matches the hop, and this one may follow it
-abbrev pub StepsTo : List Line → ℕ → WalkHop → ℕ → Type 0
-StepsTo lines set h j = (k : ℕ) × Has set k × MeetsAt lines k h × MayFollow lines k j
-
 -- the lines of a tree were added at the end
 pub record Adds (tree : Tree) (old new : List Line) (ends : Ends) : Type 0 where
   pub count : length new ≡ length old + pred_count tree
@@ -114,11 +110,6 @@ pub record IsEither (one other ends : Ends) : Type 0 where
   pub first : (k : ℕ) → Has ends.first k ↔ (Has one.first k ⊎ Has other.first k)
   pub last : (k : ℕ) → Has ends.last k ↔ (Has one.last k ⊎ Has other.last k)
   pub empty : ends.has_empty ≡ (one.has_empty || other.has_empty)
-
--- no set has a number beyond the lines
-pub record IsWithin (lines : List Line) (ends : Ends) : Type 0 where
-  pub first : (k : ℕ) → Has ends.first k → k < length lines
-  pub next : (j k : ℕ) → MayFollow lines j k → k < length lines
 
 -- ---- words, by which predicate may come first, last and behind which, and which matches a hop
 

@@ -18,6 +18,11 @@ abbrev pub begins_with_mark : List ℕ → Bool
 begins_with_mark [] = false
 begins_with_mark (b ∷ rest) = is_mark b
 
+-- the text from its first byte that is no mark
+unfoldable pub after_marks : List ℕ → List ℕ
+after_marks [] = []
+after_marks (b ∷ rest) = if is_mark b then after_marks rest else b ∷ rest
+
 -- the byte in front of the first of these texts
 abbrev pub lengthened : ℕ → List (List ℕ) → List (List ℕ)
 lengthened b [] = (b ∷ []) ∷ []

@@ -6,7 +6,7 @@ use Rattle.policy_expr.specs.declared.fault.PolicyFault.{PolicyFault}
 use Rattle.policy_expr.specs.declared.reader.Level.{Level}
 use Rattle.policy_expr.specs.declared.reader.Reader.{Reader}
 use Rattle.policy_expr.specs.declared.token.Token.{Token}
-use Rattle.policy_expr.specs.Tree.{Tree, tree_of}
+use Rattle.policy_expr.specs.Language.{Tree, tree_of}
 use Rattle.policy_expr.specs.Reading as reading
 use Rattle.policy_expr.specs.Reading.{read_rest}
 

@@ -1,8 +1,7 @@
 ghost use Rattle.std.specs.Prelude.{◌≡◌, ◌≤◌, ◌+◌, [], ◌∷◌, List, Some, min, IfOk, IfErr};
 ghost use Rattle.std.specs.Result.{result_err};
 ghost use Rattle.policy_expr.specs.declared.token.Token.{Token};
-ghost use Rattle.policy_expr.specs.Reading.{sequence_at};
-ghost use Rattle.policy_expr.specs.Refusing.{Judges, fault_at, weight_of};
+ghost use Rattle.policy_expr.specs.Reading.{sequence_at, Judges, fault_at, weight_of};
 
 use crate::fault::PolicyFault;
 use crate::token::{Token, next_token};

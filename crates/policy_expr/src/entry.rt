@@ -1,9 +1,9 @@
 ghost use Rattle.std.specs.Prelude.{◌≡◌, map};
 ghost use Rattle.std.specs.Result.{result_map_both};
 ghost use Rattle.std.specs.String.{string_bytes};
-ghost use Rattle.refusal.specs.Refusal.{Reads};
-ghost use Rattle.policy_expr.specs.Refusing.{Judges};
-ghost use Rattle.policy_expr.specs.Acl.{acl_at, entries_at, entry_at, entry_of, is_bare, says_nothing, signed_at};
+ghost use Rattle.refusal.specs.Refusal.{Reads, each};
+ghost use Rattle.policy_expr.specs.Reading.{Judges};
+ghost use Rattle.policy_expr.specs.Acl.{acl_at, entry_at, entry_of, is_bare, says_nothing, signed_at};
 
 use crate::acl::AclEntry;
 use crate::acl_text::AclText;
@@ -60,7 +60,7 @@ pub(crate) fn read_entries<A: Allocator>(
     alloc: A,
     texts: &[String],
 ) -> Result<Vec<AclEntry, A>, PolicyError>
-    ensures { Reads (λ entries. entries.items) result (entries_at (map string_bytes texts.now)) }
+    ensures { Reads (λ entries. entries.items) result (each entry_at (map string_bytes texts.now)) }
 {
     let mut entries = Vec::new(alloc);
     for text in texts {

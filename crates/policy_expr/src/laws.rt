@@ -5,7 +5,7 @@ ghost use Rattle.policy_expr.specs.declared.hop.HopPred.{HopPred};
 ghost use Rattle.policy_expr.specs.declared.acl.AclEntry.{AclEntry};
 ghost use Rattle.policy_expr.specs.Acl.{IsAcl, acl_fault};
 ghost use Rattle.policy_expr.specs.Predicate.{predicate_at};
-ghost use Rattle.policy_expr.specs.Tree.{Tree};
+ghost use Rattle.policy_expr.specs.Language.{Tree};
 ghost use Rattle.policy_expr.specs.Grammar.{SpellsSequence};
 ghost use Rattle.policy_expr.specs.Reading.{node_count, sequence_at};
 ghost use Rattle.policy_expr.specs.Printing.{IsPredicate, IsSequence, opened, predicate_text, printed};

@@ -1,5 +1,5 @@
 ghost use Rattle.std.specs.Prelude.{◌≡◌, IfOk};
-ghost use Rattle.policy_expr.specs.Tree.{tree_of};
+ghost use Rattle.policy_expr.specs.Language.{tree_of};
 
 use crate::hop::HopPred;
 use std::alloc::{AllocError, Allocator};

@@ -1,7 +1,7 @@
 ghost use Rattle.std.specs.Prelude.{◌≡◌, map, option_map, IfOk};
-ghost use Rattle.refusal.specs.Refusal.{Answers, Reads};
-ghost use Rattle.policy_expr.specs.Refusing.{Judges};
-ghost use Rattle.policy_expr.specs.Options.{option_at, each_at, options_at};
+ghost use Rattle.refusal.specs.Refusal.{Answers, Reads, each};
+ghost use Rattle.policy_expr.specs.Reading.{Judges};
+ghost use Rattle.policy_expr.specs.Options.{option_at, options_at};
 
 use crate::option_fault::{OptionError, OptionFault};
 use crate::policy::{Policy, PolicyText, check_policy};
@@ -98,7 +98,7 @@ impl<A: Allocator + Clone> PolicyOption<A> {
 
 /// The first refusal of these texts, one after another.
 fn check_each(texts: &[OptionText<'_>]) -> Result<(), OptionFault>
-    ensures { Judges result (each_at texts.now) }
+    ensures { Judges result (each option_at texts.now) }
 {
     for text in texts {
         check_option(text)?;
@@ -122,7 +122,7 @@ fn read_each<A: Allocator + Clone>(
     alloc: A,
     texts: &[OptionText<'_>],
 ) -> Result<Vec<PolicyOption<A>, A>, OptionError>
-    ensures { Reads (λ options. options.items) result (each_at texts.now) }
+    ensures { Reads (λ options. options.items) result (each option_at texts.now) }
 {
     let mut options = Vec::new(alloc.clone()?);
     for text in texts {

@@ -1,8 +1,8 @@
-ghost use Rattle.std.specs.Prelude.{◌≡◌, ◌↔◌, None, length, option_map, IsOk, IsTrue, IfErr, IfOk};
-ghost use Rattle.refusal.specs.Refusal.{Answers};
-ghost use Rattle.policy_expr.specs.Refusing.{Judges};
-ghost use Rattle.blanks.specs.Blanks.{after_blanks};
-ghost use Rattle.policy_expr.specs.Policy.{AllowsHops, DeniesHop, HasWord, acl_part_at, policy_at, sequence_part_at};
+ghost use Rattle.std.specs.Prelude.{◌≡◌, ◌↔◌, None, option_map, IsOk, IsTrue, IfErr, IfOk};
+ghost use Rattle.refusal.specs.Refusal.{Answers, if_there};
+ghost use Rattle.policy_expr.specs.Reading.{Judges, sequence_at};
+ghost use Rattle.policy_expr.specs.Acl.{acl_at};
+ghost use Rattle.policy_expr.specs.Policy.{AllowsHops, DeniesHop, HasWord, policy_at, unblank};
 
 use crate::acl::{Acl, Denied};
 use crate::acl_text::AclText;
@@ -65,7 +65,7 @@ impl<A: Allocator + Clone> Policy<A> {
     {
         check_policy(text)?;
         let acl = read_acl(alloc.clone()?, text.acl)?;
-        let sequence = read_sequence(alloc, text.sequence)?;
+        let sequence = read_sequence(alloc, unblank(text.sequence))?;
         Ok(Policy { acl, sequence })
     }
 
@@ -115,12 +115,12 @@ pub(crate) fn check_policy(text: &PolicyText<'_>) -> Result<(), PolicyFault>
         (policy_at (option_map (λ t. t.now) text.now.acl) (option_map (λ t. t.now) text.now.sequence)) }
 {
     check_list(text.acl)?;
-    check_sequence(text.sequence)
+    check_sequence(unblank(text.sequence))
 }
 
 /// The first refusal of a list's texts, where there is one.
 fn check_list(text: Option<&AclText>) -> Result<(), PolicyFault>
-    ensures { Judges result (acl_part_at (option_map (λ t. t.now) text.entry)) }
+    ensures { Judges result (if_there acl_at (option_map (λ t. t.now) text.entry)) }
 {
     match text {
         None => Ok(()),
@@ -128,18 +128,13 @@ fn check_list(text: Option<&AclText>) -> Result<(), PolicyFault>
     }
 }
 
-/// The first refusal of a sequence's text, where there is one that is not blanks alone.
+/// The first refusal of a sequence's text, where there is one.
 fn check_sequence(text: Option<&str>) -> Result<(), PolicyFault>
-    ensures { Judges result (sequence_part_at (option_map (λ t. t.now) text.entry)) }
+    ensures { Judges result (if_there sequence_at (option_map (λ t. t.now) text.entry)) }
 {
     match text {
         None => Ok(()),
-        Some(text) => {
-            if is_blank(text) {
-                return Ok(());
-            }
-            check_text(text)
-        }
+        Some(text) => check_text(text),
     }
 }
 
@@ -148,7 +143,7 @@ fn read_acl<A: Allocator + Clone>(
     alloc: A,
     text: Option<&AclText>,
 ) -> Result<Option<Acl<A>>, PolicyError>
-    ensures { Answers (λ acl. acl) result (acl_part_at (option_map (λ t. t.now) text.entry)) }
+    ensures { Answers (λ acl. acl) result (if_there acl_at (option_map (λ t. t.now) text.entry)) }
 {
     match text {
         None => Ok(None),
@@ -156,28 +151,23 @@ fn read_acl<A: Allocator + Clone>(
     }
 }
 
-/// Reads the sequence, where there is one that is not blanks alone.
+/// Reads the sequence, where there is one.
 fn read_sequence<A: Allocator + Clone>(
     alloc: A,
     text: Option<&str>,
 ) -> Result<Option<Seq<A>>, PolicyError>
     ensures { Answers (λ sequence. sequence) result
-        (sequence_part_at (option_map (λ t. t.now) text.entry)) }
+        (if_there sequence_at (option_map (λ t. t.now) text.entry)) }
 {
     match text {
         None => Ok(None),
-        Some(text) => {
-            if is_blank(text) {
-                return Ok(None);
-            }
-            Ok(Some(Seq::parse(alloc, text)?))
-        }
+        Some(text) => Ok(Some(Seq::parse(alloc, text)?)),
     }
 }
 
-/// Whether the text is blanks alone.
-fn is_blank(text: &str) -> bool
-    ensures { IsTrue result ↔ (length (after_blanks text.now) ≡ 0) }
+/// The text of a sequence, blanks alone being none.
+fn unblank(text: Option<&str>) -> Option<&str>
+    ensures { option_map (λ t. t.now) result ≡ unblank (option_map (λ t. t.now) text.entry) }
 {
-    trim_start(text.as_bytes()).is_empty()
+    text.filter(|text| !trim_start(text.as_bytes()).is_empty())
 }

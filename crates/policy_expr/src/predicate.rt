@@ -1,6 +1,6 @@
-ghost use Rattle.std.specs.Prelude.{◌≡◌, ◌<◌, IfOk, Ok};
+ghost use Rattle.std.specs.Prelude.{◌≡◌, ◌<◌, IfOk, Ok, option_map};
 ghost use Rattle.policy_expr.specs.declared.hop.HopPred.{HopPred};
-ghost use Rattle.policy_expr.specs.Predicate.{GivesParts, SpellsPredicate, cut_at, interface_at, interfaces_at, one_interface, plain_at, predicate_at, two_interfaces};
+ghost use Rattle.policy_expr.specs.Predicate.{SpellsPredicate, cut_at, interface_at, interfaces_at, one_interface, plain_at, predicate_at, two_interfaces};
 
 use crate::fault::PolicyFault;
 use crate::hop::{HopPred, Interfaces};
@@ -115,7 +115,7 @@ fn read_interface(text: &str) -> Result<IfId, PolicyFault>
 /// The text before and after the first such sign, which is an ASCII character.
 fn cut(text: &str, sign: char) -> Option<(&str, &str)>
     requires { sign < 128 }
-    ensures { GivesParts result (cut_at sign text.now) }
+    ensures { option_map (λ parts. (parts.0.now, parts.1.now)) result ≡ cut_at sign text.now }
 {
     text.split_once(sign)
 }

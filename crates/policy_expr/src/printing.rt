@@ -1,7 +1,7 @@
 ghost use Rattle.std.specs.Prelude.{◌≡◌, ◌++◌, ◌<◌, nat_lt, OnOk, Some};
 ghost use Rattle.std.specs.String.{string_bytes};
 ghost use Rattle.policy_expr.specs.Printing.{in_parentheses, interfaces_text, predicate_text, printed, strength};
-ghost use Rattle.policy_expr.specs.Tree.{tree_of};
+ghost use Rattle.policy_expr.specs.Language.{tree_of};
 
 use crate::hop::{HopPred, Interfaces};
 use crate::node::SeqNode;

@@ -1,7 +1,7 @@
 ghost use Rattle.std.specs.Prelude.{◌≡◌, [], ◌∷◌, List, None, Some, IfOk, option_map};
 ghost use Rattle.refusal.specs.Refusal.{Reads};
 ghost use Rattle.policy_expr.specs.declared.token.Token.{Token};
-ghost use Rattle.policy_expr.specs.Tree.{either, followed, tree_of};
+ghost use Rattle.policy_expr.specs.Language.{either, followed, tree_of};
 ghost use Rattle.policy_expr.specs.Reading.{joined, new_level, read_rest, tree_at, whole};
 ghost use Rattle.policy_expr.specs.Views.{GoesOn, gives, level_of, levels_of};
 

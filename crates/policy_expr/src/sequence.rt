@@ -1,12 +1,10 @@
 ghost use Rattle.std.specs.Prelude.{◌≡◌, ◌↔◌, ◌≤◌, IsTrue, IfErr, IfOk, Ok};
 ghost use Rattle.std.specs.String.{string_bytes};
 ghost use Rattle.refusal.specs.Refusal.{Answers};
-ghost use Rattle.policy_expr.specs.Language.{Lang};
+ghost use Rattle.policy_expr.specs.Language.{Lang, Tree};
 ghost use Rattle.policy_expr.specs.Printing.{IsSequence, printed};
 ghost use Rattle.policy_expr.specs.Grammar.{SpellsSequence};
-ghost use Rattle.policy_expr.specs.Reading.{node_count, sequence_at};
-ghost use Rattle.policy_expr.specs.Refusing.{Gets, IsRefusal};
-ghost use Rattle.policy_expr.specs.Tree.{Tree};
+ghost use Rattle.policy_expr.specs.Reading.{node_count, sequence_at, Gets, IsRefusal};
 
 use crate::counting::check_text;
 use crate::fault::PolicyError;
@@ -29,7 +27,7 @@ pub struct Seq<A: Allocator + Clone> {
 
 impl<A: Allocator + Clone> Model for Seq<A> {
     ghost use Rattle.policy_expr.specs.Code.{coded_tree};
-    ghost use Rattle.policy_expr.specs.Tree.{Tree, tree_of};
+    ghost use Rattle.policy_expr.specs.Language.{Tree, tree_of};
     ghost use Rattle.policy_expr.specs.Printing.{IsSequence};
     ghost use Rattle.policy_expr.specs.Table.{IsTableOf};
 

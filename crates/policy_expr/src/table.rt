@@ -1,7 +1,7 @@
 ghost use Rattle.std.specs.Prelude.{◌≡◌, ℕ, ◌+◌, ◌≤◌, ◌<◌, ◌⊎◌, ◌↔◌, true, length, vec_len, IfOk, IsTrue};
 ghost use Rattle.policy_expr.specs.Sets.{Has};
-ghost use Rattle.policy_expr.specs.Table.{Accepts, Adds, IsTableOf, IsThen, IsWithin, Links, MayFollow, MeetsAt, StepsTo, pred_count};
-ghost use Rattle.policy_expr.specs.Tree.{tree_of};
+ghost use Rattle.policy_expr.specs.Table.{Accepts, Adds, IsTableOf, IsThen, Links, MayFollow, MeetsAt, pred_count};
+ghost use Rattle.policy_expr.specs.Language.{tree_of};
 
 use crate::ends::Ends;
 use crate::hop::{HopPred, WalkHop};
@@ -51,7 +51,8 @@ impl<A: Allocator> Table<A> {
     /// Whether the walk is a word of the table. One pass over its hops, each of which is tried with
     /// each predicate at most once. Takes no memory.
     pub(crate) fn matches(&self, walk: &[WalkHop]) -> bool
-        requires { IsWithin self.now.lines.items self.now.ends }
+        requires first { (k : ℕ) → Has self.now.ends.first k → k < length self.now.lines.items }
+        requires next { (j k : ℕ) → MayFollow self.now.lines.items j k → k < length self.now.lines.items }
         ensures { IsTrue result ↔ Accepts self.now.lines.items self.now.ends walk.now }
     {
         let Some((end, before)) = walk.split_last() else {
@@ -67,7 +68,8 @@ impl<A: Allocator> Table<A> {
     /// The predicates that may follow one of these that matches the hop.
     fn wanted_behind(&self, wanted: PredSet, hop: &WalkHop) -> PredSet
         requires { (k : ℕ) → Has wanted k → k < vec_len self.now.lines }
-        ensures { (j : ℕ) → Has result j ↔ StepsTo self.now.lines.items wanted hop.now j }
+        ensures { (j : ℕ) → Has result j
+            ↔ ((k : ℕ) × Has wanted k × MeetsAt self.now.lines.items k hop.now × MayFollow self.now.lines.items k j) }
     {
         let mut next = PredSet::none();
         let mut rest = wanted.members();

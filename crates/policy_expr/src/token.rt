@@ -1,8 +1,7 @@
-ghost use Rattle.std.specs.Prelude.{◌≡◌};
+ghost use Rattle.std.specs.Prelude.{◌≡◌, ◌<◌, [], ◌∷◌, length, MatchOption};
 ghost use Rattle.std.specs.Str.{IsAscii};
 ghost use Rattle.policy_expr.specs.Predicate.{predicate_at};
-ghost use Rattle.policy_expr.specs.Tokens.{is_mark, read_token, sign_token};
-ghost use Rattle.policy_expr.specs.Next.{GivesToken, after_marks};
+ghost use Rattle.policy_expr.specs.Tokens.{after_marks, is_mark, read_token, sign_token, tokens};
 
 use crate::hop::HopPred;
 use blanks::bytes::trim_start;
@@ -30,7 +29,9 @@ pub(crate) enum Token {
 
 /// The first token of the text, and the text behind it.
 pub(crate) fn next_token(text: &[u8]) -> Option<(Token, &[u8])>
-    ensures { GivesToken result text.now }
+    ensures { MatchOption result (tokens text.now ≡ [])
+        (λ found. (tokens text.now ≡ found.0 ∷ tokens found.1.now)
+        × (length found.1.now < length text.now)) }
 {
     let text = trim_start(text);
     let Some((first, behind)) = text.split_first() else {
@@ -45,7 +46,7 @@ pub(crate) fn next_token(text: &[u8]) -> Option<(Token, &[u8])>
 }
 
 /// The text from its first byte that is no mark.
-#[tactic(auto, unfolding(crate::specs::Next::after_marks))]
+#[tactic(auto, unfolding(crate::specs::Tokens::after_marks))]
 fn behind_marks(text: &[u8]) -> &[u8]
     ensures { result.now ≡ after_marks text.now }
 {

@@ -1,5 +1,5 @@
 -- Steps that may be refused, and what a call answers that takes memory too.
-use Rattle.std.specs.Prelude.{◌≡◌, Bool, if◌then◌else◌, Option, Some, None, Result, Ok, Err, IsOk}
+use Rattle.std.specs.Prelude.{◌≡◌, Bool, if◌then◌else◌, List, [], ◌∷◌, Option, Some, None, Result, Ok, Err, IsOk}
 use Rattle.refusal.specs.declared.fault.OrMemory.{OrMemory}
 use Rattle.refusal.specs.declared.fault.OrMemory.TheVariants.{Memory, Refused}
 
@@ -19,6 +19,30 @@ check holds fault = if holds then Ok tt else Err fault
 abbrev pub unless : {A F : Type 0} → Option F → A → Result A F
 unless None x = Ok x
 unless (Some fault) x = Err fault
+
+-- what each of these gives, up to the first refusal
+abbrev pub each : {A B F : Type 0} → (A → Result B F) → List A → Result (List B) F
+each step [] = Ok []
+each step (x ∷ later) = do
+  y ← step x
+  ys ← each step later
+  Ok (y ∷ ys)
+
+-- what it gives, where it is there
+abbrev pub if_there : {A B F : Type 0} → (A → Result B F) → Option A → Result (Option B) F
+if_there step None = Ok None
+if_there step (Some x) = do
+  y ← step x
+  Ok (Some y)
+
+-- the same, its refusal as another's
+abbrev pub refused_as : {A F G : Type 0} → (F → G) → Result A F → Result A G
+refused_as of_fault (Ok x) = Ok x
+refused_as of_fault (Err fault) = Err (of_fault fault)
+
+-- the same, with this refusal for any
+abbrev pub or_else : {A F G : Type 0} → G → Result A F → Result A G
+or_else fault result = refused_as (λ other. fault) result
 
 -- ---- what a call answers
 

@@ -3,12 +3,13 @@ use Rattle.std.specs.Prelude.{ℕ, List, codes}
 use Rattle.router_workers.specs.declared.fault.RunFault.{RunFault}
 use Rattle.router_workers.specs.declared.fault.RunFault.TheVariants.{Workers, Memory}
 
--- the number of a refusal
-abbrev pub code_of : RunFault → ℕ
-code_of Workers = 120
-code_of Memory = 121
+-- the number and the name of a refusal
+abbrev pub told : RunFault → ℕ × List ℕ
+told Workers = (120, codes "Workers")
+told Memory = (121, codes "Memory")
 
--- the name of a refusal
+abbrev pub code_of : RunFault → ℕ
+code_of refusal = (told refusal).0
+
 abbrev pub name_of : RunFault → List ℕ
-name_of Workers = codes "Workers"
-name_of Memory = codes "Memory"
+name_of refusal = (told refusal).1

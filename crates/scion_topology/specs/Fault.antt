@@ -3,26 +3,20 @@ use Rattle.std.specs.Prelude.{ℕ, List, codes}
 use Rattle.scion_topology.specs.declared.fault.TopologyFault.{TopologyFault}
 use Rattle.scion_topology.specs.declared.fault.TopologyFault.TheVariants.{NotJson, BadField, DuplicateAs, DuplicateIf, UnknownAs, BadKind, NoRouter, NoLink, TooMany}
 
--- the number of a refusal
-abbrev pub code_of : TopologyFault → ℕ
-code_of NotJson = 10
-code_of BadField = 11
-code_of DuplicateAs = 12
-code_of DuplicateIf = 13
-code_of UnknownAs = 14
-code_of BadKind = 15
-code_of NoRouter = 16
-code_of NoLink = 17
-code_of TooMany = 18
+-- the number and the name of a refusal
+abbrev pub told : TopologyFault → ℕ × List ℕ
+told NotJson = (10, codes "NotJson")
+told BadField = (11, codes "BadField")
+told DuplicateAs = (12, codes "DuplicateAs")
+told DuplicateIf = (13, codes "DuplicateIf")
+told UnknownAs = (14, codes "UnknownAs")
+told BadKind = (15, codes "BadKind")
+told NoRouter = (16, codes "NoRouter")
+told NoLink = (17, codes "NoLink")
+told TooMany = (18, codes "TooMany")
 
--- the name of a refusal
+abbrev pub code_of : TopologyFault → ℕ
+code_of refusal = (told refusal).0
+
 abbrev pub name_of : TopologyFault → List ℕ
-name_of NotJson = codes "NotJson"
-name_of BadField = codes "BadField"
-name_of DuplicateAs = codes "DuplicateAs"
-name_of DuplicateIf = codes "DuplicateIf"
-name_of UnknownAs = codes "UnknownAs"
-name_of BadKind = codes "BadKind"
-name_of NoRouter = codes "NoRouter"
-name_of NoLink = codes "NoLink"
-name_of TooMany = codes "TooMany"
+name_of refusal = (told refusal).1

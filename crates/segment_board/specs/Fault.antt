@@ -3,12 +3,13 @@ use Rattle.std.specs.Prelude.{ℕ, List, codes}
 use Rattle.segment_board.specs.declared.fault.BoardFault.{BoardFault}
 use Rattle.segment_board.specs.declared.fault.BoardFault.TheVariants.{NoPlace, NoEntry}
 
--- the number of a refusal
-abbrev pub code_of : BoardFault → ℕ
-code_of NoPlace = 110
-code_of NoEntry = 111
+-- the number and the name of a refusal
+abbrev pub told : BoardFault → ℕ × List ℕ
+told NoPlace = (110, codes "NoPlace")
+told NoEntry = (111, codes "NoEntry")
 
--- the name of a refusal
+abbrev pub code_of : BoardFault → ℕ
+code_of refusal = (told refusal).0
+
 abbrev pub name_of : BoardFault → List ℕ
-name_of NoPlace = codes "NoPlace"
-name_of NoEntry = codes "NoEntry"
+name_of refusal = (told refusal).1

@@ -2,6 +2,9 @@
 //! parts.
 #![tactic(auto)]
 
+ghost use Rattle.std.specs.Prelude.{◌≡◌, ◌+◌};
+ghost use Rattle.isd_as.specs.Address.{address_of};
+
 use isd_as::{IfId, IsdAs};
 use path_header::{Header, HopField, InfoField};
 use path_segment::Segment;
@@ -21,12 +24,16 @@ pub fn pair() -> &'static str {
 }
 
 /// The address of this ISD and AS number, of three groups, the first of them ff00.
-pub fn at(isd: u64, last: u64) -> IsdAs {
-    IsdAs::from_number((isd % 4 << 48) + 0xff00_0000_0000 + last % 0x1_0000)
+pub fn at(isd: u16, last: u16) -> IsdAs
+    ensures { result ≡ address_of isd (0xff00_0000_0000 + last) }
+{
+    IsdAs::from_number(u64::from(isd) * (1 << 48) + 0xff00_0000_0000 + u64::from(last))
 }
 
 /// A hop of a walk.
-pub fn hop(ia: IsdAs, ingress: u16, egress: u16) -> WalkHop {
+pub fn hop(ia: IsdAs, ingress: u16, egress: u16) -> WalkHop
+    ensures { result ≡ record { ia = ia; ingress = ingress; egress = egress } }
+{
     WalkHop {
         ia,
         ingress: IfId(ingress),
@@ -35,7 +42,9 @@ pub fn hop(ia: IsdAs, ingress: u16, egress: u16) -> WalkHop {
 }
 
 /// A piece of a segment.
-pub fn piece(segment: &Segment, from: usize, to: usize, along: bool) -> Piece<'_> {
+pub fn piece(segment: &Segment, from: usize, to: usize, along: bool) -> Piece<'_>
+    ensures { result ≡ record { segment = segment.now; from = from; to = to; along = along } }
+{
     Piece {
         segment,
         from,

@@ -2,8 +2,7 @@ use Rattle.std.proofs.Common.{◌≡◌, refl, ap, ◌∙◌, subst}
 use Rattle.std.proofs.lemmas.Result.{err_from_is_err_and}
 use Rattle.path_verifier.specs.Header.{header_of}
 use Rattle.path_verifier.specs.Walk.{walk_of}
-use Rattle.path_verifier.specs.Accepted.{MakesPath, request_of}
-use Rattle.path_verifier.specs.Verdict.{IsRefused}
+use Rattle.path_verifier.specs.Accepted.{MakesPath, request_of, IsRefused}
 use Rattle.path_verifier.proofs.Breaches.{header_keeps, refused_is_not_accepted}
 use Rattle.path_verifier.proofs.verification.made.Goals as goal
 

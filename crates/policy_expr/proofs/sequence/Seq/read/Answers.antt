@@ -1,4 +1,4 @@
-use Rattle.policy_expr.specs.Tree.{tree_of}
+use Rattle.policy_expr.specs.Language.{tree_of}
 use Rattle.policy_expr.proofs.Sequences.{judged_sequence}
 use Rattle.policy_expr.proofs.Tables.{few_preds}
 use Rattle.policy_expr.proofs.sequence.Seq.read.Goals as goal
