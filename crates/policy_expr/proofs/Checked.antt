@@ -1,5 +1,5 @@
 -- Judging the texts of a list finds what reading it answers.
-use Rattle.std.proofs.Common.{is_none, slice_get, subst, ◌≡◌, ℕ, zero, suc, ◌+◌, ◌<◌, ◌≤◌, Bool, true, false, not, ◌||◌, cond, List, [], ◌∷◌, ◌++◌, length, Option, None, Some, Result, Ok, Err, refl, sym, ◌∙◌, ap, arith, append_assoc, length-append, map, get_or, drop, drop-cons}
+use Rattle.std.proofs.Common.{is_none, slice_get, subst, ◌≡◌, ℕ, zero, suc, ◌+◌, ◌<◌, ◌≤◌, Bool, true, false, not, ◌||◌, cond, List, [], ◌∷◌, ◌++◌, length, Option, None, Some, Result, Ok, Err, refl, sym, ◌∙◌, ap, arith, length-append, map, get_or, drop, drop-cons}
 use Rattle.std.specs.Prelude.{nat_lt, reverse, if◌then◌else◌, IsOk, IsSome}
 use Rattle.std.specs.Result.{result_map_both}
 use Rattle.std.specs.List.{list_any}
@@ -13,7 +13,7 @@ use Rattle.policy_expr.specs.declared.fault.PolicyFault.{PolicyFault}
 use Rattle.policy_expr.specs.Acl.{entry_at, is_bare, default_fault, acl_fault, acl_at, IsAcl}
 use Rattle.policy_expr.specs.Reading.{Judges}
 use Rattle.policy_expr.specs.declared.fault.PolicyFault.TheVariants as faults
-use Rattle.policy_expr.proofs.Front.{with_front}
+use Rattle.policy_expr.proofs.Front.{with_front, front_none, front_later}
 
 -- ---- judging as the loop does
 
@@ -33,85 +33,59 @@ check_on count last other (text ∷ texts) = do
   bare ← bare_at text
   check_on count bare (other || last) texts
 
--- ---- the entries of a list from the first on
+-- ---- the entries of a list, the last one first
 
--- the last entry is bare
+abbrev last_is_bare : List AclEntry → Bool
+last_is_bare [] = false
+last_is_bare (last ∷ others) = is_bare last
+
+abbrev another_is_bare : List AclEntry → Bool
+another_is_bare [] = false
+another_is_bare (last ∷ others) = list_any is_bare others
+
+-- one is bare, the last or another
+one_is_bare : (turned : List AclEntry) → list_any is_bare turned ≡ (another_is_bare turned || last_is_bare turned)
+one_is_bare [] = refl
+one_is_bare (last ∷ others) = by (is_bare last) (list_any is_bare others)
+  where
+    by : (x p : Bool) → (x || p) ≡ (p || x)
+    by true true = refl
+    by true false = refl
+    by false true = refl
+    by false false = refl
+
+-- ---- the same of a list from the first entry on, and of one with an entry more at its end
+
 abbrev ends_bare : List AclEntry → Bool
-ends_bare [] = false
-ends_bare (entry ∷ []) = is_bare entry
-ends_bare (entry ∷ next ∷ later) = ends_bare (next ∷ later)
+ends_bare entries = last_is_bare (reverse entries)
 
--- an entry before the last is bare
 abbrev is_bare_before_last : List AclEntry → Bool
-is_bare_before_last [] = false
-is_bare_before_last (entry ∷ []) = false
-is_bare_before_last (entry ∷ next ∷ later) = is_bare entry || is_bare_before_last (next ∷ later)
-
--- ---- one entry more at the end of a list
+is_bare_before_last entries = another_is_bare (reverse entries)
 
 ends_pushed : (front : List AclEntry) (e : AclEntry) → ends_bare (front ++ e ∷ []) ≡ is_bare e
-ends_pushed [] e = refl
-ends_pushed (x ∷ []) e = refl
-ends_pushed (x ∷ y ∷ later) e = ends_pushed (y ∷ later) e
+ends_pushed front e = ap last_is_bare (reverse-append front (e ∷ []))
 
-or_both : (a b c : Bool) → (a || (b || c)) ≡ ((a || b) || c)
-or_both true b c = refl
-or_both false b c = refl
-
-or_none : (a : Bool) → (a || false) ≡ a
-or_none true = refl
-or_none false = refl
+others_pushed : (front : List AclEntry) (e : AclEntry) → is_bare_before_last (front ++ e ∷ []) ≡ list_any is_bare (reverse front)
+others_pushed front e = ap another_is_bare (reverse-append front (e ∷ []))
 
 before_pushed : (front : List AclEntry) (e : AclEntry) → is_bare_before_last (front ++ e ∷ []) ≡ (is_bare_before_last front || ends_bare front)
-before_pushed [] e = refl
-before_pushed (x ∷ []) e = or_none (is_bare x)
-before_pushed (x ∷ y ∷ later) e =
-    ap (λ (b : Bool). is_bare x || b) (before_pushed (y ∷ later) e) ∙ or_both (is_bare x) (is_bare_before_last (y ∷ later)) (ends_bare (y ∷ later))
+before_pushed front e = others_pushed front e ∙ one_is_bare (reverse front)
 
--- ---- the rules, by the entries from the first on
-
-turned : (p q x : Bool) → ((p || q) || (x || false)) ≡ ((x || p) || q)
-turned true q true = refl
-turned true q false = refl
-turned false true true = refl
-turned false true false = refl
-turned false false true = refl
-turned false false false = refl
-
-bare_among : (front : List AclEntry) → list_any is_bare (reverse front) ≡ (is_bare_before_last front || ends_bare front)
-bare_among [] = refl
-bare_among (x ∷ []) = or_none (is_bare x)
-bare_among (x ∷ y ∷ later) =
-    ap (list_any is_bare) (reverse-append (x ∷ []) (y ∷ later)) ∙ list_any-append is_bare (reverse (y ∷ later)) (x ∷ [])
-    ∙ ap (λ (b : Bool). b || (is_bare x || false)) (bare_among (y ∷ later))
-    ∙ turned (is_bare_before_last (y ∷ later)) (ends_bare (y ∷ later)) (is_bare x)
+-- ---- the rules, by both
 
 abbrev by_flags : Bool → Bool → Option PolicyFault
 by_flags last other = if not last then Some faults.NoDefault else if other then Some faults.AfterDefault else None
 
-default_pushed : (front : List AclEntry) (e : AclEntry)
-    → default_fault (reverse (front ++ e ∷ [])) ≡ by_flags (ends_bare (front ++ e ∷ [])) (is_bare_before_last (front ++ e ∷ []))
-default_pushed front e =
-    rw (reverse-append front (e ∷ []), ends_pushed front e, before_pushed front e, bare_among front) refl
-
--- the entries before the last, and the last
-last_of : (x : AclEntry) (later : List AclEntry) → (front : List AclEntry) × (e : AclEntry) × (x ∷ later ≡ front ++ e ∷ [])
-last_of x [] = ([], x, refl)
-last_of x (y ∷ later) = let rest = last_of y later in (x ∷ rest.0, rest.1, ap (λ (xs : List AclEntry). x ∷ xs) rest.2)
-
-default_is : (entries : List AclEntry) → default_fault (reverse entries) ≡ by_flags (ends_bare entries) (is_bare_before_last entries)
+default_is : (turned : List AclEntry) → default_fault turned ≡ by_flags (last_is_bare turned) (another_is_bare turned)
 default_is [] = refl
-default_is (x ∷ later) =
-    let parts = last_of x later in
-    subst (λ (xs : List AclEntry). default_fault (reverse xs) ≡ by_flags (ends_bare xs) (is_bare_before_last xs))
-    (sym parts.2) (default_pushed parts.0 parts.1)
+default_is (last ∷ others) = refl
 
 abbrev fault_by : List AclEntry → Option PolicyFault
 fault_by entries = if nat_lt 256 (length entries) then Some faults.TooLarge else by_flags (ends_bare entries) (is_bare_before_last entries)
 
 fault_is : (entries : List AclEntry) → acl_fault entries ≡ fault_by entries
 unfolding acl_fault
-fault_is entries = rw (default_is entries) refl
+fault_is entries = rw (default_is (reverse entries)) refl
 
 -- ---- what is answered, without its value
 
@@ -129,11 +103,6 @@ by_rules false false other entries n b l o e = rw (fault_is entries, b, (ap (nat
 by_rules false true true entries n b l o e = rw (fault_is entries, b, (ap (nat_lt 256) (sym e) ∙ b), l, o) refl
 by_rules false true false entries n b l o e = rw (fault_is entries, b, (ap (nat_lt 256) (sym e) ∙ b), l, o) refl
 
-front_later : (front : List AclEntry) (e : AclEntry) (r : Result (List AclEntry) PolicyFault)
-    → with_front (front ++ e ∷ []) r ≡ with_front front (r >>= λ entries. Ok (e ∷ entries))
-front_later front e (Ok entries) = ap Ok (append_assoc front (e ∷ []) entries)
-front_later front e (Err fault) = refl
-
 check_step : (front : List AclEntry) (n : ℕ) (text : List ℕ) (texts : List (List ℕ)) (read : Result AclEntry PolicyFault) → entry_at text ≡ read
     → ((e : AclEntry) → check_on n (ends_bare (front ++ e ∷ [])) (is_bare_before_last (front ++ e ∷ [])) texts ≡ forgotten (with_front (front ++ e ∷ []) (each entry_at texts) >>= judged))
     → check_on n (ends_bare front) (is_bare_before_last front) (text ∷ texts) ≡ forgotten (with_front front (each entry_at (text ∷ texts)) >>= judged)
@@ -147,10 +116,6 @@ check_from [] front n count =
     rw (append-nil front) (by_rules (nat_lt 256 n) (ends_bare front) (is_bare_before_last front) front n refl refl refl (omega arith))
 check_from (text ∷ texts) front n count = check_step front n text texts (entry_at text) refl
     (λ e. check_from texts (front ++ e ∷ []) n (let l = length-append front (e ∷ []) in omega (arith, count, l)))
-
-front_none : (r : Result (List AclEntry) PolicyFault) → with_front [] r ≡ r
-front_none (Ok entries) = refl
-front_none (Err fault) = refl
 
 pub check_is_acl : (texts : List (List ℕ)) → check_on (length texts) false false texts ≡ forgotten (acl_at texts)
 check_is_acl texts = check_from texts [] (length texts) (omega arith) ∙ ap (λ (r : Result (List AclEntry) PolicyFault). forgotten (r >>= judged)) (front_none (each entry_at texts))
@@ -225,30 +190,40 @@ record Parted (entries : List AclEntry) : Type 0 where
   bare : last.pred ≡ None
   others : (k : ℕ) (entry : AclEntry) → slice_get front k ≡ Some entry → IsSome entry.pred
 
+-- it matters not from which end a list is looked through
+any_turned : (xs : List AclEntry) → list_any is_bare (reverse xs) ≡ list_any is_bare xs
+any_turned [] = refl
+any_turned (x ∷ xs) =
+    ap (list_any is_bare) (reverse-append (x ∷ []) xs) ∙ list_any-append is_bare (reverse xs) (x ∷ [])
+    ∙ ap (λ (b : Bool). b || (is_bare x || false)) (any_turned xs) ∙ by (list_any is_bare xs) (is_bare x)
+  where
+    by : (p x : Bool) → (p || (x || false)) ≡ (x || p)
+    by true true = refl
+    by true false = refl
+    by false true = refl
+    by false false = refl
+
+none_bare : (xs : List AclEntry) → list_any is_bare xs ≡ false → (k : ℕ) (entry : AclEntry) → slice_get xs k ≡ Some entry → IsSome entry.pred
+none_bare [] none k entry is = absurd (let f : None ≡ Some entry = is in cc)
+none_bare (x ∷ xs) none zero entry is =
+    let both = or_neither (is_bare x) (list_any is_bare xs) none in
+    let same : x ≡ entry = cc in
+    subst (λ (y : AclEntry). IsSome y.pred) same (some_of x.pred both.0)
+none_bare (x ∷ xs) none (suc k) entry is = none_bare xs (or_neither (is_bare x) (list_any is_bare xs) none).1 k entry is
+
+-- the entries before the last, and the last
+last_of : (x : AclEntry) (later : List AclEntry) → (front : List AclEntry) × (e : AclEntry) × (x ∷ later ≡ front ++ e ∷ [])
+last_of x [] = ([], x, refl)
+last_of x (y ∷ later) = let rest = last_of y later in (x ∷ rest.0, rest.1, ap (λ (xs : List AclEntry). x ∷ xs) rest.2)
+
 parted : (entries : List AclEntry) → ends_bare entries ≡ true → is_bare_before_last entries ≡ false → Parted entries
 parted [] ends before = absurd (let f : false ≡ true = ends in cc)
-parted (e ∷ []) ends before = record {
-  front = [];
-  last = e;
-  parts = refl;
-  bare = none_of e.pred ends;
-  others = λ k entry there. absurd (let f : None ≡ Some entry = there in cc);
-}
-parted (e ∷ next ∷ later) ends before =
-    let both = or_neither (is_bare e) (is_bare_before_last (next ∷ later)) before in
-    let p = parted (next ∷ later) ends both.1 in
-    record {
-      front = e ∷ p.front;
-      last = p.last;
-      parts = ap (λ (xs : List AclEntry). e ∷ xs) p.parts;
-      bare = p.bare;
-      others = in_front e p.front (some_of e.pred both.0) p.others;
-    }
-  where
-    in_front : (e : AclEntry) (front : List AclEntry) → IsSome e.pred → ((k : ℕ) (entry : AclEntry) → slice_get front k ≡ Some entry → IsSome entry.pred)
-        → (k : ℕ) (entry : AclEntry) → slice_get (e ∷ front) k ≡ Some entry → IsSome entry.pred
-    in_front e front here there zero entry is = let same : e ≡ entry = cc in subst (λ (x : AclEntry). IsSome x.pred) same here
-    in_front e front here there (suc k) entry is = there k entry is
+parted (x ∷ later) ends before =
+    let is = last_of x later in
+    let ends' : is_bare is.1 ≡ true = sym (ends_pushed is.0 is.1) ∙ sym (ap ends_bare is.2) ∙ ends in
+    let before' : list_any is_bare is.0 ≡ false =
+    sym (any_turned is.0) ∙ sym (others_pushed is.0 is.1) ∙ sym (ap is_bare_before_last is.2) ∙ before in
+    record { front = is.0; last = is.1; parts = is.2; bare = none_of is.1.pred ends'; others = none_bare is.0 before' }
 
 pub plain_of : (entries : List AclEntry) → acl_fault entries ≡ None → IsAcl entries
 plain_of entries none =
@@ -262,17 +237,16 @@ bare_of : (pred : Option HopPred) → IsSome pred → is_none pred ≡ false
 bare_of None some = absurd (let f : false ≡ true = some in cc)
 bare_of (Some p) some = refl
 
-none_before : (front : List AclEntry) (last : AclEntry) → ((k : ℕ) (entry : AclEntry) → slice_get front k ≡ Some entry → IsSome entry.pred)
-    → is_bare_before_last (front ++ last ∷ []) ≡ false
-none_before [] last others = refl
-none_before (x ∷ []) last others = rw (bare_of x.pred (others zero x refl)) refl
-none_before (x ∷ y ∷ later) last others = rw (bare_of x.pred (others zero x refl)) (none_before (y ∷ later) last (λ k entry there. others (suc k) entry there))
+none_before : (front : List AclEntry) → ((k : ℕ) (entry : AclEntry) → slice_get front k ≡ Some entry → IsSome entry.pred)
+    → list_any is_bare front ≡ false
+none_before [] others = refl
+none_before (x ∷ later) others = rw (bare_of x.pred (others zero x refl)) (none_before later (λ k entry there. others (suc k) entry there))
 
 pub fault_of_plain : (entries : List AclEntry) → IsAcl entries → acl_fault entries ≡ None
 fault_of_plain entries acl =
     let few : nat_lt 256 (length entries) ≡ false = le-ltb 256 (length entries) acl.few in
     let ends : ends_bare entries ≡ true = ap ends_bare acl.parts ∙ ends_pushed acl.front acl.last ∙ ap is_none acl.bare in
-    let before : is_bare_before_last entries ≡ false = ap is_bare_before_last acl.parts ∙ none_before acl.front acl.last acl.others in
+    let before : is_bare_before_last entries ≡ false = ap is_bare_before_last acl.parts ∙ others_pushed acl.front acl.last ∙ any_turned acl.front ∙ none_before acl.front acl.others in
     fault_is entries ∙ rw (few, ends, before) refl
 
 -- what was judged to be a list is one once it is read

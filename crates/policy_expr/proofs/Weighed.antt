@@ -1,5 +1,5 @@
 -- Reading the texts of options, one after another.
-use Rattle.std.proofs.Common.{◌≡◌, ℕ, suc, Bool, true, false, ◌+◌, ◌<◌, ◌≤◌, List, [], ◌∷◌, ◌++◌, length, get_or, drop, Result, Ok, Err, refl, sym, ap, subst, ◌∙◌, append_assoc, add-one, drop-cons}
+use Rattle.std.proofs.Common.{◌≡◌, ℕ, suc, Bool, true, false, ◌+◌, ◌<◌, ◌≤◌, List, [], ◌∷◌, ◌++◌, length, get_or, drop, Result, Ok, Err, refl, sym, ap, subst, ◌∙◌, add-one, drop-cons}
 use Rattle.std.specs.Prelude.{IsOk}
 use Rattle.std.proofs.lemmas.List.{append-nil, drop_all}
 use Rattle.refusal.specs.declared.fault.OrMemory.{OrMemory}
@@ -9,16 +9,7 @@ use Rattle.policy_expr.specs.declared.option_fault.OptionFault.{OptionFault}
 use Rattle.policy_expr.specs.declared.option_fault.OptionFault.TheVariants.{OptionCount}
 use Rattle.policy_expr.specs.Options.{WeighedRules, OptionTexts, are_few, option_at, options_at}
 use Rattle.policy_expr.specs.Reading.{Judges}
-use Rattle.policy_expr.proofs.Front.{with_front}
-
-pub behind_none : (r : Result (List WeighedRules) OptionFault) → with_front [] r ≡ r
-behind_none (Ok options) = refl
-behind_none (Err fault) = refl
-
-pub behind_more : (front : List WeighedRules) (option : WeighedRules) (r : Result (List WeighedRules) OptionFault)
-    → with_front (front ++ option ∷ []) r ≡ with_front front (r >>= λ options. Ok (option ∷ options))
-behind_more front option (Ok options) = ap Ok (append_assoc front (option ∷ []) options)
-behind_more front option (Err fault) = refl
+use Rattle.policy_expr.proofs.Front.{with_front, front_later}
 
 -- one text more was judged
 pub judged_more : (told : Result (Unit {0}) OptionFault) (option : WeighedRules) (r : Result (List WeighedRules) OptionFault)
@@ -46,7 +37,7 @@ pub read_more : (texts : List OptionTexts) (i : ℕ) (text : OptionTexts) (optio
     → text ≡ get_or texts i text → option_at text ≡ Ok option → front' ≡ front ++ option ∷ []
     → with_front front (each option_at (drop i texts)) ≡ each option_at texts → with_front front' (each option_at (drop (i + 1) texts)) ≡ each option_at texts
 read_more texts i text option front front' within at read longer so_far =
-    ap (λ (f : List WeighedRules). with_front f (each option_at (drop (i + 1) texts))) longer ∙ behind_more front option (each option_at (drop (i + 1) texts))
+    ap (λ (f : List WeighedRules). with_front f (each option_at (drop (i + 1) texts))) longer ∙ front_later front option (each option_at (drop (i + 1) texts))
     ∙ ap (with_front front) (sym (from_here texts i text (Ok option) within at read)) ∙ so_far
 
 read_stops : (texts : List OptionTexts) (i : ℕ) (text : OptionTexts) (fault : OptionFault) (front : List WeighedRules) → i < length texts

@@ -20,7 +20,7 @@ abbrev pub unless : {A F : Type 0} → Option F → A → Result A F
 unless None x = Ok x
 unless (Some fault) x = Err fault
 
--- what each of these gives, up to the first refusal
+-- what the step gives of each of these, or the first refusal
 abbrev pub each : {A B F : Type 0} → (A → Result B F) → List A → Result (List B) F
 each step [] = Ok []
 each step (x ∷ later) = do
@@ -28,19 +28,19 @@ each step (x ∷ later) = do
   ys ← each step later
   Ok (y ∷ ys)
 
--- what it gives, where it is there
+-- what the step gives where there is something, and nothing where there is not
 abbrev pub if_there : {A B F : Type 0} → (A → Result B F) → Option A → Result (Option B) F
 if_there step None = Ok None
 if_there step (Some x) = do
   y ← step x
   Ok (Some y)
 
--- the same, its refusal as another's
+-- the same answer, its refusal as another's
 abbrev pub refused_as : {A F G : Type 0} → (F → G) → Result A F → Result A G
 refused_as of_fault (Ok x) = Ok x
 refused_as of_fault (Err fault) = Err (of_fault fault)
 
--- the same, with this refusal for any
+-- the same answer, with this refusal in place of any
 abbrev pub or_else : {A F G : Type 0} → G → Result A F → Result A G
 or_else fault result = refused_as (λ other. fault) result
 
