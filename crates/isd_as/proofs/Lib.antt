@@ -1,5 +1,4 @@
 pub mod Digits
-pub mod Cut
 pub mod Spelled
 pub mod Printed
 pub mod Canonical

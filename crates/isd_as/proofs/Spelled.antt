@@ -9,14 +9,16 @@ use Rattle.std.proofs.lemmas.Str.{chars-IsAscii}
 use Rattle.std.proofs.lemmas.Int.Digits.{digits_value-lt}
 use Rattle.std.proofs.Math.Nat.{pow-le-pow_right}
 use Rattle.std.proofs.lemmas.List.Folds.{list_any-append}
+use Rattle.std.specs.Option.{ok_or}
 use Rattle.refusal.specs.Refusal.{◌>>=◌}
 use Rattle.isd_as.specs.declared.fault.AddrFault.{AddrFault}
 use Rattle.isd_as.specs.declared.fault.AddrFault.TheVariants as fault
 use Rattle.isd_as.specs.Address.{dash, colon, Writes, WritesGroup, SpellsGroups, SpellsIsd, SpellsAs, Spells}
-use Rattle.isd_as.specs.Reading.{cut_at, all_digits, number_at, isd_at, is_group, groups_at, as_number_at, address_at}
+use Rattle.isd_as.specs.Reading.{all_digits, number_at, isd_at, is_group, groups_at, as_number_at, address_at}
 use Rattle.isd_as.proofs.Digits.{AllDigits-all_digits, all_digits-AllDigits}
-use Rattle.refusal.proofs.Steps.{bind_ok, guard_ok, guard_not, ok_is, done}
-use Rattle.isd_as.proofs.Cut.{has_sign, cut_at-append, append-cut_at}
+use Rattle.refusal.proofs.Steps.{bind_ok, guard_ok, guard_not, ok_or_ok, ok_is, done}
+use Rattle.separators.specs.Signs.{cut_at}
+use Rattle.separators.proofs.Cut.{has_sign, cut_at-append, append-cut_at}
 
 -- ---- digits
 
@@ -101,8 +103,8 @@ groups_value first second third = do
 pub SpellsGroups-groups_at : (text : List ℕ) (n : ℕ) → groups_at text ≡ Ok n → SpellsGroups text n
 unfolding groups_at
 SpellsGroups-groups_at text n read =
-    let cut = bind_ok (cut_at colon fault.BadGroups text) _ n read in
-    let again = bind_ok (cut_at colon fault.BadGroups cut.0.1) _ n cut.2 in
+    let cut = bind_ok (ok_or (cut_at colon text) fault.BadGroups) _ n read in
+    let again = bind_ok (ok_or (cut_at colon cut.0.1) fault.BadGroups) _ n cut.2 in
     let no_more = guard_not (has_sign colon again.0.1) _ fault.BadGroups n again.2 in
     let tested = guard_ok (is_group cut.0.0 && is_group again.0.0 && is_group again.0.1) (groups_value cut.0.0 again.0.0 again.0.1) fault.BadGroups n no_more.1 in
     let are = and_parts (is_group cut.0.0 && is_group again.0.0) (is_group again.0.1) tested.0 in
@@ -110,8 +112,8 @@ SpellsGroups-groups_at text n read =
     let high = bind_ok (number_at 16 (2 ^ 16) fault.BadGroups cut.0.0) _ n tested.1 in
     let middle = bind_ok (number_at 16 (2 ^ 16) fault.BadGroups again.0.0) _ n high.2 in
     let low = bind_ok (number_at 16 (2 ^ 16) fault.BadGroups again.0.1) _ n middle.2 in
-    let outer = append-cut_at colon fault.BadGroups text cut.0.0 cut.0.1 cut.1 in
-    let inner = append-cut_at colon fault.BadGroups cut.0.1 again.0.0 again.0.1 again.1 in
+    let outer = append-cut_at colon text cut.0.0 cut.0.1 (ok_or_ok (cut_at colon text) fault.BadGroups cut.0 cut.1) in
+    let inner = append-cut_at colon cut.0.1 again.0.0 again.0.1 (ok_or_ok (cut_at colon cut.0.1) fault.BadGroups again.0 again.1) in
     record {
       high = high.0;
       middle = middle.0;
@@ -129,8 +131,8 @@ SpellsGroups-groups_at text n read =
 pub groups_at-SpellsGroups : (text : List ℕ) (n : ℕ) → SpellsGroups text n → groups_at text ≡ Ok n
 unfolding groups_at
 groups_at-SpellsGroups text n g =
-    let cut = cut_at-append colon fault.BadGroups g.first (g.second ++ (colon ∷ g.third)) (has_colon-WritesGroup g.first g.high g.high_written) in
-    let again = cut_at-append colon fault.BadGroups g.second g.third (has_colon-WritesGroup g.second g.middle g.middle_written) in
+    let cut = cut_at-append colon g.first (g.second ++ (colon ∷ g.third)) (has_colon-WritesGroup g.first g.high g.high_written) in
+    let again = cut_at-append colon g.second g.third (has_colon-WritesGroup g.second g.middle g.middle_written) in
     rw (
       g.parts,
       cut,
@@ -174,7 +176,7 @@ as_number_at-SpellsAs text n (inr g) = rw (has_colon-SpellsGroups text n g) (gro
 pub Spells-address_at : (text : List ℕ) (a : ℕ) → address_at text ≡ Ok a → Spells text a
 unfolding address_at
 Spells-address_at text a read =
-    let cut = bind_ok (cut_at dash fault.NoDash text) _ a read in
+    let cut = bind_ok (ok_or (cut_at dash text) fault.NoDash) _ a read in
     let isd = bind_ok (isd_at cut.0.0) _ a cut.2 in
     let as_number = bind_ok (as_number_at cut.0.1) _ a isd.2 in
     record {
@@ -182,7 +184,7 @@ Spells-address_at text a read =
       as_number = as_number.0;
       front = cut.0.0;
       back = cut.0.1;
-      parts = append-cut_at dash fault.NoDash text cut.0.0 cut.0.1 cut.1;
+      parts = append-cut_at dash text cut.0.0 cut.0.1 (ok_or_ok (cut_at dash text) fault.NoDash cut.0 cut.1);
       of = sym (ok_is (isd.0 * 2 ^ 48 + as_number.0) a as_number.2);
       isd_spelled = SpellsIsd-isd_at cut.0.0 isd.0 isd.1;
       as_spelled = SpellsAs-as_number_at cut.0.1 as_number.0 as_number.1;
@@ -191,5 +193,5 @@ Spells-address_at text a read =
 pub address_at-Spells : (text : List ℕ) (a : ℕ) → Spells text a → address_at text ≡ Ok a
 unfolding address_at
 address_at-Spells text a s =
-    let cut = cut_at-append dash fault.NoDash s.front s.back (has_sign-AllDigits 10 dash s.front (omega arith) s.isd_spelled.written.numeral.1) in
+    let cut = cut_at-append dash s.front s.back (has_sign-AllDigits 10 dash s.front (omega arith) s.isd_spelled.written.numeral.1) in
     rw (s.parts, cut, isd_at-SpellsIsd s.front s.isd s.isd_spelled, as_number_at-SpellsAs s.back s.as_number s.as_spelled) (ap (λ (m : ℕ). done m) (sym s.of))

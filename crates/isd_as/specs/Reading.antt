@@ -1,27 +1,17 @@
 -- What reading an address answers: its number, or the first refusal in this order. Without a '-' it
 -- is NoDash. Then the ISD: BadDigit before IsdRange. Then the AS number: without a ':' BadDigit
 -- before AsRange, and with one BadGroups before BadDigit.
-use Rattle.std.specs.Prelude.{◌≡◌, ℕ, ◌+◌, ◌*◌, ◌^◌, Bool, ◌&&◌, nat_lt, ◌==◌, if◌then◌else◌, List, length, Result, Ok, Err}
+use Rattle.std.specs.Prelude.{ℕ, ◌+◌, ◌*◌, ◌^◌, Bool, ◌&&◌, nat_lt, ◌==◌, if◌then◌else◌, List, length, Result, Ok, Err}
 use Rattle.std.specs.Char.{digit_value}
-use Rattle.std.specs.List.{position_or_len, before_first, after_first, list_all, list_any}
-use Rattle.std.specs.Borrow.{Bor}
+use Rattle.std.specs.List.{list_all, list_any}
 use Rattle.std.specs.Str.{chars}
 use Rattle.std.specs.Str.Parse.{digits_value}
+use Rattle.std.specs.Option.{ok_or}
 use Rattle.refusal.specs.Refusal.{◌>>=◌}
+use Rattle.separators.specs.Signs.{cut_at}
 use Rattle.isd_as.specs.declared.fault.AddrFault.{AddrFault}
 use Rattle.isd_as.specs.declared.fault.AddrFault.TheVariants as fault
 use Rattle.isd_as.specs.Address.{address_of, dash, colon}
-
--- the text before and the text after the first such sign, or the refusal where there is none
-abbrev pub cut_at : ℕ → AddrFault → List ℕ → Result (List ℕ × List ℕ) AddrFault
-cut_at sign missing text = if nat_lt (position_or_len (λ b. b == sign) text) (length text)
-    then Ok (before_first (λ b. b == sign) text, after_first (λ b. b == sign) text)
-    else Err missing
-
--- what a function of the code returned are the two parts, or the refusal
-abbrev pub GivesParts : Result (Bor (List ℕ) × Bor (List ℕ)) AddrFault → Result (List ℕ × List ℕ) AddrFault → Type 0
-GivesParts (Ok x) read = read ≡ Ok (x.0.now, x.1.now)
-GivesParts (Err e) read = read ≡ Err e
 
 -- whether each byte is a digit of the radix
 abbrev pub all_digits : ℕ → List ℕ → Bool
@@ -46,8 +36,8 @@ is_group text = nat_lt 0 (length (chars text)) && nat_lt (length (chars text)) 5
 -- then always fit
 unfoldable pub groups_at : List ℕ → Result ℕ AddrFault
 groups_at text = do
-  first ← cut_at colon fault.BadGroups text
-  second ← cut_at colon fault.BadGroups first.1
+  first ← ok_or (cut_at colon text) fault.BadGroups
+  second ← ok_or (cut_at colon first.1) fault.BadGroups
   if list_any (λ b. b == colon) second.1 then Err fault.BadGroups else (
       if is_group first.0 && is_group second.0 && is_group second.1 then (do
         high ← number_at 16 (2 ^ 16) fault.BadGroups first.0
@@ -63,7 +53,7 @@ as_number_at text = if list_any (λ b. b == colon) text then groups_at text else
 -- the number of an address
 unfoldable pub address_at : List ℕ → Result ℕ AddrFault
 address_at text = do
-  parts ← cut_at dash fault.NoDash text
+  parts ← ok_or (cut_at dash text) fault.NoDash
   isd ← isd_at parts.0
   as_number ← as_number_at parts.1
   Ok (address_of isd as_number)

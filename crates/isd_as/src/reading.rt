@@ -1,12 +1,16 @@
 ghost use Rattle.std.specs.Prelude.{◌≡◌, ℕ, ◌^◌, ◌<◌, ◌≤◌, ◌==◌, length, IfOk};
 ghost use Rattle.std.specs.List.{list_any};
 ghost use Rattle.std.specs.Str.{chars};
+ghost use Rattle.std.specs.Option.{ok_or};
+ghost use Rattle.refusal.specs.Refusal.{Gives};
+ghost use Rattle.separators.specs.Signs.{cut_at};
 ghost use Rattle.isd_as.specs.Address.{colon, Spells, SpellsIsd, SpellsAs};
-ghost use Rattle.isd_as.specs.Reading.{GivesParts, cut_at, all_digits, number_at, is_group, isd_at, groups_at, as_number_at, address_at};
+ghost use Rattle.isd_as.specs.Reading.{all_digits, number_at, is_group, isd_at, groups_at, as_number_at, address_at};
 
 use crate::address::IsdAs;
 use crate::fault::AddrFault;
 use crate::numbers::{AsNumber, Isd};
+use separators::sign::cut;
 
 impl IsdAs {
     /// The address that a text spells: an ISD in decimal, `-`, and an AS number, in decimal up to
@@ -62,12 +66,13 @@ impl AsNumber {
     }
 }
 
-/// The text before and after the first such sign, which is an ASCII character.
-fn cut(text: &str, sign: char, missing: AddrFault) -> Result<(&str, &str), AddrFault>
+/// What stands before and behind the first such sign, which is an ASCII character.
+fn parts(text: &str, sign: char, missing: AddrFault) -> Result<(&str, &str), AddrFault>
     requires { sign < 128 }
-    ensures { GivesParts result (cut_at sign missing text.now) }
+    ensures { Gives (λ parts. (parts.0.now, parts.1.now)) result
+        (ok_or (cut_at sign text.now) missing) }
 {
-    text.split_once(sign).ok_or(missing)
+    cut(text, sign).ok_or(missing)
 }
 
 /// Whether each byte of the text is a digit of the radix.
@@ -123,8 +128,8 @@ fn groups_of(text: &str) -> Result<u64, AddrFault>
     ensures exact { result ≡ groups_at text.now }
     ensures bound { IfOk result (λ n. n < 2 ^ 48) }
 {
-    let (first, rest) = cut(text, ':', AddrFault::BadGroups)?;
-    let (second, third) = cut(rest, ':', AddrFault::BadGroups)?;
+    let (first, rest) = parts(text, ':', AddrFault::BadGroups)?;
+    let (second, third) = parts(rest, ':', AddrFault::BadGroups)?;
     if has_colon(third) {
         return Err(AddrFault::BadGroups);
     }
@@ -175,7 +180,7 @@ fn read_as_number(text: &str) -> Result<AsNumber, AddrFault>
 fn read_address(text: &str) -> Result<IsdAs, AddrFault>
     ensures { result ≡ address_at text.now }
 {
-    let (isd, as_number) = cut(text, '-', AddrFault::NoDash)?;
+    let (isd, as_number) = parts(text, '-', AddrFault::NoDash)?;
     let isd = read_isd(isd)?;
     let as_number = read_as_number(as_number)?;
     Ok(IsdAs::new(isd, as_number))

@@ -7,8 +7,7 @@ use Rattle.policy_expr.specs.declared.token.Token.TheVariants as signs
 use Rattle.policy_expr.specs.Language.{Tree, hop, followed, either, optional, repeated, once_or_more}
 use Rattle.policy_expr.specs.Reading.{Level, new_level, whole}
 use Rattle.policy_expr.proofs.Steps.{Reading, wants, has, with_choices, took, ended, read_on}
-use Rattle.policy_expr.specs.Printing.{strength}
-use Rattle.policy_expr.proofs.Readable.{nested, depth}
+use Rattle.policy_expr.proofs.Readable.{nested, depth, strength}
 
 -- tokens in parentheses, or not
 abbrev pub closed_in : Bool → List Token → List Token

@@ -6,12 +6,11 @@ use Rattle.std.specs.List.{list_any}
 use Rattle.std.proofs.lemmas.List.{append-nil, length-map, at_drop_all, reverse-append}
 use Rattle.std.proofs.lemmas.List.Folds.{list_any-append}
 use Rattle.std.proofs.lemmas.Bool.{ltb-false, lt-ltb, le-ltb, not-false}
-use Rattle.refusal.specs.Refusal.{◌>>=◌, each, unless}
+use Rattle.refusal.specs.Refusal.{◌>>=◌, each, unless, Judges}
 use Rattle.policy_expr.specs.declared.hop.HopPred.{HopPred}
 use Rattle.policy_expr.specs.declared.acl.AclEntry.{AclEntry}
 use Rattle.policy_expr.specs.declared.fault.PolicyFault.{PolicyFault}
 use Rattle.policy_expr.specs.Acl.{entry_at, is_bare, default_fault, acl_fault, acl_at, IsAcl}
-use Rattle.policy_expr.specs.Reading.{Judges}
 use Rattle.policy_expr.specs.declared.fault.PolicyFault.TheVariants as faults
 use Rattle.policy_expr.proofs.Front.{with_front, front_none, front_later}
 

@@ -1,14 +1,15 @@
 -- How the tokens of a text begin: without its blanks, and with a run of marks.
-use Rattle.std.proofs.Common.{◌≡◌, ℕ, ◌-◌, ◌<◌, ◌≤◌, Bool, true, false, if◌then◌else◌, List, [], ◌∷◌, ◌++◌, length, take, map, refl, sym, ◌∙◌, ap, subst, arith, length-append}
+use Rattle.std.proofs.Common.{◌≡◌, ℕ, suc, ◌+◌, ◌-◌, ◌<◌, ◌≤◌, Bool, true, false, ◌&&◌, if◌then◌else◌, List, [], ◌∷◌, ◌++◌, length, take, drop, map, refl, sym, ◌∙◌, ap, subst, arith, length-append}
 use Rattle.std.proofs.lemmas.List.{nil_from_length}
 use Rattle.std.proofs.lemmas.Bool.Decides.{nat_tests}
 use Rattle.std.proofs.Math.Seq.{take-append_seam}
 use Rattle.std.proofs.lemmas.Str.Ascii.{IsAscii-nil, IsAscii-cons}
 use Rattle.std.specs.Str.{IsAscii}
+use Rattle.std.specs.List.{prefix_len}
 use Rattle.policy_expr.specs.declared.token.Token.{Token}
 use Rattle.policy_expr.specs.Predicate.{predicate_at}
-use Rattle.policy_expr.specs.Tokens.{after_marks, is_mark, with_byte, token_texts, read_token, sign_token, token_of, tokens}
-use Rattle.blanks.specs.Blanks.{is_blank, after_blanks}
+use Rattle.policy_expr.specs.Tokens.{is_mark, lengthened, token_texts, read_token, sign_token, token_of, tokens}
+use Rattle.separators.specs.Blanks.{is_blank, after_blanks}
 
 -- a mark is below 128, and no blank
 pub mark_is_ascii : (b : ℕ) → is_mark b ≡ true → b < 128
@@ -16,6 +17,47 @@ mark_is_ascii b mark = grind (arith, nat_tests)
 
 pub mark_is_no_blank : (b : ℕ) → is_mark b ≡ true → is_blank b ≡ false
 mark_is_no_blank b mark = grind (arith, nat_tests)
+
+-- the text from its first byte that is no mark
+unfoldable pub after_marks : List ℕ → List ℕ
+after_marks [] = []
+after_marks (b ∷ rest) = if is_mark b then after_marks rest else b ∷ rest
+
+behind_step : (b : ℕ) (rest : List ℕ) (test : Bool) → is_mark b ≡ test → drop (prefix_len is_mark rest) rest ≡ after_marks rest
+    → drop (prefix_len is_mark (b ∷ rest)) (b ∷ rest) ≡ (if test then after_marks rest else b ∷ rest)
+behind_step b rest true mark later =
+    let one_more : 1 + prefix_len is_mark rest ≡ suc (prefix_len is_mark rest) = omega arith in rw (mark, one_more) later
+behind_step b rest false mark later = rw mark refl
+
+pub behind_is_after : (text : List ℕ) → drop (prefix_len is_mark text) text ≡ after_marks text
+unfolding after_marks
+behind_is_after [] = refl
+behind_is_after (b ∷ rest) = behind_step b rest (is_mark b) refl (behind_is_after rest)
+
+-- a run ends before a byte that is no mark, and at the end of the text
+pub behind_stop : (text rest behind : List ℕ) (b : ℕ) → after_marks text ≡ after_marks rest → rest ≡ b ∷ behind → is_mark b ≡ false
+    → rest ≡ drop (prefix_len is_mark text) text
+unfolding after_marks
+behind_stop text rest behind b same begins no_mark =
+    let here : after_marks rest ≡ rest = rw (begins, no_mark) refl in sym (behind_is_after text ∙ same ∙ here)
+
+pub behind_end : (text rest : List ℕ) → after_marks text ≡ after_marks rest → length rest ≡ 0 → rest ≡ drop (prefix_len is_mark text) text
+unfolding after_marks
+behind_end text rest same none =
+    let empty = nil_from_length rest none in
+    let here : after_marks rest ≡ rest = rw empty refl in sym (behind_is_after text ∙ same ∙ here)
+
+pub behind_more : (text rest behind : List ℕ) (b : ℕ) → after_marks text ≡ after_marks rest → rest ≡ b ∷ behind → is_mark b ≡ true
+    → after_marks text ≡ after_marks behind
+unfolding after_marks
+behind_more text rest behind b same begins mark =
+    let next : after_marks rest ≡ after_marks behind = rw (begins, mark) refl in same ∙ next
+
+-- a byte before the texts of later tokens, which begin with a mark that stands right behind it or
+-- not
+abbrev with_byte : ℕ → Bool → List (List ℕ) → List (List ℕ)
+with_byte b mark_follows later =
+    if is_blank b then later else if is_mark b && mark_follows then lengthened b later else (b ∷ []) ∷ later
 
 -- the marks at the front of a text
 abbrev pub marks_of : List ℕ → List ℕ

@@ -4,9 +4,10 @@ use Rattle.std.proofs.lemmas.Bool.{le-ltb}
 use Rattle.policy_expr.specs.declared.token.Token.{Token}
 use Rattle.policy_expr.specs.declared.token.Token.TheVariants as signs
 use Rattle.policy_expr.specs.Grammar.{Part, following, alternatives, item, Spells, SpellsSequence, predicate, in_parentheses, with_optional, with_repeated, with_once_or_more, one_alternative, one_more, one_part, behind}
-use Rattle.policy_expr.specs.Printing.{IsSequence, opened, printed, strength}
+use Rattle.policy_expr.specs.Printing.{IsSequence, opened, printed}
 use Rattle.policy_expr.specs.Tokens.{tokens}
 use Rattle.policy_expr.specs.Language.{Tree, hop, followed, either, optional, repeated, once_or_more}
+use Rattle.policy_expr.proofs.Readable.{strength}
 use Rattle.policy_expr.proofs.Again.{closed_in, tokens_of}
 use Rattle.policy_expr.proofs.Kept.{read_is_sequence}
 use Rattle.policy_expr.proofs.Printed.{printed_tokens}

@@ -8,8 +8,8 @@ use Rattle.policy_expr.specs.declared.fault.PolicyFault.{PolicyFault}
 use Rattle.policy_expr.specs.declared.fault.PolicyFault.TheVariants as faults
 use Rattle.policy_expr.specs.Language.{Tree, optional, repeated, once_or_more}
 use Rattle.policy_expr.specs.Grammar.{following, alternatives, item, Spells, predicate, in_parentheses, with_optional, with_repeated, with_once_or_more, one_alternative, one_more, one_part, behind}
-use Rattle.policy_expr.specs.Reading.{Level, new_level, whole, node_count, sequence_at, tree_at, within_size}
-use Rattle.policy_expr.proofs.Steps.{Reading, with_choices, with_before, wants, took, read_on, ended, item_begun, item_followed, level_closed, tree_is_read}
+use Rattle.policy_expr.specs.Reading.{Level, new_level, whole, node_count, sequence_at, tree_at}
+use Rattle.policy_expr.proofs.Steps.{Reading, with_choices, with_before, wants, took, read_on, ended, item_begun, item_followed, level_closed, tree_is_read, within_size}
 use Rattle.policy_expr.specs.Grammar.{SpellsSequence}
 use Rattle.policy_expr.specs.Tokens.{tokens}
 use Rattle.policy_expr.proofs.Spelled.{spelled_is_read}

@@ -1,16 +1,12 @@
 -- What is read of a text is a sequence: its predicates are as they are read, and its parentheses
 -- nest no deeper than the text's.
-use Rattle.std.proofs.Common.{◌≡◌, ℕ, ◌+◌, ◌-◌, ◌^◌, ◌<◌, ◌≤◌, Bool, true, false, ◌&&◌, eqb, nat_lt, if◌then◌else◌, List, [], ◌∷◌, length, map, Option, Some, None, Result, Ok, Err, refl, ◌∙◌, ap, subst, arith, inl, inr}
+use Rattle.std.proofs.Common.{◌≡◌, ℕ, ◌+◌, ◌-◌, ◌^◌, ◌<◌, ◌≤◌, Bool, true, false, ◌&&◌, eqb, nat_lt, if◌then◌else◌, List, [], ◌∷◌, length, map, Option, Some, None, Result, Ok, Err, refl, ◌∙◌, subst, arith, inl, inr}
 use Rattle.std.specs.List.{AllByRecursion}
 use Rattle.std.proofs.lemmas.Bool.{ltb-true, ltb-false}
 use Rattle.std.proofs.lemmas.Bool.Decides.{nat_tests}
-use Rattle.isd_as.specs.declared.fault.AddrFault.{AddrFault}
 use Rattle.std.proofs.lemmas.Int.Digits.{digits_value-lt}
 use Rattle.std.proofs.Math.Nat.{pow-le-pow_right}
-use Rattle.isd_as.specs.Address.{address_of, WritesGroup, SpellsAs}
-use Rattle.isd_as.specs.Reading.{isd_at, address_at}
-use Rattle.isd_as.proofs.Spelled.{Spells-address_at, SpellsIsd-isd_at}
-use Rattle.refusal.specs.Refusal.{or_else}
+use Rattle.isd_as.specs.Address.{Spells, WritesGroup, SpellsAs}
 use Rattle.policy_expr.specs.declared.fault.PolicyFault.{PolicyFault}
 use Rattle.policy_expr.specs.declared.fault.PolicyFault.TheVariants as faults
 use Rattle.policy_expr.specs.declared.hop.HopPred.{HopPred}
@@ -19,13 +15,14 @@ use Rattle.policy_expr.specs.declared.hop.Interfaces.TheVariants.{Any, Either, B
 use Rattle.policy_expr.specs.declared.token.Token.{Token}
 use Rattle.policy_expr.specs.declared.token.Token.TheVariants as signs
 use Rattle.refusal.proofs.Steps.{bind_ok, guard_ok, guard_not, ok_is}
-use Rattle.policy_expr.specs.Predicate.{hash, one_interface, two_interfaces, cut_at, interface_at, cut_interfaces_at, interfaces_at, cut_plain_at, plain_at, cut_predicate_at, predicate_at}
+use Rattle.policy_expr.specs.Predicate.{predicate_at, SpellsInterfaces, one, two, SpellsPredicate, isd_alone, address, with_interfaces}
+use Rattle.policy_expr.proofs.Spelling.{predicate_spelled}
 use Rattle.policy_expr.specs.Tokens.{is_mark, token_texts, token_of, read_token, sign_token, tokens}
 use Rattle.policy_expr.specs.Language.{Tree, hop, followed, either, optional, repeated, once_or_more}
-use Rattle.policy_expr.specs.Reading.{Level, new_level, whole, tree_at, sequence_at, within_size, node_count}
-use Rattle.policy_expr.proofs.Steps.{Reading, wants, has, with_choices, with_before, item_begun, item_followed, level_closed, took, took_at, ended, ended_at, read_on, tree_is_read}
-use Rattle.policy_expr.specs.Printing.{strength, AreInterfaces, IsPredicate}
-use Rattle.policy_expr.proofs.Readable.{nested, depth, ArePredicates, IsReadable}
+use Rattle.policy_expr.specs.Reading.{Level, new_level, whole, tree_at, sequence_at, node_count}
+use Rattle.policy_expr.proofs.Steps.{Reading, wants, has, with_choices, with_before, item_begun, item_followed, level_closed, took, took_at, ended, ended_at, read_on, tree_is_read, within_size}
+use Rattle.policy_expr.specs.Printing.{AreInterfaces, IsPredicate}
+use Rattle.policy_expr.proofs.Readable.{nested, depth, ArePredicates, IsReadable, strength}
 
 -- ---- levels, with room for parentheses
 
@@ -89,17 +86,6 @@ one_small : (n : ℕ) → n < 2 ^ 16 → (test : Bool) → eqb n 0 ≡ test → 
 one_small n fits true none = tt
 one_small n fits false some = (grind (arith, nat_tests), fits)
 
--- what an address or a number is read as, any refusal being BadPredicate
-abbrev pub as_part : {A : Type 0} → Result A AddrFault → Result A PolicyFault
-as_part read = or_else faults.BadPredicate read
-
-pub part_ok : {A : Type 0} (r : Result A AddrFault) (x : A) → as_part r ≡ Ok x → r ≡ Ok x
-part_ok (Ok y) x e = (let same : y ≡ x = cc in ap Ok same)
-part_ok (Err d) x e = absurd cc
-
-isd_small : (text : List ℕ) (n : ℕ) → as_part (isd_at text) ≡ Ok n → n < 2 ^ 16
-isd_small text n e = (SpellsIsd-isd_at text n (part_ok (isd_at text) n e)).small
-
 group_small : (text : List ℕ) (n : ℕ) → WritesGroup text n → n < 2 ^ 16
 group_small text n group =
     let below = digits_value-lt 16 text group.written.numeral.1 in
@@ -118,45 +104,24 @@ as_small text n spelled = elim spelled [
       omega arith)
 ]
 
-ia_small : (text : List ℕ) (n : ℕ) → as_part (address_at text) ≡ Ok n → n < 2 ^ 64
-ia_small text n e =
-    let s = Spells-address_at text n (part_ok (address_at text) n e) in
+address_small : (text : List ℕ) (n : ℕ) → Spells text n → n < 2 ^ 64
+address_small text n s =
     let isd = s.isd_spelled.small in
     let as_number = as_small s.back s.as_number s.as_spelled in
     let of = s.of in
     omega arith
 
-interfaces_small : (text : List ℕ) (cut : Option (List ℕ × List ℕ)) (i : Interfaces) → cut_interfaces_at text cut ≡ Ok i → AreInterfaces i
-interfaces_small text None i e =
-    let n = bind_ok (interface_at text) (λ m. Ok (one_interface m)) i e in
-    let is : one_interface n.0 ≡ i = ok_is (one_interface n.0) i n.2 in
-    subst AreInterfaces is (one_small n.0 (isd_small text n.0 n.1) (eqb n.0 0) refl)
-interfaces_small text (Some parts) i e =
-    let m = bind_ok (interface_at parts.0) _ i e in
-    let n = bind_ok (interface_at parts.1) (λ k. Ok (two_interfaces m.0 k)) i m.2 in
-    let is : two_interfaces m.0 n.0 ≡ i = ok_is (two_interfaces m.0 n.0) i n.2 in
-    subst AreInterfaces is (two_small m.0 n.0 (isd_small parts.0 m.0 m.1) (isd_small parts.1 n.0 n.1) (eqb m.0 0 && eqb n.0 0) refl)
+interfaces_small : (text : List ℕ) (i : Interfaces) → SpellsInterfaces text i → AreInterfaces i
+interfaces_small _ _ (one text n s) = one_small n s.small (eqb n 0) refl
+interfaces_small _ _ (two front back m n s t) = two_small m n s.small t.small (eqb m 0 && eqb n 0) refl
 
-plain_small : (text : List ℕ) (cut : Option (List ℕ × List ℕ)) (pred : HopPred) → cut_plain_at text cut ≡ Ok pred → IsPredicate pred
-plain_small text None pred e =
-    let n = bind_ok (as_part (isd_at text)) (λ k. Ok (record { ia = address_of k 0; interfaces = Any })) pred e in
-    let fits = isd_small text n.0 n.1 in
-    subst IsPredicate (ok_is (record { ia = address_of n.0 0; interfaces = Any }) pred n.2) (omega arith, tt)
-plain_small text (Some parts) pred e =
-    let n = bind_ok (as_part (address_at text)) (λ k. Ok (record { ia = k; interfaces = Any })) pred e in
-    subst IsPredicate (ok_is (record { ia = n.0; interfaces = Any }) pred n.2) (ia_small text n.0 n.1, tt)
-
-predicate_small_by : (text : List ℕ) (cut : Option (List ℕ × List ℕ)) (pred : HopPred) → cut_predicate_at text cut ≡ Ok pred → IsPredicate pred
-unfolding plain_at interfaces_at
-predicate_small_by text None pred e = plain_small text _ pred e
-predicate_small_by text (Some parts) pred e =
-    let n = bind_ok (as_part (address_at parts.0)) _ pred e in
-    let i = bind_ok (interfaces_at parts.1) (λ k. Ok (record { ia = n.0; interfaces = k })) pred n.2 in
-    subst IsPredicate (ok_is (record { ia = n.0; interfaces = i.0 }) pred i.2) (ia_small parts.0 n.0 n.1, interfaces_small parts.1 _ i.0 i.1)
+spelled_small : (text : List ℕ) (pred : HopPred) → SpellsPredicate text pred → IsPredicate pred
+spelled_small _ _ (isd_alone text n s) = let fits = s.small in (omega arith, tt)
+spelled_small _ _ (address text n s) = (address_small text n s, tt)
+spelled_small _ _ (with_interfaces front back n ways s t) = (address_small front n s, interfaces_small back ways t)
 
 pub predicate_small : (text : List ℕ) (pred : HopPred) → predicate_at text ≡ Ok pred → IsPredicate pred
-unfolding predicate_at
-predicate_small text pred e = predicate_small_by text (cut_at hash text) pred e
+predicate_small text pred e = spelled_small text pred (predicate_spelled text pred e)
 
 abbrev pub IsGoodToken : Token → Type 0
 IsGoodToken (signs.Hop pred) = IsPredicate pred

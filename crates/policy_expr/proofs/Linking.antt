@@ -2,10 +2,11 @@
 use Rattle.std.proofs.Common.{◌≡◌, ◌≢◌, ◌⊎◌, ◌↔◌, ℕ, zero, suc, ◌<◌, List, [], ◌∷◌, length, Some, slice_get, set, inl, inr, sym, ◌∙◌, ap, refl, subst, arith}
 use Rattle.std.proofs.lemmas.Bool.Decides.{eqb_tells}
 use Rattle.std.proofs.Math.ListN.{length-set}
-use Rattle.policy_expr.specs.declared.hop.HopPred.{HopPred}
+use Rattle.policy_expr.specs.declared.hop.WalkHop.{WalkHop}
 use Rattle.policy_expr.specs.declared.table.Line.{Line}
+use Rattle.policy_expr.specs.Hop.{Matches}
 use Rattle.policy_expr.specs.Sets.{Has, IsSplit}
-use Rattle.policy_expr.specs.Table.{HasPred, MayFollow, Links}
+use Rattle.policy_expr.specs.Table.{MayFollow, MeetsAt, Links}
 use Rattle.policy_expr.proofs.Passes.{IsPast, past_more, sub_more}
 
 -- ---- a list with one line written
@@ -29,21 +30,21 @@ module _ (old : List Line) (last first : ℕ) where
   pub record LinksSoFar (rest : ℕ) (now : List Line) : Type 0 where
     pub sub : (k : ℕ) → Has rest k → Has last k
     pub count : length now ≡ length old
-    pub preds : (k : ℕ) (pred : HopPred) → HasPred now k pred ↔ HasPred old k pred
+    pub meets : (k : ℕ) (h : WalkHop) → MeetsAt now k h ↔ MeetsAt old k h
     pub next : (j k : ℕ) → MayFollow now j k ↔ (MayFollow old j k ⊎ (IsPast last rest j × Has first k))
 
   pub links_first : LinksSoFar last old
   links_first = record {
     sub = λ k has. has;
     count = refl;
-    preds = λ k pred. (λ h. h, λ h. h);
+    meets = λ k h. (λ m. m, λ m. m);
     next = λ j k. (λ h. inl h, λ either. elim either [ inl h ↦ h | inr past ↦ absurd (past.0.1 past.0.0) ]);
   }
 
   pub links_all : (rest : ℕ) (now : List Line) → LinksSoFar rest now → ((k : ℕ) → Has rest k → ⊥) → Links old now last first
   links_all rest now so_far none = record {
     count = so_far.count;
-    preds = so_far.preds;
+    meets = so_far.meets;
     next = λ j k. (
       λ m. elim ((so_far.next j k).0 m) [ inl before ↦ inl before | inr past ↦ inr (past.0.0, past.1) ],
       λ either. (so_far.next j k).1 (elim either [ inl before ↦ inl before | inr linked ↦ inr ((linked.0, none j), linked.1) ]),
@@ -63,25 +64,20 @@ module _ (old : List Line) (last first : ℕ) where
     one_line : (x y : Line) (lines : List Line) (k : ℕ) → slice_get lines k ≡ Some x → slice_get lines k ≡ Some y → x ≡ y
     one_line x y lines k a b = let e : Some x ≡ Some y = sym a ∙ b in cc
 
-    step_preds : (k : ℕ) (pred : HopPred) → HasPred new k pred ↔ HasPred now k pred
-    step_preds k pred = elim (eqb_tells k number) [
+    step_meets : (k : ℕ) (h : WalkHop) → MeetsAt new k h ↔ MeetsAt now k h
+    step_meets k h = elim (eqb_tells k number) [
       | inl same ↦ (
-        λ h. (
-          line,
-          ap (slice_get now) same.1 ∙ there,
-          (let e = one_line h.0 written new number (sym (ap (slice_get new) same.1) ∙ h.1) at_number in
-              ap (λ (l : Line). l.pred) (sym is_written) ∙ ap (λ (l : Line). l.pred) (sym e) ∙ h.2),
-        ),
-        λ h. (
+        λ m. (let e = one_line m.0 written new number (sym (ap (slice_get new) same.1) ∙ m.1) at_number in
+            (line, ap (slice_get now) same.1 ∙ there, subst (λ (l : Line). Matches l.pred h) (e ∙ is_written) m.2)),
+        λ m. (let e = one_line m.0 line now number (sym (ap (slice_get now) same.1) ∙ m.1) there in (
           written,
           ap (slice_get new) same.1 ∙ at_number,
-          (let e = one_line h.0 line now number (sym (ap (slice_get now) same.1) ∙ h.1) there in
-              ap (λ (l : Line). l.pred) is_written ∙ ap (λ (l : Line). l.pred) (sym e) ∙ h.2),
-        ),
+          subst (λ (l : Line). Matches l.pred h) (sym is_written) (subst (λ (l : Line). Matches l.pred h) e m.2),
+        )),
       )
       | inr apart ↦ (
-        λ h. (h.0, sym (elsewhere k apart.1) ∙ h.1, h.2),
-        λ h. (h.0, elsewhere k apart.1 ∙ h.1, h.2),
+        λ m. (m.0, sym (elsewhere k apart.1) ∙ m.1, m.2),
+        λ m. (m.0, elsewhere k apart.1 ∙ m.1, m.2),
       )
     ]
 
@@ -117,7 +113,7 @@ module _ (old : List Line) (last first : ℕ) where
     links_more = record {
       sub = sub_more last rest number others split so_far.sub;
       count = ap (λ (l : List Line). length l) is_new ∙ length-set now number written ∙ so_far.count;
-      preds = λ k pred. (λ h. (so_far.preds k pred).0 ((step_preds k pred).0 h), λ h. (step_preds k pred).1 ((so_far.preds k pred).1 h));
+      meets = λ k h. (λ m. (so_far.meets k h).0 ((step_meets k h).0 m), λ m. (step_meets k h).1 ((so_far.meets k h).1 m));
       next = λ j k. (
         λ h. elim ((step_next j k).0 h) [
           | inl before ↦ elim ((so_far.next j k).0 before) [

@@ -106,7 +106,7 @@ module _ (lines : List Line) (ends : Ends) where
   abbrev pub Goes : ℕ → List WalkHop → Type 0
   Goes wanted [] = ⊥
   Goes wanted (h ∷ w) =
-      (k : ℕ) × Has wanted k × MeetsAt lines k h × After (MayFollow lines) (MeetsAt lines) (Has ends.last) k w
+      (k : ℕ) × Has wanted k × MeetsAt lines k h × After lines ends k w
 
   goes_on : (wanted next : ℕ) (h g : WalkHop) (w : List WalkHop) → ((j : ℕ) → Has next j ↔ StepsTo lines wanted h j)
       → Goes wanted (h ∷ (g ∷ w)) ↔ Goes next (g ∷ w)

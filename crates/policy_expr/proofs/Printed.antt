@@ -1,5 +1,5 @@
 -- The tokens of a printed tree are those of the tree.
-use Rattle.std.proofs.Common.{◌≡◌, ℕ, ◌<◌, Bool, true, false, nat_lt, List, [], ◌∷◌, ◌++◌, length, map, Ok, refl, sym, ◌∙◌, ap, arith, append_assoc}
+use Rattle.std.proofs.Common.{◌≡◌, ℕ, ◌<◌, ◌≤◌, subst, Bool, true, false, nat_lt, List, [], ◌∷◌, ◌++◌, length, map, Ok, refl, sym, ◌∙◌, ap, arith, append_assoc}
 use Rattle.std.specs.List.{AllByRecursion}
 use Rattle.std.proofs.lemmas.Bool.{le-ltb}
 use Rattle.std.proofs.lemmas.List.{append-nil}
@@ -7,11 +7,11 @@ use Rattle.policy_expr.specs.declared.hop.HopPred.{HopPred}
 use Rattle.policy_expr.specs.declared.token.Token.{Token}
 use Rattle.policy_expr.specs.declared.token.Token.TheVariants as signs
 use Rattle.policy_expr.specs.Predicate.{predicate_at}
-use Rattle.policy_expr.specs.Tokens.{after_marks, is_mark, begins_with_mark, token_texts, token_of, read_token, tokens}
+use Rattle.policy_expr.specs.Tokens.{is_mark, begins_with_mark, token_texts, token_of, read_token, tokens}
 use Rattle.policy_expr.specs.Language.{Tree, hop, followed, either, optional, repeated, once_or_more}
-use Rattle.policy_expr.specs.Printing.{strength, in_parentheses, predicate_text, printed}
-use Rattle.policy_expr.proofs.Readable.{ArePredicates, IsReadable}
-use Rattle.policy_expr.proofs.Cutting.{marks_of, texts_of_run}
+use Rattle.policy_expr.specs.Printing.{in_parentheses, predicate_text, printed, printed_as}
+use Rattle.policy_expr.proofs.Readable.{ArePredicates, IsReadable, strength}
+use Rattle.policy_expr.proofs.Cutting.{after_marks, marks_of, texts_of_run}
 use Rattle.policy_expr.specs.Reading.{new_level, tree_at, sequence_at, node_count}
 use Rattle.policy_expr.proofs.Steps.{wants, read_on, tree_is_read}
 use Rattle.policy_expr.proofs.Again.{closed_in, tokens_of, tokens_read}
@@ -83,30 +83,48 @@ prints_behind_space front back signs_in_front signs_behind prints_front prints_b
     ∙ ap (λ (t : List Token). signs_in_front ++ t) ((sign_first (back ++ rest)).6 ∙ prints_back rest ends)
     ∙ sym (append_assoc signs_in_front signs_behind (tokens rest))
 
-pub prints : (t : Tree) → ArePredicates t → Prints (printed t) (tokens_of t)
-prints (hop pred) is = λ rest ends. tokens_of_predicate (predicate_text pred) pred rest (predicate_is_some pred is) (predicate_is_marks pred is) (predicate_again pred is) ends
-prints (followed a b) are =
-    prints_behind_space (printed a) (in_parentheses (nat_lt (strength b) 1) (printed b)) (tokens_of a) (closed_in (nat_lt (strength b) 1) (tokens_of b))
-    (prints a are.0) (prints_in_parentheses (nat_lt (strength b) 1) (printed b) (tokens_of b) (prints b are.1))
-prints (either a b) are =
-    prints_with_sign 124 signs.Or (in_parentheses (nat_lt (strength a) 1) (printed a)) (in_parentheses (nat_lt (strength b) 2) (printed b))
-    (closed_in (nat_lt (strength a) 1) (tokens_of a)) (closed_in (nat_lt (strength b) 2) (tokens_of b)) refl (λ rest. (sign_first rest).2)
-    (prints_in_parentheses (nat_lt (strength a) 1) (printed a) (tokens_of a) (prints a are.0))
-    (prints_in_parentheses (nat_lt (strength b) 2) (printed b) (tokens_of b) (prints b are.1))
-prints (optional a) are =
-    prints_with_sign 63 signs.Optional (in_parentheses (nat_lt (strength a) 2) (printed a)) [] (closed_in (nat_lt (strength a) 2) (tokens_of a)) [] refl
-    (λ rest. (sign_first rest).3) (prints_in_parentheses (nat_lt (strength a) 2) (printed a) (tokens_of a) (prints a are)) prints_nothing
-prints (repeated a) are =
-    prints_with_sign 42 signs.Repeated (in_parentheses (nat_lt (strength a) 2) (printed a)) [] (closed_in (nat_lt (strength a) 2) (tokens_of a)) [] refl
-    (λ rest. (sign_first rest).4) (prints_in_parentheses (nat_lt (strength a) 2) (printed a) (tokens_of a) (prints a are)) prints_nothing
-prints (once_or_more a) are =
-    prints_with_sign 43 signs.OnceOrMore (in_parentheses (nat_lt (strength a) 2) (printed a)) [] (closed_in (nat_lt (strength a) 2) (tokens_of a)) [] refl
-    (λ rest. (sign_first rest).5) (prints_in_parentheses (nat_lt (strength a) 2) (printed a) (tokens_of a) (prints a are)) prints_nothing
+-- no part is too loose to stand alone
+never_closed : (t : Tree) (tokens : List Token) → closed_in (nat_lt (strength t) 0) tokens ≡ tokens
+never_closed t tokens = let no : nat_lt (strength t) 0 ≡ false = le-ltb (strength t) 0 (omega arith) in rw no refl
+
+item_open : (least : ℕ) (tokens : List Token) → least ≤ 2 → tokens ≡ closed_in (nat_lt 2 least) tokens
+item_open least tokens fits = let no : nat_lt 2 least ≡ false = le-ltb 2 least fits in rw no refl
+
+-- an item and a sign behind it
+prints_signed : (a : Tree) (sign : ℕ) (token : Token) (least : ℕ) → is_mark sign ≡ false → ((rest : List ℕ) → tokens (sign ∷ rest) ≡ token ∷ tokens rest)
+    → least ≤ 2 → Prints (printed_as 2 a) (closed_in (nat_lt (strength a) 2) (tokens_of a))
+    → Prints (printed_as 2 a ++ sign ∷ []) (closed_in (nat_lt 2 least) (closed_in (nat_lt (strength a) 2) (tokens_of a) ++ token ∷ []))
+prints_signed a sign token least no_mark first fits item =
+    let signs_in = closed_in (nat_lt (strength a) 2) (tokens_of a) in
+    subst (Prints (printed_as 2 a ++ sign ∷ [])) (item_open least (signs_in ++ token ∷ []) fits)
+    (prints_with_sign sign token (printed_as 2 a) [] signs_in [] no_mark first item prints_nothing)
+
+-- the text of a tree as such a part
+prints : (t : Tree) (least : ℕ) → least ≤ 2 → ArePredicates t → Prints (printed_as least t) (closed_in (nat_lt (strength t) least) (tokens_of t))
+prints (hop pred) least fits is =
+    subst (Prints (predicate_text pred)) (item_open least (tokens_of (hop pred)) fits)
+    (λ rest ends. tokens_of_predicate (predicate_text pred) pred rest (predicate_is_some pred is) (predicate_is_marks pred is) (predicate_again pred is) ends)
+prints (followed a b) least fits are =
+    let front = subst (Prints (printed_as 0 a)) (never_closed a (tokens_of a)) (prints a 0 (omega arith) are.0) in
+    let second = closed_in (nat_lt (strength b) 1) (tokens_of b) in
+    prints_in_parentheses (nat_lt 0 least) (printed_as 0 a ++ (32 ∷ printed_as 1 b)) (tokens_of a ++ second)
+    (prints_behind_space (printed_as 0 a) (printed_as 1 b) (tokens_of a) second front (prints b 1 (omega arith) are.1))
+prints (either a b) least fits are =
+    let first = closed_in (nat_lt (strength a) 1) (tokens_of a) in
+    let second = closed_in (nat_lt (strength b) 2) (tokens_of b) in
+    prints_in_parentheses (nat_lt 1 least) (printed_as 1 a ++ (124 ∷ printed_as 2 b)) (first ++ (signs.Or ∷ second))
+    (prints_with_sign 124 signs.Or (printed_as 1 a) (printed_as 2 b) first second refl (λ rest. (sign_first rest).2)
+    (prints a 1 (omega arith) are.0) (prints b 2 (omega arith) are.1))
+prints (optional a) least fits are = prints_signed a 63 signs.Optional least refl (λ rest. (sign_first rest).3) fits (prints a 2 (omega arith) are)
+prints (repeated a) least fits are = prints_signed a 42 signs.Repeated least refl (λ rest. (sign_first rest).4) fits (prints a 2 (omega arith) are)
+prints (once_or_more a) least fits are = prints_signed a 43 signs.OnceOrMore least refl (λ rest. (sign_first rest).5) fits (prints a 2 (omega arith) are)
 
 -- the tokens of a printed tree
 pub printed_tokens : (t : Tree) → ArePredicates t → tokens (printed t) ≡ tokens_of t
 unfolding token_texts
-printed_tokens t are = ap tokens (sym (append-nil (printed t))) ∙ prints t are [] refl ∙ append-nil (tokens_of t)
+printed_tokens t are =
+    let prints_t = subst (Prints (printed t)) (never_closed t (tokens_of t)) (prints t 0 (omega arith) are) in
+    ap tokens (sym (append-nil (printed t))) ∙ prints_t [] refl ∙ append-nil (tokens_of t)
 
 -- what is printed of a sequence is read as it
 pub printed_again : (t : Tree) → IsReadable t → sequence_at (printed t) ≡ Ok t

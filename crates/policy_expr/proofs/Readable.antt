@@ -4,7 +4,16 @@ use Rattle.std.proofs.Common.{ℕ, ◌+◌, ◌≤◌, max, Bool}
 use Rattle.std.specs.Prelude.{nat_lt, if◌then◌else◌}
 use Rattle.policy_expr.specs.Reading.{node_count}
 use Rattle.policy_expr.specs.Language.{Tree, hop, followed, either, optional, repeated, once_or_more}
-use Rattle.policy_expr.specs.Printing.{strength, IsPredicate}
+use Rattle.policy_expr.specs.Printing.{IsPredicate}
+
+-- how tight a tree binds: following least, then `|`
+abbrev pub strength : Tree → ℕ
+strength (hop pred) = 2
+strength (followed a b) = 0
+strength (either a b) = 1
+strength (optional a) = 2
+strength (repeated a) = 2
+strength (once_or_more a) = 2
 
 -- one more where the text stands in parentheses
 abbrev pub nested : Bool → ℕ → ℕ

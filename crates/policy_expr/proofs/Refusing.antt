@@ -1,5 +1,5 @@
 -- Reading a sequence answers the first fault of its tokens.
-use Rattle.std.proofs.Common.{IfOk, IfErr, ◌≡◌, ◌≢◌, ℕ, ◌+◌, ◌-◌, ◌≤◌, Bool, true, false, cond, List, [], ◌∷◌, length, Option, Some, None, is_some, Result, Ok, Err, IsOk, refl, sym, arith, add-one, unwrap_or}
+use Rattle.std.proofs.Common.{IfOk, IfErr, ◌≡◌, ◌≢◌, ℕ, ◌+◌, ◌-◌, ◌≤◌, Bool, true, false, cond, List, [], ◌∷◌, length, Option, Some, None, is_some, Result, Ok, Err, IsOk, refl, sym, ◌∙◌, arith, add-one, unwrap_or}
 use Rattle.std.specs.Prelude.{nat_lt}
 use Rattle.std.specs.Result.{result_err}
 use Rattle.std.proofs.lemmas.Bool.{ne_eqb}
@@ -13,7 +13,8 @@ use Rattle.policy_expr.specs.declared.token.Token.TheVariants as signs
 use Rattle.policy_expr.specs.Tokens.{tokens}
 use Rattle.policy_expr.specs.Language.{Tree, hop, optional, repeated, once_or_more}
 use Rattle.policy_expr.specs.Grammar.{SpellsSequence}
-use Rattle.policy_expr.specs.Reading.{Level, new_level, whole, next_level, next_choice, read_rest, tree_at, node_count, within_size, sequence_at, fault_at, IsRefusal, Gets}
+use Rattle.policy_expr.specs.Reading.{Level, new_level, whole, next_level, next_choice, read_rest, tree_at, node_count, sequence_at, fault_at, IsRefusal}
+use Rattle.policy_expr.proofs.Steps.{within_size}
 use Rattle.policy_expr.proofs.Found.{sequence_is_spelled, spelled_is_sequence}
 
 -- what these tokens give at any point of a reading
@@ -99,12 +100,6 @@ spelled_there text ok = there (sequence_at text) refl ok
 
 -- ---- the three clauses, from the equation
 
-one_tree : (r : Result Tree PolicyFault) (t tree : Tree) → r ≡ Ok t → r ≡ Ok tree → t ≡ tree
-one_tree r t tree a b = cc
-
-one_answer : (r : Result Tree PolicyFault) (fault : PolicyFault) (tree : Tree) → r ≡ Err fault → r ≡ Ok tree → ⊥
-one_answer r fault tree a b = cc
-
 module _ (text : List ℕ) where
   pub found_from : (r : Result Tree (OrMemory PolicyFault)) → Answers (λ s. s) r (sequence_at text) → IfOk r (λ t. SpellsSequence text t × (node_count t ≤ 256))
   found_from (Ok t) e = sequence_is_spelled text t e
@@ -116,7 +111,7 @@ module _ (text : List ℕ) where
   refused_from (Err (Refused fault)) e = refusal_is text fault e
 
   pub only_from : (r : Result Tree (OrMemory PolicyFault)) → Answers (λ s. s) r (sequence_at text)
-      → (tree : Tree) → SpellsSequence text tree → node_count tree ≤ 256 → Gets tree r
-  only_from (Ok t) e tree spelled small = one_tree (sequence_at text) t tree e (spelled_is_sequence text tree spelled small)
-  only_from (Err Memory) e tree spelled small = tt
-  only_from (Err (Refused fault)) e tree spelled small = one_answer (sequence_at text) fault tree e (spelled_is_sequence text tree spelled small)
+      → (tree : Tree) → SpellsSequence text tree → node_count tree ≤ 256 → Answers (λ s. s) r (Ok tree)
+  only_from (Ok t) e tree spelled small = sym (spelled_is_sequence text tree spelled small) ∙ e
+  only_from (Err Memory) e tree spelled small = refl
+  only_from (Err (Refused fault)) e tree spelled small = sym (spelled_is_sequence text tree spelled small) ∙ e

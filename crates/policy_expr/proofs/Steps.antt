@@ -8,7 +8,7 @@ use Rattle.policy_expr.specs.declared.token.Token.TheVariants as signs
 use Rattle.refusal.specs.Refusal.{◌>>=◌}
 use Rattle.policy_expr.specs.Tokens.{tokens}
 use Rattle.policy_expr.specs.Language.{Tree, hop, followed, either, optional, repeated, once_or_more}
-use Rattle.policy_expr.specs.Reading.{Level, new_level, joined, whole, read_rest, tree_at}
+use Rattle.policy_expr.specs.Reading.{Level, new_level, joined, whole, node_count, read_rest, tree_at}
 
 abbrev pub with_choices : Option Tree → Tree → Tree
 with_choices = joined either
@@ -134,3 +134,7 @@ all_same (token ∷ ts) = one_same ts (all_same ts) token
 -- the tree of a text, step by step
 pub tree_is_read : (text : List ℕ) → read_on (wants [] new_level) (tokens text) ≡ tree_at text
 tree_is_read text = all_same (tokens text) [] new_level None
+
+-- a tree of at most 256 nodes
+abbrev pub within_size : Tree → Result Tree PolicyFault
+within_size tree = if nat_lt 256 (node_count tree) then Err faults.TooLarge else Ok tree

@@ -1,15 +1,16 @@
--- Tables are built part by part, and the words of a tree's table are the words of the tree.
-use Rattle.std.proofs.Common.{◌≡◌, ◌⊎◌, ◌↔◌, ℕ, zero, suc, ◌+◌, ◌<◌, ◌≤◌, Bool, true, false, ◌&&◌, ◌||◌, List, [], ◌∷◌, ◌++◌, length, Some, None, slice_get, inl, inr, sym, ◌∙◌, ap, refl, subst, arith, length-append}
+-- Tables are built part by part, with the words of each part of the tree.
+use Rattle.std.proofs.Common.{◌≡◌, ◌⊎◌, ◌↔◌, ℕ, zero, suc, ◌+◌, ◌<◌, ◌≤◌, true, false, List, [], ◌∷◌, ◌++◌, length, Some, None, slice_get, inl, inr, sym, ◌∙◌, ap, refl, subst, arith, length-append}
+use Rattle.std.proofs.lemmas.Bool.Decides.{leb_tells}
+use Rattle.std.specs.List.{AllByRecursion}
 use Rattle.policy_expr.specs.declared.hop.HopPred.{HopPred}
 use Rattle.policy_expr.specs.declared.hop.WalkHop.{WalkHop}
 use Rattle.policy_expr.specs.declared.ends.Ends.{Ends}
 use Rattle.policy_expr.specs.declared.table.Line.{Line}
 use Rattle.policy_expr.specs.Hop.{Matches}
 use Rattle.policy_expr.specs.Language.{Lang, Tree, hop, followed, either, optional, repeated, once_or_more}
-use Rattle.policy_expr.specs.Reading.{node_count}
 use Rattle.policy_expr.specs.Sets.{Has}
-use Rattle.policy_expr.specs.Table.{pred_count, has_empty, Names, ComesFirst, ComesLast, Follows, HasPred, MayFollow, MeetsAt, Adds, IsTableOf, Links, IsThen, IsEither, Accepts}
-use Rattle.policy_expr.proofs.Runs.{first_in, last_in, follows_in, after_map, Meets, IsWord, word_of_lang, lang_of_word}
+use Rattle.policy_expr.specs.Table.{MayFollow, MeetsAt, Accepts, IsNew, Adds, Links, IsThen}
+use Rattle.policy_expr.proofs.Runs.{IsEither, followed_words, either_words, or_nothing_words, repeated_words, once_words}
 
 -- ---- one line more
 
@@ -32,245 +33,241 @@ get_new : (lines : List Line) (x : Line) → slice_get (lines ++ x ∷ []) (leng
 get_new [] x = refl
 get_new (l ∷ ls) x = get_new ls x
 
--- ---- each kind of node
+below : (lines : List Line) (k : ℕ) (x : Line) → slice_get lines k ≡ Some x → k < length lines
+below [] k x e = absurd (let f : None ≡ Some x = e in cc)
+below (l ∷ ls) zero x e = omega arith
+below (l ∷ ls) (suc k) x e = let lt = below ls k x e in omega (arith, lt)
+
+-- ---- one predicate
 
 module _ (pred : HopPred) (old new : List Line) (only next : ℕ) (line : Line)
     (is_line : line ≡ record { pred = pred; next = next }) (is_new : new ≡ old ++ line ∷ [])
     (only_is : (k : ℕ) → Has only k ↔ (k ≡ length old)) (next_is : (k : ℕ) → Has next k → ⊥) where
-  hop_preds : (k : ℕ) (p : HopPred) → HasPred new k p ↔ (HasPred old k p ⊎ Names (hop pred) (length old) k p)
-  hop_preds k p = rw is_new (
-    λ has. elim (get_pushed old line has.0 k has.1) [
-      | inl before ↦ inl (has.0, before, has.2)
-      | inr now ↦ inr (now.0, (let e : has.0.pred ≡ pred = ap (λ (l : Line). l.pred) (now.1 ∙ is_line) in sym has.2 ∙ e))
+  abbrev ends : Ends
+  ends = record { first = only; last = only; has_empty = false }
+
+  one_more : length new ≡ length old + 1
+  one_more = ap (λ (l : List Line). length l) is_new ∙ length-append old (line ∷ [])
+
+  line_at : (k : ℕ) (found : Line) → slice_get new k ≡ Some found → (slice_get old k ≡ Some found) ⊎ ((k ≡ length old) × (found ≡ line))
+  line_at k found e = get_pushed old line found k (sym (ap (λ (l : List Line). slice_get l k) is_new) ∙ e)
+
+  line_kept : (k : ℕ) (found : Line) → slice_get old k ≡ Some found → slice_get new k ≡ Some found
+  line_kept k found e = ap (λ (l : List Line). slice_get l k) is_new ∙ get_old old line found k e
+
+  line_there : slice_get new (length old) ≡ Some line
+  line_there = ap (λ (l : List Line). slice_get l (length old)) is_new ∙ get_new old line
+
+  new_only : (k : ℕ) → Has only k → IsNew old new k
+  new_only k has = let is = (only_is k).0 has in (omega (arith, is), omega (arith, is, one_more))
+
+  none_behind : (j k : ℕ) → length old ≤ j → MayFollow new j k → ⊥
+  none_behind j k at m = elim (line_at j m.0 m.1) [
+    | inl before ↦ (let lt = below old j m.0 before in omega (arith, lt))
+    | inr now ↦ next_is k (subst (λ (l : Line). Has l.next k) (now.1 ∙ is_line) m.2)
+  ]
+
+  meets_hop : (h : WalkHop) → MeetsAt new (length old) h ↔ Matches pred h
+  meets_hop h = (
+    λ m. elim (line_at (length old) m.0 m.1) [
+      | inl before ↦ absurd (let lt = below old (length old) m.0 before in omega (arith, lt))
+      | inr now ↦ subst (λ (l : Line). Matches l.pred h) (now.1 ∙ is_line) m.2
     ],
-    λ either. elim either [
-      | inl before ↦ (before.0, get_old old line before.0 k before.1, before.2)
-      | inr now ↦ (
-        line,
-        subst (λ (n : ℕ). slice_get (old ++ line ∷ []) n ≡ Some line) (sym now.0) (get_new old line),
-        ap (λ (l : Line). l.pred) is_line ∙ sym now.1,
-      )
-    ],
+    λ m. (line, line_there, subst (λ (l : Line). Matches l.pred h) (sym is_line) m),
   )
 
-  hop_next : (j k : ℕ) → MayFollow new j k ↔ (MayFollow old j k ⊎ Follows (hop pred) (length old) j k)
-  hop_next j k = rw is_new (
-    λ has. elim (get_pushed old line has.0 j has.1) [
-      | inl before ↦ inl (has.0, before, has.2)
-      | inr now ↦ absurd (next_is k (subst (λ (l : Line). Has l.next k) (now.1 ∙ is_line) has.2))
-    ],
-    λ either. elim either [
-      | inl before ↦ (before.0, get_old old line before.0 j before.1, before.2)
-      | inr never ↦ absurd never
-    ],
-  )
+  hop_word : (w : List WalkHop) → Accepts new ends w → Lang (hop pred) w
+  hop_word [] word = absurd (let e : false ≡ true = word in cc)
+  hop_word (h ∷ []) word = (h, refl, (meets_hop h).0 (subst (λ k. MeetsAt new k h) ((only_is word.0).0 word.1) word.2))
+  hop_word (h ∷ g ∷ w) word = absurd (none_behind word.0 word.3.0 (let is = (only_is word.0).0 word.1 in omega (arith, is)) word.3.1)
 
-  pub adds_hop : Adds (hop pred) old new (record { first = only; last = only; has_empty = false })
+  word_hop : (w : List WalkHop) → Lang (hop pred) w → Accepts new ends w
+  word_hop w l = subst (Accepts new ends) (sym l.1)
+      (length old, (only_is (length old)).1 refl, (meets_hop l.0).1 l.2, (only_is (length old)).1 refl)
+
+  pub adds_hop : Adds (hop pred) old new ends
   adds_hop = record {
-    count = ap (λ (l : List Line). length l) is_new ∙ length-append old (line ∷ []);
-    preds = hop_preds;
-    next = hop_next;
-    first = only_is;
-    last = only_is;
-    empty = refl;
+    more = omega (arith, one_more);
+    few = omega (arith, one_more);
+    meets = λ k h lt. (
+      λ m. elim (line_at k m.0 m.1) [ inl before ↦ (m.0, before, m.2) | inr now ↦ absurd (omega (arith, now.0)) ],
+      λ m. (m.0, line_kept k m.0 m.1, m.2),
+    );
+    next = λ j k lt. (
+      λ m. elim (line_at j m.0 m.1) [ inl before ↦ (m.0, before, m.2) | inr now ↦ absurd (omega (arith, now.0)) ],
+      λ m. (m.0, line_kept j m.0 m.1, m.2),
+    );
+    among = λ j k at m. absurd (none_behind j k at m);
+    first = new_only;
+    last = new_only;
+    words = λ w. (hop_word w, word_hop w);
   }
 
--- facts joined, each replaced by what it is
-joined_as : {M L O A B : Type 0} → L ↔ (M ⊎ B) → M ↔ (O ⊎ A) → L ↔ (O ⊎ (A ⊎ B))
-joined_as l m = (
-  λ h. elim (l.0 h) [
-    | inl old ↦ elim (m.0 old) [ inl o ↦ inl o | inr a ↦ inr (inl a) ]
-    | inr b ↦ inr (inr b)
-  ],
-  λ h. elim h [
-    | inl o ↦ l.1 (inl (m.1 (inl o)))
-    | inr new ↦ elim new [ inl a ↦ l.1 (inl (m.1 (inr a))) | inr b ↦ l.1 (inr b) ]
-  ],
-)
-
--- one fact more behind them
-joined_more : {N L O A C D : Type 0} → N ↔ (L ⊎ C) → L ↔ (O ⊎ A) → C ↔ D → N ↔ (O ⊎ (A ⊎ D))
-joined_more n l c = (
-  λ h. elim (n.0 h) [
-    | inl old ↦ elim (l.0 old) [ inl o ↦ inl o | inr a ↦ inr (inl a) ]
-    | inr new ↦ inr (inr (c.0 new))
-  ],
-  λ h. elim h [
-    | inl o ↦ n.1 (inl (l.1 (inl o)))
-    | inr new ↦ elim new [ inl a ↦ n.1 (inl (l.1 (inr a))) | inr d ↦ n.1 (inr (c.1 d)) ]
-  ],
-)
+-- ---- parts
 
 iff_trans : {A B C : Type 0} → A ↔ B → B ↔ C → A ↔ C
 iff_trans f g = (λ a. g.0 (f.0 a), λ c. f.1 (g.1 c))
 
-or_cong : {A B C D : Type 0} → A ↔ B → C ↔ D → (A ⊎ C) ↔ (B ⊎ D)
-or_cong f g = (
-  λ h. elim h [ inl a ↦ inl (f.0 a) | inr c ↦ inr (g.0 c) ],
-  λ h. elim h [ inl b ↦ inl (f.1 b) | inr d ↦ inr (g.1 d) ],
-)
+all_map : (P Q : List WalkHop → Type 0) → ((w : List WalkHop) → P w → Q w) → (words : List (List WalkHop)) → AllByRecursion P words → AllByRecursion Q words
+all_map P Q f [] all = tt
+all_map P Q f (word ∷ words) all = (f word all.0, all_map P Q f words all.1)
 
-and_cong : {A B C D : Type 0} → A ↔ B → C ↔ D → (A × C) ↔ (B × D)
-and_cong f g = (λ h. (f.0 h.0, g.0 h.1), λ h. (f.1 h.0, g.1 h.1))
+-- one part and then another
+module _ (a b : Tree) (old mid late new : List Line) (x y z : Ends) (front : Adds a old mid x) (back : Adds b mid late y)
+    (links : Links late new x.last y.first) (ends : IsThen x y z) where
+  in_front : (k : ℕ) → IsNew old mid k → IsNew old new k
+  in_front k i = (i.0, omega (arith, i.1, back.more, links.count))
 
--- the same test of two flags
-same_test : (x y : Bool) → x ≡ y → (x ≡ true) ↔ (y ≡ true)
-same_test x y e = (λ h. sym e ∙ h, λ h. e ∙ h)
+  in_back : (k : ℕ) → IsNew mid late k → IsNew old new k
+  in_back k i = (omega (arith, i.0, front.more), omega (arith, i.1, links.count))
 
--- what is added behind the lines of a tree, by the number that it begins with
-behind : (a b : Tree) (old mid late : List Line) (x y : Ends) → Adds a old mid x → Adds b mid late y
-    → (count : length late ≡ length old + (pred_count a + pred_count b))
-    × ((k : ℕ) (p : HopPred) → HasPred late k p ↔ (HasPred mid k p ⊎ Names b (length old + pred_count a) k p))
-    × ((j k : ℕ) → MayFollow late j k ↔ (MayFollow mid j k ⊎ Follows b (length old + pred_count a) j k))
-    × ((k : ℕ) → Has y.first k ↔ ComesFirst b (length old + pred_count a) k)
-    × ((k : ℕ) → Has y.last k ↔ ComesLast b (length old + pred_count a) k)
-behind a b old mid late x y front back = (
-  omega (arith, front.count, back.count),
-  λ k p. subst (λ (n : ℕ). HasPred late k p ↔ (HasPred mid k p ⊎ Names b n k p)) front.count (back.preds k p),
-  λ j k. subst (λ (n : ℕ). MayFollow late j k ↔ (MayFollow mid j k ⊎ Follows b n j k)) front.count (back.next j k),
-  λ k. subst (λ (n : ℕ). Has y.first k ↔ ComesFirst b n k) front.count (back.first k),
-  λ k. subst (λ (n : ℕ). Has y.last k ↔ ComesLast b n k) front.count (back.last k),
-)
+  among_both : (j k : ℕ) → length old ≤ j → MayFollow new j k → IsNew old new k
+  among_both j k at m = elim ((links.next j k).0 m) [
+    | inl before ↦ elim (leb_tells (length mid) j) [
+      | inl late_j ↦ in_back k (back.among j k late_j.1 before)
+      | inr early ↦ in_front k (front.among j k at ((back.next j k early.1).0 before))
+    ]
+    | inr over ↦ in_back k (back.first k over.1)
+  ]
 
-pub adds_followed : (a b : Tree) (old mid late new : List Line) (x y z : Ends) → Adds a old mid x → Adds b mid late y → Links late new x.last y.first → IsThen x y z → Adds (followed a b) old new z
-adds_followed a b old mid late new x y z front back links ends =
-    let m = behind a b old mid late x y front back in
-    record {
-      count = links.count ∙ m.0;
-      preds = λ k p. iff_trans (links.preds k p) (joined_as (m.1 k p) (front.preds k p));
-      next = λ j k. joined_more (links.next j k) (joined_as (m.2 j k) (front.next j k)) (and_cong (front.last j) (m.3 k));
-      first = λ k. iff_trans (ends.first k) (or_cong (front.first k) (and_cong (same_test _ _ front.empty) (m.3 k)));
-      last = λ k. iff_trans (ends.last k) (or_cong (m.4 k) (and_cong (same_test _ _ back.empty) (front.last k)));
-      empty = ends.empty ∙ ap (λ (v : Bool). v && y.has_empty) front.empty ∙ ap (λ (v : Bool). has_empty a && v) back.empty;
-    }
+  both_words : (w : List WalkHop) → Accepts new z w ↔ Lang (followed a b) w
+  both_words w = iff_trans (followed_words a b old mid late new x y z front back links ends w) (
+    λ p. (p.0, p.1, p.2, (front.words p.0).0 p.3, (back.words p.1).0 p.4),
+    λ p. (p.0, p.1, p.2, (front.words p.0).1 p.3, (back.words p.1).1 p.4),
+  )
 
-pub adds_either : (a b : Tree) (old mid late : List Line) (x y z : Ends) → Adds a old mid x → Adds b mid late y → IsEither x y z → Adds (either a b) old late z
-adds_either a b old mid late x y z front back ends =
-    let m = behind a b old mid late x y front back in
-    record {
-      count = m.0;
-      preds = λ k p. joined_as (m.1 k p) (front.preds k p);
-      next = λ j k. joined_as (m.2 j k) (front.next j k);
-      first = λ k. iff_trans (ends.first k) (or_cong (front.first k) (m.3 k));
-      last = λ k. iff_trans (ends.last k) (or_cong (front.last k) (m.4 k));
-      empty = ends.empty ∙ ap (λ (v : Bool). v || y.has_empty) front.empty ∙ ap (λ (v : Bool). has_empty a || v) back.empty;
-    }
+  pub adds_followed : Adds (followed a b) old new z
+  adds_followed = record {
+    more = omega (arith, front.more, back.more, links.count);
+    few = omega (arith, front.few, back.few, links.count);
+    meets = λ k h lt. let lt' : k < length mid = omega (arith, lt, front.more) in
+        iff_trans (links.meets k h) (iff_trans (back.meets k h lt') (front.meets k h lt));
+    next = λ j k lt. let lt' : j < length mid = omega (arith, lt, front.more) in (
+      λ m. elim ((links.next j k).0 m) [
+        | inl before ↦ (front.next j k lt).0 ((back.next j k lt').0 before)
+        | inr over ↦ absurd (let i = front.last j over.0 in omega (arith, i.0, lt))
+      ],
+      λ m. (links.next j k).1 (inl ((back.next j k lt').1 ((front.next j k lt).1 m))),
+    );
+    among = among_both;
+    first = λ k has. elim ((ends.first k).0 has) [
+      | inl mine ↦ in_front k (front.first k mine)
+      | inr over ↦ in_back k (back.first k over.1)
+    ];
+    last = λ k has. elim ((ends.last k).0 has) [
+      | inl mine ↦ in_back k (back.last k mine)
+      | inr over ↦ in_front k (front.last k over.1)
+    ];
+    words = both_words;
+  }
 
+-- one part or another
+module _ (a b : Tree) (old mid new : List Line) (x y z : Ends) (one : Adds a old mid x) (other : Adds b mid new y) (ends : IsEither x y z) where
+  in_one : (k : ℕ) → IsNew old mid k → IsNew old new k
+  in_one k i = (i.0, omega (arith, i.1, other.more))
+
+  in_other : (k : ℕ) → IsNew mid new k → IsNew old new k
+  in_other k i = (omega (arith, i.0, one.more), i.1)
+
+  among_either : (j k : ℕ) → length old ≤ j → MayFollow new j k → IsNew old new k
+  among_either j k at m = elim (leb_tells (length mid) j) [
+    | inl late ↦ in_other k (other.among j k late.1 m)
+    | inr early ↦ in_one k (one.among j k at ((other.next j k early.1).0 m))
+  ]
+
+  alternative_words : (w : List WalkHop) → Accepts new z w ↔ Lang (either a b) w
+  alternative_words w = iff_trans (either_words a b old mid new x y z one other ends w) (
+    λ e. elim e [ inl mine ↦ inl ((one.words w).0 mine) | inr yours ↦ inr ((other.words w).0 yours) ],
+    λ e. elim e [ inl mine ↦ inl ((one.words w).1 mine) | inr yours ↦ inr ((other.words w).1 yours) ],
+  )
+
+  pub adds_either : Adds (either a b) old new z
+  adds_either = record {
+    more = omega (arith, one.more, other.more);
+    few = omega (arith, one.few, other.few);
+    meets = λ k h lt. let lt' : k < length mid = omega (arith, lt, one.more) in iff_trans (other.meets k h lt') (one.meets k h lt);
+    next = λ j k lt. let lt' : j < length mid = omega (arith, lt, one.more) in iff_trans (other.next j k lt') (one.next j k lt);
+    among = among_either;
+    first = λ k has. elim ((ends.first k).0 has) [
+      | inl mine ↦ in_one k (one.first k mine)
+      | inr yours ↦ in_other k (other.first k yours)
+    ];
+    last = λ k has. elim ((ends.last k).0 has) [
+      | inl mine ↦ in_one k (one.last k mine)
+      | inr yours ↦ in_other k (other.last k yours)
+    ];
+    words = alternative_words;
+  }
+
+-- a part or nothing
 pub adds_optional : (a : Tree) (old new : List Line) (x z : Ends) → Adds a old new x → z ≡ record x { has_empty = true } → Adds (optional a) old new z
 adds_optional a old new x z item is = rw is (record {
-  count = item.count;
-  preds = item.preds;
+  more = item.more;
+  few = omega (arith, item.few);
+  meets = item.meets;
   next = item.next;
+  among = item.among;
   first = item.first;
   last = item.last;
-  empty = refl;
+  words = λ w. iff_trans (or_nothing_words new x w) (
+    λ e. elim e [ inl none ↦ inl none | inr word ↦ inr ((item.words w).0 word) ],
+    λ e. elim e [ inl none ↦ inl none | inr word ↦ inr ((item.words w).1 word) ],
+  );
 })
 
--- the predicates that come last are among the lines
-pub last_below : (a : Tree) (old mid : List Line) (x : Ends) (n : ℕ) → Adds a old mid x → length mid ≤ n → (k : ℕ) → Has x.last k → k < n
-last_below a old mid x n item fits k has = let i = last_in a (length old) k ((item.last k).0 has) in omega (arith, i.high, item.count)
-
--- the lines of a part that may begin again behind its end
+-- a part that may begin again behind its end
 module _ (a : Tree) (old mid new : List Line) (x : Ends) (item : Adds a old mid x) (links : Links mid new x.last x.first) where
-  again_preds : (k : ℕ) (p : HopPred) → HasPred new k p ↔ (HasPred old k p ⊎ Names a (length old) k p)
-  again_preds k p = iff_trans (links.preds k p) (item.preds k p)
+  in_again : (k : ℕ) → IsNew old mid k → IsNew old new k
+  in_again k i = (i.0, omega (arith, i.1, links.count))
 
-  again_next : (j k : ℕ) → MayFollow new j k ↔ (MayFollow old j k ⊎ (Follows a (length old) j k ⊎ (ComesLast a (length old) j × ComesFirst a (length old) k)))
-  again_next j k = joined_more (links.next j k) (item.next j k) (and_cong (item.last j) (item.first k))
+  next_again : (j k : ℕ) → j < length old → MayFollow new j k ↔ MayFollow old j k
+  next_again j k lt = (
+    λ m. elim ((links.next j k).0 m) [
+      | inl before ↦ (item.next j k lt).0 before
+      | inr again ↦ absurd (let i = item.last j again.0 in omega (arith, i.0, lt))
+    ],
+    λ m. (links.next j k).1 (inl ((item.next j k lt).1 m)),
+  )
+
+  among_again : (j k : ℕ) → length old ≤ j → MayFollow new j k → IsNew old new k
+  among_again j k at m = elim ((links.next j k).0 m) [
+    | inl before ↦ in_again k (item.among j k at before)
+    | inr again ↦ in_again k (item.first k again.1)
+  ]
+
+  -- the words of the part are the item's
+  all_item : (words : List (List WalkHop)) → AllByRecursion (Accepts mid x) words ↔ AllByRecursion (Lang a) words
+  all_item words = (
+    all_map (Accepts mid x) (Lang a) (λ w. (item.words w).0) words,
+    all_map (Lang a) (Accepts mid x) (λ w. (item.words w).1) words,
+  )
 
   pub adds_repeated : (z : Ends) → z ≡ record x { has_empty = true } → Adds (repeated a) old new z
   adds_repeated z is = rw is (record {
-    count = links.count ∙ item.count;
-    preds = again_preds;
-    next = again_next;
-    first = item.first;
-    last = item.last;
-    empty = refl;
+    more = omega (arith, item.more, links.count);
+    few = omega (arith, item.few, links.count);
+    meets = λ k h lt. iff_trans (links.meets k h) (item.meets k h lt);
+    next = next_again;
+    among = among_again;
+    first = λ k has. in_again k (item.first k has);
+    last = λ k has. in_again k (item.last k has);
+    words = λ w. iff_trans (repeated_words mid new x links w) (
+      λ p. (p.0, p.1, (all_item p.0).0 p.2),
+      λ p. (p.0, p.1, (all_item p.0).1 p.2),
+    );
   })
 
   pub adds_once_or_more : Adds (once_or_more a) old new x
   adds_once_or_more = record {
-    count = links.count ∙ item.count;
-    preds = again_preds;
-    next = again_next;
-    first = item.first;
-    last = item.last;
-    empty = item.empty;
+    more = omega (arith, item.more, links.count);
+    few = omega (arith, item.few, links.count);
+    meets = λ k h lt. iff_trans (links.meets k h) (item.meets k h lt);
+    next = next_again;
+    among = among_again;
+    first = λ k has. in_again k (item.first k has);
+    last = λ k has. in_again k (item.last k has);
+    words = λ w. iff_trans (once_words mid new x links w) (
+      λ p. (p.0, p.1, p.2, (all_item p.0).0 p.3),
+      λ p. (p.0, p.1, p.2, (all_item p.0).1 p.3),
+    );
   }
-
--- ---- the table of a tree
-
-module _ (t : Tree) (lines : List Line) (ends : Ends) (table : IsTableOf t lines ends) where
-  not_before : (j k : ℕ) → MayFollow [] j k → ⊥
-  not_before j k m = let e : None ≡ Some m.0 = m.1 in cc
-
-  steps : (j k : ℕ) → MayFollow lines j k ↔ Follows t 0 j k
-  steps j k = (
-    λ m. elim ((table.next j k).0 m) [ inl before ↦ absurd (not_before j k before) | inr now ↦ now ],
-    λ f. (table.next j k).1 (inr f),
-  )
-
-  meets : (k : ℕ) (h : WalkHop) → MeetsAt lines k h ↔ Meets t 0 k h
-  meets k h = (
-    λ m. (
-      m.0.pred,
-      (elim ((table.preds k m.0.pred).0 (m.0, m.1, refl)) [
-        | inl before ↦ absurd (let e : None ≡ Some before.0 = before.1 in cc)
-        | inr now ↦ now
-      ]),
-      m.2,
-    ),
-    λ m. let has = (table.preds k m.0).1 (inr m.1) in (has.0, has.1, subst (λ (p : HopPred). Matches p h) (sym has.2) m.2),
-  )
-
-  -- no set has a number beyond the lines
-  pub record IsWithin : Type 0 where
-    pub first : (k : ℕ) → Has ends.first k → k < length lines
-    pub next : (j k : ℕ) → MayFollow lines j k → k < length lines
-
-  pub table_within : IsWithin
-  table_within = record {
-    first = λ k has. let i = first_in t 0 k ((table.first k).0 has) in omega (arith, i.high, table.count);
-    next = λ j k m. let i = (follows_in t 0 j k ((steps j k).0 m)).1 in omega (arith, i.high, table.count);
-  }
-
-  accepts_is_word : (w : List WalkHop) → Accepts lines ends w ↔ IsWord t 0 w
-  accepts_is_word [] = same_test _ _ table.empty
-  accepts_is_word (h ∷ w) = (
-    λ a. (
-      a.0,
-      (table.first a.0).0 a.1,
-      (meets a.0 h).0 a.2,
-      after_map _ _ _ _ _ _ (λ _. Unit {0})
-          (λ k _ last. (table.last k).0 last) (λ k j _ next. ((steps k j).0 next, tt)) (λ j g _ m. (meets j g).0 m) a.0 w tt a.3,
-    ),
-    λ a. (
-      a.0,
-      (table.first a.0).1 a.1,
-      (meets a.0 h).1 a.2,
-      after_map _ _ _ _ _ _ (λ _. Unit {0})
-          (λ k _ last. (table.last k).1 last) (λ k j _ next. ((steps k j).1 next, tt)) (λ j g _ m. (meets j g).1 m) a.0 w tt a.3,
-    ),
-  )
-
-  -- the words of a tree's table are the tree's
-  pub accepts_is_lang : (w : List WalkHop) → Accepts lines ends w ↔ Lang t w
-  accepts_is_lang w = (
-    λ a. lang_of_word t 0 w ((accepts_is_word w).0 a),
-    λ l. (accepts_is_word w).1 (word_of_lang t 0 w l),
-  )
-
--- ---- trees of at most 256 nodes
-
--- there are at least as many nodes as predicates, and one less between them
-nodes_of_preds : (t : Tree) → pred_count t + pred_count t ≤ node_count t + 1
-nodes_of_preds (hop pred) = omega arith
-nodes_of_preds (followed a b) = omega (arith, nodes_of_preds a, nodes_of_preds b)
-nodes_of_preds (either a b) = omega (arith, nodes_of_preds a, nodes_of_preds b)
-nodes_of_preds (optional a) = omega (arith, nodes_of_preds a)
-nodes_of_preds (repeated a) = omega (arith, nodes_of_preds a)
-nodes_of_preds (once_or_more a) = omega (arith, nodes_of_preds a)
-
--- so that a table has at most 128 lines
-pub few_preds : (t : Tree) → node_count t ≤ 256 → pred_count t ≤ 128
-few_preds t small = omega (arith, nodes_of_preds t)

@@ -1,24 +1,22 @@
 -- The text of a predicate is read as it, and is one run of marks.
-use Rattle.std.proofs.Common.{◌≡◌, ℕ, ◌+◌, ◌/◌, ◌%◌, ◌^◌, ◌<◌, ◌≤◌, ◌≢◌, Bool, true, false, ◌&&◌, eqb, ltb, cond, if◌then◌else◌, List, [], ◌∷◌, ◌++◌, length, Some, None, Ok, Err, refl, ◌∙◌, ap, arith, length-append, inl, inr}
+use Rattle.std.proofs.Common.{◌≡◌, ℕ, ◌+◌, ◌/◌, ◌%◌, ◌^◌, ◌<◌, ◌≤◌, ◌≢◌, Bool, true, false, ◌&&◌, eqb, if◌then◌else◌, List, [], ◌∷◌, ◌++◌, length, Ok, refl, ◌∙◌, ap, arith, length-append, inl, inr}
 use Rattle.std.specs.Char.{digit_value}
 use Rattle.std.specs.Fmt.{decimal, digits}
-use Rattle.std.specs.List.{AllByRecursion, position_or_len, before_first, after_first}
+use Rattle.std.specs.List.{AllByRecursion}
 use Rattle.std.specs.Str.Parse.{AllDigits}
-use Rattle.std.proofs.lemmas.Bool.{cases_Bool, cases_lt, lt-ltb, le-ltb, eqb-true, ne_eqb, or_from, or_parts, and_parts}
+use Rattle.std.proofs.lemmas.Bool.{cases_Bool, cases_lt, lt-ltb, le-ltb, eqb-true, ne_eqb, or_from, and_parts}
 use Rattle.std.proofs.lemmas.Bool.Decides.{nat_tests}
 use Rattle.std.proofs.lemmas.Fmt.{decimal_is_IsNumeral, digits_is_IsNumeral}
 use Rattle.std.proofs.lemmas.List.{append-nil}
-use Rattle.isd_as.specs.declared.fault.AddrFault.{AddrFault}
-use Rattle.isd_as.specs.declared.fault.AddrFault.TheVariants as address_faults
 use Rattle.isd_as.specs.Address.{isd_of, as_number_of, address_of, dash, colon, canonical, canonical_as}
 use Rattle.isd_as.specs.Reading.{isd_at, address_at}
 use Rattle.isd_as.proofs.Canonical.{Spells-canonical, SpellsIsd-decimal}
 use Rattle.isd_as.proofs.Spelled.{has_sign-AllDigits, address_at-Spells, isd_at-SpellsIsd}
-use Rattle.isd_as.proofs.Cut.{has_sign, cut_at-append}
+use Rattle.separators.proofs.Cut.{has_sign, cut_behind}
 use Rattle.policy_expr.specs.declared.hop.HopPred.{HopPred}
 use Rattle.policy_expr.specs.declared.hop.Interfaces.{Interfaces}
 use Rattle.policy_expr.specs.declared.hop.Interfaces.TheVariants.{Any, Either, Both}
-use Rattle.policy_expr.specs.Predicate.{hash, comma, cut_at, interfaces_at, plain_at, predicate_at}
+use Rattle.policy_expr.specs.Predicate.{hash, comma, interfaces_at, place_at, predicate_at}
 use Rattle.policy_expr.specs.Tokens.{is_mark}
 use Rattle.policy_expr.specs.Acl.{says_nothing}
 use Rattle.policy_expr.specs.Printing.{interfaces_text, predicate_text, AreInterfaces, IsPredicate}
@@ -82,30 +80,6 @@ plain_canonical : (a : ℕ) → a < 2 ^ 64 → AllByRecursion IsPlain (canonical
 plain_canonical a fits =
     all_append IsPlain (decimal (isd_of a)) (dash ∷ canonical_as (as_number_of a)) (plain_decimal (isd_of a) (omega arith)) ((refl, refl, refl), plain_as (as_number_of a) (omega arith))
 
--- ---- cutting
-
-position_past : (sign : ℕ) (text : List ℕ) → has_sign sign text ≡ false → position_or_len (λ b. eqb b sign) text ≡ length text
-position_past sign [] none = refl
-position_past sign (b ∷ text) none =
-    let parts = or_parts (eqb b sign) (has_sign sign text) none in
-    rw parts.0 (ap (λ n. 1 + n) (position_past sign text parts.1) ∙ omega arith)
-
-pub cut_none : (sign : ℕ) (text : List ℕ) → has_sign sign text ≡ false → cut_at sign text ≡ None
-cut_none sign text none =
-    let past = position_past sign text none in
-    let no : ltb (position_or_len (λ b. eqb b sign) text) (length text) ≡ false = le-ltb _ _ (omega arith) in
-    rw no refl
-
-same_cut : (test : Bool) (x y : List ℕ × List ℕ) (e : AddrFault) → cond test (Ok x) (Err e) ≡ Ok y → cond test (Some x) None ≡ Some y
-same_cut true x y e cut = let same : x ≡ y = cc in ap Some same
-same_cut false x y e cut = cc
-
-pub cut_some : (sign : ℕ) (front back : List ℕ) → has_sign sign front ≡ false → cut_at sign (front ++ (sign ∷ back)) ≡ Some (front, back)
-cut_some sign front back none =
-    let text = front ++ (sign ∷ back) in
-    same_cut (ltb (position_or_len (λ b. eqb b sign) text) (length text)) (before_first (λ b. eqb b sign) text, after_first (λ b. eqb b sign) text) (front, back) address_faults.NoDash
-    (cut_at-append sign address_faults.NoDash front back none)
-
 -- ---- reading what was printed
 
 isd_again : (n : ℕ) → n < 2 ^ 16 → isd_at (decimal n) ≡ Ok n
@@ -122,7 +96,7 @@ one_again : (n : ℕ) → 0 < n → n < 2 ^ 16 → interfaces_at (decimal n) ≡
 unfolding interfaces_at
 one_again n some fits =
     let other : n ≢ 0 = omega arith in
-    rw (cut_none comma (decimal n) (no_comma_in (decimal n) (plain_decimal n (omega arith))), isd_again n fits, ne_eqb n 0 other) refl
+    rw (no_comma_in (decimal n) (plain_decimal n (omega arith)), isd_again n fits, ne_eqb n 0 other) refl
 
 two_not_none : (m n : ℕ) → 0 < m + n → (eqb m 0 && eqb n 0) ≡ false
 two_not_none m n some = grind (arith, nat_tests)
@@ -130,7 +104,8 @@ two_not_none m n some = grind (arith, nat_tests)
 two_again : (m n : ℕ) → 0 < m + n → m < 2 ^ 16 → n < 2 ^ 16 → interfaces_at (decimal m ++ (comma ∷ decimal n)) ≡ Ok (Both m n)
 unfolding interfaces_at
 two_again m n some fits_m fits_n =
-    rw (cut_some comma (decimal m) (decimal n) (no_comma_in (decimal m) (plain_decimal m (omega arith))), isd_again m fits_m, isd_again n fits_n, two_not_none m n some) refl
+    let cut = cut_behind comma (decimal m) (decimal n) (no_comma_in (decimal m) (plain_decimal m (omega arith))) in
+    rw (cut.has, cut.front, cut.back, isd_again m fits_m, isd_again n fits_n, two_not_none m n some) refl
 
 interfaces_again : (interfaces : Interfaces) (front : List ℕ) (n : ℕ) → has_sign hash front ≡ false → address_at front ≡ Ok n
     → says_nothing interfaces ≡ false → AreInterfaces interfaces
@@ -138,24 +113,26 @@ interfaces_again : (interfaces : Interfaces) (front : List ℕ) (n : ℕ) → ha
 unfolding predicate_at
 interfaces_again Any front n no_hash again says are = absurd (let f : true ≡ false = says in cc)
 interfaces_again (Either m) front n no_hash again says are =
-    rw (cut_some hash front (decimal m) no_hash, again, one_again m are.0 are.1) refl
+    let cut = cut_behind hash front (decimal m) no_hash in
+    rw (cut.has, cut.front, cut.back, again, one_again m are.0 are.1) refl
 interfaces_again (Both l m) front n no_hash again says are =
-    rw (cut_some hash front (decimal l ++ (comma ∷ decimal m)) no_hash, again, two_again l m are.0 are.1 are.2) refl
+    let cut = cut_behind hash front (decimal l ++ (comma ∷ decimal m)) no_hash in
+    rw (cut.has, cut.front, cut.back, again, two_again l m are.0 are.1 are.2) refl
 
 -- an address alone
 address_alone_again : (a : ℕ) → a < 2 ^ 64 → predicate_at (canonical a) ≡ Ok (record { ia = a; interfaces = Any })
-unfolding predicate_at plain_at
+unfolding predicate_at place_at
 address_alone_again a fits =
     let no_hash = no_hash_in (canonical a) (plain_canonical a fits) in
-    let cut = cut_some dash (decimal (isd_of a)) (canonical_as (as_number_of a)) (no_dash_in_decimal (isd_of a) (omega arith)) in
-    rw (cut_none hash (canonical a) no_hash, cut, address_again a fits) refl
+    let cut = cut_behind dash (decimal (isd_of a)) (canonical_as (as_number_of a)) (no_dash_in_decimal (isd_of a) (omega arith)) in
+    rw (no_hash, cut.has, address_again a fits) refl
 
 -- an ISD alone
 isd_alone_again : (n : ℕ) → n < 2 ^ 16 → predicate_at (decimal n) ≡ Ok (record { ia = address_of n 0; interfaces = Any })
-unfolding predicate_at plain_at
+unfolding predicate_at place_at
 isd_alone_again n fits =
     let no_hash = no_hash_in (decimal n) (plain_decimal n (omega arith)) in
-    rw (cut_none hash (decimal n) no_hash, cut_none dash (decimal n) (no_dash_in_decimal n (omega arith)), isd_again n fits) refl
+    rw (no_hash, no_dash_in_decimal n (omega arith), isd_again n fits) refl
 
 again_by : (a : ℕ) (interfaces : Interfaces) (test : Bool) → a < 2 ^ 64 → AreInterfaces interfaces → (eqb (as_number_of a) 0 && says_nothing interfaces) ≡ test
     → predicate_at (if test then decimal (isd_of a) else canonical a ++ interfaces_text interfaces) ≡ Ok (record { ia = a; interfaces = interfaces })

@@ -1,14 +1,13 @@
 -- Reading the texts of options, one after another.
-use Rattle.std.proofs.Common.{◌≡◌, ℕ, suc, Bool, true, false, ◌+◌, ◌<◌, ◌≤◌, List, [], ◌∷◌, ◌++◌, length, get_or, drop, Result, Ok, Err, refl, sym, ap, subst, ◌∙◌, add-one, drop-cons}
-use Rattle.std.specs.Prelude.{IsOk}
+use Rattle.std.proofs.Common.{◌≡◌, ℕ, suc, Bool, true, false, ◌&&◌, ◌+◌, ◌<◌, ◌≤◌, List, [], ◌∷◌, ◌++◌, length, get_or, drop, Result, Ok, Err, refl, sym, ap, subst, ◌∙◌, add-one, drop-cons}
+use Rattle.std.specs.Prelude.{IsOk, nat_le}
 use Rattle.std.proofs.lemmas.List.{append-nil, drop_all}
 use Rattle.refusal.specs.declared.fault.OrMemory.{OrMemory}
 use Rattle.refusal.specs.declared.fault.OrMemory.TheVariants.{Memory, Refused}
-use Rattle.refusal.specs.Refusal.{◌>>=◌, check, each, Answers, Fails, Reads}
+use Rattle.refusal.specs.Refusal.{◌>>=◌, check, each, Answers, Fails, Reads, Judges}
 use Rattle.policy_expr.specs.declared.option_fault.OptionFault.{OptionFault}
 use Rattle.policy_expr.specs.declared.option_fault.OptionFault.TheVariants.{OptionCount}
-use Rattle.policy_expr.specs.Options.{WeighedRules, OptionTexts, are_few, option_at, options_at}
-use Rattle.policy_expr.specs.Reading.{Judges}
+use Rattle.policy_expr.specs.Options.{WeighedRules, OptionTexts, option_at, options_at}
 use Rattle.policy_expr.proofs.Front.{with_front, front_later}
 
 -- one text more was judged
@@ -63,7 +62,7 @@ by_count false texts ok = absurd cc
 
 pub options_are : (texts : List OptionTexts) → IsOk (options_at texts) → options_at texts ≡ each option_at texts
 unfolding options_at
-options_are texts ok = by_count (are_few texts) texts ok
+options_are texts ok = by_count (nat_le 1 (length texts) && nat_le (length texts) 16) texts ok
 
 answer_of : {X : Type 0} (view : X → List WeighedRules) (wanted : Result (List WeighedRules) OptionFault) (result : Result X (OrMemory OptionFault))
     → IsOk wanted → Reads view result wanted → Answers view result wanted

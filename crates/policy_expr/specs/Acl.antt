@@ -12,7 +12,7 @@ use Rattle.policy_expr.specs.declared.acl.Denied.{Denied}
 use Rattle.policy_expr.specs.Hop.{Matches}
 use Rattle.refusal.specs.Refusal.{◌>>=◌, each, unless}
 use Rattle.policy_expr.specs.Predicate.{predicate_at}
-use Rattle.blanks.specs.Blanks.{after_blanks, trimmed}
+use Rattle.separators.specs.Blanks.{after_blanks, trimmed}
 
 -- the entry matches the hop, as a bare one matches each
 abbrev pub MatchesBy : Option HopPred → WalkHop → Type 0

@@ -1,5 +1,5 @@
 -- The options of a request for paths: several policies, each with a weight.
-use Rattle.std.specs.Prelude.{ℕ, ◌&&◌, nat_le, Bool, List, length, Option, Result, Ok, codes}
+use Rattle.std.specs.Prelude.{ℕ, ◌&&◌, nat_le, List, length, Option, Result, Ok, codes}
 use Rattle.refusal.specs.Refusal.{◌>>=◌, check, each, refused_as}
 use Rattle.policy_expr.specs.declared.option_fault.OptionFault.{OptionFault}
 use Rattle.policy_expr.specs.declared.option_fault.OptionFault.TheVariants.{OptionCount, Unread}
@@ -28,18 +28,14 @@ pub record OptionTexts : Type 0 where
   pub sequence : Option (List ℕ)
   pub weight : ℕ
 
--- there are 1 to 16 options
-abbrev pub are_few : {X : Type 0} → List X → Bool
-are_few options = nat_le 1 (length options) && nat_le (length options) 16
-
 -- what the texts of an option are read as
 unfoldable pub option_at : OptionTexts → Result WeighedRules OptionFault
 option_at texts = do
   rules ← refused_as Unread (policy_at texts.acl texts.sequence)
   Ok (record { rules = rules; weight = texts.weight })
 
--- the options of these texts: OptionCount comes first
+-- the options of these texts: that there are 1 to 16 is asked first
 unfoldable pub options_at : List OptionTexts → Result (List WeighedRules) OptionFault
 options_at texts = do
-  few ← check (are_few texts) OptionCount
+  few ← check (nat_le 1 (length texts) && nat_le (length texts) 16) OptionCount
   each option_at texts

@@ -7,7 +7,7 @@ use Rattle.policy_expr.specs.declared.acl.AclEntry.{AclEntry}
 use Rattle.policy_expr.specs.declared.acl.Denied.{Denied}
 use Rattle.refusal.specs.Refusal.{◌>>=◌, if_there}
 use Rattle.policy_expr.specs.Language.{Tree, Lang}
-use Rattle.blanks.specs.Blanks.{after_blanks}
+use Rattle.separators.specs.Blanks.{after_blanks}
 use Rattle.policy_expr.specs.Reading.{sequence_at}
 use Rattle.policy_expr.specs.Acl.{AllowsWalk, IsDenial, acl_at}
 

@@ -1,7 +1,7 @@
 -- Reading a hop predicate (path policy language): `ISD`, `ISD-AS`, `ISD-AS#IF` or `ISD-AS#IN,OUT`.
 -- The relation says which texts stand for a predicate, and `predicate_at` is what reading answers.
-use Rattle.std.specs.Prelude.{ℕ, ◌==◌, ◌&&◌, nat_lt, if◌then◌else◌, List, ◌∷◌, ◌++◌, length, Option, Some, None, Result, Ok}
-use Rattle.std.specs.List.{position_or_len, before_first, after_first}
+use Rattle.std.specs.Prelude.{ℕ, ◌==◌, ◌&&◌, if◌then◌else◌, List, ◌∷◌, ◌++◌, Result, Ok}
+use Rattle.std.specs.List.{list_any, before_first, after_first}
 use Rattle.refusal.specs.Refusal.{◌>>=◌, or_else}
 use Rattle.isd_as.specs.Address.{Spells, SpellsIsd, address_of, dash}
 use Rattle.isd_as.specs.Reading.{isd_at, address_at}
@@ -38,47 +38,34 @@ pub data SpellsPredicate : List ℕ → HopPred → Type 0 where
   with_interfaces : (front back : List ℕ) (n : ℕ) (ways : Interfaces) → Spells front n → SpellsInterfaces back ways
       → SpellsPredicate (front ++ (hash ∷ back)) (record { ia = n; interfaces = ways })
 
--- the text before and the text after the first such sign
-abbrev pub cut_at : ℕ → List ℕ → Option (List ℕ × List ℕ)
-cut_at sign text = if nat_lt (position_or_len (λ b. b == sign) text) (length text)
-    then Some (before_first (λ b. b == sign) text, after_first (λ b. b == sign) text) else None
-
 -- an interface: decimal digits up to 65535, as of an ISD
 abbrev pub interface_at : List ℕ → Result ℕ PolicyFault
 interface_at text = or_else faults.BadPredicate (isd_at text)
 
-abbrev pub cut_interfaces_at : List ℕ → Option (List ℕ × List ℕ) → Result Interfaces PolicyFault
-cut_interfaces_at text None = do
-  n ← interface_at text
-  Ok (one_interface n)
-cut_interfaces_at text (Some parts) = do
-  ingress ← interface_at parts.0
-  egress ← interface_at parts.1
-  Ok (two_interfaces ingress egress)
-
--- the interfaces of a text
+-- the interfaces of a text: with a ',' two, else one
 unfoldable pub interfaces_at : List ℕ → Result Interfaces PolicyFault
-interfaces_at text = cut_interfaces_at text (cut_at comma text)
+interfaces_at text = if list_any (λ b. b == comma) text
+    then (do
+      ingress ← interface_at (before_first (λ b. b == comma) text)
+      egress ← interface_at (after_first (λ b. b == comma) text)
+      Ok (two_interfaces ingress egress))
+    else (do
+      n ← interface_at text
+      Ok (one_interface n))
 
-abbrev pub cut_plain_at : List ℕ → Option (List ℕ × List ℕ) → Result HopPred PolicyFault
-cut_plain_at text None = do
-  isd ← or_else faults.BadPredicate (isd_at text)
-  Ok (record { ia = address_of isd 0; interfaces = Any })
-cut_plain_at text (Some parts) = do
-  ia ← or_else faults.BadPredicate (address_at text)
-  Ok (record { ia = ia; interfaces = Any })
+-- the address of a text: with a '-' it is whole, else an ISD alone
+unfoldable pub place_at : List ℕ → Result ℕ PolicyFault
+place_at text = or_else faults.BadPredicate (if list_any (λ b. b == dash) text then address_at text else (do
+  isd ← isd_at text
+  Ok (address_of isd 0)))
 
--- the predicate of a text without interfaces: with a '-' an address, else an ISD
-unfoldable pub plain_at : List ℕ → Result HopPred PolicyFault
-plain_at text = cut_plain_at text (cut_at dash text)
-
-abbrev pub cut_predicate_at : List ℕ → Option (List ℕ × List ℕ) → Result HopPred PolicyFault
-cut_predicate_at text None = plain_at text
-cut_predicate_at text (Some parts) = do
-  ia ← or_else faults.BadPredicate (address_at parts.0)
-  interfaces ← interfaces_at parts.1
-  Ok (record { ia = ia; interfaces = interfaces })
-
--- the predicate of a text, or BadPredicate
+-- the predicate of a text, or BadPredicate: with a '#' an address and interfaces
 unfoldable pub predicate_at : List ℕ → Result HopPred PolicyFault
-predicate_at text = cut_predicate_at text (cut_at hash text)
+predicate_at text = if list_any (λ b. b == hash) text
+    then (do
+      ia ← or_else faults.BadPredicate (address_at (before_first (λ b. b == hash) text))
+      interfaces ← interfaces_at (after_first (λ b. b == hash) text)
+      Ok (record { ia = ia; interfaces = interfaces }))
+    else (do
+      ia ← place_at text
+      Ok (record { ia = ia; interfaces = Any }))

@@ -25,27 +25,23 @@ predicate_text pred = if (as_number_of pred.ia == 0) && says_nothing pred.interf
     then decimal (isd_of pred.ia)
     else canonical pred.ia ++ interfaces_text pred.interfaces
 
--- how tight a tree binds: following least, then `|`
-abbrev pub strength : Tree → ℕ
-strength (hop pred) = 2
-strength (followed a b) = 0
-strength (either a b) = 1
-strength (optional a) = 2
-strength (repeated a) = 2
-strength (once_or_more a) = 2
-
 -- a text in parentheses, or not
 abbrev pub in_parentheses : Bool → List ℕ → List ℕ
 in_parentheses wanted text = if wanted then codes "(" ++ (text ++ codes ")") else text
 
--- a tree's text, what is to the right of a following or a `|` in parentheses where it is one itself
+-- a tree's text as a part that binds so tight, following 0, `|` 1 and an item 2: in parentheses
+-- where the tree binds less tight
+abbrev pub printed_as : ℕ → Tree → List ℕ
+printed_as least (hop pred) = predicate_text pred
+printed_as least (followed a b) = in_parentheses (nat_lt 0 least) (printed_as 0 a ++ (codes " " ++ printed_as 1 b))
+printed_as least (either a b) = in_parentheses (nat_lt 1 least) (printed_as 1 a ++ (codes "|" ++ printed_as 2 b))
+printed_as least (optional a) = printed_as 2 a ++ codes "?"
+printed_as least (repeated a) = printed_as 2 a ++ codes "*"
+printed_as least (once_or_more a) = printed_as 2 a ++ codes "+"
+
+-- a tree's text
 abbrev pub printed : Tree → List ℕ
-printed (hop pred) = predicate_text pred
-printed (followed a b) = printed a ++ (codes " " ++ in_parentheses (nat_lt (strength b) 1) (printed b))
-printed (either a b) = in_parentheses (nat_lt (strength a) 1) (printed a) ++ (codes "|" ++ in_parentheses (nat_lt (strength b) 2) (printed b))
-printed (optional a) = in_parentheses (nat_lt (strength a) 2) (printed a) ++ codes "?"
-printed (repeated a) = in_parentheses (nat_lt (strength a) 2) (printed a) ++ codes "*"
-printed (once_or_more a) = in_parentheses (nat_lt (strength a) 2) (printed a) ++ codes "+"
+printed tree = printed_as 0 tree
 
 -- how many parentheses are opened
 abbrev pub opened : List Token → ℕ

@@ -1,6 +1,6 @@
 -- What reading a sequence answers: its tree, or the first refusal from left to right. Postfix signs
 -- bind tightest, then `|`, then following, and the last two to the left.
-use Rattle.std.specs.Prelude.{◌≡◌, ℕ, ◌+◌, ◌-◌, ◌≤◌, ◌==◌, nat_lt, Bool, true, false, if◌then◌else◌, List, [], ◌∷◌, length, Option, Some, None, unwrap_or, Result, Ok, Err, IsOk}
+use Rattle.std.specs.Prelude.{◌≡◌, ℕ, ◌+◌, ◌-◌, ◌≤◌, ◌==◌, nat_lt, Bool, true, false, if◌then◌else◌, List, [], ◌∷◌, length, Option, Some, None, unwrap_or, Result, Ok, Err}
 use Rattle.refusal.specs.declared.fault.OrMemory.{OrMemory}
 use Rattle.refusal.specs.declared.fault.OrMemory.TheVariants.{Memory, Refused}
 use Rattle.policy_expr.specs.declared.fault.PolicyFault.{PolicyFault}
@@ -68,15 +68,11 @@ node_count (optional a) = node_count a + 1
 node_count (repeated a) = node_count a + 1
 node_count (once_or_more a) = node_count a + 1
 
--- a tree of at most 256 nodes
-abbrev pub within_size : Tree → Result Tree PolicyFault
-within_size tree = if nat_lt 256 (node_count tree) then Err faults.TooLarge else Ok tree
-
--- the sequence of a text
+-- the sequence of a text, of at most 256 nodes
 abbrev pub sequence_at : List ℕ → Result Tree PolicyFault
 sequence_at text = do
   tree ← tree_at text
-  within_size tree
+  if nat_lt 256 (node_count tree) then Err faults.TooLarge else Ok tree
 
 -- ---- which refusal comes first, and what calls answer
 
@@ -98,23 +94,3 @@ fault_at depth true (t ∷ ts) = fault_at depth true ts
 abbrev pub IsRefusal : List ℕ → OrMemory PolicyFault → Type 0
 IsRefusal text Memory = (tree : Tree) × SpellsSequence text tree × (node_count tree ≤ 256)
 IsRefusal text (Refused fault) = fault ≡ unwrap_or (fault_at 0 false (tokens text)) faults.TooLarge
-
--- what is answered is this tree, or want of memory
-abbrev pub Gets : Tree → Result Tree (OrMemory PolicyFault) → Type 0
-Gets tree (Ok read) = read ≡ tree
-Gets tree (Err Memory) = Unit {0}
-Gets tree (Err (Refused fault)) = ⊥
-
--- what a call that judges a text answers: that something is read of it, or the refusal
-abbrev pub Judges : {A E : Type 0} → Result (Unit {0}) E → Result A E → Type 0
-Judges (Ok done) wanted = IsOk wanted
-Judges (Err fault) wanted = wanted ≡ Err fault
-
--- what a token adds to a sequence: a predicate counts twice, and each sign behind an item once, so
--- that they are one more than the nodes
-abbrev pub weight_of : Token → ℕ
-weight_of (signs.Hop p) = 2
-weight_of signs.Optional = 1
-weight_of signs.Repeated = 1
-weight_of signs.OnceOrMore = 1
-weight_of token = 0

@@ -1,7 +1,7 @@
 -- The tokens of a sequence's text: predicates, signs, and blanks between them, which only part
 -- tokens.
 use Rattle.std.specs.Prelude.{ℕ, Bool, false, ◌&&◌, ◌||◌, ◌==◌, nat_le, if◌then◌else◌, List, [], ◌∷◌, map, Result, Ok, Err}
-use Rattle.blanks.specs.Blanks.{is_blank}
+use Rattle.separators.specs.Blanks.{is_blank}
 use Rattle.policy_expr.specs.declared.fault.PolicyFault.{PolicyFault}
 use Rattle.policy_expr.specs.declared.hop.HopPred.{HopPred}
 use Rattle.policy_expr.specs.declared.token.Token.{Token}
@@ -18,26 +18,18 @@ abbrev pub begins_with_mark : List ℕ → Bool
 begins_with_mark [] = false
 begins_with_mark (b ∷ rest) = is_mark b
 
--- the text from its first byte that is no mark
-unfoldable pub after_marks : List ℕ → List ℕ
-after_marks [] = []
-after_marks (b ∷ rest) = if is_mark b then after_marks rest else b ∷ rest
-
 -- the byte in front of the first of these texts
 abbrev pub lengthened : ℕ → List (List ℕ) → List (List ℕ)
 lengthened b [] = (b ∷ []) ∷ []
 lengthened b (first ∷ later) = (b ∷ first) ∷ later
 
--- a byte before the texts of later tokens, which begin with a mark that stands right behind it or
--- not
-abbrev pub with_byte : ℕ → Bool → List (List ℕ) → List (List ℕ)
-with_byte b mark_follows later =
-    if is_blank b then later else if is_mark b && mark_follows then lengthened b later else (b ∷ []) ∷ later
-
 -- the texts of the tokens: the longest runs of marks, and each other byte that is no blank
 unfoldable pub token_texts : List ℕ → List (List ℕ)
 token_texts [] = []
-token_texts (b ∷ rest) = with_byte b (begins_with_mark rest) (token_texts rest)
+token_texts (b ∷ rest) =
+    if is_blank b then token_texts rest
+    else if is_mark b && begins_with_mark rest then lengthened b (token_texts rest)
+    else (b ∷ []) ∷ token_texts rest
 
 -- the token of a text that is read as a predicate, and of any other
 abbrev pub read_token : Result HopPred PolicyFault → Token

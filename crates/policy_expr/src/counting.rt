@@ -1,7 +1,8 @@
-ghost use Rattle.std.specs.Prelude.{◌≡◌, ◌≤◌, ◌+◌, [], ◌∷◌, List, Some, min, IfOk, IfErr};
+ghost use Rattle.std.specs.Prelude.{◌≡◌, [], ◌∷◌, List, Some, IfOk, IfErr};
 ghost use Rattle.std.specs.Result.{result_err};
+ghost use Rattle.refusal.specs.Refusal.{Judges};
 ghost use Rattle.policy_expr.specs.declared.token.Token.{Token};
-ghost use Rattle.policy_expr.specs.Reading.{sequence_at, Judges, fault_at, weight_of};
+ghost use Rattle.policy_expr.specs.Reading.{fault_at, sequence_at};
 
 use crate::fault::PolicyFault;
 use crate::token::{Token, next_token};
@@ -9,7 +10,8 @@ use crate::token::{Token, next_token};
 /// How many parentheses may be open at once.
 pub(crate) const MAX_OPEN: usize = 32;
 
-/// How much the tokens of a sequence of 256 nodes weigh, which is one more than its nodes.
+/// How much the tokens of a sequence of 256 nodes weigh: a predicate counts twice and a sign behind
+/// an item once, which makes one more than its nodes.
 const MAX_WEIGHT: usize = 257;
 
 /// The first refusal of a sequence's text. Takes no memory.
@@ -24,7 +26,12 @@ pub(crate) fn check_text(text: &str) -> Result<(), PolicyFault>
     let mut rest = text.as_bytes();
     while let Some((token, behind)) = next_token(rest) {
         place = place.behind(&token)?;
-        weight = with_token(weight, &token);
+        let more = match token {
+            Token::Hop(_) => 2,
+            Token::Optional | Token::OnceOrMore | Token::Repeated => 1,
+            Token::Or | Token::Open | Token::Close | Token::Other => 0,
+        };
+        weight = (weight + more).min(MAX_WEIGHT + 1);
         rest = behind;
     }
     check_end(place.depth, place.has_item)?;
@@ -91,17 +98,4 @@ fn check_end(depth: usize, has_item: bool) -> Result<(), PolicyFault>
         return Err(PolicyFault::Unbalanced);
     }
     Ok(())
-}
-
-/// What tokens weigh with one more, at most one too much.
-fn with_token(weight: usize, token: &Token) -> usize
-    requires { weight ≤ 258 }
-    ensures { result ≡ min 258 (weight + weight_of token.now) }
-{
-    let more = match token {
-        Token::Hop(_) => 2,
-        Token::Optional | Token::OnceOrMore | Token::Repeated => 1,
-        Token::Or | Token::Open | Token::Close | Token::Other => 0,
-    };
-    (weight + more).min(MAX_WEIGHT + 1)
 }

@@ -1,5 +1,6 @@
-ghost use Rattle.std.specs.Prelude.{◌≡◌, true, false};
-ghost use Rattle.policy_expr.specs.Table.{IsEither, IsThen};
+ghost use Rattle.std.specs.Prelude.{◌≡◌, ◌⊎◌, ◌↔◌, ℕ, ◌||◌, true, false};
+ghost use Rattle.policy_expr.specs.Sets.{Has};
+ghost use Rattle.policy_expr.specs.Table.{IsThen};
 
 use crate::pred_set::PredSet;
 
@@ -49,7 +50,9 @@ impl Ends {
 
     /// Those of this part or the other.
     pub(crate) fn or(self, other: Ends) -> Ends
-        ensures { IsEither self other result }
+        ensures first { (k : ℕ) → Has result.first k ↔ (Has self.first k ⊎ Has other.first k) }
+        ensures last { (k : ℕ) → Has result.last k ↔ (Has self.last k ⊎ Has other.last k) }
+        ensures empty { result.has_empty ≡ (self.has_empty || other.has_empty) }
     {
         Ends {
             first: self.first.or(other.first),

@@ -1,15 +1,14 @@
 ghost use Rattle.std.specs.Prelude.{◌≡◌, map};
 ghost use Rattle.std.specs.Result.{result_map_both};
 ghost use Rattle.std.specs.String.{string_bytes};
-ghost use Rattle.refusal.specs.Refusal.{Reads, each};
-ghost use Rattle.policy_expr.specs.Reading.{Judges};
+ghost use Rattle.refusal.specs.Refusal.{Reads, each, Judges};
 ghost use Rattle.policy_expr.specs.Acl.{acl_at, entry_at, entry_of, is_bare, says_nothing, signed_at};
 
 use crate::acl::AclEntry;
 use crate::acl_text::AclText;
 use crate::fault::{PolicyError, PolicyFault};
 use crate::hop::{HopPred, Interfaces};
-use blanks::text::{trim, trim_start};
+use separators::text::{trim, trim_start};
 use std::alloc::Allocator;
 
 /// How many entries a list may have.

@@ -1,6 +1,5 @@
 ghost use Rattle.std.specs.Prelude.{◌≡◌, map, option_map, IfOk};
-ghost use Rattle.refusal.specs.Refusal.{Answers, Reads, each};
-ghost use Rattle.policy_expr.specs.Reading.{Judges};
+ghost use Rattle.refusal.specs.Refusal.{Answers, Reads, each, Judges};
 ghost use Rattle.policy_expr.specs.Options.{option_at, options_at};
 
 use crate::option_fault::{OptionError, OptionFault};

@@ -1,6 +1,6 @@
 ghost use Rattle.std.specs.Prelude.{◌≡◌, ◌↔◌, None, option_map, IsOk, IsTrue, IfErr, IfOk};
-ghost use Rattle.refusal.specs.Refusal.{Answers, if_there};
-ghost use Rattle.policy_expr.specs.Reading.{Judges, sequence_at};
+ghost use Rattle.refusal.specs.Refusal.{Answers, if_there, Judges};
+ghost use Rattle.policy_expr.specs.Reading.{sequence_at};
 ghost use Rattle.policy_expr.specs.Acl.{acl_at};
 ghost use Rattle.policy_expr.specs.Policy.{AllowsHops, DeniesHop, HasWord, policy_at, unblank};
 
@@ -11,7 +11,7 @@ use crate::entry::check_acl;
 use crate::fault::{PolicyError, PolicyFault};
 use crate::hop::WalkHop;
 use crate::sequence::Seq;
-use blanks::bytes::trim_start;
+use separators::bytes::trim_start;
 use std::alloc::{AllocError, Allocator};
 use std::marker::Model;
 

@@ -1,10 +1,11 @@
-ghost use Rattle.std.specs.Prelude.{◌≡◌, ◌<◌, IfOk, Ok, option_map};
+ghost use Rattle.std.specs.Prelude.{◌≡◌, IfOk, Ok};
 ghost use Rattle.policy_expr.specs.declared.hop.HopPred.{HopPred};
-ghost use Rattle.policy_expr.specs.Predicate.{SpellsPredicate, cut_at, interface_at, interfaces_at, one_interface, plain_at, predicate_at, two_interfaces};
+ghost use Rattle.policy_expr.specs.Predicate.{SpellsPredicate, interface_at, interfaces_at, one_interface, place_at, predicate_at, two_interfaces};
 
 use crate::fault::PolicyFault;
 use crate::hop::{HopPred, Interfaces};
 use isd_as::{AsNumber, IfId, Isd, IsdAs};
+use separators::sign::cut;
 
 impl HopPred {
     /// The predicate that a text spells: `ISD`, `ISD-AS`, `ISD-AS#IF` or `ISD-AS#IN,OUT`. ISD and
@@ -30,7 +31,10 @@ fn read_predicate(text: &str) -> Result<HopPred, PolicyFault>
     ensures { result ≡ predicate_at text.now }
 {
     match cut(text, '#') {
-        None => read_plain(text),
+        None => Ok(HopPred {
+            ia: read_place(text)?,
+            interfaces: Interfaces::Any,
+        }),
         Some((address, interfaces)) => {
             let ia = IsdAs::parse(address)?;
             let interfaces = read_interfaces(interfaces)?;
@@ -39,19 +43,15 @@ fn read_predicate(text: &str) -> Result<HopPred, PolicyFault>
     }
 }
 
-/// Reads a predicate without interfaces.
-#[tactic(auto, unfolding(crate::specs::Predicate::plain_at))]
-fn read_plain(text: &str) -> Result<HopPred, PolicyFault>
-    ensures { result ≡ plain_at text.now }
+/// Reads an address, or an ISD alone.
+#[tactic(auto, unfolding(crate::specs::Predicate::place_at))]
+fn read_place(text: &str) -> Result<IsdAs, PolicyFault>
+    ensures { result ≡ place_at text.now }
 {
-    let ia = match cut(text, '-') {
-        None => IsdAs::new(Isd::parse(text)?, any_as()),
-        Some(_) => IsdAs::parse(text)?,
-    };
-    Ok(HopPred {
-        ia,
-        interfaces: Interfaces::Any,
-    })
+    match cut(text, '-') {
+        None => Ok(IsdAs::new(Isd::parse(text)?, any_as())),
+        Some(_) => Ok(IsdAs::parse(text)?),
+    }
 }
 
 /// The AS number that is a wildcard.
@@ -110,12 +110,4 @@ fn read_interface(text: &str) -> Result<IfId, PolicyFault>
 {
     let number = Isd::parse(text)?;
     Ok(IfId(number.number()))
-}
-
-/// The text before and after the first such sign, which is an ASCII character.
-fn cut(text: &str, sign: char) -> Option<(&str, &str)>
-    requires { sign < 128 }
-    ensures { option_map (λ parts. (parts.0.now, parts.1.now)) result ≡ cut_at sign text.now }
-{
-    text.split_once(sign)
 }

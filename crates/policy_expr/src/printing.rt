@@ -1,6 +1,6 @@
-ghost use Rattle.std.specs.Prelude.{◌≡◌, ◌++◌, ◌<◌, nat_lt, OnOk, Some};
+ghost use Rattle.std.specs.Prelude.{◌≡◌, ◌++◌, OnOk, Some};
 ghost use Rattle.std.specs.String.{string_bytes};
-ghost use Rattle.policy_expr.specs.Printing.{in_parentheses, interfaces_text, predicate_text, printed, strength};
+ghost use Rattle.policy_expr.specs.Printing.{interfaces_text, predicate_text, printed, printed_as};
 ghost use Rattle.policy_expr.specs.Language.{tree_of};
 
 use crate::hop::{HopPred, Interfaces};
@@ -40,20 +40,6 @@ const EITHER: u8 = 1;
 const ITEM: u8 = 2;
 
 impl<A: Allocator> SeqNode<A> {
-    /// How tight it binds.
-    fn strength(&self) -> u8
-        ensures { result ≡ strength (tree_of self.now) }
-    {
-        match self {
-            SeqNode::Then(_, _) => FOLLOWING,
-            SeqNode::Or(_, _) => EITHER,
-            SeqNode::Hop(_) => ITEM,
-            SeqNode::Optional(_) => ITEM,
-            SeqNode::Repeated(_) => ITEM,
-            SeqNode::OnceOrMore(_) => ITEM,
-        }
-    }
-
     /// Adds its text at the end.
     #[cycle(printing)]
     pub(crate) fn print_to<B: Allocator>(&self, out: &mut String<B>) -> Result<(), AllocError>
@@ -90,10 +76,15 @@ impl<A: Allocator> SeqNode<A> {
     /// Adds its text at the end, in parentheses where it binds less tight than that.
     #[cycle(printing)]
     fn print_in<B: Allocator>(&self, least: u8, out: &mut String<B>) -> Result<(), AllocError>
-        ensures { OnOk result (string_bytes out.new ≡ string_bytes out.old
-            ++ in_parentheses (nat_lt (strength (tree_of self.now)) least) (printed (tree_of self.now))) }
+        ensures { OnOk result
+            (string_bytes out.new ≡ string_bytes out.old ++ printed_as least (tree_of self.now)) }
     {
-        if self.strength() >= least {
+        let is_closed = match self {
+            SeqNode::Then(_, _) => least > FOLLOWING,
+            SeqNode::Or(_, _) => least > EITHER,
+            _ => false,
+        };
+        if !is_closed {
             return self.print_to(out);
         }
         out.push('(')?;

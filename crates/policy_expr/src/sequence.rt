@@ -4,7 +4,7 @@ ghost use Rattle.refusal.specs.Refusal.{Answers};
 ghost use Rattle.policy_expr.specs.Language.{Lang, Tree};
 ghost use Rattle.policy_expr.specs.Printing.{IsSequence, printed};
 ghost use Rattle.policy_expr.specs.Grammar.{SpellsSequence};
-ghost use Rattle.policy_expr.specs.Reading.{node_count, sequence_at, Gets, IsRefusal};
+ghost use Rattle.policy_expr.specs.Reading.{node_count, sequence_at, IsRefusal};
 
 use crate::counting::check_text;
 use crate::fault::PolicyError;
@@ -55,7 +55,7 @@ impl<A: Allocator + Clone> Seq<A> {
         ensures found { IfOk result (λ s. SpellsSequence text.now s × (node_count s ≤ 256)) }
         // What is spelled so is read, or memory is wanted.
         ensures only { (tree : Tree) → SpellsSequence text.now tree → node_count tree ≤ 256
-            → Gets tree result }
+            → Answers (λ s. s) result (Ok tree) }
         // Which refusal it is.
         ensures refused { IfErr result (IsRefusal text.now) }
         // The same as one equation.

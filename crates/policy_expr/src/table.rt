@@ -1,6 +1,7 @@
-ghost use Rattle.std.specs.Prelude.{◌≡◌, ℕ, ◌+◌, ◌≤◌, ◌<◌, ◌⊎◌, ◌↔◌, true, length, vec_len, IfOk, IsTrue};
+ghost use Rattle.std.specs.Prelude.{◌≡◌, ℕ, ◌+◌, ◌*◌, ◌≤◌, ◌<◌, ◌⊎◌, ◌↔◌, true, length, vec_len, IfOk, IsTrue};
 ghost use Rattle.policy_expr.specs.Sets.{Has};
-ghost use Rattle.policy_expr.specs.Table.{Accepts, Adds, IsTableOf, IsThen, Links, MayFollow, MeetsAt, pred_count};
+ghost use Rattle.policy_expr.specs.Table.{Accepts, Adds, IsTableOf, IsThen, Links, MayFollow, MeetsAt};
+ghost use Rattle.policy_expr.specs.Reading.{node_count};
 ghost use Rattle.policy_expr.specs.Language.{tree_of};
 
 use crate::ends::Ends;
@@ -25,9 +26,9 @@ pub(crate) struct Table<A: Allocator> {
 }
 
 impl<A: Allocator> Table<A> {
-    /// The table of a tree of at most 128 predicates.
+    /// The table of a tree of at most 256 nodes.
     pub(crate) fn new<B: Allocator>(alloc: A, root: &SeqNode<B>) -> Result<Table<A>, AllocError>
-        requires { pred_count (tree_of root.now) ≤ 128 }
+        requires { node_count (tree_of root.now) ≤ 256 }
         ensures { IfOk result (λ table. IsTableOf (tree_of root.now) table.lines.items table.ends) }
     {
         let mut lines = Vec::new(alloc);
@@ -118,7 +119,7 @@ impl<A: Allocator> SeqNode<A> {
         &self,
         lines: &mut Vec<Line, B>,
     ) -> Result<Ends, AllocError>
-        requires { vec_len lines.old + pred_count (tree_of self.now) ≤ 128 }
+        requires { 2 * vec_len lines.old + node_count (tree_of self.now) ≤ 256 }
         ensures { IfOk result
             (λ ends. Adds (tree_of self.now) lines.old.items lines.new.items ends) }
     {

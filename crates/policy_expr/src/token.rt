@@ -1,10 +1,11 @@
-ghost use Rattle.std.specs.Prelude.{◌≡◌, ◌<◌, [], ◌∷◌, length, MatchOption};
+ghost use Rattle.std.specs.Prelude.{◌≡◌, ◌<◌, [], ◌∷◌, drop, length, MatchOption};
+ghost use Rattle.std.specs.List.{prefix_len};
 ghost use Rattle.std.specs.Str.{IsAscii};
 ghost use Rattle.policy_expr.specs.Predicate.{predicate_at};
-ghost use Rattle.policy_expr.specs.Tokens.{after_marks, is_mark, read_token, sign_token, tokens};
+ghost use Rattle.policy_expr.specs.Tokens.{is_mark, read_token, sign_token, tokens};
 
 use crate::hop::HopPred;
-use blanks::bytes::trim_start;
+use separators::bytes::trim_start;
 
 /// A token of a sequence's text.
 #[derive(Clone, Copy, Debug, PartialEq, Eq)]
@@ -46,9 +47,8 @@ pub(crate) fn next_token(text: &[u8]) -> Option<(Token, &[u8])>
 }
 
 /// The text from its first byte that is no mark.
-#[tactic(auto, unfolding(crate::specs::Tokens::after_marks))]
 fn behind_marks(text: &[u8]) -> &[u8]
-    ensures { result.now ≡ after_marks text.now }
+    ensures { result.now ≡ drop (prefix_len is_mark text.now) text.now }
 {
     let mut rest = text;
     while let Some((byte, behind)) = rest.split_first() {

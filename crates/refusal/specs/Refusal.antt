@@ -51,6 +51,11 @@ abbrev pub Gives : {X Y F : Type 0} → (X → Y) → Result X F → Result Y F 
 Gives view (Ok x) wanted = wanted ≡ Ok (view x)
 Gives view (Err fault) wanted = wanted ≡ Err fault
 
+-- what a call answers that only judges: that there is a value, or the refusal
+abbrev pub Judges : {A F : Type 0} → Result (Unit {0}) F → Result A F → Type 0
+Judges (Ok done) wanted = IsOk wanted
+Judges (Err fault) wanted = wanted ≡ Err fault
+
 -- the error of a call that judges before it takes memory: want of memory stands in place of a value
 -- alone
 abbrev pub Fails : {A F : Type 0} → OrMemory F → Result A F → Type 0

@@ -1,11 +1,10 @@
 -- The values of `scionet step`'s options, as their texts write them.
-use Rattle.std.specs.Prelude.{◌≡◌, ℕ, ◌&&◌, ◌==◌, nat_lt, nat_le, Bool, true, false, if◌then◌else◌, codes, List, [], ◌∷◌, length, Option, Some, None}
-use Rattle.std.specs.Borrow.{Bor}
-use Rattle.std.specs.List.{position_or_len, before_first, after_first}
+use Rattle.std.specs.Prelude.{ℕ, ◌&&◌, nat_lt, nat_le, Bool, true, false, if◌then◌else◌, codes, List, [], ◌∷◌, length, Option, Some, None}
 use Rattle.std.specs.Str.{bytes_eq}
 use Rattle.std.specs.Str.Parse.{digits_value}
 use Rattle.hex.specs.Hex.{decode_of}
 use Rattle.refusal.specs.Optional.{◌>>=◌, only}
+use Rattle.separators.specs.Signs.{cut_at}
 use Rattle.isd_as.specs.Reading.{address_at, all_digits}
 use Rattle.scion_topology.specs.declared.entry.IfEntry.{IfEntry}
 use Rattle.scion_topology.specs.declared.entry.LinkKind.{LinkKind}
@@ -41,20 +40,8 @@ arrival_at text =
       Some (Link number))
 
 -- a comma
-abbrev pub is_comma : ℕ → Bool
-is_comma b = b == 44
-
--- the text before and the text after the first comma
-abbrev pub cut : List ℕ → Option (List ℕ × List ℕ)
-cut text =
-    if nat_lt (position_or_len is_comma text) (length text)
-    then Some (before_first is_comma text, after_first is_comma text)
-    else None
-
--- what a function of the code returned are these two parts, or there is no comma
-abbrev pub GivesParts : Option (Bor (List ℕ) × Bor (List ℕ)) → Option (List ℕ × List ℕ) → Type 0
-GivesParts (Some x) parts = parts ≡ Some (x.0.now, x.1.now)
-GivesParts None parts = parts ≡ None
+abbrev pub comma : ℕ
+comma = 44
 
 -- what the AS at the far end of a link is
 unfoldable pub kind_at : List ℕ → Option LinkKind
@@ -74,9 +61,9 @@ state_at text =
 -- an interface: `NUMBER,core|parent|child,ROUTER,up|down`
 unfoldable pub interface_at : List ℕ → Option IfEntry
 interface_at text = do
-  first ← cut text
-  second ← cut first.1
-  third ← cut second.1
+  first ← cut_at comma text
+  second ← cut_at comma first.1
+  third ← cut_at comma second.1
   number ← number_at 1 65535 first.0
   kind ← kind_at second.0
   router ← number_at 0 63 third.0

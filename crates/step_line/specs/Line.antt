@@ -1,7 +1,7 @@
 -- The line that `scionet step` prints of a packet.
-use Rattle.std.specs.Prelude.{ℕ, ◌==◌, ◌||◌, Bool, if◌then◌else◌, codes, List, [], ◌∷◌, ◌++◌, reverse, Option, option_map, Result, Ok, Err}
+use Rattle.std.specs.Prelude.{ℕ, codes, List, ◌++◌, Option, option_map, Result, Ok, Err}
 use Rattle.std.specs.Fmt.{decimal}
-use Rattle.blanks.specs.Blanks.{trimmed}
+use Rattle.separators.specs.Blanks.{trimmed}
 use Rattle.hex.specs.Hex.{encode_lower}
 use Rattle.path_header.specs.Fault as header
 use Rattle.router_step.specs.declared.outcome.Outcome.{Outcome}

@@ -8,10 +8,10 @@ use crate::fault::StepFault;
 use crate::fields::{arrival, bytes, interfaces, number, number_of_router};
 use crate::line::{outcome_line, refusal_line};
 use crate::texts::Texts;
-use blanks::bytes::trim;
 use isd_as::IsdAs;
 use router_step::{Arrival, step};
 use scion_topology::{IfEntry, RouterView};
+use separators::bytes::trim;
 use std::alloc::{AllocError, Global};
 use std::marker::Model;
 

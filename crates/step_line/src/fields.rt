@@ -2,12 +2,13 @@
 
 ghost use Rattle.std.specs.Prelude.{◌≡◌, ℕ, ◌≤◌, IfOk, IfSome, List, map, option_map};
 ghost use Rattle.isd_as.specs.Reading.{all_digits};
-ghost use Rattle.step_line.specs.Fields.{GivesParts, arrival_at, bytes_of, cut, interface_at, interfaces_at, kind_at, number_at, state_at};
+ghost use Rattle.step_line.specs.Fields.{arrival_at, bytes_of, interface_at, interfaces_at, kind_at, number_at, state_at};
 
 use hex::FromHexError;
 use isd_as::IfId;
 use router_step::Arrival;
 use scion_topology::{IfEntry, LinkKind};
+use separators::sign::cut;
 use std::alloc::{AllocError, Global};
 
 /// Whether each byte is a decimal digit.
@@ -60,13 +61,6 @@ pub(crate) fn arrival(text: &str) -> Option<Arrival>
     }
 }
 
-/// The text before and after the first comma.
-fn cut_at_comma(text: &str) -> Option<(&str, &str)>
-    ensures { GivesParts result (cut text.now) }
-{
-    text.split_once(',')
-}
-
 /// What the AS at the far end of a link is.
 #[tactic(auto, unfolding(crate::specs::Fields::kind_at))]
 fn kind(text: &str) -> Option<LinkKind>
@@ -97,9 +91,9 @@ fn is_up(text: &str) -> Option<bool>
 fn interface(text: &str) -> Option<IfEntry>
     ensures { result ≡ interface_at text.now }
 {
-    let (number_text, rest) = cut_at_comma(text)?;
-    let (kind_text, rest) = cut_at_comma(rest)?;
-    let (router_text, state_text) = cut_at_comma(rest)?;
+    let (number_text, rest) = cut(text, ',')?;
+    let (kind_text, rest) = cut(rest, ',')?;
+    let (router_text, state_text) = cut(rest, ',')?;
     let number = number(number_text, 1, 65535)?;
     let kind = kind(kind_text)?;
     let router = number_of_router(router_text)?;

@@ -1,5 +1,5 @@
 use Rattle.std.proofs.Common.{arith}
-use Rattle.blanks.proofs.Ascii.{behind_ascii}
+use Rattle.separators.proofs.Ascii.{behind_ascii}
 use Rattle.policy_expr.proofs.entry.read_entry.Goals as goal
 
 pub range_from-requires : goal.range_from-requires

@@ -1,8 +1,7 @@
 -- What judges the texts that are left judges all of them.
 use Rattle.std.proofs.Common.{drop, Result}
 use Rattle.policy_expr.specs.declared.option_fault.OptionFault.{OptionFault}
-use Rattle.policy_expr.specs.Reading.{Judges}
-use Rattle.refusal.specs.Refusal.{each}
+use Rattle.refusal.specs.Refusal.{each, Judges}
 use Rattle.policy_expr.specs.Options.{option_at}
 use Rattle.policy_expr.proofs.options.check_each.Given as goal
 

@@ -1,5 +1,5 @@
 use Rattle.std.proofs.Common.{◌≡◌, length}
-use Rattle.policy_expr.specs.Tokens.{after_marks}
+use Rattle.policy_expr.proofs.Cutting.{after_marks}
 use Rattle.policy_expr.proofs.token.behind_marks.Given as goal
 
 abbrev pub invariant-loop-byte : goal.invariant-loop-byte

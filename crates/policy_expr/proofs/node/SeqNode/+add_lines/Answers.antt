@@ -1,18 +1,21 @@
 use Rattle.std.proofs.Common.{◌≡◌, length, sym, ◌∙◌, arith, refl}
-use Rattle.policy_expr.proofs.Tables.{last_below, adds_hop, adds_followed, adds_either, adds_optional, adds_repeated, adds_once_or_more}
+use Rattle.policy_expr.proofs.Tables.{adds_hop, adds_followed, adds_either, adds_optional, adds_repeated, adds_once_or_more}
 use Rattle.policy_expr.proofs.node.SeqNode.+add_lines.Goals as goal
 
 pub followed-requires : goal.followed-requires
-followed-requires g t c = last_below _ _ _ _ _ c.in_ok-front-in-Then.ensures
-    (let late = c.add_lines-in-Then.new.lines in omega (arith, late.ok.0, c.in_ok-back-in-Then.ensures.count))
+followed-requires g t c = λ k has.
+    let below = (c.in_ok-front-in-Then.ensures.last k has).1 in
+    let late = c.add_lines-in-Then.new.lines in omega (arith, below, late.ok.0, c.in_ok-back-in-Then.ensures.more)
 
 pub repeated-requires : goal.repeated-requires
-repeated-requires g t c = last_below _ _ _ _ _ c.in_ok-item-in-Repeated.ensures
-    (let lines = c.add_lines-in-Repeated.new.lines in omega (arith, lines.ok.0))
+repeated-requires g t c = λ k has.
+    let below = (c.in_ok-item-in-Repeated.ensures.last k has).1 in
+    let lines = c.add_lines-in-Repeated.new.lines in omega (arith, below, lines.ok.0)
 
 pub once_or_more-requires : goal.once_or_more-requires
-once_or_more-requires g t c = last_below _ _ _ _ _ c.in_ok-item-in-OnceOrMore.ensures
-    (let lines = c.add_lines-in-OnceOrMore.new.lines in omega (arith, lines.ok.0))
+once_or_more-requires g t c = λ k has.
+    let below = (c.in_ok-item-in-OnceOrMore.ensures.last k has).1 in
+    let lines = c.add_lines-in-OnceOrMore.new.lines in omega (arith, below, lines.ok.0)
 
 pub returns-in_ok-push-in-Hop : goal.returns-in_ok-push-in-Hop
 returns-in_ok-push-in-Hop g t c =
@@ -27,7 +30,7 @@ returns-in_ok-back-in-Then g t c = rw c.in-Then.is
 
 pub returns-in_ok-other-in-Or : goal.returns-in_ok-other-in-Or
 returns-in_ok-other-in-Or g t c = rw c.in-Or.is
-    (adds_either _ _ _ _ _ _ _ _ (rw c.deref-in-Or.ensures at c.in_ok-one-in-Or.ensures) (rw c.deref-in-Or-2.ensures at c.in_ok-other-in-Or.ensures) c.or.ensures)
+    (adds_either _ _ _ _ _ _ _ _ (rw c.deref-in-Or.ensures at c.in_ok-one-in-Or.ensures) (rw c.deref-in-Or-2.ensures at c.in_ok-other-in-Or.ensures) (record { first = c.or.ensures.first; last = c.or.ensures.last; empty = c.or.ensures.empty }))
 
 pub returns-in_ok-item-in-Optional : goal.returns-in_ok-item-in-Optional
 returns-in_ok-item-in-Optional g t c = rw c.in-Optional.is

@@ -1,6 +1,6 @@
 use Rattle.std.proofs.Common.{◌≡◌, length}
-use Rattle.blanks.specs.Blanks.{after_blanks}
-use Rattle.blanks.proofs.bytes.trim_start.Given as goal
+use Rattle.separators.specs.Blanks.{after_blanks}
+use Rattle.separators.proofs.bytes.trim_start.Given as goal
 
 abbrev pub invariant-loop-byte : goal.invariant-loop-byte
 invariant-loop-byte l = after_blanks l.bytes ≡ after_blanks l.rest

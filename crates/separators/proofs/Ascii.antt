@@ -3,7 +3,7 @@ use Rattle.std.proofs.Common.{◌≡◌, ℕ, ◌<◌, true, List, ◌∷◌, ge
 use Rattle.std.proofs.lemmas.Bool.Decides.{nat_tests}
 use Rattle.std.proofs.lemmas.Str.{IsCharBoundary-after_ascii}
 use Rattle.std.specs.Str.{IsUtf8, IsCharBoundary}
-use Rattle.blanks.specs.Blanks.{is_blank}
+use Rattle.separators.specs.Blanks.{is_blank}
 
 pub blank_is_ascii : (b : ℕ) → is_blank b ≡ true → b < 128
 blank_is_ascii b blank = grind (arith, nat_tests)

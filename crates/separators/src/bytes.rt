@@ -1,7 +1,7 @@
 //! Blanks round bytes.
 
 ghost use Rattle.std.specs.Prelude.{◌≡◌, reverse};
-ghost use Rattle.blanks.specs.Blanks.{after_blanks, trimmed};
+ghost use Rattle.separators.specs.Blanks.{after_blanks, trimmed};
 
 use crate::is_blank;
 

@@ -1,7 +1,7 @@
 use Rattle.std.proofs.Common.{◌≡◌, length}
 use Rattle.std.specs.Prelude.{reverse}
-use Rattle.blanks.specs.Blanks.{after_blanks}
-use Rattle.blanks.proofs.bytes.trim_end.Given as goal
+use Rattle.separators.specs.Blanks.{after_blanks}
+use Rattle.separators.proofs.bytes.trim_end.Given as goal
 
 abbrev pub invariant-loop-byte : goal.invariant-loop-byte
 invariant-loop-byte l = after_blanks (reverse l.bytes) ≡ after_blanks (reverse l.rest)

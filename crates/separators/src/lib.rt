@@ -1,13 +1,15 @@
-//! Blanks round what a text says: spaces, tabs, CR and LF, and no other white space.
+//! What parts a text: blanks round what it says, which are spaces, tabs, CR and LF and no other
+//! white space, and a sign between what it says.
 //!
-//! [`bytes`] takes them off bytes, and [`text`] off text.
+//! [`bytes`] takes blanks off bytes, [`text`] off text, and [`sign`] cuts a text.
 #![tactic(auto)]
 
 pub mod bytes;
+pub mod sign;
 pub mod text;
 
 ghost use Rattle.std.specs.Prelude.{◌≡◌};
-ghost use Rattle.blanks.specs.Blanks as blanks;
+ghost use Rattle.separators.specs.Blanks as blanks;
 
 /// Whether the byte is a space, a tab, CR or LF.
 pub fn is_blank(byte: u8) -> bool
