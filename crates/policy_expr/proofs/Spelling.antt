@@ -13,7 +13,7 @@ use Rattle.policy_expr.specs.declared.hop.HopPred.{HopPred}
 use Rattle.policy_expr.specs.declared.hop.Interfaces.{Interfaces}
 use Rattle.policy_expr.specs.declared.hop.Interfaces.TheVariants.{Any}
 use Rattle.refusal.specs.Refusal.{◌>>=◌, or_else}
-use Rattle.policy_expr.specs.Predicate.{hash, comma, one_interface, two_interfaces, interface_at, interfaces_at, place_at, predicate_at, SpellsInterfaces, one, two, SpellsPredicate, isd_alone, address, with_interfaces}
+use Rattle.policy_expr.specs.Predicate.{hash, comma, one_interface, two_interfaces, interface_at, interfaces_at, ia_at, predicate_at, SpellsInterfaces, one, two, SpellsPredicate, isd_alone, address, with_interfaces}
 use Rattle.refusal.proofs.Steps.{bind_ok, ok_is}
 use Rattle.policy_expr.proofs.Texts.{IsPlain, all_append, plain_digits, no_hash_in, no_comma_in}
 
@@ -48,19 +48,19 @@ interfaces_spelled text i e = elim (cases_Bool (has_sign comma text)) [
   | inr lacks ↦ one_spelled text i (rw lacks at e)
 ]
 
-place_spelled : (text : List ℕ) (ia : ℕ) → place_at text ≡ Ok ia → SpellsPredicate text (record { ia = ia; interfaces = Any })
-unfolding place_at
-place_spelled text ia e = elim (cases_Bool (has_sign dash text)) [
+ia_spelled : (text : List ℕ) (ia : ℕ) → ia_at text ≡ Ok ia → SpellsPredicate text (record { ia = ia; interfaces = Any })
+unfolding ia_at
+ia_spelled text ia e = elim (cases_Bool (has_sign dash text)) [
   | inl has ↦ address text ia (Spells-address_at text ia (part_ok (address_at text) ia (rw has at e)))
   | inr lacks ↦ (let isd = bind_ok (isd_at text) (λ n. Ok (address_of n 0)) ia (part_ok (isd_at text >>= λ n. Ok (address_of n 0)) ia (rw lacks at e)) in
       subst (λ (n : ℕ). SpellsPredicate text (record { ia = n; interfaces = Any })) (ok_is (address_of isd.0 0) ia isd.2)
       (isd_alone text isd.0 (SpellsIsd-isd_at text isd.0 isd.1)))
 ]
 
-plain_spelled : (text : List ℕ) (pred : HopPred) → (place_at text >>= λ n. Ok (record { ia = n; interfaces = Any })) ≡ Ok pred → SpellsPredicate text pred
+plain_spelled : (text : List ℕ) (pred : HopPred) → (ia_at text >>= λ n. Ok (record { ia = n; interfaces = Any })) ≡ Ok pred → SpellsPredicate text pred
 plain_spelled text pred e =
-    let ia = bind_ok (place_at text) (λ n. Ok (record { ia = n; interfaces = Any })) pred e in
-    subst (SpellsPredicate text) (ok_is (record { ia = ia.0; interfaces = Any }) pred ia.2) (place_spelled text ia.0 ia.1)
+    let ia = bind_ok (ia_at text) (λ n. Ok (record { ia = n; interfaces = Any })) pred e in
+    subst (SpellsPredicate text) (ok_is (record { ia = ia.0; interfaces = Any }) pred ia.2) (ia_spelled text ia.0 ia.1)
 
 both_spelled : (front back : List ℕ) (pred : HopPred)
     → (as_part (address_at front) >>= λ n. interfaces_at back >>= λ i. Ok (record { ia = n; interfaces = i })) ≡ Ok pred
@@ -110,7 +110,7 @@ interfaces_read _ _ (two front back m n s t) =
     rw (cut.has, cut.front, cut.back, isd_at-SpellsIsd front m s, isd_at-SpellsIsd back n t) refl
 
 pub predicate_read : (text : List ℕ) (pred : HopPred) → SpellsPredicate text pred → predicate_at text ≡ Ok pred
-unfolding predicate_at place_at
+unfolding predicate_at ia_at
 predicate_read _ _ (isd_alone text n s) =
     rw (no_hash_in text (plain_isd text n s), no_dash_in text n s, isd_at-SpellsIsd text n s) refl
 predicate_read _ _ (address text n s) =

@@ -8,9 +8,10 @@ use Rattle.policy_expr.specs.declared.ends.Ends.{Ends}
 use Rattle.policy_expr.specs.declared.table.Line.{Line}
 use Rattle.policy_expr.specs.Hop.{Matches}
 use Rattle.policy_expr.specs.Language.{Lang, Tree, hop, followed, either, optional, repeated, once_or_more}
+use Rattle.policy_expr.specs.Reading.{node_count}
 use Rattle.policy_expr.specs.Sets.{Has}
 use Rattle.policy_expr.specs.Table.{MayFollow, MeetsAt, Accepts, IsNew, Adds, Links, IsThen}
-use Rattle.policy_expr.proofs.Runs.{IsEither, followed_words, either_words, or_nothing_words, repeated_words, once_words}
+use Rattle.policy_expr.proofs.Runs.{IsEither, or_nothing, followed_words, either_words, or_nothing_words, repeated_words, once_words}
 
 -- ---- one line more
 
@@ -242,32 +243,30 @@ module _ (a : Tree) (old mid new : List Line) (x : Ends) (item : Adds a old mid 
     all_map (Lang a) (Accepts mid x) (λ w. (item.words w).1) words,
   )
 
-  pub adds_repeated : (z : Ends) → z ≡ record x { has_empty = true } → Adds (repeated a) old new z
-  adds_repeated z is = rw is (record {
+  -- whichever words its ends give it
+  adds_again : (t : Tree) (z : Ends) → node_count t ≡ node_count a + 1 → ((k : ℕ) → Has z.first k → Has x.first k) → ((k : ℕ) → Has z.last k → Has x.last k)
+      → ((w : List WalkHop) → Accepts new z w ↔ Lang t w) → Adds t old new z
+  adds_again t z size first last words = record {
     more = omega (arith, item.more, links.count);
-    few = omega (arith, item.few, links.count);
+    few = omega (arith, item.few, links.count, size);
     meets = λ k h lt. iff_trans (links.meets k h) (item.meets k h lt);
     next = next_again;
     among = among_again;
-    first = λ k has. in_again k (item.first k has);
-    last = λ k has. in_again k (item.last k has);
-    words = λ w. iff_trans (repeated_words mid new x links w) (
-      λ p. (p.0, p.1, (all_item p.0).0 p.2),
-      λ p. (p.0, p.1, (all_item p.0).1 p.2),
-    );
-  })
+    first = λ k has. in_again k (item.first k (first k has));
+    last = λ k has. in_again k (item.last k (last k has));
+    words = words;
+  }
+
+  pub adds_repeated : (z : Ends) → z ≡ record x { has_empty = true } → Adds (repeated a) old new z
+  adds_repeated z is = rw is (adds_again (repeated a) (or_nothing x) refl (λ k has. has) (λ k has. has)
+      (λ w. iff_trans (repeated_words mid new x links w) (
+        λ p. (p.0, p.1, (all_item p.0).0 p.2),
+        λ p. (p.0, p.1, (all_item p.0).1 p.2),
+      )))
 
   pub adds_once_or_more : Adds (once_or_more a) old new x
-  adds_once_or_more = record {
-    more = omega (arith, item.more, links.count);
-    few = omega (arith, item.few, links.count);
-    meets = λ k h lt. iff_trans (links.meets k h) (item.meets k h lt);
-    next = next_again;
-    among = among_again;
-    first = λ k has. in_again k (item.first k has);
-    last = λ k has. in_again k (item.last k has);
-    words = λ w. iff_trans (once_words mid new x links w) (
-      λ p. (p.0, p.1, p.2, (all_item p.0).0 p.3),
-      λ p. (p.0, p.1, p.2, (all_item p.0).1 p.3),
-    );
-  }
+  adds_once_or_more = adds_again (once_or_more a) x refl (λ k has. has) (λ k has. has)
+      (λ w. iff_trans (once_words mid new x links w) (
+        λ p. (p.0, p.1, p.2, (all_item p.0).0 p.3),
+        λ p. (p.0, p.1, p.2, (all_item p.0).1 p.3),
+      ))

@@ -16,7 +16,7 @@ use Rattle.separators.proofs.Cut.{has_sign, cut_behind}
 use Rattle.policy_expr.specs.declared.hop.HopPred.{HopPred}
 use Rattle.policy_expr.specs.declared.hop.Interfaces.{Interfaces}
 use Rattle.policy_expr.specs.declared.hop.Interfaces.TheVariants.{Any, Either, Both}
-use Rattle.policy_expr.specs.Predicate.{hash, comma, interfaces_at, place_at, predicate_at}
+use Rattle.policy_expr.specs.Predicate.{hash, comma, interfaces_at, ia_at, predicate_at}
 use Rattle.policy_expr.specs.Tokens.{is_mark}
 use Rattle.policy_expr.specs.Acl.{says_nothing}
 use Rattle.policy_expr.specs.Printing.{interfaces_text, predicate_text, AreInterfaces, IsPredicate}
@@ -121,7 +121,7 @@ interfaces_again (Both l m) front n no_hash again says are =
 
 -- an address alone
 address_alone_again : (a : ℕ) → a < 2 ^ 64 → predicate_at (canonical a) ≡ Ok (record { ia = a; interfaces = Any })
-unfolding predicate_at place_at
+unfolding predicate_at ia_at
 address_alone_again a fits =
     let no_hash = no_hash_in (canonical a) (plain_canonical a fits) in
     let cut = cut_behind dash (decimal (isd_of a)) (canonical_as (as_number_of a)) (no_dash_in_decimal (isd_of a) (omega arith)) in
@@ -129,7 +129,7 @@ address_alone_again a fits =
 
 -- an ISD alone
 isd_alone_again : (n : ℕ) → n < 2 ^ 16 → predicate_at (decimal n) ≡ Ok (record { ia = address_of n 0; interfaces = Any })
-unfolding predicate_at place_at
+unfolding predicate_at ia_at
 isd_alone_again n fits =
     let no_hash = no_hash_in (decimal n) (plain_decimal n (omega arith)) in
     rw (no_hash, no_dash_in_decimal n (omega arith), isd_again n fits) refl

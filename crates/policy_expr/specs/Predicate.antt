@@ -54,8 +54,8 @@ interfaces_at text = if list_any (λ b. b == comma) text
       Ok (one_interface n))
 
 -- the address of a text: with a '-' it is whole, else an ISD alone
-unfoldable pub place_at : List ℕ → Result ℕ PolicyFault
-place_at text = or_else faults.BadPredicate (if list_any (λ b. b == dash) text then address_at text else (do
+unfoldable pub ia_at : List ℕ → Result ℕ PolicyFault
+ia_at text = or_else faults.BadPredicate (if list_any (λ b. b == dash) text then address_at text else (do
   isd ← isd_at text
   Ok (address_of isd 0)))
 
@@ -67,5 +67,5 @@ predicate_at text = if list_any (λ b. b == hash) text
       interfaces ← interfaces_at (after_first (λ b. b == hash) text)
       Ok (record { ia = ia; interfaces = interfaces }))
     else (do
-      ia ← place_at text
+      ia ← ia_at text
       Ok (record { ia = ia; interfaces = Any }))

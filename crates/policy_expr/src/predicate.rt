@@ -1,6 +1,6 @@
 ghost use Rattle.std.specs.Prelude.{◌≡◌, IfOk, Ok};
 ghost use Rattle.policy_expr.specs.declared.hop.HopPred.{HopPred};
-ghost use Rattle.policy_expr.specs.Predicate.{SpellsPredicate, interface_at, interfaces_at, one_interface, place_at, predicate_at, two_interfaces};
+ghost use Rattle.policy_expr.specs.Predicate.{SpellsPredicate, interface_at, interfaces_at, one_interface, ia_at, predicate_at, two_interfaces};
 
 use crate::fault::PolicyFault;
 use crate::hop::{HopPred, Interfaces};
@@ -32,7 +32,7 @@ fn read_predicate(text: &str) -> Result<HopPred, PolicyFault>
 {
     match cut(text, '#') {
         None => Ok(HopPred {
-            ia: read_place(text)?,
+            ia: read_ia(text)?,
             interfaces: Interfaces::Any,
         }),
         Some((address, interfaces)) => {
@@ -44,9 +44,9 @@ fn read_predicate(text: &str) -> Result<HopPred, PolicyFault>
 }
 
 /// Reads an address, or an ISD alone.
-#[tactic(auto, unfolding(crate::specs::Predicate::place_at))]
-fn read_place(text: &str) -> Result<IsdAs, PolicyFault>
-    ensures { result ≡ place_at text.now }
+#[tactic(auto, unfolding(crate::specs::Predicate::ia_at))]
+fn read_ia(text: &str) -> Result<IsdAs, PolicyFault>
+    ensures { result ≡ ia_at text.now }
 {
     match cut(text, '-') {
         None => Ok(IsdAs::new(Isd::parse(text)?, any_as())),
