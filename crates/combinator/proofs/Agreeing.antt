@@ -7,7 +7,7 @@ use Rattle.std.specs.declared.cmp.Ordering.{Ordering}
 use Rattle.std.specs.declared.cmp.Ordering.TheVariants.{Less, Equal, Greater}
 use Rattle.std.proofs.lemmas.List.Elements.{recursion_from_All}
 use Rattle.path_header.specs.Value.{HeaderValue}
-use Rattle.combinator.specs.Candidate.{Question, PathValue}
+use Rattle.combinator.specs.Candidate.{Question, PathValue, AreSpelled}
 use Rattle.combinator.specs.Order.{shown, bytes_cmp, shown_cmp, path_cmp, HaveOneWalk}
 use Rattle.combinator.specs.Answer.{IsBest, IsAnswer}
 use Rattle.combinator.specs.Placed.{Tied, InOrder, Met}
@@ -20,11 +20,11 @@ neither Equal one other e first second = e
 neither Greater one other e first second = absurd (second (bytes_total.antisymm other one ∙ ap ordering_reverse e))
 
 -- two paths that stand for one walk show the same
-pub best_is_one : (question : Question) (one other : PathValue) → IsBest question one → IsBest question other → HaveOneWalk one other → shown one ≡ shown other
-best_is_one question one other first second same =
+pub best_is_one : (question : Question) → AreSpelled question → (one other : PathValue) → IsBest question one → IsBest question other → HaveOneWalk one other → shown one ≡ shown other
+best_is_one question spelled one other first second same =
     let longer = first.latest other second.candidate (sym same) in
     let shorter = second.latest one first.candidate same in
-    let header = same_header one.header other.header first.candidate.spelled second.candidate.spelled
+    let header = same_header one.header other.header (spelled one first.candidate) (spelled other second.candidate)
     (neither (bytes_cmp one.header other.header) one.header other.header refl (second.least one first.candidate same longer) (first.least other second.candidate (sym same) shorter)) in
     cc
 
@@ -40,14 +40,14 @@ tied_at path [] k other within at tie = absurd (omega arith)
 tied_at path (first ∷ paths) zero other within at tie = inl (subst (λ (one : PathValue). path_cmp path one ≡ Equal) (sym at) tie)
 tied_at path (first ∷ paths) (suc k) other within at tie = inr (tied_at path paths k other (omega arith) at tie)
 
-met : (question : Question) (limit : ℕ) (paths : List PathValue) (path : PathValue) → IsAnswer question limit paths → IsBest question path → Met path_cmp limit paths path
-met question limit paths path answer best = elim (answer.whole path best.candidate) [
+met : (question : Question) → AreSpelled question → (limit : ℕ) (paths : List PathValue) (path : PathValue) → IsAnswer question limit paths → IsBest question path → Met path_cmp limit paths path
+met question spelled limit paths path answer best = elim (answer.whole path best.candidate) [
   | inl some ↦ (
       let is_best : IsBest question some.1 = subst (IsBest question) some.3 (answer.best some.0 some.1 some.2) in
-      let same = best_is_one question some.1 path is_best best some.4 in
+      let same = best_is_one question spelled some.1 path is_best best some.4 in
       inl (tied_at path paths some.0 some.1 some.2 some.3 (tied_shown path some.1 (sym same))))
   | inr out ↦ (
-      let same = best_is_one question out.best path out.is_best best out.same in
+      let same = best_is_one question spelled out.best path out.is_best best out.same in
       inr (
         out.full,
         recursion_from_All (λ one. path_cmp one path ≡ Less) paths
@@ -55,23 +55,23 @@ met question limit paths path answer best = elim (answer.whole path best.candida
       ))
 ]
 
-all_met : (question : Question) (limit : ℕ) (paths others : List PathValue) → IsAnswer question limit paths → IsAnswer question limit others → AllByRecursion (Met path_cmp limit others) paths
-all_met question limit paths others one other =
-    recursion_from_All (Met path_cmp limit others) paths (λ k d within. met question limit others (get_or paths k d) other (one.best k d within))
+all_met : (question : Question) → AreSpelled question → (limit : ℕ) (paths others : List PathValue) → IsAnswer question limit paths → IsAnswer question limit others → AllByRecursion (Met path_cmp limit others) paths
+all_met question spelled limit paths others one other =
+    recursion_from_All (Met path_cmp limit others) paths (λ k d within. met question spelled limit others (get_or paths k d) other (one.best k d within))
 
-shown_alike : (question : Question) (paths others : List PathValue) → AllZip (λ one other. path_cmp one other ≡ Equal) paths others
+shown_alike : (question : Question) → AreSpelled question → (paths others : List PathValue) → AllZip (λ one other. path_cmp one other ≡ Equal) paths others
     → AllByRecursion (IsBest question) paths → AllByRecursion (IsBest question) others → map shown paths ≡ map shown others
-shown_alike question [] [] tied best also = refl
-shown_alike question [] (other ∷ others) tied best also = absurd tied
-shown_alike question (path ∷ paths) [] tied best also = absurd tied
-shown_alike question (path ∷ paths) (other ∷ others) tied best also =
-    let first = same_shown path other best.0.candidate.spelled also.0.candidate.spelled tied.0 in
-    let later = shown_alike question paths others tied.1 best.1 also.1 in
+shown_alike question spelled [] [] tied best also = refl
+shown_alike question spelled [] (other ∷ others) tied best also = absurd tied
+shown_alike question spelled (path ∷ paths) [] tied best also = absurd tied
+shown_alike question spelled (path ∷ paths) (other ∷ others) tied best also =
+    let first = same_shown path other (spelled path best.0.candidate) (spelled other also.0.candidate) tied.0 in
+    let later = shown_alike question spelled paths others tied.1 best.1 also.1 in
     cc
 
-pub answers_agree : (question : Question) (limit : ℕ) (paths others : List PathValue) → IsAnswer question limit paths → IsAnswer question limit others → map shown paths ≡ map shown others
-answers_agree question limit paths others one other =
-    shown_alike question paths others
+pub answers_agree : (question : Question) (limit : ℕ) (paths others : List PathValue) → AreSpelled question → IsAnswer question limit paths → IsAnswer question limit others → map shown paths ≡ map shown others
+answers_agree question limit paths others spelled one other =
+    shown_alike question spelled paths others
     (agree path_cmp path_total paths others limit (in_order paths one.ordered) (in_order others other.ordered) one.few other.few
-    (all_met question limit paths others one other) (all_met question limit others paths other one))
+    (all_met question spelled limit paths others one other) (all_met question spelled limit others paths other one))
     (recursion_from_All (IsBest question) paths one.best) (recursion_from_All (IsBest question) others other.best)

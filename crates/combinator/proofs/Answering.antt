@@ -14,7 +14,8 @@ use Rattle.path_verifier.specs.Piece.{PieceValue, HasRange, kind_in, kind_of, be
 use Rattle.path_verifier.specs.Walk.{walk_of}
 use Rattle.path_verifier.specs.Accepted.{IsCore, MayAdjoin}
 use Rattle.path_verifier.proofs.Lengths.{path_is_short, pieces_adjoin}
-use Rattle.combinator.specs.Candidate.{Question, IsOf, segments_of, PathValue, IsCandidate, path_with}
+use Rattle.path_header.specs.Spelling.{Spells, spelling}
+use Rattle.combinator.specs.Candidate.{Question, IsOf, segments_of, PathValue, IsCandidate, path_with, AreSpelled}
 use Rattle.combinator.specs.Order.{path_cmp, HaveOneWalk}
 use Rattle.combinator.specs.Answer.{IsBest, IsLeftOut, IsAnswer}
 use Rattle.combinator.specs.Placed.{Tied, InOrder, Met}
@@ -108,7 +109,9 @@ module _ (question : Question) (legs : List PieceValue)
     not_down : (one next : PieceKind) → MayAdjoin one next → one ≡ Down → ⊥
     not_down one next may is = (let h : MayAdjoin Down next = subst (λ (kind : PieceKind). MayAdjoin kind next) is may in h)
 
-    met_of : (pieces : List PieceValue) (header : _) → (is : IsCandidate question (path_with pieces header)) → IsMet kept (path_with pieces header)
+    met_of : (pieces : List PieceValue) (header : _) → (is : IsCandidate question (path_with pieces header))
+        → Spells (spelling header) header × IsMet kept (path_with pieces header)
+    unfolding AreSettled
     met_of [] header is = absurd (let some = is.accepted.path.some in omega arith)
     met_of (a ∷ []) header is =
         let path = is.accepted.path in
@@ -132,7 +135,7 @@ module _ (question : Question) (legs : List PieceValue)
     met_of (a ∷ b ∷ c ∷ d ∷ more) header is =
         absurd (let few = path_is_short (a ∷ b ∷ c ∷ d ∷ more) question.src question.dst question.set.moment is.accepted.path in omega arith)
 
-    pub all_met : (path : PathValue) → IsCandidate question path → IsMet kept path
+    pub all_met : (path : PathValue) → IsCandidate question path → Spells (spelling path.header) path.header × IsMet kept path
     all_met path is = met_of path.pieces path.header is
 
 -- ---- each path that is kept stands for its walk
@@ -155,10 +158,13 @@ same_one paths j k d e apart inside within same = elim (cases_lt j k) [
 ]
 
 module _ (question : Question) (limit : ℕ) (kept ordered : List PathValue) (sound : All (IsCandidate question) kept) (apart : InOrder by_walk kept)
-    (met : (path : PathValue) → IsCandidate question path → IsMet kept path) where
+    (met : (path : PathValue) → IsCandidate question path → Spells (spelling path.header) path.header × IsMet kept path) where
+  spelled : AreSpelled question
+  spelled path is = (met path is).0
+
   no_worse_than_any : (k : ℕ) (d : PathValue) → k < length kept → (other : PathValue) → IsCandidate question other → HaveOneWalk other (get_or kept k d) → IsNoWorse (get_or kept k d) other
   no_worse_than_any k d within other is same =
-      let some = met other is in
+      let some = (met other is).1 in
       let walks : walk_of (get_or kept some.0 some.1).pieces ≡ walk_of (get_or kept k d).pieces = ap (λ (p : PathValue). walk_of p.pieces) some.3 ∙ some.4.0 ∙ same in
       let one : some.1 ≡ get_or kept k d = sym some.3 ∙ same_one kept some.0 k some.1 d apart some.2 within walks in
       subst (λ (p : PathValue). IsNoWorse p other) one some.4.1
@@ -184,14 +190,14 @@ module _ (question : Question) (limit : ℕ) (kept ordered : List PathValue) (so
     once i j d less within same =
         let first = best i d (omega arith) in
         let second = best j d within in
-        let tie = tied_shown (get_or ordered i d) (get_or ordered j d) (best_is_one question (get_or ordered i d) (get_or ordered j d) first second same) in
+        let tie = tied_shown (get_or ordered i d) (get_or ordered j d) (best_is_one question spelled (get_or ordered i d) (get_or ordered j d) first second same) in
         let both = sym (pairs ordered order i j d less within) ∙ tie in
         cc
 
     tied_walk : (paths : List PathValue) (one path : PathValue) → All (IsBest question) paths → IsCandidate question one → HaveOneWalk one path → Tied path_cmp one paths → Any (λ p. HaveOneWalk p path) paths
     tied_walk [] one path all is same tied = absurd tied
     tied_walk (first ∷ paths) one path all is same (inl tie) =
-        let shows = same_shown one first is.spelled (all 0 first (omega arith)).candidate.spelled tie in
+        let shows = same_shown one first (spelled one is) (spelled first (all 0 first (omega arith)).candidate) tie in
         (0, first, omega arith, refl, sym (ap (λ (s : _ × List WalkHop). s.1) shows) ∙ same)
     tied_walk (first ∷ paths) one path all is same (inr tied) =
         let some = tied_walk paths one path (λ k d within. all (suc k) d (omega arith)) is same tied in
@@ -199,7 +205,7 @@ module _ (question : Question) (limit : ℕ) (kept ordered : List PathValue) (so
 
     whole : (path : PathValue) → IsCandidate question path → Any (λ one. HaveOneWalk one path) ordered ⊎ IsLeftOut question limit ordered path
     whole path is =
-        let some = met path is in
+        let some = (met path is).1 in
         let here : IsBest question some.1 = subst (IsBest question) some.3 (all_best some.0 some.1 some.2) in
         elim (taken some.1 (some.0, some.2, some.3)) [
           | inl tied ↦ inl (tied_walk ordered some.1 path best here.candidate some.4.0 tied)

@@ -64,7 +64,6 @@ module _ (set other : Selection) (src dst : ℕ) (rules : Rules) where
       record {
         own = own;
         accepted = record { path = makes; header = is.accepted.header; hops = is.accepted.hops; word = is.accepted.word };
-        spelled = is.spelled;
       }
 
 module _ (set other : Selection) (src dst : ℕ) (rules : Rules) (same : IsSameSet set other) (here : AreAllLive set set.moment) (there : AreAllLive other other.moment) where

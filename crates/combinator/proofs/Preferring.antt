@@ -5,7 +5,7 @@ use Rattle.std.proofs.lemmas.Bool.{cases_lt}
 use Rattle.std.proofs.lemmas.Option.{same_Some, slice_get_within, get_or_from_slice_get}
 use Rattle.path_server.specs.Lookup.{Selection}
 use Rattle.policy_expr.specs.Options.{WeighedRules}
-use Rattle.combinator.specs.Candidate.{PathValue, HasNone}
+use Rattle.combinator.specs.Candidate.{PathValue, HasNone, AreSpelled}
 use Rattle.combinator.specs.Order.{shown}
 use Rattle.combinator.specs.Answer.{IsAnswer, asked, GoesBefore, IsUsed, AnswersWith}
 use Rattle.combinator.proofs.Agreeing.{answers_agree}
@@ -49,13 +49,13 @@ module _ (set : Selection) (src dst : ℕ) (options : List WeighedRules) (limit 
       some_path i paths is (subst (λ (option : WeighedRules). HasNone (asked set src dst option)) (get_or_from_slice_get options i is.option is.option is.there)
       (none i is.option (slice_get_within options i is.option is.there)))
 
-  pub options_agree : (used also : Option ℕ) (paths others : List PathValue) → AnswersWith set src dst options limit used paths → AnswersWith set src dst options limit also others
+  pub options_agree : (used also : Option ℕ) (paths others : List PathValue) → ((option : WeighedRules) → AreSpelled (asked set src dst option)) → AnswersWith set src dst options limit used paths → AnswersWith set src dst options limit also others
       → (used ≡ also) × (map shown paths ≡ map shown others)
-  options_agree None None paths others one other = (refl, ap (map shown) (one.0 ∙ sym other.0))
-  options_agree None (Some j) paths others one other = absurd (there_none j others other one.1)
-  options_agree (Some i) None paths others one other = absurd (there_none i paths one other.1)
-  options_agree (Some i) (Some j) paths others one other =
+  options_agree None None paths others spelled one other = (refl, ap (map shown) (one.0 ∙ sym other.0))
+  options_agree None (Some j) paths others spelled one other = absurd (there_none j others other one.1)
+  options_agree (Some i) None paths others spelled one other = absurd (there_none i paths one other.1)
+  options_agree (Some i) (Some j) paths others spelled one other =
       let same = same_used i j paths others one other in
       let option : one.option ≡ other.option = same_Some one.option other.option (sym one.there ∙ ap (slice_get options) same ∙ other.there) in
       let answer : IsAnswer (asked set src dst one.option) limit others = subst (λ (o : WeighedRules). IsAnswer (asked set src dst o) limit others) (sym option) other.answer in
-      (ap Some same, answers_agree (asked set src dst one.option) limit paths others one.answer answer)
+      (ap Some same, answers_agree (asked set src dst one.option) limit paths others (spelled one.option) one.answer answer)

@@ -1,7 +1,6 @@
 -- Trying lists of pieces one by one.
 use Rattle.std.proofs.Common.{◌≡◌, ℕ, List, [], ◌∷◌, All, sym, subst, ap, ◌∙◌}
 use Rattle.std.proofs.lemmas.List.Elements.{All-nil, All-cons}
-use Rattle.path_header.specs.Spelling.{Spells, spelling}
 use Rattle.path_server.specs.Lookup.{Selection}
 use Rattle.path_verifier.specs.Piece.{PieceValue}
 use Rattle.path_verifier.specs.Header.{header_of}
@@ -10,7 +9,11 @@ use Rattle.combinator.specs.Candidate.{Question, IsOf, PathValue, IsCandidate, p
 use Rattle.combinator.specs.Kept.{GoesOn, AreSettled}
 
 pub settled_on : (question : Question) (old new : List PathValue) (pieces : List PieceValue) → GoesOn question old new → AreSettled question old pieces → AreSettled question new pieces
-settled_on question old new pieces goes settled = λ header candidate. goes.met (path_with pieces header) (settled header candidate)
+unfolding AreSettled
+settled_on question old new pieces goes settled = λ header candidate. (
+  (settled header candidate).0,
+  goes.met (path_with pieces header) (settled header candidate).1,
+)
 
 pub own_one : (set : Selection) (first : PieceValue) (pieces : List PieceValue) → pieces ≡ first ∷ [] → IsOf set first → All (IsOf set) pieces
 own_one set first pieces is one = subst (All (IsOf set)) (sym is) (All-cons (IsOf set) first [] one (All-nil (IsOf set)))
@@ -29,12 +32,11 @@ own_three set first second third pieces is one two three =
 pub candidate_of : (question : Question) (pieces : List PieceValue) (path : Request) (found : PathValue) → All (IsOf question.set) pieces
     → path ≡ request_of pieces (header_of pieces) question.src question.dst question.set.moment question.rules
     → IsAccepted (request_of pieces (header_of pieces) question.src question.dst question.set.moment question.rules)
-    → Spells (spelling path.header) path.header → found ≡ path_with path.pieces path.header → IsCandidate question found
-candidate_of question pieces path found own is accepted spelled made =
+    → found ≡ path_with path.pieces path.header → IsCandidate question found
+candidate_of question pieces path found own is accepted made =
     let whole : IsCandidate question (path_with pieces (header_of pieces)) = record {
       own = own;
       accepted = accepted;
-      spelled = subst (λ (request : Request). Spells (spelling request.header) request.header) is spelled;
     } in
     subst (IsCandidate question) (sym (made ∙ ap (λ (request : Request). path_with request.pieces request.header) is)) whole
 
@@ -49,7 +51,7 @@ same_request question seen pieces moment is at =
 pub found_as_asked : (question seen : Question) (pieces : List PieceValue) (moment : ℕ) (path : Request) (found : PathValue) → seen ≡ question → moment ≡ seen.set.moment
     → All (IsOf question.set) pieces
     → (path ≡ request_of pieces (header_of pieces) seen.src seen.dst moment seen.rules) × IsAccepted (request_of pieces (header_of pieces) seen.src seen.dst moment seen.rules)
-    → Spells (spelling path.header) path.header → found ≡ path_with path.pieces path.header → IsCandidate question found
-found_as_asked question seen pieces moment path found is at own accepted spelled made =
+    → found ≡ path_with path.pieces path.header → IsCandidate question found
+found_as_asked question seen pieces moment path found is at own accepted made =
     let same = same_request question seen pieces moment is at in
-    candidate_of question pieces path found own (accepted.0 ∙ same) (subst IsAccepted same accepted.1) spelled made
+    candidate_of question pieces path found own (accepted.0 ∙ same) (subst IsAccepted same accepted.1) made

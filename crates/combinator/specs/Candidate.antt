@@ -47,14 +47,18 @@ segments_of set Down = set.downs
 abbrev pub IsOf : Selection → PieceValue → Type 0
 IsOf set piece = Contains (segments_of set (kind_of piece)) piece.segment
 
--- the path may be sent from one end to the other at the set's second under the policy, its pieces
--- are of the set, and its header is one of the grammar
+-- the path may be sent from one end to the other at the set's second under the policy, and its
+-- pieces are of the set
 pub record IsCandidate (question : Question) (path : PathValue) : Type 0 where
   pub own : All (IsOf question.set) path.pieces
   pub accepted : IsAccepted
       (request_of path.pieces path.header question.src question.dst question.set.moment question.rules)
-  pub spelled : Spells (spelling path.header) path.header
 
 -- there is no path
 abbrev pub HasNone : Question → Type 0
 HasNone question = (path : PathValue) → ¬ (IsCandidate question path)
+
+-- the header of each path is one of the grammar: its numbers have a place for their bits
+abbrev pub AreSpelled : Question → Type 0
+AreSpelled question = (path : PathValue) → IsCandidate question path
+    → Spells (spelling path.header) path.header

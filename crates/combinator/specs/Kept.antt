@@ -3,6 +3,7 @@ use Rattle.std.specs.Prelude.{◌≢◌, List, All, Any}
 use Rattle.std.specs.declared.cmp.Ordering.{Ordering}
 use Rattle.std.specs.declared.cmp.Ordering.TheVariants.{Less}
 use Rattle.path_header.specs.Value.{HeaderValue}
+use Rattle.path_header.specs.Spelling.{Spells, spelling}
 use Rattle.path_verifier.specs.Piece.{PieceValue}
 use Rattle.path_verifier.specs.Walk.{walk_of}
 use Rattle.combinator.specs.Candidate.{Question, PathValue, path_with, IsCandidate}
@@ -28,6 +29,9 @@ pub record GoesOn (question : Question) (old new : List PathValue) : Type 0 wher
   pub sound : All (IsCandidate question) old → All (IsCandidate question) new
   pub met : (path : PathValue) → IsMet old path → IsMet new path
 
--- whatever candidate has these pieces, one of its walk is there that is no worse
-abbrev pub AreSettled : Question → List PathValue → List PieceValue → Type 0
-AreSettled question paths pieces = (header : HeaderValue) → IsCandidate question (path_with pieces header) → IsMet paths (path_with pieces header)
+-- whatever candidate has these pieces, its header is one of the grammar, and one of its walk is
+-- there that is no worse
+unfoldable pub AreSettled : Question → List PathValue → List PieceValue → Type 0
+AreSettled question paths pieces = (header : HeaderValue)
+    → IsCandidate question (path_with pieces header)
+    → Spells (spelling header) header × IsMet paths (path_with pieces header)

@@ -1,5 +1,5 @@
-ghost use Rattle.std.specs.Prelude.{◌≡◌, ◌↔◌, [], length, option_map, slice_get, IfOk, IsTrue};
-ghost use Rattle.combinator.specs.Candidate.{question_of};
+ghost use Rattle.std.specs.Prelude.{◌≡◌, ◌↔◌, [], length, option_map, slice_get, IfOk, IsTrue, OnOk};
+ghost use Rattle.combinator.specs.Candidate.{AreSpelled, question_of};
 ghost use Rattle.combinator.specs.Answer.{IsAnswer};
 
 use crate::ask::Ask;
@@ -85,8 +85,11 @@ pub fn paths_between<'s, 'p, A: Allocator + Clone>(
     policy: &'p Policy<A>,
     limit: usize,
 ) -> Result<Paths<'s, 'p, A>, AllocError>
-    ensures { IfOk result
+    ensures answer { IfOk result
         (IsAnswer (question_of set.entry.now src dst policy.entry.now) limit) }
+    // The header of each path that may be sent is one of the grammar.
+    ensures spelled { OnOk result
+        (AreSpelled (question_of set.entry.now src dst policy.entry.now)) }
 {
     let ask = Ask {
         set,
@@ -103,7 +106,8 @@ fn answered<'s, 'p, A: Allocator + Clone>(
     ask: &Ask<'s, 'p, A>,
     limit: usize,
 ) -> Result<Paths<'s, 'p, A>, AllocError>
-    ensures { IfOk result (IsAnswer ask.now limit) }
+    ensures answer { IfOk result (IsAnswer ask.now limit) }
+    ensures spelled { OnOk result (AreSpelled ask.now) }
 {
     let legs = legs_of(alloc, ask)?;
     let kept = settled(alloc, ask, &legs)?;

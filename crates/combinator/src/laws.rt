@@ -4,19 +4,22 @@ ghost use Rattle.std.specs.Prelude.{◌≡◌, ◌↔◌, ℕ, List, map, Option
 ghost use Rattle.path_server.specs.Lookup.{Selection};
 ghost use Rattle.policy_expr.specs.Policy.{Rules};
 ghost use Rattle.policy_expr.specs.Options.{WeighedRules};
-ghost use Rattle.combinator.specs.Candidate.{Question, question_of, PathValue};
+ghost use Rattle.combinator.specs.Candidate.{AreSpelled, Question, question_of, PathValue};
 ghost use Rattle.combinator.specs.Order.{shown};
-ghost use Rattle.combinator.specs.Answer.{IsAnswer, AnswersWith};
+ghost use Rattle.combinator.specs.Answer.{IsAnswer, AnswersWith, asked};
 ghost use Rattle.combinator.specs.Lasting.{IsSameSet, AreAllLive};
 
 /// Two answers to one question have the same headers and walks, in one order; and under several
-/// options they use one option.
+/// options they use one option. So it is where the headers of the paths are of the grammar, as those
+/// of a set of segments are ([`crate::paths_between`]).
 pub fn answers_agree()
     ensures paths { (question : Question) (limit : ℕ) (paths others : List PathValue)
+        → AreSpelled question
         → IsAnswer question limit paths → IsAnswer question limit others
         → map shown paths ≡ map shown others }
     ensures options { (set : Selection) (src dst : ℕ) (options : List WeighedRules) (limit : ℕ)
         (used also : Option ℕ) (paths others : List PathValue)
+        → ((option : WeighedRules) → AreSpelled (asked set src dst option))
         → AnswersWith set src dst options limit used paths
         → AnswersWith set src dst options limit also others
         → (used ≡ also) × (map shown paths ≡ map shown others) }

@@ -25,3 +25,4 @@ pub use choice::{Choice, paths_with};
 pub use combination::combine;
 pub use fault::{CombineError, CombineFault};
 pub use path::{Path, PathList};
+pub use path_verifier::OwnedPiece;

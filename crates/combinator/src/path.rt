@@ -1,4 +1,4 @@
-ghost use Rattle.std.specs.Prelude.{◌≡◌, ◌↔◌, ◌≤◌, [], length, option_map, slice_get, IfOk, IsTrue};
+ghost use Rattle.std.specs.Prelude.{◌≡◌, ◌↔◌, ◌≤◌, [], length, option_map, slice_get, IfOk, IsOk, IsTrue};
 ghost use Rattle.path_verifier.specs.Walk.{walk_of};
 
 use crate::choice::Choice;
@@ -133,9 +133,10 @@ impl PathList {
         self.option
     }
 
-    /// The same answer once more; or memory runs out.
+    /// The same answer once more; or memory runs out, which an answer without a path wants none of.
     pub fn try_clone(&self, alloc: Global) -> Result<PathList, AllocError>
-        ensures { IfOk result (λ own. own ≡ self.now) }
+        ensures same { IfOk result (λ own. own ≡ self.now) }
+        ensures empty { self.now.paths ≡ [] → IsOk result }
     {
         let mut paths = Vec::with_capacity(alloc, self.paths.len())?;
         for path in &self.paths {

@@ -14,6 +14,7 @@ use path_verifier::{Pieces, accept};
 use std::alloc::{AllocError, Allocator, Global};
 
 /// Takes the path of these pieces in, where it may be sent.
+#[tactic(auto, unfolding(crate::specs::Kept::AreSettled))]
 fn consider<'s, 'p, A: Allocator + Clone>(
     alloc: Global,
     ask: &Ask<'s, 'p, A>,

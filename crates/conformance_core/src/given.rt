@@ -104,7 +104,7 @@ fn set_first(header: &mut Header, seg_id: u16) {
 fn answers(alloc: Global, segment: &Segment, other: Option<u16>) -> Result<[u16; 4], Fail> {
     let topology = Topology::from_json(alloc, row().as_bytes())?;
     let mut net = Net::new(alloc, topology);
-    step(alloc, &mut net, &Event::Tick { to: 1000 })?;
+    step(alloc, &mut net, &Event::Tick { now: 1000 })?;
     let pieces = pieces_of(&[(segment, 0, false)])?;
     let mut header = header_of(alloc, [3, 0, 0], &[(segment, 0, false)])?;
     if let Some(seg_id) = other {

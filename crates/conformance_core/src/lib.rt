@@ -3,3 +3,5 @@
 
 #[cfg(test)]
 mod given;
+#[cfg(test)]
+mod runs;

@@ -95,7 +95,7 @@ fn ending<'x>() -> Option<Event<'x>> {
 
 /// Issues the row's segment, from the first AS to the last.
 fn issue(alloc: Global, net: &mut Net) -> Result<(), AllocError> {
-    step(alloc, net, &Event::Tick { to: 1000 })?;
+    step(alloc, net, &Event::Tick { now: 1000 })?;
     if let Some(event) = beginning() {
         step(alloc, net, &event)?;
     }

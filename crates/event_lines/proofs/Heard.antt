@@ -5,7 +5,8 @@ use Rattle.event_lines.specs.declared.fault.RunFault.{RunFault}
 use Rattle.event_lines.specs.declared.fault.RunFault.TheVariants as faults
 use Rattle.event_lines.specs.declared.hearing.Hearing.{Hearing}
 use Rattle.event_lines.specs.Run.{AreLines, ended, has_end, line_end}
-use Rattle.event_lines.specs.Talk.{Stage, Closed, Says, Told}
+use Rattle.event_lines.specs.Saying.{Says, SaysAll}
+use Rattle.event_lines.specs.Talk.{Stage, Closed}
 use Rattle.event_lines.specs.Talking.{Hears, HearsAll, IsCut, TalkValue, Tells}
 use Rattle.event_lines.proofs.Lines.{closed, cut_of, ended_more, grown, joined, none_read}
 use Rattle.event_lines.proofs.Telling.{told_append, told_one}
@@ -120,7 +121,7 @@ heard_all hearing bytes left old now new heard none rest stage replies = (
         (subst (λ r. AreLines ((old.rest ++ heard.front) ++ left) heard.lines r) (sym rest) (grown left heard.are none)),
     record {
       texts = heard.heard.texts;
-      told = subst (λ s. Told hearing old.stage heard.lines heard.heard.texts s) (sym stage) heard.heard.told;
+      told = subst (λ s. SaysAll hearing old.stage heard.lines heard.heard.texts s) (sym stage) heard.heard.told;
       kept = replies ∙ heard.heard.kept;
     },
   ),

@@ -8,10 +8,12 @@ use Rattle.event_lines.specs.declared.fault.RunFault.TheVariants as faults
 use Rattle.event_lines.specs.declared.hearing.Hearing.{Hearing}
 use Rattle.event_lines.specs.Run.{AreAll, AreFirst, AreLines, Ends, Listens, Wrote, WroteSome, all_lines, ended, most_input, most_read}
 use Rattle.network_core.specs.Value.{NetValue}
-use Rattle.event_lines.specs.Talk.{Stage, Unbegun, Open, Closed, Says, Told}
+use Rattle.event_lines.specs.Saying.{Says, SaysAll}
+use Rattle.event_lines.specs.Talk.{Stage, Unbegun, Open, Closed, Told}
 use Rattle.event_lines.specs.Talking.{Exchanges, Finishes, Passes, PassesSome, TalkValue, last_after, last_lines}
 use Rattle.event_lines.proofs.Lines.{ended_append, joined, none_read}
 use Rattle.event_lines.proofs.Telling.{told_append}
+use Rattle.event_lines.proofs.Ran.{told_as_run}
 use Rattle.event_lines.proofs.Writing.{IsBegun, unbegun_says}
 
 -- these bytes were read, their lines were told, and the replies were written
@@ -24,7 +26,7 @@ pub record SoFar (hearing : Hearing) (before after held holds : Option (List ℕ
   pub lines : List (List ℕ)
   pub are : AreLines read lines talk.rest
   pub texts : List (List ℕ)
-  pub told : Told hearing Unbegun lines texts talk.stage
+  pub told : SaysAll hearing Unbegun lines texts talk.stage
   pub same : went ≡ ended texts
   pub none : talk.replies ≡ []
   pub few : count ≤ most_input
@@ -68,6 +70,11 @@ passed_on hearing before after now held holds with {talk} {count} bytes next far
   few = few;
 }
 
+-- what was told so far is a run
+as_run : (hearing : Hearing) {before after held holds : Option (List ℕ)} {talk : TalkValue} {count : ℕ}
+    → (far : SoFar hearing before after held holds talk count) → Told hearing far.lines far.texts talk.stage
+as_run hearing {talk} far = told_as_run hearing far.lines far.texts talk.stage far.told
+
 -- ---- what was written
 
 -- the replies to lines more
@@ -81,7 +88,8 @@ written_on hearing {before} {after} {held} {holds} with {talk} {count} lines sta
     (
       far.texts ++ passes.texts,
       (
-        told_append hearing Unbegun talk.stage stage far.lines lines far.texts passes.texts far.told passes.told,
+        told_as_run hearing (far.lines ++ lines) (far.texts ++ passes.texts) stage
+            (told_append hearing Unbegun talk.stage stage far.lines lines far.texts passes.texts far.told passes.told),
         ap (λ l. l ++ ended passes.texts) far.same ∙ sym (ended_append far.texts passes.texts),
       ),
     ),
@@ -108,7 +116,8 @@ some_on hearing {before} {after} {held} {holds} with {talk} {count} lines far pa
       passes.stage,
       length far.went + passes.most,
       (
-        told_append hearing Unbegun talk.stage passes.stage far.lines lines far.texts passes.texts far.told passes.told,
+        told_as_run hearing (far.lines ++ lines) (far.texts ++ passes.texts) passes.stage
+            (told_append hearing Unbegun talk.stage passes.stage far.lines lines far.texts passes.texts far.told passes.told),
         take_behind far.went (ended passes.texts) passes.most
             ∙ ap (take (length far.went + passes.most)) (ap (λ l. l ++ ended passes.texts) far.same ∙ sym (ended_append far.texts passes.texts)),
       ),
@@ -139,7 +148,7 @@ says_begun hearing start Unbegun line text says = absurd (unbegun_says hearing s
 says_begun hearing start (Open net) line text says = tt
 says_begun hearing start Closed line text says = tt
 
-told_begun : (hearing : Hearing) (start stage : Stage) (line : List ℕ) (lines texts : List (List ℕ)) → Told hearing start (line ∷ lines) texts stage → IsBegun stage
+told_begun : (hearing : Hearing) (start stage : Stage) (line : List ℕ) (lines texts : List (List ℕ)) → SaysAll hearing start (line ∷ lines) texts stage → IsBegun stage
 told_begun hearing start stage line lines [] told = absurd told
 told_begun hearing start stage line [] (text ∷ texts) told =
     subst IsBegun (sym told.1.1.1) (says_begun hearing start told.0 line text told.1.0)
@@ -154,7 +163,7 @@ last_begun (Open net) line (b ∷ rest) lines begun = refl
 last_begun Closed line [] lines begun = append-nil (line ∷ lines)
 last_begun Closed line (b ∷ rest) lines begun = refl
 
-all_told : (hearing : Hearing) (lines texts : List (List ℕ)) (stage : Stage) (rest : List ℕ) → Told hearing Unbegun lines texts stage
+all_told : (hearing : Hearing) (lines texts : List (List ℕ)) (stage : Stage) (rest : List ℕ) → SaysAll hearing Unbegun lines texts stage
     → lines ++ last_after stage rest ≡ all_lines lines rest
 all_told hearing [] texts stage rest told = ap (λ s. last_after s rest) told.1
 all_told hearing (line ∷ lines) texts stage rest told = last_begun stage line rest lines (told_begun hearing Unbegun stage line lines texts told)
@@ -224,7 +233,7 @@ ends_unfinished hearing before after now held holds with {talk = talk} bytes sta
       Appends-kept held holds with far.went far.appended finishes,
       (
         omega (arith, far.counted, far.few),
-        (far.lines, talk.stage, (first_of hearing far, (far.texts, (far.told, far.same)))),
+        (far.lines, talk.stage, (first_of hearing far, (far.texts, (as_run hearing far, far.same)))),
       ),
     ),
   ),
@@ -261,7 +270,7 @@ ends_unfinished hearing before after now held holds with {talk = talk} bytes sta
               far.texts,
               talk.stage,
               length far.went,
-              (far.told, sym (take_all (length far.went) far.went (omega arith)) ∙ ap (take (length far.went)) far.same),
+              (as_run hearing far, sym (take_all (length far.went) far.went (omega arith)) ∙ ap (take (length far.went)) far.same),
             ),
           ),
         ),
@@ -293,7 +302,7 @@ ends_too_long hearing before after now held holds {talk = talk} (b ∷ []) far f
             refl,
             (
               far.counted ∙ full,
-              (far.lines, talk.rest, talk.stage, (far.are, (far.texts, (far.told, far.same)))),
+              (far.lines, talk.rest, talk.stage, (far.are, (far.texts, (as_run hearing far, far.same)))),
             ),
           ),
         ),

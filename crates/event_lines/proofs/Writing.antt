@@ -10,7 +10,8 @@ use Rattle.event_lines.specs.declared.fault.RunFault.{RunFault}
 use Rattle.event_lines.specs.declared.fault.RunFault.TheVariants as faults
 use Rattle.event_lines.specs.declared.hearing.Hearing.{Hearing}
 use Rattle.event_lines.specs.Run.{AreLines, ended, line_end}
-use Rattle.event_lines.specs.Talk.{Stage, Unbegun, Open, Closed, Begins, Says}
+use Rattle.event_lines.specs.Saying.{Opens, Says}
+use Rattle.event_lines.specs.Talk.{Stage, Unbegun, Open, Closed}
 use Rattle.event_lines.specs.Talking.{Exchanges, Finishes, Hears, HearsAll, IsDone, Passes, PassesSome, TalkValue, Tells, Writes, last_lines, stage_of}
 use Rattle.event_lines.proofs.Telling.{told_one}
 
@@ -100,8 +101,8 @@ same_kept (Some xs) (Some ys) wrote = wrote ∙ append-nil xs
 not_unbegun : {A : Type 0} (stage : Stage) → Unbegun ≡ stage → IsBegun stage → A
 not_unbegun stage is begun = absurd (subst IsBegun (sym is) begun)
 
-unbegun_begins : (said : Result Network TopologyFault) (text : List ℕ) → Begins said text Unbegun → ⊥
-unbegun_begins (Ok network) text begins = not_unbegun (Open (new_net network)) begins.1 tt
+unbegun_begins : (said : Result Network TopologyFault) (text : List ℕ) → Opens said text Unbegun → ⊥
+unbegun_begins (Ok network) text begins = not_unbegun (Open (new_net network)) begins.1.1 tt
 unbegun_begins (Err fault) text begins = not_unbegun Closed begins.1 tt
 
 pub unbegun_says : (hearing : Hearing) (start : Stage) (line text : List ℕ) → Says hearing start line text Unbegun → ⊥

@@ -10,8 +10,8 @@ use Rattle.hex.specs.Hex.{decode_of}
 use Rattle.refusal.specs.Optional.{◌>>=◌, only}
 use Rattle.json_fields.specs.Fields.{document_in, text_at, whole_at, list_at, items_at}
 use Rattle.isd_as.specs.Reading.{address_at}
-use Rattle.policy_expr.specs.Options.{OptionTexts}
-use Rattle.network_core.specs.Event.{EventValue, Tick, Originate, Extend, Terminate, Sweep, Ask, ByAnswer, Send, Turn, Lose, Alter, Back, CutLink, MendLink, RotateKey}
+use Rattle.policy_expr.specs.Options.{OptionTexts, options_at}
+use Rattle.network_core.specs.Event.{EventValue, Tick, Originate, Extend, Terminate, Sweep, Ask, ByAnswer, BackOf, Send, Turn, Lose, Alter, CutLink, MendLink, RotateKey}
 
 -- what a line asks for: that an event happens, or what is told of a packet
 pub data LineValue : Type 0 where
@@ -120,8 +120,8 @@ ask_in d = do
   src ← ia_at (codes "src") d
   dst ← ia_at (codes "dst") d
   limit ← long_at (codes "limit") d
-  options ← options_in d
-  Some (Happens (Ask src dst options limit))
+  texts ← options_in d
+  Some (Happens (Ask src dst (options_at texts) limit))
 
 unfoldable pub send_in : Data → Option LineValue
 send_in d = do
@@ -151,7 +151,7 @@ unfoldable pub back_in : Data → Option LineValue
 back_in d = do
   packet ← long_at (codes "packet") d
   payload ← bytes_at (codes "payload") d
-  Some (Happens (Back packet payload))
+  Some (Happens (Send (BackOf packet) payload))
 
 unfoldable pub cut_in : Data → Option LineValue
 cut_in d = do

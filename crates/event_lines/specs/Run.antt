@@ -7,7 +7,7 @@ use Rattle.event_lines.specs.declared.fault.RunFault.TheVariants as faults
 use Rattle.event_lines.specs.declared.hearing.Hearing.{Hearing}
 use Rattle.event_lines.specs.declared.hearing.Hearing.TheVariants.{All}
 use Rattle.network_core.specs.Value.{NetValue}
-use Rattle.event_lines.specs.Talk.{Stage, Unbegun, Open, Closed, Told}
+use Rattle.event_lines.specs.Talk.{Stage, Open, Closed, Told}
 
 -- ---- lines of bytes
 
@@ -59,12 +59,12 @@ most_input = 67108864
 -- exactly the replies to these lines were written, and the run then stands there
 abbrev pub Wrote : Hearing → List (List ℕ) → List ℕ → Stage → Type 0
 Wrote hearing lines went stage =
-    (texts : List (List ℕ)) × (Told hearing Unbegun lines texts stage × (went ≡ ended texts))
+    (texts : List (List ℕ)) × (Told hearing lines texts stage × (went ≡ ended texts))
 
 -- a beginning of the replies to these lines was written
 abbrev pub WroteSome : Hearing → List (List ℕ) → List ℕ → Type 0
 WroteSome hearing lines went = (texts : List (List ℕ)) × (stage : Stage) × (n : ℕ)
-    × (Told hearing Unbegun lines texts stage × (went ≡ take n (ended texts)))
+    × (Told hearing lines texts stage × (went ≡ take n (ended texts)))
 
 -- the replies to all whole lines of what was read were written
 abbrev pub WroteWhole : Hearing → List ℕ → List ℕ → Type 0

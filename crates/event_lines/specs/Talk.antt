@@ -1,27 +1,57 @@
--- What lines are answered: the first begins a network, and each later one is told to it.
+-- What lines are answered: the first begins a network, and the later ones are a run of it.
 use Rattle.std.specs.Prelude.{◌≡◌, ℕ, codes, List, [], ◌∷◌, ◌++◌, Option, Some, None, Result, Ok, Err, slice_get}
+use Rattle.std.specs.List.{flat_map}
 use Rattle.scion_topology.specs.declared.fault.TopologyFault.{TopologyFault}
 use Rattle.scion_topology.specs.Fault as topology
 use Rattle.scion_topology.specs.Network.{Network}
 use Rattle.scion_topology.specs.Topology.{network_in}
 use Rattle.network_core.specs.declared.reply.Reply.{Reply}
+use Rattle.network_core.specs.Event.{EventValue}
 use Rattle.network_core.specs.Value.{NetValue, new_net}
-use Rattle.network_core.specs.Step.{Step}
+use Rattle.network_core.specs.History.{Moment, net_after}
+use Rattle.network_core.specs.Ran.{Ran}
 use Rattle.event_lines.specs.declared.hearing.Hearing.{Hearing}
 use Rattle.event_lines.specs.Hearing.{heard_as}
 use Rattle.event_lines.specs.Line.{LineValue, Happens, Shows, line_in}
 use Rattle.event_lines.specs.Text.{bad_line, coded, packet_text, reply_text}
 
--- ---- a line after the first
+-- ---- lines after the first
 
--- what a line is answered, and the network after it: an event happens, a packet is shown, or the
--- line asks for nothing
-abbrev pub Replies : NetValue → Option LineValue → List ℕ → NetValue → Type 0
-Replies old (Some (Happens event)) text new =
-    (reply : Reply) × (Step old event reply new × (text ≡ reply_text new reply))
-Replies old (Some (Shows packet)) text new =
-    (text ≡ packet_text (slice_get old.packets packet)) × (new ≡ old)
-Replies old None text new = (text ≡ bad_line) × (new ≡ old)
+-- the event that is asked for, if one is
+abbrev pub event_of : Option LineValue → List EventValue
+event_of (Some (Happens event)) = event ∷ []
+event_of (Some (Shows packet)) = []
+event_of None = []
+
+-- the events of these lines, of those that are heard, in their order
+abbrev pub events_of : Hearing → List (List ℕ) → List EventValue
+events_of hearing lines = flat_map (λ line. event_of (heard_as hearing (line_in line))) lines
+
+-- what a line is answered in a network, and what happens: an event, which is answered by its reply;
+-- or nothing, where a packet is shown, and where the line asks for nothing
+abbrev pub IsAnswered : NetValue → Option LineValue → List ℕ → List Moment → Type 0
+IsAnswered net (Some (Happens event)) text happened = (reply : Reply) × (new : NetValue)
+    × ((happened ≡ record { event = event; reply = reply; net = new } ∷ [])
+    × (text ≡ reply_text new reply))
+IsAnswered net (Some (Shows packet)) text happened =
+    (happened ≡ []) × (text ≡ packet_text (slice_get net.packets packet))
+IsAnswered net None text happened = (happened ≡ []) × (text ≡ bad_line)
+
+-- what these lines are answered in a network, one after the other, and what happens
+abbrev pub AreAnswered : Hearing → NetValue → List (List ℕ) → List (List ℕ) → List Moment → Type 0
+AreAnswered hearing net [] texts history = (texts ≡ []) × (history ≡ [])
+AreAnswered hearing net (line ∷ lines) [] history = ⊥
+AreAnswered hearing net (line ∷ lines) (text ∷ texts) history =
+    (happened later : List Moment) × ((history ≡ happened ++ later)
+    × (IsAnswered net (heard_as hearing (line_in line)) text happened
+    × AreAnswered hearing (net_after net happened) lines texts later))
+
+-- the lines are a run of their events over this topology, which leads to this network, and are
+-- answered by its history
+pub record AreRun (hearing : Hearing) (network : Network) (lines texts : List (List ℕ))
+    (net : NetValue) : Type 0 where
+  pub ran : Ran network (events_of hearing lines) net
+  pub answered : AreAnswered hearing (new_net network) lines texts ran.history
 
 -- ---- the first line
 
@@ -32,7 +62,7 @@ begun_text = codes "topology ok"
 abbrev pub refused_text : TopologyFault → List ℕ
 refused_text fault = codes "topology no " ++ coded (topology.code_of fault) (topology.name_of fault)
 
--- ---- lines
+-- ---- all lines
 
 -- where a run stands: before its first line, in a network, or at its end, since its topology is
 -- refused
@@ -41,21 +71,17 @@ pub data Stage : Type 0 where
   Open : NetValue → Stage
   Closed : Stage
 
--- a topology begins a network at moment 0, and its refusal ends the run
-abbrev pub Begins : Result Network TopologyFault → List ℕ → Stage → Type 0
-Begins (Ok network) text stage = (text ≡ begun_text) × (stage ≡ Open (new_net network))
-Begins (Err fault) text stage = (text ≡ refused_text fault) × (stage ≡ Closed)
+-- a topology begins a run of the later lines, and its refusal ends the run
+abbrev pub Begins : Hearing → Result Network TopologyFault → List ℕ → List (List ℕ)
+    → List (List ℕ) → Stage → Type 0
+Begins hearing (Ok network) text lines texts stage = (net : NetValue)
+    × ((text ≡ begun_text) × ((stage ≡ Open net) × AreRun hearing network lines texts net))
+Begins hearing (Err fault) text lines texts stage =
+    (text ≡ refused_text fault) × ((stage ≡ Closed) × ((lines ≡ []) × (texts ≡ [])))
 
--- what a line is answered by a run that hears these lines, and where the run then stands
-abbrev pub Says : Hearing → Stage → List ℕ → List ℕ → Stage → Type 0
-Says hearing Unbegun line text stage = Begins (network_in line) text stage
-Says hearing (Open old) line text stage = (new : NetValue)
-    × (Replies old (heard_as hearing (line_in line)) text new × (stage ≡ Open new))
-Says hearing Closed line text stage = ⊥
-
--- what these lines are answered, one after the other, and where the run then stands
-abbrev pub Told : Hearing → Stage → List (List ℕ) → List (List ℕ) → Stage → Type 0
-Told hearing start [] texts stage = (texts ≡ []) × (stage ≡ start)
-Told hearing start (line ∷ lines) [] stage = ⊥
-Told hearing start (line ∷ lines) (text ∷ texts) stage = (next : Stage)
-    × (Says hearing start line text next × Told hearing next lines texts stage)
+-- what these lines are answered, from the first of an input on, and where the run then stands
+abbrev pub Told : Hearing → List (List ℕ) → List (List ℕ) → Stage → Type 0
+Told hearing [] texts stage = (texts ≡ []) × (stage ≡ Unbegun)
+Told hearing (first ∷ lines) [] stage = ⊥
+Told hearing (first ∷ lines) (text ∷ texts) stage =
+    Begins hearing (network_in first) text lines texts stage

@@ -7,7 +7,8 @@ use Rattle.event_lines.specs.declared.talk.Talk.{Talk}
 use Rattle.event_lines.specs.declared.fault.RunFault.{RunFault}
 use Rattle.event_lines.specs.declared.fault.RunFault.TheVariants as faults
 use Rattle.event_lines.specs.declared.hearing.Hearing.{Hearing}
-use Rattle.event_lines.specs.Talk.{Stage, Unbegun, Open, Closed, Says, Told}
+use Rattle.event_lines.specs.Saying.{Says, SaysAll}
+use Rattle.event_lines.specs.Talk.{Stage, Unbegun, Open, Closed}
 use Rattle.event_lines.specs.Run.{AreLines, ended, has_end, line_end}
 
 -- where a run stands whose network is this one, if it has begun
@@ -49,7 +50,7 @@ value_of talk = record {
 pub record Hears (hearing : Hearing) (lines : List (List ℕ)) (old : TalkValue) (stage : Stage)
     (replies : List ℕ) : Type 0 where
   pub texts : List (List ℕ)
-  pub told : Told hearing old.stage lines texts stage
+  pub told : SaysAll hearing old.stage lines texts stage
   pub kept : replies ≡ old.replies ++ ended texts
 
 -- the bytes were heard: all of their lines; those up to the topology that was refused; or those
@@ -104,7 +105,7 @@ Writes (Err fault) old new held holds = ⊥
 pub record Passes (hearing : Hearing) (lines : List (List ℕ)) (old : TalkValue) (stage : Stage)
     (held holds : Option (List ℕ)) : Type 0 where
   pub texts : List (List ℕ)
-  pub told : Told hearing old.stage lines texts stage
+  pub told : SaysAll hearing old.stage lines texts stage
   pub kept : Appends held holds (ended texts)
 
 -- these lines were told behind what there was, and a beginning of the replies was written
@@ -112,7 +113,7 @@ pub record PassesSome (hearing : Hearing) (lines : List (List ℕ)) (old : TalkV
     (held holds : Option (List ℕ)) : Type 0 where
   pub texts : List (List ℕ)
   pub stage : Stage
-  pub told : Told hearing old.stage lines texts stage
+  pub told : SaysAll hearing old.stage lines texts stage
   pub most : ℕ
   pub kept : Appends held holds (take most (ended texts))
 

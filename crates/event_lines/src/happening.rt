@@ -6,7 +6,7 @@ ghost use Rattle.network_core.specs.Seen as events;
 ghost use Rattle.event_lines.specs.Hearing.{heard_as};
 ghost use Rattle.event_lines.specs.Line.{Happens, line_in};
 ghost use Rattle.event_lines.specs.Seen.{IsShown, asked_options, seen};
-ghost use Rattle.event_lines.specs.Talk.{Replies};
+ghost use Rattle.event_lines.specs.Saying.{Replies};
 
 use crate::asked::{AskedOption, lend_all};
 use crate::hearing::Hearing;
@@ -46,7 +46,7 @@ fn answer(alloc: Global, net: &mut Net, line: &Line) -> Result<String, AllocErro
 
 /// The options of a line that asks for paths, else none.
 fn options_of(line: &Line) -> &[AskedOption]
-    ensures { result.now ≡ asked_options (seen line.now) }
+    ensures { result.now ≡ asked_options line.now }
 {
     match line {
         Line::Ask { options, .. } => options,
@@ -72,12 +72,12 @@ pub(crate) fn answer_line(
 
 /// The event of a line, with these options.
 fn event_of<'x>(line: &'x Line, options: &'x [OptionText<'x>]) -> Option<Event<'x>>
-    requires { options.now ≡ asked_options (seen line.now) }
+    requires { options.now ≡ asked_options line.now }
     ensures event { IfSome result (λ event. seen line.entry.now ≡ Happens (events.seen event)) }
     ensures shown { result ≡ None → IsShown (seen line.entry.now) }
 {
     match line {
-        Line::Tick { to } => Some(Event::Tick { to: *to }),
+        Line::Tick { to } => Some(Event::Tick { now: *to }),
         Line::Originate { ia, egress, beta0 } => Some(Event::Originate {
             ia: *ia,
             egress: *egress,

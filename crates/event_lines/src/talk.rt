@@ -59,6 +59,7 @@ fn begin(alloc: Global, line: &[u8], replies: &mut String) -> Result<Net, RunFau
 {
     match Topology::from_json(alloc, line) {
         Ok(topology) => {
+            topology.known();
             push_reply(alloc, replies, "topology ok")?;
             Ok(Net::new(alloc, topology))
         }

@@ -267,7 +267,7 @@ module _ (n : Network) (network : IsNetwork n) where
 
 -- ---- from a host
 
-ok_there : {A F : Type 0} (r : Result A F) → IsOk r → (x : A) × (r ≡ Ok x)
+pub ok_there : {A F : Type 0} (r : Result A F) → IsOk r → (x : A) × (r ≡ Ok x)
 ok_there (Ok x) is = (x, refl)
 ok_there (Err fault) is = absurd cc
 

@@ -29,3 +29,4 @@ pub mod Replies
 pub mod Ended
 pub mod Onward
 pub mod Bounded
+pub mod Present

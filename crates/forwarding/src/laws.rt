@@ -23,8 +23,9 @@ ghost use Rattle.beaconing.specs.Calls.{originated, extended, terminated};
 ghost use Rattle.beaconing.specs.Issued.{IsMade, IsUnderWay};
 ghost use Rattle.forwarding.specs.declared.place.Place.{Place};
 ghost use Rattle.forwarding.specs.declared.place.Stop.{Stop};
+ghost use Rattle.forwarding.specs.declared.reply.TurnReply.{TurnReply};
 ghost use Rattle.forwarding.specs.Frame.{framed, HasFrame};
-ghost use Rattle.forwarding.specs.Turn.{Packet, IsAtNoRouter, put_at, still, turn_under, turn_of, after};
+ghost use Rattle.forwarding.specs.Turn.{Packet, IsAtNoRouter, put_at, still, turn_under, turn_of, turned, after};
 ghost use Rattle.forwarding.specs.Journey.{first_out, turns_for};
 ghost use Rattle.forwarding.specs.Open.{IsOpen, LetsThrough};
 ghost use Rattle.forwarding.specs.Standing.{Standing, GoesOn, arrived_with, Arrives};
@@ -103,6 +104,23 @@ pub fn journeys_are_bounded()
         → IsOk (view_in n stop.ia stop.router) }
     ensures owners { (n : Network) (ia number router : ℕ) → IsNetwork n
         → owner_in n ia number ≡ Ok router → IsOk (view_in n ia router) }
+{}
+
+/// A turn of a packet at a router that the network has is done, whatever its bytes, and leaves it at
+/// such a router or at none. A network has its routers whatever link goes up or down and whatever AS
+/// takes another key.
+pub fn turns_are_done()
+    ensures done { (n : Network) (now : ℕ) (packet : Packet) (stop : Stop)
+        → packet.place ≡ Place.AtRouter stop → IsOk (view_in n stop.ia stop.router)
+        → (turn_of n now packet).0 ≢ TurnReply.Still }
+    ensures there { (n : Network) (now : ℕ) (packet : Packet) (stop next : Stop) → IsNetwork n
+        → packet.place ≡ Place.AtRouter stop → IsOk (view_in n stop.ia stop.router)
+        → (turned n now packet).place ≡ Place.AtRouter next
+        → IsOk (view_in n next.ia next.router) }
+    ensures links { (n m : Network) (up : Bool) (x y ia router : ℕ) → set_up up x y n ≡ Ok m
+        → IsOk (view_in n ia router) → IsOk (view_in m ia router) }
+    ensures keys { (n m : Network) (x : ℕ) (key : List ℕ) (ia router : ℕ) → rotated x key n ≡ Ok m
+        → IsOk (view_in n ia router) → IsOk (view_in m ia router) }
 {}
 
 /// A packet stands where it stands, whatever link goes up or down and whatever AS takes another

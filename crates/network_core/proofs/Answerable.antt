@@ -3,7 +3,7 @@ use Rattle.std.proofs.Common.{◌≡◌, ℕ, ◌≤◌, List, length, Some, Res
 use Rattle.std.specs.Prelude.{slice_get, nat_le}
 use Rattle.std.specs.Option.{ok_or}
 use Rattle.std.proofs.lemmas.Bool.{le-leb}
-use Rattle.refusal.specs.Refusal.{check}
+use Rattle.refusal.specs.Refusal.{◌>>=◌, check, or_else}
 use Rattle.refusal.proofs.Steps.{bind_from}
 use Rattle.path_header.specs.Value.{HeaderValue}
 use Rattle.path_header.specs.Reversal.{reversed}
@@ -20,11 +20,18 @@ use Rattle.forwarding.proofs.Replies.{back_in_time, back_expired}
 use Rattle.network_core.specs.declared.fault.EventFault.{EventFault}
 use Rattle.network_core.specs.declared.fault.EventFault.TheVariants as faults
 use Rattle.network_core.specs.Value.{Way, SentValue, PacketValue, NetValue}
-use Rattle.network_core.specs.Step.{packet_at, turned_round, header_back, way_back, sent_with, replied}
+use Rattle.network_core.specs.Event.{BackOf}
+use Rattle.network_core.specs.Step.{packet_at, header_back, way_back, way_by, sent_with, sent_by}
 use Rattle.network_core.specs.Headline.{IsAnswerable}
 
 abbrev okay : SentValue → Result SentValue EventFault
 okay sent = Ok sent
+
+abbrev header_ok : HeaderValue → Result HeaderValue EventFault
+header_ok h = Ok h
+
+abbrev way_ok : Way → Result Way EventFault
+way_ok w = Ok w
 
 module _ (net : NetValue) (p moment : ℕ) (sent : SentValue) (one : PacketValue)
     (there : slice_get net.packets p ≡ Some one) (holds : one.sent ≡ sent)
@@ -54,7 +61,8 @@ module _ (net : NetValue) (p moment : ℕ) (sent : SentValue) (one : PacketValue
   header_is : header_back one.packet one.packet.place ≡ Ok header
   header_is =
       let read = received sent.way.source sent.way.destination moment sent.payload sent.way.pieces path frame in
-      ap (λ (packet : Packet). header_back packet packet.place) arrived ∙ ap turned_round read.2
+      ap (λ (packet : Packet). header_back packet packet.place) arrived
+      ∙ ap (λ r. or_else faults.NotDelivered r >>= λ (x : HeaderValue × ℕ). header_ok (reversed x.0)) read.2
 
   way_is : way_back one header ≡ back.way
   way_is =
@@ -69,13 +77,15 @@ module _ (net : NetValue) (p moment : ℕ) (sent : SentValue) (one : PacketValue
   checked : check (nat_le (length payload) 1024) faults.PayloadTooLong ≡ Ok tt
   checked = ap (λ b. check b faults.PayloadTooLong) (le-leb (length payload) 1024 few)
 
-  sent_is : sent_with (way_back one header) payload ≡ Ok back
-  sent_is = bind_from (check (nat_le (length payload) 1024) faults.PayloadTooLong) _ tt (Ok back) checked
-      (ap (λ (w : Way). okay (record { way = w; payload = payload })) way_is)
+  sent_is : sent_with back.way payload ≡ Ok back
+  sent_is = bind_from (check (nat_le (length payload) 1024) faults.PayloadTooLong) _ tt (Ok back) checked refl
 
-  replied_is : replied net p payload ≡ Ok back
-  replied_is = bind_from (packet_at net p) _ one (Ok back) (ap (λ o. ok_or o faults.NoPacket) there)
-      (bind_from (header_back one.packet one.packet.place) _ header (Ok back) header_is sent_is)
+  routed : way_by net (BackOf p) ≡ Ok back.way
+  routed = bind_from (packet_at net p) _ one (Ok back.way) (ap (λ o. ok_or o faults.NoPacket) there)
+      (bind_from (header_back one.packet one.packet.place) _ header (Ok back.way) header_is (ap way_ok way_is))
+
+  replied_is : sent_by net (BackOf p) payload ≡ Ok back
+  replied_is = bind_from (way_by net (BackOf p)) _ back.way (Ok back) routed sent_is
 
   pub answerable : IsAnswerable net p sent payload
   answerable = record {

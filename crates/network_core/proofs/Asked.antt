@@ -3,7 +3,6 @@ use Rattle.std.proofs.Common.{◌≡◌, ℕ, zero, suc, ◌+◌, ◌<◌, ◌�
 use Rattle.std.specs.Prelude.{slice_get, nat_le}
 use Rattle.std.specs.Option.{ok_or}
 use Rattle.std.proofs.lemmas.Bool.{cases_Bool, ltb-true, ltb-false}
-use Rattle.std.proofs.lemmas.Option.{slice_get_within, get_or_from_slice_get}
 use Rattle.std.proofs.lemmas.List.Elements.{All-nil, All-cons, All-head, All-tail, All-weaker}
 use Rattle.refusal.specs.Refusal.{check, refused_as}
 use Rattle.refusal.proofs.Steps.{ok_is, ok_or_ok}
@@ -11,7 +10,7 @@ use Rattle.scion_topology.specs.Network.{Network}
 use Rattle.scion_topology.specs.Topology.{IsNetwork, set_up, rotated}
 use Rattle.beaconing.proofs.Reaching.{any_here, any_there}
 use Rattle.policy_expr.specs.declared.option_fault.OptionFault.{OptionFault}
-use Rattle.policy_expr.specs.Options.{OptionTexts, WeighedRules, options_at}
+use Rattle.policy_expr.specs.Options.{WeighedRules}
 use Rattle.path_verifier.specs.Piece.{PieceValue}
 use Rattle.combinator.specs.Candidate.{PathValue}
 use Rattle.combinator.specs.Fault.{ends_at}
@@ -19,16 +18,17 @@ use Rattle.network_core.specs.declared.fault.EventFault.{EventFault}
 use Rattle.network_core.specs.declared.fault.EventFault.TheVariants as faults
 use Rattle.network_core.specs.declared.reply.Reply.{Reply}
 use Rattle.network_core.specs.declared.reply.Reply.TheVariants as replies
-use Rattle.network_core.specs.Event.{ByAnswer, EventValue, Tick, Originate, Extend, Terminate, Sweep, Ask, Send, Turn, Lose, Alter, Back, CutLink, MendLink, RotateKey}
+use Rattle.network_core.specs.Event.{ByAnswer, EventValue, Tick, Originate, Extend, Terminate, Sweep, Ask, Send, Turn, Lose, Alter, CutLink, MendLink, RotateKey}
 use Rattle.network_core.specs.Value.{Way, KeptAnswer, way_on, SentValue, NetValue, new_net}
 use Rattle.network_core.specs.Step.{with_network, options_asked, sent_by, way_by, sent_with, IsAnswerTo, GivesAnswer, Asks, Step}
-use Rattle.network_core.specs.History.{Moment, IsHistory, net_at, Answers, IssuedIn, IssuedBefore, IsAskedBefore}
+use Rattle.network_core.specs.History.{Moment, IsHistory, net_at, Occurs, IssuedIn, IssuedBefore, IsAskedBefore}
+use Rattle.network_core.specs.Delivery.{AllFramed}
 use Rattle.network_core.specs.Headline.{HaveBeginning}
 use Rattle.network_core.proofs.Effects.{done_below, both_done}
 use Rattle.network_core.proofs.Keeping.{by_leads, then_in, IsApart, stays}
 use Rattle.network_core.proofs.Numbers.{becomes_at, event_or_none}
-use Rattle.network_core.proofs.Issuing.{answers_at, last_or, stored_all}
-use Rattle.network_core.proofs.Headlines.{of_send}
+use Rattle.network_core.proofs.Issuing.{occurs_at, last_or, stored_all}
+use Rattle.network_core.proofs.Headlines.{all_at, of_send}
 use Rattle.network_core.proofs.Accepting.{kept_accepted, kept_stored}
 
 -- ---- what an event does to the answers
@@ -40,11 +40,9 @@ Same old new = new.answers ≡ old.answers
 pub record IsAsk (old : NetValue) (event : EventValue) (reply : Reply) (new : NetValue) : Type 0 where
   pub src : ℕ
   pub dst : ℕ
-  pub texts : List OptionTexts
-  pub limit : ℕ
-  pub event_is : event ≡ Ask src dst texts limit
   pub options : List WeighedRules
-  pub read : options_at texts ≡ Ok options
+  pub limit : ℕ
+  pub event_is : event ≡ Ask src dst (Ok options) limit
   pub gives : GivesAnswer options src dst limit old reply new
 
 apart : IsApart (λ (net : NetValue). net.answers)
@@ -58,31 +56,29 @@ apart = record {
 abbrev are_read : List WeighedRules → Result (List WeighedRules) OptionFault
 are_read options = Ok options
 
--- the options that were asked with were read of the texts
-options_read : (net : NetValue) (src dst : ℕ) (texts : List OptionTexts) (limit : ℕ)
-    (options : List WeighedRules) → options_asked net src dst texts limit ≡ Ok options
-    → options_at texts ≡ Ok options
-options_read net src dst texts limit options is =
+-- the options that were asked with are those that were read
+options_read : (net : NetValue) (src dst : ℕ) (read : Result (List WeighedRules) OptionFault)
+    (limit : ℕ) (options : List WeighedRules) → options_asked net src dst read limit ≡ Ok options
+    → read ≡ Ok options
+options_read net src dst read limit options is =
     let limited = both_done (check (leb 1 limit && leb limit 64) faults.BadLimit) _ options is in
-    let read = both_done (refused_as faults.Policy (options_at texts)) _ options limited.1.1 in
-    let ends = both_done (refused_as faults.Combination (ends_at src dst)) _ options read.1.1 in
+    let judged = both_done (refused_as faults.Policy read) _ options limited.1.1 in
+    let ends = both_done (refused_as faults.Combination (ends_at src dst)) _ options judged.1.1 in
     let few = both_done (check (ltb (length net.answers) 1_000_000) faults.TooMany) _ options ends.1.1 in
-    done_below faults.Policy (options_at texts) read.0 read.1.0 ∙ ap are_read (ok_is read.0 options few.1.1)
+    done_below faults.Policy read judged.0 judged.1.0 ∙ ap are_read (ok_is judged.0 options few.1.1)
 
-given : (old new : NetValue) (src dst : ℕ) (texts : List OptionTexts) (limit : ℕ) (reply : Reply)
-    (asked : Result (List WeighedRules) EventFault) → options_asked old src dst texts limit ≡ asked
-    → Asks asked src dst limit old reply new
-    → Same old new ⊎ IsAsk old (Ask src dst texts limit) reply new
-given old new src dst texts limit reply (Err fault) are is =
+given : (old new : NetValue) (src dst : ℕ) (read : Result (List WeighedRules) OptionFault)
+    (limit : ℕ) (reply : Reply) (asked : Result (List WeighedRules) EventFault)
+    → options_asked old src dst read limit ≡ asked → Asks asked src dst limit old reply new
+    → Same old new ⊎ IsAsk old (Ask src dst read limit) reply new
+given old new src dst read limit reply (Err fault) are is =
     inl (ap (λ (net : NetValue). net.answers) is.1)
-given old new src dst texts limit reply (Ok options) are is = inr (record {
+given old new src dst read limit reply (Ok options) are is = inr (record {
   src = src;
   dst = dst;
-  texts = texts;
-  limit = limit;
-  event_is = refl;
   options = options;
-  read = options_read old src dst texts limit options are;
+  limit = limit;
+  event_is = ap (λ r. Ask src dst r limit) (options_read old src dst read limit options are);
   gives = is;
 })
 
@@ -94,12 +90,11 @@ asks old new (Extend beacon ia egress) reply is = inl (stays (λ net. net.answer
 asks old new (Terminate beacon ia) reply is = inl (stays (λ net. net.answers) apart old new (Terminate beacon ia) reply tt is)
 asks old new Sweep reply is = inl (stays (λ net. net.answers) apart old new Sweep reply tt is)
 asks old new (Send route payload) reply is = inl (stays (λ net. net.answers) apart old new (Send route payload) reply tt is)
-asks old new (Back q payload) reply is = inl (stays (λ net. net.answers) apart old new (Back q payload) reply tt is)
 asks old new (Turn q) reply is = inl (stays (λ net. net.answers) apart old new (Turn q) reply tt is)
 asks old new (Lose q) reply is = inl (stays (λ net. net.answers) apart old new (Lose q) reply tt is)
 asks old new (Alter q at change) reply is = inl (stays (λ net. net.answers) apart old new (Alter q at change) reply tt is)
-asks old new (Ask src dst texts limit) reply is =
-    given old new src dst texts limit reply (options_asked old src dst texts limit) refl is
+asks old new (Ask src dst read limit) reply is =
+    given old new src dst read limit reply (options_asked old src dst read limit) refl is
 asks old new (CutLink ia number) reply is =
     inl (by_leads (Same old) old new reply (with_network old (set_up false ia number old.network)) refl
     (then_in (Same old) (refused_as faults.Topology (set_up false ia number old.network)) _ (λ m. refl)) is)
@@ -119,12 +114,12 @@ answer_is one net src dst options limit is =
     subst (λ d. IsAnswerTo net one.source d options limit one) (sym is.destination)
     (subst (λ s. IsAnswerTo net s dst options limit one) (sym is.source) is)
 
-event_of : (one : KeptAnswer) (net : NetValue) (src dst : ℕ) (texts : List OptionTexts)
-    (options : List WeighedRules) (limit : ℕ) → IsAnswerTo net src dst options limit one
-    → Ask src dst texts limit ≡ Ask one.source one.destination texts limit
-event_of one net src dst texts options limit is =
-    ap (λ s. Ask s dst texts limit) (sym is.source)
-    ∙ ap (λ d. Ask one.source d texts limit) (sym is.destination)
+event_of : (one : KeptAnswer) (net : NetValue) (src dst : ℕ) (options : List WeighedRules)
+    (limit : ℕ) → IsAnswerTo net src dst options limit one
+    → Ask src dst (Ok options) limit ≡ Ask one.source one.destination (Ok options) limit
+event_of one net src dst options limit is =
+    ap (λ s. Ask s dst (Ok options) limit) (sym is.source)
+    ∙ ap (λ d. Ask one.source d (Ok options) limit) (sym is.destination)
 
 -- ---- in a history that begins with nothing made
 
@@ -145,11 +140,9 @@ module _ (start : NetValue) (history : List Moment) (is : IsHistory start histor
       record {
         at = a.at;
         before = omega arith;
-        texts = a.texts;
+        options = a.options;
         limit = a.limit;
         asked = a.asked;
-        options = a.options;
-        read = a.read;
         is = a.is;
         accepted = a.accepted;
         issued = a.issued;
@@ -164,14 +157,12 @@ module _ (start : NetValue) (history : List Moment) (is : IsHistory start histor
       record {
         at = k;
         before = omega arith;
-        texts = a.texts;
-        limit = a.limit;
-        asked = answers_at history k m (Ask one.source one.destination a.texts a.limit)
-            (replies.Answered (length (at k).answers)) there
-            (a.event_is ∙ event_of one (at k) a.src a.dst a.texts a.options a.limit a.gives.is)
-            a.gives.told;
         options = a.options;
-        read = a.read;
+        limit = a.limit;
+        asked = occurs_at history k m (Ask one.source one.destination (Ok a.options) a.limit)
+            (replies.Answered (length (at k).answers)) there
+            (a.event_is ∙ event_of one (at k) a.src a.dst a.options a.limit a.gives.is)
+            a.gives.told;
         is = answers;
         accepted = kept_accepted (at k) a.options a.limit one answers;
         issued = kept_stored (IssuedBefore start history k) (at k) a.options a.limit one
@@ -272,12 +263,6 @@ module _ (start : NetValue) (history : List Moment) (sent : ℕ) where
 
 -- ---- what is sent by an answer
 
--- what is so of each element is so of the one at a place
-all_at : {X : Type 0} (P : X → Type 0) (xs : List X) (place : ℕ) (x : X) → All P xs
-    → slice_get xs place ≡ Some x → P x
-all_at P xs place x all there =
-    subst P (get_or_from_slice_get xs place x x there) (all place x (slice_get_within xs place x there))
-
 way_sent : (way : Way) (payload : List ℕ) (sent : SentValue) → sent_with way payload ≡ Ok sent
     → way ≡ sent.way
 way_sent way payload sent is =
@@ -308,14 +293,14 @@ by_answer net ask path payload sent is =
     }
 
 pub of_answer : (network : Network) (history : List Moment) (number p ask path : ℕ)
-    (payload : List ℕ) → IsNetwork network → IsHistory (new_net network) history
-    → Answers history number (Send (ByAnswer ask path) payload) (replies.Sent p)
+    (payload : List ℕ) → IsNetwork network → IsHistory (new_net network) history → AllFramed history
+    → Occurs history number (Send (ByAnswer ask path) payload) (replies.Sent p)
     → (sent : SentValue)
     × ((sent_by (net_at (new_net network) history number) (ByAnswer ask path) payload ≡ Ok sent)
     × HaveBeginning (new_net network) history number sent.way.pieces)
-of_answer network history number p ask path payload known is answers =
+of_answer network history number p ask path payload known is framed answers =
     let start = new_net network in
-    let s = of_send start history number p (ByAnswer ask path) payload known is answers in
+    let s = of_send start history number p (ByAnswer ask path) payload known is framed answers in
     let by = by_answer (net_at start history number) ask path payload s.0 s.1.0 in
     let a = asked_all start history is known refl refl refl number ask by.one by.there in
     let at_ask = all_at (λ (one : PathValue). All (λ (piece : PieceValue). IssuedBefore start history a.at piece.segment) one.pieces)

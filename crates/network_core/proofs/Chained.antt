@@ -27,7 +27,7 @@ use Rattle.network_core.specs.declared.reply.Reply.TheVariants.{Begun, Registere
 use Rattle.network_core.specs.Event.{EventValue, Originate, Extend, Terminate, CutLink, RotateKey}
 use Rattle.network_core.specs.Value.{NetValue}
 use Rattle.network_core.specs.Step.{Made, with_beacon, begun, passed_on, beacon_at, Leads, Step}
-use Rattle.network_core.specs.History.{Moment, IsHistory, net_at, Answers, PassOn, key_then, IssuedIn}
+use Rattle.network_core.specs.History.{Moment, IsHistory, net_at, Occurs, PassOn, key_then, IssuedIn}
 use Rattle.network_core.specs.Headline.{IsDone}
 use Rattle.network_core.proofs.Effects.{stores, done_below, both_done}
 use Rattle.network_core.proofs.Numbers.{StepAt, becomes_at, network_at, under_on}
@@ -309,7 +309,7 @@ module _ (start : NetValue) (history : List Moment) (is : IsHistory start histor
   }
 
   first_made : (first ia egress beta0 b : ℕ) → begin ≤ first
-      → Answers history first (Originate ia egress beta0) (Begun b)
+      → Occurs history first (Originate ia egress beta0) (Begun b)
       → MadeAt b (key_then start history first ∷ [])
   first_made first ia egress beta0 b from answers =
       let m : Moment = record { event = Originate ia egress beta0; reply = Begun b; net = answers.net } in
@@ -346,7 +346,7 @@ module _ (start : NetValue) (history : List Moment) (is : IsHistory start histor
   ]
 
   next_made : (k b ia egress next : ℕ) (keys : List (List ℕ)) → MadeAt b keys
-      → Answers history k (Extend b ia egress) (Begun next)
+      → Occurs history k (Extend b ia egress) (Begun next)
       → MadeAt next (keys ++ key_then start history k ∷ [])
   next_made k b ia egress next keys before answers =
       let m : Moment = record { event = Extend b ia egress; reply = Begun next; net = answers.net } in

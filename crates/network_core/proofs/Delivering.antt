@@ -7,7 +7,6 @@ use Rattle.scion_topology.specs.declared.fault.TopologyFault.{TopologyFault}
 use Rattle.scion_topology.specs.Topology.{IsNetwork, owner_in}
 use Rattle.path_verifier.specs.Walk.{walk_of}
 use Rattle.path_verifier.specs.Accepted.{IsAccepted}
-use Rattle.forwarding.specs.declared.place.Place.{Place}
 use Rattle.forwarding.specs.Frame.{framed, HasFrame}
 use Rattle.forwarding.specs.Turn.{Packet, put_at}
 use Rattle.forwarding.specs.Standing.{Standing}
@@ -16,11 +15,12 @@ use Rattle.forwarding.proofs.Sending.{starts}
 use Rattle.network_core.specs.declared.fault.EventFault.TheVariants as faults
 use Rattle.network_core.specs.declared.reply.Reply.{Reply}
 use Rattle.network_core.specs.declared.reply.Reply.TheVariants as replies
-use Rattle.network_core.specs.Value.{asked_at, SentValue, NetValue}
+use Rattle.network_core.specs.Value.{asked_at, SentValue, PacketValue, NetValue}
 use Rattle.network_core.specs.Step.{Made, packet_of, departs, Leads, Sends}
 use Rattle.network_core.specs.History.{Moment, IsHistory, net_after}
-use Rattle.network_core.specs.Delivery.{AllLetGoOn, turns_of, IsRefusedAt, IsAtRouter, IsForwarded, AreSound, AllLeaveUndisturbed}
+use Rattle.network_core.specs.Delivery.{AllLetGoOn, turns_of, IsForwarded, AreSound, AllLeaveUndisturbed, HasSentFrame}
 use Rattle.network_core.proofs.Carrying.{Carried, standing_some, carried_through}
+use Rattle.network_core.proofs.Readied.{last_there}
 use Rattle.network_core.proofs.Steadying.{let_all}
 
 -- ---- departing
@@ -35,10 +35,6 @@ made_of : (made : Made) (old new : NetValue) (p : ℕ) → Leads made old (repli
 made_of (Ok done) old new p is =
     ap (λ (r : Reply). Ok (r, done.1)) (sym is.0) ∙ ap (λ (net : NetValue). Ok (replies.Sent p, net)) (sym is.1)
 made_of (Err fault) old new p is = absurd (let e = is.0 in cc)
-
-last_there : {A : Type 0} (xs : List A) (x : A) → slice_get (xs ++ x ∷ []) (length xs) ≡ Some x
-last_there [] x = refl
-last_there (y ∷ xs) x = last_there xs x
 
 departed : (p : ℕ) (old new : NetValue) (sent : SentValue) → IsAccepted (asked_at old.moment sent.way)
     → HasFrame sent.way.source sent.way.destination sent.way.pieces
@@ -71,32 +67,50 @@ departed p old new sent accepted frame is =
       });
     })
 
--- what an event of this answer sent
-pub sent_then : (p : ℕ) (old new : NetValue) (sent : SentValue)
+-- what an event of this answer sent was accepted, and departed
+pub accepted_then : (p : ℕ) (old new : NetValue) (sent : SentValue)
     → Sends (Ok sent) old (replies.Sent p) new
-    → IsAccepted (asked_at old.moment sent.way)
-    × Carried new p sent (turns_for old.network (walk_of sent.way.pieces)) 0
-sent_then p old new sent is = elim is [
-  | inl done ↦ (
-    done.0,
-    departed p old new sent done.0 (done.1.1 p refl)
-        (made_of (departs old sent) old new p done.1.0),
-  )
+    → IsAccepted (asked_at old.moment sent.way) × (departs old sent ≡ Ok (replies.Sent p, new))
+accepted_then p old new sent is = elim is [
+  | inl done ↦ (done.0, made_of (departs old sent) old new p done.1)
   | inr none ↦ absurd (let e = none.1.1.0 in cc)
 ]
 
--- and its numbers have a place for their bits
-pub frame_sent : (p : ℕ) (old new : NetValue) (sent : SentValue)
+pub sent_then : (p : ℕ) (old new : NetValue) (sent : SentValue)
     → Sends (Ok sent) old (replies.Sent p) new
     → HasFrame sent.way.source sent.way.destination sent.way.pieces
-frame_sent p old new sent is = elim is [
-  | inl done ↦ done.1.1 p refl
-  | inr none ↦ absurd (let e = none.1.1.0 in cc)
-]
+    → Carried new p sent (turns_for old.network (walk_of sent.way.pieces)) 0
+sent_then p old new sent is frame =
+    let from = accepted_then p old new sent is in
+    departed p old new sent from.0 frame from.1
+
+-- what departed is the last packet, of this number
+pub departed_last : (p : ℕ) (old new : NetValue) (sent : SentValue)
+    → departs old sent ≡ Ok (replies.Sent p, new)
+    → (one : PacketValue) × ((slice_get new.packets p ≡ Some one) × (one.sent ≡ sent))
+departed_last p old new sent is =
+    let at = bind_ok (refused_as faults.Topology (owner_in old.network sent.way.source (first_out (walk_of sent.way.pieces)))) _ (replies.Sent p, new) is in
+    let room = bind_ok (check (ltb (length old.packets) 1_000_000) faults.TooMany) _ (replies.Sent p, new) at.2 in
+    let one = packet_of sent at.0 in
+    let made : NetValue = record old { packets = old.packets ++ one ∷ [] } in
+    let both = ok_is (replies.Sent (length old.packets), made) (replies.Sent p, new) room.2 in
+    let number : length old.packets ≡ p =
+    (let e : replies.Sent (length old.packets) ≡ replies.Sent p = ap (λ (d : Reply × NetValue). d.0) both in cc) in
+    let packets : old.packets ++ one ∷ [] ≡ new.packets = ap (λ (d : Reply × NetValue). d.1.packets) both in
+    (one, (ap (λ ps. slice_get ps p) (sym packets) ∙ ap (slice_get (old.packets ++ one ∷ [])) (sym number) ∙ last_there old.packets one, refl))
+
+-- the numbers of what was sent have a place for their bits
+pub frame_sent : (p : ℕ) (old new : NetValue) (sent : SentValue)
+    → Sends (Ok sent) old (replies.Sent p) new → HasSentFrame (replies.Sent p) new
+    → HasFrame sent.way.source sent.way.destination sent.way.pieces
+frame_sent p old new sent is framed =
+    let last = departed_last p old new sent (accepted_then p old new sent is).1 in
+    subst (λ (s : SentValue). HasFrame s.way.source s.way.destination s.way.pieces) last.1.1
+    (framed p last.0 refl last.1.0)
 
 -- ---- after each prefix
 
-history_take : (net : NetValue) (later : List Moment) (k : ℕ) → IsHistory net later
+pub history_take : (net : NetValue) (later : List Moment) (k : ℕ) → IsHistory net later
     → IsHistory net (take k later)
 history_take net later zero is = tt
 history_take net [] (suc k) is = tt
@@ -110,10 +124,6 @@ let_take p sent net (moment ∷ later) (suc k) lets = (lets.0, let_take p sent m
 
 -- ---- what that says of the packet
 
-not_refused : (place : Place) → (IsRefusedAt place → ⊥) → (other : Place) → other ≡ place
-    → IsRefusedAt other → ⊥
-not_refused place never other same refused = never (subst IsRefusedAt same refused)
-
 forwarded : (net : NetValue) (p total done : ℕ) (sent : SentValue) → Carried net p sent total done
     → IsForwarded net p total done sent
 forwarded net p total done sent c = elim c.state [
@@ -126,11 +136,11 @@ forwarded net p total done sent c = elim c.state [
         packet = c.packet;
         there = c.there;
         holds = c.holds;
-        unrefused = not_refused _ (λ refused. refused) c.packet.packet.place place;
+        unrefused = λ ia router refusal e. (let both = sym place ∙ e in cc);
         rest = to_come stands.came stands.spot;
         so_far = ap (λ (q : Packet). q.passed ++ to_come stands.came stands.spot) stands.is ∙ stands.walk;
         exact = (λ delivered. absurd (let both = sym place ∙ delivered in cc), λ enough. absurd (omega arith));
-        waits = λ early. subst IsAtRouter (sym place) tt;
+        waits = λ early. (_, place);
         whole = λ delivered. absurd (let both = sym place ∙ delivered in cc);
       })
   | inr l ↦ (
@@ -139,7 +149,7 @@ forwarded net p total done sent c = elim c.state [
         packet = c.packet;
         there = c.there;
         holds = c.holds;
-        unrefused = not_refused _ (λ refused. refused) c.packet.packet.place place;
+        unrefused = λ ia router refusal e. (let both = sym place ∙ e in cc);
         rest = [];
         so_far = ap (λ (q : Packet). q.passed ++ []) l.there ∙ append-nil (walk_of sent.way.pieces);
         exact = (λ delivered. l.count, λ enough. place);
@@ -151,26 +161,28 @@ forwarded net p total done sent c = elim c.state [
 -- after each number of the events that follow it
 pub delivery : (p k : ℕ) (old new : NetValue) (sent : SentValue) (later : List Moment)
     → Sends (Ok sent) old (replies.Sent p) new
+    → HasFrame sent.way.source sent.way.destination sent.way.pieces
     → IsHistory new later → AllLetGoOn p sent new later
     → IsForwarded (net_after new (take k later)) p (turns_for old.network (walk_of sent.way.pieces))
     (turns_of p (take k later)) sent
-delivery p k old new sent later is history lets =
+delivery p k old new sent later is frame history lets =
     let total = turns_for old.network (walk_of sent.way.pieces) in
-    let from = sent_then p old new sent is in
+    let from = sent_then p old new sent is frame in
     let none : 0 + turns_of p (take k later) ≡ turns_of p (take k later) = omega arith in
     subst (λ done. IsForwarded (net_after new (take k later)) p total done sent) none
     (forwarded (net_after new (take k later)) p total (0 + turns_of p (take k later)) sent
     (carried_through p sent total 0 new (take k later) (history_take new later k history)
-    (let_take p sent new later k lets) from.1))
+    (let_take p sent new later k lets) from))
 
 -- the same where its pieces are sound and the events leave it undisturbed
 pub undisturbed : (p k : ℕ) (old new : NetValue) (sent : SentValue) (later : List Moment)
     → Sends (Ok sent) old (replies.Sent p) new
+    → HasFrame sent.way.source sent.way.destination sent.way.pieces
     → IsNetwork new.network → AreSound new.network sent.way.pieces
     → IsHistory new later → AllLeaveUndisturbed p sent new later
     → IsForwarded (net_after new (take k later)) p (turns_for old.network (walk_of sent.way.pieces))
     (turns_of p (take k later)) sent
-undisturbed p k old new sent later is network sound history quiet =
-    let from = sent_then p old new sent is in
-    delivery p k old new sent later is history
+undisturbed p k old new sent later is frame network sound history quiet =
+    let from = accepted_then p old new sent is in
+    delivery p k old new sent later is frame history
     (let_all p sent old.moment new later from.0.path history network sound quiet)

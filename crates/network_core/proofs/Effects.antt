@@ -15,10 +15,10 @@ use Rattle.network_core.specs.declared.fault.EventFault.{EventFault}
 use Rattle.network_core.specs.declared.fault.EventFault.TheVariants as faults
 use Rattle.network_core.specs.declared.reply.Reply.{Reply}
 use Rattle.network_core.specs.declared.reply.Reply.TheVariants.{Begun, Registered}
-use Rattle.network_core.specs.Event.{EventValue, Tick, Originate, Extend, Terminate, Sweep, Ask, Send, Turn, Lose, Alter, Back, CutLink, MendLink, RotateKey}
+use Rattle.network_core.specs.Event.{EventValue, Tick, Originate, Extend, Terminate, Sweep, Ask, Send, Turn, Lose, Alter, CutLink, MendLink, RotateKey}
 use Rattle.network_core.specs.Value.{SentValue, NetValue}
 use Rattle.policy_expr.specs.Options.{WeighedRules}
-use Rattle.network_core.specs.Step.{Made, with_beacon, with_segment, begun, passed_on, ended, beacon_at, with_network, flying_at, turns, loses, alters, options_asked, sent_by, replied, departs, Leads, Asks, Sends, Step}
+use Rattle.network_core.specs.Step.{Made, with_beacon, with_segment, begun, passed_on, ended, beacon_at, with_network, flying_at, turns, loses, alters, options_asked, sent_by, departs, Leads, Asks, Sends, Step}
 
 -- ---- steps of a definition
 
@@ -167,7 +167,7 @@ send_spares : (old new : NetValue) (reply : Reply) (sent : Result SentValue Even
     → Sends sent old reply new → Spares old new
 send_spares old new reply (Err fault) is = all_spared old new is.1
 send_spares old new reply (Ok sent) is = elim is [
-  | inl done ↦ spares_by old new reply (departs old sent) (depart_spares old sent) done.1.0
+  | inl done ↦ spares_by old new reply (departs old sent) (depart_spares old sent) done.1
   | inr none ↦ all_spared old new none.1.1.1
 ]
 
@@ -235,12 +235,10 @@ renews old new (Terminate beacon ia) reply is =
       | inr none ↦ same_network old new none
     ])
 renews old new Sweep reply is = inl (ap (λ (net : NetValue). net.network) is.1)
-renews old new (Ask src dst texts limit) reply is =
-    inl (ask_spares old new reply (options_asked old src dst texts limit) src dst limit is).0
+renews old new (Ask src dst read limit) reply is =
+    inl (ask_spares old new reply (options_asked old src dst read limit) src dst limit is).0
 renews old new (Send route payload) reply is =
     inl (send_spares old new reply (sent_by old route payload) is).0
-renews old new (Back number payload) reply is =
-    inl (send_spares old new reply (replied old number payload) is).0
 renews old new (Turn number) reply is = inl (turn_spares old new number reply is).0
 renews old new (Lose number) reply is = inl (lose_spares old new number reply is).0
 renews old new (Alter number at change) reply is = inl (alter_spares old new number at change reply is).0
@@ -353,12 +351,10 @@ stores old new (Extend beacon ia egress) reply is = passed old new beacon ia egr
 stores old new (Terminate beacon ia) reply is = closed old new beacon ia reply is
 stores old new Sweep reply is =
     inr (inr (inr (inr (ap (λ (net : NetValue). net.beacons) is.1, ap (λ (net : NetValue). net.segments) is.1))))
-stores old new (Ask src dst texts limit) reply is =
-    inl (ask_spares old new reply (options_asked old src dst texts limit) src dst limit is).1
+stores old new (Ask src dst read limit) reply is =
+    inl (ask_spares old new reply (options_asked old src dst read limit) src dst limit is).1
 stores old new (Send route payload) reply is =
     inl (send_spares old new reply (sent_by old route payload) is).1
-stores old new (Back number payload) reply is =
-    inl (send_spares old new reply (replied old number payload) is).1
 stores old new (Turn number) reply is = inl (turn_spares old new number reply is).1
 stores old new (Lose number) reply is = inl (lose_spares old new number reply is).1
 stores old new (Alter number at change) reply is = inl (alter_spares old new number at change reply is).1

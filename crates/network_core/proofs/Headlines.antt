@@ -1,26 +1,29 @@
 -- The headline, by the numbers of the events.
-use Rattle.std.proofs.Common.{◌≡◌, ℕ, zero, suc, ◌+◌, ◌-◌, ◌<◌, ◌≤◌, List, [], ◌∷◌, take, drop, get_or, Some, Ok, Err, Result, refl, sym, ap, ◌∙◌, subst, arith}
+use Rattle.std.proofs.Common.{◌≡◌, ℕ, zero, suc, ◌+◌, ◌-◌, ◌<◌, ◌≤◌, List, [], ◌∷◌, take, drop, get_or, All, Some, Ok, Err, Result, refl, sym, ap, ◌∙◌, subst, arith}
 use Rattle.std.specs.Prelude.{slice_get}
+use Rattle.std.proofs.lemmas.Option.{slice_get_within, get_or_from_slice_get}
 use Rattle.scion_topology.specs.Topology.{IsNetwork}
 use Rattle.path_verifier.specs.Walk.{walk_of}
 use Rattle.path_verifier.specs.Accepted.{IsAccepted}
 use Rattle.path_verifier.proofs.Expiry.{live_up_to}
+use Rattle.forwarding.specs.Frame.{HasFrame}
 use Rattle.forwarding.specs.Journey.{turns_for}
 use Rattle.forwarding.proofs.Bounds.{turns_are_few}
 use Rattle.forwarding.proofs.Made.{sound_is_let_through}
 use Rattle.network_core.specs.declared.fault.EventFault.{EventFault}
 use Rattle.network_core.specs.declared.reply.Reply.TheVariants as replies
-use Rattle.network_core.specs.Event.{RouteValue, Send, Turn, Lose, Alter, Back}
+use Rattle.network_core.specs.Event.{RouteValue, Send, Turn, Lose, Alter}
 use Rattle.network_core.specs.Value.{asked_at, SentValue, NetValue}
-use Rattle.network_core.specs.Step.{sent_by, replied, Sends}
-use Rattle.network_core.specs.History.{Moment, IsHistory, net_at, Answers}
-use Rattle.network_core.specs.Delivery.{LetsGoOn, AllLetGoOn, AreSound, turns_of, IsForwarded}
+use Rattle.network_core.specs.Step.{sent_by, Sends}
+use Rattle.network_core.specs.History.{Moment, IsHistory, net_after, net_at, Occurs}
+use Rattle.network_core.specs.Delivery.{LetsGoOn, AllLetGoOn, AreSound, turns_of, IsForwarded, HasSentFrame, IsFramed, AllFramed}
 use Rattle.network_core.specs.Headline.{Kept, Undisturbed, turns_since, Headline}
-use Rattle.network_core.proofs.Numbers.{becomes_at, network_at}
+use Rattle.network_core.proofs.Numbers.{becomes_at, left_at, network_at}
 use Rattle.network_core.proofs.Rotating.{done_at}
 use Rattle.network_core.proofs.Chained.{sound_from}
-use Rattle.network_core.proofs.Delivering.{sent_then, frame_sent, delivery}
+use Rattle.network_core.proofs.Delivering.{accepted_then, frame_sent, history_take, delivery}
 use Rattle.network_core.proofs.Answerable.{answerable}
+use Rattle.network_core.proofs.Staying.{delivered_stays}
 
 -- ---- a history from a number on
 
@@ -73,9 +76,10 @@ by_number p sent net (m ∷ later) each =
 
 module _ (start : NetValue) (history : List Moment) (is : IsHistory start history)
     (network : IsNetwork start.network) (number p : ℕ) (sent : SentValue)
-    (sends : Sends (Ok sent) (net_at start history number) (replies.Sent p) (net_at start history (number + 1))) where
+    (sends : Sends (Ok sent) (net_at start history number) (replies.Sent p) (net_at start history (number + 1)))
+    (frame : HasFrame sent.way.source sent.way.destination sent.way.pieces) where
   accepted : IsAccepted (asked_at (net_at start history number).moment sent.way)
-  accepted = (sent_then p (net_at start history number) (net_at start history (number + 1)) sent sends).0
+  accepted = (accepted_then p (net_at start history number) (net_at start history (number + 1)) sent sends).0
 
   -- its pieces are sound from the Send on
   sound : (k : ℕ) → number ≤ k → Kept start history number sent.way.pieces
@@ -104,11 +108,11 @@ module _ (start : NetValue) (history : List Moment) (is : IsHistory start histor
         (sound k (omega arith) quiet.kept);
   }
 
-  forwarded : (k : ℕ) → Undisturbed start history number p sent.way.pieces → number < k
+  all_forwarded : (k : ℕ) → Undisturbed start history number p sent.way.pieces → number < k
       → IsForwarded (net_at start history k) p
       (turns_for (net_at start history number).network (walk_of sent.way.pieces))
       (turns_since history number p k) sent
-  forwarded k quiet after =
+  all_forwarded k quiet after =
       let new = net_at start history (number + 1) in
       let later = drop (number + 1) history in
       let total = turns_for (net_at start history number).network (walk_of sent.way.pieces) in
@@ -118,7 +122,7 @@ module _ (start : NetValue) (history : List Moment) (is : IsHistory start histor
       let behind : number < number + 1 + i = omega arith in
       subst (λ (net : NetValue). LetsGoOn p sent net m.event m.reply) (sym (net_drop start history (number + 1) i))
       (lets_at (number + 1 + i) m behind (sym (there_drop history (number + 1) i) ∙ there) quiet))) in
-      let f = delivery p (k - (number + 1)) (net_at start history number) new sent later sends
+      let f = delivery p (k - (number + 1)) (net_at start history number) new sent later sends frame
       (history_drop start history (number + 1) is) lets in
       let here : net_at new later (k - (number + 1)) ≡ net_at start history k =
       net_drop start history (number + 1) (k - (number + 1)) ∙ ap (net_at start history) sum in
@@ -128,22 +132,70 @@ module _ (start : NetValue) (history : List Moment) (is : IsHistory start histor
       subst (λ net. IsForwarded net p total (turns_since history number p k) sent) here
       (subst (λ done. IsForwarded (net_at new later (k - (number + 1))) p total done sent) count f)
 
+-- ---- the same of the first k events alone
+
+take_take : (j k : ℕ) (history : List Moment) → j ≤ k → take j (take k history) ≡ take j history
+take_take zero k history low = refl
+take_take (suc j) zero history low = absurd (omega arith)
+take_take (suc j) (suc k) [] low = refl
+take_take (suc j) (suc k) (m ∷ history) low = ap (λ later. m ∷ later) (take_take j k history (omega arith))
+
+net_take : (start : NetValue) (history : List Moment) (j k : ℕ) → j ≤ k
+    → net_at start (take k history) j ≡ net_at start history j
+net_take start history j k low = ap (net_after start) (take_take j k history low)
+
+module _ (start : NetValue) (history : List Moment) (is : IsHistory start history)
+    (network : IsNetwork start.network) (number p : ℕ) (sent : SentValue)
+    (sends : Sends (Ok sent) (net_at start history number) (replies.Sent p) (net_at start history (number + 1)))
+    (frame : HasFrame sent.way.source sent.way.destination sent.way.pieces) where
+  sends_first : (k : ℕ) → number < k → Sends (Ok sent) (net_at start (take k history) number)
+      (replies.Sent p) (net_at start (take k history) (number + 1))
+  sends_first k after =
+      subst (λ net. Sends (Ok sent) (net_at start (take k history) number) (replies.Sent p) net)
+      (sym (net_take start history (number + 1) k (omega arith)))
+      (subst (λ net. Sends (Ok sent) net (replies.Sent p) (net_at start history (number + 1)))
+      (sym (net_take start history number k (omega arith))) sends)
+
+  forwarded : (k : ℕ) → number < k → Undisturbed start (take k history) number p sent.way.pieces
+      → IsForwarded (net_at start history k) p
+      (turns_for (net_at start history number).network (walk_of sent.way.pieces))
+      (turns_since history number p k) sent
+  forwarded k after quiet =
+      let first = take k history in
+      let walk = walk_of sent.way.pieces in
+      let f = all_forwarded start first (history_take start history k is) network number p sent
+      (sends_first k after) frame k quiet after in
+      subst (λ h. IsForwarded (net_at start history k) p (turns_for (net_at start history number).network walk)
+      (turns_of p (drop (number + 1) h)) sent) (take_take k k history (omega arith))
+      (subst (λ (net : NetValue). IsForwarded (net_at start history k) p (turns_for net.network walk)
+      (turns_since first number p k) sent) (net_take start history number k (omega arith))
+      (subst (λ net. IsForwarded net p (turns_for (net_at start first number).network walk)
+      (turns_since first number p k) sent) (net_take start history k k (omega arith)) f))
+
   pub headline : Headline start history number p sent
   headline = record {
-    accepted = accepted;
+    accepted = accepted start history is network number p sent sends frame;
     forwarded = forwarded;
-    in_time = λ k quiet after enough. (
+    in_time = λ k after quiet enough. (
         let few = turns_are_few (net_at start history number).network sent.way.pieces sent.way.source
-        sent.way.destination (net_at start history number).moment accepted.path in
-        (forwarded k quiet after).exact.1 (omega arith));
-    answerable = λ k quiet after delivered payload few. (
-        let f = forwarded k quiet after in
+        sent.way.destination (net_at start history number).moment
+        (accepted start history is network number p sent sends frame).path in
+        (forwarded k after quiet).exact.1 (omega arith));
+    answerable = λ k after quiet delivered payload few. (
+        let f = forwarded k after quiet in
         answerable (net_at start history k) p (net_at start history number).moment sent f.packet f.there
-        f.holds (f.whole delivered) accepted.path
-        (frame_sent p (net_at start history number) (net_at start history (number + 1)) sent sends) payload few);
+        f.holds (f.whole delivered) (accepted start history is network number p sent sends frame).path
+        frame payload few);
+    stays = λ k j one order there delivered. delivered_stays start history p k j one is order there delivered;
   }
 
--- ---- by a Send, and by a Back
+-- ---- by a Send
+
+-- what is so of each element is so of the one at a place
+pub all_at : {X : Type 0} (P : X → Type 0) (xs : List X) (place : ℕ) (x : X) → All P xs
+    → slice_get xs place ≡ Some x → P x
+all_at P xs place x all there =
+    subst P (get_or_from_slice_get xs place x x there) (all place x (slice_get_within xs place x there))
 
 sends_ok : (r : Result SentValue EventFault) (p : ℕ) (old new : NetValue)
     → Sends r old (replies.Sent p) new
@@ -151,24 +203,26 @@ sends_ok : (r : Result SentValue EventFault) (p : ℕ) (old new : NetValue)
 sends_ok (Ok sent) p old new is = (sent, (refl, is))
 sends_ok (Err fault) p old new is = absurd (let e = is.0 in cc)
 
+-- of what an event sent the numbers have a place for their bits, where they have it of each
+framed_at : (start : NetValue) (history : List Moment) (number p : ℕ) (route : RouteValue)
+    (payload : List ℕ) → IsHistory start history → AllFramed history
+    → Occurs history number (Send route payload) (replies.Sent p)
+    → HasSentFrame (replies.Sent p) (net_at start history (number + 1))
+framed_at start history number p route payload is framed occurs =
+    let m : Moment = record { event = Send route payload; reply = replies.Sent p; net = occurs.net } in
+    let of : IsFramed (Send route payload) (replies.Sent p) occurs.net =
+    all_at (λ (x : Moment). IsFramed x.event x.reply x.net) history number m framed occurs.there in
+    subst (HasSentFrame (replies.Sent p)) (left_at start history number m is occurs.there) (of route payload refl)
+
 pub of_send : (start : NetValue) (history : List Moment) (number p : ℕ) (route : RouteValue)
-    (payload : List ℕ) → IsNetwork start.network → IsHistory start history
-    → Answers history number (Send route payload) (replies.Sent p)
+    (payload : List ℕ) → IsNetwork start.network → IsHistory start history → AllFramed history
+    → Occurs history number (Send route payload) (replies.Sent p)
     → (sent : SentValue) × ((sent_by (net_at start history number) route payload ≡ Ok sent)
     × Headline start history number p sent)
-of_send start history number p route payload network is answers =
+of_send start history number p route payload network is framed occurs =
     let step = becomes_at start history number
-    (record { event = Send route payload; reply = replies.Sent p; net = answers.net }) is answers.there in
+    (record { event = Send route payload; reply = replies.Sent p; net = occurs.net }) is occurs.there in
     let s = sends_ok (sent_by (net_at start history number) route payload) p (net_at start history number) (net_at start history (number + 1)) step in
-    (s.0, (s.1.0, headline start history is network number p s.0 s.1.1))
-
-pub of_back : (start : NetValue) (history : List Moment) (number p q : ℕ) (payload : List ℕ)
-    → IsNetwork start.network → IsHistory start history
-    → Answers history number (Back q payload) (replies.Sent p)
-    → (sent : SentValue) × ((replied (net_at start history number) q payload ≡ Ok sent)
-    × Headline start history number p sent)
-of_back start history number p q payload network is answers =
-    let step = becomes_at start history number
-    (record { event = Back q payload; reply = replies.Sent p; net = answers.net }) is answers.there in
-    let s = sends_ok (replied (net_at start history number) q payload) p (net_at start history number) (net_at start history (number + 1)) step in
-    (s.0, (s.1.0, headline start history is network number p s.0 s.1.1))
+    let frame = frame_sent p (net_at start history number) (net_at start history (number + 1)) s.0 s.1.1
+    (framed_at start history number p route payload is framed occurs) in
+    (s.0, (s.1.0, headline start history is network number p s.0 s.1.1 frame))

@@ -18,7 +18,7 @@ use Rattle.network_core.specs.declared.reply.Reply.{Reply}
 use Rattle.network_core.specs.declared.reply.Reply.TheVariants.{Begun, Registered}
 use Rattle.network_core.specs.Event.{EventValue, Originate, Extend, Terminate}
 use Rattle.network_core.specs.Value.{NetValue}
-use Rattle.network_core.specs.History.{Moment, IsHistory, net_at, Answers, PassOn, doer, key_then, IssuedIn, IssuedBefore}
+use Rattle.network_core.specs.History.{Moment, IsHistory, net_at, Occurs, PassOn, doer, key_then, IssuedIn, IssuedBefore}
 use Rattle.network_core.proofs.Effects.{IsStart, IsPass, IsEnd, stores}
 use Rattle.network_core.proofs.Numbers.{StepAt, becomes_at, event_or_none, network_at, under_on}
 
@@ -30,15 +30,15 @@ pub record IsPassed (start : NetValue) (history : List Moment) (k b : ℕ) (chai
   pub egress : ℕ
   pub beta0 : ℕ
   pub begun : ℕ
-  pub start_of : Answers history first (Originate ia egress beta0) (Begun begun)
+  pub start_of : Occurs history first (Originate ia egress beta0) (Begun begun)
   pub between : List ℕ
   pub passed_on : PassOn history begun between b
   pub under : IsUnderWay (net_at start history k).network
       (map (key_then start history) (first ∷ between)) chain
 
-pub answers_at : (history : List Moment) (k : ℕ) (m : Moment) (event : EventValue) (reply : Reply)
-    → slice_get history k ≡ Some m → m.event ≡ event → m.reply ≡ reply → Answers history k event reply
-answers_at history k m event reply there event_is reply_is = record {
+pub occurs_at : (history : List Moment) (k : ℕ) (m : Moment) (event : EventValue) (reply : Reply)
+    → slice_get history k ≡ Some m → m.event ≡ event → m.reply ≡ reply → Occurs history k event reply
+occurs_at history k m event reply there event_is reply_is = record {
   net = m.net;
   there =
       there
@@ -55,10 +55,10 @@ key_is start history k m ia there of =
     ∙ ap (key_in (net_at start history k).network) of
 
 pass_more : (history : List Moment) (between : List ℕ) (begun b k ia egress next : ℕ)
-    → PassOn history begun between b → Answers history k (Extend b ia egress) (Begun next)
+    → PassOn history begun between b → Occurs history k (Extend b ia egress) (Begun next)
     → PassOn history begun (between ++ k ∷ []) next
 pass_more history [] begun b k ia egress next passes answers =
-    (ia, egress, next, subst (λ x. Answers history k (Extend x ia egress) (Begun next)) (sym passes) answers, refl)
+    (ia, egress, next, subst (λ x. Occurs history k (Extend x ia egress) (Begun next)) (sym passes) answers, refl)
 pass_more history (j ∷ later) begun b k ia egress next passes answers =
     (passes.0, passes.1, passes.2, passes.3, pass_more history later passes.2 b k ia egress next passes.4 answers)
 
@@ -135,7 +135,7 @@ module _ (start : NetValue) (history : List Moment) (is : IsHistory start histor
         egress = s.egress;
         beta0 = s.beta0;
         begun = length (at k).beacons;
-        start_of = answers_at history k m (Originate s.ia s.egress s.beta0) (Begun (length (at k).beacons)) there s.event_is s.reply_is;
+        start_of = occurs_at history k m (Originate s.ia s.egress s.beta0) (Begun (length (at k).beacons)) there s.event_is s.reply_is;
         between = [];
         passed_on = refl;
         under = under_on (at k) (at (k + 1)) m.event m.reply (key_then start history k ∷ []) s.chain step
@@ -156,7 +156,7 @@ module _ (start : NetValue) (history : List Moment) (is : IsHistory start histor
   went_on k m there step all s =
       let p = all s.beacon s.from s.was in
       let keys = map (key_then start history) (p.first ∷ p.between) in
-      let answers = answers_at history k m (Extend s.beacon s.ia s.egress) (Begun (length (at k).beacons)) there s.event_is s.reply_is in
+      let answers = occurs_at history k m (Extend s.beacon s.ia s.egress) (Begun (length (at k).beacons)) there s.event_is s.reply_is in
       let key = key_is start history k m s.ia there (ap doer s.event_is) in
       let under = passed_under_way (at k).network keys s.from s.ia s.egress s.chain (network_at start history k is network) p.under s.made in
       let more = keys_more k p.first p.between (key_in (at k).network s.ia) key in
@@ -261,7 +261,7 @@ module _ (start : NetValue) (history : List Moment) (is : IsHistory start histor
         passed_on = p.passed_on;
         at = e.ia;
         is_new = e.is_new;
-        ended = answers_at history k m (Terminate e.beacon e.ia) (Registered e.is_new) there e.event_is e.reply_is;
+        ended = occurs_at history k m (Terminate e.beacon e.ia) (Registered e.is_new) there e.event_is e.reply_is;
         chain = e.from;
         kept = e.was;
         gives = e.made;

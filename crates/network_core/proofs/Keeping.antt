@@ -11,10 +11,10 @@ use Rattle.forwarding.specs.Turn.{turn_of, lost, altered}
 use Rattle.network_core.specs.declared.fault.EventFault.{EventFault}
 use Rattle.network_core.specs.declared.fault.EventFault.TheVariants as faults
 use Rattle.network_core.specs.declared.reply.Reply.{Reply}
-use Rattle.network_core.specs.Event.{EventValue, Tick, Originate, Extend, Terminate, Sweep, Ask, Send, Turn, Lose, Alter, Back, CutLink, MendLink, RotateKey}
+use Rattle.network_core.specs.Event.{EventValue, Tick, Originate, Extend, Terminate, Sweep, Ask, Send, Turn, Lose, Alter, CutLink, MendLink, RotateKey}
 use Rattle.network_core.specs.Value.{SentValue, PacketValue, NetValue}
 use Rattle.policy_expr.specs.Options.{WeighedRules}
-use Rattle.network_core.specs.Step.{Made, ticked, originates, extends, terminates, cleared, with_beacon, with_segment, begun, passed_on, ended, with_network, flying_at, turns, loses, alters, options_asked, sent_by, replied, packet_of, departs, Leads, Asks, Sends, Step}
+use Rattle.network_core.specs.Step.{Made, ticked, originates, extends, terminates, cleared, with_beacon, with_segment, begun, passed_on, ended, with_network, flying_at, turns, loses, alters, options_asked, sent_by, packet_of, departs, Leads, Asks, Sends, Step}
 
 -- ---- what is so of each network that an event makes
 
@@ -44,7 +44,7 @@ pub record IsApart {A : Type 0} (part : NetValue → A) : Type 0 where
 
 -- the event asks for no path and changes no topology
 abbrev pub IsPlain : EventValue → Type 0
-IsPlain (Ask src dst texts limit) = ⊥
+IsPlain (Ask src dst read limit) = ⊥
 IsPlain (CutLink ia number) = ⊥
 IsPlain (MendLink ia number) = ⊥
 IsPlain (RotateKey ia key) = ⊥
@@ -65,7 +65,7 @@ module _ {A : Type 0} (part : NetValue → A) (apart : IsApart part) (old new : 
     | inl done ↦ by_leads Stays old new reply (departs old sent) refl
         (then_in Stays (refused_as faults.Topology (owner_in old.network sent.way.source (first_out (walk_of sent.way.pieces)))) _
         (λ router. then_in Stays (check (ltb (length old.packets) 1_000_000) faults.TooMany) _
-        (λ _. apart.packets old _))) done.1.0
+        (λ _. apart.packets old _))) done.1
     | inr none ↦ ap part none.1.1.1
   ]
 
@@ -87,7 +87,6 @@ module _ {A : Type 0} (part : NetValue → A) (apart : IsApart part) (old new : 
   stays Sweep reply plain is =
       by_leads Stays old new reply (cleared old) refl (apart.segments old _) is
   stays (Send route payload) reply plain is = send_stays reply (sent_by old route payload) is
-  stays (Back q payload) reply plain is = send_stays reply (replied old q payload) is
   stays (Turn q) reply plain is = by_leads Stays old new reply (turns old q) refl
       (then_in Stays (flying_at old q) _ (λ one. apart.packets old _)) is
   stays (Lose q) reply plain is = by_leads Stays old new reply (loses old q) refl
@@ -96,7 +95,7 @@ module _ {A : Type 0} (part : NetValue → A) (apart : IsApart part) (old new : 
       (then_in Stays (flying_at old q) _ (λ one.
       then_in Stays (check (ltb at (length one.packet.bytes)) faults.BadOffset) _
       (λ _. apart.packets old _))) is
-  stays (Ask src dst texts limit) reply plain is = absurd plain
+  stays (Ask src dst read limit) reply plain is = absurd plain
   stays (CutLink ia number) reply plain is = absurd plain
   stays (MendLink ia number) reply plain is = absurd plain
   stays (RotateKey ia key) reply plain is = absurd plain
@@ -145,7 +144,7 @@ send_keeps : (p : ℕ) (old new : NetValue) (reply : Reply) (sent : Result SentV
     → p < length old.packets → Sends sent old reply new → Keeps p old new
 send_keeps p old new reply (Err fault) within is = ap (λ (net : NetValue). slice_get net.packets p) is.1
 send_keeps p old new reply (Ok sent) within is = elim is [
-  | inl done ↦ by_leads (Keeps p old) old new reply (departs old sent) refl (depart_keeps p old sent within) done.1.0
+  | inl done ↦ by_leads (Keeps p old) old new reply (departs old sent) refl (depart_keeps p old sent within) done.1
   | inr none ↦ ap (λ (net : NetValue). slice_get net.packets p) none.1.1.1
 ]
 
@@ -172,12 +171,10 @@ kept p old new (Terminate beacon ia) reply within other is =
     then_in (Keeps p old) (refused_as faults.Store (answer_to old.segments c old.moment)) _ (λ _. refl))) is
 kept p old new Sweep reply within other is =
     by_leads (Keeps p old) old new reply (cleared old) refl refl is
-kept p old new (Ask src dst texts limit) reply within other is =
-    ask_keeps p old new reply (options_asked old src dst texts limit) src dst limit is
+kept p old new (Ask src dst read limit) reply within other is =
+    ask_keeps p old new reply (options_asked old src dst read limit) src dst limit is
 kept p old new (Send route payload) reply within other is =
     send_keeps p old new reply (sent_by old route payload) within is
-kept p old new (Back q payload) reply within other is =
-    send_keeps p old new reply (replied old q payload) within is
 kept p old new (Turn q) reply within other is =
     by_leads (Keeps p old) old new reply (turns old q) refl
     (then_in (Keeps p old) (flying_at old q) _ (λ one. set_elsewhere old.packets q p

@@ -8,9 +8,12 @@ pub mod Steadying
 pub mod Delivering
 pub mod Rotating
 pub mod Chained
+pub mod Staying
 pub mod Headlines
 pub mod Runs
 pub mod Accepting
 pub mod Answerable
 pub mod Asked
+pub mod Packets
 pub mod Allowing
+pub mod Present

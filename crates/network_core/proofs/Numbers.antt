@@ -39,6 +39,11 @@ becomes_at start history k m is there =
     let s = step_at start history k m is there in
     subst (λ net. Step (net_at start history k) m.event m.reply net) s.1 s.0
 
+-- and the event leaves that network
+pub left_at : (start : NetValue) (history : List Moment) (k : ℕ) (m : Moment)
+    → IsHistory start history → slice_get history k ≡ Some m → m.net ≡ net_at start history (k + 1)
+left_at start history k m is there = (step_at start history k m is there).1
+
 -- a number has an event, or it is behind the last one
 pub event_or_none : (start : NetValue) (history : List Moment) (k : ℕ)
     → ((m : Moment) × (slice_get history k ≡ Some m)) ⊎ (net_at start history (k + 1) ≡ net_at start history k)

@@ -9,7 +9,7 @@ use Rattle.network_core.specs.Value.{NetValue}
 use Rattle.network_core.specs.History.{Moment, IsHistory, net_at}
 use Rattle.network_core.specs.Delivery.{is_done}
 use Rattle.network_core.specs.Headline.{IsDone}
-use Rattle.network_core.proofs.Issuing.{answers_at}
+use Rattle.network_core.proofs.Issuing.{occurs_at}
 use Rattle.network_core.proofs.Numbers.{StepAt, becomes_at, event_or_none}
 
 -- ---- a done rotation
@@ -38,7 +38,7 @@ pub done_at : (history : List Moment) (k : ℕ) (m : Moment) (event : EventValue
     → slice_get history k ≡ Some m → m.event ≡ event → is_done m.reply ≡ true → IsDone history k event
 done_at history k m event there event_is done = record {
   reply = m.reply;
-  answers = answers_at history k m event m.reply there event_is refl;
+  occurs = occurs_at history k m event m.reply there event_is refl;
   done = done;
 }
 
@@ -56,14 +56,14 @@ same_event : (history : List Moment) (j k : ℕ) (m : Moment) (event : EventValu
     → slice_get history k ≡ Some m → IsDone history j event
     → (m.event ≡ event) × (is_done m.reply ≡ true)
 same_event history j k m event same there d =
-    let e = same_Some m (record { event = event; reply = d.reply; net = d.answers.net })
-    (sym there ∙ ap (slice_get history) (sym same) ∙ d.answers.there) in
+    let e = same_Some m (record { event = event; reply = d.reply; net = d.occurs.net })
+    (sym there ∙ ap (slice_get history) (sym same) ∙ d.occurs.there) in
     (ap (λ (x : Moment). x.event) e, ap (λ (x : Moment). is_done x.reply) e ∙ d.done)
 
 none_there : (history : List Moment) (j k : ℕ) (event : EventValue) → j ≡ k
     → slice_get history k ≡ None → IsDone history j event → ⊥
 none_there history j k event same none d =
-    let e = sym none ∙ ap (slice_get history) (sym same) ∙ d.answers.there in
+    let e = sym none ∙ ap (slice_get history) (sym same) ∙ d.occurs.there in
     let no_such : ⊥ = cc in no_such
 
 pub rotated_or : (history : List Moment) (begin x k : ℕ)

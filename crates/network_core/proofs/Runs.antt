@@ -1,6 +1,7 @@
 -- Runs: none of any event, and one event more.
 use Rattle.std.proofs.Common.{◌≡◌, List, [], ◌∷◌, ◌++◌, map, refl, sym, ap, ◌∙◌, subst}
 use Rattle.std.proofs.lemmas.List.{map-append}
+use Rattle.std.proofs.lemmas.List.Elements.{All-nil, All-push}
 use Rattle.scion_topology.specs.Network.{Network}
 use Rattle.scion_topology.specs.Topology.{IsNetwork}
 use Rattle.network_core.specs.declared.reply.Reply.{Reply}
@@ -8,9 +9,10 @@ use Rattle.network_core.specs.Event.{EventValue}
 use Rattle.network_core.specs.Value.{NetValue, new_net}
 use Rattle.network_core.specs.Step.{Step}
 use Rattle.network_core.specs.History.{Moment, IsHistory, net_after, AreIssued, AreAsked}
-use Rattle.network_core.specs.Ran.{Ran}
+use Rattle.network_core.specs.Delivery.{IsFramed, AllFramed}
+use Rattle.network_core.specs.Ran.{IsRun, Ran}
 use Rattle.network_core.proofs.Issuing.{stored_all}
-use Rattle.network_core.proofs.Headlines.{of_send, of_back}
+use Rattle.network_core.proofs.Headlines.{of_send}
 use Rattle.network_core.proofs.Asked.{asked_all, of_answer}
 
 -- a history goes on by one step
@@ -36,35 +38,55 @@ are_asked network history known is k =
     asked_all (new_net network) history is known refl refl refl k
 
 -- every history of a new network is a run
-pub ran : (network : Network) (history : List Moment) → IsNetwork network
-    → IsHistory (new_net network) history
-    → Ran network (map (λ moment. moment.event) history) (net_after (new_net network) history)
-ran network history known is = record {
-  history = history;
+pub is_run : (network : Network) (history : List Moment) → IsNetwork network
+    → IsHistory (new_net network) history → AllFramed history → IsRun network history
+is_run network history known is framed = record {
   is = is;
-  of = refl;
-  ends = refl;
   issued = are_issued network history known is;
   asked = are_asked network history known is;
-  delivered = λ number p route payload answers.
-      of_send (new_net network) history number p route payload known is answers;
-  answered = λ number p q payload answers.
-      of_back (new_net network) history number p q payload known is answers;
-  by_answer = λ number p ask path payload answers.
-      of_answer network history number p ask path payload known is answers;
+  delivered = λ number p route payload occurs.
+      of_send (new_net network) history number p route payload known is framed occurs;
+  by_answer = λ number p ask path payload occurs.
+      of_answer network history number p ask path payload known is framed occurs;
 }
 
-pub ran_none : (network : Network) → IsNetwork network → Ran network [] (new_net network)
-ran_none network known = ran network [] known tt
+-- ---- event by event
 
-pub ran_more : (network : Network) (events : List EventValue) (net new : NetValue)
-    (event : EventValue) (reply : Reply) → IsNetwork network → Ran network events net
-    → Step net event reply new → Ran network (events ++ event ∷ []) new
-ran_more network events net new event reply known r step =
+-- a history of these events leads to this network, and all that it sent has its frame
+pub record Goes (network : Network) (events : List EventValue) (net : NetValue) : Type 0 where
+  pub history : List Moment
+  pub is : IsHistory (new_net network) history
+  pub framed : AllFramed history
+  pub of : map (λ moment. moment.event) history ≡ events
+  pub ends : net_after (new_net network) history ≡ net
+
+pub goes_none : (network : Network) → Goes network [] (new_net network)
+goes_none network = record {
+  history = [];
+  is = tt;
+  framed = All-nil (λ (m : Moment). IsFramed m.event m.reply m.net);
+  of = refl;
+  ends = refl;
+}
+
+pub goes_more : (network : Network) (events : List EventValue) (net new : NetValue)
+    (event : EventValue) (reply : Reply) → Goes network events net → Step net event reply new
+    → IsFramed event reply new → Goes network (events ++ event ∷ []) new
+goes_more network events net new event reply g step framed =
     let m : Moment = record { event = event; reply = reply; net = new } in
-    let start = new_net network in
-    let is = history_more start r.history m r.is (subst (λ (n : NetValue). Step n event reply new) (sym r.ends) step) in
-    let of : map (λ (x : Moment). x.event) (r.history ++ m ∷ []) ≡ events ++ event ∷ [] =
-    map-append (λ (x : Moment). x.event) r.history (m ∷ []) ∙ ap (λ es. es ++ event ∷ []) r.of in
-    subst (λ n. Ran network (events ++ event ∷ []) n) (net_more start r.history m)
-    (subst (λ es. Ran network es (net_after start (r.history ++ m ∷ []))) of (ran network (r.history ++ m ∷ []) known is))
+    let start = new_net network in record {
+      history = g.history ++ m ∷ [];
+      is = history_more start g.history m g.is (subst (λ (n : NetValue). Step n event reply new) (sym g.ends) step);
+      framed = All-push (λ (x : Moment). IsFramed x.event x.reply x.net) g.history m g.framed framed;
+      of = map-append (λ (x : Moment). x.event) g.history (m ∷ []) ∙ ap (λ es. es ++ event ∷ []) g.of;
+      ends = net_more start g.history m;
+    }
+
+pub ran : (network : Network) (events : List EventValue) (net : NetValue) → IsNetwork network
+    → Goes network events net → Ran network events net
+ran network events net known g = record {
+  history = g.history;
+  run = is_run network g.history known g.is g.framed;
+  of = g.of;
+  ends = g.ends;
+}

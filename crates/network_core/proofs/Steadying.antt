@@ -9,7 +9,7 @@ use Rattle.forwarding.proofs.Made.{sound_is_let_through}
 use Rattle.forwarding.proofs.Steady.{mended_sound, cut_sound, rotated_sound}
 use Rattle.network_core.specs.declared.fault.EventFault.{EventFault}
 use Rattle.network_core.specs.declared.reply.Reply.{Reply}
-use Rattle.network_core.specs.Event.{EventValue, Tick, Originate, Extend, Terminate, Sweep, Ask, Send, Turn, Lose, Alter, Back, CutLink, MendLink, RotateKey}
+use Rattle.network_core.specs.Event.{EventValue, Tick, Originate, Extend, Terminate, Sweep, Ask, Send, Turn, Lose, Alter, CutLink, MendLink, RotateKey}
 use Rattle.network_core.specs.Value.{SentValue, NetValue}
 use Rattle.policy_expr.specs.Options.{WeighedRules}
 use Rattle.network_core.specs.Step.{with_network, options_asked, Leads, Asks, Step}
@@ -81,12 +81,11 @@ changes old new (Extend beacon ia egress) reply is = inl (stays (λ net. net.net
 changes old new (Terminate beacon ia) reply is = inl (stays (λ net. net.network) apart old new (Terminate beacon ia) reply tt is)
 changes old new Sweep reply is = inl (stays (λ net. net.network) apart old new Sweep reply tt is)
 changes old new (Send route payload) reply is = inl (stays (λ net. net.network) apart old new (Send route payload) reply tt is)
-changes old new (Back q payload) reply is = inl (stays (λ net. net.network) apart old new (Back q payload) reply tt is)
 changes old new (Turn q) reply is = inl (stays (λ net. net.network) apart old new (Turn q) reply tt is)
 changes old new (Lose q) reply is = inl (stays (λ net. net.network) apart old new (Lose q) reply tt is)
 changes old new (Alter q at change) reply is = inl (stays (λ net. net.network) apart old new (Alter q at change) reply tt is)
-changes old new (Ask src dst texts limit) reply is =
-    inl (ask_same old new reply (options_asked old src dst texts limit) src dst limit is)
+changes old new (Ask src dst read limit) reply is =
+    inl (ask_same old new reply (options_asked old src dst read limit) src dst limit is)
 changes old new (CutLink ia number) reply is =
     elim (changed (set_up false ia number old.network) old new reply is) [
       | inl same ↦ inl same

@@ -1,21 +1,24 @@
 -- What is asked of the events that follow a packet, and what is then true of it
 -- (draft-dekater-scion-dataplane).
-use Rattle.std.specs.Prelude.{◌≡◌, ◌↔◌, ℕ, ◌+◌, ◌<◌, ◌≤◌, ◌==◌, Bool, true, false, if◌then◌else◌, List, [], ◌∷◌, ◌++◌, Some, IsOk, slice_get, All}
+use Rattle.std.specs.Prelude.{◌≡◌, ◌≢◌, ◌↔◌, ℕ, ◌+◌, ◌<◌, ◌≤◌, ◌==◌, Bool, true, false, if◌then◌else◌, List, [], ◌∷◌, ◌++◌, Some, IsOk, slice_get, All}
 use Rattle.policy_expr.specs.declared.hop.WalkHop.{WalkHop}
 use Rattle.scion_topology.specs.Network.{Network}
 use Rattle.scion_topology.specs.Topology.{owner_in}
 use Rattle.path_verifier.specs.Piece.{PieceValue}
 use Rattle.path_verifier.specs.Walk.{walk_of}
 use Rattle.path_verifier.specs.Accepted.{AreLive}
+use Rattle.router_step.specs.declared.fault.Refusal.{Refusal}
+use Rattle.forwarding.specs.declared.place.Stop.{Stop}
 use Rattle.forwarding.specs.declared.place.Place.{Place}
 use Rattle.forwarding.specs.declared.place.Place.TheVariants as places
 use Rattle.forwarding.specs.Journey.{first_out}
+use Rattle.forwarding.specs.Frame.{HasFrame}
 use Rattle.forwarding.specs.Open.{LetsThrough}
 use Rattle.forwarding.specs.Standing.{arrived_with}
 use Rattle.forwarding.specs.Sound.{IsSound, PassesBy, LeavesAlone}
 use Rattle.network_core.specs.declared.reply.Reply.{Reply}
 use Rattle.network_core.specs.declared.reply.Reply.TheVariants as replies
-use Rattle.network_core.specs.Event.{EventValue, Turn, Lose, Alter, CutLink, RotateKey}
+use Rattle.network_core.specs.Event.{EventValue, RouteValue, Send, Turn, Lose, Alter, CutLink, RotateKey}
 use Rattle.network_core.specs.Value.{SentValue, PacketValue, NetValue}
 use Rattle.network_core.specs.History.{Moment}
 
@@ -47,14 +50,6 @@ abbrev pub turns_of : ℕ → List Moment → ℕ
 turns_of p [] = 0
 turns_of p (moment ∷ later) = (if is_turn_of p moment.event then 1 else 0) + turns_of p later
 
-abbrev pub IsRefusedAt : Place → Type 0
-IsRefusedAt (places.Refused ia router refusal) = Unit {0}
-IsRefusedAt place = ⊥
-
-abbrev pub IsAtRouter : Place → Type 0
-IsAtRouter (places.AtRouter stop) = Unit {0}
-IsAtRouter place = ⊥
-
 -- the packet, with so many turns to its walk's end and so many had: no router has refused it; the
 -- hops that it has passed are the beginning of its walk; it is delivered exactly once it has had
 -- its turns, and stands at a router before; and it is delivered with its whole walk passed, the
@@ -63,11 +58,12 @@ pub record IsForwarded (net : NetValue) (p total done : ℕ) (sent : SentValue) 
   pub packet : PacketValue
   pub there : slice_get net.packets p ≡ Some packet
   pub holds : packet.sent ≡ sent
-  pub unrefused : ¬ (IsRefusedAt packet.packet.place)
+  pub unrefused : (ia router : ℕ) (refusal : Refusal)
+      → packet.packet.place ≢ places.Refused ia router refusal
   pub rest : List WalkHop
   pub so_far : packet.packet.passed ++ rest ≡ walk_of sent.way.pieces
   pub exact : packet.packet.place ≡ places.Delivered ↔ (total ≤ done)
-  pub waits : done < total → IsAtRouter packet.packet.place
+  pub waits : done < total → (stop : Stop) × (packet.packet.place ≡ places.AtRouter stop)
   pub whole : packet.packet.place ≡ places.Delivered → packet.packet
       ≡ arrived_with sent.way.source sent.way.destination sent.payload sent.way.pieces
 
@@ -102,3 +98,27 @@ MayDepart n sent = IsOk (owner_in n sent.way.source (first_out (walk_of sent.way
 abbrev pub AllMayDepart : NetValue → Type 0
 AllMayDepart net = (i : ℕ) (one : PacketValue) → slice_get net.packets i ≡ Some one
     → MayDepart net.network one.sent
+
+-- of the packet that a reply tells as sent, both addresses and the numbers of the header have a
+-- place for their bits
+abbrev pub HasSentFrame : Reply → NetValue → Type 0
+HasSentFrame reply net = (p : ℕ) (one : PacketValue) → reply ≡ replies.Sent p
+    → slice_get net.packets p ≡ Some one
+    → HasFrame one.sent.way.source one.sent.way.destination one.sent.way.pieces
+
+-- so it is of what the event sent, and of what each event sent
+abbrev pub IsFramed : EventValue → Reply → NetValue → Type 0
+IsFramed event reply net = (route : RouteValue) (payload : List ℕ) → event ≡ Send route payload
+    → HasSentFrame reply net
+
+abbrev pub AllFramed : List Moment → Type 0
+AllFramed history = All (λ moment. IsFramed moment.event moment.reply moment.net) history
+
+-- a router has refused the packet; the packet is at a router
+abbrev pub IsRefusedAt : Place → Type 0
+IsRefusedAt (places.Refused ia router refusal) = Unit {0}
+IsRefusedAt place = ⊥
+
+abbrev pub IsAtRouter : Place → Type 0
+IsAtRouter (places.AtRouter stop) = Unit {0}
+IsAtRouter place = ⊥

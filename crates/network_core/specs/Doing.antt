@@ -11,6 +11,7 @@ use Rattle.network_core.specs.declared.reply.Reply.TheVariants as replies
 use Rattle.network_core.specs.Event.{EventValue}
 use Rattle.network_core.specs.Value.{KeptAnswer, asked_at, SentValue, PacketValue, NetValue}
 use Rattle.network_core.specs.Step.{Made, flying_at, departs, IsAnswerTo, Asks, Sends, Departs, Step, TakesMemory}
+use Rattle.network_core.specs.Delivery.{HasSentFrame, IsFramed}
 use Rattle.path_verifier.specs.declared.fault.VerifyFault.{VerifyFault}
 use Rattle.path_verifier.specs.Accepted.{IsAccepted, IsRefused}
 
@@ -25,17 +26,17 @@ abbrev pub error_as : {F : Type 0} → (F → EventFault) → OrMemory F → OrM
 error_as of_fault Memory = Memory
 error_as of_fault (Refused fault) = Refused (of_fault fault)
 
--- one event was done so, or its refusal or want of memory is told
+-- one event was done so, what it sent having its frame; or its refusal or want of memory is told
 abbrev pub DoesEvent : NetValue → EventValue → NetValue → Result Reply (OrMemory EventFault)
     → Type 0
-DoesEvent old event new (Ok reply) = Step old event reply new
+DoesEvent old event new (Ok reply) = Step old event reply new × IsFramed event reply new
 DoesEvent old event new (Err (Refused fault)) = Step old event (replies.Refused fault) new
 DoesEvent old event new (Err Memory) = TakesMemory old event × (new ≡ old)
 
--- what was to be sent departed, or its refusal or want of memory is told
+-- what was to be sent departed and has its frame, or its refusal or want of memory is told
 abbrev pub DoesSend : Result SentValue EventFault → NetValue → NetValue
     → Result Reply (OrMemory EventFault) → Type 0
-DoesSend sent old new (Ok reply) = Sends sent old reply new
+DoesSend sent old new (Ok reply) = Sends sent old reply new × HasSentFrame reply new
 DoesSend sent old new (Err (Refused fault)) = Sends sent old (replies.Refused fault) new
 DoesSend sent old new (Err Memory) = Departs old sent × (new ≡ old)
 
@@ -70,7 +71,8 @@ Readies view net sent (Ok packet) =
     IsAccepted (asked_at net.moment sent.way)
     × ((departs net sent
     ≡ Ok (replies.Sent (length net.packets), record net { packets = net.packets ++ view packet ∷ [] }))
-    × HasFrame sent.way.source sent.way.destination sent.way.pieces)
+    × HasFrame (view packet).sent.way.source (view packet).sent.way.destination
+    (view packet).sent.way.pieces)
 Readies view net sent (Err Memory) =
     IsAccepted (asked_at net.moment sent.way) × IsOk (departs net sent)
 Readies view net sent (Err (Refused fault)) =

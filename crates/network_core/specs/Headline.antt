@@ -1,6 +1,6 @@
 -- The headline: what is asked of a packet that a history sends, and what is then true of it, by the
 -- numbers of the events (draft-dekater-scion-dataplane; draft-dekater-scion-controlplane).
-use Rattle.std.specs.Prelude.{◌≡◌, ◌↔◌, ℕ, ◌+◌, ◌*◌, ◌<◌, ◌≤◌, true, List, length, All, Any, take, drop, Ok}
+use Rattle.std.specs.Prelude.{◌≡◌, ◌↔◌, ℕ, ◌+◌, ◌*◌, ◌<◌, ◌≤◌, true, List, length, slice_get, All, Any, take, drop, Some, Ok}
 use Rattle.path_verifier.specs.Piece.{PieceValue}
 use Rattle.path_verifier.specs.Walk.{walk_of}
 use Rattle.path_verifier.specs.Header.{hop_count}
@@ -12,16 +12,16 @@ use Rattle.forwarding.specs.declared.place.Place.TheVariants.{Delivered}
 use Rattle.forwarding.specs.Journey.{turns_for}
 use Rattle.forwarding.specs.Sound.{PassesBy, LeavesAlone}
 use Rattle.network_core.specs.declared.reply.Reply.{Reply}
-use Rattle.network_core.specs.Event.{EventValue, Turn, Lose, Alter, CutLink, RotateKey}
-use Rattle.network_core.specs.Value.{asked_at, SentValue, NetValue}
-use Rattle.network_core.specs.Step.{replied}
-use Rattle.network_core.specs.History.{Moment, net_at, Answers, IssuedIn}
+use Rattle.network_core.specs.Event.{BackOf, EventValue, Turn, Lose, Alter, CutLink, RotateKey}
+use Rattle.network_core.specs.Value.{asked_at, SentValue, PacketValue, NetValue}
+use Rattle.network_core.specs.Step.{sent_by}
+use Rattle.network_core.specs.History.{Moment, net_at, Occurs, IssuedIn}
 use Rattle.network_core.specs.Delivery.{is_done, turns_of, IsForwarded}
 
 -- event number k is this one, and was done
 pub record IsDone (history : List Moment) (k : ℕ) (event : EventValue) : Type 0 where
   pub reply : Reply
-  pub answers : Answers history k event reply
+  pub occurs : Occurs history k event reply
   pub done : is_done reply ≡ true
 
 -- each piece is of a segment that was issued by events from number `begin` on and before number
@@ -72,7 +72,7 @@ turns_since history sent p k = turns_of p (drop (sent + 1) (take k history))
 pub record IsAnswerable (net : NetValue) (p : ℕ) (sent : SentValue) (payload : List ℕ)
     : Type 0 where
   pub back : SentValue
-  pub replies : replied net p payload ≡ Ok back
+  pub replies : sent_by net (BackOf p) payload ≡ Ok back
   pub source : back.way.source ≡ sent.way.destination
   pub destination : back.way.destination ≡ sent.way.source
   pub pieces : back.way.pieces ≡ turned_pieces sent.way.pieces
@@ -81,20 +81,27 @@ pub record IsAnswerable (net : NetValue) (p : ℕ) (sent : SentValue) (payload :
   pub late : (moment expiry : ℕ) → IsExpiry sent.way.pieces expiry → expiry < 2 * moment
       → (fault : VerifyFault) → IsRefused (asked_at moment back.way) fault ↔ (fault ≡ Expired)
 
--- what event number `number` sent: its path was accepted; and where the packet is undisturbed,
--- after each later number of events it is forwarded, it is delivered once it has had two turns for
--- each hop field, and a delivered one may be answered with up to 1,024 bytes
+-- what event number `number` sent: its path was accepted; and after each later number of events,
+-- where the packet was undisturbed up to there, it is forwarded, it is delivered once it has had two
+-- turns for each hop field, and a delivered one may be answered with up to 1,024 bytes; and one that
+-- is delivered stays as it is, whatever happens then
 pub record Headline (start : NetValue) (history : List Moment) (number p : ℕ) (sent : SentValue)
     : Type 0 where
   pub accepted : IsAccepted (asked_at (net_at start history number).moment sent.way)
-  pub forwarded : (k : ℕ) → Undisturbed start history number p sent.way.pieces → number < k
+  pub forwarded : (k : ℕ) → number < k
+      → Undisturbed start (take k history) number p sent.way.pieces
       → IsForwarded (net_at start history k) p
       (turns_for (net_at start history number).network (walk_of sent.way.pieces))
       (turns_since history number p k) sent
-  pub in_time : (k : ℕ) → (quiet : Undisturbed start history number p sent.way.pieces)
-      → (after : number < k) → 2 * hop_count sent.way.pieces ≤ turns_since history number p k
-      → (forwarded k quiet after).packet.packet.place ≡ Delivered
-  pub answerable : (k : ℕ) → (quiet : Undisturbed start history number p sent.way.pieces)
-      → (after : number < k) → (forwarded k quiet after).packet.packet.place ≡ Delivered
+  pub in_time : (k : ℕ) → (after : number < k)
+      → (quiet : Undisturbed start (take k history) number p sent.way.pieces)
+      → 2 * hop_count sent.way.pieces ≤ turns_since history number p k
+      → (forwarded k after quiet).packet.packet.place ≡ Delivered
+  pub answerable : (k : ℕ) → (after : number < k)
+      → (quiet : Undisturbed start (take k history) number p sent.way.pieces)
+      → (forwarded k after quiet).packet.packet.place ≡ Delivered
       → (payload : List ℕ) → length payload ≤ 1024
       → IsAnswerable (net_at start history k) p sent payload
+  pub stays : (k j : ℕ) (one : PacketValue) → k ≤ j
+      → slice_get (net_at start history k).packets p ≡ Some one
+      → one.packet.place ≡ Delivered → slice_get (net_at start history j).packets p ≡ Some one

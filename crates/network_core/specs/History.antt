@@ -3,7 +3,7 @@
 use Rattle.std.specs.Prelude.{◌≡◌, ℕ, ◌<◌, Bool, List, [], ◌∷◌, ◌++◌, take, map, slice_get, Some, Ok, All}
 use Rattle.std.specs.Option.{option_map_or}
 use Rattle.path_segment.specs.Chain.{Chain}
-use Rattle.policy_expr.specs.Options.{OptionTexts, WeighedRules, options_at}
+use Rattle.policy_expr.specs.Options.{WeighedRules}
 use Rattle.path_verifier.specs.Accepted.{IsAccepted}
 use Rattle.beaconing.specs.Entry.{key_in}
 use Rattle.beaconing.specs.Calls.{terminated}
@@ -36,7 +36,7 @@ abbrev pub net_at : NetValue → List Moment → ℕ → NetValue
 net_at start history k = net_after start (take k history)
 
 -- event number k is this one and has this answer
-pub record Answers (history : List Moment) (k : ℕ) (event : EventValue) (reply : Reply)
+pub record Occurs (history : List Moment) (k : ℕ) (event : EventValue) (reply : Reply)
     : Type 0 where
   pub net : NetValue
   pub there : slice_get history k ≡ Some (record { event = event; reply = reply; net = net })
@@ -46,7 +46,7 @@ pub record Answers (history : List Moment) (k : ℕ) (event : EventValue) (reply
 abbrev pub PassOn : List Moment → ℕ → List ℕ → ℕ → Type 0
 PassOn history beacon [] last = beacon ≡ last
 PassOn history beacon (k ∷ later) last =
-    (ia egress next : ℕ) × Answers history k (Extend beacon ia egress) (Begun next)
+    (ia egress next : ℕ) × Occurs history k (Extend beacon ia egress) (Begun next)
     × PassOn history next later last
 
 -- the AS that does such an event
@@ -71,13 +71,13 @@ pub record IssuedIn (start : NetValue) (history : List Moment) (first last : ℕ
   pub egress : ℕ
   pub beta0 : ℕ
   pub begun : ℕ
-  pub start_of : Answers history first (Originate ia egress beta0) (Begun begun)
+  pub start_of : Occurs history first (Originate ia egress beta0) (Begun begun)
   pub between : List ℕ
   pub beacon : ℕ
   pub passed_on : PassOn history begun between beacon
   pub at : ℕ
   pub is_new : Bool
-  pub ended : Answers history last (Terminate beacon at) (Registered is_new)
+  pub ended : Occurs history last (Terminate beacon at) (Registered is_new)
   pub chain : Chain
   pub kept : slice_get (net_at start history last).beacons beacon ≡ Some chain
   pub gives : terminated (net_at start history last).network chain at ≡ Ok segment
@@ -101,11 +101,9 @@ pub record IsAskedBefore (start : NetValue) (history : List Moment) (k number : 
     (one : KeptAnswer) : Type 0 where
   pub at : ℕ
   pub before : at < k
-  pub texts : List OptionTexts
-  pub limit : ℕ
-  pub asked : Answers history at (Ask one.source one.destination texts limit) (Answered number)
   pub options : List WeighedRules
-  pub read : options_at texts ≡ Ok options
+  pub limit : ℕ
+  pub asked : Occurs history at (Ask one.source one.destination (Ok options) limit) (Answered number)
   pub is : IsAnswerTo (net_at start history at) one.source one.destination options limit one
   pub accepted : All
       (λ path. IsAccepted (asked_at (net_at start history at).moment (way_on one path)))

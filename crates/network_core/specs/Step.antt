@@ -2,7 +2,7 @@
 -- beaconing and registration of path segments; draft-dekater-scion-dataplane).
 use Rattle.std.specs.Prelude.{◌≡◌, ◌⊎◌, ℕ, true, false, nat_lt, nat_le, ◌&&◌, List, [], ◌∷◌, ◌++◌, length, slice_get, slice_set, Option, Some, None, Result, Ok, Err, IsOk}
 use Rattle.std.specs.Option.{ok_or, option_map_or}
-use Rattle.refusal.specs.Refusal.{◌>>=◌, check, refused_as}
+use Rattle.refusal.specs.Refusal.{◌>>=◌, check, refused_as, or_else}
 use Rattle.scion_topology.specs.declared.fault.TopologyFault.{TopologyFault}
 use Rattle.scion_topology.specs.Network.{Network}
 use Rattle.scion_topology.specs.Topology.{owner_in, set_up, rotated}
@@ -11,7 +11,8 @@ use Rattle.beaconing.specs.Calls.{originated, extended, terminated}
 use Rattle.path_server.specs.Store.{answer_to, registered, swept, expired_count}
 use Rattle.path_server.specs.Lookup.{segments_for}
 use Rattle.policy_expr.specs.Policy.{Rules}
-use Rattle.policy_expr.specs.Options.{OptionTexts, WeighedRules, options_at}
+use Rattle.policy_expr.specs.declared.option_fault.OptionFault.{OptionFault}
+use Rattle.policy_expr.specs.Options.{WeighedRules}
 use Rattle.path_header.specs.Value.{HeaderValue}
 use Rattle.path_header.specs.Reversal.{reversed}
 use Rattle.path_verifier.specs.declared.fault.VerifyFault.{VerifyFault}
@@ -20,11 +21,10 @@ use Rattle.path_verifier.specs.Turned.{turned_pieces}
 use Rattle.path_verifier.specs.Accepted.{IsAccepted, IsRefused}
 use Rattle.combinator.specs.Answer.{AnswersWith}
 use Rattle.combinator.specs.Fault.{ends_at}
-use Rattle.router_step.specs.declared.fault.Refusal.{Refusal}
 use Rattle.router_step.specs.Packet.{destination_of, source_of, header_in}
 use Rattle.forwarding.specs.declared.place.Place.{Place}
 use Rattle.forwarding.specs.declared.place.Place.TheVariants as places
-use Rattle.forwarding.specs.Frame.{framed, HasFrame}
+use Rattle.forwarding.specs.Frame.{framed}
 use Rattle.forwarding.specs.Turn.{Packet, put_at, turn_of, lost, altered}
 use Rattle.forwarding.specs.Turned.{no_rules}
 use Rattle.forwarding.specs.Journey.{first_out}
@@ -32,7 +32,7 @@ use Rattle.network_core.specs.declared.fault.EventFault.{EventFault}
 use Rattle.network_core.specs.declared.fault.EventFault.TheVariants as faults
 use Rattle.network_core.specs.declared.reply.Reply.{Reply}
 use Rattle.network_core.specs.declared.reply.Reply.TheVariants.{Done, Begun, Registered, Swept, Answered, Sent, Turned, Refused}
-use Rattle.network_core.specs.Event.{RouteValue, ByAnswer, ByWay, EventValue, Tick, Originate, Extend, Terminate, Sweep, Ask, Send, Turn, Lose, Alter, Back, CutLink, MendLink, RotateKey}
+use Rattle.network_core.specs.Event.{RouteValue, ByAnswer, ByWay, BackOf, EventValue, Tick, Originate, Extend, Terminate, Sweep, Ask, Send, Turn, Lose, Alter, CutLink, MendLink, RotateKey}
 use Rattle.network_core.specs.Value.{Way, KeptAnswer, way_on, asked_at, SentValue, PacketValue, NetValue}
 
 -- what an event that is done makes of a network
@@ -103,13 +103,13 @@ with_network net changed = do
 
 -- ---- asking for paths
 
--- the options under which up to so many paths are asked for: BadLimit; the refusals of reading the
--- options; that of one AS at both ends; TooMany
-abbrev pub options_asked : NetValue → ℕ → ℕ → List OptionTexts → ℕ
+-- the options under which up to so many paths are asked for: BadLimit; the refusal of the options'
+-- texts; that of one AS at both ends; TooMany
+abbrev pub options_asked : NetValue → ℕ → ℕ → Result (List WeighedRules) OptionFault → ℕ
     → Result (List WeighedRules) EventFault
-options_asked net src dst texts limit = do
+options_asked net src dst read limit = do
   _ ← check (nat_le 1 limit && nat_le limit 64) faults.BadLimit
-  options ← refused_as faults.Policy (options_at texts)
+  options ← refused_as faults.Policy read
   _ ← refused_as faults.Combination (ends_at src dst)
   _ ← check (nat_lt (length net.answers) 1_000_000) faults.TooMany
   Ok options
@@ -154,9 +154,7 @@ packet_at net number = ok_or (slice_get net.packets number) faults.NoPacket
 -- the packet is at a router: NotInFlight
 abbrev pub is_in_flight : Place → Result (Unit {0}) EventFault
 is_in_flight (places.AtRouter stop) = Ok tt
-is_in_flight places.Delivered = Err faults.NotInFlight
-is_in_flight (places.Refused ia router refusal) = Err faults.NotInFlight
-is_in_flight places.Lost = Err faults.NotInFlight
+is_in_flight place = Err faults.NotInFlight
 
 abbrev pub flying_at : NetValue → ℕ → Result PacketValue EventFault
 flying_at net number = do
@@ -193,13 +191,36 @@ alters net number at change = do
 
 -- ---- sending
 
--- the way of a route: NoAnswer, where there is no such answer or it has no such path
+-- the header of a packet that was delivered, reversed: NotDelivered
+abbrev pub header_back : Packet → Place → Result HeaderValue EventFault
+header_back packet places.Delivered = do
+  read ← or_else faults.NotDelivered (header_in packet.bytes)
+  Ok (reversed read.0)
+header_back packet place = Err faults.NotDelivered
+
+-- the way back of a delivered packet: source and destination exchanged, as its bytes have them,
+-- with this header, the pieces of what was sent in reversed order and direction, and no policy
+abbrev pub way_back : PacketValue → HeaderValue → Way
+way_back one header = record {
+  source = destination_of one.packet.bytes;
+  destination = source_of one.packet.bytes;
+  pieces = turned_pieces one.sent.way.pieces;
+  header = header;
+  rules = no_rules;
+}
+
+-- the way of a route: NoAnswer, where there is no such answer or it has no such path; NoPacket,
+-- NotDelivered
 abbrev pub way_by : NetValue → RouteValue → Result Way EventFault
 way_by net (ByAnswer ask path) = do
   answered ← ok_or (slice_get net.answers ask) faults.NoAnswer
   one ← ok_or (slice_get answered.answer.paths path) faults.NoAnswer
   Ok (way_on answered one)
 way_by net (ByWay way) = Ok way
+way_by net (BackOf number) = do
+  one ← packet_at net number
+  header ← header_back one.packet one.packet.place
+  Ok (way_back one header)
 
 -- what is sent, of at most 1,024 bytes: PayloadTooLong
 abbrev pub sent_with : Way → List ℕ → Result SentValue EventFault
@@ -229,73 +250,41 @@ departs net sent = do
   _ ← check (nat_lt (length net.packets) 1_000_000) faults.TooMany
   Ok (Sent (length net.packets), record net { packets = net.packets ++ packet_of sent router ∷ [] })
 
--- the header of a packet that was delivered, reversed: NotDelivered
-abbrev pub turned_round : Result (HeaderValue × ℕ) Refusal → Result HeaderValue EventFault
-turned_round (Ok read) = Ok (reversed read.0)
-turned_round (Err refusal) = Err faults.NotDelivered
-
-abbrev pub header_back : Packet → Place → Result HeaderValue EventFault
-header_back packet places.Delivered = turned_round (header_in packet.bytes)
-header_back packet (places.AtRouter stop) = Err faults.NotDelivered
-header_back packet (places.Refused ia router refusal) = Err faults.NotDelivered
-header_back packet places.Lost = Err faults.NotDelivered
-
--- the way back of a delivered packet: source and destination exchanged, as its bytes have them,
--- with this header, the pieces of what was sent in reversed order and direction, and no policy
-abbrev pub way_back : PacketValue → HeaderValue → Way
-way_back one header = record {
-  source = destination_of one.packet.bytes;
-  destination = source_of one.packet.bytes;
-  pieces = turned_pieces one.sent.way.pieces;
-  header = header;
-  rules = no_rules;
-}
-
-abbrev pub replied : NetValue → ℕ → List ℕ → Result SentValue EventFault
-replied net number payload = do
-  one ← packet_at net number
-  header ← header_back one.packet one.packet.place
-  sent_with (way_back one header) payload
-
 -- ---- each event
-
--- what each event but Ask, Send and Back makes of a network, or the first cause why it is refused
-abbrev pub stepped : NetValue → EventValue → Made
-stepped net (Tick to) = ticked net to
-stepped net (Originate ia egress beta0) = originates net ia egress beta0
-stepped net (Extend beacon ia egress) = extends net beacon ia egress
-stepped net (Terminate beacon ia) = terminates net beacon ia
-stepped net Sweep = cleared net
-stepped net (Turn packet) = turns net packet
-stepped net (Lose packet) = loses net packet
-stepped net (Alter packet at change) = alters net packet at change
-stepped net (CutLink ia interface) = with_network net (set_up false ia interface net.network)
-stepped net (MendLink ia interface) = with_network net (set_up true ia interface net.network)
-stepped net (RotateKey ia key) = with_network net (rotated ia key net.network)
-stepped net event = Ok (Done, net)
 
 -- an event is answered so and leads to this network; one that is refused changes nothing
 abbrev pub Leads : Made → NetValue → Reply → NetValue → Type 0
 Leads (Ok made) old reply new = (reply ≡ made.0) × (new ≡ made.1)
 Leads (Err fault) old reply new = (reply ≡ Refused fault) × (new ≡ old)
 
--- a path that the verifier accepts at the moment departs, and another is refused by its fault; of a
--- packet that departs, both addresses and the numbers of the header have a place for their bits
+-- a path that the verifier accepts at the moment departs, and another is refused by its fault
 abbrev pub Sends : Result SentValue EventFault → NetValue → Reply → NetValue → Type 0
 Sends (Ok sent) old reply new =
-    (IsAccepted (asked_at old.moment sent.way) × (Leads (departs old sent) old reply new
-    × ((p : ℕ) → reply ≡ Sent p → HasFrame sent.way.source sent.way.destination sent.way.pieces)))
+    (IsAccepted (asked_at old.moment sent.way) × Leads (departs old sent) old reply new)
     ⊎ ((fault : VerifyFault) × (IsRefused (asked_at old.moment sent.way) fault
     × ((reply ≡ Refused (faults.Path fault)) × (new ≡ old))))
 Sends (Err fault) old reply new = (reply ≡ Refused fault) × (new ≡ old)
 
 -- one event
 abbrev pub Step : NetValue → EventValue → Reply → NetValue → Type 0
-Step old (Ask src dst texts limit) reply new =
-    Asks (options_asked old src dst texts limit) src dst limit old reply new
+Step old (Tick to) reply new = Leads (ticked old to) old reply new
+Step old (Originate ia egress beta0) reply new =
+    Leads (originates old ia egress beta0) old reply new
+Step old (Extend beacon ia egress) reply new = Leads (extends old beacon ia egress) old reply new
+Step old (Terminate beacon ia) reply new = Leads (terminates old beacon ia) old reply new
+Step old Sweep reply new = Leads (cleared old) old reply new
+Step old (Ask src dst read limit) reply new =
+    Asks (options_asked old src dst read limit) src dst limit old reply new
 Step old (Send route payload) reply new = Sends (sent_by old route payload) old reply new
-Step old (Back packet payload) reply new = Sends (replied old packet payload) old reply new
-Step old event reply new = Leads (stepped old event) old reply new
+Step old (Turn packet) reply new = Leads (turns old packet) old reply new
+Step old (Lose packet) reply new = Leads (loses old packet) old reply new
+Step old (Alter packet at change) reply new = Leads (alters old packet at change) old reply new
+Step old (CutLink ia interface) reply new =
+    Leads (with_network old (set_up false ia interface old.network)) old reply new
+Step old (MendLink ia interface) reply new =
+    Leads (with_network old (set_up true ia interface old.network)) old reply new
+Step old (RotateKey ia key) reply new =
+    Leads (with_network old (rotated ia key old.network)) old reply new
 
 -- a path that the verifier accepts departs
 abbrev pub Departs : NetValue → Result SentValue EventFault → Type 0
@@ -304,10 +293,16 @@ Departs net (Err fault) = ⊥
 
 -- want of memory is possible: the event makes a beacon, a segment, an answer or a packet
 abbrev pub TakesMemory : NetValue → EventValue → Type 0
+TakesMemory net (Tick to) = ⊥
 TakesMemory net (Originate ia egress beta0) = IsOk (begun net ia egress beta0)
 TakesMemory net (Extend beacon ia egress) = IsOk (passed_on net beacon ia egress)
 TakesMemory net (Terminate beacon ia) = IsOk (ended net beacon ia)
-TakesMemory net (Ask src dst texts limit) = IsOk (options_asked net src dst texts limit)
+TakesMemory net Sweep = ⊥
+TakesMemory net (Ask src dst read limit) = IsOk (options_asked net src dst read limit)
 TakesMemory net (Send route payload) = Departs net (sent_by net route payload)
-TakesMemory net (Back packet payload) = Departs net (replied net packet payload)
-TakesMemory net event = ⊥
+TakesMemory net (Turn packet) = ⊥
+TakesMemory net (Lose packet) = ⊥
+TakesMemory net (Alter packet at change) = ⊥
+TakesMemory net (CutLink ia interface) = ⊥
+TakesMemory net (MendLink ia interface) = ⊥
+TakesMemory net (RotateKey ia key) = ⊥

@@ -3,6 +3,7 @@
 ghost use Rattle.std.specs.Prelude.{◌≡◌, ◌<◌, slice_get, Ok, IfOk, OnOk};
 ghost use Rattle.std.specs.Option.{ok_or};
 ghost use Rattle.refusal.specs.Refusal.{Answers};
+ghost use Rattle.policy_expr.specs.Options.{options_at};
 ghost use Rattle.combinator.specs.Fault.{ends_at};
 ghost use Rattle.network_core.specs.declared.fault.EventFault.TheVariants as faults;
 ghost use Rattle.network_core.specs.Doing.{AnswersTo, DoesAsk, Judges, KeepsAnswer};
@@ -32,8 +33,8 @@ impl Net {
         texts: &[OptionText<'_>],
         limit: u32,
     ) -> Result<Reply, EventError>
-        ensures { DoesAsk (options_asked self.old src dst texts.now limit) src dst limit
-            self.old self.new result }
+        ensures { DoesAsk (options_asked self.old src dst (options_at texts.now) limit) src dst
+            limit self.old self.new result }
     {
         let options = self.options_asked(alloc, src, dst, texts, limit)?;
         let answer = self.answer_to(alloc, src, dst, &options, limit)?;
@@ -51,7 +52,7 @@ impl Net {
         limit: u32,
     ) -> Result<Vec<PolicyOption<Global>>, EventError>
         ensures read { Answers (λ options. options.items) result
-            (options_asked self.now src dst texts.now limit) }
+            (options_asked self.now src dst (options_at texts.now) limit) }
         ensures some { OnOk result (0 < limit) }
         ensures ends { OnOk result (ends_at src dst ≡ Ok tt) }
     {

@@ -27,7 +27,7 @@ pub enum Event<'a> {
     /// The moment becomes this second.
     Tick {
         /// The second.
-        to: u32,
+        now: u32,
     },
     /// A core AS begins a beacon over one of its links, at the moment.
     Originate {

@@ -1,4 +1,5 @@
 ghost use Rattle.std.specs.Prelude.{◌≡◌, IfOk, OnErr, option_map, slice_get};
+ghost use Rattle.network_core.specs.Delivery.{IsFramed};
 ghost use Rattle.network_core.specs.Doing.{DoesEvent, Keeps};
 ghost use Rattle.network_core.specs.Seen.{seen};
 ghost use Rattle.network_core.specs.Step.{Step, TakesMemory};
@@ -7,7 +8,7 @@ ghost use Rattle.network_core.specs.Value.{new_net};
 use crate::answer::Answer;
 use crate::event::Event;
 use crate::fault::EventFault;
-use crate::packet::Packet;
+use crate::packet::{Packet, Sent};
 use crate::reply::Reply;
 use combinator::PathList;
 use path_segment::{Beacon, Segment};
@@ -74,8 +75,8 @@ impl Net {
         &self.topology
     }
 
-    /// The moment, in seconds.
-    pub fn moment(&self) -> u32
+    /// The moment that the network has reached, in seconds.
+    pub fn now(&self) -> u32
         ensures { result ≡ self.now.moment }
     {
         self.moment
@@ -120,6 +121,17 @@ impl Net {
         self.packets.get(number)
     }
 
+    /// What the packet of this number was sent as, if there is one.
+    pub fn sent(&self, number: usize) -> Option<&Sent>
+        ensures { option_map (λ sent. sent.now) result
+            ≡ option_map (λ p. p.sent) (slice_get self.now.packets number) }
+    {
+        match self.packets.get(number) {
+            None => None,
+            Some(packet) => Some(packet.sent()),
+        }
+    }
+
     /// One event: what it is answered, and the network after it. One that is refused changes
     /// nothing, and so does want of memory, which comes only where a beacon, a segment, an answer
     /// or a packet was to be made.
@@ -130,6 +142,9 @@ impl Net {
     /// there.
     pub fn step(&mut self, alloc: Global, event: &Event<'_>) -> Result<Reply, AllocError>
         ensures step { IfOk result (λ reply. Step self.old (seen event.now) reply self.new) }
+        // Of what it sent, both addresses and the numbers of the header have a place for their
+        // bits.
+        ensures framed { IfOk result (λ reply. IsFramed (seen event.now) reply self.new) }
         ensures short { OnErr result (TakesMemory self.old (seen event.now)) }
         ensures kept { OnErr result (self.new ≡ self.old) }
     {
@@ -145,7 +160,7 @@ impl Net {
         ensures { DoesEvent self.old (seen event.now) self.new result }
     {
         match event {
-            Event::Tick { to } => self.tick(*to),
+            Event::Tick { now } => self.tick(*now),
             Event::Originate { ia, egress, beta0 } => self.originate(alloc, *ia, *egress, *beta0),
             Event::Extend { beacon, ia, egress } => self.extend(alloc, *beacon, *ia, *egress),
             Event::Terminate { beacon, ia } => self.terminate(alloc, *beacon, *ia),

@@ -6,10 +6,10 @@ ghost use Rattle.path_verifier.specs.Accepted.{IsAccepted};
 ghost use Rattle.forwarding.specs.Frame.{HasFrame};
 ghost use Rattle.network_core.specs.declared.fault.EventFault.TheVariants as faults;
 ghost use Rattle.network_core.specs.Doing.{DoesSend, Judges, Readies, ReadiesFrom};
-ghost use Rattle.network_core.specs.Event.{ByAnswer};
+ghost use Rattle.network_core.specs.Event.{BackOf, ByAnswer};
 ghost use Rattle.network_core.specs.Seen.{way_of};
 ghost use Rattle.network_core.specs.Value.{asked_at};
-ghost use Rattle.network_core.specs.Step.{header_back, packet_of, replied, sent_by, sent_with};
+ghost use Rattle.network_core.specs.Step.{header_back, packet_of, sent_by, sent_with};
 
 use crate::beacons::MOST;
 use crate::event::Given;
@@ -67,7 +67,7 @@ impl Net {
         packet: u32,
         payload: &[u8],
     ) -> Result<Reply, EventError>
-        ensures { DoesSend (replied self.old packet payload.now) self.old self.new result }
+        ensures { DoesSend (sent_by self.old (BackOf packet) payload.now) self.old self.new result }
     {
         match self.ready_back(alloc, packet, payload) {
             Ok(packet) => self.keep_packet(packet),
@@ -102,7 +102,8 @@ impl Net {
 
     /// The answer to a delivered packet, ready to depart, or the first cause why it may not.
     fn ready_back(&self, alloc: Global, packet: u32, payload: &[u8]) -> Result<Packet, EventError>
-        ensures { ReadiesFrom (λ p. p) self.now (replied self.now packet payload.now) result }
+        ensures { ReadiesFrom (λ p. p) self.now
+            (sent_by self.now (BackOf packet) payload.now) result }
     {
         let one = self.packet_numbered(packet)?;
         let header = header_back(one)?;

@@ -1,50 +1,44 @@
 -- The packets of a network to which lines have led may depart in it.
-use Rattle.std.proofs.Common.{ℕ, List, [], ◌∷◌, Option, Some, None, Result, Ok, Err, sym, subst}
+use Rattle.std.proofs.Common.{ℕ, List, [], ◌∷◌, Option, Result, Ok, Err, sym, subst}
 use Rattle.std.specs.Io.KnownBytes.{IsAtEnd}
 use Rattle.scion_topology.specs.declared.fault.TopologyFault.{TopologyFault}
 use Rattle.scion_topology.specs.Network.{Network}
 use Rattle.scion_topology.specs.Topology.{network_in}
 use Rattle.network_core.specs.Value.{NetValue}
+use Rattle.network_core.specs.History.{Moment, IsHistory, net_after}
 use Rattle.network_core.specs.Delivery.{AllMayDepart}
 use Rattle.network_core.proofs.Allowing.{may_depart_then, none_yet}
 use Rattle.event_lines.specs.declared.hearing.Hearing.{Hearing}
-use Rattle.event_lines.specs.Hearing.{heard_as}
-use Rattle.event_lines.specs.Line.{LineValue, Happens, Shows, line_in}
 use Rattle.event_lines.specs.Run.{Ends, Listens, Wrote}
-use Rattle.event_lines.specs.Talk.{Stage, Unbegun, Open, Closed, Begins, Replies, Says, Told}
+use Rattle.event_lines.specs.Talk.{Stage, Unbegun, Open, Closed, AreRun, Begins, Told}
 
--- the packets of the network in which a run stands may depart
-abbrev MayDepartAt : Stage → Type 0
-MayDepartAt Unbegun = Unit {0}
-MayDepartAt (Open net) = AllMayDepart net
-MayDepartAt Closed = Unit {0}
+after_may : (start : NetValue) (history : List Moment) → IsHistory start history
+    → AllMayDepart start → AllMayDepart (net_after start history)
+after_may start [] is held = held
+after_may start (m ∷ later) is held =
+    after_may m.net later is.1 (may_depart_then start m.net m.event m.reply is.0 held)
 
-begun_may : (first : Result Network TopologyFault) (text : List ℕ) (stage : Stage)
-    → Begins first text stage → MayDepartAt stage
-begun_may (Ok network) text stage is = subst MayDepartAt (sym is.1) (none_yet network)
-begun_may (Err fault) text stage is = subst MayDepartAt (sym is.1) tt
+run_may : (hearing : Hearing) (network : Network) (lines texts : List (List ℕ)) (net : NetValue)
+    → AreRun hearing network lines texts net → AllMayDepart net
+run_may hearing network lines texts net is =
+    subst AllMayDepart is.ran.ends (after_may _ is.ran.history is.ran.run.is (none_yet network))
 
-replied_may : (old : NetValue) (asked : Option LineValue) (text : List ℕ) (new : NetValue)
-    → AllMayDepart old → Replies old asked text new → AllMayDepart new
-replied_may old (Some (Happens event)) text new held is =
-    may_depart_then old new event is.0 is.1.0 held
-replied_may old (Some (Shows packet)) text new held is = subst AllMayDepart (sym is.1) held
-replied_may old None text new held is = subst AllMayDepart (sym is.1) held
+open_is : (one other : NetValue) → Open one ≡ Open other → one ≡ other
+open_is one other same = cc
 
-said_may : (hearing : Hearing) (start : Stage) (line text : List ℕ) (next : Stage)
-    → MayDepartAt start → Says hearing start line text next → MayDepartAt next
-said_may hearing Unbegun line text next held is = begun_may (network_in line) text next is
-said_may hearing (Open old) line text next held is = subst MayDepartAt (sym is.1.1)
-    (replied_may old (heard_as hearing (line_in line)) text is.0 held is.1.0)
-said_may hearing Closed line text next held is = absurd is
+begun_may : (hearing : Hearing) (read : Result Network TopologyFault) (text : List ℕ)
+    (lines texts : List (List ℕ)) (net : NetValue) → Begins hearing read text lines texts (Open net)
+    → AllMayDepart net
+begun_may hearing (Ok network) text lines texts net is =
+    subst AllMayDepart (sym (open_is net is.0 is.1.1.0)) (run_may hearing network lines texts is.0 is.1.1.1)
+begun_may hearing (Err fault) text lines texts net is = absurd (let no_such = is.1.0 in cc)
 
-told_may : (hearing : Hearing) (start : Stage) (lines texts : List (List ℕ)) (stage : Stage)
-    → MayDepartAt start → Told hearing start lines texts stage → MayDepartAt stage
-told_may hearing start [] texts stage held is = subst MayDepartAt (sym is.1) held
-told_may hearing start (line ∷ lines) [] stage held is = absurd is
-told_may hearing start (line ∷ lines) (text ∷ texts) stage held is =
-    told_may hearing is.0 lines texts stage
-    (said_may hearing start line text is.0 held is.1.0) is.1.1
+told_may : (hearing : Hearing) (lines texts : List (List ℕ)) (net : NetValue)
+    → Told hearing lines texts (Open net) → AllMayDepart net
+told_may hearing [] texts net is = absurd (let no_such = is.1 in cc)
+told_may hearing (first ∷ lines) [] net is = absurd is
+told_may hearing (first ∷ lines) (text ∷ texts) net is =
+    begun_may hearing (network_in first) text lines texts net is
 
 -- so it is of the network that a run over streams reached
 pub listened_may : (hearing : Hearing) (net : NetValue) (before after held holds : Option (List ℕ))
@@ -52,4 +46,4 @@ pub listened_may : (hearing : Hearing) (net : NetValue) (before after held holds
 listened_may hearing net before after held holds is =
     let ends : Ends hearing (Ok net) (IsAtEnd after) is.0 is.1 = is.2.1.1.1 in
     let wrote : Wrote hearing ends.0 is.1 (Open net) = ends.1.1 in
-    told_may hearing Unbegun ends.0 wrote.0 (Open net) tt wrote.1.0
+    told_may hearing ends.0 wrote.0 net wrote.1.0

@@ -37,7 +37,7 @@ fn carry<R: Threads + Wait + Sync>(
         rt,
         alloc,
         net.topology(),
-        net.moment(),
+        net.now(),
         workers,
         slots,
         &flights,

@@ -13,13 +13,15 @@ settled-requires g c = subst (All (IsOf c.args.ask.now.set)) (sym c.deref.ensure
 
 pub returns : goal.returns
 returns g c =
-    answer c.args.ask.now c.args.limit c.in_ok-kept.kept c.in_ok-found.found.items c.in_ok-kept.ensures.sound (subst (InOrder by_walk) c.into_list.ensures.all c.into_list.ensures.order)
-    (all_met c.args.ask.now c.deref.result.now
+    let met = all_met c.args.ask.now c.deref.result.now
     (λ piece is. subst (λ (pieces : List PieceValue). Contains pieces piece) (sym c.deref.ensures.value) (c.in_ok-legs.ensures.ups piece is))
     (λ piece is. subst (λ (pieces : List PieceValue). Contains pieces piece) (sym c.deref.ensures.value) (c.in_ok-legs.ensures.cores piece is))
     (λ piece is. subst (λ (pieces : List PieceValue). Contains pieces piece) (sym c.deref.ensures.value) (c.in_ok-legs.ensures.downs piece is))
-    c.in_ok-kept.kept c.in_ok-kept.ensures.one c.in_ok-kept.ensures.two c.in_ok-kept.ensures.three)
-    c.in_ok-found.ensures.order c.in_ok-found.ensures.few
-    (subst (λ (kept : List PathValue). (path : PathValue) → Contains kept path → Met path_cmp c.args.limit c.in_ok-found.found.items path) c.into_list.ensures.all c.in_ok-found.ensures.met)
-    (subst (λ (kept : List PathValue). All (IsBest c.args.ask.now) kept → All (IsBest c.args.ask.now) c.in_ok-found.found.items) c.into_list.ensures.all
-    (c.in_ok-found.ensures.best c.args.ask.now))
+    c.in_ok-kept.kept c.in_ok-kept.ensures.one c.in_ok-kept.ensures.two c.in_ok-kept.ensures.three in record {
+      answer = answer c.args.ask.now c.args.limit c.in_ok-kept.kept c.in_ok-found.found.items c.in_ok-kept.ensures.sound (subst (InOrder by_walk) c.into_list.ensures.all c.into_list.ensures.order)
+          met c.in_ok-found.ensures.order c.in_ok-found.ensures.few
+          (subst (λ (kept : List PathValue). (path : PathValue) → Contains kept path → Met path_cmp c.args.limit c.in_ok-found.found.items path) c.into_list.ensures.all c.in_ok-found.ensures.met)
+          (subst (λ (kept : List PathValue). All (IsBest c.args.ask.now) kept → All (IsBest c.args.ask.now) c.in_ok-found.found.items) c.into_list.ensures.all
+          (c.in_ok-found.ensures.best c.args.ask.now));
+      spelled = λ path is. (met path is).0;
+    }

@@ -13,7 +13,7 @@ returns-then-option-choice g c = λ options here chosen.
 pub returns-then-is_empty : goal.returns-then-is_empty
 returns-then-is_empty g c = λ options here chosen.
     left c.args.set.now c.args.src c.args.dst options c.args.limit c.args.place c.args.option.now (record { rules = c.option.inside.policy; weight = c.option.inside.weight }) here c.option.view_is
-    c.args.choice.used c.args.choice.weight c.args.choice.paths c.in_ok-paths.paths c.requires (c.is_empty.ensures.0 c.if-is_empty.true) c.in_ok-paths.ensures chosen
+    c.args.choice.used c.args.choice.weight c.args.choice.paths c.in_ok-paths.paths c.requires (c.is_empty.ensures.0 c.if-is_empty.true) c.in_ok-paths.ensures.answer chosen
 
 pub returns : goal.returns
 returns g c = λ options here chosen.
@@ -32,4 +32,4 @@ returns g c = λ options here chosen.
           cc)
     ])
     (λ empty. (let yes' : c.is_empty.result ≡ true = c.is_empty.ensures.1 empty in let none = c.if-is_empty.false in let both = sym yes' ∙ none in cc))
-    c.in_ok-paths.ensures chosen
+    c.in_ok-paths.ensures.answer chosen

@@ -1,13 +1,15 @@
 -- The network of the topology that was read.
 use Rattle.std.proofs.Common.{rules, refl, sym, ap, subst}
-use Rattle.event_lines.specs.Talk.{Begins, Open, begun_text}
+use Rattle.event_lines.specs.Saying.{Opens}
+use Rattle.event_lines.specs.Talk.{Open, begun_text}
 use Rattle.event_lines.proofs.talk.begin.Goals as goal
 
 pub returns-in_ok-push_reply-in-Ok : goal.returns-in_ok-push_reply-in-Ok
 returns-in_ok-push_reply-in-Ok c hearing = (
   begun_text,
   (
-    subst (λ read. Begins read begun_text (Open c.new.result)) (sym c.in-Ok.ensures) (refl, ap Open c.new.ensures),
+    subst (λ read. Opens read begun_text (Open c.new.result)) (sym c.in-Ok.ensures)
+        (refl, (c.known.ensures, ap Open c.new.ensures)),
     search (rules, c.in_ok-push_reply-in-Ok.ensures),
   ),
 )

@@ -1,0 +1,97 @@
+//! A run of events over three ASes in a row: a packet goes from the last to the first.
+
+use forwarding::Place;
+use isd_as::IfId;
+use network_core::{Event, Net, run};
+use policy_expr::{OptionText, PolicyText, WalkHop};
+use scion_topology::Topology;
+use std::alloc::{AllocError, Global};
+use std::test::Fail;
+use worked::{at, hop, row};
+
+/// The events: a segment is made and registered, a path is asked for, a packet is sent by it and
+/// has its three turns, and a fourth that finds it delivered.
+fn events<'x>(options: &'x [OptionText<'x>]) -> [Event<'x>; 10] {
+    let turn = Event::Turn { packet: 0 };
+    [
+        Event::Tick { now: 1000 },
+        Event::Originate {
+            ia: at(1, 0x110),
+            egress: IfId(1),
+            beta0: 4660,
+        },
+        Event::Extend {
+            beacon: 0,
+            ia: at(1, 0x111),
+            egress: IfId(2),
+        },
+        Event::Terminate {
+            beacon: 1,
+            ia: at(1, 0x112),
+        },
+        Event::Ask {
+            src: at(1, 0x112),
+            dst: at(1, 0x110),
+            options,
+            limit: 4,
+        },
+        Event::Send {
+            ask: 0,
+            path: 0,
+            payload: b"hi",
+        },
+        turn,
+        turn,
+        turn,
+        turn,
+    ]
+}
+
+/// The network after the events.
+fn network(alloc: Global) -> Result<Net, Fail> {
+    let topology = Topology::from_json(alloc, row().as_bytes())?;
+    let any = [OptionText {
+        text: PolicyText {
+            acl: None,
+            sequence: None,
+        },
+        weight: 0,
+    }];
+    match run(alloc, topology, &events(&any)) {
+        Ok(net) => Ok(net),
+        Err(_) => Err(AllocError.into()),
+    }
+}
+
+/// The hops from the last AS to the first.
+fn walk() -> [WalkHop; 3] {
+    [
+        hop(at(1, 0x112), 0, 1),
+        hop(at(1, 0x111), 2, 1),
+        hop(at(1, 0x110), 1, 0),
+    ]
+}
+
+#[test]
+fn a_run_delivers_its_packet(rt: HostRuntime) -> Result<(), Fail> {
+    let net = network(rt.alloc())?;
+    assert_eq!(rt; net.now(), 1000);
+    assert_eq!(rt; net.packets().len(), 1);
+    let packet = net.packet(0).ok_or(AllocError)?;
+    assert_eq!(rt; packet.place(), Place::Delivered);
+    assert_eq!(rt; packet.passed(), walk().as_slice());
+    Ok(())
+}
+
+#[test]
+fn what_was_sent_is_kept(rt: HostRuntime) -> Result<(), Fail> {
+    let net = network(rt.alloc())?;
+    let sent = net.sent(0).ok_or(AllocError)?;
+    assert_eq!(rt; sent.source(), at(1, 0x112));
+    assert_eq!(rt; sent.destination(), at(1, 0x110));
+    assert_eq!(rt; sent.pieces().len(), 1);
+    assert_eq!(rt; sent.header().hop_count(), 3);
+    assert_eq!(rt; sent.payload(), b"hi".as_slice());
+    assert!(rt; net.sent(1).is_none());
+    Ok(())
+}
