@@ -1,6 +1,6 @@
 //! The inbox.
 
-ghost use Rattle.std.specs.Prelude.{◌≡◌, ◌<◌, ◌≤◌, IfErr, IfNone, IfOk, IfSome, OnErr, OnOk};
+ghost use Rattle.std.specs.Prelude.{◌≡◌, ◌<◌, ◌≤◌, List, IfErr, IfNone, IfOk, IfSome, OnErr, OnOk};
 ghost use Rattle.crossbeam_queue.specs.Fifo.{Held};
 ghost use Rattle.inbox.specs.Account.{AddsUp, everything, first_sender, receiver};
 ghost use Rattle.inbox.specs.Account.{given, joined, kept, with_put, with_taken};
@@ -79,21 +79,22 @@ impl<T: Drop> Inbox<T> {
     /// Takes in a pass of this inbox whose thread has ended: what was put in and taken out with
     /// both is from then on in one account. Nothing in the inbox changes.
     ///
-    /// Whoever has taken in all other passes has the whole share and all three roles. At its next
-    /// pop that gives nothing, or push that is handed back, it knows the whole: each value was
-    /// taken out as often as it was put in, or is left, and what came out and then what is left
-    /// has the values of the first two senders in each one's order.
+    /// Whoever has taken in all other passes has the whole share and all three roles, and knows
+    /// the whole at once: each value was taken out as often as it was put in, or is left, and what
+    /// came out and then what is left has the values of the first two senders in each one's order.
     pub fn take_in<R: Right, E: Right>(&self, pass: &mut InboxPass<T, R>, ended: InboxPass<T, E>)
         requires pass { pass.old.inbox ≡ self.now.inbox }
         requires ended { ended.inbox ≡ self.now.inbox }
         ensures inbox { pass.new.inbox ≡ pass.old.inbox }
         ensures joined { pass.new.account ≡ joined pass.old.account ended.account }
+        ensures whole { (items : List T) × AddsUp pass.new.account items }
     {
         let InboxPass {
             pass: ended,
             right: _right,
         } = ended;
         self.queue.absorb::<TakesIn>(&mut pass.pass, ended);
+        self.queue.learn_as::<TakesIn>(&mut pass.pass);
     }
 
     /// Puts a value at the back. It is handed back only where the inbox is full at that step; what

@@ -40,7 +40,7 @@ impl<T> Split<Account<T>> for Splits {
     ghost right = { given };
 }
 
-/// A pass takes in another.
+/// A pass takes in another, and what that tells.
 pub(crate) struct TakesIn;
 
 impl<T> Join<Account<T>> for TakesIn {
@@ -49,6 +49,12 @@ impl<T> Join<Account<T>> for TakesIn {
     ghost both = { joined };
 
     ghost spent = { spent };
+}
+
+impl<T> Lesson<T, Account<T>> for TakesIn {
+    ghost use Rattle.inbox.specs.Account.{AddsUp};
+
+    ghost fact = { AddsUp };
 }
 
 /// What a push tells.
