@@ -15,7 +15,7 @@ use Rattle.combinator.specs.Answer.{AnswerValue}
 use Rattle.combinator.specs.Lasting.{HaveSame, IsSameSet, AreAllLive}
 use Rattle.combinator.proofs.Moments.{options_too}
 use Rattle.daemon_cache.specs.Entry.{HasSegmentsOf, IsOwn}
-use Rattle.segment_board.specs.Board.{Known}
+use Rattle.segment_board.specs.Board.{Informed}
 use Rattle.daemon_cache.specs.declared.fault.AskFault.{AskFault}
 use Rattle.daemon_cache.specs.declared.fault.AskFault.TheVariants as fault
 use Rattle.daemon_cache.specs.Request.{RequestValue, IsAnswerTo, GivesNoAnswer, lawful_at}
@@ -66,7 +66,7 @@ no_entry true false (Ok options) e = absurd cc
 no_entry true true (Ok options) e = absurd cc
 
 -- a request that is refused gets no answer, of which the reader sees nothing
-pub gives_none : (request : RequestValue) (reader : Known) (refusal : AskFault) → lawful_at request ≡ Err refusal → GivesNoAnswer (Refused refusal) request reader reader
+pub gives_none : (request : RequestValue) (reader : Informed) (refusal : AskFault) → lawful_at request ≡ Err refusal → GivesNoAnswer (Refused refusal) request reader reader
 unfolding lawful_at
 gives_none request reader fault.BadLimit is = (is, refl)
 gives_none request reader (fault.Options refusal) is = (is, refl)

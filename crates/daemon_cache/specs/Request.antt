@@ -6,7 +6,7 @@ use Rattle.refusal.specs.declared.fault.OrMemory.TheVariants.{Memory, Refused}
 use Rattle.path_server.specs.Lookup.{Selection}
 use Rattle.policy_expr.specs.Options.{OptionTexts, WeighedRules, options_at}
 use Rattle.combinator.specs.Answer.{AnswersWith, AnswerValue}
-use Rattle.segment_board.specs.Board.{Known}
+use Rattle.segment_board.specs.Board.{Informed}
 use Rattle.daemon_cache.specs.declared.fault.AskFault.{AskFault}
 use Rattle.daemon_cache.specs.declared.fault.AskFault.TheVariants as fault
 
@@ -36,7 +36,7 @@ lawful_at request = do
 
 -- why there is no answer: the reader could not enter the board, or memory ran out, both where the
 -- request is lawful; or the request is refused. After a refusal the reader has seen what it had
-abbrev pub GivesNoAnswer : OrMemory AskFault → RequestValue → Known → Known → Type 0
+abbrev pub GivesNoAnswer : OrMemory AskFault → RequestValue → Informed → Informed → Type 0
 GivesNoAnswer Memory request before after = lawful_at request ≡ Ok tt
 GivesNoAnswer (Refused fault.NoEntry) request before after = (lawful_at request ≡ Ok tt) × (after ≡ before)
 GivesNoAnswer (Refused refusal) request before after = (lawful_at request ≡ Err refusal) × (after ≡ before)

@@ -1,6 +1,6 @@
 //! The daemon.
 
-ghost use Rattle.std.specs.Prelude.{◌≡◌, ◌<◌, ◌≤◌, Ok, IfErr, IfOk, IfSome, OnOk};
+ghost use Rattle.std.specs.Prelude.{◌≡◌, ◌<◌, ◌≤◌, [], Ok, IfErr, IfOk, IfSome, OnOk};
 ghost use mathlib.Core.List.{IsPrefix};
 ghost use Rattle.path_server.specs.Store.{store_of};
 ghost use Rattle.path_server.specs.Lookup.{segments_for};
@@ -26,6 +26,18 @@ use std::sync::{Arc, Mutex, Wait};
 #[derive(Drop)]
 pub struct Daemon {
     cache: Mutex<LruCache<u64, Arc<Entry>>>,
+}
+
+/// A cache that is empty, and has room for so many answers.
+fn empty_cache(alloc: Global, capacity: usize) -> Result<LruCache<u64, Arc<Entry>>, AllocError>
+    requires { 0 < capacity }
+    ensures empty { IfOk result (λ cache. cache.entries ≡ []) }
+    ensures room { IfOk result (λ cache. cache.cap ≡ capacity) }
+{
+    let Some(capacity) = NonZeroUsize::new(capacity) else {
+        unreachable!()
+    };
+    LruCache::new(alloc, capacity)
 }
 
 /// The answer to a lawful request over a set. The options of its texts are read in an arena, which is
@@ -58,11 +70,8 @@ impl Daemon {
         requires some { 0 < capacity }
         requires few { capacity ≤ 1024 }
     {
-        let Some(capacity) = NonZeroUsize::new(capacity) else {
-            return Err(AllocError);
-        };
         Ok(Daemon {
-            cache: Mutex::new(LruCache::new(alloc, capacity)?),
+            cache: Mutex::new(empty_cache(alloc, capacity)?),
         })
     }
 

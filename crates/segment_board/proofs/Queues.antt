@@ -1,14 +1,16 @@
 -- What the operations in the writer's queue make.
 use Rattle.std.proofs.Common.{◌≡◌, List, [], ◌∷◌, ◌++◌, fold, refl, ap, sym, ◌∙◌, subst}
 use Rattle.std.proofs.lemmas.List.Sums.{fold-append, fold_push}
+use mathlib.Core.List.{IsPrefix}
 use Rattle.path_server.specs.Store.{after, store_of}
-use Rattle.path_server.specs.declared.op.StoreOp.{StoreOp}
 use Rattle.segment_board.specs.declared.shown.BoardOp.{BoardOp}
 use Rattle.segment_board.specs.declared.shown.BoardOp.TheVariants.{Apply, Mark}
-use Rattle.segment_board.specs.History.{Reached, newest}
+use Rattle.segment_board.specs.declared.edition.Edition.{Edition}
+use Rattle.segment_board.specs.History.{Reached, GoesOn, newest, edition_after}
 use Rattle.segment_board.specs.Shown.{Image, taken, IsTied, IsReady}
 use Rattle.segment_board.specs.Desk.{operations_of}
 use Rattle.segment_board.proofs.Growing.{newest_last}
+use Rattle.segment_board.proofs.Following.{goes_self, goes_after}
 
 pub operations-append : (xs ys : List BoardOp) → operations_of (xs ++ ys) ≡ operations_of xs ++ operations_of ys
 operations-append [] ys = refl
@@ -26,11 +28,16 @@ pub fold_mark : (x : Image) (q : List BoardOp) (f : Reached) → fold taken x (q
 fold_mark x q f = fold_push taken x q (Mark f) ∙ ap (λ s. record { store = s; front = f }) (store_after x q)
 
 -- a queue may be published that ends with the front of all that is awaited
-pub ready_mark : (x : Image) (q : List BoardOp) (f : Reached) (old : List (List StoreOp)) → IsTied x → f.board ≡ x.front.board
-    → f.log ≡ old ++ (newest x.front.log ++ operations_of q) ∷ [] → IsReady x (q ++ Mark f ∷ [])
-ready_mark x q f old tied board log =
+pub ready_mark : (x : Image) (q : List BoardOp) (f : Reached) (old : List Edition) → IsTied x → f.board ≡ x.front.board → IsPrefix x.front.log old
+    → f.log ≡ old ++ edition_after (newest x.front.log) (operations_of q) ∷ [] → IsReady x (q ++ Mark f ∷ [])
+ready_mark x q f old tied board before log =
     let e = fold_mark x q f in
-    let last : newest f.log ≡ newest x.front.log ++ operations_of q = ap newest log ∙ newest_last old (newest x.front.log ++ operations_of q) in
-    let made : fold after x.store (operations_of q) ≡ store_of (newest f.log) =
-    ap (λ s. fold after s (operations_of q)) tied ∙ (sym (fold-append after [] (newest x.front.log) (operations_of q)) ∙ ap store_of (sym last)) in
-    (subst (λ (y : Image). IsTied y) (sym e) made, ap (λ (y : Image). y.front.board) e ∙ board)
+    let ops = operations_of q in
+    let last : (newest f.log).operations ≡ (newest x.front.log).operations ++ ops = ap (λ (l : List Edition). (newest l).operations) log ∙ ap (λ (z : Edition). z.operations) (newest_last old (edition_after (newest x.front.log) ops)) in
+    let made : fold after x.store ops ≡ store_of (newest f.log).operations =
+    ap (λ s. fold after s ops) tied ∙ (sym (fold-append after [] (newest x.front.log).operations ops) ∙ ap store_of (sym last)) in
+    (subst (λ (y : Image). IsTied y) (sym e) made, subst (λ (y : Image). GoesOn x.front y.front) (sym e) (goes_after x.front f old ops board before log))
+
+-- where nothing is pending, what lies on the board may be published as it is
+pub ready_alone : (x : Image) (q : List BoardOp) → IsTied x → q ≡ [] → IsReady x q
+ready_alone x q tied none = subst (λ (ops : List BoardOp). IsReady x ops) (sym none) (tied, goes_self x.front)

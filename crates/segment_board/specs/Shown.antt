@@ -2,7 +2,7 @@
 use Rattle.std.specs.Prelude.{◌≡◌, List, fold}
 use Rattle.path_segment.specs.Chain.{Chain}
 use Rattle.path_server.specs.Store.{after, store_of}
-use Rattle.segment_board.specs.History.{Reached, newest}
+use Rattle.segment_board.specs.History.{Reached, GoesOn, newest}
 use Rattle.segment_board.specs.declared.shown.BoardOp.{BoardOp}
 use Rattle.segment_board.specs.declared.shown.BoardOp.TheVariants.{Apply, Mark}
 
@@ -16,10 +16,10 @@ abbrev pub taken : Image → BoardOp → Image
 taken x (Apply op) = record x { store = after x.store op }
 taken x (Mark front) = record x { front = front }
 
--- the store is the one that the newest list of its history makes
+-- the store is the one that the operations of the newest edition make
 abbrev pub IsTied : Image → Type 0
-IsTied x = x.store ≡ store_of (newest x.front.log)
+IsTied x = x.store ≡ store_of (newest x.front.log).operations
 
--- after these operations what is on the board is tied to its history, of the same board
+-- after these operations what is on the board is tied to its history, and goes on from what was there
 abbrev pub IsReady : Image → List BoardOp → Type 0
-IsReady x ops = IsTied (fold taken x ops) × ((fold taken x ops).front.board ≡ x.front.board)
+IsReady x ops = IsTied (fold taken x ops) × GoesOn x.front (fold taken x ops).front

@@ -1,33 +1,30 @@
-//! The history of a board: the lists of operations that were made ready for publishing, one after
-//! another. It stands in contracts alone; a board keeps its length.
+//! The history of a board: the editions that were made ready for publishing, one after another. It
+//! stands in contracts alone; a board keeps its length.
 
 ghost use Rattle.std.specs.Prelude.{◌≡◌, ◌+◌, ◌^◌, ◌<◌, [], ◌∷◌, ◌++◌, length, MatchBool};
 ghost use mathlib.Core.List.{IsPrefix};
-ghost use Rattle.segment_board.specs.History.{head_of, newest, Rises};
+ghost use Rattle.segment_board.specs.History.{head_of, newest, opening, Rises};
 ghost use Rattle.segment_board.specs.Desk.{awaited};
 
+use crate::edition::Edition;
 use crate::shown::StoreWriter;
 use logbook::{Gain, Offer, Plain, Play, Rule, Seen, Start, Word};
-use path_server::StoreOp;
 use std::marker::Model;
 
-/// A contract reads an array as a list of any length: the operations that were published, in order.
-pub type Operations = [StoreOp; 0];
-
 /// The word whose number is the length of the history.
-pub(crate) type Head = Word<Operations, u64, Rising>;
+pub(crate) type Head = Word<Edition, u64, Rising>;
 
-/// The rule of the history: each list begins the next one.
+/// The rule of the history: the operations of each edition begin those of the next.
 pub struct Rising;
 
-impl Rule<Operations, u64> for Rising {
+impl Rule<Edition, u64> for Rising {
     ghost use Rattle.std.specs.Prelude.{[], ◌∷◌};
     ghost use base.Fml.{ftrue};
-    ghost use Rattle.segment_board.specs.History.{IsKept};
+    ghost use Rattle.segment_board.specs.History.{IsKept, opening};
 
     ghost holds = { λ cells log. IsKept cells log };
 
-    ghost first = { [] ∷ [] };
+    ghost first = { opening ∷ [] };
 
     ghost hinted = { λ n log. Unit {0} };
 
@@ -41,22 +38,22 @@ impl Rule<Operations, u64> for Rising {
 /// Nobody trades anything for a step.
 struct Nothing;
 
-impl Gain<Operations, u64> for Nothing {
+impl Gain<Edition, u64> for Nothing {
     ghost use base.Fml.{ftrue};
 
     ghost after = { λ names about answer. ftrue };
 }
 
-/// The step that adds the list which the writer is about to publish.
+/// The step that adds the edition which the writer is about to publish.
 struct Adds;
 
-impl Play<Operations, u64> for Adds {
+impl Play<Edition, u64> for Adds {
     ghost use Rattle.segment_board.specs.History.{Added};
 
     ghost then = { Added };
 }
 
-impl Plain<StoreWriter, Operations, u64> for Adds {
+impl Plain<StoreWriter, Edition, u64> for Adds {
     ghost use Rattle.std.specs.Prelude.{None};
     ghost use Rattle.segment_board.specs.Desk.{awaited};
 
@@ -69,7 +66,7 @@ impl Plain<StoreWriter, Operations, u64> for Adds {
 #[derive(Drop)]
 pub(crate) struct Front {
     count: u64,
-    seen: Seen<Operations, u64, Rising>,
+    seen: Seen<Edition, u64, Rising>,
 }
 
 impl Model for Front {
@@ -87,7 +84,7 @@ impl Front {
     /// A new history, in which nothing was published.
     pub(crate) fn start() -> (Head, Front)
         ensures head { result.0 ≡ head_of result.1.board }
-        ensures log { result.1.log ≡ [] ∷ [] }
+        ensures log { result.1.log ≡ opening ∷ [] }
     {
         let (seen, mut first, _second) = Seen::open(Start::alone(), 1, 0);
         let head = Word::tracked(1, &mut first);
@@ -117,11 +114,11 @@ impl Front {
         other.count <= self.count
     }
 
-    /// Adds the list that the writer is about to publish, and says whether it did. It does where
+    /// Adds the edition that the writer is about to publish, and says whether it did. It does where
     /// the whole history was seen here.
     pub(crate) fn grow(&mut self, head: &Head, writer: &StoreWriter) -> bool
         requires head { head.now ≡ head_of self.old.board }
-        requires more { IsPrefix (newest self.old.log) (awaited writer.now) }
+        requires more { IsPrefix (newest self.old.log).operations (awaited writer.now).operations }
         ensures { MatchBool result
             (self.new ≡ record self.old { log = self.old.log ++ awaited writer.now ∷ [] })
             (self.new ≡ self.old) }
@@ -130,7 +127,7 @@ impl Front {
             return false;
         }
         let mut seen = self.seen.again();
-        let mut offer: Offer<Operations, u64, Rising, Nothing> = seen.plain::<
+        let mut offer: Offer<Edition, u64, Rising, Nothing> = seen.plain::<
             Nothing,
             StoreWriter,
             Adds,
@@ -165,5 +162,8 @@ impl Model for Told {
 
     ghost Value = { Known };
 
-    ghost view = { λ t. record { board = t.front.board; seen = newest t.front.log } };
+    ghost view = { λ t. record {
+      board = t.front.board;
+      seen = (newest t.front.log).operations;
+    } };
 }

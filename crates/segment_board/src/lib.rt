@@ -7,6 +7,7 @@
 //! that it had seen or learnt.
 #![tactic(auto)]
 
+mod edition;
 mod fault;
 mod history;
 mod reader;

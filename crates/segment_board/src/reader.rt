@@ -1,11 +1,11 @@
 //! Readers of a board, which never wait.
 
-ghost use Rattle.std.specs.Prelude.{◌≡◌, ◌⊎◌, IfOk, IfErr, IfSome};
+ghost use Rattle.std.specs.Prelude.{◌≡◌, ◌⊎◌, Some, IfOk, IfErr, IfNone, IfSome};
 ghost use mathlib.Core.List.{IsPrefix};
 ghost use Rattle.left_right.specs.Sides.{view as view_of};
 ghost use Rattle.path_server.specs.Store.{store_of};
 ghost use Rattle.path_server.specs.Lookup.{segments_for};
-ghost use Rattle.segment_board.specs.History.{newest};
+ghost use Rattle.segment_board.specs.History.{GoesOn, newest};
 ghost use Rattle.segment_board.specs.Board.{GivesNothing};
 
 use crate::fault::{BoardFault, LookupError};
@@ -18,24 +18,30 @@ use refusal::OrMemory;
 use std::alloc::{AllocError, Global};
 use std::marker::Model;
 
-/// A reader of a board: contracts see which board it is, and the operations that it has seen.
+/// A reader of a board: contracts see which board it is, the operations that it has seen, and those
+/// that it was told.
 #[derive(Drop)]
 pub struct BoardReader {
     pub(crate) place: StoreReader,
     pub(crate) front: Front,
+    pub(crate) told: Front,
 }
 
 impl Model for BoardReader {
     ghost use Rattle.left_right.specs.Sides.{view as view_of};
     ghost use Rattle.segment_board.specs.History.{newest};
-    ghost use Rattle.segment_board.specs.Rule.{Knows};
-    ghost use Rattle.segment_board.specs.Board.{Known};
+    ghost use Rattle.segment_board.specs.Rule.{HasSeen};
+    ghost use Rattle.segment_board.specs.Board.{Informed};
 
-    ghost Value = { Known };
+    ghost Value = { Informed };
 
-    ghost view = { λ r. record { board = r.front.board; seen = newest r.front.log } };
+    ghost view = { λ r. record {
+      board = r.front.board;
+      seen = (newest r.front.log).operations;
+      told = (newest r.told.log).operations;
+    } };
 
-    ghost invariant = { λ r. Knows r.front.board (view_of r.place.place) };
+    ghost invariant = { λ r. HasSeen (view_of r.place.place) r.front r.told };
 }
 
 /// What is asked of the store that a reader finds.
@@ -47,16 +53,17 @@ struct Question {
     now: u32,
 }
 
-/// Enters, looks the segments up, and leaves. Nothing where the reader could not enter.
+/// Enters, looks the segments up in what lies on the board, and leaves. Nothing where the reader
+/// could not enter.
 fn look(
     place: StoreReader,
     asked: Question,
 ) -> (StoreReader, Option<(Front, Result<SegmentSet, AllocError>)>)
-    ensures place { view_of result.0.place ≡ view_of place.place }
-    ensures board { IfSome result.1 (λ r. IfSome (view_of place.place)
-        (λ y. y.front.board ≡ r.0.board)) }
-    ensures found { IfSome result.1 (λ r. IfOk r.1
-        (λ set. set ≡ segments_for (store_of (newest r.0.log)) asked.src asked.dst asked.now)) }
+    ensures stayed { IfNone result.1 (view_of result.0.place ≡ view_of place.place) }
+    ensures seen { IfSome result.1 (λ r. view_of result.0.place ≡ Some r.0) }
+    ensures later { IfSome result.1 (λ r. IfSome (view_of place.place) (λ y. GoesOn y r.0)) }
+    ensures found { IfSome result.1 (λ r. IfOk r.1 (λ set. set
+        ≡ segments_for (store_of (newest r.0.log).operations) asked.src asked.dst asked.now)) }
 {
     match place.enter_as::<Enters>() {
         Ok(reading) => {
@@ -79,10 +86,12 @@ impl BoardReader {
         ensures board { self.new.board ≡ self.old.board }
         ensures seen { IsPrefix self.old.seen self.new.seen }
         ensures told { IsPrefix told.seen self.new.seen }
-        // It makes nothing up: what is seen then is one of the two.
-        ensures either { (self.new.seen ≡ self.old.seen) ⊎ (self.new.seen ≡ told.seen) }
+        // It makes nothing up: nothing is new, or what was told.
+        ensures either { (self.new ≡ self.old)
+            ⊎ (self.new ≡ record self.old { seen = told.seen; told = told.seen }) }
     {
         if !self.front.reaches(&told.front) {
+            self.told = told.front.again();
             self.front = told.front;
         }
     }
@@ -104,6 +113,7 @@ impl BoardReader {
         ensures found { IfOk result
             (λ set. set ≡ segments_for (store_of self.new.seen) src dst now) }
         ensures later { IsPrefix self.old.seen self.new.seen }
+        ensures told { self.new.told ≡ self.old.told }
         ensures none { IfErr result (λ fault. GivesNothing fault self.old self.new) }
     {
         let asked = Question {

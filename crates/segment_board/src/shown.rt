@@ -57,12 +57,13 @@ impl Absorb<BoardOp> for Shown {
     }
 }
 
-/// The rule of the board: what is published belongs to its front, and all who know a board know
-/// this one. Five kinds of step keep it: publishing, entering, telling, learning, and giving a
-/// reader its place.
+/// The rule of the board: the store that lies there is the one that the published operations make,
+/// and they begin with what each thread saw there, at an edition that is the same or an earlier one.
+/// Five kinds of step keep it: publishing, entering, telling, learning, and giving a reader its
+/// place.
 pub(crate) struct Published;
 
-impl Protocol<Shown, Option<Shown>> for Published {
+impl Protocol<Shown, Option<Front>> for Published {
     ghost use Rattle.std.specs.Prelude.{None};
     ghost use Rattle.segment_board.specs.Rule.{Keeps};
 
@@ -71,45 +72,48 @@ impl Protocol<Shown, Option<Shown>> for Published {
     ghost first = { None };
 }
 
-/// What publishing tells the writer.
+/// What publishing tells the writer: it has seen all that is published.
 pub(crate) struct Publishes;
 
-impl Outcome<Shown, Option<Shown>> for Publishes {
+impl Outcome<Shown, Option<Front>> for Publishes {
     ghost use Rattle.std.specs.Prelude.{◌≡◌, Some};
 
-    ghost then = { λ v x y w. w ≡ Some y };
+    ghost then = { λ v x y w. w ≡ Some y.front };
 }
 
-/// What entering tells a reader.
+/// What entering tells a reader: it has seen all that is published, which goes on from what it had
+/// seen.
 pub(crate) struct Enters;
 
-impl Outcome<Shown, Option<Shown>> for Enters {
-    ghost use Rattle.std.specs.Prelude.{◌≡◌};
+impl Outcome<Shown, Option<Front>> for Enters {
+    ghost use Rattle.std.specs.Prelude.{◌≡◌, Some};
     ghost use Rattle.segment_board.specs.Shown.{IsTied};
     ghost use Rattle.segment_board.specs.Rule.{Fits};
 
-    ghost then = { λ v x y w. (w ≡ v) × IsTied x × Fits x v };
+    ghost then = { λ v x y w. (w ≡ Some x.front) × IsTied x × Fits x v };
 }
 
 /// The writer of the two copies.
-pub(crate) type StoreWriter = Writer<Shown, BoardOp, Option<Shown>, Published>;
+pub(crate) type StoreWriter = Writer<Shown, BoardOp, Option<Front>, Published>;
 
 /// A reader's place at the two copies.
-pub(crate) type StoreReader = Reader<Shown, Option<Shown>, Published>;
+pub(crate) type StoreReader = Reader<Shown, Option<Front>, Published>;
 
 /// The writer tells which board it is, and knows it still.
 pub(crate) struct Tells;
 
-impl Split<Option<Shown>> for Tells {
+impl Split<Option<Front>> for Tells {
+    ghost use Rattle.segment_board.specs.Rule.{begun_as};
+
     ghost left = { λ v. v };
 
-    ghost right = { λ v. v };
+    ghost right = { begun_as };
 }
 
 /// A reader learns which board it is at.
 pub(crate) struct Learns;
 
-impl Join<Option<Shown>> for Learns {
+impl Join<Option<Front>> for Learns {
     ghost use Rattle.std.specs.Prelude.{None};
 
     ghost both = { λ v w. w };

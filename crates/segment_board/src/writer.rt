@@ -1,6 +1,6 @@
 //! The writer of a board.
 
-ghost use Rattle.std.specs.Prelude.{◌≡◌, ◌<◌, ◌≤◌, ◌++◌, [], ◌∷◌, Some, fold, IfOk, IfErr, OnOk, OnErr, MatchBool, MatchResult};
+ghost use Rattle.std.specs.Prelude.{◌≡◌, ◌<◌, ◌≤◌, ◌+◌, ◌++◌, [], ◌∷◌, Some, fold, IfOk, IfErr, OnOk, OnErr, MatchBool, MatchResult};
 ghost use Rattle.left_right.specs.Sides.{view as view_of};
 ghost use Rattle.path_server.specs.declared.op.StoreOp.TheVariants.{Register, Sweep};
 ghost use Rattle.segment_board.specs.declared.fault.BoardFault.TheVariants.{NoPlace};
@@ -20,8 +20,8 @@ use std::alloc::{AllocError, AllocFailed, Global};
 use std::marker::Model;
 use std::sync::Wait;
 
-/// The writer of a board: contracts see which board it is, the operations that are published there,
-/// and those that are pending. [`BoardWriter::close`] ends it.
+/// The writer of a board: contracts see which board it is, how many editions were published there,
+/// the operations that are published, and those that are pending. [`BoardWriter::close`] ends it.
 pub struct BoardWriter {
     writer: StoreWriter,
     head: Head,
@@ -30,8 +30,7 @@ pub struct BoardWriter {
 }
 
 impl Model for BoardWriter {
-    ghost use Rattle.segment_board.specs.Desk.{shown_of, queue_of, operations_of};
-    ghost use Rattle.segment_board.specs.History.{newest};
+    ghost use Rattle.segment_board.specs.Desk.{edition_of, queue_of, operations_of};
     ghost use Rattle.segment_board.specs.Board.{Written};
     ghost use Rattle.segment_board.specs.Writing.{IsInOrder};
 
@@ -39,7 +38,8 @@ impl Model for BoardWriter {
 
     ghost view = { λ b. record {
       board = b.latest.board;
-      published = newest (shown_of b.writer).front.log;
+      edition = (edition_of b.writer).number;
+      published = (edition_of b.writer).operations;
       pending = operations_of (queue_of b.writer);
     } };
 
@@ -51,7 +51,7 @@ fn show<R: Wait>(writer: StoreWriter, rt: &R) -> (StoreWriter, Result<(), AllocE
     requires { IsReady (shown_of writer) (queue_of writer) }
     ensures { MatchResult result.1
         (λ _. (shown_of result.0 ≡ fold taken (shown_of writer) (queue_of writer))
-        × (queue_of result.0 ≡ []) × (view_of result.0.desk.place ≡ Some (shown_of result.0)))
+        × (queue_of result.0 ≡ []) × (view_of result.0.desk.place ≡ Some (shown_of result.0).front))
         (λ _. (shown_of result.0 ≡ shown_of writer) × (queue_of result.0 ≡ queue_of writer)
         × (view_of result.0.desk.place ≡ view_of writer.desk.place)) }
 {
@@ -123,7 +123,7 @@ impl BoardWriter {
     pub fn reader(&mut self) -> Result<BoardReader, BoardFault>
         ensures same { self.new ≡ self.old }
         ensures reader { IfOk result
-            (λ reader. (reader.board ≡ self.old.board) × (reader.seen ≡ [])) }
+            (λ reader. (reader.board ≡ self.old.board) × (reader.seen ≡ []) × (reader.told ≡ [])) }
         ensures none { IfErr result (λ fault. fault ≡ NoPlace) }
     {
         let Ok(mut place) = self.writer.factory().reader() else {
@@ -133,6 +133,7 @@ impl BoardWriter {
         Ok(BoardReader {
             place,
             front: self.root.again(),
+            told: self.root.again(),
         })
     }
 
@@ -164,11 +165,13 @@ impl BoardWriter {
         Err(AllocError)
     }
 
-    /// Publishes all that is pending, at one step. It may wait for readers that are inside.
+    /// Publishes all that is pending, at one step: as the next edition. It may wait for readers that
+    /// are inside.
     ///
     /// After want of memory all is pending that was, and a later call publishes it.
     pub fn publish<R: Wait>(&mut self, rt: &R) -> Result<(), AllocError>
         ensures done { OnOk result (self.new ≡ record self.old {
+          edition = self.old.edition + 1;
           published = self.old.published ++ self.old.pending;
           pending = [];
         }) }

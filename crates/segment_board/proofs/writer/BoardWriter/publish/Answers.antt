@@ -1,8 +1,8 @@
 use Rattle.std.proofs.Common.{◌≡◌, Bool, [], ◌∷◌, ◌++◌, ap, ◌∙◌, subst}
 use Rattle.std.specs.Prelude.{MatchBool}
 use Rattle.segment_board.specs.declared.shown.BoardOp.TheVariants.{Mark}
-use Rattle.segment_board.specs.History.{Reached, newest}
-use Rattle.segment_board.specs.Desk.{shown_of, queue_of, awaited, operations_of}
+use Rattle.segment_board.specs.History.{Reached}
+use Rattle.segment_board.specs.Desk.{queue_of, edition_of, awaited, operations_of}
 use Rattle.segment_board.proofs.InOrder.{written, marked, made_ready, is_ready, after_show, Showed, Kept, showed_view, kept_view, on_ok, on_err}
 use Rattle.segment_board.proofs.writer.BoardWriter.publish.Goals as goal
 
@@ -67,7 +67,7 @@ returns-clause-done g c =
     let same = marked (queue_of w) (queue_of v) next queue in
     let u = c.replace_with.new.dest in
     rw (← c.self.view_is)
-    (on_ok c.replace_with.result (Showed w v head root latest next u) (Kept w v head root latest next u) (written next.board (newest (shown_of u).front.log) (operations_of (queue_of u)) ≡ written latest.board (awaited w) []) c.replace_with.ensures
+    (on_ok c.replace_with.result (Showed w v head root latest next u) (Kept w v head root latest next u) (written next.board (edition_of u) (operations_of (queue_of u)) ≡ written latest.board (awaited w) []) c.replace_with.ensures
     (λ s. showed_view w v head root latest next u step queue s))
 
 pub returns-clause-kept : goal.returns-clause-kept
@@ -86,5 +86,5 @@ returns-clause-kept g c =
     let u = c.replace_with.new.dest in
     rw (← c.self.view_is)
     (on_err c.replace_with.result (Showed w v head root latest next u) (Kept w v head root latest next u)
-    (written next.board (newest (shown_of u).front.log) (operations_of (queue_of u)) ≡ written latest.board (newest (shown_of w).front.log) (operations_of (queue_of w))) c.replace_with.ensures
+    (written next.board (edition_of u) (operations_of (queue_of u)) ≡ written latest.board (edition_of w) (operations_of (queue_of w))) c.replace_with.ensures
     (λ s. kept_view w v head root latest next u c.mark-marked.ensures.desk step same s))
