@@ -1,0 +1,207 @@
+//! Calls that take an allocator, and whether what they give is right.
+
+use isd_as::{IfId, IsdAs};
+use policy_expr::{
+    Acl, AclText, Denied, OptionError, OptionText, Policy, PolicyError, PolicyOption, PolicyText,
+    Seq, WalkHop,
+};
+use std::alloc::{AllocError, Allocator, Global};
+
+/// What a call gave.
+#[derive(Clone, Copy, Debug, PartialEq, Eq)]
+pub(crate) enum Gift {
+    /// The one right value.
+    Right,
+    /// Want of memory.
+    Memory,
+    /// Another value, or a refusal.
+    Wrong,
+}
+
+/// The text of a sequence, what that prints, a walk that is a word of it, and one that is none.
+#[derive(Clone, Copy)]
+pub(crate) struct SequenceRow<'a> {
+    pub(crate) text: &'a str,
+    pub(crate) printed: &'a str,
+    pub(crate) word: &'a [WalkHop],
+    pub(crate) other: &'a [WalkHop],
+}
+
+/// A call that takes an allocator. Lists have two entries, the first of which denies the way in by
+/// interface 2 alone; policies have such a list and a sequence of two hops; there are two options
+/// of such policies, of the weights 1 and 5.
+#[derive(Clone, Copy)]
+pub(crate) enum Call<'a> {
+    ReadSequence(SequenceRow<'a>),
+    CloneSequence(&'a Seq<Global>, SequenceRow<'a>),
+    ReadList(&'a AclText),
+    CloneList(&'a Acl<Global>),
+    ReadPolicy(PolicyText<'a>),
+    ClonePolicy(&'a Policy<Global>),
+    ReadOptions(&'a [OptionText<'a>]),
+    CloneOption(&'a PolicyOption<Global>),
+}
+
+/// A hop of 1-ff00:0:133.
+pub(crate) fn hop(ingress: u16, egress: u16) -> WalkHop {
+    WalkHop {
+        ia: IsdAs::from_number(0x0001_ff00_0000_0133),
+        ingress: IfId(ingress),
+        egress: IfId(egress),
+    }
+}
+
+/// Right where it holds, and else wrong.
+fn judged(is_right: bool) -> Gift {
+    if is_right { Gift::Right } else { Gift::Wrong }
+}
+
+/// Whether no value is want of memory.
+fn without_policy(error: PolicyError) -> Gift {
+    match error {
+        PolicyError::Memory => Gift::Memory,
+        PolicyError::Refused(_) => Gift::Wrong,
+    }
+}
+
+/// The same of options.
+fn without_options(error: OptionError) -> Gift {
+    match error {
+        OptionError::Memory => Gift::Memory,
+        OptionError::Refused(_) => Gift::Wrong,
+    }
+}
+
+/// Whether a sequence prints as its row says, and has the one walk and not the other.
+fn of_sequence<A: Allocator + Clone>(
+    alloc: Global,
+    sequence: &Seq<A>,
+    row: &SequenceRow<'_>,
+) -> Result<Gift, AllocError> {
+    let printed = sequence.print(alloc)?;
+    let is_printed = printed.as_str() == row.printed;
+    let are_judged = sequence.matches(row.word) && !sequence.matches(row.other);
+    Ok(judged(is_printed && are_judged))
+}
+
+/// Whether these are the two entries of the list.
+fn of_list<A: Allocator + Clone>(list: &Acl<A>) -> Gift {
+    let denied = Err(Denied { hop: 0, entry: 0 });
+    let is_right = list.verdict(&[hop(2, 1)]) == denied && list.verdict(&[hop(1, 2)]) == Ok(());
+    judged(is_right && list.entries().len() == 2)
+}
+
+/// Whether a policy has that list, and a sequence of two hops.
+fn is_policy<A: Allocator + Clone>(policy: &Policy<A>) -> bool {
+    let denied = Err(Denied { hop: 0, entry: 0 });
+    policy.verdict(&[hop(2, 1)]) == denied
+        && policy.verdict(&[hop(1, 2)]) == Ok(())
+        && policy.matches(&[hop(1, 2); 2])
+        && !policy.matches(&[hop(1, 2)])
+}
+
+/// Whether these are the two options.
+fn of_options<A: Allocator + Clone>(options: &[PolicyOption<A>]) -> Gift {
+    match options {
+        [light, heavy] => judged(
+            light.weight == 1
+                && heavy.weight == 5
+                && is_policy(&light.policy)
+                && is_policy(&heavy.policy),
+        ),
+        _ => Gift::Wrong,
+    }
+}
+
+/// Reads a sequence at a place.
+fn read_sequence<A: Allocator + Clone>(
+    alloc: Global,
+    place: A,
+    row: &SequenceRow<'_>,
+) -> Result<Gift, AllocError> {
+    match Seq::parse(place, row.text) {
+        Ok(sequence) => of_sequence(alloc, &sequence, row),
+        Err(error) => Ok(without_policy(error)),
+    }
+}
+
+/// Clones a sequence to a place.
+fn clone_sequence<A: Allocator + Clone>(
+    alloc: Global,
+    place: A,
+    sequence: &Seq<Global>,
+    row: &SequenceRow<'_>,
+) -> Result<Gift, AllocError> {
+    match sequence.clone_in(place) {
+        Ok(clone) => of_sequence(alloc, &clone, row),
+        Err(AllocError) => Ok(Gift::Memory),
+    }
+}
+
+/// Reads a list at a place.
+fn read_list<A: Allocator + Clone>(place: A, text: &AclText) -> Gift {
+    match Acl::parse(place, text) {
+        Ok(list) => of_list(&list),
+        Err(error) => without_policy(error),
+    }
+}
+
+/// Clones a list to a place.
+fn clone_list<A: Allocator + Clone>(place: A, list: &Acl<Global>) -> Gift {
+    match list.clone_in(place) {
+        Ok(clone) => of_list(&clone),
+        Err(AllocError) => Gift::Memory,
+    }
+}
+
+/// Reads a policy at a place.
+fn read_policy<A: Allocator + Clone>(place: A, text: &PolicyText<'_>) -> Gift {
+    match Policy::parse(place, text) {
+        Ok(policy) => judged(is_policy(&policy)),
+        Err(error) => without_policy(error),
+    }
+}
+
+/// Clones a policy to a place.
+fn clone_policy<A: Allocator + Clone>(place: A, policy: &Policy<Global>) -> Gift {
+    match policy.clone_in(place) {
+        Ok(clone) => judged(is_policy(&clone)),
+        Err(AllocError) => Gift::Memory,
+    }
+}
+
+/// Reads options at a place.
+fn read_options<A: Allocator + Clone>(place: A, texts: &[OptionText<'_>]) -> Gift {
+    match PolicyOption::parse_all(place, texts) {
+        Ok(options) => of_options(&options),
+        Err(error) => without_options(error),
+    }
+}
+
+/// Clones an option to a place. It has the weight 5.
+fn clone_option<A: Allocator + Clone>(place: A, option: &PolicyOption<Global>) -> Gift {
+    match option.clone_in(place) {
+        Ok(clone) => judged(clone.weight == 5 && is_policy(&clone.policy)),
+        Err(AllocError) => Gift::Memory,
+    }
+}
+
+impl Call<'_> {
+    /// Makes the call at a place. What it gives is looked at with ample memory, and let go.
+    pub(crate) fn at<A: Allocator + Clone>(
+        &self,
+        alloc: Global,
+        place: A,
+    ) -> Result<Gift, AllocError> {
+        match *self {
+            Call::ReadSequence(row) => read_sequence(alloc, place, &row),
+            Call::CloneSequence(sequence, row) => clone_sequence(alloc, place, sequence, &row),
+            Call::ReadList(text) => Ok(read_list(place, text)),
+            Call::CloneList(list) => Ok(clone_list(place, list)),
+            Call::ReadPolicy(text) => Ok(read_policy(place, &text)),
+            Call::ClonePolicy(policy) => Ok(clone_policy(place, policy)),
+            Call::ReadOptions(texts) => Ok(read_options(place, texts)),
+            Call::CloneOption(option) => Ok(clone_option(place, option)),
+        }
+    }
+}

@@ -1,0 +1,170 @@
+//! Calls at allocators that refuse.
+
+use crate::calls::{Call, Gift};
+use bumpalo::Bump;
+use refusing::{Allocations, Refusing};
+use std::alloc::{AllocError, Allocator, Global};
+use std::process::Abort;
+use std::test::Fail;
+
+/// More allocations, and chunks of an arena, than a call of these tests wants.
+const MANY: u64 = 2_000;
+
+/// More bytes than a call of these tests wants.
+const MANY_BYTES: usize = 32_000;
+
+/// What a call gave where some allocations were refused, how many it asked for, what it gave again
+/// where none was, and how many blocks both left.
+#[derive(Clone, Copy, Debug, PartialEq, Eq)]
+struct Trial {
+    given: Gift,
+    asked: u64,
+    again: Gift,
+    left: u64,
+}
+
+/// Makes a call with these allocations refused, and again with none.
+fn tried<B: Allocator>(
+    alloc: Global,
+    place: &Refusing<B>,
+    call: &Call<'_>,
+    refused: Allocations,
+) -> Result<Trial, AllocError> {
+    place.refuse(refused);
+    let given = call.at(alloc, place)?;
+    let (asked, left) = (place.asked(), place.out());
+    place.refuse(Allocations::None);
+    let again = call.at(alloc, place)?;
+    Ok(Trial {
+        given,
+        asked,
+        again,
+        left: left.saturating_add(place.out()),
+    })
+}
+
+/// Refuses each allocation of a call in turn, alone or with all after it, until none is refused,
+/// and tells how many there were.
+///
+/// The call wants memory exactly where one was refused, gives its value again with ample memory,
+/// and leaves no block.
+fn expect_each<B: Allocator>(
+    rt: &impl Abort,
+    alloc: Global,
+    place: &Refusing<B>,
+    call: &Call<'_>,
+    is_alone: bool,
+) -> Result<u64, Fail> {
+    for number in 1..MANY {
+        let refused = if is_alone {
+            Allocations::One(number)
+        } else {
+            Allocations::AllFrom(number)
+        };
+        let trial = tried(alloc, place, call, refused)?;
+        let is_refused = number <= trial.asked;
+        let wanted = if is_refused {
+            Gift::Memory
+        } else {
+            Gift::Right
+        };
+        assert_eq!(rt; trial.given, wanted, "allocation {number} was refused");
+        assert_eq!(rt; trial.again, Gift::Right, "after allocation {number}");
+        assert_eq!(rt; trial.left, 0, "after allocation {number}");
+        if !is_refused {
+            return Ok(trial.asked);
+        }
+    }
+    assert!(rt; false, "the call asks without an end");
+    Ok(0)
+}
+
+/// The same on the heap and in an arena, each with the one allocation refused and with all from it
+/// on. The call asks for at least so many each time.
+fn expect_here_and_there(
+    rt: &impl Abort,
+    alloc: Global,
+    call: &Call<'_>,
+    least: u64,
+) -> Result<(), Fail> {
+    for is_alone in [true, false] {
+        let heap = Refusing::new(alloc);
+        let asked = expect_each(rt, alloc, &heap, call, is_alone)?;
+        assert!(rt; least <= asked, "it asks the heap for {asked} alone");
+        let arena = Bump::new(alloc);
+        let parts = Refusing::new(&arena);
+        let asked = expect_each(rt, alloc, &parts, call, is_alone)?;
+        assert!(rt; least <= asked, "it asks the arena for {asked} alone");
+    }
+    Ok(())
+}
+
+/// What a call gives in a new arena over this allocator.
+fn given_over(
+    alloc: Global,
+    chunks: &Refusing<Global>,
+    call: &Call<'_>,
+) -> Result<Gift, AllocError> {
+    let arena = Bump::new(chunks);
+    call.at(alloc, &arena)
+}
+
+/// Arenas that are refused each chunk from one on, until none is refused: the call wants memory
+/// exactly where one was, and no chunk is left.
+fn expect_chunks(rt: &impl Abort, alloc: Global, call: &Call<'_>) -> Result<(), Fail> {
+    let chunks = Refusing::new(alloc);
+    for number in 1..MANY {
+        chunks.refuse(Allocations::AllFrom(number));
+        let given = given_over(alloc, &chunks, call)?;
+        let is_refused = number <= chunks.asked();
+        let wanted = if is_refused {
+            Gift::Memory
+        } else {
+            Gift::Right
+        };
+        assert_eq!(rt; given, wanted, "chunk {number} was refused");
+        assert_eq!(rt; chunks.out(), 0, "after chunk {number}");
+        if !is_refused {
+            assert!(rt; 1 < number, "no chunk was refused");
+            return Ok(());
+        }
+    }
+    assert!(rt; false, "the arena asks without an end");
+    Ok(())
+}
+
+/// What a call gives in a new arena of at most so many bytes.
+fn given_within(alloc: Global, bytes: usize, call: &Call<'_>) -> Result<Gift, AllocError> {
+    let arena = Bump::new(alloc);
+    arena.set_allocation_limit(Some(bytes));
+    call.at(alloc, &arena)
+}
+
+/// Arenas of more and more bytes: the call wants memory in the small ones, and from one on gives
+/// its value in each.
+fn expect_limits(rt: &impl Abort, alloc: Global, call: &Call<'_>) -> Result<(), Fail> {
+    let mut last = Gift::Memory;
+    for bytes in (0..MANY_BYTES).step_by(32) {
+        let given = given_within(alloc, bytes, call)?;
+        assert!(rt;
+            given == last || given == Gift::Right,
+            "{given:?} in {bytes} bytes"
+        );
+        last = given;
+    }
+    assert_eq!(rt; given_within(alloc, 0, call)?, Gift::Memory);
+    assert_eq!(rt; last, Gift::Right, "in the largest arena");
+    Ok(())
+}
+
+/// All of that.
+pub(crate) fn expect_all(
+    rt: &impl Abort,
+    alloc: Global,
+    call: Call<'_>,
+    least: u64,
+) -> Result<(), Fail> {
+    expect_here_and_there(rt, alloc, &call, least)?;
+    expect_chunks(rt, alloc, &call)?;
+    expect_limits(rt, alloc, &call)
+}
