@@ -236,3 +236,22 @@ fn accumulator_is_set_where_it_stands(rt: HostRuntime) -> Result<(), Fail> {
     assert_eq!(rt; bytes, up_with(&[(6, 0x12), (7, 0x34)]));
     Ok(())
 }
+
+/// Each refusal of a header: its bytes are lent for writing, and no contract says that they stay.
+#[test]
+fn refused_bytes_stay(rt: HostRuntime) {
+    let refused: [(&[(usize, u8)], u16); 7] = [
+        (&[(1, 0x03), (2, 0xf0), (3, 0x40)], 20),
+        (&[(1, 0x04)], 21),
+        (&[(4, 0x02)], 22),
+        (&[(12, 0x01)], 23),
+        (&[(2, 0x00)], 24),
+        (&[(1, 0x02), (2, 0x18)], 25),
+        (&[(0, 0x40)], 26),
+    ];
+    for (changes, code) in refused {
+        let mut bytes = up_with(changes);
+        assert_eq!(rt; code_of(HeaderMut::new(&mut bytes)), code);
+        assert_eq!(rt; bytes, up_with(changes));
+    }
+}
