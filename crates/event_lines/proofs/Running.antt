@@ -1,8 +1,8 @@
 -- A run so far, and how it ends.
 use Rattle.std.proofs.Common.{arith, ◌≡◌, ℕ, ◌+◌, ◌≤◌, List, [], ◌∷◌, ◌++◌, Option, Ok, Err, suc, take, length, refl, sym, ap, ◌∙◌, append_assoc, append-nil, subst, inl, inr}
 use Rattle.std.proofs.lemmas.List.{length-append, take_all}
-use Rattle.std.specs.Io.KnownBytes.{Appends, Consumes, IsAtEnd}
-use Rattle.std.proofs.KnownBytes.{Appends-kept, Appends-trans, Consumes-trans, Consumes-nil, Appends-nil}
+use Rattle.std.specs.Io.KnownBytes.{Appends, Consumes, IsAtEnd, Keeps}
+use Rattle.std.proofs.KnownBytes.{Appends-kept, Appends-trans, Consumes-kept, Consumes-trans, Consumes-nil, Appends-nil}
 use Rattle.event_lines.specs.declared.fault.RunFault.{RunFault}
 use Rattle.event_lines.specs.declared.fault.RunFault.TheVariants as faults
 use Rattle.event_lines.specs.declared.hearing.Hearing.{Hearing}
@@ -280,6 +280,24 @@ ends_unfinished hearing before after now held holds with {talk = talk} bytes sta
 )
 ends_unfinished hearing before after now held holds with bytes stage faults.Read far none more end finishes = absurd finishes
 ends_unfinished hearing before after now held holds with bytes stage faults.InputTooLong far none more end finishes = absurd finishes
+
+-- a read failed
+pub ends_unread : (hearing : Hearing) (before after now held holds : Option (List ℕ)) {talk : TalkValue} {count : ℕ}
+    → SoFar hearing before after held holds talk count → Keeps after now → Listens hearing (Err faults.Read) before now held holds
+ends_unread hearing before after now held holds {talk} far kept = (
+  far.read,
+  far.went,
+  (
+    Consumes-kept before after now far.read far.consumed kept,
+    (
+      far.appended,
+      (
+        omega (arith, far.counted, far.few),
+        (far.lines, talk.rest, talk.stage, (far.are, (far.texts, (as_run hearing far, far.same)))),
+      ),
+    ),
+  ),
+)
 
 -- a byte too many came
 pub ends_too_long : (hearing : Hearing) (before after now held holds : Option (List ℕ)) {talk : TalkValue} {count : ℕ} (bytes : List ℕ)

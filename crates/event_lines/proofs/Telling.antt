@@ -1,8 +1,24 @@
 -- Lines told one after another.
-use Rattle.std.proofs.Common.{ℕ, List, [], ◌∷◌, ◌++◌, refl, sym, subst}
+use Rattle.std.proofs.Common.{◌≡◌, ℕ, List, [], ◌∷◌, ◌++◌, Some, Result, Ok, Err, IfOk, refl, sym, ap, ◌∙◌, subst}
+use Rattle.network_core.specs.declared.reply.Reply.{Reply}
+use Rattle.network_core.specs.Event.{EventValue}
+use Rattle.network_core.specs.Value.{NetValue}
+use Rattle.network_core.specs.Step.{Step}
+use Rattle.network_core.specs.Delivery.{IsFramed}
+use Rattle.event_lines.specs.Line.{Happens}
+use Rattle.event_lines.specs.Text.{reply_text}
 use Rattle.event_lines.specs.declared.hearing.Hearing.{Hearing}
-use Rattle.event_lines.specs.Saying.{Says, SaysAll}
+use Rattle.event_lines.specs.Saying.{Replies, Says, SaysAll}
 use Rattle.event_lines.specs.Talk.{Stage}
+
+-- the text of an event's reply answers the line
+pub event_answered : {T F : Type 0} (result : Result T F) (bytes : T → List ℕ) (old new : NetValue)
+    (event : EventValue) (reply told : Reply) → told ≡ reply → Step old event reply new
+    → IsFramed event reply new → IfOk result (λ text. bytes text ≡ reply_text new told)
+    → IfOk result (λ text. Replies old (Some (Happens event)) (bytes text) new)
+event_answered (Ok text) bytes old new event reply told same step framed is =
+    (reply, (step, (framed, is ∙ ap (reply_text new) same)))
+event_answered (Err fault) bytes old new event reply told same step framed is = tt
 
 -- lines behind lines
 pub told_append : (hearing : Hearing) (start middle stage : Stage) (lines more texts others : List (List ℕ))

@@ -104,6 +104,10 @@ fn finish<K: Sink>(
 /// network or the question where a packet is; a line that is not heard is a bad line. Each is
 /// answered by one line, which is written and flushed before more is read.
 ///
+/// The lines behind the first are a run of the events that they ask for, in their order, and the
+/// replies are the answers of its history. So what is promised of a run ([`network_core::run`])
+/// holds of them, and also of those that were answered before a fault.
+///
 /// [`RunFault::Topology`] where the first line is no topology, after its answer;
 /// [`RunFault::Read`] and [`RunFault::Write`] where the source or the sink failed;
 /// [`RunFault::Memory`] where memory ran out at some line, after the answers to the lines before;

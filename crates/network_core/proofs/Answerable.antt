@@ -1,15 +1,17 @@
 -- A packet that was delivered may be answered.
-use Rattle.std.proofs.Common.{◌≡◌, ℕ, ◌≤◌, List, length, Some, Result, Ok, refl, ap, ◌∙◌}
+use Rattle.std.proofs.Common.{◌≡◌, ℕ, ◌*◌, ◌<◌, ◌≤◌, List, length, Some, Result, Ok, Err, refl, ap, ◌∙◌, subst, inl, inr}
 use Rattle.std.specs.Prelude.{slice_get, nat_le}
 use Rattle.std.specs.Option.{ok_or}
 use Rattle.std.proofs.lemmas.Bool.{le-leb}
 use Rattle.refusal.specs.Refusal.{◌>>=◌, check, or_else}
-use Rattle.refusal.proofs.Steps.{bind_from}
+use Rattle.refusal.proofs.Steps.{bind_from, ok_is}
 use Rattle.path_header.specs.Value.{HeaderValue}
 use Rattle.path_header.specs.Reversal.{reversed}
 use Rattle.path_verifier.specs.Piece.{PieceValue}
-use Rattle.path_verifier.specs.Accepted.{MakesPath}
+use Rattle.path_verifier.specs.declared.fault.VerifyFault.TheVariants.{Expired}
+use Rattle.path_verifier.specs.Accepted.{IsExpiry, MakesPath}
 use Rattle.path_verifier.specs.Turned.{turned_pieces}
+use Rattle.path_verifier.proofs.Breaches.{refused_is_not_accepted}
 use Rattle.router_step.specs.Packet.{destination_of, source_of}
 use Rattle.forwarding.specs.Frame.{HasFrame}
 use Rattle.forwarding.specs.Turn.{Packet}
@@ -19,9 +21,11 @@ use Rattle.forwarding.proofs.Received.{received}
 use Rattle.forwarding.proofs.Replies.{back_in_time, back_expired}
 use Rattle.network_core.specs.declared.fault.EventFault.{EventFault}
 use Rattle.network_core.specs.declared.fault.EventFault.TheVariants as faults
-use Rattle.network_core.specs.Value.{Way, SentValue, PacketValue, NetValue}
+use Rattle.network_core.specs.declared.reply.Reply.{Reply}
+use Rattle.network_core.specs.declared.reply.Reply.TheVariants as replies
+use Rattle.network_core.specs.Value.{Way, asked_at, SentValue, PacketValue, NetValue}
 use Rattle.network_core.specs.Event.{BackOf}
-use Rattle.network_core.specs.Step.{packet_at, header_back, way_back, way_by, sent_with, sent_by}
+use Rattle.network_core.specs.Step.{packet_at, header_back, way_back, way_by, sent_with, sent_by, Sends}
 use Rattle.network_core.specs.Headline.{IsAnswerable}
 
 abbrev okay : SentValue → Result SentValue EventFault
@@ -87,6 +91,23 @@ module _ (net : NetValue) (p moment : ℕ) (sent : SentValue) (one : PacketValue
   replied_is : sent_by net (BackOf p) payload ≡ Ok back
   replied_is = bind_from (way_by net (BackOf p)) _ back.way (Ok back) routed sent_is
 
+  -- past the path's expiry the event is refused, and changes nothing
+  refused_late : (expiry : ℕ) → IsExpiry sent.way.pieces expiry → expiry < 2 * net.moment
+      → (reply : Reply) (new : NetValue) (answer : Result SentValue EventFault) → answer ≡ Ok back
+      → Sends answer net reply new → (reply ≡ replies.Refused (faults.Path Expired)) × (new ≡ net)
+  refused_late expiry least past reply new (Ok other) is sends =
+      let same = ok_is other back is in
+      let late = back_expired sent.way.pieces sent.way.source sent.way.destination moment net.moment
+      expiry header no_rules path least past in
+      elim (subst (λ (s : SentValue). Sends (Ok s) net reply new) same sends) [
+        | inl done ↦ absurd (refused_is_not_accepted (asked_at net.moment back.way) Expired ((late Expired).1 refl) done.0)
+        | inr none ↦ (
+          none.1.1.0 ∙ ap (λ f. replies.Refused (faults.Path f)) ((late none.0).0 none.1.0),
+          none.1.1.1,
+        )
+      ]
+  refused_late expiry least past reply new (Err fault) is sends = absurd cc
+
   pub answerable : IsAnswerable net p sent payload
   answerable = record {
     back = back;
@@ -96,6 +117,6 @@ module _ (net : NetValue) (p moment : ℕ) (sent : SentValue) (one : PacketValue
     pieces = refl;
     in_time = λ at expiry least low. back_in_time sent.way.pieces sent.way.source
         sent.way.destination moment at expiry path least low;
-    late = λ at expiry least past. back_expired sent.way.pieces sent.way.source
-        sent.way.destination moment at expiry header no_rules path least past;
+    late = λ expiry least past reply new step. refused_late expiry least past reply new
+        (sent_by net (BackOf p) payload) replied_is step;
   }

@@ -1,20 +1,21 @@
 -- The headline: what is asked of a packet that a history sends, and what is then true of it, by the
 -- numbers of the events (draft-dekater-scion-dataplane; draft-dekater-scion-controlplane).
-use Rattle.std.specs.Prelude.{◌≡◌, ◌↔◌, ℕ, ◌+◌, ◌*◌, ◌<◌, ◌≤◌, true, List, length, slice_get, All, Any, take, drop, Some, Ok}
+use Rattle.std.specs.Prelude.{◌≡◌, ℕ, ◌+◌, ◌*◌, ◌<◌, ◌≤◌, true, List, length, slice_get, All, Any, take, drop, Some, Ok}
 use Rattle.path_verifier.specs.Piece.{PieceValue}
 use Rattle.path_verifier.specs.Walk.{walk_of}
 use Rattle.path_verifier.specs.Header.{hop_count}
-use Rattle.path_verifier.specs.declared.fault.VerifyFault.{VerifyFault}
 use Rattle.path_verifier.specs.declared.fault.VerifyFault.TheVariants.{Expired}
 use Rattle.path_verifier.specs.Turned.{turned_pieces}
-use Rattle.path_verifier.specs.Accepted.{IsExpiry, IsAccepted, IsRefused}
+use Rattle.path_verifier.specs.Accepted.{IsExpiry, IsAccepted}
 use Rattle.forwarding.specs.declared.place.Place.TheVariants.{Delivered}
 use Rattle.forwarding.specs.Journey.{turns_for}
 use Rattle.forwarding.specs.Sound.{PassesBy, LeavesAlone}
+use Rattle.network_core.specs.declared.fault.EventFault.TheVariants.{Path}
 use Rattle.network_core.specs.declared.reply.Reply.{Reply}
-use Rattle.network_core.specs.Event.{BackOf, EventValue, Turn, Lose, Alter, CutLink, RotateKey}
+use Rattle.network_core.specs.declared.reply.Reply.TheVariants.{Refused}
+use Rattle.network_core.specs.Event.{BackOf, EventValue, Send, Turn, Lose, Alter, CutLink, RotateKey}
 use Rattle.network_core.specs.Value.{asked_at, SentValue, PacketValue, NetValue}
-use Rattle.network_core.specs.Step.{sent_by}
+use Rattle.network_core.specs.Step.{sent_by, Step}
 use Rattle.network_core.specs.History.{Moment, net_at, Occurs, IssuedIn}
 use Rattle.network_core.specs.Delivery.{is_done, turns_of, IsForwarded}
 
@@ -68,7 +69,7 @@ turns_since history sent p k = turns_of p (drop (sent + 1) (take k history))
 
 -- what answers a delivered packet is sent by the way back: from its destination to its source, with
 -- its pieces in reversed order and direction; this way is accepted at each second up to the expiry
--- of the path, and refused as Expired after it
+-- of the path, and the event is refused as Expired after it
 pub record IsAnswerable (net : NetValue) (p : ℕ) (sent : SentValue) (payload : List ℕ)
     : Type 0 where
   pub back : SentValue
@@ -78,8 +79,9 @@ pub record IsAnswerable (net : NetValue) (p : ℕ) (sent : SentValue) (payload :
   pub pieces : back.way.pieces ≡ turned_pieces sent.way.pieces
   pub in_time : (moment expiry : ℕ) → IsExpiry sent.way.pieces expiry → 2 * moment ≤ expiry
       → IsAccepted (asked_at moment back.way)
-  pub late : (moment expiry : ℕ) → IsExpiry sent.way.pieces expiry → expiry < 2 * moment
-      → (fault : VerifyFault) → IsRefused (asked_at moment back.way) fault ↔ (fault ≡ Expired)
+  pub late : (expiry : ℕ) → IsExpiry sent.way.pieces expiry → expiry < 2 * net.moment
+      → (reply : Reply) (new : NetValue) → Step net (Send (BackOf p) payload) reply new
+      → (reply ≡ Refused (Path Expired)) × (new ≡ net)
 
 -- what event number `number` sent: its path was accepted; and after each later number of events,
 -- where the packet was undisturbed up to there, it is forwarded, it is delivered once it has had two

@@ -4,7 +4,7 @@ use Rattle.std.proofs.lemmas.List.{nil_from_length}
 use Rattle.std.proofs.lemmas.Result.{err_from_is_err_and}
 use Rattle.std.specs.Io.KnownBytes.{IsAtEnd}
 use Rattle.event_lines.specs.Talking.{value_of}
-use Rattle.event_lines.proofs.Running.{ends_reached, ends_short, ends_unfinished, ends_too_long, passed_on}
+use Rattle.event_lines.proofs.Running.{ends_reached, ends_short, ends_unfinished, ends_unread, ends_too_long, passed_on}
 use Rattle.event_lines.proofs.run.listen.Goals as goal
 
 pub returns-then-is_empty-clause-listens : goal.returns-then-is_empty-clause-listens
@@ -43,6 +43,12 @@ returns-in_err-exchange-clause-listens g c =
     (IsAtEnd (g.S.Source.left c.read_into.new.source)) c.loop-bytes.invariant.far
     (let fits = c.wanted_after-wanted.ensures.fits (omega (arith, c.loop-bytes.invariant.far.few, c.if-count-eq-MAX_INPUT_LEN.false)) in grind (arith, common_steps, brought.1.1, fits))
     brought.0 c.in_err-exchange.ensures.told)
+
+pub returns-in_default-clause-listens : goal.returns-in_default-clause-listens
+returns-in_default-clause-listens g c =
+    ends_unread c.args.hearing (g.S.Source.left c.args.source.now) (g.S.Source.left c.loop-bytes.source) (g.S.Source.left c.read_into.new.source)
+    (g.K.Sink.held c.args.sink.now) (g.K.Sink.held c.loop-bytes.sink)
+    c.loop-bytes.invariant.far c.in_default.ensures.bytes
 
 pub loop-bytes-preserved : goal.loop-bytes-preserved
 loop-bytes-preserved g c =
