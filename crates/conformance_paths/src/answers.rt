@@ -448,7 +448,7 @@ fn without_the_middle(alloc: Global) -> Result<AclText, AllocError> {
 }
 
 /// The answer over the three ASes in a row, under these options.
-fn combine_in_a_row(alloc: Global, texts: &[OptionText<'_>]) -> Result<PathList, Fail> {
+pub(crate) fn combine_in_a_row(alloc: Global, texts: &[OptionText<'_>]) -> Result<PathList, Fail> {
     let (src, dst) = (at(1, 0x112), at(1, 0x110));
     let segment = three_ases(alloc)?;
     let set = set_of(alloc, slice::from_ref(&segment), src, dst, 1000)?;
@@ -468,7 +468,7 @@ fn lighter_option(rt: HostRuntime) -> Result<(), Fail> {
 }
 
 /// The option of a list alone, with this weight.
-fn option_of<'a>(acl: Option<&'a AclText>, weight: u32) -> OptionText<'a> {
+pub(crate) fn option_of<'a>(acl: Option<&'a AclText>, weight: u32) -> OptionText<'a> {
     OptionText {
         text: PolicyText {
             acl,

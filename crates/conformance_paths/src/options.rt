@@ -1,7 +1,11 @@
+use crate::answers::{combine_in_a_row, option_of};
 use bumpalo::Bump;
-use policy_expr::{OptionError, OptionFault, OptionText, PolicyFault, PolicyOption, PolicyText};
+use policy_expr::{
+    AclText, OptionError, OptionFault, OptionText, PolicyFault, PolicyOption, PolicyText,
+};
 use std::alloc::{AllocError, Allocator, Global};
 use std::process::Abort;
+use std::slice;
 use std::test::Fail;
 
 /// The texts of options of these sequences, each as heavy as its place says.
@@ -74,5 +78,23 @@ fn refusals_of_options(rt: HostRuntime) -> Result<(), Fail> {
         let told = format!(in rt.alloc(); "{fault}")?;
         assert!(rt; told.as_str() == sentence && fault.name() == name);
     }
+    Ok(())
+}
+
+/// Of two options of one weight that both leave a path, the first in the list is used.
+#[test]
+fn first_of_equal_options(rt: HostRuntime) -> Result<(), Fail> {
+    let mut acl = AclText::new(rt.alloc());
+    acl.push(rt.alloc(), "+")?;
+    let texts = [option_of(Some(&acl), 2), option_of(None, 2)];
+    for text in &texts {
+        assert_eq!(rt;
+            combine_in_a_row(rt.alloc(), slice::from_ref(text))?.len(),
+            1
+        );
+    }
+    let list = combine_in_a_row(rt.alloc(), &texts)?;
+    assert_eq!(rt; list.len(), 1);
+    assert!(rt; list.option() == Some(0));
     Ok(())
 }
