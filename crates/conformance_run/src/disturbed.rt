@@ -90,6 +90,7 @@ fn a_turn_after_the_expiry_refuses(rt: HostRuntime) -> Result<(), Fail> {
     )
 }
 
+/// A link is mended from either end.
 #[test]
 fn a_mended_link_carries(rt: HostRuntime) -> Result<(), Fail> {
     let [first, second, third] = row_turns();
@@ -100,6 +101,8 @@ fn a_mended_link_carries(rt: HostRuntime) -> Result<(), Fail> {
         &[
             (r#"{"do":"cut","ia":"1-ff00:0:111","if":1}"#, "ok"),
             (r#"{"do":"mend","ia":"1-ff00:0:110","if":1}"#, "ok"),
+            (r#"{"do":"cut","ia":"1-ff00:0:111","if":1}"#, "ok"),
+            (r#"{"do":"mend","ia":"1-ff00:0:111","if":1}"#, "ok"),
             first,
             second,
             third,

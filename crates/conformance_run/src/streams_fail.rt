@@ -1,6 +1,6 @@
 //! Streams that give little at a time, that fail, and that do not end.
 
-use crate::table::{answers_of, lines_of, row_sent};
+use crate::table::{lines_of, row_sent, row_told};
 use event_lines::{RunFault, run_lines};
 use std::alloc::Global;
 use std::io;
@@ -27,12 +27,26 @@ impl<'a> Read for Slow<'a> {
     }
 }
 
-/// A writer that takes at most so many bytes a write, and whose writes fail after so many.
+/// A writer that takes at most so many bytes a write, and whose writes and flushes fail after so
+/// many of each.
 #[derive(Drop)]
 struct Narrow {
     bytes: Vec<u8>,
     at_most: usize,
     writes: u32,
+    flushes: u32,
+}
+
+impl Narrow {
+    /// A writer of nothing yet, with these limits.
+    fn new(alloc: Global, at_most: usize, writes: u32, flushes: u32) -> Self {
+        Narrow {
+            bytes: Vec::new(alloc),
+            at_most,
+            writes,
+            flushes,
+        }
+    }
 }
 
 impl Write for Narrow {
@@ -46,6 +60,10 @@ impl Write for Narrow {
     }
 
     fn flush(&mut self) -> io::Result<()> {
+        if self.flushes == 0 {
+            return Err(io::Error::from(io::ErrorKind::Other));
+        }
+        self.flushes -= 1;
         Ok(())
     }
 }
@@ -71,46 +89,51 @@ fn ends_in(bytes: &[u8]) -> usize {
     bytes.iter().filter(|byte| **byte == b'\n').count()
 }
 
-/// What a run over these streams answers, and how it ends.
+/// How a run over these streams ends, and its writer. Fails where the run blames a stream that did
+/// not fail, or does not blame one that did.
 fn ran<R: Read + Drop, W: Write + Drop>(
     alloc: Global,
     reader: R,
     writer: W,
-) -> (Result<(), RunFault>, W) {
+) -> Result<(Result<(), RunFault>, W), Fail> {
     let mut source = Reader::new(reader);
     let mut sink = Writer::new(writer);
     let result = run_lines(alloc, &mut source, &mut sink);
-    (result, sink.into_inner())
+    let blames = |fault: RunFault| result == Err(fault);
+    if blames(RunFault::Read) != source.has_failed()
+        || blames(RunFault::Write) != sink.has_failed()
+    {
+        return Err(Fail::new("the wrong stream is blamed"));
+    }
+    Ok((result, sink.into_inner()))
 }
 
 #[test]
 fn reads_of_one_byte(rt: HostRuntime) -> Result<(), Fail> {
     let alloc = rt.alloc();
-    let input = lines_of(alloc, &row_sent())?;
-    let wanted = answers_of(alloc, &row_sent())?;
+    let (input, wanted) = row_told(alloc)?;
     let reader = Slow {
         bytes: input.as_bytes(),
         at_most: 1,
         reads: u32::MAX,
     };
-    let (result, output) = ran(alloc, reader, Vec::new(alloc));
+    let (result, output) = ran(alloc, reader, Vec::new(alloc))?;
     assert!(rt; result.is_ok());
     assert!(rt; output.as_slice() == wanted.as_bytes());
     Ok(())
 }
 
-/// Whether a run whose reads of 50 bytes fail after so many answers exactly the lines that were
-/// read whole.
-fn answers_what_was_read(alloc: Global, reads: u32) -> Result<bool, Fail> {
-    let input = lines_of(alloc, &row_sent())?;
-    let wanted = answers_of(alloc, &row_sent())?;
+/// Whether a run whose reads give at most so many bytes, and fail after so many, answers exactly
+/// the lines that were read whole.
+fn answers_what_was_read(alloc: Global, at_most: usize, reads: u32) -> Result<bool, Fail> {
+    let (input, wanted) = row_told(alloc)?;
     let reader = Slow {
         bytes: input.as_bytes(),
-        at_most: 50,
+        at_most,
         reads,
     };
-    let (result, output) = ran(alloc, reader, Vec::new(alloc));
-    let read = (50 * u64::from(reads)).min(input.len() as u64) as usize;
+    let (result, output) = ran(alloc, reader, Vec::new(alloc))?;
+    let read = at_most.saturating_mul(reads as usize).min(input.len());
     let ended = match result {
         Ok(()) => read == input.len(),
         Err(fault) => fault == RunFault::Read,
@@ -121,48 +144,61 @@ fn answers_what_was_read(alloc: Global, reads: u32) -> Result<bool, Fail> {
 
 #[test]
 fn each_read_fails(rt: HostRuntime) -> Result<(), Fail> {
-    for reads in 0..24u32 {
-        assert!(rt; answers_what_was_read(rt.alloc(), reads)?);
+    for (at_most, needed) in [(7, 200), (50, 30), (4096, 3)] {
+        for reads in 0..needed {
+            assert!(rt; answers_what_was_read(rt.alloc(), at_most, reads)?);
+        }
     }
     Ok(())
 }
 
-/// Whether a run whose writes of 3 bytes fail after so many writes exactly what they take.
-fn writes_what_is_taken(alloc: Global, writes: u32) -> Result<bool, Fail> {
-    let input = lines_of(alloc, &row_sent())?;
-    let wanted = answers_of(alloc, &row_sent())?;
-    let writer = Narrow {
-        bytes: Vec::new(alloc),
-        at_most: 3,
-        writes,
+/// Whether a run that is given little at a time ends without a fault after all answers, or with
+/// this writer's fault after a front of them.
+fn writes_a_front(alloc: Global, writer: Narrow) -> Result<bool, Fail> {
+    let (input, wanted) = row_told(alloc)?;
+    let reader = Slow {
+        bytes: input.as_bytes(),
+        at_most: 50,
+        reads: u32::MAX,
     };
-    let (result, output) = ran(alloc, input.as_bytes(), writer);
-    let taken = (3 * u64::from(writes)).min(wanted.len() as u64) as usize;
+    let (result, output) = ran(alloc, reader, writer)?;
     let ended = match result {
-        Ok(()) => taken == wanted.len(),
+        Ok(()) => output.bytes.len() == wanted.len(),
         Err(fault) => fault == RunFault::Write,
     };
-    Ok(ended && output.bytes.as_slice() == &wanted.as_bytes()[..taken])
+    Ok(ended && wanted.as_bytes().starts_with(&output.bytes))
 }
 
 #[test]
 fn each_write_fails(rt: HostRuntime) -> Result<(), Fail> {
-    for writes in 0..50u32 {
-        assert!(rt; writes_what_is_taken(rt.alloc(), writes)?);
+    let alloc = rt.alloc();
+    for at_most in [1, 3, 4096] {
+        for writes in 0..300 {
+            assert!(rt; writes_a_front(alloc, Narrow::new(alloc, at_most, writes, u32::MAX))?);
+        }
     }
+    Ok(())
+}
+
+#[test]
+fn each_flush_fails(rt: HostRuntime) -> Result<(), Fail> {
+    let alloc = rt.alloc();
+    for flushes in 0..15 {
+        assert!(rt; writes_a_front(alloc, Narrow::new(alloc, 4096, u32::MAX, flushes))?);
+    }
+    let (input, _) = row_told(alloc)?;
+    let writer = Narrow::new(alloc, 4096, u32::MAX, 0);
+    let (result, _) = ran(alloc, input.as_bytes(), writer)?;
+    assert!(rt; result == Err(RunFault::Write));
     Ok(())
 }
 
 #[test]
 fn a_write_that_takes_nothing(rt: HostRuntime) -> Result<(), Fail> {
     let alloc = rt.alloc();
-    let input = lines_of(alloc, &row_sent())?;
-    let writer = Narrow {
-        bytes: Vec::new(alloc),
-        at_most: 0,
-        writes: u32::MAX,
-    };
-    let (result, output) = ran(alloc, input.as_bytes(), writer);
+    let (input, _) = row_told(alloc)?;
+    let writer = Narrow::new(alloc, 0, u32::MAX, u32::MAX);
+    let (result, output) = ran(alloc, input.as_bytes(), writer)?;
     assert!(rt; result == Err(RunFault::Write));
     assert!(rt; output.bytes.is_empty());
     Ok(())
@@ -176,7 +212,7 @@ fn blanks_without_an_end(rt: HostRuntime) -> Result<(), Fail> {
     let reader = Endless {
         bytes: input.as_bytes(),
     };
-    let (result, output) = ran(alloc, reader, Vec::new(alloc));
+    let (result, output) = ran(alloc, reader, Vec::new(alloc))?;
     assert!(rt; result == Err(RunFault::InputTooLong));
     assert!(rt; output.as_slice() == "topology ok\n".as_bytes());
     Ok(())

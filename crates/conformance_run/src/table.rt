@@ -37,16 +37,19 @@ pub(crate) fn answers_of(alloc: Global, table: &[Row]) -> Result<String, Fail> {
     Ok(text)
 }
 
-/// What a run answers, and what it was to answer.
-type Answers = (String, String);
-
-/// What a run over the lines of these tables answers, one table behind the other, and what it was
-/// to answer. Fails where the run does.
-fn talk(alloc: Global, first: &[Row], then: &[Row]) -> Result<Answers, Fail> {
+/// The lines of these tables, one table behind the other, and their answers.
+fn told_by(alloc: Global, first: &[Row], then: &[Row]) -> Result<(String, String), Fail> {
     let mut input = lines_of(alloc, first)?;
     input.push_str(lines_of(alloc, then)?.as_str())?;
     let mut wanted = answers_of(alloc, first)?;
     wanted.push_str(answers_of(alloc, then)?.as_str())?;
+    Ok((input, wanted))
+}
+
+/// What a run over the lines of these tables answers, one table behind the other, and what it was
+/// to answer. Fails where the run does.
+fn talk(alloc: Global, first: &[Row], then: &[Row]) -> Result<(String, String), Fail> {
+    let (input, wanted) = told_by(alloc, first, then)?;
     let (result, output) = told(alloc, input.as_bytes());
     result?;
     let answers = String::from_str(alloc, std::str::from_utf8(&output)?)?;
@@ -105,4 +108,15 @@ pub(crate) fn row_turns() -> [Row; 3] {
         (r#"{"do":"turn","packet":0}"#, "link 1"),
         (r#"{"do":"turn","packet":0}"#, "delivered"),
     ]
+}
+
+/// All lines of the row, its packet's turns and what is asked of it then, and their answers.
+pub(crate) fn row_told(alloc: Global) -> Result<(String, String), Fail> {
+    let [first, second, third] = row_turns();
+    let shown = (
+        r#"{"do":"show","packet":0}"#,
+        "delivered; 1-ff00:0:112#0,1 1-ff00:0:111#2,1 1-ff00:0:110#1,0",
+    );
+    let late = (r#"{"do":"turn","packet":0}"#, "no 131 NotInFlight");
+    told_by(alloc, &row_sent(), &[first, second, third, shown, late])
 }
