@@ -18,7 +18,7 @@ const FRONT: [&str; 7] = [
 ];
 
 /// A packet of two hops from 1-ff00:0:111 to 1-ff00:0:110, up to its first hop's authenticator.
-const UP: &str = "0001ff00000001100001ff0000000111000020000000b39600000064003f00020000";
+pub(crate) const UP: &str = "0001ff00000001100001ff0000000111000020000000b39600000064003f00020000";
 
 /// The same front with the second hop as the current one.
 const MOVED: &str = "0001ff00000001100001ff0000000111010020000000b39600000064003f00020000";
@@ -35,7 +35,7 @@ const CUT: &str =
     "0001ff00000001100001ff0000000111000020000000b39600000064003f00020000b1b2b3b4b5b6003f00000001a1a2a3a4a5";
 
 /// The words of a turn at this second.
-fn words<'a>(now: &'a str, from: &'a str, interface: &'a str) -> [&'a str; 12] {
+pub(crate) fn words<'a>(now: &'a str, from: &'a str, interface: &'a str) -> [&'a str; 12] {
     let [step, ia, address, router, number, key, hex] = FRONT;
     [
         step, ia, address, router, number, key, hex, "--now", now, "--from", from, interface,
@@ -43,7 +43,7 @@ fn words<'a>(now: &'a str, from: &'a str, interface: &'a str) -> [&'a str; 12] {
 }
 
 /// Asserts that a turn with these words over this packet prints this line.
-fn expect_line(
+pub(crate) fn expect_line(
     rt: &impl Abort,
     alloc: Global,
     words: &[&str],
@@ -73,7 +73,7 @@ fn refusals(rt: HostRuntime) -> Result<(), Fail> {
 }
 
 /// The packet with this front, up to the first hop's authenticator, and that authenticator.
-fn up_packet(alloc: Global, front: &str, mac: [u8; 6]) -> Result<String, AllocError> {
+pub(crate) fn up_packet(alloc: Global, front: &str, mac: [u8; 6]) -> Result<String, AllocError> {
     let digits = encode(alloc, mac.as_slice())?;
     format!(in alloc; "{front}{}{BEHIND}", digits.as_str())
 }

@@ -4,7 +4,7 @@ use crate::program::{Row, answers_of, lines_of, row_asked, sent_twice, worked};
 use std::test::Fail;
 
 #[test]
-fn two_workers_with_a_place_each(rt: HostRuntime) -> Result<(), Fail> {
+fn a_place_for_one(rt: HostRuntime) -> Result<(), Fail> {
     let (row, sent) = (row_asked(), sent_twice());
     let tables: [&[Row]; 2] = [&row, &sent];
     let lines = lines_of(rt.alloc(), &tables)?;
@@ -13,7 +13,9 @@ fn two_workers_with_a_place_each(rt: HostRuntime) -> Result<(), Fail> {
         &tables,
         &["flight 0 delivered 3", "flight 1 dropped"],
     )?;
-    assert!(rt; worked(&rt, rt.alloc(), "2", "1", &lines).is(0, &wanted, ""));
+    for workers in ["1", "2", "3", "8"] {
+        assert!(rt; worked(&rt, rt.alloc(), workers, "1", &lines).is(0, &wanted, ""));
+    }
     Ok(())
 }
 
