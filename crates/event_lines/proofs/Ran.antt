@@ -1,5 +1,5 @@
 -- Lines that were answered one by one are a run.
-use Rattle.std.proofs.Common.{◌≡◌, ℕ, List, [], ◌∷◌, ◌++◌, map, All, Option, Some, None, Result, Ok, Err, refl, sym, ap, ◌∙◌, subst, append-nil}
+use Rattle.std.proofs.Common.{◌≡◌, ℕ, List, [], ◌∷◌, ◌++◌, map, Option, Some, None, Result, Ok, Err, refl, sym, ap, ◌∙◌, subst}
 use Rattle.std.proofs.lemmas.List.{map-append}
 use Rattle.std.proofs.lemmas.List.Elements.{All-nil, All-cons, All-append}
 use Rattle.scion_topology.specs.declared.fault.TopologyFault.{TopologyFault}
@@ -13,7 +13,7 @@ use Rattle.network_core.proofs.Runs.{is_run}
 use Rattle.event_lines.specs.declared.hearing.Hearing.{Hearing}
 use Rattle.event_lines.specs.Hearing.{heard_as}
 use Rattle.event_lines.specs.Line.{LineValue, Happens, Shows, line_in}
-use Rattle.event_lines.specs.Saying.{Replies, Opens, Says, SaysAll}
+use Rattle.event_lines.specs.Saying.{Replies, Opens, SaysAll}
 use Rattle.event_lines.specs.Talk.{event_of, events_of, IsAnswered, AreAnswered, AreRun, Stage, Unbegun, Open, Closed, Begins, Told}
 
 -- ---- histories one after the other

@@ -1,5 +1,5 @@
 -- What becomes of a flight over sound pieces.
-use Rattle.std.proofs.Common.{◌≡◌, ℕ, ◌-◌, ◌<◌, ◌≤◌, List, [], ◌∷◌, ◌++◌, length, Result, Ok, Err, refl, sym, ap, ◌∙◌, subst, arith, inl, inr, append-nil}
+use Rattle.std.proofs.Common.{◌≡◌, ℕ, ◌-◌, ◌*◌, ◌<◌, ◌≤◌, List, [], ◌∷◌, ◌++◌, length, Result, Ok, Err, refl, sym, ap, ◌∙◌, subst, arith, inl, inr, append-nil}
 use Rattle.std.specs.Prelude.{All}
 use Rattle.std.proofs.lemmas.Bool.{cases_lt}
 use Rattle.scion_topology.specs.declared.fault.TopologyFault.{TopologyFault}
@@ -7,11 +7,13 @@ use Rattle.scion_topology.specs.Network.{Network}
 use Rattle.scion_topology.specs.Topology.{owner_in}
 use Rattle.path_verifier.specs.Walk.{walk_of}
 use Rattle.path_verifier.specs.Accepted.{AreLive}
+use Rattle.path_verifier.specs.Header.{hop_count}
 use Rattle.forwarding.specs.Frame.{framed}
 use Rattle.forwarding.specs.Turn.{Packet, put_at, after}
 use Rattle.forwarding.specs.Open.{LetsThrough}
 use Rattle.forwarding.specs.Standing.{Standing, arrived_with}
 use Rattle.forwarding.specs.Journey.{first_out, to_come, turns_for}
+use Rattle.forwarding.proofs.Bounds.{turns_are_few}
 use Rattle.forwarding.proofs.Sending.{starts}
 use Rattle.forwarding.proofs.Made.{sound_is_let_through}
 use Rattle.forwarding.proofs.Journeys.{stands_after, delivered_after}
@@ -47,9 +49,9 @@ began n start first (now ∷ later) none is = absurd (omega (arith, none))
 -- ---- after its turns
 
 before : (n : Network) (sent : Sending) (total done : ℕ) (packet : Packet) → done < total
-    → Standing n sent.source sent.destination sent.payload sent.pieces (total - done)
+    → total ≤ 2 * hop_count sent.pieces → Standing n sent.source sent.destination sent.payload sent.pieces (total - done)
     packet → IsForwarded sent total done packet
-before n sent total done packet early stands =
+before n sent total done packet early few stands =
     let place = ap (λ (q : Packet). q.place) stands.is in
     let at : IsAtRouter packet.place = subst IsAtRouter (sym place) tt in
     record {
@@ -62,6 +64,7 @@ before n sent total done packet early stands =
         λ enough. absurd (omega arith),
       );
       waits = λ _. at;
+      in_time = λ enough. absurd (omega arith);
       whole = λ delivered. absurd (let both = sym place ∙ delivered in cc);
     }
 
@@ -76,6 +79,7 @@ behind sent total done packet enough there =
       so_far = ap (λ (q : Packet). q.passed ++ []) there ∙ append-nil (walk_of sent.pieces);
       exact = (λ delivered. enough, λ _. place);
       waits = λ early. absurd (omega arith);
+      in_time = λ _. place;
       whole = λ delivered. there;
     }
 
@@ -89,6 +93,7 @@ delivered n sent start moments flight sound live =
     let from = departs n sent flight.start flight.departs in
     let first = began n start flight.start flight.moments flight.count flight.is ∙ from.is in
     let total = turns_for n (walk_of sent.pieces) in
+    let few = turns_are_few n sent.pieces sent.source sent.destination flight.moment path in
     let lets : All (λ now. LetsThrough n now sent.source sent.destination sent.pieces)
     moments = λ k d within. sound_is_let_through n _ sent.source sent.destination
     flight.moment sent.pieces flight.network path (live k d within) sound in
@@ -104,7 +109,7 @@ delivered n sent start moments flight sound live =
       | inr enough ↦ behind sent total (length moments) (after n start moments) enough
           (delivered_after n sent.source sent.destination sent.payload sent.pieces total
           start moments lets here enough)
-      | inl early ↦ before n sent total (length moments) (after n start moments) early
+      | inl early ↦ before n sent total (length moments) (after n start moments) early few
           (stands_after n sent.source sent.destination sent.payload sent.pieces total
           start moments lets here early)
     ]

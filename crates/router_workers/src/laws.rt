@@ -14,7 +14,8 @@ ghost use Rattle.router_workers.specs.Run.{IsReport};
 /// A flight that has had no turn, over pieces of segments that its network has made, under keys
 /// that are accepted and over links that are up, is after any list of moments at which its path is
 /// live refused by no router, has passed the beginning of its walk, and is delivered exactly once
-/// it has had its turns, with its whole walk passed.
+/// it has had its turns, with its whole walk passed; and no later than after two turns for each of
+/// its hop fields.
 pub fn sound_flights_are_delivered()
     ensures { (n : Network) (sent : Sending) (start : Packet) (moments : List ℕ)
         → IsFlight (grounded n sent start) → IsSoundIn n sent

@@ -1,6 +1,6 @@
 //! A run of flights on 1 to 8 workers.
 
-ghost use Rattle.std.specs.Prelude.{◌≡◌, ◌↔◌, ◌⊎◌, ◌<◌, ◌≤◌, IfOk, IfErr, All, length};
+ghost use Rattle.std.specs.Prelude.{◌≡◌, ◌↔◌, ◌⊎◌, ◌<◌, ◌≤◌, IfOk, IfErr, All, length, vec_capacity};
 ghost use Rattle.router_workers.specs.Run.{IsEndOf, AreEnds, IsReport};
 
 use crate::end::End;
@@ -28,7 +28,7 @@ const MOST_WORKERS: usize = 8;
 /// before ends at once, with no turn. The flights that are given are lent, and stay as they are.
 ///
 /// [`RunFault::Workers`] where there are not 1 to 8 workers; [`RunFault::Memory`] where memory, or
-/// a thread, is not to be had. All growths of the run come before any worker takes a flight.
+/// a thread, is not to be had. Then no worker has taken a flight: all that may fail comes before.
 pub fn run_workers<'f, R: Threads + Wait + Sync, G: Gate>(
     rt: &R,
     alloc: Global,
@@ -92,7 +92,7 @@ fn run_with<'f, J: Run + Send + Sync, R: Threads + Wait + Sync, G: Gate>(
     let stations = stations_of(alloc, roots, intakes)?;
     let ends = Vec::with_capacity(alloc, flights.len())?;
     start(rt, &desk, stations)?;
-    collect(rt, &places, ends)
+    Ok(collect(rt, &places, ends))
 }
 
 /// A place for the end of each flight; or memory runs out.
@@ -150,21 +150,19 @@ fn start<'f, J: Run + Send + Sync, R: Threads + Wait + Sync, G: Gate>(
     )
 }
 
-/// The ends of all flights, in their order, once they are noted.
-fn collect<J: Run, R: Wait>(
-    rt: &R,
-    places: &[OnceLock<Done<J>>],
-    ends: Vec<End>,
-) -> Result<Vec<End>, AllocError>
-    requires { length ends.items ≡ 0 }
-    ensures all { IfOk result (λ ends. length ends.items ≡ length places.now) }
-    ensures each { IfOk result (λ ends. AreEnds J.flights J.now J.slots ends.items) }
+/// The ends of all flights, in their order, once they are noted. There is room for them, so nothing
+/// may fail any more.
+fn collect<J: Run, R: Wait>(rt: &R, places: &[OnceLock<Done<J>>], ends: Vec<End>) -> Vec<End>
+    requires empty { length ends.items ≡ 0 }
+    requires room { length places.now ≤ vec_capacity ends }
+    ensures all { length result.items ≡ length places.now }
+    ensures each { AreEnds J.flights J.now J.slots result.items }
 {
     let mut ends = ends;
     for number in 0..places.len() {
-        ends.push(end_of(rt, places, number))?;
+        ends.push_reserved(end_of(rt, places, number));
     }
-    Ok(ends)
+    ends
 }
 
 /// The end of the flight of this number, once it is noted.

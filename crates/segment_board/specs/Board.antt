@@ -13,15 +13,15 @@ pub record Known : Type 0 where
   pub board : Book
   pub seen : List StoreOp
 
--- a reader: which board, the operations published there that it has seen, and those that it was told
--- last of which it had not seen all
+-- a reader: which board, the operations published there that it has seen, and those that it was
+-- told last of which it had not seen all
 pub record Informed : Type 0 where
   pub board : Book
   pub seen : List StoreOp
   pub told : List StoreOp
 
--- the writer: which board, how many editions were published there, the operations that are published
--- with the newest one, and those that are pending
+-- the writer: which board, how many editions were published there, the operations that are
+-- published with the newest one, and those that are pending
 pub record Written : Type 0 where
   pub board : Book
   pub edition : ℕ

@@ -20,6 +20,7 @@ taken x (Mark front) = record x { front = front }
 abbrev pub IsTied : Image → Type 0
 IsTied x = x.store ≡ store_of (newest x.front.log).operations
 
--- after these operations what is on the board is tied to its history, and goes on from what was there
+-- after these operations what is on the board is tied to its history, and goes on from what was
+-- there
 abbrev pub IsReady : Image → List BoardOp → Type 0
 IsReady x ops = IsTied (fold taken x ops) × GoesOn x.front (fold taken x ops).front

@@ -58,9 +58,8 @@ impl Absorb<BoardOp> for Shown {
 }
 
 /// The rule of the board: the store that lies there is the one that the published operations make,
-/// and they begin with what each thread saw there, at an edition that is the same or an earlier one.
-/// Five kinds of step keep it: publishing, entering, telling, learning, and giving a reader its
-/// place.
+/// and they begin with what each thread saw there, at the same edition or at an earlier one. Five
+/// kinds of step keep it: publishing, entering, telling, learning, and giving a reader its place.
 pub(crate) struct Published;
 
 impl Protocol<Shown, Option<Front>> for Published {

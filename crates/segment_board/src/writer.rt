@@ -165,8 +165,8 @@ impl BoardWriter {
         Err(AllocError)
     }
 
-    /// Publishes all that is pending, at one step: as the next edition. It may wait for readers that
-    /// are inside.
+    /// Publishes all that is pending, at one step: as the next edition. It may wait for readers
+    /// that are inside.
     ///
     /// After want of memory all is pending that was, and a later call publishes it.
     pub fn publish<R: Wait>(&mut self, rt: &R) -> Result<(), AllocError>

@@ -1,7 +1,8 @@
-use Rattle.std.proofs.Common.{◌≡◌, length}
+use Rattle.std.proofs.Common.{◌≡◌, ◌≤◌, length, vec_capacity}
 use Rattle.router_workers.specs.Run.{AreEnds}
 use Rattle.router_workers.proofs.run.collect.Given as goal
 
 abbrev pub invariant-loop-number : goal.invariant-loop-number
 invariant-loop-number g l = (length l.ends.items ≡ l.number)
+    × (length l.places ≤ vec_capacity l.ends)
     × AreEnds g.J.Run.flights g.J.Run.now g.J.Run.slots l.ends.items
