@@ -81,7 +81,7 @@ pub(crate) fn flights<R: Threads + Wait + Sync>(
     let flights = flights_of(alloc, &net, there, back)?;
     let mut sum = 0u64;
     for _ in 0..count {
-        let ends = run_workers(
+        let report = run_workers(
             rt,
             alloc,
             net.topology(),
@@ -91,8 +91,8 @@ pub(crate) fn flights<R: Threads + Wait + Sync>(
             &flights,
             &Open,
         )?;
-        for end in ends {
-            sum = sum.wrapping_add(worth(end));
+        for end in report.ends() {
+            sum = sum.wrapping_add(worth(*end));
         }
     }
     Ok(sum)

@@ -1,5 +1,5 @@
 -- What a parse of the words says of what they ask for.
-use Rattle.std.proofs.Common.{◌≡◌, ◌∙◌, sym, ap, refl, true, List, [], ◌∷◌, Option, None, inl, inr}
+use Rattle.std.proofs.Common.{◌≡◌, ◌∙◌, sym, ap, refl, subst, true, List, [], ◌∷◌, Option, None, inl, inr}
 use Rattle.std.specs.Prelude.{Err}
 use Rattle.clap.specs.Words.{Row, Text, is_simple, subcommand_of}
 use Rattle.clap.specs.Faults.{fault_of, is_simple_and_free}
@@ -35,6 +35,15 @@ asked-refused words error (Usage text) differs has = elim has [
   | inr among ↦ none_of (fault_of program_app words) _ _ among
 ]
 asked-refused words error Memory explained has = tt
+
+-- it has a fault of its own for them, or memory ran out
+pub told-refused : (words : List Text) (error : Error) (fault : WordsFault) → Explains fault error
+    → HasKind (fault_of program_app words) error → fault_of program_app words ≡ [] → IsWordsFault fault
+told-refused words error (Usage text) differs has none = elim has [
+  | inl memory ↦ absurd (differs memory)
+  | inr among ↦ absurd (subst (IsAmong _) none among)
+]
+told-refused words error Memory explained has none = tt
 
 -- words that `clap` accepts ask for what the matches name
 pub asked-named : (words : List Text) (found : Option (Text × List Row)) (command : Option Command)

@@ -119,6 +119,10 @@ unfoldable pub asked : List Text → Option Asked
 asked words =
     unless_faulty (fault_of program_app words) (command_in (subcommand_of program_app words))
 
+-- `clap` accepts the words behind the program's name
+abbrev pub IsAccepted : List Text → Type 0
+IsAccepted words = fault_of program_app words ≡ []
+
 -- the turn among what may be asked for
 abbrev pub turn_asked : Option Asked → Option Turn
 turn_asked (Some (Step turn)) = Some turn

@@ -1,7 +1,7 @@
-ghost use Rattle.std.specs.Prelude.{◌≡◌, IfOk, IfSome, map};
+ghost use Rattle.std.specs.Prelude.{◌≡◌, IfErr, IfOk, IfSome, map};
 ghost use Rattle.clap.specs.Words.{subcommand_rows_of};
-ghost use Rattle.commands.specs.Words.{IsInRange, asked, command_in, turn_asked};
-ghost use Rattle.commands.specs.Fault.{Answers, Asks, Explains};
+ghost use Rattle.commands.specs.Words.{IsAccepted, IsInRange, asked, command_in, turn_asked};
+ghost use Rattle.commands.specs.Fault.{Answers, Asks, Explains, IsWordsFault};
 
 use crate::fault::{CommandFault, WordsFault};
 use crate::matched::{turn, work};
@@ -65,12 +65,15 @@ impl Command {
     /// The command that the words behind the program's name ask for.
     ///
     /// [`WordsFault::Usage`] where `clap` refuses them or they ask for help, with its text, and
-    /// where those of `step` describe no turn or a number of `work` can't be read;
-    /// [`WordsFault::Memory`] for want of memory.
+    /// where those of `step` describe no turn or a number of `work` can't be read, with the text
+    /// `scionet: usage`; [`WordsFault::Memory`] for want of memory.
     #[tactic(auto, unfolding(crate::specs::Words::asked))]
     pub fn parse<'a>(alloc: Global, words: &'a [&'a str]) -> Result<Command, WordsFault>
         ensures asks { Asks result (asked (map (λ word. word.now) words.entry.now)) }
         ensures range { IfOk result IsInRange }
+        // What is told of words that `clap` accepts and that ask for nothing is our own text.
+        ensures usage { IfErr result (λ fault.
+            IsAccepted (map (λ word. word.now) words.entry.now) → IsWordsFault fault) }
     {
         let matches = match program(alloc)?.try_get_matches_from(words) {
             Ok(matches) => matches,

@@ -1,5 +1,7 @@
 //! Flights by themselves.
 
+ghost use Rattle.std.specs.Prelude.{◌≡◌};
+
 use crate::network::{first, last, network};
 use forwarding::Place;
 use network_core::{EventFault, Net};
@@ -18,7 +20,9 @@ static RENUMBERED: &str =
     r#"{"ases":[{"ia":"1-ff00:0:111","core":false,"exp":63,"key":"6131","routers":1},{"ia":"1-ff00:0:112","core":false,"exp":63,"key":"6132","routers":1}],"links":[{"kind":"child","a":{"ia":"1-ff00:0:111","if":2,"router":0},"b":{"ia":"1-ff00:0:112","if":9,"router":0}}]}"#;
 
 /// The flight after one turn more under the view of its place; as it is where that has none.
-fn after_turn<'a>(flight: Flight<'a>) -> Flight<'a> {
+pub(crate) fn after_turn<'a>(flight: Flight<'a>) -> Flight<'a>
+    ensures { result.fabric ≡ flight.entry.fabric }
+{
     match flight.view() {
         Some(view) => flight.advance(&view, 1000),
         None => flight,

@@ -67,9 +67,9 @@ impl Gate for Meeting {
 fn two_workers_run_at_once(rt: HostRuntime) -> Result<(), Fail> {
     let gate = Meeting::of([0, 1]);
     let ways = [(last(), first()), (middle(), last())];
-    let ends = ends_of(&rt, rt.alloc(), &ways, 2, 4, &gate)??;
+    let report = ends_of(&rt, rt.alloc(), &ways, 2, 4, &gate)??;
     assert_eq!(rt;
-        ends.as_slice(),
+        report.ends(),
         [End::Delivered(3), End::Delivered(2)].as_slice()
     );
     assert_eq!(rt; gate.late.load(Ordering::SeqCst), 0);
@@ -84,9 +84,9 @@ fn two_workers_run_at_once(rt: HostRuntime) -> Result<(), Fail> {
 fn two_of_three_workers_run_at_once(rt: HostRuntime) -> Result<(), Fail> {
     let gate = Meeting::of([2, 1]);
     let ways = [(last(), first()), (middle(), last())];
-    let ends = ends_of(&rt, rt.alloc(), &ways, 3, 4, &gate)??;
+    let report = ends_of(&rt, rt.alloc(), &ways, 3, 4, &gate)??;
     assert_eq!(rt;
-        ends.as_slice(),
+        report.ends(),
         [End::Delivered(3), End::Delivered(2)].as_slice()
     );
     assert_eq!(rt; gate.late.load(Ordering::SeqCst), 0);

@@ -2,10 +2,11 @@
 
 ghost use Rattle.std.specs.Prelude.{◌≡◌, ◌<◌, ◌≤◌, All, IfOk};
 
+use crate::flights::after_turn;
 use crate::network::{first, last, network};
 use isd_as::IsdAs;
-use network_core::Net;
-use router_workers::{End, Flight, Gate, Open, RunFault, run_workers};
+use network_core::{EventFault, Net};
+use router_workers::{End, Flight, Gate, Open, Report, RunFault, run_workers};
 use std::alloc::Global;
 use std::sync::Wait;
 use std::test::Fail;
@@ -23,6 +24,27 @@ fn flights_of<'n>(alloc: Global, net: &'n Net) -> Result<Vec<Flight<'n>>, Fail>
     Ok(flights)
 }
 
+/// The flight of a network's first packet, once it has had the three turns of the row.
+fn flown<'n>(alloc: Global, net: &'n Net) -> Result<Flight<'n>, Fail>
+    ensures { IfOk result (λ flight. flight.fabric ≡ net.now.network) }
+{
+    let packet = net.packet(0).ok_or(EventFault::NoPacket)?;
+    let flight = Flight::new(alloc, net.topology(), packet.sent())?;
+    Ok(after_turn(after_turn(after_turn(flight))))
+}
+
+/// The flights of a network's packets, and so many behind them that have ended.
+fn some_flown<'n>(alloc: Global, net: &'n Net, count: usize) -> Result<Vec<Flight<'n>>, Fail>
+    ensures { IfOk result (λ flights.
+        All (λ flight. flight.fabric ≡ net.now.network) flights.items) }
+{
+    let mut flights = flights_of(alloc, net)?;
+    for _ in 0..count {
+        flights.push(flown(alloc, net)?)?;
+    }
+    Ok(flights)
+}
+
 /// How a packet for each of these pairs of ASes ends, on so many workers with inboxes of so many
 /// places.
 pub(crate) fn ends_of<R: Threads + Wait + Sync, G: Gate>(
@@ -32,7 +54,7 @@ pub(crate) fn ends_of<R: Threads + Wait + Sync, G: Gate>(
     workers: usize,
     slots: usize,
     gate: &G,
-) -> Result<Result<Vec<End>, RunFault>, Fail>
+) -> Result<Result<Report, RunFault>, Fail>
     requires some { 0 < slots }
     requires few { slots ≤ 4096 }
 {
@@ -56,7 +78,7 @@ fn two<R: Threads + Wait + Sync>(
     alloc: Global,
     workers: usize,
     slots: usize,
-) -> Result<Result<Vec<End>, RunFault>, Fail>
+) -> Result<Result<Report, RunFault>, Fail>
     requires some { 0 < slots }
     requires few { slots ≤ 4096 }
 {
@@ -66,9 +88,9 @@ fn two<R: Threads + Wait + Sync>(
 #[test]
 fn two_flights_find_two_places(rt: HostRuntime) -> Result<(), Fail> {
     for workers in [1, 2, 3, 8] {
-        let ends = two(&rt, rt.alloc(), workers, 2)??;
+        let report = two(&rt, rt.alloc(), workers, 2)??;
         assert_eq!(rt;
-            ends.as_slice(),
+            report.ends(),
             [End::Delivered(3), End::Delivered(3)].as_slice()
         );
     }
@@ -78,9 +100,9 @@ fn two_flights_find_two_places(rt: HostRuntime) -> Result<(), Fail> {
 #[test]
 fn the_second_of_two_flights_finds_no_place(rt: HostRuntime) -> Result<(), Fail> {
     for workers in [1, 2, 3, 8] {
-        let ends = two(&rt, rt.alloc(), workers, 1)??;
+        let report = two(&rt, rt.alloc(), workers, 1)??;
         assert_eq!(rt;
-            ends.as_slice(),
+            report.ends(),
             [End::Delivered(3), End::Dropped(0)].as_slice()
         );
     }
@@ -99,26 +121,50 @@ fn a_run_has_one_to_eight_workers(rt: HostRuntime) -> Result<(), Fail> {
 #[test]
 fn eight_flights_find_eight_places(rt: HostRuntime) -> Result<(), Fail> {
     let ways = [(last(), first()); 8];
-    let ends = ends_of(&rt, rt.alloc(), &ways, 2, 8, &Open)??;
-    assert_eq!(rt; ends.as_slice(), [End::Delivered(3); 8].as_slice());
+    let report = ends_of(&rt, rt.alloc(), &ways, 2, 8, &Open)??;
+    assert_eq!(rt; report.ends(), [End::Delivered(3); 8].as_slice());
     Ok(())
 }
 
 #[test]
 fn six_of_eight_flights_find_no_place(rt: HostRuntime) -> Result<(), Fail> {
     let ways = [(last(), first()); 8];
-    let ends = ends_of(&rt, rt.alloc(), &ways, 2, 2, &Open)??;
+    let report = ends_of(&rt, rt.alloc(), &ways, 2, 2, &Open)??;
     let mut expected = [End::Dropped(0); 8];
     expected[0] = End::Delivered(3);
     expected[1] = End::Delivered(3);
-    assert_eq!(rt; ends.as_slice(), expected.as_slice());
+    assert_eq!(rt; report.ends(), expected.as_slice());
+    Ok(())
+}
+
+/// There are more flights than places, and no inbox is ever full, since three of them have ended.
+#[test]
+fn no_flight_is_dropped_where_there_is_room(rt: HostRuntime) -> Result<(), Fail> {
+    let net = network(rt.alloc(), &[(last(), first()); 2])?;
+    let flights = some_flown(rt.alloc(), &net, 3)?;
+    for workers in [1, 2, 3, 8] {
+        let report = run_workers(
+            &rt,
+            rt.alloc(),
+            net.topology(),
+            1000,
+            workers,
+            4,
+            &flights,
+            &Open,
+        )?;
+        let mut expected = [End::Delivered(0); 5];
+        expected[0] = End::Delivered(3);
+        expected[1] = End::Delivered(3);
+        assert_eq!(rt; report.ends(), expected.as_slice());
+    }
     Ok(())
 }
 
 #[test]
 fn no_flight_is_no_end(rt: HostRuntime) -> Result<(), Fail> {
-    let ends = ends_of(&rt, rt.alloc(), &[], 2, 1, &Open)??;
-    assert!(rt; ends.is_empty());
+    let report = ends_of(&rt, rt.alloc(), &[], 2, 1, &Open)??;
+    assert!(rt; report.ends().is_empty());
     Ok(())
 }
 

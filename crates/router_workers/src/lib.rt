@@ -13,11 +13,13 @@ mod flight;
 mod job;
 pub mod laws;
 mod posts;
+mod report;
 mod run;
 mod station;
 
 pub use end::End;
 pub use fault::RunFault;
 pub use flight::Flight;
+pub use report::Report;
 pub use run::run_workers;
 pub use station::{Gate, Open, worker_of};

@@ -8,6 +8,7 @@ use crate::fault::RunFault;
 use crate::flight::Flight;
 use crate::job::{Done, Job, Run};
 use crate::posts::{doors_of, inboxes_of, stations_of};
+use crate::report::Report;
 use crate::station::{Desk, Gate, Station, send_on, work};
 use inbox::Outlet;
 use scion_topology::Topology;
@@ -38,11 +39,11 @@ pub fn run_workers<'f, R: Threads + Wait + Sync, G: Gate>(
     slots: usize,
     flights: &[Flight<'f>],
     gate: &G,
-) -> Result<Vec<End>, RunFault>
+) -> Result<Report, RunFault>
     requires fabric { All (λ flight. flight.fabric ≡ topology.now) flights.now }
     requires some { 0 < slots }
     requires few { slots ≤ 4096 }
-    ensures report { IfOk result (λ ends. IsReport flights.now now slots ends.items) }
+    ensures report { IfOk result (λ report. IsReport flights.now now slots report) }
     ensures workers { IfOk result (λ _. (0 < workers) × (workers ≤ 8)) }
     ensures refused { IfErr result (λ fault.
         (fault ≡ RunFault.Workers) ↔ ((workers ≡ 0) ⊎ (8 < workers))) }
@@ -51,7 +52,7 @@ pub fn run_workers<'f, R: Threads + Wait + Sync, G: Gate>(
         return Err(RunFault::Workers);
     }
     match run_with::<Brand, R, G>(rt, alloc, topology, now, workers, slots, flights, gate) {
-        Ok(ends) => Ok(ends),
+        Ok(report) => Ok(report),
         Err(AllocError) => Err(RunFault::Memory),
     }
 }
@@ -65,14 +66,14 @@ fn run_with<'f, J: Run + Send + Sync, R: Threads + Wait + Sync, G: Gate>(
     slots: usize,
     flights: &[Flight<'f>],
     gate: &G,
-) -> Result<Vec<End>, AllocError>
+) -> Result<Report, AllocError>
     requires workers { 0 < workers }
     requires some { 0 < slots }
     requires few { slots ≤ 4096 }
     requires flights { flights.now ≡ J.flights }
     requires now { now ≡ J.now }
     requires slots { slots ≡ J.slots }
-    ensures { IfOk result (λ ends. IsReport flights.now now slots ends.items) }
+    ensures { IfOk result (λ report. IsReport flights.now now slots report) }
 {
     let places = places_for::<J>(alloc, flights.len())?;
     let left = AtomicUsize::new(flights.len());
@@ -92,7 +93,9 @@ fn run_with<'f, J: Run + Send + Sync, R: Threads + Wait + Sync, G: Gate>(
     let stations = stations_of(alloc, roots, intakes)?;
     let ends = Vec::with_capacity(alloc, flights.len())?;
     start(rt, &desk, stations)?;
-    Ok(collect(rt, &places, ends))
+    Ok(Report {
+        ends: collect(rt, &places, ends),
+    })
 }
 
 /// A place for the end of each flight; or memory runs out.

@@ -33,7 +33,7 @@ fn carry<R: Threads + Wait + Sync>(
     ensures fault { IfErr result (Stops workers) }
 {
     let flights = flights_of(alloc, net)?;
-    let ends = run_workers(
+    let carried = run_workers(
         rt,
         alloc,
         net.topology(),
@@ -43,7 +43,7 @@ fn carry<R: Threads + Wait + Sync>(
         &flights,
         &Open,
     )?;
-    Ok(report(alloc, &ends)?)
+    Ok(report(alloc, carried.ends())?)
 }
 
 /// Writes a report.

@@ -3,7 +3,7 @@ use Rattle.std.proofs.Common.{◌∙◌, sym, ap, subst, map, List}
 use Rattle.clap.specs.Words.{App, is_simple, subcommand_of, Text}
 use Rattle.clap.specs.Faults.{fault_of, is_simple_and_free}
 use Rattle.clap.specs.Kinds.{HasKind}
-use Rattle.commands.proofs.Asked.{Asks-none, asked-named, asked-refused, is_program_free, is_program_simple}
+use Rattle.commands.proofs.Asked.{Asks-none, asked-named, asked-refused, told-refused, is_program_free, is_program_simple}
 use Rattle.commands.proofs.command.Command.parse.Goals as goal
 
 pub returns-in-Err-clause-asks : goal.returns-in-Err-clause-asks
@@ -12,6 +12,13 @@ returns-in-Err-clause-asks c =
     let app = c.in_ok-program.ensures in
     let has = subst (λ (a : App). HasKind (fault_of a words) c.in-Err.error) app (c.in-Err.ensures.kinds (ap is_simple_and_free app ∙ is_program_free)) in
     asked-refused words c.in-Err.error c.explained.result c.explained.ensures has
+
+pub returns-in-Err-clause-usage : goal.returns-in-Err-clause-usage
+returns-in-Err-clause-usage c accepted =
+    let words : List Text = map (λ word. word.now) c.args.words.now in
+    let app = c.in_ok-program.ensures in
+    let has = subst (λ (a : App). HasKind (fault_of a words) c.in-Err.error) app (c.in-Err.ensures.kinds (ap is_simple_and_free app ∙ is_program_free)) in
+    told-refused words c.in-Err.error c.explained.result c.explained.ensures has accepted
 
 pub returns-in-Some-clause-asks : goal.returns-in-Some-clause-asks
 returns-in-Some-clause-asks c =
