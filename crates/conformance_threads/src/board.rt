@@ -1,98 +1,164 @@
 //! A published board: what is published is found, by readers in other threads too.
 
-ghost use Rattle.std.specs.Prelude.{◌≡◌, IfSome};
+ghost use Rattle.std.specs.Prelude.{◌≡◌};
 
-use crate::segments::{ia, worked};
-use segment_board::{BoardFault, BoardReader, BoardWriter, new_board};
-use std::alloc::Global;
+use crate::again::{boarded, found, publishes, registers, seated, sweeps};
+use crate::segments::{AFTER_EARLY, EARLY, Finding, LATE};
+use refusing::Shortage;
+use segment_board::{BoardReader, BoardWriter};
+use std::alloc::{AllocError, Global};
 use std::sync::Wait;
 use std::test::Fail;
 use std::thread;
 use std::thread::{Threads, join};
 
-/// How many segments up a look-up at this second finds between the ends of the worked segment. A
-/// reader that could not enter asks again.
-fn found(reader: &mut BoardReader, alloc: Global, now: u32) -> Option<usize>
-    ensures { reader.new.board ≡ reader.old.board }
-{
-    for _ in 0..1_000 {
-        if let Ok(set) = reader.lookup(alloc, ia(0x111), ia(0x110), now) {
-            return Some(set.ups().len());
-        }
-        thread::yield_now();
-    }
-    None
-}
-
-/// A reader. Where no place was given it is asked for again.
-pub(crate) fn seated(board: &mut BoardWriter) -> Option<BoardReader>
-    ensures same { board.new ≡ board.old }
-    ensures reader { IfSome result (λ reader. reader.board ≡ board.old.board) }
-{
-    for _ in 0..1_000 {
-        if let Ok(reader) = board.reader() {
-            return Some(reader);
-        }
-        thread::yield_now();
-    }
-    None
-}
-
-/// Publishes what is pending; where memory ran out, once more.
-pub(crate) fn publishes_all<R: Wait>(rt: &R, board: &mut BoardWriter) -> Option<()>
-    ensures { board.new.board ≡ board.old.board }
-{
-    if board.publish(rt).is_ok() {
-        return Some(());
-    }
-    board.publish(rt).ok()
-}
-
-/// Publishes the worked segment; where memory ran out, what was refused is done once more.
-pub(crate) fn publishes<R: Wait>(rt: &R, alloc: Global, board: &mut BoardWriter) -> Option<()>
-    ensures { board.new.board ≡ board.old.board }
-{
-    let segment = match worked(alloc) {
-        Some(segment) => segment,
-        None => worked(alloc)?,
-    };
-    if let Err(refused) = board.register(segment, 100) {
-        board.register(refused.value, 100).ok()?;
-    }
-    publishes_all(rt, board)
-}
-
-/// Publishes a sweep at this second; where memory ran out, what was refused is done once more.
-pub(crate) fn sweeps<R: Wait>(rt: &R, board: &mut BoardWriter, now: u32) -> Option<()>
-    ensures { board.new.board ≡ board.old.board }
-{
-    if board.sweep(now).is_err() {
-        board.sweep(now).ok()?;
-    }
-    publishes_all(rt, board)
-}
-
 /// What is found before the segment is published, after it, at a second at which it has expired, and
 /// after it was swept. The reader learns what was published.
-fn row<R: Wait>(rt: &R, alloc: Global, board: &mut BoardWriter) -> Option<[usize; 4]> {
+fn row<R: Wait>(
+    rt: &R,
+    alloc: Global,
+    board: &mut BoardWriter,
+    shortage: &Shortage,
+) -> Option<[Finding; 4]> {
     let mut reader = seated(board)?;
-    let before = found(&mut reader, alloc, 100)?;
-    publishes(rt, alloc, board)?;
+    let before = found(&mut reader, alloc, 100, shortage)?;
+    registers(alloc, board, EARLY, shortage)?;
+    publishes(rt, board, shortage)?;
     reader.learn(board.tell());
-    let after = found(&mut reader, alloc, 100)?;
-    let late = found(&mut reader, alloc, 21_701)?;
-    sweeps(rt, board, 21_701)?;
+    let after = found(&mut reader, alloc, 100, shortage)?;
+    let late = found(&mut reader, alloc, AFTER_EARLY, shortage)?;
+    sweeps(board, AFTER_EARLY, shortage)?;
+    publishes(rt, board, shortage)?;
     reader.learn(board.tell());
-    let swept = found(&mut reader, alloc, 100)?;
+    let swept = found(&mut reader, alloc, 100, shortage)?;
     Some([before, after, late, swept])
 }
 
 #[test]
 fn what_is_published_is_found(rt: HostRuntime) -> Result<(), Fail> {
-    let mut board = new_board(&rt, rt.alloc(), 2)?;
-    let counts = row(&rt, rt.alloc(), &mut board);
+    let shortage = Shortage::new();
+    let mut board = boarded(&rt, rt.alloc(), 2, &shortage).ok_or(AllocError)?;
+    let findings = row(&rt, rt.alloc(), &mut board, &shortage);
     board.close(&rt);
-    assert_eq!(rt; counts, Some([0, 1, 0, 0]));
+    shortage.tell(&rt);
+    let (none, worked) = (Finding::Nothing, Finding::Worked(EARLY));
+    assert_eq!(rt; findings, Some([none, worked, none, none]));
+    Ok(())
+}
+
+/// What is found after three operations are published at once: two registrations, and the sweep of
+/// the first of both.
+fn at_once<R: Wait>(
+    rt: &R,
+    alloc: Global,
+    board: &mut BoardWriter,
+    shortage: &Shortage,
+) -> Option<[Finding; 2]> {
+    let mut reader = seated(board)?;
+    registers(alloc, board, EARLY, shortage)?;
+    registers(alloc, board, LATE, shortage)?;
+    sweeps(board, AFTER_EARLY, shortage)?;
+    let before = found(&mut reader, alloc, 100, shortage)?;
+    publishes(rt, board, shortage)?;
+    reader.learn(board.tell());
+    let after = found(&mut reader, alloc, 100, shortage)?;
+    Some([before, after])
+}
+
+#[test]
+fn all_that_is_pending_is_published(rt: HostRuntime) -> Result<(), Fail> {
+    let shortage = Shortage::new();
+    let mut board = boarded(&rt, rt.alloc(), 2, &shortage).ok_or(AllocError)?;
+    let findings = at_once(&rt, rt.alloc(), &mut board, &shortage);
+    board.close(&rt);
+    shortage.tell(&rt);
+    assert_eq!(rt; findings, Some([Finding::Nothing, Finding::Worked(LATE)]));
+    Ok(())
+}
+
+/// Whether two look-ups of a reader, which learns what was published, both find this.
+fn finds_twice(
+    alloc: Global,
+    board: &BoardWriter,
+    reader: &mut BoardReader,
+    finding: Finding,
+    shortage: &Shortage,
+) -> bool
+    requires { reader.old.board ≡ board.now.board }
+    ensures { reader.new.board ≡ reader.old.board }
+{
+    reader.learn(board.tell());
+    let first = found(reader, alloc, 100, shortage);
+    let second = found(reader, alloc, 100, shortage);
+    first == Some(finding) && second == Some(finding)
+}
+
+/// Whether each of two readers finds the segment twice once it is published, and twice nothing once
+/// it is swept, five times over.
+fn in_rounds<R: Wait>(
+    rt: &R,
+    alloc: Global,
+    board: &mut BoardWriter,
+    shortage: &Shortage,
+) -> Option<bool> {
+    let mut one = seated(board)?;
+    let mut two = seated(board)?;
+    let mut are_right = true;
+    for _ in 0..5 {
+        registers(alloc, board, EARLY, shortage)?;
+        publishes(rt, board, shortage)?;
+        let worked = Finding::Worked(EARLY);
+        are_right &= finds_twice(alloc, board, &mut one, worked, shortage);
+        are_right &= finds_twice(alloc, board, &mut two, worked, shortage);
+        sweeps(board, AFTER_EARLY, shortage)?;
+        publishes(rt, board, shortage)?;
+        are_right &= finds_twice(alloc, board, &mut one, Finding::Nothing, shortage);
+        are_right &= finds_twice(alloc, board, &mut two, Finding::Nothing, shortage);
+    }
+    Some(are_right)
+}
+
+#[test]
+fn ten_publishes_are_found_by_two_readers(rt: HostRuntime) -> Result<(), Fail> {
+    let shortage = Shortage::new();
+    let mut board = boarded(&rt, rt.alloc(), 2, &shortage).ok_or(AllocError)?;
+    let are_right = in_rounds(&rt, rt.alloc(), &mut board, &shortage);
+    board.close(&rt);
+    shortage.tell(&rt);
+    assert_eq!(rt; are_right, Some(true));
+    Ok(())
+}
+
+/// How many readers a board gives at once, at most nine.
+fn places(board: &mut BoardWriter, alloc: Global, shortage: &Shortage) -> Option<usize> {
+    let mut readers = match Vec::with_capacity(alloc, 9) {
+        Ok(readers) => readers,
+        Err(AllocError) => {
+            if !shortage.may_want() {
+                return None;
+            }
+            Vec::with_capacity(alloc, 9).ok()?
+        }
+    };
+    for _ in 0..9 {
+        if let Some(reader) = seated(board) {
+            readers.push(reader).ok()?;
+        }
+    }
+    Some(readers.len())
+}
+
+#[test]
+fn a_board_has_the_places_that_were_asked_for(rt: HostRuntime) -> Result<(), Fail> {
+    let alloc = rt.alloc();
+    for readers in 1..9 {
+        let shortage = Shortage::new();
+        let mut board = boarded(&rt, alloc, readers, &shortage).ok_or(AllocError)?;
+        let places = places(&mut board, alloc, &shortage);
+        board.close(&rt);
+        shortage.tell(&rt);
+        assert_eq!(rt; places, Some(readers));
+    }
     Ok(())
 }
 
@@ -116,20 +182,22 @@ fn third(board: &mut BoardWriter) -> Option<(u16, u16)> {
 
 #[test]
 fn a_third_reader_finds_no_place(rt: HostRuntime) -> Result<(), Fail> {
-    let mut board = new_board(&rt, rt.alloc(), 2)?;
+    let shortage = Shortage::new();
+    let mut board = boarded(&rt, rt.alloc(), 2, &shortage).ok_or(AllocError)?;
     let codes = third(&mut board);
     board.close(&rt);
+    shortage.tell(&rt);
     assert_eq!(rt; codes, Some((110, 110)));
     Ok(())
 }
 
-/// Looks until the segment is there.
-fn awaits(mut reader: BoardReader, alloc: Global) -> bool {
+/// Whether look-ups find nothing, and then the segment.
+fn awaits(mut reader: BoardReader, alloc: Global, shortage: &Shortage) -> bool {
     for _ in 0..1_000_000 {
-        if found(&mut reader, alloc, 100) == Some(1) {
-            return true;
+        match found(&mut reader, alloc, 100, shortage) {
+            Some(Finding::Nothing) => thread::yield_now(),
+            finding => return finding == Some(Finding::Worked(EARLY)),
         }
-        thread::yield_now();
     }
     false
 }
@@ -139,38 +207,43 @@ fn apart<R: Threads + Wait + Sync>(
     rt: &R,
     alloc: Global,
     board: &mut BoardWriter,
-) -> Option<(bool, bool, bool)> {
+    shortage: &Shortage,
+) -> Option<(bool, bool)> {
     let one = seated(board)?;
     let two = seated(board)?;
-    let ((first, second), published) = join(
+    let (published, both) = join(
         rt,
-        move || { join(rt, move || awaits(one, alloc), move || awaits(two, alloc)) },
-        || publishes(rt, alloc, board).is_some(),
+        || registers_and_publishes(rt, alloc, board, shortage),
+        move || {
+            join(
+                rt,
+                move || awaits(one, alloc, shortage),
+                move || awaits(two, alloc, shortage),
+            )
+        },
     );
-    Some((first, second, published))
+    published?;
+    Some(both)
+}
+
+/// Publishes the worked segment.
+fn registers_and_publishes<R: Wait>(
+    rt: &R,
+    alloc: Global,
+    board: &mut BoardWriter,
+    shortage: &Shortage,
+) -> Option<()> {
+    registers(alloc, board, EARLY, shortage)?;
+    publishes(rt, board, shortage)
 }
 
 #[test]
 fn readers_in_other_threads_find_it(rt: HostRuntime) -> Result<(), Fail> {
-    let mut board = new_board(&rt, rt.alloc(), 2)?;
-    let found = apart(&rt, rt.alloc(), &mut board);
+    let shortage = Shortage::new();
+    let mut board = boarded(&rt, rt.alloc(), 2, &shortage).ok_or(AllocError)?;
+    let found = apart(&rt, rt.alloc(), &mut board, &shortage);
     board.close(&rt);
-    assert_eq!(rt; found, Some((true, true, true)));
-    Ok(())
-}
-
-#[test]
-fn refusals_have_sentences(rt: HostRuntime) -> Result<(), Fail> {
-    let alloc = rt.alloc();
-    let told = [
-        (
-            BoardFault::NoPlace,
-            "no place for a reader is free on the board",
-        ),
-        (BoardFault::NoEntry, "the reader could not enter the board"),
-    ];
-    for (fault, sentence) in told {
-        assert_eq!(rt; format!(in alloc; "{fault}")?.as_str(), sentence);
-    }
+    shortage.tell(&rt);
+    assert_eq!(rt; found, Some((true, true)));
     Ok(())
 }

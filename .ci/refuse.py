@@ -1,0 +1,181 @@
+#!/usr/bin/env python3
+"""Refuses each allocation in turn, in the executables that `rt ci` has proved and built.
+
+In each run one allocation of the process is refused: the first, the second, and so on, until a run
+asks for no more. `scionet` must write its whole answer and end with status 0, or write the first
+lines of it, say that it is out of memory and end with status 1. A test that may be short of memory
+once must pass. Where no allocation is refused, no test may be short of memory at all.
+
+The last line says how many runs there were and how many were wrong; the status is 1 where one was.
+"""
+import collections
+import concurrent.futures
+import os
+import resource
+import shutil
+import subprocess
+import sys
+import tempfile
+
+HERE = os.path.dirname(os.path.abspath(__file__))
+CRATES = os.environ.get("REFUSE_CRATES", os.path.join(os.path.dirname(HERE), "crates"))
+
+# The tests in which memory may be short once: by crate, the beginnings of their names.
+TESTS = {"conformance_threads": ("board::", "daemon::")}
+
+# What such a test tells where a call wanted memory, and where an answer was not kept.
+WANTED, UNKEPT = b"a call wanted memory", b"an answer was not kept"
+
+# A daemon's answer, and the same without one: the first wants memory in no more runs than the
+# second, so in none for keeping the answer.
+ASKED, MADE = "daemon::an_answer_is_asked_for", "daemon::an_answer_is_made"
+
+# More allocations than any of these runs makes; how many runs are begun together; the seconds of
+# each.
+MANY, TOGETHER, SECONDS = 20_000, 32, 60
+
+Run = collections.namedtuple("Run", "number status output errors was_refused")
+
+
+def stop(why):
+    sys.exit(f"refuse: {why}")
+
+
+def executable(crate, name):
+    path = os.path.join(CRATES, crate, "out", name)
+    if not os.access(path, os.X_OK):
+        stop(f"{path} is not there: rt ci builds it")
+    return path
+
+
+def contents(*names):
+    with open(os.path.join(CRATES, *names), "rb") as it:
+        return it.read()
+
+
+def built(room):
+    """The library that refuses an allocation, built by the clang of the kit that `rt` is of."""
+    rt = shutil.which("rt")
+    if rt is None:
+        stop("no rt on the path")
+    kit = os.path.dirname(os.path.dirname(os.path.realpath(rt)))
+    clang = os.environ.get("CC") or os.path.join(kit, "toolchain", "bin", "clang")
+    if shutil.which(clang) is None:
+        stop(f"no compiler {clang}")
+    library, source = os.path.join(room, "refuse.so"), os.path.join(HERE, "refuse.c")
+    flags = ["-O2", "-shared", "-fPIC", "-nostdlib", "-fuse-ld=lld"]
+    done = subprocess.run([clang, *flags, "-o", library, source], capture_output=True)
+    if done.returncode != 0:
+        stop(f"{clang} does not build {source}: {done.stderr.decode(errors='replace')}")
+    return library
+
+
+def ran(library, words, given, number):
+    """A run in which the allocation of this number is refused; none is where it is 0."""
+    seen, tells = os.pipe()
+    env = {"LD_PRELOAD": library, "REFUSE_AT": str(number), "REFUSE_TELL": str(tells)}
+    how = {"capture_output": True, "env": env, "pass_fds": (tells,), "timeout": SECONDS}
+    try:
+        done = subprocess.run(words, input=given, **how)
+        ended = done.returncode, done.stdout, done.stderr
+    except subprocess.TimeoutExpired:
+        ended = None, b"", f"no end within {SECONDS} seconds".encode()
+    finally:
+        os.close(tells)
+    with os.fdopen(seen, "rb") as it:
+        return Run(number, *ended, it.read() != b"")
+
+
+class Program:
+    """The program with some words: what it is given, and what it has to write."""
+
+    def __init__(self, words, given, answer):
+        self.name, self.given, self.answer = " ".join(["scionet", *words]), given, answer
+        self.words = [executable("scionet", "scionet"), *words]
+
+    def is_right(self, run):
+        if (run.status, run.output, run.errors) == (0, self.answer, b""):
+            return True
+        is_told = (run.status, run.errors) == (1, b"scionet: out of memory\n")
+        is_whole = run.output[-1:] in (b"", b"\n")
+        return run.was_refused and is_told and is_whole and self.answer.startswith(run.output)
+
+
+class Test:
+    """A test in which memory may be short once."""
+
+    def __init__(self, crate, name):
+        self.name, self.given = f"{crate} {name}", b""
+        self.words = [executable(crate, f"{crate}_tests"), name]
+
+    def is_right(self, run):
+        is_short = WANTED in run.output or UNKEPT in run.output
+        has_passed = run.status == 0 and b"test result: ok" in run.output
+        return has_passed and (run.was_refused or not is_short)
+
+
+def programs():
+    """The stored run, and packets that are sent twice by its path and carried by workers."""
+    given, answer = contents("scionet", "stdin"), contents("scionet", "stdout")
+    yield Program(["run"], given, answer)
+    lines, replies = given.splitlines(True), answer.splitlines(True)
+    at = next(place for place, line in enumerate(lines) if b'"send"' in line)
+    twice = b"".join([*lines[:at], lines[at], lines[at]])
+    for slots, second in (("2", b"flight 1 delivered 3\n"), ("1", b"flight 1 dropped\n")):
+        ends = [b"packet 0\n", b"packet 1\n", b"flight 0 delivered 3\n", second]
+        for workers in ("1", "2", "3", "8"):
+            words = ["work", "--workers", workers, "--slots", slots]
+            yield Program(words, twice, b"".join([*replies[:at], *ends]))
+
+
+def tests():
+    for crate, fronts in TESTS.items():
+        words = [executable(crate, f"{crate}_tests"), "--list"]
+        listed = subprocess.run(words, capture_output=True).stdout.decode()
+        names = [line.split(": ")[0] for line in listed.splitlines() if line.endswith(": test")]
+        for front in fronts:
+            if not any(name.startswith(front) for name in names):
+                stop(f"{crate} has no test {front}..")
+        yield from (Test(crate, name) for name in names if name.startswith(fronts))
+
+
+def swept(library, subject, pool):
+    """The runs of a subject, the first with no refusal, and what each wrong one of them did."""
+    runs = []
+    for first in range(0, MANY, TOGETHER):
+        numbers = range(first, first + TOGETHER)
+        runs += pool.map(lambda it: ran(library, subject.words, subject.given, it), numbers)
+        if not runs[-1].was_refused:
+            break
+    wrong = [
+        f"allocation {run.number}: status {run.status}: {run.output[-300:]} {run.errors[-300:]}"
+        for run in runs
+        if not subject.is_right(run)
+    ]
+    if runs[-1].was_refused:
+        wrong.append("it asks without an end")
+    if not any(run.was_refused for run in runs):
+        wrong.append("it asks for nothing")
+    return runs, wrong
+
+
+def main():
+    resource.setrlimit(resource.RLIMIT_CORE, (0, 0))
+    count, bad, wanting = 0, 0, collections.Counter()
+    pool = concurrent.futures.ThreadPoolExecutor(os.cpu_count())
+    with tempfile.TemporaryDirectory() as room, pool:
+        library = built(room)
+        for subject in [*programs(), *tests()]:
+            runs, wrong = swept(library, subject, pool)
+            count, bad = count + sum(run.was_refused for run in runs), bad + len(wrong)
+            wanting[subject.words[-1]] = sum(WANTED in run.output for run in runs)
+            for line in wrong[:3]:
+                print(f"refuse: {subject.name}: {line}")
+    if wanting[ASKED] > wanting[MADE] or not wanting[MADE]:
+        print(f"refuse: {ASKED} wants memory in {wanting[ASKED]} runs, {MADE} in {wanting[MADE]}")
+        bad += 1
+    print(f"refuse: {count} runs, each with another allocation refused, {bad} wrong")
+    return 1 if bad else 0
+
+
+sys.exit(main())

@@ -1,0 +1,98 @@
+//! Refusals: their order, and their sentences.
+
+use crate::segments::ia;
+use daemon_cache::{AskFault, Daemon};
+use isd_as::IsdAs;
+use policy_expr::{OptionText, PolicyText};
+use refusal::OrMemory;
+use segment_board::{BoardFault, BoardReader, BoardWriter, new_board};
+use std::alloc::Global;
+use std::sync::Wait;
+use std::test::Fail;
+
+/// The option of weight 0 without a list, and with this sequence.
+fn option(sequence: Option<&str>) -> OptionText<'_> {
+    OptionText {
+        text: PolicyText {
+            acl: None,
+            sequence,
+        },
+        weight: 0,
+    }
+}
+
+/// The code of the refusal of a request from 1-ff00:0:111, and 0 where it is none.
+fn code_of<R: Wait>(
+    rt: &R,
+    alloc: Global,
+    reader: &mut BoardReader,
+    dst: IsdAs,
+    options: &[OptionText<'_>],
+    limit: usize,
+) -> Option<u16> {
+    let daemon = Daemon::new(alloc, 1).ok()?;
+    Some(
+        match daemon.ask(rt, alloc, reader, ia(0x111), dst, options, 100, limit) {
+            Ok(_) => 0,
+            Err(OrMemory::Refused(fault)) => fault.code(),
+            Err(OrMemory::Memory) => 1,
+        },
+    )
+}
+
+/// The refusals of requests that have one cause after another taken away.
+fn refusals<R: Wait>(rt: &R, alloc: Global, board: &mut BoardWriter) -> Option<[u16; 5]> {
+    let mut reader = board.reader().ok()?;
+    let same = ia(0x111);
+    let unread = [option(Some("1 |"))];
+    let plain = [option(None)];
+    Some([
+        code_of(rt, alloc, &mut reader, same, &[], 0)?,
+        code_of(rt, alloc, &mut reader, same, &[], 65)?,
+        code_of(rt, alloc, &mut reader, same, &[], 64)?,
+        code_of(rt, alloc, &mut reader, same, &unread, 64)?,
+        code_of(rt, alloc, &mut reader, same, &plain, 64)?,
+    ])
+}
+
+#[test]
+fn requests_are_refused_in_order(rt: HostRuntime) -> Result<(), Fail> {
+    let mut board = new_board(&rt, rt.alloc(), 2)?;
+    let codes = refusals(&rt, rt.alloc(), &mut board);
+    board.close(&rt);
+    assert_eq!(rt; codes, Some([137, 137, 67, 60, 85]));
+    Ok(())
+}
+
+#[test]
+fn refusals_of_a_daemon_have_sentences(rt: HostRuntime) -> Result<(), Fail> {
+    let alloc = rt.alloc();
+    let told = [
+        (AskFault::BadLimit, "the limit is not 1 to 64"),
+        (
+            AskFault::SameAs,
+            "the source and the destination are one AS",
+        ),
+        (AskFault::NoEntry, "the reader could not enter the board"),
+    ];
+    for (fault, sentence) in told {
+        assert_eq!(rt; format!(in alloc; "{fault}")?.as_str(), sentence);
+    }
+    Ok(())
+}
+
+#[test]
+fn refusals_of_a_board_have_sentences(rt: HostRuntime) -> Result<(), Fail> {
+    let alloc = rt.alloc();
+    let told = [
+        (
+            BoardFault::NoPlace,
+            "no place for a reader is free on the board",
+        ),
+        (BoardFault::NoEntry, "the reader could not enter the board"),
+    ];
+    for (fault, sentence) in told {
+        assert_eq!(rt; format!(in alloc; "{fault}")?.as_str(), sentence);
+    }
+    Ok(())
+}
