@@ -12,7 +12,6 @@ use worked::{at, hop, row};
 /// The events: a segment is made and registered, a path is asked for, a packet is sent by it and
 /// has its three turns, and a fourth that finds it delivered.
 fn events<'x>(options: &'x [OptionText<'x>]) -> [Event<'x>; 10] {
-    let turn = Event::Turn { packet: 0 };
     [
         Event::Tick { now: 1000 },
         Event::Originate {
@@ -40,10 +39,10 @@ fn events<'x>(options: &'x [OptionText<'x>]) -> [Event<'x>; 10] {
             path: 0,
             payload: b"hi",
         },
-        turn,
-        turn,
-        turn,
-        turn,
+        Event::Turn { packet: 0 },
+        Event::Turn { packet: 0 },
+        Event::Turn { packet: 0 },
+        Event::Turn { packet: 0 },
     ]
 }
 
