@@ -1,0 +1,137 @@
+#!/usr/bin/env python3
+"""Prints the table of all refusals: their numbers and names as the definitions have them, and what
+each means as the code says it. Run it at the top of the repository; docs/refusals.md is what it
+prints.
+
+`refusals.py --check` says whether docs/refusals.md is that, and ends with 1 where it is not."""
+import re
+import sys
+from pathlib import Path
+
+FRONT = """# All refusals
+
+A call that refuses says why by a value with a number, a name and a sentence. Lines of text have the
+number and the name: `no 41 NoInterface` where an event is refused, `topology no 12 DuplicateAs`
+where a topology is, and `refused 93 Expired` where a router refuses a packet; behind `90 BadHeader`
+stand the number and the name of the header's own refusal. A number has one name, and means the same
+wherever it stands. Each of these is a clause: the call refuses exactly where its cause holds, and
+where several causes hold it names the first in the order that its documentation gives.
+
+`.ci/refusals.py` prints this document from the crates' definitions and the comments of their types;
+the gate checks that it is up to date.
+"""
+
+BEHIND = """
+## `event_lines`
+A line that asks for nothing changes nothing.
+
+Lines: each line after the first.
+
+| number | name | meaning |
+|---|---|---|
+| 140 | BadLine | The line is no object of the table of lines, or a value in it is out of its range. |
+"""
+
+# The type of each crate's refusals, which calls give them, and in answer to which lines.
+TYPES = {
+    "isd_as": [("AddrFault", "`IsdAs::parse`", "")],
+    "path_header": [
+        (
+            "HeaderFault",
+            "`decode`, `Header::new`, `HeaderMut::new`, `encode`",
+            "`turn`, and `scionet step`, behind 90",
+        )
+    ],
+    "scion_topology": [
+        (
+            "TopologyFault",
+            "`Topology::from_json` and the questions and changes of a topology, `RouterView::new`,"
+            " `Key::new`, `Flight::new`",
+            "the first, behind `topology`; `send`, `cut`, `mend`, `rotate`",
+        )
+    ],
+    "router_step": [("Refusal", "`step`, `step_header`", "`turn`, `show`, `scionet step`, `work`")],
+    "path_segment": [
+        ("SegmentFault", "`Segment::new`, `Segment::from_json`, `Beacon::new`", "")
+    ],
+    "path_server": [("StoreFault", "`PathStore::register`", "`terminate`")],
+    "segment_board": [("BoardFault", "`BoardWriter::reader`, `BoardReader::lookup`", "")],
+    "policy_expr": [
+        ("PolicyFault", "`Seq::parse`, `Acl::parse`, `Policy::parse`", "`ask`"),
+        ("OptionFault", "`PolicyOption::parse_all`", "`ask`"),
+    ],
+    "path_verifier": [("VerifyFault", "`verify`, `Pieces::push`", "`send`, `back`")],
+    "combinator": [("CombineFault", "`combine`", "`ask`")],
+    "daemon_cache": [("AskFault", "`Daemon::ask`", "")],
+    "beaconing": [
+        ("BeaconFault", "`originate`, `extend`, `terminate`", "`originate`, `extend`, `terminate`")
+    ],
+    "network_core": [("EventFault", "`Net::step`", "each of the events")],
+    "router_workers": [("RunFault", "`run_workers`", "")],
+}
+
+ENUM = r"((?:^///.*\n)+)(?:^#\[.*\n)*^pub enum NAME \{\n((?:.*\n)*?)^\}"
+VARIANT = re.compile(r"((?:    ///.*\n)*)((?:    #\[(?:.*\n)*?.*\]\n)*)    (\w+)(?:\(.*\))?,\n")
+
+
+def comment(lines):
+    """The first paragraph of a comment, in one line and without links."""
+    text = " ".join(line.strip().removeprefix("///").strip() for line in lines.splitlines())
+    text = text.split("  ")[0]
+    return re.sub(r"\[(`[^`]*`)\](?:\([^)]*\))?", r"\1", text).strip()
+
+
+def told(crate, type_name):
+    """The numbers and names of a type's refusals, by variant, as the definitions have them."""
+    for path in sorted(Path("crates", crate, "specs").glob("*.antt")):
+        text = path.read_text()
+        if re.search(rf"^abbrev pub told : {type_name} ", text, re.M):
+            rows = re.findall(r'^told \(?(\w+)[^=]*= \((\d+), codes "(\w+)"\)$', text, re.M)
+            return {variant: (int(number), name) for variant, number, name in rows}
+    sys.exit(f"{crate} has no table of {type_name}")
+
+
+def section(crate, type_name, calls, lines):
+    """The part on one type of refusals."""
+    numbers = told(crate, type_name)
+    pattern = re.compile(ENUM.replace("NAME", type_name), re.M)
+    texts = [path.read_text() for path in Path("crates", crate, "src").glob("*.rt")]
+    found = [it for text in texts for it in pattern.findall(text)]
+    if len(found) != 1:
+        sys.exit(f"{crate} has {len(found)} types {type_name}")
+    meaning, body = found[0]
+    yield f"\n## `{crate}`: `{type_name}`\n{comment(meaning)}\n"
+    yield f"Calls: {calls}." + (f" Lines: {lines}.\n" if lines else "\n")
+    yield "| number | name | meaning |\n|---|---|---|"
+    variants = {name: comment(text) for text, _, name in VARIANT.findall(body)}
+    for variant, (number, name) in numbers.items():
+        if variant not in variants:
+            sys.exit(f"{crate}: {type_name} has no {variant}")
+        yield f"| {number} | {name} | {variants[variant]} |"
+
+
+def document():
+    """The whole text."""
+    specs = list(Path("crates").glob("*/specs/*.antt"))
+    table = re.compile(r"^abbrev pub told : ", re.M)
+    tables = {it.parts[1] for it in specs if table.search(it.read_text())}
+    if tables != {*TYPES}:
+        sys.exit(f"crates whose tables of refusals are not listed here: {tables ^ {*TYPES}}")
+    names = {}
+    rows = [told(crate, one[0]) for crate, types in TYPES.items() for one in types]
+    for number, name in (it for table in rows for it in table.values()):
+        if names.setdefault(number, name) != name:
+            sys.exit(f"{number} is {name} and {names[number]}")
+    parts = [it for crate, types in TYPES.items() for one in types for it in section(crate, *one)]
+    return FRONT + "\n".join(parts) + "\n" + BEHIND
+
+
+def main():
+    text = document()
+    if sys.argv[1:] != ["--check"]:
+        print(text, end="")
+    elif Path("docs/refusals.md").read_text() != text:
+        sys.exit("docs/refusals.md is not what .ci/refusals.py prints")
+
+
+main()
