@@ -21,14 +21,11 @@ HERE = os.path.dirname(os.path.abspath(__file__))
 CRATES = os.environ.get("REFUSE_CRATES", os.path.join(os.path.dirname(HERE), "crates"))
 
 # The tests in which memory may be short once: by crate, the beginnings of their names.
-TESTS = {"conformance_threads": ("board::", "daemon::")}
-
-# Those that are left out: a thread waits for another there, and where that one can't be made the two
-# run one after the other, in an order that does not serve.
-WAITING = (
-    "board::readers_in_other_threads_find_it",
-    "daemon::two_threads_ask_one_daemon_while_a_third_publishes",
-)
+TESTS = {
+    "conformance_core": ("runs::",),
+    "conformance_threads": ("board::", "daemon::"),
+    "conformance_workers": ("runs::",),
+}
 
 # What such a test tells where a call wanted memory, and where an answer was not kept.
 WANTED, UNKEPT = b"a call wanted memory", b"an answer was not kept"
@@ -135,10 +132,6 @@ def programs():
             yield Program(words, twice, b"".join([*replies[:at], *ends]))
 
 
-def is_swept(name, fronts):
-    return name.startswith(fronts) and name not in WAITING
-
-
 def tests():
     for crate, fronts in TESTS.items():
         words = [executable(crate, f"{crate}_tests"), "--list"]
@@ -147,7 +140,7 @@ def tests():
         for front in fronts:
             if not any(name.startswith(front) for name in names):
                 stop(f"{crate} has no test {front}..")
-        yield from (Test(crate, name) for name in names if is_swept(name, fronts))
+        yield from (Test(crate, name) for name in names if name.startswith(fronts))
 
 
 def swept(library, subject, pool):

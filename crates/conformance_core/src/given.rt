@@ -84,7 +84,7 @@ fn code_of(reply: Reply) -> u16 {
 
 /// The number of what an event is answered: 1 where the packet went over a link, 2 to a router of
 /// its AS, and 3 where it was delivered; else that of [`code_of`].
-fn step(alloc: Global, net: &mut Net, event: &Event<'_>) -> Result<u16, AllocError> {
+pub(crate) fn step(alloc: Global, net: &mut Net, event: &Event<'_>) -> Result<u16, AllocError> {
     let reply = net.step(alloc, event)?;
     if let Reply::Turned(TurnReply::Went(outcome)) = reply {
         return Ok(code_of_outcome(outcome));

@@ -1,9 +1,12 @@
 //! A run of events over three ASes in a row: a packet goes from the last to the first.
 
+use crate::given::step;
 use forwarding::Place;
 use isd_as::IfId;
-use network_core::{Event, Net, run};
+use network_core::{Event, Net, Stopped, run};
 use policy_expr::{OptionText, PolicyText, WalkHop};
+use refusal::OrMemory;
+use refusing::Shortage;
 use scion_topology::Topology;
 use std::alloc::{AllocError, Global};
 use std::test::Fail;
@@ -46,9 +49,23 @@ fn events<'x>(options: &'x [OptionText<'x>]) -> [Event<'x>; 10] {
     ]
 }
 
-/// The network after the events.
-fn network(alloc: Global) -> Result<Net, Fail> {
-    let topology = Topology::from_json(alloc, row().as_bytes())?;
+/// The topology of the row.
+fn topology(alloc: Global, shortage: &Shortage) -> Option<Topology> {
+    match Topology::from_json(alloc, row().as_bytes()) {
+        Ok(topology) => Some(topology),
+        Err(OrMemory::Refused(_)) => None,
+        Err(OrMemory::Memory) => {
+            if shortage.may_want() {
+                return Topology::from_json(alloc, row().as_bytes()).ok();
+            }
+            None
+        }
+    }
+}
+
+/// The network after the events. Where memory runs out at one of them, that one and all behind it
+/// happen in the network that is handed back.
+fn network(alloc: Global, shortage: &Shortage) -> Option<Net> {
     let any = [OptionText {
         text: PolicyText {
             acl: None,
@@ -56,10 +73,18 @@ fn network(alloc: Global) -> Result<Net, Fail> {
         },
         weight: 0,
     }];
-    match run(alloc, topology, &events(&any)) {
-        Ok(net) => Ok(net),
-        Err(_) => Err(AllocError.into()),
+    let events = events(&any);
+    let Stopped { mut net, done } = match run(alloc, topology(alloc, shortage)?, &events) {
+        Ok(net) => return Some(net),
+        Err(stopped) => stopped,
+    };
+    if !shortage.may_want() {
+        return None;
     }
+    for event in events.iter().skip(done) {
+        step(alloc, &mut net, event).ok()?;
+    }
+    Some(net)
 }
 
 /// The hops from the last AS to the first.
@@ -73,7 +98,9 @@ fn walk() -> [WalkHop; 3] {
 
 #[test]
 fn a_run_delivers_its_packet(rt: HostRuntime) -> Result<(), Fail> {
-    let net = network(rt.alloc())?;
+    let shortage = Shortage::new();
+    let net = network(rt.alloc(), &shortage).ok_or(AllocError)?;
+    shortage.tell(&rt);
     assert_eq!(rt; net.now(), 1000);
     assert_eq!(rt; net.packets().len(), 1);
     let packet = net.packet(0).ok_or(AllocError)?;
@@ -84,7 +111,9 @@ fn a_run_delivers_its_packet(rt: HostRuntime) -> Result<(), Fail> {
 
 #[test]
 fn what_was_sent_is_kept(rt: HostRuntime) -> Result<(), Fail> {
-    let net = network(rt.alloc())?;
+    let shortage = Shortage::new();
+    let net = network(rt.alloc(), &shortage).ok_or(AllocError)?;
+    shortage.tell(&rt);
     let sent = net.sent(0).ok_or(AllocError)?;
     assert_eq!(rt; sent.source(), at(1, 0x112));
     assert_eq!(rt; sent.destination(), at(1, 0x110));

@@ -3,6 +3,7 @@
 use crate::table::{lines_of, row_sent, row_told};
 use event_lines::{RunFault, run_lines};
 use std::alloc::Global;
+use std::cell::Cell;
 use std::io;
 use std::io::{Read, Write};
 use std::test::Fail;
@@ -64,6 +65,49 @@ impl Write for Narrow {
             return Err(io::Error::from(io::ErrorKind::Other));
         }
         self.flushes -= 1;
+        Ok(())
+    }
+}
+
+/// A reader that gives one line a read, each only once the answers to all lines before it were
+/// flushed; else its read fails.
+#[derive(Drop)]
+struct Patient<'a> {
+    bytes: &'a [u8],
+    asked: usize,
+    answered: &'a Cell<usize>,
+}
+
+impl<'a> Read for Patient<'a> {
+    fn read(&mut self, room: &mut [u8]) -> io::Result<usize> {
+        if self.answered.get() != self.asked {
+            return Err(io::Error::from(io::ErrorKind::Other));
+        }
+        let line = match self.bytes.iter().position(|byte| *byte == b'\n') {
+            Some(end) => end + 1,
+            None => self.bytes.len(),
+        };
+        let len = room.len().min(line);
+        let len = self.bytes.read(&mut room[..len])?;
+        self.asked = self.asked.saturating_add(ends_in(&room[..len]));
+        Ok(len)
+    }
+}
+
+/// A writer that tells how many lines of it were flushed.
+#[derive(Drop)]
+struct Flushed<'a> {
+    bytes: Vec<u8>,
+    lines: &'a Cell<usize>,
+}
+
+impl<'a> Write for Flushed<'a> {
+    fn write(&mut self, bytes: &[u8]) -> io::Result<usize> {
+        self.bytes.write(bytes)
+    }
+
+    fn flush(&mut self) -> io::Result<()> {
+        self.lines.set(ends_in(&self.bytes));
         Ok(())
     }
 }
@@ -190,6 +234,26 @@ fn each_flush_fails(rt: HostRuntime) -> Result<(), Fail> {
     let writer = Narrow::new(alloc, 4096, u32::MAX, 0);
     let (result, _) = ran(alloc, input.as_bytes(), writer)?;
     assert!(rt; result == Err(RunFault::Write));
+    Ok(())
+}
+
+#[test]
+fn answers_are_flushed_before_the_next_read(rt: HostRuntime) -> Result<(), Fail> {
+    let alloc = rt.alloc();
+    let (input, wanted) = row_told(alloc)?;
+    let answered = Cell::new(0);
+    let reader = Patient {
+        bytes: input.as_bytes(),
+        asked: 0,
+        answered: &answered,
+    };
+    let writer = Flushed {
+        bytes: Vec::new(alloc),
+        lines: &answered,
+    };
+    let (result, output) = ran(alloc, reader, writer)?;
+    assert!(rt; result.is_ok());
+    assert!(rt; output.bytes.as_slice() == wanted.as_bytes());
     Ok(())
 }
 

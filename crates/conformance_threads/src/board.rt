@@ -202,7 +202,8 @@ fn awaits(mut reader: BoardReader, alloc: Global, shortage: &Shortage) -> bool {
     false
 }
 
-/// Whether two readers in threads of their own find what a third thread publishes.
+/// Whether two readers in threads of their own find what a third thread publishes. Where a thread
+/// can't be made, its part is done behind the other one, so that what is awaited stands last.
 fn apart<R: Threads + Wait + Sync>(
     rt: &R,
     alloc: Global,
@@ -211,9 +212,8 @@ fn apart<R: Threads + Wait + Sync>(
 ) -> Option<(bool, bool)> {
     let one = seated(board)?;
     let two = seated(board)?;
-    let (published, both) = join(
+    let (both, published) = join(
         rt,
-        || registers_and_publishes(rt, alloc, board, shortage),
         move || {
             join(
                 rt,
@@ -221,6 +221,7 @@ fn apart<R: Threads + Wait + Sync>(
                 move || awaits(two, alloc, shortage),
             )
         },
+        || registers_and_publishes(rt, alloc, board, shortage),
     );
     published?;
     Some(both)

@@ -268,7 +268,8 @@ fn both_learn_and_ask<B: OneBoard + Send + Sync, R: Threads + Wait + Sync>(
 }
 
 /// Whether two threads, with a reader each, that ask one daemon while a third thread publishes the
-/// segment get its path once each has learnt what it was told after that.
+/// segment get its path once each has learnt what it was told after that. Where a thread can't be
+/// made, its part is done behind the other one, so that what is awaited stands last.
 fn apart<B: OneBoard + Send + Sync, R: Threads + Wait + Sync>(
     rt: &R,
     alloc: Global,
@@ -281,10 +282,10 @@ fn apart<B: OneBoard + Send + Sync, R: Threads + Wait + Sync>(
     let one = Seat::new(seated(board)?);
     let two = Seat::new(seated(board)?);
     let (first, second) = (&LetterBox::<B>::empty(), &LetterBox::<B>::empty());
-    let (published, both) = join(
+    let (both, published) = join(
         rt,
-        || publishes_and_writes(rt, alloc, board, [first, second], shortage),
         move || both_learn_and_ask(rt, alloc, daemon, one, two, [first, second], shortage),
+        || publishes_and_writes(rt, alloc, board, [first, second], shortage),
     );
     published?;
     Some(both)

@@ -4,11 +4,13 @@ ghost use Rattle.std.specs.Prelude.{◌≡◌};
 
 use crate::network::{first, last, network};
 use forwarding::Place;
+use inbox::Inbox;
 use network_core::{EventFault, Net};
 use refusal::OrMemory;
+use refusing::Shortage;
 use router_workers::Flight;
 use scion_topology::{Topology, TopologyFault};
-use std::alloc::Global;
+use std::alloc::{AllocError, Global};
 use std::test::Fail;
 
 /// A network of one AS, which is none of the row's.
@@ -31,7 +33,8 @@ pub(crate) fn after_turn<'a>(flight: Flight<'a>) -> Flight<'a>
 
 /// The network with a packet from the row's last AS to its first.
 fn sent(alloc: Global) -> Result<Net, Fail> {
-    network(alloc, &[(last(), first())])
+    let net = network(alloc, &[(last(), first())], &Shortage::new());
+    Ok(net.ok_or(AllocError)?)
 }
 
 /// How the first packet of a network is refused as a flight over this topology.
@@ -69,5 +72,21 @@ fn a_flight_needs_its_first_interface(rt: HostRuntime) -> Result<(), Fail> {
     let net = sent(rt.alloc())?;
     let refusal = refusal(rt.alloc(), &net, RENUMBERED)?;
     assert_eq!(rt; refusal, Some(TopologyFault::NoLink));
+    Ok(())
+}
+
+#[test]
+fn an_inbox_of_one_place_hands_the_second_flight_back(rt: HostRuntime) -> Result<(), Fail> {
+    let net = sent(rt.alloc())?;
+    let packet = net.packet(0).ok_or(EventFault::NoPacket)?;
+    let first = Flight::new(rt.alloc(), net.topology(), packet.sent())?;
+    let second = after_turn(Flight::new(rt.alloc(), net.topology(), packet.sent())?);
+    let (inbox, mut sender, mut receiver) = Inbox::new(rt.alloc(), 1)?;
+    assert!(rt; inbox.push(&rt, &mut sender, first).is_ok());
+    let back = inbox.push(&rt, &mut sender, second).err();
+    assert_eq!(rt; back.map(|flight| flight.turns()), Some(1));
+    let out = inbox.pop(&rt, &mut receiver);
+    assert_eq!(rt; out.map(|flight| flight.turns()), Some(0));
+    assert!(rt; inbox.pop(&rt, &mut receiver).is_none());
     Ok(())
 }

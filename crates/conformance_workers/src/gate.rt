@@ -1,11 +1,16 @@
 //! Workers that run at once: each waits at its first turn for the other's.
 
-use crate::network::{first, last, middle};
-use crate::runs::ends_of;
-use router_workers::{End, Gate};
+use crate::network::{first, last, middle, network};
+use crate::runs::flights_of;
+use refusing::Shortage;
+use router_workers::{End, Gate, run_workers};
+use std::alloc::{AllocError, Global};
+use std::process::Abort;
+use std::sync::Wait;
 use std::sync::atomic::{AtomicUsize, Ordering};
 use std::test::Fail;
 use std::thread;
+use std::thread::Threads;
 
 /// Holds two workers, each at its first turn, until the other has come to its own, for so many
 /// looks, and counts all turns.
@@ -63,15 +68,21 @@ impl Gate for Meeting {
     }
 }
 
-#[test]
-fn two_workers_run_at_once(rt: HostRuntime) -> Result<(), Fail> {
-    let gate = Meeting::of([0, 1]);
+/// Asserts that two flights, one from the row's last AS to its first and one from the middle AS to
+/// the last, are delivered on so many workers, and that the gate's two had their turns at once.
+fn expect_meeting<R: Threads + Wait + Sync + Abort>(
+    rt: &R,
+    alloc: Global,
+    gate: &Meeting,
+    workers: usize,
+) -> Result<(), Fail> {
+    let shortage = Shortage::new();
     let ways = [(last(), first()), (middle(), last())];
-    let report = ends_of(&rt, rt.alloc(), &ways, 2, 4, &gate)??;
-    assert_eq!(rt;
-        report.ends(),
-        [End::Delivered(3), End::Delivered(2)].as_slice()
-    );
+    let net = network(alloc, &ways, &shortage).ok_or(AllocError)?;
+    let flights = flights_of(alloc, &net, 2, &shortage).ok_or(AllocError)?;
+    let report = run_workers(rt, alloc, net.topology(), 1000, workers, 4, &flights, gate)?;
+    let ends = [End::Delivered(3), End::Delivered(2)];
+    assert_eq!(rt; report.ends(), ends.as_slice());
     assert_eq!(rt; gate.late.load(Ordering::SeqCst), 0);
     assert_eq!(rt; gate.here[0].load(Ordering::SeqCst), 1);
     assert_eq!(rt; gate.here[1].load(Ordering::SeqCst), 1);
@@ -81,18 +92,11 @@ fn two_workers_run_at_once(rt: HostRuntime) -> Result<(), Fail> {
 }
 
 #[test]
+fn two_workers_run_at_once(rt: HostRuntime) -> Result<(), Fail> {
+    expect_meeting(&rt, rt.alloc(), &Meeting::of([0, 1]), 2)
+}
+
+#[test]
 fn two_of_three_workers_run_at_once(rt: HostRuntime) -> Result<(), Fail> {
-    let gate = Meeting::of([2, 1]);
-    let ways = [(last(), first()), (middle(), last())];
-    let report = ends_of(&rt, rt.alloc(), &ways, 3, 4, &gate)??;
-    assert_eq!(rt;
-        report.ends(),
-        [End::Delivered(3), End::Delivered(2)].as_slice()
-    );
-    assert_eq!(rt; gate.late.load(Ordering::SeqCst), 0);
-    assert_eq!(rt; gate.here[0].load(Ordering::SeqCst), 1);
-    assert_eq!(rt; gate.here[1].load(Ordering::SeqCst), 1);
-    assert_eq!(rt; gate.enters.load(Ordering::SeqCst), 5);
-    assert_eq!(rt; gate.leaves.load(Ordering::SeqCst), 5);
-    Ok(())
+    expect_meeting(&rt, rt.alloc(), &Meeting::of([2, 1]), 3)
 }

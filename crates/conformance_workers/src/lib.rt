@@ -9,3 +9,5 @@ mod gate;
 mod network;
 #[cfg(test)]
 mod runs;
+#[cfg(test)]
+mod sentences;

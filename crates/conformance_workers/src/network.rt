@@ -5,10 +5,11 @@ use forwarding::TurnReply;
 use isd_as::{IfId, IsdAs};
 use network_core::{Event, Net, Reply};
 use policy_expr::{OptionText, PolicyText};
+use refusal::OrMemory;
+use refusing::Shortage;
 use router_step::Outcome;
 use scion_topology::Topology;
 use std::alloc::{AllocError, Global};
-use std::test::Fail;
 use worked::{at, row};
 
 /// The last AS of the row, which is the child of the middle one.
@@ -27,8 +28,17 @@ pub(crate) fn first() -> IsdAs {
 }
 
 /// The row's topology.
-pub(crate) fn topology(alloc: Global) -> Result<Topology, Fail> {
-    Ok(Topology::from_json(alloc, row().as_bytes())?)
+fn topology(alloc: Global, shortage: &Shortage) -> Option<Topology> {
+    match Topology::from_json(alloc, row().as_bytes()) {
+        Ok(topology) => Some(topology),
+        Err(OrMemory::Refused(_)) => None,
+        Err(OrMemory::Memory) => {
+            if shortage.may_want() {
+                return Topology::from_json(alloc, row().as_bytes()).ok();
+            }
+            None
+        }
+    }
 }
 
 /// Whether a packet went on.
@@ -40,12 +50,20 @@ fn has_gone(outcome: Outcome) -> bool {
 }
 
 /// Does an event, and tells whether a packet went on in it.
-fn step(alloc: Global, net: &mut Net, event: &Event<'_>) -> Result<bool, AllocError> {
-    let reply = net.step(alloc, event)?;
+fn step(alloc: Global, net: &mut Net, event: &Event<'_>, shortage: &Shortage) -> Option<bool> {
+    let reply = match net.step(alloc, event) {
+        Ok(reply) => reply,
+        Err(AllocError) => {
+            if !shortage.may_want() {
+                return None;
+            }
+            net.step(alloc, event).ok()?
+        }
+    };
     if let Reply::Turned(TurnReply::Went(outcome)) = reply {
-        return Ok(has_gone(outcome));
+        return Some(has_gone(outcome));
     }
-    Ok(false)
+    Some(false)
 }
 
 /// The event that asks for paths between these ASes.
@@ -94,22 +112,28 @@ fn ending<'x>() -> Option<Event<'x>> {
 }
 
 /// Issues the row's segment, from the first AS to the last.
-fn issue(alloc: Global, net: &mut Net) -> Result<(), AllocError> {
-    step(alloc, net, &Event::Tick { now: 1000 })?;
+fn issue(alloc: Global, net: &mut Net, shortage: &Shortage) -> Option<()> {
+    step(alloc, net, &Event::Tick { now: 1000 }, shortage)?;
     if let Some(event) = beginning() {
-        step(alloc, net, &event)?;
+        step(alloc, net, &event, shortage)?;
     }
     if let Some(event) = passing() {
-        step(alloc, net, &event)?;
+        step(alloc, net, &event, shortage)?;
     }
     if let Some(event) = ending() {
-        step(alloc, net, &event)?;
+        step(alloc, net, &event, shortage)?;
     }
-    Ok(())
+    Some(())
 }
 
 /// Sends a packet between these ASes, by the first path of the answer of this number.
-fn send(alloc: Global, net: &mut Net, ask: u32, src: IsdAs, dst: IsdAs) -> Result<(), AllocError> {
+fn send(
+    alloc: Global,
+    net: &mut Net,
+    ask: u32,
+    ends: (IsdAs, IsdAs),
+    shortage: &Shortage,
+) -> Option<()> {
     let any = [OptionText {
         text: PolicyText {
             acl: None,
@@ -117,23 +141,24 @@ fn send(alloc: Global, net: &mut Net, ask: u32, src: IsdAs, dst: IsdAs) -> Resul
         },
         weight: 0,
     }];
-    if let Some(event) = asking(src, dst, &any) {
-        step(alloc, net, &event)?;
+    if let Some(event) = asking(ends.0, ends.1, &any) {
+        step(alloc, net, &event, shortage)?;
     }
     if let Some(event) = sending(ask, b"hi") {
-        step(alloc, net, &event)?;
+        step(alloc, net, &event, shortage)?;
     }
-    Ok(())
+    Some(())
 }
 
-/// The row's network with a packet between each of these pairs of ASes.
-pub(crate) fn network(alloc: Global, ways: &[(IsdAs, IsdAs)]) -> Result<Net, Fail> {
-    let mut net = Net::new(alloc, topology(alloc)?);
-    issue(alloc, &mut net)?;
+/// The row's network with a packet between each of these pairs of ASes. Each call that wants memory
+/// is made once more, where that may be.
+pub(crate) fn network(alloc: Global, ways: &[(IsdAs, IsdAs)], shortage: &Shortage) -> Option<Net> {
+    let mut net = Net::new(alloc, topology(alloc, shortage)?);
+    issue(alloc, &mut net, shortage)?;
     let mut ask = 0;
-    for (src, dst) in ways {
-        send(alloc, &mut net, ask, *src, *dst)?;
+    for ends in ways {
+        send(alloc, &mut net, ask, *ends, shortage)?;
         ask = (ask + 1) % 1000;
     }
-    Ok(net)
+    Some(net)
 }

@@ -1,98 +1,160 @@
 //! Runs of flights: what is reported of each.
+//!
+//! Each call may want memory once, and is then made once more; a run that wants it has given no
+//! flight a turn.
 
-ghost use Rattle.std.specs.Prelude.{◌≡◌, ◌<◌, ◌≤◌, All, IfOk};
+ghost use Rattle.std.specs.Prelude.{◌≡◌, ◌<◌, ◌≤◌, All, IfOk, IfSome};
 
 use crate::flights::after_turn;
 use crate::network::{first, last, network};
 use isd_as::IsdAs;
-use network_core::{EventFault, Net};
-use router_workers::{End, Flight, Gate, Open, Report, RunFault, run_workers};
-use std::alloc::Global;
+use network_core::Net;
+use refusal::OrMemory;
+use refusing::Shortage;
+use router_workers::{End, Flight, Gate, Report, RunFault, run_workers};
+use scion_topology::TopologyFault;
+use std::alloc::{AllocError, Global};
+use std::io::Print;
+use std::process::Abort;
 use std::sync::Wait;
+use std::sync::atomic::{AtomicUsize, Ordering};
 use std::test::Fail;
 use std::thread::Threads;
 
-/// The flights of a network's packets, in their order.
-fn flights_of<'n>(alloc: Global, net: &'n Net) -> Result<Vec<Flight<'n>>, Fail>
+/// Counts the turns of a run.
+#[derive(Drop)]
+struct Turns {
+    count: AtomicUsize,
+}
+
+impl Gate for Turns {
+    fn enter(&self, _worker: usize) {
+        self.count.fetch_add(1, Ordering::SeqCst);
+    }
+
+    fn leave(&self, _worker: usize) {}
+}
+
+/// A run over the row's network: a flight between each of these pairs of ASes, of which the first
+/// ones have had no turn and those behind them all three of the row; on so many workers, whose
+/// inboxes have so many places.
+#[derive(Clone, Copy)]
+struct Case<'w> {
+    ways: &'w [(IsdAs, IsdAs)],
+    departing: usize,
+    workers: usize,
+    slots: usize,
+}
+
+/// The flight as it is, or after the three turns of the row.
+fn after_turns<'n>(flight: Flight<'n>, has_flown: bool) -> Flight<'n>
+    ensures { result.fabric ≡ flight.entry.fabric }
+{
+    if has_flown {
+        return after_turn(after_turn(after_turn(flight)));
+    }
+    flight
+}
+
+/// The flights of a network's packets, in their order, of which so many have had no turn.
+fn flights_once<'n>(
+    alloc: Global,
+    net: &'n Net,
+    departing: usize,
+) -> Result<Vec<Flight<'n>>, OrMemory<TopologyFault>>
     ensures { IfOk result (λ flights.
         All (λ flight. flight.fabric ≡ net.now.network) flights.items) }
 {
     let mut flights = Vec::new(alloc);
     for packet in net.packets() {
-        flights.push(Flight::new(alloc, net.topology(), packet.sent())?)?;
+        let flight = Flight::new(alloc, net.topology(), packet.sent())?;
+        let has_flown = departing <= flights.len();
+        flights.push(after_turns(flight, has_flown))?;
     }
     Ok(flights)
 }
 
-/// The flight of a network's first packet, once it has had the three turns of the row.
-fn flown<'n>(alloc: Global, net: &'n Net) -> Result<Flight<'n>, Fail>
-    ensures { IfOk result (λ flight. flight.fabric ≡ net.now.network) }
-{
-    let packet = net.packet(0).ok_or(EventFault::NoPacket)?;
-    let flight = Flight::new(alloc, net.topology(), packet.sent())?;
-    Ok(after_turn(after_turn(after_turn(flight))))
-}
-
-/// The flights of a network's packets, and so many behind them that have ended.
-fn some_flown<'n>(alloc: Global, net: &'n Net, count: usize) -> Result<Vec<Flight<'n>>, Fail>
-    ensures { IfOk result (λ flights.
+/// The same, made once more where that may be.
+pub(crate) fn flights_of<'n>(
+    alloc: Global,
+    net: &'n Net,
+    departing: usize,
+    shortage: &Shortage,
+) -> Option<Vec<Flight<'n>>>
+    ensures { IfSome result (λ flights.
         All (λ flight. flight.fabric ≡ net.now.network) flights.items) }
 {
-    let mut flights = flights_of(alloc, net)?;
-    for _ in 0..count {
-        flights.push(flown(alloc, net)?)?;
+    match flights_once(alloc, net, departing) {
+        Ok(flights) => Some(flights),
+        Err(OrMemory::Refused(_)) => None,
+        Err(OrMemory::Memory) => {
+            if shortage.may_want() {
+                return flights_once(alloc, net, departing).ok();
+            }
+            None
+        }
     }
-    Ok(flights)
 }
 
-/// How a packet for each of these pairs of ASes ends, on so many workers with inboxes of so many
-/// places.
-pub(crate) fn ends_of<R: Threads + Wait + Sync, G: Gate>(
+/// What a run reports. One that wants memory has had no turn, and is done once more.
+fn reported<R: Threads + Wait + Sync>(
     rt: &R,
     alloc: Global,
-    ways: &[(IsdAs, IsdAs)],
-    workers: usize,
-    slots: usize,
-    gate: &G,
-) -> Result<Result<Report, RunFault>, Fail>
-    requires some { 0 < slots }
-    requires few { slots ≤ 4096 }
+    case: Case<'_>,
+    shortage: &Shortage,
+) -> Option<Result<Report, RunFault>>
+    requires some { 0 < case.slots }
+    requires few { case.slots ≤ 4096 }
 {
-    let net = network(alloc, ways)?;
-    let flights = flights_of(alloc, &net)?;
-    Ok(run_workers(
-        rt,
-        alloc,
-        net.topology(),
-        1000,
-        workers,
-        slots,
-        &flights,
-        gate,
-    ))
+    let net = network(alloc, case.ways, shortage)?;
+    let flights = flights_of(alloc, &net, case.departing, shortage)?;
+    let (workers, slots) = (case.workers, case.slots);
+    let turns = Turns {
+        count: AtomicUsize::new(0),
+    };
+    let run = net.topology();
+    let first = run_workers(rt, alloc, run, 1000, workers, slots, &flights, &turns);
+    let Err(RunFault::Memory) = first else {
+        return Some(first);
+    };
+    if turns.count.load(Ordering::SeqCst) != 0 || !shortage.may_want() {
+        return None;
+    }
+    Some(run_workers(rt, alloc, run, 1000, workers, slots, &flights, &turns))
 }
 
-/// The ends of two flights from the row's last AS to its first.
-fn two<R: Threads + Wait + Sync>(
+/// Asserts that a run reports these ends.
+fn expect_ends<R: Threads + Wait + Sync + Abort + Print>(
     rt: &R,
     alloc: Global,
-    workers: usize,
-    slots: usize,
-) -> Result<Result<Report, RunFault>, Fail>
-    requires some { 0 < slots }
-    requires few { slots ≤ 4096 }
+    case: Case<'_>,
+    ends: &[End],
+) -> Result<(), Fail>
+    requires some { 0 < case.slots }
+    requires few { case.slots ≤ 4096 }
 {
-    ends_of(rt, alloc, &[(last(), first()); 2], workers, slots, &Open)
+    let shortage = Shortage::new();
+    let report = reported(rt, alloc, case, &shortage).ok_or(AllocError)??;
+    shortage.tell(rt);
+    assert_eq!(rt; report.ends(), ends);
+    Ok(())
+}
+
+/// Two flights from the row's last AS to its first.
+fn two() -> [(IsdAs, IsdAs); 2] {
+    [(last(), first()); 2]
 }
 
 #[test]
 fn two_flights_find_two_places(rt: HostRuntime) -> Result<(), Fail> {
     for workers in [1, 2, 3, 8] {
-        let report = two(&rt, rt.alloc(), workers, 2)??;
-        assert_eq!(rt;
-            report.ends(),
-            [End::Delivered(3), End::Delivered(3)].as_slice()
-        );
+        let case = Case {
+            ways: &two(),
+            departing: 2,
+            workers,
+            slots: 2,
+        };
+        expect_ends(&rt, rt.alloc(), case, &[End::Delivered(3); 2])?;
     }
     Ok(())
 }
@@ -100,11 +162,14 @@ fn two_flights_find_two_places(rt: HostRuntime) -> Result<(), Fail> {
 #[test]
 fn the_second_of_two_flights_finds_no_place(rt: HostRuntime) -> Result<(), Fail> {
     for workers in [1, 2, 3, 8] {
-        let report = two(&rt, rt.alloc(), workers, 1)??;
-        assert_eq!(rt;
-            report.ends(),
-            [End::Delivered(3), End::Dropped(0)].as_slice()
-        );
+        let case = Case {
+            ways: &two(),
+            departing: 2,
+            workers,
+            slots: 1,
+        };
+        let ends = [End::Delivered(3), End::Dropped(0)];
+        expect_ends(&rt, rt.alloc(), case, &ends)?;
     }
     Ok(())
 }
@@ -112,71 +177,70 @@ fn the_second_of_two_flights_finds_no_place(rt: HostRuntime) -> Result<(), Fail>
 #[test]
 fn a_run_has_one_to_eight_workers(rt: HostRuntime) -> Result<(), Fail> {
     for workers in [0, 9] {
-        let fault = two(&rt, rt.alloc(), workers, 2)?.err();
-        assert_eq!(rt; fault, Some(RunFault::Workers));
+        let shortage = Shortage::new();
+        let case = Case {
+            ways: &two(),
+            departing: 2,
+            workers,
+            slots: 2,
+        };
+        let report = reported(&rt, rt.alloc(), case, &shortage).ok_or(AllocError)?;
+        shortage.tell(&rt);
+        assert_eq!(rt; report.err(), Some(RunFault::Workers));
     }
     Ok(())
 }
 
 #[test]
 fn eight_flights_find_eight_places(rt: HostRuntime) -> Result<(), Fail> {
-    let ways = [(last(), first()); 8];
-    let report = ends_of(&rt, rt.alloc(), &ways, 2, 8, &Open)??;
-    assert_eq!(rt; report.ends(), [End::Delivered(3); 8].as_slice());
-    Ok(())
+    let case = Case {
+        ways: &[(last(), first()); 8],
+        departing: 8,
+        workers: 2,
+        slots: 8,
+    };
+    expect_ends(&rt, rt.alloc(), case, &[End::Delivered(3); 8])
 }
 
 #[test]
 fn six_of_eight_flights_find_no_place(rt: HostRuntime) -> Result<(), Fail> {
-    let ways = [(last(), first()); 8];
-    let report = ends_of(&rt, rt.alloc(), &ways, 2, 2, &Open)??;
-    let mut expected = [End::Dropped(0); 8];
-    expected[0] = End::Delivered(3);
-    expected[1] = End::Delivered(3);
-    assert_eq!(rt; report.ends(), expected.as_slice());
-    Ok(())
+    let case = Case {
+        ways: &[(last(), first()); 8],
+        departing: 8,
+        workers: 2,
+        slots: 2,
+    };
+    let mut ends = [End::Dropped(0); 8];
+    ends[0] = End::Delivered(3);
+    ends[1] = End::Delivered(3);
+    expect_ends(&rt, rt.alloc(), case, &ends)
 }
 
 /// There are more flights than places, and no inbox is ever full, since three of them have ended.
 #[test]
 fn no_flight_is_dropped_where_there_is_room(rt: HostRuntime) -> Result<(), Fail> {
-    let net = network(rt.alloc(), &[(last(), first()); 2])?;
-    let flights = some_flown(rt.alloc(), &net, 3)?;
+    let mut ends = [End::Delivered(0); 5];
+    ends[0] = End::Delivered(3);
+    ends[1] = End::Delivered(3);
     for workers in [1, 2, 3, 8] {
-        let report = run_workers(
-            &rt,
-            rt.alloc(),
-            net.topology(),
-            1000,
+        let case = Case {
+            ways: &[(last(), first()); 5],
+            departing: 2,
             workers,
-            4,
-            &flights,
-            &Open,
-        )?;
-        let mut expected = [End::Delivered(0); 5];
-        expected[0] = End::Delivered(3);
-        expected[1] = End::Delivered(3);
-        assert_eq!(rt; report.ends(), expected.as_slice());
+            slots: 4,
+        };
+        expect_ends(&rt, rt.alloc(), case, &ends)?;
     }
     Ok(())
 }
 
 #[test]
 fn no_flight_is_no_end(rt: HostRuntime) -> Result<(), Fail> {
-    let report = ends_of(&rt, rt.alloc(), &[], 2, 1, &Open)??;
-    assert!(rt; report.ends().is_empty());
-    Ok(())
-}
-
-#[test]
-fn the_faults_have_their_sentences(rt: HostRuntime) -> Result<(), Fail> {
-    assert_eq!(rt;
-        RunFault::Workers.to_string(rt.alloc())?.as_str(),
-        "a run has 1 to 8 workers"
-    );
-    assert_eq!(rt;
-        RunFault::Memory.to_string(rt.alloc())?.as_str(),
-        "there is no memory for the run"
-    );
-    Ok(())
+    let case = Case {
+        ways: &[],
+        departing: 0,
+        workers: 2,
+        slots: 1,
+    };
+    expect_ends(&rt, rt.alloc(), case, &[])
 }
