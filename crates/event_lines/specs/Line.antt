@@ -1,7 +1,7 @@
 -- A line of text as what it asks for: an object of JSON with the member `do`, and others by its
 -- word. Addresses are texts, payloads and keys are hexadecimal, numbers are whole numbers up to the
 -- most that their type has, and members beside these are ignored.
-use Rattle.std.specs.Prelude.{ℕ, if◌then◌else◌, codes, List, [], ◌∷◌, Option, Some, None}
+use Rattle.std.specs.Prelude.{ℕ, if◌then◌else◌, codes, List, [], ◌∷◌, Option, Some, None, option_map}
 use Rattle.std.specs.Option.{is_none}
 use Rattle.std.specs.Str.{bytes_eq}
 use Rattle.serde_json.specs.Data.{Data}
@@ -88,118 +88,130 @@ one_option d = do
 abbrev pub options_in : Data → Option (List OptionTexts)
 options_in d = if is_none (get (codes "options") d) then one_option d else listed_options d
 
--- ---- lines, by their word
+-- ---- events, by their word
 
-unfoldable pub tick_in : Data → Option LineValue
+unfoldable pub tick_in : Data → Option EventValue
 tick_in d = do
   to ← long_at (codes "now") d
-  Some (Happens (Tick to))
+  Some (Tick to)
 
-unfoldable pub originate_in : Data → Option LineValue
+unfoldable pub originate_in : Data → Option EventValue
 originate_in d = do
   ia ← ia_at (codes "ia") d
   egress ← short_at (codes "egress") d
   beta0 ← short_at (codes "beta0") d
-  Some (Happens (Originate ia egress beta0))
+  Some (Originate ia egress beta0)
 
-unfoldable pub extend_in : Data → Option LineValue
+unfoldable pub extend_in : Data → Option EventValue
 extend_in d = do
   beacon ← long_at (codes "beacon") d
   ia ← ia_at (codes "ia") d
   egress ← short_at (codes "egress") d
-  Some (Happens (Extend beacon ia egress))
+  Some (Extend beacon ia egress)
 
-unfoldable pub terminate_in : Data → Option LineValue
+unfoldable pub terminate_in : Data → Option EventValue
 terminate_in d = do
   beacon ← long_at (codes "beacon") d
   ia ← ia_at (codes "ia") d
-  Some (Happens (Terminate beacon ia))
+  Some (Terminate beacon ia)
 
-unfoldable pub ask_in : Data → Option LineValue
+unfoldable pub ask_in : Data → Option EventValue
 ask_in d = do
+  texts ← options_in d
   src ← ia_at (codes "src") d
   dst ← ia_at (codes "dst") d
   limit ← long_at (codes "limit") d
-  texts ← options_in d
-  Some (Happens (Ask src dst (options_at texts) limit))
+  Some (Ask src dst (options_at texts) limit)
 
-unfoldable pub send_in : Data → Option LineValue
+unfoldable pub send_in : Data → Option EventValue
 send_in d = do
+  payload ← bytes_at (codes "payload") d
   ask ← long_at (codes "ask") d
   path ← long_at (codes "path") d
-  payload ← bytes_at (codes "payload") d
-  Some (Happens (Send (ByAnswer ask path) payload))
+  Some (Send (ByAnswer ask path) payload)
 
-unfoldable pub turn_in : Data → Option LineValue
+unfoldable pub turn_in : Data → Option EventValue
 turn_in d = do
   packet ← long_at (codes "packet") d
-  Some (Happens (Turn packet))
+  Some (Turn packet)
 
-unfoldable pub lose_in : Data → Option LineValue
+unfoldable pub lose_in : Data → Option EventValue
 lose_in d = do
   packet ← long_at (codes "packet") d
-  Some (Happens (Lose packet))
+  Some (Lose packet)
 
-unfoldable pub alter_in : Data → Option LineValue
+unfoldable pub alter_in : Data → Option EventValue
 alter_in d = do
   packet ← long_at (codes "packet") d
   at ← long_at (codes "at") d
   change ← byte_at (codes "xor") d
-  Some (Happens (Alter packet at change))
+  Some (Alter packet at change)
 
-unfoldable pub back_in : Data → Option LineValue
+unfoldable pub back_in : Data → Option EventValue
 back_in d = do
-  packet ← long_at (codes "packet") d
   payload ← bytes_at (codes "payload") d
-  Some (Happens (Send (BackOf packet) payload))
+  packet ← long_at (codes "packet") d
+  Some (Send (BackOf packet) payload)
 
-unfoldable pub cut_in : Data → Option LineValue
+unfoldable pub cut_in : Data → Option EventValue
 cut_in d = do
   ia ← ia_at (codes "ia") d
   interface ← short_at (codes "if") d
-  Some (Happens (CutLink ia interface))
+  Some (CutLink ia interface)
 
-unfoldable pub mend_in : Data → Option LineValue
+unfoldable pub mend_in : Data → Option EventValue
 mend_in d = do
   ia ← ia_at (codes "ia") d
   interface ← short_at (codes "if") d
-  Some (Happens (MendLink ia interface))
+  Some (MendLink ia interface)
 
-unfoldable pub rotate_in : Data → Option LineValue
+unfoldable pub rotate_in : Data → Option EventValue
 rotate_in d = do
-  ia ← ia_at (codes "ia") d
   key ← bytes_at (codes "key") d
-  Some (Happens (RotateKey ia key))
+  ia ← ia_at (codes "ia") d
+  Some (RotateKey ia key)
 
-unfoldable pub show_in : Data → Option LineValue
-show_in d = do
-  packet ← long_at (codes "packet") d
-  Some (Shows packet)
-
--- the lines that carry neither bytes nor texts
-unfoldable pub plain_line : List ℕ → Data → Option LineValue
-plain_line word d =
+-- the events that carry neither bytes nor texts
+unfoldable pub plain_event : List ℕ → Data → Option EventValue
+plain_event word d =
     if bytes_eq word (codes "tick") then tick_in d
     else if bytes_eq word (codes "originate") then originate_in d
     else if bytes_eq word (codes "extend") then extend_in d
     else if bytes_eq word (codes "terminate") then terminate_in d
-    else if bytes_eq word (codes "sweep") then Some (Happens Sweep)
+    else if bytes_eq word (codes "sweep") then Some Sweep
     else if bytes_eq word (codes "turn") then turn_in d
     else if bytes_eq word (codes "lose") then lose_in d
     else if bytes_eq word (codes "alter") then alter_in d
     else if bytes_eq word (codes "cut") then cut_in d
     else if bytes_eq word (codes "mend") then mend_in d
-    else if bytes_eq word (codes "show") then show_in d
     else None
 
--- all lines
-unfoldable pub worded : List ℕ → Data → Option LineValue
-worded word d =
-    if bytes_eq word (codes "ask") then ask_in d
-    else if bytes_eq word (codes "send") then send_in d
+-- the events that carry no texts
+unfoldable pub untexted_event : List ℕ → Data → Option EventValue
+untexted_event word d =
+    if bytes_eq word (codes "send") then send_in d
     else if bytes_eq word (codes "back") then back_in d
     else if bytes_eq word (codes "rotate") then rotate_in d
-    else plain_line word d
+    else plain_event word d
+
+-- all events
+abbrev pub event_in : List ℕ → Data → Option EventValue
+event_in word d =
+    if bytes_eq word (codes "ask") then ask_in d else untexted_event word d
+
+-- ---- lines
+
+-- the question where a packet is
+unfoldable pub show_in : Data → Option LineValue
+show_in d = do
+  packet ← long_at (codes "packet") d
+  Some (Shows packet)
+
+-- what an object with this word says
+unfoldable pub worded : List ℕ → Data → Option LineValue
+worded word d =
+    if bytes_eq word (codes "show") then show_in d
+    else option_map Happens (event_in word d)
 
 -- what an object says
 unfoldable pub said_by : Data → Option LineValue

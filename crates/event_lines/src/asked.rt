@@ -6,13 +6,13 @@ use std::marker::Model;
 
 /// A policy option of a request for paths: the texts of its policy, and its weight.
 #[derive(Drop)]
-pub struct AskedOption {
+pub(crate) struct AskedOption {
     /// The texts of the access control list, where there is one.
-    pub acl: Option<AclText>,
+    pub(crate) acl: Option<AclText>,
     /// The text of the sequence, where there is one.
-    pub sequence: Option<String>,
+    pub(crate) sequence: Option<String>,
     /// The weight: of the options that leave a path the heaviest is used.
-    pub weight: u32,
+    pub(crate) weight: u32,
 }
 
 impl Model for AskedOption {
@@ -31,7 +31,7 @@ impl Model for AskedOption {
 
 impl AskedOption {
     /// The option, lent to a request.
-    pub fn lent(&self) -> OptionText<'_>
+    pub(crate) fn lent(&self) -> OptionText<'_>
         ensures { result ≡ self.now }
     {
         let acl = match &self.acl {

@@ -1,20 +1,23 @@
 //! What happens at a line.
 
-ghost use Rattle.std.specs.Prelude.{◌≡◌, IfOk, IfSome, None, Some};
+ghost use Rattle.std.specs.Prelude.{◌≡◌, IfOk, Some, option_map};
 ghost use Rattle.std.specs.String.{string_bytes};
+ghost use Rattle.serde_json.specs.View.{view};
 ghost use Rattle.network_core.specs.Seen as events;
 ghost use Rattle.event_lines.specs.Hearing.{heard_as};
-ghost use Rattle.event_lines.specs.Line.{Happens, line_in};
-ghost use Rattle.event_lines.specs.Seen.{IsShown, asked_options, seen};
+ghost use Rattle.event_lines.specs.Line.{Happens, ask_in, line_in, said_by, untexted_event, worded};
+ghost use Rattle.event_lines.specs.Seen.{seen};
 ghost use Rattle.event_lines.specs.Saying.{Replies};
 
-use crate::asked::{AskedOption, lend_all};
+use crate::asked::lend_all;
+use crate::fields::options;
 use crate::hearing::Hearing;
-use crate::line::Line;
+use crate::line::{Line, ask, happens, payload, show, untexted};
 use crate::text;
 use forwarding::TurnReply;
+use json_fields::document;
 use network_core::{Event, Net, Reply};
-use policy_expr::OptionText;
+use serde_json::Value;
 use std::alloc::{AllocError, Global};
 
 /// An event happens.
@@ -30,31 +33,103 @@ fn happen(alloc: Global, net: &mut Net, event: &Event<'_>) -> Result<String, All
 }
 
 /// What a line is answered.
-fn answer(alloc: Global, net: &mut Net, line: &Line) -> Result<String, AllocError>
+fn answer(alloc: Global, net: &mut Net, line: &Line<'_>) -> Result<String, AllocError>
     ensures { IfOk result (λ text. Replies net.old (Some (seen line.now))
         (string_bytes text) net.new) }
 {
-    if let Line::Show { packet } = line {
-        return text::packet(alloc, net.packet(*packet as usize));
-    }
-    let options = lend_all(alloc, options_of(line))?;
-    match event_of(line, &options) {
-        Some(event) => happen(alloc, net, &event),
-        None => unreachable!(),
+    match line {
+        Line::Happens(event) => happen(alloc, net, event),
+        Line::Show { packet } => text::packet(alloc, net.packet(*packet as usize)),
     }
 }
 
-/// The options of a line that asks for paths, else none.
-fn options_of(line: &Line) -> &[AskedOption]
-    ensures { result.now ≡ asked_options line.now }
+/// What a line is answered if it asks for something and is heard; a bad line otherwise.
+fn answer_heard(
+    alloc: Global,
+    hearing: Hearing,
+    net: &mut Net,
+    line: Option<Line<'_>>,
+) -> Result<String, AllocError>
+    ensures { IfOk result (λ text. Replies net.old
+        (heard_as hearing (option_map seen line.entry)) (string_bytes text) net.new) }
 {
     match line {
-        Line::Ask { options, .. } => options,
-        _ => &[],
+        Some(line) if hearing.hears(&line) => answer(alloc, net, &line),
+        _ => text::bad_line(alloc),
     }
 }
 
-/// What the bytes of a line are answered, without the line's end, where these lines are heard.
+/// What a line is answered that asks for paths. Its texts are decoded before they are lent.
+#[tactic(auto, unfolding(crate::specs::Line::ask_in))]
+fn answer_ask(
+    alloc: Global,
+    hearing: Hearing,
+    net: &mut Net,
+    value: &Value,
+) -> Result<String, AllocError>
+    ensures { IfOk result (λ text. Replies net.old
+        (heard_as hearing (option_map Happens (ask_in (view value.now))))
+        (string_bytes text) net.new) }
+{
+    let Some(options) = options(alloc, value)? else {
+        return text::bad_line(alloc);
+    };
+    let lent = lend_all(alloc, &options)?;
+    answer_heard(alloc, hearing, net, happens(ask(value, &lent)))
+}
+
+/// What a line is answered that carries no texts. Its bytes are decoded before they are lent.
+#[tactic(auto, unfolding(crate::specs::Line::untexted_event))]
+fn answer_untexted(
+    alloc: Global,
+    hearing: Hearing,
+    net: &mut Net,
+    word: &str,
+    value: &Value,
+) -> Result<String, AllocError>
+    ensures { IfOk result (λ text. Replies net.old
+        (heard_as hearing (option_map Happens (untexted_event word.now (view value.now))))
+        (string_bytes text) net.new) }
+{
+    let Some(payload) = payload(alloc, word, value)? else {
+        return text::bad_line(alloc);
+    };
+    answer_heard(
+        alloc,
+        hearing,
+        net,
+        happens(untexted(word, value, &payload)),
+    )
+}
+
+/// What an object is answered.
+#[tactic(auto, unfolding(crate::specs::Line::said_by, crate::specs::Line::worded))]
+fn answer_object(
+    alloc: Global,
+    hearing: Hearing,
+    net: &mut Net,
+    value: &Value,
+) -> Result<String, AllocError>
+    ensures { IfOk result (λ text. Replies net.old (heard_as hearing (said_by (view value.now)))
+        (string_bytes text) net.new) }
+{
+    let Some(word) = json_fields::text(value, "do") else {
+        return text::bad_line(alloc);
+    };
+    match word {
+        "show" => answer_heard(alloc, hearing, net, show(value)),
+        "ask" => answer_ask(alloc, hearing, net, value),
+        _ => answer_untexted(alloc, hearing, net, word, value),
+    }
+}
+
+/// What the bytes of a line are answered, without the line's end, if these lines are heard. A bad
+/// line is one that is not heard, or is no object of the table of lines: no JSON, an object without
+/// the member `do` or with a word there that is none of these, or one in which a member of the word
+/// is missing or has another form.
+///
+/// Takes time and memory for the bytes of the line, beside what its event takes.
+#[tactic(auto, unfolding(crate::specs::Line::line_in))]
 pub(crate) fn answer_line(
     alloc: Global,
     hearing: Hearing,
@@ -64,71 +139,8 @@ pub(crate) fn answer_line(
     ensures { IfOk result (λ text. Replies net.old (heard_as hearing (line_in bytes.now))
         (string_bytes text) net.new) }
 {
-    match Line::read(alloc, bytes)? {
-        Some(line) if hearing.hears(&line) => answer(alloc, net, &line),
-        _ => String::from_str(alloc, "no 140 BadLine"),
-    }
-}
-
-/// The event of a line, with these options.
-fn event_of<'x>(line: &'x Line, options: &'x [OptionText<'x>]) -> Option<Event<'x>>
-    requires { options.now ≡ asked_options line.now }
-    ensures event { IfSome result (λ event. seen line.entry.now ≡ Happens (events.seen event)) }
-    ensures shown { result ≡ None → IsShown (seen line.entry.now) }
-{
-    match line {
-        Line::Tick { to } => Some(Event::Tick { now: *to }),
-        Line::Originate { ia, egress, beta0 } => Some(Event::Originate {
-            ia: *ia,
-            egress: *egress,
-            beta0: *beta0,
-        }),
-        Line::Extend { beacon, ia, egress } => Some(Event::Extend {
-            beacon: *beacon,
-            ia: *ia,
-            egress: *egress,
-        }),
-        Line::Terminate { beacon, ia } => Some(Event::Terminate {
-            beacon: *beacon,
-            ia: *ia,
-        }),
-        Line::Sweep => Some(Event::Sweep),
-        Line::Ask {
-            src,
-            dst,
-            limit,
-            ..
-        } => Some(Event::Ask {
-            src: *src,
-            dst: *dst,
-            options,
-            limit: *limit,
-        }),
-        Line::Send { ask, path, payload } => Some(Event::Send {
-            ask: *ask,
-            path: *path,
-            payload,
-        }),
-        Line::Turn { packet } => Some(Event::Turn { packet: *packet }),
-        Line::Lose { packet } => Some(Event::Lose { packet: *packet }),
-        Line::Alter { packet, at, xor } => Some(Event::Alter {
-            packet: *packet,
-            at: *at,
-            xor: *xor,
-        }),
-        Line::Back { packet, payload } => Some(Event::Back {
-            packet: *packet,
-            payload,
-        }),
-        Line::Cut { ia, interface } => Some(Event::CutLink {
-            ia: *ia,
-            interface: *interface,
-        }),
-        Line::Mend { ia, interface } => Some(Event::MendLink {
-            ia: *ia,
-            interface: *interface,
-        }),
-        Line::Rotate { ia, key } => Some(Event::RotateKey { ia: *ia, key }),
-        Line::Show { packet } => None,
+    match document(alloc, bytes)? {
+        Some(value) => answer_object(alloc, hearing, net, &value),
+        None => text::bad_line(alloc),
     }
 }

@@ -1,10 +1,12 @@
 //! Which lines are heard.
 
 ghost use Rattle.std.specs.Prelude.{◌≡◌};
-ghost use Rattle.event_lines.specs.Hearing.{hears};
+ghost use Rattle.network_core.specs.Seen as events;
+ghost use Rattle.event_lines.specs.Hearing.{hears, prepares};
 ghost use Rattle.event_lines.specs.Seen.{seen};
 
 use crate::line::Line;
+use network_core::Event;
 
 /// Which lines after the first a run hears; any other is a bad line.
 #[derive(Clone, Copy, Debug, PartialEq, Eq)]
@@ -16,21 +18,27 @@ pub enum Hearing {
     Preparing,
 }
 
+/// Whether an event prepares a network: it neither turns, loses, alters nor answers a packet.
+fn prepares(event: &Event<'_>) -> bool
+    ensures { result ≡ prepares (events.seen event.now) }
+{
+    !matches!(
+        event,
+        Event::Turn { .. } | Event::Lose { .. } | Event::Alter { .. } | Event::Back { .. }
+    )
+}
+
 impl Hearing {
     /// Whether it hears this line.
-    pub fn hears(self, line: &Line) -> bool
+    pub(crate) fn hears(self, line: &Line<'_>) -> bool
         ensures { result ≡ hears self (seen line.now) }
     {
         match self {
             Hearing::All => true,
-            Hearing::Preparing => !matches!(
-                line,
-                Line::Turn { .. }
-                    | Line::Lose { .. }
-                    | Line::Alter { .. }
-                    | Line::Back { .. }
-                    | Line::Show { .. }
-            ),
+            Hearing::Preparing => match line {
+                Line::Happens(event) => prepares(event),
+                Line::Show { .. } => false,
+            },
         }
     }
 }

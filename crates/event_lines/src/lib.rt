@@ -16,9 +16,7 @@ mod run;
 mod talk;
 mod text;
 
-pub use asked::AskedOption;
 pub use fault::RunFault;
 pub use hearing::Hearing;
-pub use line::Line;
 pub use run::{listen, run_lines};
 pub use text::refusal_text;

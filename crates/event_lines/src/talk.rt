@@ -25,13 +25,14 @@ pub(crate) struct Talk {
     pub(crate) replies: String,
 }
 
-/// Adds a reply and its end. After want of memory the replies are as they were.
-fn push_reply(alloc: Global, replies: &mut String, text: &str) -> Result<(), AllocError>
+/// Adds a reply and its end. If memory runs out, the replies are as they were.
+fn push_reply(replies: &mut String, reply: String) -> Result<(), AllocError>
     ensures { string_bytes replies.new ≡ (if is_ok result
-        then string_bytes replies.old ++ (text.now ++ line_end ∷ [])
+        then string_bytes replies.old ++ (string_bytes reply ++ line_end ∷ [])
         else string_bytes replies.old) }
 {
-    let line = format!(in alloc; "{text}\n")?;
+    let mut line = reply;
+    line.push_str("\n")?;
     replies.push_str(&line)
 }
 
@@ -47,7 +48,7 @@ fn tell(
         (string_bytes replies.old) (string_bytes replies.new) }
 {
     let text = answer_line(alloc, hearing, net, line)?;
-    push_reply(alloc, replies, &text)?;
+    push_reply(replies, text)?;
     Ok(())
 }
 
@@ -60,15 +61,35 @@ fn begin(alloc: Global, line: &[u8], replies: &mut String) -> Result<Net, RunFau
     match Topology::from_json(alloc, line) {
         Ok(topology) => {
             topology.known();
-            push_reply(alloc, replies, "topology ok")?;
+            push_reply(replies, String::from_str(alloc, "topology ok")?)?;
             Ok(Net::new(alloc, topology))
         }
         Err(OrMemory::Refused(fault)) => {
             let text = format!(in alloc; "topology no {} {}", fault.code(), fault.name())?;
-            push_reply(alloc, replies, &text)?;
+            push_reply(replies, text)?;
             Err(RunFault::Topology)
         }
         Err(OrMemory::Memory) => Err(RunFault::Memory),
+    }
+}
+
+/// Answers a line: the first begins the network, and each later one is told to it.
+fn answer(
+    alloc: Global,
+    hearing: Hearing,
+    net: &mut Option<Net>,
+    line: &[u8],
+    replies: &mut String,
+) -> Result<(), RunFault>
+    ensures { Tells hearing (λ _. stage_of net.new) result (stage_of net.old) line.now
+        (string_bytes replies.old) (string_bytes replies.new) }
+{
+    match net {
+        Some(net) => tell(alloc, hearing, net, line, replies),
+        None => {
+            *net = Some(begin(alloc, line, replies)?);
+            Ok(())
+        }
     }
 }
 
@@ -113,14 +134,24 @@ impl Talk {
             self.old.rest.items (string_bytes self.old.replies) (string_bytes self.new.replies) }
         ensures rest { self.new.rest ≡ self.old.rest }
     {
-        match &mut self.net {
-            Some(net) => tell(alloc, hearing, net, &self.rest, &mut self.replies),
-            None => {
-                let net = begin(alloc, &self.rest, &mut self.replies)?;
-                self.net = Some(net);
-                Ok(())
-            }
+        answer(alloc, hearing, &mut self.net, &self.rest, &mut self.replies)
+    }
+
+    /// Answers the line of which these bytes are the end. It is read where it lies if all of it is
+    /// among them.
+    fn end_line(&mut self, alloc: Global, hearing: Hearing, end: &[u8]) -> Result<(), RunFault>
+        ensures told { Tells hearing (λ _. stage_of self.new.net) result (stage_of self.old.net)
+            (self.old.rest.items ++ end.now) (string_bytes self.old.replies)
+            (string_bytes self.new.replies) }
+        ensures rest { result ≡ Ok tt → self.new.rest.items ≡ [] }
+    {
+        if self.rest.is_empty() {
+            return answer(alloc, hearing, &mut self.net, end, &mut self.replies);
         }
+        self.rest.extend_from_slice(end)?;
+        self.answer(alloc, hearing)?;
+        self.rest.clear();
+        Ok(())
     }
 
     /// Answers each line that ends among these bytes, and keeps what stands behind the last.
@@ -135,9 +166,7 @@ impl Talk {
     {
         let mut left = bytes;
         while let Some((line, behind)) = cut_line(left) {
-            self.rest.extend_from_slice(line)?;
-            self.answer(alloc, hearing)?;
-            self.rest.clear();
+            self.end_line(alloc, hearing, line)?;
             left = behind;
         }
         self.rest.extend_from_slice(left)?;

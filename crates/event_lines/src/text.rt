@@ -2,7 +2,7 @@
 
 ghost use Rattle.std.specs.Prelude.{◌≡◌, ◌++◌, IfOk, OnOk, flat_map, option_map};
 ghost use Rattle.std.specs.String.{string_bytes};
-ghost use Rattle.event_lines.specs.Text.{answer_in, answer_text, fault_text, hop_text, hops_text, outcome_text, packet_text, passed_text, path_text, paths_of, place_text, refusal_text, reply_text, turn_text};
+ghost use Rattle.event_lines.specs.Text.{answer_in, answer_text, bad_line, fault_text, hop_text, hops_text, outcome_text, packet_text, passed_text, path_text, paths_of, place_text, refusal_text, reply_text, turn_text};
 
 use combinator::Path;
 use forwarding::{Place, TurnReply};
@@ -76,6 +76,13 @@ fn fault(alloc: Global, fault: EventFault) -> Result<String, AllocError>
     ensures { IfOk result (λ text. string_bytes text ≡ fault_text fault) }
 {
     format!(in alloc; "no {} {}", fault.code(), fault.name())
+}
+
+/// A line that asks for nothing.
+pub(crate) fn bad_line(alloc: Global) -> Result<String, AllocError>
+    ensures { IfOk result (λ text. string_bytes text ≡ bad_line) }
+{
+    String::from_str(alloc, "no 140 BadLine")
 }
 
 /// Adds the walk of each path of an answer.
