@@ -1,6 +1,4 @@
-//! A network that is told lines: packets that are sent, have their turns and are shown, between
-//! questions for paths, beacons that are ended again, a second that passes, and lines that ask for
-//! nothing.
+//! A network given as lines: whole commands, from the bytes of the lines to those of the replies.
 
 use anyhow::Result;
 use event_lines::run_lines;
@@ -18,7 +16,22 @@ fn start() -> &'static str {
 "#
 }
 
-/// The lines of a packet that do not name it.
+/// What the lines of a work are about.
+#[derive(Clone, Copy)]
+pub(crate) enum About {
+    /// A packet that is sent, turned four times and shown, behind a request for paths, a beacon
+    /// that is ended again, a tick of the clock, and a line that asks for nothing: ten lines.
+    All,
+    /// A packet that is sent, has its three turns and is shown: five lines.
+    Packets,
+    /// A beacon that is begun, passed on and ended, after the segment before has expired and is
+    /// swept: five lines.
+    Beacons,
+    /// A request for paths under an access list and a sequence: one line.
+    Requests,
+}
+
+/// The lines of a packet that do not name it, among others.
 fn around() -> &'static str {
     r#"{"do":"ask","src":"1-ff00:0:112","dst":"1-ff00:0:110","limit":4,"sequence":"0* 1-ff00:0:110"}
 {"do":"terminate","beacon":1,"ia":"1-ff00:0:112"}
@@ -28,11 +41,22 @@ fn around() -> &'static str {
 "#
 }
 
-/// The ten lines of a packet.
-fn push_packet(alloc: Global, text: &mut String, number: u32) -> Result<()> {
-    text.push_str(around())?;
+/// A packet.
+fn sending() -> &'static str {
+    r#"{"do":"send","ask":0,"path":0,"payload":"6869"}
+"#
+}
+
+/// A request under a policy.
+fn asking() -> &'static str {
+    r#"{"do":"ask","src":"1-ff00:0:112","dst":"1-ff00:0:110","limit":4,"acl":["- 2","+"],"sequence":"0* 1-ff00:0:110"}
+"#
+}
+
+/// So many turns of a packet, which is then shown.
+fn push_turns(alloc: Global, text: &mut String, number: u32, count: u8) -> Result<()> {
     let turn = format!(in alloc; "{{\"do\":\"turn\",\"packet\":{number}}}\n")?;
-    for _ in 0..4u8 {
+    for _ in 0..count {
         text.push_str(turn.as_str())?;
     }
     let show = format!(in alloc; "{{\"do\":\"show\",\"packet\":{number}}}\n")?;
@@ -40,11 +64,51 @@ fn push_packet(alloc: Global, text: &mut String, number: u32) -> Result<()> {
     Ok(())
 }
 
-/// Tells a network ten times as many lines, and sums the bytes of the answers.
-pub(crate) fn lines(alloc: Global, count: u32) -> Result<u64> {
+/// A beacon through the three ASes, of which the numbers are the next two, at a second at which the
+/// segment before has expired.
+fn push_beacon(alloc: Global, text: &mut String, number: u32) -> Result<()> {
+    let first = number.saturating_mul(2).saturating_add(2);
+    let second = first.saturating_add(1);
+    let now = number.saturating_mul(21_601).saturating_add(22_601);
+    let clock = format!(in alloc; "{{\"do\":\"tick\",\"now\":{now}}}\n{{\"do\":\"sweep\"}}\n")?;
+    text.push_str(clock.as_str())?;
+    text.push_str(
+        r#"{"do":"originate","ia":"1-ff00:0:110","egress":1,"beta0":4660}
+"#,
+    )?;
+    let passed = format!(in alloc;
+        "{{\"do\":\"extend\",\"beacon\":{first},\"ia\":\"1-ff00:0:111\",\"egress\":2}}\n"
+    )?;
+    text.push_str(passed.as_str())?;
+    let ended = format!(in alloc;
+        "{{\"do\":\"terminate\",\"beacon\":{second},\"ia\":\"1-ff00:0:112\"}}\n"
+    )?;
+    text.push_str(ended.as_str())?;
+    Ok(())
+}
+
+/// The lines of the work with this number.
+fn push_lines(alloc: Global, text: &mut String, about: About, number: u32) -> Result<()> {
+    match about {
+        About::All => {
+            text.push_str(around())?;
+            push_turns(alloc, text, number, 4)
+        }
+        About::Packets => {
+            text.push_str(sending())?;
+            push_turns(alloc, text, number, 3)
+        }
+        About::Beacons => push_beacon(alloc, text, number),
+        About::Requests => Ok(text.push_str(asking())?),
+    }
+}
+
+/// Runs a network over the lines of so many packets, beacons or requests, and sums the bytes of the
+/// answers.
+pub(crate) fn lines(alloc: Global, about: About, count: u32) -> Result<u64> {
     let mut text = String::from_str(alloc, start())?;
     for number in 0..count {
-        push_packet(alloc, &mut text, number)?;
+        push_lines(alloc, &mut text, about, number)?;
     }
     let mut source = Reader::new(text.as_bytes());
     let mut sink = Writer::new(Vec::new(alloc));

@@ -23,6 +23,7 @@ use anyhow::{Context, Result, anyhow};
 use daemons::Asking;
 use input::Input;
 use isd_as::{AsNumber, IfId, Isd, IsdAs};
+use lines::About;
 use packets::Flaw;
 use scion_topology::Topology;
 use std::alloc::Global;
@@ -101,8 +102,9 @@ fn work_on_input<R: io::Input>(rt: &R, alloc: Global, name: &str, count: u32) ->
     }
 }
 
-/// Does the work of this name so many times; lines are ten times as many, and segments that are
-/// made or registered ten thousand times. Answers are of up to so many paths, the first three of 32
+/// Does the work of this name so many times; of lines there are ten for each of `lines`, five for
+/// each packet or beacon and one for each request, and segments that are made or registered are ten
+/// thousand times as many. Answers are of up to so many paths, the first three of 32
 /// paths that there are and the others of 2048. Packets are sent in a network over 64 hop fields,
 /// and carried there by 63 turns each. Flights are a thousand times as many, on so many workers.
 /// Look-ups on a board are as many by each of so many readers, and requests to a daemon by each of
@@ -129,7 +131,10 @@ fn work<R: Threads + Wait + Sync + io::Input>(
         "register" => stores::register(alloc, count),
         "lookup" => stores::look_up(alloc, count),
         "copy-found" => stores::copy(alloc, count),
-        "lines" => lines::lines(alloc, count),
+        "lines" => lines::lines(alloc, About::All, count),
+        "packet-lines" => lines::lines(alloc, About::Packets, count),
+        "beacon-lines" => lines::lines(alloc, About::Beacons, count),
+        "request-lines" => lines::lines(alloc, About::Requests, count),
         "sent-64" => carried::carried(alloc, 0, count),
         "carried-64" => carried::carried(alloc, network::SECOND_END, count),
         "flights-1" => flights::flights(rt, alloc, 1, count),

@@ -5,14 +5,14 @@ ghost use Rattle.std.specs.String.{string_bytes};
 ghost use Rattle.serde_json.specs.View.{view};
 ghost use Rattle.network_core.specs.Seen as events;
 ghost use Rattle.event_lines.specs.Hearing.{heard_as};
-ghost use Rattle.event_lines.specs.Line.{Happens, ask_in, line_in, said_by, untexted_event, worded};
+ghost use Rattle.event_lines.specs.Line.{Happens, ask_in, line_in, said_by, show_in, untexted_event, worded};
 ghost use Rattle.event_lines.specs.Seen.{seen};
 ghost use Rattle.event_lines.specs.Saying.{Replies};
 
 use crate::asked::lend_all;
 use crate::fields::options;
 use crate::hearing::Hearing;
-use crate::line::{Line, ask, happens, payload, show, untexted};
+use crate::line::{Line, ask, payload, show, untexted};
 use crate::text;
 use forwarding::TurnReply;
 use json_fields::document;
@@ -43,19 +43,36 @@ fn answer(alloc: Global, net: &mut Net, line: &Line<'_>) -> Result<String, Alloc
     }
 }
 
-/// What a line is answered if it asks for something and is heard; a bad line otherwise.
+/// What a line is answered if it is heard; a bad line otherwise.
 fn answer_heard(
     alloc: Global,
     hearing: Hearing,
     net: &mut Net,
-    line: Option<Line<'_>>,
+    line: &Line<'_>,
 ) -> Result<String, AllocError>
-    ensures { IfOk result (λ text. Replies net.old
-        (heard_as hearing (option_map seen line.entry)) (string_bytes text) net.new) }
+    ensures { IfOk result (λ text. Replies net.old (heard_as hearing (Some (seen line.now)))
+        (string_bytes text) net.new) }
 {
-    match line {
-        Some(line) if hearing.hears(&line) => answer(alloc, net, &line),
-        _ => text::bad_line(alloc),
+    if hearing.hears(line) {
+        answer(alloc, net, line)
+    } else {
+        text::bad_line(alloc)
+    }
+}
+
+/// What a line is answered that asks where a packet is.
+fn answer_show(
+    alloc: Global,
+    hearing: Hearing,
+    net: &mut Net,
+    value: &Value,
+) -> Result<String, AllocError>
+    ensures { IfOk result (λ text. Replies net.old (heard_as hearing (show_in (view value.now)))
+        (string_bytes text) net.new) }
+{
+    match show(value) {
+        Some(line) => answer_heard(alloc, hearing, net, &line),
+        None => text::bad_line(alloc),
     }
 }
 
@@ -75,7 +92,10 @@ fn answer_ask(
         return text::bad_line(alloc);
     };
     let lent = lend_all(alloc, &options)?;
-    answer_heard(alloc, hearing, net, happens(ask(value, &lent)))
+    match ask(value, &lent) {
+        Some(event) => answer_heard(alloc, hearing, net, &Line::Happens(event)),
+        None => text::bad_line(alloc),
+    }
 }
 
 /// What a line is answered that carries no texts. Its bytes are decoded before they are lent.
@@ -94,12 +114,10 @@ fn answer_untexted(
     let Some(payload) = payload(alloc, word, value)? else {
         return text::bad_line(alloc);
     };
-    answer_heard(
-        alloc,
-        hearing,
-        net,
-        happens(untexted(word, value, &payload)),
-    )
+    match untexted(word, value, &payload) {
+        Some(event) => answer_heard(alloc, hearing, net, &Line::Happens(event)),
+        None => text::bad_line(alloc),
+    }
 }
 
 /// What an object is answered.
@@ -117,7 +135,7 @@ fn answer_object(
         return text::bad_line(alloc);
     };
     match word {
-        "show" => answer_heard(alloc, hearing, net, show(value)),
+        "show" => answer_show(alloc, hearing, net, value),
         "ask" => answer_ask(alloc, hearing, net, value),
         _ => answer_untexted(alloc, hearing, net, word, value),
     }

@@ -1,9 +1,9 @@
 //! What a line asks for.
 
-ghost use Rattle.std.specs.Prelude.{◌≡◌, IfOk, Some, codes, option_map};
+ghost use Rattle.std.specs.Prelude.{◌≡◌, IfOk, None, Ok, Some, codes, option_map};
 ghost use Rattle.serde_json.specs.View.{view};
 ghost use Rattle.network_core.specs.Seen as events;
-ghost use Rattle.event_lines.specs.Line.{Happens, alter_in, ask_in, back_in, bytes_at, cut_in, extend_in, lose_in, mend_in, options_in, originate_in, plain_event, rotate_in, send_in, show_in, terminate_in, tick_in, turn_in, untexted_event};
+ghost use Rattle.event_lines.specs.Line.{alter_in, ask_in, back_in, bytes_at, cut_in, extend_in, lose_in, mend_in, options_in, originate_in, plain_event, rotate_in, send_in, show_in, terminate_in, tick_in, turn_in, untexted_event};
 ghost use Rattle.event_lines.specs.Seen.{payload_in, seen};
 
 use crate::fields::{byte, bytes, ia, interface, long, short};
@@ -24,16 +24,6 @@ pub(crate) enum Line<'a> {
     },
 }
 
-/// The line that asks for this event.
-pub(crate) fn happens<'a>(event: Option<Event<'a>>) -> Option<Line<'a>>
-    ensures { option_map seen result ≡ option_map Happens (option_map events.seen event.entry) }
-{
-    match event {
-        Some(event) => Some(Line::Happens(event)),
-        None => None,
-    }
-}
-
 /// The line that asks where a packet is.
 #[tactic(auto, unfolding(crate::specs::Line::show_in))]
 pub(crate) fn show<'a>(value: &Value) -> Option<Line<'a>>
@@ -45,14 +35,15 @@ pub(crate) fn show<'a>(value: &Value) -> Option<Line<'a>>
 
 /// The bytes that an event carries, a payload or a key, decoded; empty if it carries none. `None`
 /// if they are missing or are no hexadecimal text.
-#[tactic(auto, unfolding(crate::specs::Seen::payload_in))]
+#[tactic(auto, unfolding(crate::specs::Line::untexted_event, crate::specs::Line::send_in, crate::specs::Line::back_in, crate::specs::Line::rotate_in, crate::specs::Seen::payload_in))]
 pub(crate) fn payload(
     alloc: Global,
     word: &str,
     value: &Value,
 ) -> Result<Option<Vec<u8>>, AllocError>
-    ensures { IfOk result (λ o. option_map (λ v. v.items) o
+    ensures bytes { IfOk result (λ o. option_map (λ v. v.items) o
         ≡ payload_in word.now (view value.now)) }
+    ensures none { result ≡ Ok None → untexted_event word.now (view value.now) ≡ None }
 {
     match word {
         "send" => bytes(alloc, value, "payload"),

@@ -61,7 +61,8 @@ fn begin(alloc: Global, line: &[u8], replies: &mut String) -> Result<Net, RunFau
     match Topology::from_json(alloc, line) {
         Ok(topology) => {
             topology.known();
-            push_reply(replies, String::from_str(alloc, "topology ok")?)?;
+            let text = String::from_str(alloc, "topology ok")?;
+            push_reply(replies, text)?;
             Ok(Net::new(alloc, topology))
         }
         Err(OrMemory::Refused(fault)) => {

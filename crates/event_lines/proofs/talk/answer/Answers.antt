@@ -2,5 +2,5 @@
 use Rattle.std.proofs.Common.{rules}
 use Rattle.event_lines.proofs.talk.answer.Goals as goal
 
-pub returns-in_ok-net-in-None-clause-told : goal.returns-in_ok-net-in-None-clause-told
-returns-in_ok-net-in-None-clause-told c = search (rules, c.in-None.is, c.in_ok-net-in-None.ensures c.args.hearing)
+pub returns-in_ok-begin-in-None : goal.returns-in_ok-begin-in-None
+returns-in_ok-begin-in-None c = search (rules, c.in-None.is, c.in_ok-begin-in-None.ensures c.args.hearing)

@@ -10,6 +10,6 @@ returns-in_ok-push_reply-in-Ok c hearing = (
   (
     subst (λ read. Opens read begun_text (Open c.new.result)) (sym c.in-Ok.ensures)
         (refl, (c.known.ensures, ap Open c.new.ensures)),
-    search (rules, c.in_ok-push_reply-in-Ok.ensures),
+    search (rules, c.in_ok-text-in-Ok.ensures.ok, c.in_ok-push_reply-in-Ok.ensures),
   ),
 )

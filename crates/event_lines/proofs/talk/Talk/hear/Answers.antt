@@ -1,5 +1,5 @@
 -- Of the bytes a front was heard, line by line.
-use Rattle.std.proofs.Common.{refl, sym}
+use Rattle.std.proofs.Common.{refl}
 use Rattle.std.proofs.lemmas.Result.{err_from_is_err_and}
 use Rattle.event_lines.specs.Talking.{stage_of, value_of}
 use Rattle.event_lines.proofs.Heard.{heard_none, heard_line, heard_failed, heard_short}
