@@ -109,6 +109,36 @@ impl StepCommand {
         })
     }
 
+    /// What the router knows of its AS. It takes no memory.
+    pub fn view(&self) -> RouterView<'_>
+        ensures { result ≡ self.now.view }
+    {
+        match RouterView::new(
+            self.ia,
+            self.router,
+            &self.key,
+            lent(&self.previous),
+            &self.table,
+        ) {
+            Ok(view) => view,
+            Err(_) => unreachable!(),
+        }
+    }
+
+    /// The second at which the router works.
+    pub fn moment(&self) -> u32
+        ensures { result ≡ self.now.moment }
+    {
+        self.moment
+    }
+
+    /// How the packet came to it.
+    pub fn arrival(&self) -> Arrival
+        ensures { result ≡ self.now.arrival }
+    {
+        self.arrival
+    }
+
     /// The line, without its end, that the turn prints of the packet that the text writes in
     /// hexadecimal, letters of either case, with spaces, tabs, CR and LF at both ends. The text
     /// comes as bytes, which need not be UTF-8.
@@ -121,17 +151,7 @@ impl StepCommand {
         let Some(mut packet) = bytes(alloc, trim(text))? else {
             return Err(StepFault::PacketText);
         };
-        let view = match RouterView::new(
-            self.ia,
-            self.router,
-            &self.key,
-            lent(&self.previous),
-            &self.table,
-        ) {
-            Ok(view) => view,
-            Err(_) => unreachable!(),
-        };
-        match step(&view, self.moment, self.arrival, &mut packet) {
+        match step(&self.view(), self.moment, self.arrival, &mut packet) {
             Ok(outcome) => Ok(outcome_line(alloc, outcome, &packet)?),
             Err(refusal) => Ok(refusal_line(alloc, refusal)?),
         }

@@ -12,5 +12,6 @@ mod texts;
 
 pub use command::StepCommand;
 pub use fault::StepFault;
-pub use fields::number;
+pub use fields::{bytes, number};
+pub use line::refusal_line;
 pub use texts::Texts;

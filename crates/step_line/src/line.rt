@@ -23,8 +23,8 @@ pub(crate) fn outcome_line(
     }
 }
 
-/// The line of a packet that is refused.
-pub(crate) fn refusal_line(alloc: Global, refusal: Refusal) -> Result<String, AllocError>
+/// The line, without its end, of a packet that is refused.
+pub fn refusal_line(alloc: Global, refusal: Refusal) -> Result<String, AllocError>
     ensures { IfOk result (λ line. string_bytes line ≡ refusal_text refusal) }
 {
     match refusal {
