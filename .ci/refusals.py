@@ -30,6 +30,16 @@ Lines: each line after the first.
 | number | name | meaning |
 |---|---|---|
 | 140 | BadLine | The line is no object of the table of lines, or a value in it is out of its range. |
+
+## `scion_ffi`
+A call from another language whose numbers say nothing changes nothing. Its other answers are the
+refusals of `scion_topology`, `path_header` and `router_step` by their numbers.
+
+Calls: `scion_step`, `scion_step_all`.
+
+| number | name | meaning |
+|---|---|---|
+| 9 | BadCall | There is no such kind of link, state of a link or way in, or there are more than 256 interfaces. |
 """
 
 # The type of each crate's refusals, which calls give them, and in answer to which lines.

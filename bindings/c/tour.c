@@ -1,0 +1,200 @@
+/* The turns of README.md by hand, and packets that were cut or changed on their way.
+ *
+ * What is expected is said by the rules of a router, never by what the library answered. The status
+ * is 1 where an answer differs. */
+#include "scion.h"
+#include <stdio.h>
+#include <string.h>
+
+static unsigned count, wrong;
+
+static size_t unhex(const char *text, uint8_t *to) {
+    size_t len = 0;
+    for (unsigned byte; sscanf(text + 2 * len, "%2x", &byte) == 1; len++) to[len] = (uint8_t)byte;
+    return len;
+}
+
+static void expect(const char *what, scion_answer given, unsigned code, unsigned number) {
+    count++;
+    if (given.code == code && given.number == number) return;
+    printf("%s: %u %u, and not %u %u\n", what, given.code, given.number, code, number);
+    wrong++;
+}
+
+static void same(const char *what, const uint8_t *bytes, const uint8_t *wanted, size_t len) {
+    count++;
+    if (memcmp(bytes, wanted, len) == 0) return;
+    printf("%s: other bytes\n", what);
+    wrong++;
+}
+
+/* The packet of README.md: both addresses, a meta field that begins so, an info field, two hops. */
+#define ADDRESSES "0001ff00000001100001ff0000000111"
+#define OWN_HOP "003f00020000"
+#define NEXT_HOP "003f00000001"
+#define PACKET(first, mac) \
+    ADDRESSES first "0020000000b39600000064" OWN_HOP mac NEXT_HOP "a1a2a3a4a5a6"
+#define RIGHT "110e4c1d3dad"
+#define OTHER "b1b2b3b4b5b6"
+enum { LEN = 52, META = 16 };
+
+static uint8_t empty[1];
+static const scion_interface parent = {2, SCION_PARENT, 0, 1};
+static const scion_interface down = {2, SCION_PARENT, 0, 0};
+
+static scion_router router(uint64_t ia, const char *key, const char *previous,
+                           const scion_interface *interfaces, size_t len) {
+    scion_router parts = {ia,
+                          (const uint8_t *)key,
+                          strlen(key),
+                          (const uint8_t *)previous,
+                          strlen(previous),
+                          interfaces,
+                          len,
+                          0};
+    return parts;
+}
+
+/* One turn at 1-ff00:0:111 over a packet that a host sends. */
+static void turn(const char *what, const char *hex, const char *key, const char *previous,
+                 uint32_t now, const scion_interface *link, unsigned code, unsigned number,
+                 const char *after) {
+    uint8_t packet[LEN], wanted[LEN];
+    size_t len = unhex(hex, packet);
+    unhex(after, wanted);
+    scion_router at = router(0x0001ff0000000111, key, previous, link, 1);
+    expect(what, scion_step(&at, now, SCION_FROM_HOST, 0, packet, len), code, number);
+    same(what, packet, wanted, len);
+}
+
+static void turns(void) {
+    const char *right = PACKET("00", RIGHT), *gone = PACKET("01", RIGHT);
+    const char *other = PACKET("00", OTHER);
+    scion_interface kind = {2, 3, 0, 1}, none = {0, SCION_PARENT, 0, 1};
+    turn("over the link", right, "k", "", 100, &parent, SCION_TO_LINK, 2, gone);
+    turn("expired", right, "k", "", 21701, &parent, SCION_EXPIRED, 0, right);
+    turn("link down", right, "k", "", 100, &down, SCION_LINK_DOWN, 0, right);
+    turn("authenticator", other, "k", "", 100, &parent, SCION_BAD_MAC, 0, other);
+    turn("key before", right, "l", "k", 100, &parent, SCION_TO_LINK, 2, gone);
+    turn("no key", right, "", "", 100, &parent, SCION_BAD_FIELD, 0, right);
+    turn("no such kind", right, "k", "", 100, &kind, SCION_BAD_CALL, 0, right);
+    turn("interface 0", right, "k", "", 100, &none, SCION_BAD_FIELD, 0, right);
+}
+
+/* A packet at its path's last hop is delivered; here two routers of the AS and one that is not. */
+static void ends(void) {
+    const char *hex = ADDRESSES "010020000000b39600000064" OWN_HOP OTHER NEXT_HOP "7cc464f73e18";
+    const scion_interface twice[2] = {parent, parent};
+    scion_interface others[1] = {{2, SCION_PARENT, 7, 1}};
+    uint8_t packet[LEN], wanted[LEN];
+    size_t len = unhex(hex, packet);
+    unhex(hex, wanted);
+    scion_router at110 = router(0x0001ff0000000110, "k", "", &parent, 0);
+    expect("delivered", scion_step(&at110, 100, SCION_INSIDE, 0, packet, len), SCION_DELIVER, 0);
+    same("delivered", packet, wanted, len);
+    expect("no way in", scion_step(&at110, 100, 3, 0, packet, len), SCION_BAD_CALL, 0);
+    scion_router doubled = router(0x0001ff0000000110, "k", "", twice, 2);
+    expect("twice", scion_step(&doubled, 100, SCION_INSIDE, 0, packet, len), SCION_DUPLICATE_IF, 0);
+    len = unhex(PACKET("00", RIGHT), packet);
+    scion_router at111 = router(0x0001ff0000000111, "k", "", others, 1);
+    expect("inside", scion_step(&at111, 100, SCION_FROM_HOST, 0, packet, len), SCION_TO_ROUTER, 7);
+    unhex(PACKET("00", RIGHT), wanted);
+    same("inside", packet, wanted, len);
+}
+
+/* What a router answers where one byte is changed by exclusive or. */
+static const struct {
+    unsigned byte, flip, code, number;
+} changes[] = {
+    {7, 0x01, SCION_DESTINATION_AS, 0},
+    {15, 0x01, SCION_SOURCE_AS, 0},
+    {16, 0x01, SCION_INDEX_MISMATCH, 0},
+    {16, 0x02, SCION_BAD_HEADER, SCION_BAD_INDEX},
+    {17, 0x04, SCION_BAD_HEADER, SCION_RESERVED},
+    {18, 0x20, SCION_BAD_HEADER, SCION_SEG_LENS},
+    {18, 0x30, SCION_INDEX_MISMATCH, 0},
+    {20, 0x01, SCION_UNKNOWN_EGRESS, 0},
+    {20, 0x02, SCION_BAD_HEADER, SCION_PEER_FLAG},
+    {28, 0x01, SCION_BAD_HEADER, SCION_ALERT_FLAG},
+};
+
+static void changed(unsigned byte, unsigned flip, unsigned code, unsigned number) {
+    uint8_t packet[LEN], wanted[LEN];
+    scion_router at = router(0x0001ff0000000111, "k", "", &parent, 1);
+    unhex(PACKET("00", RIGHT), packet);
+    packet[byte] ^= (uint8_t)flip;
+    memcpy(wanted, packet, LEN);
+    if (code == SCION_TO_LINK) wanted[META] = 0x01;
+    expect("changed", scion_step(&at, 100, SCION_FROM_HOST, 0, packet, LEN), code, number);
+    same("changed", packet, wanted, LEN);
+}
+
+static void hostile(void) {
+    scion_router at = router(0x0001ff0000000111, "k", "", &parent, 1);
+    for (size_t len = 0; len < LEN; len++) {
+        uint8_t packet[LEN];
+        unhex(PACKET("00", RIGHT), packet);
+        expect("cut off", scion_step(&at, 100, SCION_FROM_HOST, 0, packet, len), SCION_BAD_HEADER,
+               SCION_SHORT);
+    }
+    for (size_t i = 0; i < sizeof changes / sizeof changes[0]; i++)
+        changed(changes[i].byte, changes[i].flip, changes[i].code, changes[i].number);
+    for (unsigned flip = 1; flip < 256; flip++) {
+        for (unsigned byte = 34; byte < 40; byte++) changed(byte, flip, SCION_BAD_MAC, 0);
+        for (unsigned byte = 42; byte < LEN; byte++) changed(byte, flip, SCION_TO_LINK, 2);
+    }
+}
+
+/* Three packets in one call, the first cut off, and none where there is no such router. */
+static void many(void) {
+    uint8_t first[LEN], second[LEN], third[LEN], wanted[LEN];
+    scion_packet packets[3] = {{first, 20, 0, {0, 0}, SCION_FROM_HOST},
+                               {second, LEN, 0, {0, 0}, SCION_FROM_HOST},
+                               {third, LEN, 0, {0, 0}, 9}};
+    unhex(PACKET("00", RIGHT), first);
+    unhex(PACKET("00", RIGHT), second);
+    unhex(PACKET("00", RIGHT), third);
+    unhex(PACKET("00", RIGHT), wanted);
+    scion_router bad = router(0x0001ff0000000111, "", "", &parent, 1);
+    expect("no router", scion_step_all(&bad, 100, packets, 3), SCION_BAD_FIELD, 0);
+    expect("no router", packets[1].answer, 0, 0);
+    same("no router", second, wanted, LEN);
+    scion_router at = router(0x0001ff0000000111, "k", "", &parent, 1);
+    expect("all", scion_step_all(&at, 100, packets, 3), SCION_DONE, 0);
+    expect("first", packets[0].answer, SCION_BAD_HEADER, SCION_SHORT);
+    expect("second", packets[1].answer, SCION_TO_LINK, 2);
+    expect("third", packets[2].answer, SCION_BAD_CALL, 0);
+    same("first", first, wanted, LEN);
+    same("third", third, wanted, LEN);
+    wanted[META] = 0x01;
+    same("second", second, wanted, LEN);
+    expect("none", scion_step_all(&at, 100, packets, 0), SCION_DONE, 0);
+}
+
+static void headers(void) {
+    uint8_t packet[LEN], wanted[LEN], mac[6];
+    unhex(PACKET("00", RIGHT), packet);
+    unhex(ADDRESSES "010020000100b39600000064" NEXT_HOP "a1a2a3a4a5a6" OWN_HOP RIGHT, wanted);
+    expect("header", scion_header_check(packet + META, LEN - META), SCION_DONE, LEN - META);
+    expect("no header", scion_header_check(packet + META, 35), SCION_SHORT, 0);
+    expect("no byte", scion_header_check(empty, 0), SCION_SHORT, 0);
+    expect("way back", scion_header_reverse(packet + META, LEN - META), SCION_DONE, LEN - META);
+    same("way back", packet, wanted, LEN);
+    expect("no way back", scion_header_reverse(packet + META, 35), SCION_SHORT, 0);
+    same("no way back", packet, wanted, LEN);
+    expect("mac", scion_hop_mac((const uint8_t *)"k", 1, 0xb396, 100, 63, 2, 0, mac), SCION_DONE, 0);
+    unhex(RIGHT, wanted);
+    same("mac", mac, wanted, 6);
+    expect("no mac", scion_hop_mac(empty, 0, 0xb396, 100, 63, 2, 0, mac), SCION_BAD_FIELD, 0);
+    same("no mac", mac, wanted, 6);
+}
+
+int main(void) {
+    turns();
+    ends();
+    hostile();
+    many();
+    headers();
+    printf("%u answers, %u wrong\n", count, wrong);
+    return wrong != 0;
+}

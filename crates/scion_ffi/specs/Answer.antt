@@ -1,0 +1,39 @@
+-- What a host is answered: the codes of a C library's calls.
+use Rattle.std.specs.Prelude.{ℕ}
+use Rattle.scion_topology.specs.declared.fault.TopologyFault.{TopologyFault}
+use Rattle.scion_topology.specs.Fault as topology
+use Rattle.path_header.specs.declared.fault.HeaderFault.{HeaderFault}
+use Rattle.path_header.specs.Fault as header
+use Rattle.router_step.specs.declared.outcome.Outcome.{Outcome}
+use Rattle.router_step.specs.declared.outcome.Outcome.TheVariants.{ToLink, ToRouter, Deliver}
+use Rattle.router_step.specs.declared.fault.Refusal.{Refusal}
+use Rattle.router_step.specs.declared.fault.Refusal.TheVariants.{BadHeader}
+use Rattle.router_step.specs.Fault.{code_of}
+use Rattle.scion_ffi.specs.declared.answer.ScionAnswer.{ScionAnswer}
+
+-- the answer of a code and a number
+abbrev pub answer : ℕ → ℕ → ScionAnswer
+answer code number = record { code = code; number = number }
+
+-- the call's numbers say nothing
+abbrev pub bad_call : ScionAnswer
+bad_call = answer 9 0
+
+-- where a packet goes: over a link, to another router of the AS, or to its host
+abbrev pub outcome_answer : Outcome → ScionAnswer
+outcome_answer (ToLink interface) = answer 0 interface
+outcome_answer (ToRouter router) = answer 1 router
+outcome_answer Deliver = answer 2 0
+
+-- why a router refuses it, with the header's refusal where there is no path header
+abbrev pub refusal_answer : Refusal → ScionAnswer
+refusal_answer (BadHeader fault) = answer 90 (header.code_of fault)
+refusal_answer refusal = answer (code_of refusal) 0
+
+-- why there is no router of these parts
+abbrev pub view_answer : TopologyFault → ScionAnswer
+view_answer fault = answer (topology.code_of fault) 0
+
+-- why there is no path header
+abbrev pub header_answer : HeaderFault → ScionAnswer
+header_answer fault = answer (header.code_of fault) 0

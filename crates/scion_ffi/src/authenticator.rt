@@ -1,0 +1,41 @@
+//! The authenticator of a hop.
+
+ghost use Rattle.std.specs.Prelude.{◌≡◌};
+ghost use Rattle.scion_topology.specs.Keys.{key_of};
+ghost use Rattle.hop_mac.specs.Hop.{authenticator};
+ghost use Rattle.scion_ffi.specs.Authenticator.{IsMacAnswered};
+
+use crate::answer::{DONE, ScionAnswer, plain, view_answer};
+use isd_as::IfId;
+use scion_topology::Key;
+
+/// Writes the authenticator of a hop of these values under this key to `mac`.
+///
+/// `code` is 11, and `mac` as before, where the key has no byte or more than 64.
+#[unsafe(no_mangle)]
+pub extern "C" fn scion_hop_mac(
+    key: &[u8],
+    beta: u16,
+    timestamp: u32,
+    exp_time: u8,
+    cons_ingress: u16,
+    cons_egress: u16,
+    mac: &mut [u8; 6],
+) -> ScionAnswer
+    ensures { IsMacAnswered (key_of key.now)
+        (λ key. authenticator key beta timestamp exp_time cons_ingress cons_egress)
+        mac.old mac.new result }
+{
+    let key = match Key::new(key) {
+        Ok(key) => key,
+        Err(fault) => return view_answer(fault),
+    };
+    *mac = key.hop_mac(
+        beta,
+        timestamp,
+        exp_time,
+        IfId(cons_ingress),
+        IfId(cons_egress),
+    );
+    plain(DONE)
+}

@@ -1,0 +1,52 @@
+//! The steps of a router over many packets, for which what it knows is read once.
+
+ghost use Rattle.std.specs.Prelude.{◌≡◌, map};
+ghost use Rattle.scion_topology.specs.View.{View};
+ghost use Rattle.scion_ffi.specs.Packets.{AreStepsAnswered, packet_after, packets_told};
+
+use crate::answer::{DONE, ScionAnswer, plain};
+use crate::parts::{room, view};
+use crate::records::{ScionPacket, ScionRouter};
+use crate::router::step_packet;
+use scion_topology::RouterView;
+
+/// One step over a packet, which takes the answer along.
+#[tactic(auto, unfolding(crate::specs::Packets::packet_after))]
+fn step_one(view: &RouterView<'_>, now: u32, packet: &mut ScionPacket<'_>)
+    ensures { packet.new ≡ packet_after view.now now packet.old }
+{
+    packet.answer = step_packet(view, now, packet.came, packet.interface, packet.bytes);
+}
+
+/// One step over each packet, in their order.
+fn step_each(view: &RouterView<'_>, now: u32, packets: &mut [ScionPacket<'_>])
+    ensures { packets.new ≡ map (packet_after view.now now) packets.old }
+{
+    for packet in packets.iter_mut() {
+        step_one(view, now, packet);
+    }
+}
+
+/// One step of the router over each packet, with an answer each, as of [`crate::scion_step`].
+///
+/// The router's keys are hashed once for all packets, so that a step costs two compressions of a
+/// hash in place of four. The answer of the call is 0 where the steps were done; or it says why
+/// there is no such router (9, 11 or 13), and then every packet is as before, its answer too.
+#[unsafe(no_mangle)]
+pub extern "C" fn scion_step_all(
+    router: &ScionRouter<'_>,
+    now: u32,
+    packets: &mut [ScionPacket<'_>],
+) -> ScionAnswer
+    ensures { AreStepsAnswered (packets_told router.now now packets.old)
+        packets.old packets.new result }
+{
+    let mut room = room();
+    match view(&mut room, router) {
+        Ok(view) => {
+            step_each(&view, now, packets);
+            plain(DONE)
+        }
+        Err(refusal) => refusal,
+    }
+}

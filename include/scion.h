@@ -1,0 +1,123 @@
+/* A router, path headers and authenticators of SCION: each call does what a proved contract says.
+ *
+ * Link libscion_ffi.a, which wants memcpy, memmove and memset and nothing else. A call takes no
+ * memory, keeps no pointer, and returns after a time that the lengths bound. It answers every value
+ * that it is given, so that there is nothing to test before.
+ *
+ * A host keeps three duties, which nothing checks:
+ * - no pointer is null, also where its length is 0;
+ * - each points to as many items as its length says, aligned, and written before;
+ * - while a call runs, nobody else touches what it may write, nor writes what it reads; so two
+ *   packets of one call share no byte.
+ * Calls on different bytes may run on different threads at the same time.
+ */
+#ifndef SCION_H
+#define SCION_H
+#include <stddef.h>
+#include <stdint.h>
+#ifdef __cplusplus
+extern "C" {
+#endif
+
+/* What was done. A call that does not step a packet answers SCION_DONE. */
+enum {
+    SCION_DONE = 0,
+    SCION_TO_LINK = 0,   /* the packet goes over the link at interface `number` */
+    SCION_TO_ROUTER = 1, /* it goes to router `number` of the same AS */
+    SCION_DELIVER = 2    /* it is for a host of this AS */
+};
+
+/* Why a call was refused. Nothing that the host gave has changed then. */
+enum {
+    SCION_BAD_CALL = 9,      /* no such kind, state or way in, or more than 256 interfaces */
+    SCION_BAD_FIELD = 11,    /* a wildcard address, interface 0, or a key of no or over 64 bytes */
+    SCION_DUPLICATE_IF = 13, /* two interfaces have one number */
+
+    SCION_SHORT = 20,        /* the bytes end before the header does */
+    SCION_RESERVED = 21,
+    SCION_PEER_FLAG = 22,
+    SCION_ALERT_FLAG = 23,
+    SCION_SEG_LENS = 24,
+    SCION_TOO_MANY_HOPS = 25,
+    SCION_BAD_INDEX = 26,
+
+    SCION_BAD_HEADER = 90,   /* `number` is one of 20 to 26 */
+    SCION_INDEX_MISMATCH = 91,
+    SCION_WRONG_INGRESS = 92,
+    SCION_EXPIRED = 93,
+    SCION_BAD_MAC = 94,
+    SCION_SOURCE_AS = 95,
+    SCION_DESTINATION_AS = 96,
+    SCION_SWITCH_INSIDE = 97,
+    SCION_UNKNOWN_EGRESS = 98,
+    SCION_LINK_KINDS = 99,
+    SCION_LINK_DOWN = 100
+};
+
+/* What the AS at the far end of a link is: another core AS, a parent, or a child. */
+enum { SCION_CORE = 0, SCION_PARENT = 1, SCION_CHILD = 2 };
+
+/* How a packet came: from a host of the AS, from another router of it, or over a link. */
+enum { SCION_FROM_HOST = 0, SCION_INSIDE = 1, SCION_OVER_LINK = 2 };
+
+typedef struct {
+    uint16_t code;   /* what was done, or the refusal */
+    uint16_t number; /* an interface, a router, a length, or at 90 the header's refusal; else 0 */
+} scion_answer;
+
+typedef struct {
+    uint16_t number; /* not 0 */
+    uint8_t kind;    /* SCION_CORE, SCION_PARENT or SCION_CHILD */
+    uint8_t router;  /* the number of the router that owns it */
+    uint8_t up;      /* 1, or 0 for a link that is down */
+} scion_interface;
+
+typedef struct {
+    uint64_t ia;                       /* of its AS: 16 bits of ISD, then 48 of AS number */
+    const uint8_t *key;                /* in use: 1 to 64 bytes */
+    size_t key_len;
+    const uint8_t *previous;           /* the key before it */
+    size_t previous_len;               /* 0 where there was none, else 1 to 64 */
+    const scion_interface *interfaces; /* of the whole AS, in any order */
+    size_t interfaces_len;             /* at most 256 */
+    uint8_t router;                    /* its number in the AS */
+} scion_router;
+
+typedef struct {
+    uint8_t *bytes;
+    size_t len;
+    uint16_t interface;  /* by which it came, where it came over a link */
+    scion_answer answer; /* written by scion_step_all */
+    uint8_t came;        /* SCION_FROM_HOST, SCION_INSIDE or SCION_OVER_LINK */
+} scion_packet;
+
+/* One step of a router over a packet, in place, at the second `now`. A packet is 8 bytes of
+ * destination, 8 of source, a path header and a payload. Codes: 0, 1, 2; 9, 11, 13; 90 to 100.
+ * Where the packet goes on, the bytes of its header alone may be others; else none is. */
+scion_answer scion_step(const scion_router *router, uint32_t now, uint8_t came, uint16_t interface,
+                        uint8_t *packet, size_t len);
+
+/* One step over each packet, as scion_step does it, with an answer in each. The router's keys are
+ * hashed once for them all. Codes: SCION_DONE; or 9, 11, 13 for a router that cannot be, and then
+ * no packet and no answer has changed. */
+scion_answer scion_step_all(const scion_router *router, uint32_t now, scion_packet *packets,
+                            size_t len);
+
+/* Whether a path header stands at the front of these bytes: SCION_DONE and its length in bytes, at
+ * most 796, or one of 20 to 26. */
+scion_answer scion_header_check(const uint8_t *bytes, size_t len);
+
+/* Turns the path header at the front of these bytes into that of the way back, which is as long.
+ * It answers as scion_header_check does. What stands behind the header stays. */
+scion_answer scion_header_reverse(uint8_t *bytes, size_t len);
+
+/* Writes the authenticator of a hop under a key to `mac`: SCION_DONE, or SCION_BAD_FIELD where the
+ * key has no byte or more than 64. */
+scion_answer scion_hop_mac(const uint8_t *key, size_t key_len, uint16_t beta, uint32_t timestamp,
+                           uint8_t exp_time, uint16_t cons_ingress, uint16_t cons_egress,
+                           uint8_t mac[6]);
+
+#ifdef __cplusplus
+}
+#endif
+#endif
