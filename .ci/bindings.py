@@ -1,7 +1,7 @@
 #!/usr/bin/env python3
 """Checks that the header and the modules of bindings/ fit what the library exports.
 
-It builds the static library by `rt lib`, since `rt ci` proves it and leaves none, and runs the tour
+It builds the static library over what `rt ci` has proved, since that leaves none, and runs the tour
 in C by each compiler that is there (the kit's clang is), and the one in Python. Their answers are
 held to what the rules of a router say. The status is 1 where one differs."""
 import os

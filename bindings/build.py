@@ -53,10 +53,69 @@ def archive(name):
     return os.path.join(TOP, "crates", name, "out", f"lib{name}.a")
 
 
+def used():
+    """What each crate of the repository uses, by its name."""
+    with open(os.path.join(TOP, "crates.txt"), encoding="utf-8") as it:
+        lines = [line.partition("#")[0].partition(":") for line in it]
+    return {front.split()[0]: behind.split() for front, _, behind in lines if front.strip()}
+
+
+def below(uses, name):
+    """The crates of the repository on which this one stands, lowest first."""
+    found = {}
+    for it in (it for it in uses[name] if it in uses):
+        found |= dict.fromkeys([*below(uses, it), it])
+    return list(found)
+
+
+def rlib(name):
+    return os.path.join(TOP, "crates", name, "out", "rlib")
+
+
+def is_current(uses, name):
+    """Whether the archive is newer than all that it is made of."""
+    if not os.path.exists(archive(name)):
+        return False
+    made = os.path.getmtime(archive(name))
+    parts = [
+        os.path.join(TOP, "crates", it, part)
+        for it in [*below(uses, name), name]
+        for part in ("src", "specs", "proofs")
+    ]
+    files = [os.path.join(at, it) for part in parts for at, _, them in os.walk(part) for it in them]
+    return all(os.path.getmtime(it) < made for it in files)
+
+
+def over_gate(uses, name):
+    """The words that prove and build a static library over the libraries that `rt ci` has built.
+    It leaves these without the stamp by which `rt lib` knows them, so that would prove each anew."""
+    words = [os.path.join(kit(), "bin", "rattle"), "build", "--crate-name", name, "src/lib.rt"]
+    rlibs = os.path.join(kit(), "rlibs")
+    for it in ["std", *(it for it in uses[name] if it not in uses)]:
+        words += ["--extern", f"{it}={rlibs}/{it}.rlib"]
+    words += ["-L", f"dependency={rlibs}"]
+    for it in (it for it in uses[name] if it in uses):
+        words += ["--extern", f"{it}={rlib(it)}/{it}.rlib"]
+    for it in below(uses, name):
+        words += ["-L", f"dependency={rlib(it)}"]
+    words += ["--antt-project", os.path.join(kit(), "rattle", "logic", "antt-project.json")]
+    words += ["--logic-built", os.path.join(kit(), "logic_built"), "--links", f"{name}="]
+    words += ["--jobs", "2", "--crate-type", "staticlib"]
+    words += ["--toolchain", os.path.join(kit(), "toolchain"), "--backend", "llvm"]
+    return [*words, "-o", archive(name)]
+
+
 def prove():
-    """Proves and builds each static library; what was proved here before is kept by `rt`."""
+    """Proves and builds each static library, unless it stands and nothing has changed since."""
+    uses = used()
     for name in LIBRARIES:
-        run(["rt", "lib"], os.path.join(TOP, "crates", name))
+        if is_current(uses, name):
+            continue
+        is_built = all(os.path.isdir(f"{rlib(it)}/{it}.rlib") for it in below(uses, name))
+        is_known = any(os.path.exists(f"{rlib(it)}/stamp") for it in below(uses, name))
+        words = over_gate(uses, name) if is_built and not is_known else ["rt", "lib"]
+        os.makedirs(os.path.dirname(archive(name)), exist_ok=True)
+        run(words, os.path.join(TOP, "crates", name))
 
 
 def link_shared(compiler, path):
