@@ -1,0 +1,127 @@
+-- The fields of a packet, each on a line: its bytes in hexadecimal, and what they say.
+use Rattle.std.specs.Prelude.{ℕ, zero, suc, ◌+◌, ◌*◌, ◌/◌, ◌-◌, codes, nat_lt, if◌then◌else◌, List, [], ◌++◌, length, take, drop, Result, Ok, Err}
+use Rattle.std.specs.Fmt.{decimal}
+use Rattle.hex.specs.Hex.{encode_lower}
+use Rattle.isd_as.specs.Address.{canonical}
+use Rattle.hop_mac.specs.Lifetime.{expiry_of}
+use Rattle.path_header.specs.declared.lens.SegLens.{SegLens}
+use Rattle.path_header.specs.declared.fields.InfoField.{InfoField}
+use Rattle.path_header.specs.declared.fields.HopField.{HopField}
+use Rattle.path_header.specs.Value.{HeaderValue, segment_at}
+use Rattle.router_step.specs.declared.fault.Refusal.{Refusal}
+use Rattle.router_step.specs.Place.{info_at, hop_of}
+use Rattle.router_step.specs.Packet.{destination_of, source_of, header_in}
+
+-- so many bytes from a place of the packet on, and what they say
+unfoldable pub field_text : List ℕ → ℕ → ℕ → List ℕ → List ℕ
+field_text packet start len says =
+    encode_lower (take len (drop start packet)) ++ (codes " " ++ (says ++ codes "\n"))
+
+-- a field of an info or a hop field that says a number: `KIND INDEX NAME VALUE`
+unfoldable pub number_text : List ℕ → ℕ → ℕ → List ℕ → ℕ → List ℕ → ℕ → List ℕ
+number_text packet start len kind index name value =
+    field_text packet start len (kind ++ (codes " " ++ (decimal index ++ (codes " " ++ (name
+    ++ (codes " " ++ decimal value))))))
+
+-- ---- addresses and meta field
+
+-- an address
+unfoldable pub address_text : List ℕ → ℕ → List ℕ → ℕ → List ℕ
+address_text packet start name address =
+    field_text packet start 8 (name ++ (codes " " ++ canonical address))
+
+unfoldable pub addresses_text : List ℕ → List ℕ
+addresses_text packet =
+    address_text packet 0 (codes "destination") (destination_of packet)
+    ++ address_text packet 8 (codes "source") (source_of packet)
+
+-- where the packet stands on its path
+unfoldable pub place_text : HeaderValue → List ℕ
+place_text header =
+    codes "at info field " ++ (decimal header.curr_inf ++ (codes ", hop field "
+    ++ decimal header.curr_hf))
+
+-- the number of hop fields of each segment
+unfoldable pub lens_text : SegLens → List ℕ
+lens_text lens =
+    codes "segments of " ++ (decimal lens.first ++ (codes ", " ++ (decimal lens.second
+    ++ (codes " and " ++ (decimal lens.third ++ codes " hop fields")))))
+
+unfoldable pub meta_text : List ℕ → HeaderValue → List ℕ
+meta_text packet header =
+    field_text packet 16 1 (place_text header) ++ field_text packet 17 3 (lens_text header.lens)
+
+-- ---- info and hop fields
+
+-- whether the segment is travelled in the direction in which it was made
+abbrev pub flag_of : InfoField → ℕ
+flag_of info = if info.construction then 1 else 0
+
+-- the info field of this index, which stands at this place
+unfoldable pub info_text : List ℕ → ℕ → ℕ → InfoField → List ℕ
+info_text packet start index info =
+    number_text packet start 2 (codes "info") index (codes "construction direction") (flag_of info)
+    ++ (number_text packet (start + 2) 2 (codes "info") index (codes "accumulator") info.seg_id
+    ++ number_text packet (start + 4) 4 (codes "info") index (codes "made at second")
+    info.timestamp)
+
+-- the last second at which a hop is live whose segment has this timestamp
+abbrev pub last_live : ℕ → HopField → ℕ
+last_live timestamp hop = expiry_of timestamp hop.exp_time / 2
+
+-- the authenticator of the hop field of this index
+unfoldable pub mac_text : List ℕ → ℕ → ℕ → List ℕ
+mac_text packet start index =
+    field_text packet start 6 (codes "hop " ++ (decimal index ++ codes " authenticator"))
+
+-- the hop field of this index, which stands at this place, on a segment of this timestamp
+unfoldable pub hop_text : List ℕ → ℕ → ℕ → ℕ → HopField → List ℕ
+hop_text packet start index timestamp hop =
+    number_text packet start 1 (codes "hop") index (codes "flags") 0
+    ++ (number_text packet (start + 1) 1 (codes "hop") index (codes "live up to second")
+    (last_live timestamp hop)
+    ++ (number_text packet (start + 2) 2 (codes "hop") index (codes "construction ingress")
+    hop.cons_ingress
+    ++ (number_text packet (start + 4) 2 (codes "hop") index (codes "construction egress")
+    hop.cons_egress
+    ++ mac_text packet (start + 6) index)))
+
+-- the lines of each index below this one
+unfoldable pub each_below : (ℕ → List ℕ) → ℕ → List ℕ
+each_below one zero = []
+each_below one (suc n) = each_below one n ++ one n
+
+unfoldable pub infos_text : List ℕ → HeaderValue → ℕ → List ℕ
+infos_text packet header count =
+    each_below (λ i. info_text packet (20 + 8 * i) i (info_at header i)) count
+
+-- the hop field of this index
+abbrev pub hop_field : HeaderValue → ℕ → HopField
+hop_field header index = hop_of (record header { curr_hf = index })
+
+unfoldable pub hops_text : List ℕ → HeaderValue → ℕ → List ℕ
+hops_text packet header count =
+    each_below (λ i. hop_text packet (20 + 8 * length header.infos + 12 * i) i
+    (info_at header (segment_at header.lens i)).timestamp (hop_field header i)) count
+
+-- ---- the packet
+
+-- what follows the header, if anything
+unfoldable pub payload_text : List ℕ → ℕ → List ℕ
+payload_text packet start =
+    if nat_lt start (length packet)
+    then field_text packet start (length packet - start) (codes "payload") else []
+
+-- what stands behind the addresses: a path header and a payload
+unfoldable pub behind_text : List ℕ → Result (HeaderValue × ℕ) Refusal → List ℕ
+behind_text packet (Ok front) =
+    meta_text packet front.0 ++ (infos_text packet front.0 (length front.0.infos)
+    ++ (hops_text packet front.0 (length front.0.hops) ++ payload_text packet (16 + front.1)))
+behind_text packet (Err refusal) =
+    field_text packet 16 (length packet - 16) (codes "no path header")
+
+-- all fields of a packet
+unfoldable pub fields_text : List ℕ → List ℕ
+fields_text packet =
+    if nat_lt (length packet) 16 then field_text packet 0 (length packet) (codes "no addresses")
+    else addresses_text packet ++ behind_text packet (header_in packet)

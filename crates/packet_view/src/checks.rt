@@ -1,0 +1,172 @@
+//! The checks that a router makes of a packet, in their order.
+
+ghost use Rattle.std.specs.Prelude.{◌≡◌, ◌+◌, ◌<◌, ◌++◌, IfOk, OnOk, length};
+ghost use Rattle.scion_topology.specs.View.{entry_of};
+ghost use Rattle.router_step.specs.Place.{way_out};
+ghost use Rattle.packet_view.specs.Checks.{checks_at, checks_of, end_checks, leave_checks, pass_checks, place_checks, switch_checks};
+
+use crate::check::Check;
+use crate::sides::{
+    destination_sides, header_sides, indices_sides, kinds_sides, link_sides, live_sides, mac_sides,
+    owner_sides, source_sides, switch_sides, way_in_sides, way_out_sides,
+};
+use crate::situation::{Situation, way_out};
+use path_header::{HopField, InfoField};
+use router_step::{Arrival, Refusal, destination_in, read_header, source_in};
+use scion_topology::RouterView;
+use std::alloc::{AllocError, Global};
+
+/// Adds the checks of where the packet stands and came in.
+#[tactic(auto, unfolding(crate::specs::Checks::place_checks))]
+fn add_place(alloc: Global, at: &Situation<'_>, checks: &mut Vec<Check>) -> Result<(), AllocError>
+    ensures { OnOk result (checks.new.items ≡ checks.old.items ++ place_checks at.entry.now) }
+{
+    let info = at.info();
+    let hop = at.hop();
+    let sides = indices_sides(alloc, at)?;
+    let holds = at.has_right_indices();
+    checks.push(Check::tested(sides, holds, Refusal::IndexMismatch))?;
+    let sides = way_in_sides(alloc, at, &info, &hop)?;
+    let holds = at.came_in_right(&info, &hop);
+    checks.push(Check::tested(sides, holds, Refusal::WrongIngress))?;
+    Ok(())
+}
+
+/// Adds the checks of a hop: that it is live, and its authenticator right.
+#[tactic(auto, unfolding(crate::specs::Checks::pass_checks))]
+fn add_pass(
+    alloc: Global,
+    four: u8,
+    five: u8,
+    at: &Situation<'_>,
+    info: &InfoField,
+    hop: &HopField,
+    checks: &mut Vec<Check>,
+) -> Result<(), AllocError>
+    ensures { OnOk result (checks.new.items ≡ checks.old.items
+        ++ pass_checks four five at.entry.now.view at.entry.now.now info.now hop.now) }
+{
+    let sides = live_sides(alloc, four, at.now, info, hop)?;
+    checks.push(Check::tested(sides, at.is_live(info, hop), Refusal::Expired))?;
+    let sides = mac_sides(alloc, five, at, info, hop)?;
+    checks.push(Check::tested(sides, at.is_mac_right(info, hop), Refusal::BadMac))?;
+    Ok(())
+}
+
+/// Adds the checks of both addresses.
+#[tactic(auto, unfolding(crate::specs::Checks::end_checks))]
+fn add_end(alloc: Global, at: &Situation<'_>, checks: &mut Vec<Check>) -> Result<(), AllocError>
+    ensures { OnOk result (checks.new.items ≡ checks.old.items ++ end_checks at.entry.now) }
+{
+    let sides = source_sides(alloc, at)?;
+    checks.push(Check::tested(sides, at.has_right_source(), Refusal::SourceAs))?;
+    let sides = destination_sides(alloc, at)?;
+    let holds = at.has_right_destination();
+    checks.push(Check::tested(sides, holds, Refusal::DestinationAs))?;
+    Ok(())
+}
+
+/// Adds the checks of a switch to the next segment.
+#[tactic(auto, unfolding(crate::specs::Checks::switch_checks))]
+fn add_switch(alloc: Global, at: &Situation<'_>, checks: &mut Vec<Check>) -> Result<(), AllocError>
+    requires { at.now.header.curr_hf + 1 < length at.now.header.hops }
+    ensures { OnOk result (checks.new.items ≡ checks.old.items ++ switch_checks at.entry.now) }
+{
+    if !at.ends_segment() {
+        return Ok(());
+    }
+    let sides = switch_sides(alloc, at)?;
+    let holds = at.came_over_link();
+    checks.push(Check::tested(sides, holds, Refusal::SwitchInside))?;
+    let info = at.info_to_leave(true);
+    let hop = at.hop_to_leave(true);
+    add_pass(alloc, 9, 9, at, &info, &hop, checks)
+}
+
+/// Adds the checks of the way out, from this info and hop field.
+#[tactic(auto, unfolding(crate::specs::Checks::leave_checks))]
+fn add_leave(
+    alloc: Global,
+    at: &Situation<'_>,
+    switched: bool,
+    info: &InfoField,
+    hop: &HopField,
+    checks: &mut Vec<Check>,
+) -> Result<(), AllocError>
+    ensures { let out = entry_of at.entry.now.view (way_out info.now hop.now) in
+        OnOk result (checks.new.items ≡ checks.old.items
+        ++ leave_checks at.entry.now.view at.entry.now.arrival switched info.now hop.now out) }
+{
+    let sides = way_out_sides(alloc, at, info, hop)?;
+    let Some(out) = at.view.entry(way_out(info, hop)) else {
+        let verdict = Err(Refusal::UnknownEgress);
+        checks.push(Check { sides, verdict })?;
+        return Ok(());
+    };
+    let verdict = Ok(());
+    checks.push(Check { sides, verdict })?;
+    let sides = kinds_sides(alloc, at, switched, out.kind)?;
+    let holds = at.has_right_kinds(switched, out.kind);
+    checks.push(Check::tested(sides, holds, Refusal::LinkKinds))?;
+    let sides = owner_sides(alloc, at, out)?;
+    checks.push(Check { sides, verdict })?;
+    if out.router == at.view.router() {
+        let sides = link_sides(alloc, out.up)?;
+        checks.push(Check::tested(sides, out.up, Refusal::LinkDown))?;
+    }
+    Ok(())
+}
+
+/// Adds the checks of a packet with a path header.
+#[tactic(auto, unfolding(crate::specs::Checks::checks_at))]
+fn add_checks(alloc: Global, at: &Situation<'_>, checks: &mut Vec<Check>) -> Result<(), AllocError>
+    ensures { OnOk result (checks.new.items ≡ checks.old.items ++ checks_at at.entry.now) }
+{
+    add_place(alloc, at, checks)?;
+    add_pass(alloc, 4, 5, at, &at.info_on_arrival(), &at.hop(), checks)?;
+    add_end(alloc, at, checks)?;
+    if at.is_last() {
+        return Ok(());
+    }
+    add_switch(alloc, at, checks)?;
+    let switched = at.ends_segment();
+    let info = at.info_to_leave(switched);
+    let hop = at.hop_to_leave(switched);
+    add_leave(alloc, at, switched, &info, &hop, checks)
+}
+
+/// The checks that a router of this view makes at the second `now` of a packet that came to it by
+/// `arrival`.
+#[tactic(auto, unfolding(crate::specs::Checks::checks_of))]
+pub(crate) fn checks_of(
+    alloc: Global,
+    view: RouterView<'_>,
+    now: u32,
+    arrival: Arrival,
+    packet: &[u8],
+) -> Result<Vec<Check>, AllocError>
+    ensures { IfOk result (λ checks. checks.items ≡ checks_of view.entry now arrival packet.now) }
+{
+    let mut checks = Vec::new(alloc);
+    let sides = header_sides(alloc, packet)?;
+    match read_header(packet) {
+        Ok((header, _)) => {
+            let verdict = Ok(());
+            checks.push(Check { sides, verdict })?;
+            let at = Situation {
+                view,
+                now,
+                arrival,
+                source: source_in(packet),
+                destination: destination_in(packet),
+                header,
+            };
+            add_checks(alloc, &at, &mut checks)?;
+        }
+        Err(refusal) => {
+            let verdict = Err(refusal);
+            checks.push(Check { sides, verdict })?;
+        }
+    }
+    Ok(checks)
+}
