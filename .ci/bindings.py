@@ -1,9 +1,9 @@
 #!/usr/bin/env python3
-"""Checks that the header and the modules of bindings/ fit what the library exports.
+"""Checks that the header and the modules of bindings/ fit what the libraries export.
 
-It builds the static library over what `rt ci` has proved, since that leaves none, and runs the tour
-in C by each compiler that is there (the kit's clang is), and the one in Python. Their answers are
-held to what the rules of a router say. The status is 1 where one differs."""
+It builds the static libraries over what `rt ci` has proved, since that leaves none, and runs the
+tour in C by each compiler that is there (the kit's clang is), and the one in Python. Their answers
+are held to what the rules of routers and of paths say. The status is 1 where one differs."""
 import os
 import subprocess
 import sys
@@ -28,7 +28,7 @@ def toured(*words):
 
 
 def main():
-    build.prove()
+    build.prove(build.BOTH)
     compilers = list(build.compilers())
     if not compilers:
         print("bindings: no compiler for C, so no tour is run")
@@ -38,8 +38,9 @@ def main():
         for number, compiler in enumerate(compilers):
             program = os.path.join(room, f"tour-by-{os.path.basename(compiler[0][0])}-{number}")
             shared = os.path.join(room, f"libscion-{number}.so")
-            build.link_program(compiler, os.path.join(BINDINGS, "c", "tour.c"), program)
-            build.link_shared(compiler, shared)
+            source = os.path.join(BINDINGS, "c", "tour.c")
+            build.link_program(compiler, build.BOTH, source, program)
+            build.link_shared(compiler, build.BOTH, shared)
             tour = [sys.executable, "-B", os.path.join(BINDINGS, "python", "tour.py"), shared]
             is_well = toured(program) and toured(*tour) and is_well
     return 0 if is_well else 1

@@ -78,6 +78,7 @@ TYPES = {
     ],
     "network_core": [("EventFault", "`Net::step`", "each of the events")],
     "router_workers": [("RunFault", "`run_workers`", "")],
+    "scion_ffi_paths": [("RequestFault", "`scion_paths`", "")],
 }
 
 ENUM = r"((?:^///.*\n)+)(?:^#\[.*\n)*^pub enum NAME \{\n((?:.*\n)*?)^\}"

@@ -1,9 +1,10 @@
 #!/usr/bin/env python3
-"""Builds the library for hosts, and what is linked with it.
+"""Builds the libraries for hosts, and what is linked with them.
 
-    bindings/build.py                 proves and builds the static library, and links of it the
-                                      shared object bindings/out/libscion.so, for Python
+    bindings/build.py                 proves and builds the router's static library, and links of it
+                                      the shared object bindings/out/libscion.so, for Python
     bindings/build.py FILE.c PROGRAM  links a program in C with the static library
+    bindings/build.py --paths ..      the same of both libraries; that of paths stands on more crates
 
 The compiler is $CC, or else cc, or else the clang of the kit that `rt` is of, which needs no headers
 of the machine."""
@@ -15,7 +16,7 @@ import sys
 HERE = os.path.dirname(os.path.realpath(__file__))
 TOP = os.path.dirname(HERE)
 OUT = os.path.join(HERE, "out")
-LIBRARIES = ("scion_ffi",)
+ROUTER, BOTH = ("scion_ffi",), ("scion_ffi", "scion_ffi_paths")
 
 
 def stop(why):
@@ -51,6 +52,11 @@ def run(words, where=TOP):
 
 def archive(name):
     return os.path.join(TOP, "crates", name, "out", f"lib{name}.a")
+
+
+def allocator():
+    """The archive of the kit through which paths are looked for in memory of malloc."""
+    return os.path.join(kit(), "c", "liblibc_c.a")
 
 
 def used():
@@ -105,10 +111,10 @@ def over_gate(uses, name):
     return [*words, "-o", archive(name)]
 
 
-def prove():
-    """Proves and builds each static library, unless it stands and nothing has changed since."""
+def prove(libraries):
+    """Proves and builds static libraries, unless they stand and nothing has changed since."""
     uses = used()
-    for name in LIBRARIES:
+    for name in libraries:
         if is_current(uses, name):
             continue
         is_built = all(os.path.isdir(f"{rlib(it)}/{it}.rlib") for it in below(uses, name))
@@ -118,32 +124,34 @@ def prove():
         run(words, os.path.join(TOP, "crates", name))
 
 
-def link_shared(compiler, path):
-    """Links the shared object of the static libraries."""
+def link_shared(compiler, libraries, path):
+    """Links the shared object of static libraries."""
     front, behind = compiler
-    whole = ["-Wl,--whole-archive", *map(archive, LIBRARIES), "-Wl,--no-whole-archive"]
-    run([*front, "-shared", "-o", path, *whole, *behind])
+    whole = ["-Wl,--whole-archive", *map(archive, libraries), "-Wl,--no-whole-archive"]
+    run([*front, "-shared", "-o", path, *whole, allocator(), *behind])
 
 
-def link_program(compiler, source, path):
-    """Compiles a program in C and links it with the static libraries."""
+def link_program(compiler, libraries, source, path):
+    """Compiles a program in C and links it with static libraries."""
     front, behind = compiler
     flags = ["-O2", "-Wall", "-I", os.path.join(TOP, "include")]
-    run([*front, *flags, "-o", path, source, *map(archive, LIBRARIES), *behind])
+    run([*front, *flags, "-o", path, source, *map(archive, libraries), allocator(), *behind])
 
 
 def main():
     compiler = next(compilers(), None)
     if compiler is None:
         stop("no compiler for C")
-    prove()
+    words = [os.path.abspath(it) for it in sys.argv[1:] if it != "--paths"]
+    if len(words) not in (0, 2):
+        stop("give a file in C and the program's path, or neither")
+    libraries = BOTH if "--paths" in sys.argv else ROUTER
+    prove(libraries)
     os.makedirs(OUT, exist_ok=True)
-    if len(sys.argv) == 1:
-        link_shared(compiler, os.path.join(OUT, "libscion.so"))
-    elif len(sys.argv) == 3:
-        link_program(compiler, *map(os.path.abspath, sys.argv[1:]))
+    if words:
+        link_program(compiler, libraries, *words)
     else:
-        stop("give no words, or a file in C and the program's path")
+        link_shared(compiler, libraries, os.path.join(OUT, "libscion.so"))
 
 
 if __name__ == "__main__":

@@ -1,8 +1,8 @@
 /* A router, path headers and authenticators of SCION: each call does what a proved contract says.
  *
- * Link libscion_ffi.a, which wants memcpy, memmove and memset and nothing else. A call takes no
- * memory, keeps no pointer, and returns after a time that the lengths bound. It answers every value
- * that it is given, so that there is nothing to test before.
+ * Link libscion_ffi.a, which wants memcpy, memmove and memset and nothing else. Its calls take no
+ * memory, keep no pointer, and return after a time that the lengths bound. They answer every value
+ * that they are given, so that there is nothing to test before.
  *
  * A host keeps three duties, which nothing checks:
  * - no pointer is null, also where its length is 0;
@@ -116,6 +116,25 @@ scion_answer scion_header_reverse(uint8_t *bytes, size_t len);
 scion_answer scion_hop_mac(const uint8_t *key, size_t key_len, uint16_t beta, uint32_t timestamp,
                            uint8_t exp_time, uint16_t cons_ingress, uint16_t cons_egress,
                            uint8_t mac[6]);
+
+/* ---- Paths: link libscion_ffi_paths.a, and behind it liblibc_c.a of the kit, which allocates by
+ * malloc, realloc and free. A call gives up all memory that it takes before it returns. */
+
+/* What became of an answer. */
+enum {
+    SCION_WRITTEN = 0,        /* its `len` bytes stand at the front of the room */
+    SCION_ROOM_TOO_SMALL = 1, /* it has `len` bytes, and the room fewer */
+    SCION_OUT_OF_MEMORY = 2
+};
+
+typedef struct {
+    uint16_t status;
+    size_t len;
+} scion_text;
+
+/* Answers a request for paths, an object of JSON, by another one, and writes it to the room, which
+ * stays as it was where the status is not SCION_WRITTEN. docs/library.md has both forms. */
+scion_text scion_paths(const uint8_t *request, size_t request_len, uint8_t *room, size_t room_len);
 
 #ifdef __cplusplus
 }

@@ -14,10 +14,11 @@ static size_t unhex(const char *text, uint8_t *to) {
     return len;
 }
 
-static void expect(const char *what, scion_answer given, unsigned code, unsigned number) {
+static void expect(const char *what, scion_answer given, size_t code, size_t number) {
     count++;
     if (given.code == code && given.number == number) return;
-    printf("%s: %u %u, and not %u %u\n", what, given.code, given.number, code, number);
+    printf("%s: %u %u, and not %u %u\n", what, given.code, given.number, (unsigned)code,
+           (unsigned)number);
     wrong++;
 }
 
@@ -189,12 +190,42 @@ static void headers(void) {
     same("no mac", mac, wanted, 6);
 }
 
+/* The path over three ASes in a row, into a room and into one that is too small by a byte. */
+static void paths(void) {
+    const char *request =
+        "{\"do\":\"ask\",\"src\":\"1-ff00:0:112\",\"dst\":\"1-ff00:0:110\",\"limit\":4,\"now\":1000,"
+        "\"segments\":[{\"beta0\":4660,\"entries\":["
+        "{\"egress\":1,\"exp\":63,\"ia\":\"1-ff00:0:110\",\"ingress\":0,\"mac\":\"aef522c41890\"},"
+        "{\"egress\":2,\"exp\":63,\"ia\":\"1-ff00:0:111\",\"ingress\":1,\"mac\":\"39b948f8a321\"},"
+        "{\"egress\":0,\"exp\":63,\"ia\":\"1-ff00:0:112\",\"ingress\":1,\"mac\":\"ad8a52e6ab61\"}],"
+        "\"kind\":\"intra\",\"timestamp\":1000}]}";
+    const char *wanted =
+        "{\"paths\":[{\"header\":\"0000300000008578000003e8003f00010000ad8a52e6ab61"
+        "003f0001000239b948f8a321003f00000001aef522c41890\",\"pieces\":["
+        "{\"along\":false,\"from\":0,\"segment\":0,\"to\":2}],"
+        "\"walk\":\"1-ff00:0:112#0,1 1-ff00:0:111#2,1 1-ff00:0:110#1,0\"}]}";
+    const char *bad = "{\"code\":150,\"name\":\"BadRequest\"}";
+    uint8_t room[512] = {0}, zeros[512] = {0};
+    size_t len = strlen(wanted);
+    scion_text given = scion_paths((const uint8_t *)request, strlen(request), room, len - 1);
+    expect("room", (scion_answer){given.status, (uint16_t)given.len}, SCION_ROOM_TOO_SMALL, len);
+    same("room", room, zeros, sizeof room);
+    given = scion_paths((const uint8_t *)request, strlen(request), room, sizeof room);
+    expect("path", (scion_answer){given.status, (uint16_t)given.len}, SCION_WRITTEN, len);
+    same("path", room, (const uint8_t *)wanted, len);
+    same("behind", room + len, zeros, sizeof room - len);
+    given = scion_paths(empty, 0, room, sizeof room);
+    expect("bad", (scion_answer){given.status, (uint16_t)given.len}, SCION_WRITTEN, strlen(bad));
+    same("bad", room, (const uint8_t *)bad, strlen(bad));
+}
+
 int main(void) {
     turns();
     ends();
     hostile();
     many();
     headers();
+    paths();
     printf("%u answers, %u wrong\n", count, wrong);
     return wrong != 0;
 }

@@ -6,6 +6,7 @@ what it is given, so that a host has no duties of its own. docs/library.md says 
 import collections
 import ctypes
 import enum
+import json
 
 
 class Kind(enum.IntEnum):
@@ -106,6 +107,10 @@ class _Packet(ctypes.Structure):
     ]
 
 
+class _Text(ctypes.Structure):
+    _fields_ = [("status", ctypes.c_uint16), ("len", ctypes.c_size_t)]
+
+
 _MAC = ctypes.c_uint8 * 6
 
 _CALLS = {
@@ -161,6 +166,9 @@ class Library:
         for name, types in _CALLS.items():
             call = getattr(self._calls, name)
             call.argtypes, call.restype = types, _Answer
+        if hasattr(self._calls, "scion_paths"):
+            paths, slice_of = self._calls.scion_paths, [ctypes.c_char_p, ctypes.c_size_t]
+            paths.argtypes, paths.restype = [*slice_of, *slice_of], _Text
 
     def step(self, router, now, packet):
         """One step of a router over a packet, at the second `now`."""
@@ -199,6 +207,20 @@ class Library:
         values = (beta, timestamp, exp_time, cons_ingress, cons_egress)
         self._done(self._calls.scion_hop_mac(key, len(key), *values, mac))
         return bytes(mac)
+
+    def paths(self, **request):
+        """The answer to a request for paths (docs/library.md), as an object of JSON.
+
+        The shared object is to be linked of both libraries."""
+        text = json.dumps({"do": "ask", **request}).encode()
+        length, status = 4096, 1
+        while status == 1:
+            room = _room(bytes(length))
+            given = self._calls.scion_paths(text, len(text), room, length)
+            status, length = given.status, given.len
+        if status:
+            raise MemoryError
+        return json.loads(room.raw[:length])
 
     @staticmethod
     def _done(given):

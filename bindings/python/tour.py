@@ -109,11 +109,111 @@ class Tour:
         self.refuses("no router", Code.BAD_FIELD, library.step_all, nobody, 100, [])
 
 
+    def segment(self, kind, beta0, hops):
+        """A segment that begins at second 1000 with this accumulator: for each AS its address, key,
+        way in and way out."""
+        entries, beta = [], beta0
+        for ia, key, ingress, egress in hops:
+            mac = self.library.hop_mac(key, beta, 1000, 63, ingress, egress)
+            names = {"ia": ia, "ingress": ingress, "egress": egress, "exp": 63, "mac": mac.hex()}
+            entries.append(names)
+            beta ^= int.from_bytes(mac[:2], "big")
+        return {"kind": kind, "timestamp": 1000, "beta0": beta0, "entries": entries}
+
+    def path(self, what, src, dst, segments, meta, pieces, walk):
+        """The one path between two ASes, whose header begins with this meta field."""
+        asked = {"src": src, "dst": dst, "limit": 8, "now": 1000, "segments": segments}
+        paths = self.library.paths(**asked)["paths"]
+        found = [(it["header"][:8], it["pieces"], it["walk"]) for it in paths]
+        self.expect(what, found, [(meta, pieces, walk)])
+        return bytes.fromhex(paths[0]["header"])
+
+    def turns_along(self, what, packet, turns):
+        """Turns of routers over a packet, each with what it is answered."""
+        for router, came, interface, *wanted in turns:
+            given = self.library.step(router, 1000, Packet(packet, came, interface))
+            self.expect(what, [given.code, given.number], wanted)
+            packet = given.bytes
+
+    def row(self):
+        """Three ASes in a row."""
+        ias = [f"1-ff00:0:11{it}" for it in range(3)]
+        ways = [(0, 1), (1, 2), (1, 0)]
+        keys = [b"a0", b"a1", b"a2"]
+        hops = [(ia, key, *way) for ia, key, way in zip(ias, keys, ways)]
+        segment = self.segment("intra", 4660, hops)
+        macs = [it["mac"] for it in segment["entries"]]
+        self.expect("row", macs, ["aef522c41890", "39b948f8a321", "ad8a52e6ab61"])
+        walk = "1-ff00:0:112#0,1 1-ff00:0:111#2,1 1-ff00:0:110#1,0"
+        pieces = [{"segment": 0, "from": 0, "to": 2, "along": False}]
+        given = self.path("row", ias[2], ias[0], [segment], "00003000", pieces, walk)
+        first, last = 0x0001FF0000000112, 0x0001FF0000000110
+        packet = last.to_bytes(8, "big") + first.to_bytes(8, "big") + given + b"hi"
+        middle = [Interface(1, Kind.PARENT), Interface(2, Kind.CHILD)]
+        at = [
+            Router(first, keys[2], [Interface(1, Kind.PARENT)]),
+            Router(0x0001FF0000000111, keys[1], middle),
+            Router(last, keys[0], [Interface(1, Kind.CHILD)]),
+        ]
+        turns = [
+            (at[0], Came.FROM_HOST, 0, Code.TO_LINK, 1),
+            (at[1], Came.OVER_LINK, 2, Code.TO_LINK, 1),
+            (at[2], Came.OVER_LINK, 1, Code.DELIVER, 0),
+        ]
+        self.turns_along("row", packet, turns)
+
+    def pair(self):
+        """Two ISDs, each a core AS, its child and the child of that."""
+        one, other = [[f"{isd}-ff00:0:{isd}1{it}" for it in range(3)] for isd in (1, 2)]
+        ways = [(0, 1), (1, 2), (1, 0)]
+        up = self.segment("intra", 1, [(ia, b"k", *way) for ia, way in zip(one, ways)])
+        core = self.segment("core", 2, [(one[0], b"k", 0, 2), (other[0], b"k", 1, 0)])
+        ways = [(0, 2), (1, 2), (1, 0)]
+        down = self.segment("intra", 3, [(ia, b"k", *way) for ia, way in zip(other, ways)])
+        pieces = [
+            {"segment": 2, "from": 0, "to": 2, "along": False},
+            {"segment": 1, "from": 0, "to": 1, "along": True},
+            {"segment": 0, "from": 0, "to": 2, "along": True},
+        ]
+        walk = (
+            "1-ff00:0:112#0,1 1-ff00:0:111#2,1 1-ff00:0:110#1,2 "
+            "2-ff00:0:210#1,2 2-ff00:0:211#1,2 2-ff00:0:212#1,0"
+        )
+        self.path("pair", one[2], other[2], [down, core, up], "00003083", pieces, walk)
+
+    def fork(self):
+        """A core AS, its child, and two children of that, by which a path goes without the core."""
+        ias = [f"1-ff00:0:11{it}" for it in range(4)]
+        left = [(ias[0], b"k", 0, 1), (ias[1], b"k", 1, 2), (ias[2], b"k", 1, 0)]
+        right = [(ias[0], b"k", 0, 1), (ias[1], b"k", 1, 3), (ias[3], b"k", 1, 0)]
+        segments = [self.segment("intra", 7, left), self.segment("intra", 7, right)]
+        pieces = [
+            {"segment": 0, "from": 1, "to": 2, "along": False},
+            {"segment": 1, "from": 1, "to": 2, "along": True},
+        ]
+        walk = "1-ff00:0:112#0,1 1-ff00:0:111#2,3 1-ff00:0:113#1,0"
+        self.path("fork", ias[2], ias[3], segments, "00002080", pieces, walk)
+        asked = {"src": ias[2], "dst": ias[3], "limit": 8, "now": 1000, "segments": segments}
+        rows = [
+            ("no path", {"now": 22601}, {"paths": []}),
+            ("denied", {"acl": ["- 1-ff00:0:111", "+"]}, {"paths": []}),
+            ("one AS", {"dst": ias[2]}, {"code": 85, "name": "SameAs"}),
+            ("no limit", {"limit": 0}, {"code": 137, "name": "BadLimit"}),
+            ("no policy", {"sequence": "("}, {"code": 60, "name": "UnexpectedEnd"}),
+            ("no segment", {"segments": [{}]}, {"code": 150, "name": "BadRequest"}),
+        ]
+        for what, change, wanted in rows:
+            self.expect(what, self.library.paths(**{**asked, **change}), wanted)
+
+
 def main():
     tour = Tour(sys.argv[1])
     tour.turns()
     tour.hostile()
     tour.headers()
+    tour.row()
+    tour.pair()
+    tour.fork()
     print(f"{tour.count} answers, {tour.wrong} wrong")
     return 1 if tour.wrong else 0
 

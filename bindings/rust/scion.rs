@@ -99,6 +99,13 @@ impl<'a> Packet<'a> {
     }
 }
 
+/// What became of an answer that was to be written.
+#[repr(C)]
+struct Text {
+    status: u16,
+    len: usize,
+}
+
 /// A router as C has it.
 #[repr(C)]
 struct Parts {
@@ -139,6 +146,7 @@ unsafe extern "C" {
         cons_egress: u16,
         mac: *mut u8,
     ) -> Answer;
+    fn scion_paths(request: *const u8, request_len: usize, room: *mut u8, room_len: usize) -> Text;
 }
 
 impl Router {
@@ -206,5 +214,23 @@ pub fn hop_mac(
         Ok(mac)
     } else {
         Err(given)
+    }
+}
+
+/// The answer to a request for paths, both as JSON; `None` where memory ran out. Who calls it links
+/// `libscion_ffi_paths.a` and the kit's `liblibc_c.a` too.
+pub fn paths(request: &[u8]) -> Option<Vec<u8>> {
+    let mut room = vec![0; 4096];
+    loop {
+        let (bytes, len) = (request.as_ptr(), request.len());
+        let given = unsafe { scion_paths(bytes, len, room.as_mut_ptr(), room.len()) };
+        match given.status {
+            0 => {
+                room.truncate(given.len);
+                return Some(room);
+            }
+            1 => room.resize(given.len, 0),
+            _ => return None,
+        }
     }
 }

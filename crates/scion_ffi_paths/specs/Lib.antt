@@ -1,0 +1,5 @@
+pub mod Fault
+pub mod Asked
+pub mod Text
+pub mod Answer
+pub mod Room

@@ -1,0 +1,50 @@
+-- The text of an answer: JSON without blanks, the names in ascending order.
+use Rattle.std.specs.Prelude.{ℕ, ◌+◌, codes, List, [], ◌∷◌, ◌++◌, Bool, true, false, if◌then◌else◌}
+use Rattle.std.specs.List.{join_by}
+use Rattle.std.specs.Fmt.{decimal}
+use Rattle.hex.specs.Hex.{encode_lower}
+use Rattle.path_header.specs.Spelling.{spelling}
+use Rattle.path_segment.specs.Chain.{Chain}
+use Rattle.path_segment.specs.Tests.{is_same}
+use Rattle.path_verifier.specs.Piece.{PieceValue}
+use Rattle.path_verifier.specs.Walk.{walk_of}
+use Rattle.combinator.specs.Candidate.{PathValue}
+use Rattle.event_lines.specs.Text.{hops_text}
+use Rattle.scion_ffi_paths.specs.declared.fault.RequestFault.{RequestFault}
+use Rattle.scion_ffi_paths.specs.Fault.{code_of, name_of}
+
+-- the place in a list of the first segment that is this one
+unfoldable pub place_of : Chain → List Chain → ℕ
+place_of segment [] = 0
+place_of segment (one ∷ later) = if is_same one segment then 0 else 1 + place_of segment later
+
+-- true or false
+abbrev pub truth_text : Bool → List ℕ
+truth_text true = codes "true"
+truth_text false = codes "false"
+
+-- a piece: its segment's place in the request, the places of its entries, and its direction
+unfoldable pub piece_text : List Chain → PieceValue → List ℕ
+piece_text segments piece =
+    codes "{\"along\":" ++ (truth_text piece.along
+    ++ (codes ",\"from\":" ++ (decimal piece.from
+    ++ (codes ",\"segment\":" ++ (decimal (place_of piece.segment segments)
+    ++ (codes ",\"to\":" ++ (decimal piece.to ++ codes "}")))))))
+
+-- a path: its header in hexadecimal, its pieces in order of travel, and its walk
+unfoldable pub path_text : List Chain → PathValue → List ℕ
+path_text segments path =
+    codes "{\"header\":\"" ++ (encode_lower (spelling path.header)
+    ++ (codes "\",\"pieces\":[" ++ (join_by (piece_text segments) (codes ",") path.pieces
+    ++ (codes "],\"walk\":\"" ++ (hops_text (walk_of path.pieces) ++ codes "\"}")))))
+
+-- the paths that are answered, best first
+unfoldable pub paths_text : List Chain → List PathValue → List ℕ
+paths_text segments paths =
+    codes "{\"paths\":[" ++ (join_by (path_text segments) (codes ",") paths ++ codes "]}")
+
+-- a refusal, by its number and its name
+unfoldable pub fault_text : RequestFault → List ℕ
+fault_text fault =
+    codes "{\"code\":" ++ (decimal (code_of fault)
+    ++ (codes ",\"name\":\"" ++ (name_of fault ++ codes "\"}")))

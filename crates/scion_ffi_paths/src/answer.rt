@@ -1,0 +1,66 @@
+//! The paths that a request is answered.
+
+ghost use Rattle.std.specs.Prelude.{◌≡◌, ◌<◌, [], Ok, IfOk, OnOk};
+ghost use Rattle.refusal.specs.Refusal.{Reads};
+ghost use Rattle.combinator.specs.Fault.{ends_at};
+ghost use Rattle.scion_ffi_paths.specs.Answer.{options_asked, selection_of, stored};
+
+use crate::fault::RequestFault;
+use crate::request::{Request, lend_all};
+use combinator::CombineFault;
+use path_segment::Segment;
+use path_server::{PathStore, SegmentSet, StoreOp};
+use policy_expr::PolicyOption;
+use refusal::OrMemory;
+use std::alloc::{AllocError, Global};
+
+/// The most paths that a request may ask for.
+const MAX_LIMIT: u32 = 64;
+
+/// The options of a request, or the first cause why it is refused.
+#[tactic(auto, unfolding(crate::specs::Answer::options_asked))]
+pub(crate) fn options(
+    alloc: Global,
+    request: &Request,
+) -> Result<Vec<PolicyOption<Global>>, OrMemory<RequestFault>>
+    ensures read { Reads (λ options. options.items) result (options_asked request.now) }
+    ensures some { OnOk result (0 < request.now.limit) }
+    ensures ends { OnOk result (ends_at request.now.src request.now.dst ≡ Ok tt) }
+{
+    if request.limit == 0 || request.limit > MAX_LIMIT {
+        return Err(OrMemory::Refused(RequestFault::BadLimit));
+    }
+    let texts = lend_all(alloc, &request.options)?;
+    let options = match PolicyOption::parse_all(alloc, &texts) {
+        Ok(options) => options,
+        Err(OrMemory::Memory) => return Err(OrMemory::Memory),
+        Err(OrMemory::Refused(fault)) => {
+            return Err(OrMemory::Refused(RequestFault::Policy(fault)));
+        }
+    };
+    if request.src == request.dst {
+        return Err(OrMemory::Refused(RequestFault::Ends(CombineFault::SameAs)));
+    }
+    Ok(options)
+}
+
+/// A store in which each segment was registered, in their order.
+fn store_of(alloc: Global, segments: &[Segment], moment: u32) -> Result<PathStore, AllocError>
+    ensures { IfOk result (λ store. store ≡ stored moment [] segments.now) }
+{
+    let mut store = PathStore::new(alloc);
+    for segment in segments {
+        let own = segment.try_clone(alloc)?;
+        store.apply(alloc, &StoreOp::Register(own, moment))?;
+    }
+    Ok(store)
+}
+
+/// What a look-up gives for a request.
+pub(crate) fn selection(alloc: Global, request: &Request) -> Result<SegmentSet, AllocError>
+    ensures { IfOk result (λ set. set ≡ selection_of request.now) }
+{
+    let moment = request.known.moment;
+    let store = store_of(alloc, &request.known.segments, moment)?;
+    store.segments_for(alloc, request.src, request.dst, moment)
+}

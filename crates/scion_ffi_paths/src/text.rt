@@ -1,0 +1,189 @@
+//! The text of an answer.
+
+ghost use Rattle.std.specs.Prelude.{◌≡◌, ◌++◌, codes, IfOk, OnOk};
+ghost use Rattle.std.specs.List.{join_by};
+ghost use Rattle.std.specs.String.{string_bytes};
+ghost use Rattle.hex.specs.Hex.{encode_lower};
+ghost use Rattle.path_header.specs.Spelling.{spelling};
+ghost use Rattle.event_lines.specs.Text.{hop_text, hops_text};
+ghost use Rattle.scion_ffi_paths.specs.Text.{fault_text, path_text, paths_text, piece_text, place_of, truth_text};
+
+use crate::fault::RequestFault;
+use combinator::{OwnedPiece, Path};
+use path_header::{Header, encode};
+use path_segment::Segment;
+use policy_expr::WalkHop;
+use std::alloc::{AllocError, Global};
+
+/// The most bytes that a header has.
+const MAX_HEADER_LEN: usize = 796;
+
+/// The place of the first of these segments that is this one.
+#[tactic(auto, unfolding(crate::specs::Text::place_of))]
+fn place_of(segment: &Segment, segments: &[Segment]) -> usize
+    ensures { result ≡ place_of segment.now segments.now }
+{
+    for i in 0..segments.len() {
+        if segments[i].is_same(segment) {
+            return i;
+        }
+    }
+    segments.len()
+}
+
+/// True or false.
+fn truth(is_so: bool) -> &'static str
+    ensures { result.now ≡ truth_text is_so }
+{
+    if is_so { "true" } else { "false" }
+}
+
+/// A piece.
+#[tactic(auto, unfolding(crate::specs::Text::piece_text))]
+fn piece(alloc: Global, segments: &[Segment], piece: &OwnedPiece) -> Result<String, AllocError>
+    ensures { IfOk result (λ text. string_bytes text ≡ piece_text segments.now piece.now) }
+{
+    let (along, place) = (truth(piece.along), place_of(&piece.segment, segments));
+    format!(in alloc;
+        "{{\"along\":{},\"from\":{},\"segment\":{},\"to\":{}}}",
+        along, piece.from, place, piece.to
+    )
+}
+
+/// Adds pieces, with a comma between two.
+fn push_pieces(
+    alloc: Global,
+    text: &mut String,
+    segments: &[Segment],
+    pieces: &[OwnedPiece],
+) -> Result<(), AllocError>
+    ensures { OnOk result (string_bytes text.new ≡ string_bytes text.old
+        ++ join_by (piece_text segments.now) (codes ",") pieces.now) }
+{
+    let Some((first, later)) = pieces.split_first() else {
+        return Ok(());
+    };
+    text.push_str(piece(alloc, segments, first)?.as_str())?;
+    for one in later {
+        text.push_str(",")?;
+        text.push_str(piece(alloc, segments, one)?.as_str())?;
+    }
+    Ok(())
+}
+
+/// Pieces, with a comma between two.
+fn pieces(alloc: Global, segments: &[Segment], pieces: &[OwnedPiece]) -> Result<String, AllocError>
+    ensures { IfOk result (λ text. string_bytes text
+        ≡ join_by (piece_text segments.now) (codes ",") pieces.now) }
+{
+    let mut text = String::new(alloc);
+    push_pieces(alloc, &mut text, segments, pieces)?;
+    Ok(text)
+}
+
+/// A hop.
+fn hop(alloc: Global, hop: &WalkHop) -> Result<String, AllocError>
+    ensures { IfOk result (λ text. string_bytes text ≡ hop_text hop.now) }
+{
+    format!(in alloc; "{}#{},{}", hop.ia, hop.ingress, hop.egress)
+}
+
+/// Adds hops, with one space between two.
+fn push_hops(alloc: Global, text: &mut String, hops: &[WalkHop]) -> Result<(), AllocError>
+    ensures { OnOk result (string_bytes text.new ≡ string_bytes text.old ++ hops_text hops.now) }
+{
+    let Some((first, later)) = hops.split_first() else {
+        return Ok(());
+    };
+    text.push_str(hop(alloc, first)?.as_str())?;
+    for one in later {
+        text.push_str(" ")?;
+        text.push_str(hop(alloc, one)?.as_str())?;
+    }
+    Ok(())
+}
+
+/// Hops, with one space between two.
+fn walk(alloc: Global, hops: &[WalkHop]) -> Result<String, AllocError>
+    ensures { IfOk result (λ text. string_bytes text ≡ hops_text hops.now) }
+{
+    let mut text = String::new(alloc);
+    push_hops(alloc, &mut text, hops)?;
+    Ok(text)
+}
+
+/// A header in hexadecimal.
+fn header(alloc: Global, header: &Header) -> Result<String, AllocError>
+    ensures { IfOk result (λ text. string_bytes text ≡ encode_lower (spelling header.now)) }
+{
+    let mut room = [0u8; MAX_HEADER_LEN];
+    let _ = header.encoded_len();
+    match encode(header, &mut room) {
+        Ok(len) => hex::encode(alloc, &room[..len]),
+        Err(_) => unreachable!(),
+    }
+}
+
+/// A path.
+#[tactic(auto, unfolding(crate::specs::Text::path_text))]
+fn path(alloc: Global, segments: &[Segment], path: &Path) -> Result<String, AllocError>
+    ensures { IfOk result (λ text. string_bytes text ≡ path_text segments.now path.now) }
+{
+    let header = header(alloc, path.header())?;
+    let pieces = pieces(alloc, segments, path.pieces())?;
+    let walk = walk(alloc, path.walk())?;
+    format!(in alloc;
+        "{{\"header\":\"{}\",\"pieces\":[{}],\"walk\":\"{}\"}}",
+        header.as_str(),
+        pieces.as_str(),
+        walk.as_str()
+    )
+}
+
+/// Adds paths, with a comma between two.
+fn push_paths(
+    alloc: Global,
+    text: &mut String,
+    segments: &[Segment],
+    paths: &[Path],
+) -> Result<(), AllocError>
+    ensures { OnOk result (string_bytes text.new ≡ string_bytes text.old
+        ++ join_by (path_text segments.now) (codes ",") paths.now) }
+{
+    let Some((first, later)) = paths.split_first() else {
+        return Ok(());
+    };
+    text.push_str(path(alloc, segments, first)?.as_str())?;
+    for one in later {
+        text.push_str(",")?;
+        text.push_str(path(alloc, segments, one)?.as_str())?;
+    }
+    Ok(())
+}
+
+/// The paths that are answered.
+#[tactic(auto, unfolding(crate::specs::Text::paths_text))]
+pub(crate) fn paths(
+    alloc: Global,
+    segments: &[Segment],
+    paths: &[Path],
+) -> Result<String, AllocError>
+    ensures { IfOk result (λ text. string_bytes text ≡ paths_text segments.now paths.now) }
+{
+    let mut text = String::from_str(alloc, "{\"paths\":[")?;
+    push_paths(alloc, &mut text, segments, paths)?;
+    text.push_str("]}")?;
+    Ok(text)
+}
+
+/// A refusal.
+#[tactic(auto, unfolding(crate::specs::Text::fault_text))]
+pub(crate) fn refusal(alloc: Global, fault: RequestFault) -> Result<String, AllocError>
+    ensures { IfOk result (λ text. string_bytes text ≡ fault_text fault) }
+{
+    format!(in alloc;
+        "{{\"code\":{},\"name\":\"{}\"}}",
+        fault.code(),
+        fault.name()
+    )
+}
