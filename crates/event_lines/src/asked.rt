@@ -6,13 +6,13 @@ use std::marker::Model;
 
 /// A policy option of a request for paths: the texts of its policy, and its weight.
 #[derive(Drop)]
-pub(crate) struct AskedOption {
+pub struct AskedOption {
     /// The texts of the access control list, where there is one.
-    pub(crate) acl: Option<AclText>,
+    pub acl: Option<AclText>,
     /// The text of the sequence, where there is one.
-    pub(crate) sequence: Option<String>,
+    pub sequence: Option<String>,
     /// The weight: of the options that leave a path the heaviest is used.
-    pub(crate) weight: u32,
+    pub weight: u32,
 }
 
 impl Model for AskedOption {
@@ -50,10 +50,7 @@ impl AskedOption {
 }
 
 /// The options, lent to a request.
-pub(crate) fn lend_all(
-    alloc: Global,
-    options: &[AskedOption],
-) -> Result<Vec<OptionText<'_>>, AllocError>
+pub fn lend_all(alloc: Global, options: &[AskedOption]) -> Result<Vec<OptionText<'_>>, AllocError>
     ensures { IfOk result (λ lent. lent.items ≡ options.now) }
 {
     let mut lent = Vec::with_capacity(alloc, options.len())?;

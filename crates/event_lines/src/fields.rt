@@ -1,4 +1,4 @@
-//! The members of a line.
+//! The members of a line, for whoever reads objects that have the same ones.
 
 ghost use Rattle.std.specs.Prelude.{◌≡◌, IfOk, IfSome, ◌≤◌, option_map, map};
 ghost use Rattle.std.specs.String.{string_bytes};
@@ -16,7 +16,7 @@ use serde_json::Value;
 use std::alloc::{AllocError, Global};
 
 /// A number of 32 bits.
-pub(crate) fn long(value: &Value, name: &str) -> Option<u32>
+pub fn long(value: &Value, name: &str) -> Option<u32>
     ensures { result ≡ long_at name.now (view value.now) }
 {
     let number = whole(value, name, 0, 4_294_967_295)?;
@@ -49,7 +49,7 @@ pub(crate) fn interface(value: &Value, name: &str) -> Option<IfId>
 
 /// An address.
 #[tactic(auto, unfolding(crate::specs::Line::ia_at))]
-pub(crate) fn ia(value: &Value, name: &str) -> Option<IsdAs>
+pub fn ia(value: &Value, name: &str) -> Option<IsdAs>
     ensures { result ≡ ia_at name.now (view value.now) }
 {
     let text = text(value, name)?;
@@ -193,7 +193,7 @@ fn single(alloc: Global, value: &Value) -> Result<Option<Vec<AskedOption>>, Allo
 }
 
 /// The policy options of a request.
-pub(crate) fn options(alloc: Global, value: &Value) -> Result<Option<Vec<AskedOption>>, AllocError>
+pub fn options(alloc: Global, value: &Value) -> Result<Option<Vec<AskedOption>>, AllocError>
     ensures { IfOk result (λ o. option_map (λ v. v.items) o ≡ options_in (view value.now)) }
 {
     if value.get("options").is_none() {

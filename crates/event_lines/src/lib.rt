@@ -8,7 +8,7 @@
 mod asked;
 mod cutting;
 mod fault;
-mod fields;
+pub mod fields;
 mod happening;
 mod hearing;
 mod line;
@@ -16,6 +16,7 @@ mod run;
 mod talk;
 mod text;
 
+pub use asked::{AskedOption, lend_all};
 pub use fault::RunFault;
 pub use hearing::Hearing;
 pub use run::{listen, run_lines};

@@ -6,8 +6,9 @@ ghost use Rattle.combinator.specs.Fault.{ends_at};
 ghost use Rattle.scion_ffi_paths.specs.Answer.{options_asked, selection_of, stored};
 
 use crate::fault::RequestFault;
-use crate::request::{Request, lend_all};
+use crate::request::Request;
 use combinator::CombineFault;
+use event_lines::lend_all;
 use path_segment::Segment;
 use path_server::{PathStore, SegmentSet, StoreOp};
 use policy_expr::PolicyOption;
@@ -60,7 +61,7 @@ fn store_of(alloc: Global, segments: &[Segment], moment: u32) -> Result<PathStor
 pub(crate) fn selection(alloc: Global, request: &Request) -> Result<SegmentSet, AllocError>
     ensures { IfOk result (λ set. set ≡ selection_of request.now) }
 {
-    let moment = request.known.moment;
-    let store = store_of(alloc, &request.known.segments, moment)?;
+    let moment = request.moment;
+    let store = store_of(alloc, &request.segments, moment)?;
     store.segments_for(alloc, request.src, request.dst, moment)
 }

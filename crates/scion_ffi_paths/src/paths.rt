@@ -28,7 +28,7 @@ fn answer(alloc: Global, request: &Request) -> Result<String, AllocError>
     let set = selection(alloc, request)?;
     let (src, dst, limit) = (request.src, request.dst, request.limit as usize);
     match combine(alloc, &set, src, dst, &options, limit) {
-        Ok(list) => text::paths(alloc, &request.known.segments, list.paths()),
+        Ok(list) => text::paths(alloc, &request.segments, list.paths()),
         Err(OrMemory::Memory) => Err(AllocError),
         Err(OrMemory::Refused(_)) => unreachable!(),
     }
@@ -47,8 +47,8 @@ fn answer_bytes(alloc: Global, bytes: &[u8]) -> Result<String, AllocError>
 /// Writes the paths that answer a request into the room: for each its header, its pieces and its
 /// walk, best first; or why there is no answer, by a number and a name.
 ///
-/// A request is an object of JSON with the members of a line `ask` (`do`, `src`, `dst`, `limit`,
-/// and a policy), and beside them `now` and the list `segments`. The paths are those of
+/// A request is an object of JSON with the members of a line `ask` (`src`, `dst`, `limit`, and a
+/// policy), and beside them `now` and the list `segments`. The paths are those of
 /// [`combinator::combine`] over a look-up in a store in which each segment was registered at `now`.
 #[unsafe(no_mangle)]
 pub extern "C" fn scion_paths(alloc: Global, request: &[u8], room: &mut [u8]) -> ScionText
