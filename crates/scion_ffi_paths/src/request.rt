@@ -2,7 +2,7 @@
 
 ghost use Rattle.std.specs.Prelude.{◌≡◌, IfOk};
 ghost use Rattle.serde_json.specs.View.{view};
-ghost use Rattle.scion_ffi_paths.specs.Asked.{PathsAsked, asked_at, asked_in};
+ghost use Rattle.scion_ffi_paths.specs.Asked.{asked_at, asked_in};
 
 use crate::segment::segments;
 use event_lines::AskedOption;
