@@ -4,10 +4,10 @@
     bindings/build.py                 proves and builds the router's static library, and links of it
                                       the shared object bindings/out/libscion.so, for Python
     bindings/build.py FILE.c PROGRAM  links a program in C with the static library
-    bindings/build.py --paths ..      the same of both libraries; that of paths stands on more crates
+    bindings/build.py --paths ..      the same of both libraries; the second has more crates below
 
-The compiler is $CC, or else cc, or else the clang of the kit that `rt` is of, which needs no headers
-of the machine."""
+The compiler is $CC, or else cc, or else the clang of the kit that `rt` is of, which needs no
+headers of the machine."""
 import os
 import shutil
 import subprocess

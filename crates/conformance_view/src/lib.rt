@@ -1,0 +1,7 @@
+//! Tests of packets that are shown field by field and check by check.
+//!
+//! Worked rows: what no clause says. The packets and the authenticators are those of the README.
+#![tactic(auto)]
+
+#[cfg(test)]
+mod packets;

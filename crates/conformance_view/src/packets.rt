@@ -1,0 +1,110 @@
+use packet_view::packet_lines;
+use std::alloc::Global;
+use std::process::Abort;
+use std::test::Fail;
+use step_line::{StepCommand, StepFault, Texts};
+
+/// A packet of two hops from 1-ff00:0:111 to 1-ff00:0:110, at its first hop.
+const RIGHT: &str =
+    "0001ff00000001100001ff0000000111000020000000b39600000064003f00020000110e4c1d3dad003f00000001a1a2a3a4a5a6";
+
+/// The same packet with a wrong authenticator.
+const WRONG: &str =
+    "0001ff00000001100001ff0000000111000020000000b39600000064003f00020000b1b2b3b4b5b6003f00000001a1a2a3a4a5a6";
+
+/// The same packet cut off by a byte.
+const CUT: &str =
+    "0001ff00000001100001ff0000000111000020000000b39600000064003f00020000b1b2b3b4b5b6003f00000001a1a2a3a4a5";
+
+/// The turn of router 0 of 1-ff00:0:111, at this second and with this key before `6b`, over a
+/// packet of a host.
+fn texts<'a, 'm>(
+    now: &'a str,
+    previous: Option<&'a str>,
+    interfaces: &'m [&'a str],
+) -> Texts<'a, 'm> {
+    Texts {
+        ia: "1-ff00:0:111",
+        router: "0",
+        key: "6b",
+        previous,
+        now,
+        from: "host",
+        interfaces,
+    }
+}
+
+/// Asserts that what is shown of this packet at this turn ends so.
+fn expect_end(
+    rt: &impl Abort,
+    alloc: Global,
+    texts: Texts<'_, '_>,
+    packet: &str,
+    end: &str,
+) -> Result<(), Fail> {
+    let command = StepCommand::from_texts(alloc, texts)?.ok_or("a turn")?;
+    let lines = packet_lines(alloc, &command, packet.as_bytes())?;
+    assert!(rt; lines.as_str().ends_with(end), "{}", lines.as_str());
+    Ok(())
+}
+
+/// The check that fails is the last that is shown, and behind it stands the line of the turn.
+#[test]
+fn refusals(rt: HostRuntime) -> Result<(), Fail> {
+    let own = ["2,parent,0,up"];
+    let rows = [
+        (
+            "21701",
+            RIGHT,
+            "\n4 live: expires at 21700, now 21701: refused 93 Expired\nrefused 93 Expired",
+        ),
+        (
+            "21700",
+            WRONG,
+            "\n4 live: expires at 21700, now 21700: ok\n\
+             5 authenticator: packet b1b2b3b4b5b6, right under the key in use: 110e4c1d3dad: \
+             refused 94 BadMac\nrefused 94 BadMac",
+        ),
+        (
+            "100",
+            CUT,
+            "\n1 header: a packet of 51 bytes: refused 90 BadHeader 20 Short\n\
+             refused 90 BadHeader 20 Short",
+        ),
+    ];
+    for (now, packet, end) in rows {
+        expect_end(&rt, rt.alloc(), texts(now, None, &own), packet, end)?;
+    }
+    Ok(())
+}
+
+/// A link that is down, an interface that the AS does not have, and one of another router.
+#[test]
+fn ways_out(rt: HostRuntime) -> Result<(), Fail> {
+    let rows = [
+        (
+            "2,parent,0,down",
+            "\n13 link: down: refused 100 LinkDown\nrefused 100 LinkDown",
+        ),
+        (
+            "3,parent,0,up",
+            "\n10 way out: interface 2 of no router: refused 98 UnknownEgress\n\
+             refused 98 UnknownEgress",
+        ),
+    ];
+    for (interface, end) in rows {
+        let table = [interface];
+        expect_end(&rt, rt.alloc(), texts("100", None, &table), RIGHT, end)?;
+    }
+    Ok(())
+}
+
+/// Text that is no hexadecimal is refused as `scionet step` refuses it.
+#[test]
+fn bad_text(rt: HostRuntime) -> Result<(), Fail> {
+    let alloc = rt.alloc();
+    let command = StepCommand::from_texts(alloc, texts("100", None, &[]))?.ok_or("a turn")?;
+    let refused = packet_lines(alloc, &command, b"0g");
+    assert!(&rt; matches!(refused, Err(StepFault::PacketText)));
+    Ok(())
+}

@@ -1,0 +1,71 @@
+//! `scionet_view`: shows a packet as a router sees it, field by field and check by check.
+//!
+//! The words, the packet, the faults and the status are those of `scionet`: 0 when it was shown, 2
+//! when the words are refused or ask for help, and 1 after any other fault, whose text goes to
+//! standard error.
+#![tactic(auto)]
+
+mod words;
+
+use commands::{CommandFault, Status, WordsFault, end};
+use packet_view::packet_lines;
+use std::alloc::Global;
+use std::env;
+use std::process::ExitCode;
+use streams::{Reader, Sink, Source, Writer, read_all, write_all};
+use words::{View, asked};
+
+/// The most bytes that standard input may give.
+const MAX_INPUT_LEN: u64 = 67_108_864;
+
+/// The words behind the program's name.
+fn words_behind(rt: &HostRuntime) -> Result<Vec<String>, CommandFault> {
+    let args = match env::args(rt) {
+        Ok(args) => args,
+        Err(error) => {
+            let fault = WordsFault::unreadable(rt.alloc(), &error);
+            return Err(CommandFault::from(fault));
+        }
+    };
+    let words = args.skip(1).collect(rt.alloc())?;
+    Ok(words)
+}
+
+/// Shows what these words ask for, of what the source gives.
+fn show<'a, S: Source, K: Sink>(
+    alloc: Global,
+    words: &'a [&'a str],
+    source: &mut S,
+    sink: &mut K,
+) -> Result<(), CommandFault> {
+    match asked(alloc, words)? {
+        View::Packet(command) => {
+            let packet = read_all(alloc, source, MAX_INPUT_LEN)?;
+            let mut lines = packet_lines(alloc, &command, &packet)?;
+            lines.push_str("\n")?;
+            write_all(sink, lines.as_bytes())?;
+        }
+    }
+    Ok(())
+}
+
+/// Runs the program with its words and its streams.
+fn run(rt: &HostRuntime) -> Result<(), CommandFault> {
+    let alloc = rt.alloc();
+    let given = words_behind(rt)?;
+    let words: Vec<&str> = given.iter().map(|word| word.as_str()).collect(alloc)?;
+    show(
+        alloc,
+        &words,
+        &mut Reader::new(rt.stdin()),
+        &mut Writer::new(rt.stdout()),
+    )
+}
+
+fn main(rt: HostRuntime) -> ExitCode {
+    let status = match run(&rt) {
+        Ok(()) => Status::Done,
+        Err(fault) => end(&fault, &mut Writer::new(rt.stderr())),
+    };
+    ExitCode::from(status.code())
+}
