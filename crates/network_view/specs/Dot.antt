@@ -1,0 +1,85 @@
+-- A network as a picture in the language DOT of graphviz.
+use Rattle.std.specs.Prelude.{ℕ, zero, suc, codes, Bool, true, false, List, [], ◌++◌, flat_map}
+use Rattle.std.specs.Fmt.{decimal}
+use Rattle.isd_as.specs.Address.{canonical, isd_of}
+use Rattle.scion_topology.specs.declared.network.AsEntry.{AsEntry}
+use Rattle.scion_topology.specs.declared.network.End.{End}
+use Rattle.scion_topology.specs.declared.network.Link.{Link}
+use Rattle.scion_topology.specs.declared.network.LinkClass.{LinkClass}
+use Rattle.scion_topology.specs.declared.network.LinkClass.TheVariants.{Core, Child}
+use Rattle.scion_topology.specs.Network.{Network}
+
+-- ---- ASes
+
+-- the name of a router in the picture: its AS and its number
+unfoldable pub router_name : ℕ → ℕ → List ℕ
+router_name ia router = codes "\"" ++ (canonical ia ++ (codes " " ++ (decimal router ++ codes "\"")))
+
+-- a router, with its number
+unfoldable pub router_text : ℕ → ℕ → List ℕ
+router_text ia router = router_name ia router ++ (codes " [label=" ++ (decimal router ++ codes "]; "))
+
+-- the routers of an AS, of which there are so many
+unfoldable pub routers_text : ℕ → ℕ → List ℕ
+routers_text ia zero = []
+routers_text ia (suc router) = routers_text ia router ++ router_text ia router
+
+-- the name of the box of an AS
+unfoldable pub box_name : ℕ → List ℕ
+box_name ia = codes "\"cluster_" ++ (canonical ia ++ codes "\"")
+
+-- how the box of an AS looks: a core AS has a bold line
+unfoldable pub core_text : Bool → List ℕ
+core_text true = codes " core\"; style=bold; "
+core_text false = codes "\"; style=rounded; "
+
+-- the box of an ISD, which is the same for each of its ASes
+unfoldable pub isd_text : ℕ → List ℕ
+isd_text isd =
+    codes "subgraph cluster_" ++ (decimal isd ++ (codes " { label=\"ISD " ++ (decimal isd ++ codes "\"; ")))
+
+-- an AS: a box with its routers, in the box of its ISD
+unfoldable pub as_text : AsEntry → List ℕ
+as_text one =
+    isd_text (isd_of one.ia) ++ (codes "subgraph " ++ (box_name one.ia ++ (codes " { label=\""
+    ++ (canonical one.ia ++ (core_text one.core ++ (routers_text one.ia one.routers ++ codes "} }\n"))))))
+
+-- ---- links
+
+-- the router at an end of a link
+abbrev pub end_name : End → List ℕ
+end_name end = router_name end.ia end.router
+
+-- the kind of a link: between core ASes a thick line, to a child an arrow
+unfoldable pub class_text : LinkClass → List ℕ
+class_text Core = codes "penwidth=3"
+class_text Child = codes "dir=forward"
+
+-- a link that is cut is dashed
+unfoldable pub state_text : Bool → List ℕ
+state_text true = codes "];\n"
+state_text false = codes ", style=dashed];\n"
+
+-- the interfaces of a link, each at its end
+unfoldable pub interfaces_text : Link → List ℕ
+interfaces_text link =
+    codes " [taillabel=" ++ (decimal link.a.number ++ (codes ", headlabel="
+    ++ (decimal link.b.number ++ codes ", ")))
+
+-- a link: a line between the routers that own its interfaces
+unfoldable pub link_text : Link → List ℕ
+link_text link =
+    end_name link.a ++ (codes " -- " ++ (end_name link.b ++ (interfaces_text link
+    ++ (class_text link.class ++ state_text link.up))))
+
+-- ---- the network
+
+-- how the picture is laid out: names below on the left, and the numbers of interfaces small
+abbrev pub layout : List ℕ
+layout = codes "graph network {\nlabelloc=b; labeljust=l; ranksep=1; edge [labeldistance=1.5, fontsize=11];\n"
+
+-- each AS in a box and each link on a line, in the order in which the network lists them
+unfoldable pub dot_of : Network → List ℕ
+dot_of network =
+    layout ++ (flat_map as_text network.ases
+    ++ (flat_map link_text network.links ++ codes "}\n"))

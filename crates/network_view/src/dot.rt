@@ -1,0 +1,179 @@
+ghost use Rattle.std.specs.Prelude.{◌≡◌, IfOk, flat_map};
+ghost use Rattle.std.specs.String.{string_bytes};
+ghost use Rattle.network_view.specs.Dot.{as_text, box_name, class_text, core_text, dot_of, end_name, interfaces_text, isd_text, link_text, router_name, router_text, routers_text, state_text};
+
+use isd_as::{Isd, IsdAs};
+use scion_topology::{AsEntry, End, Link, LinkClass};
+use std::alloc::{AllocError, Global};
+
+/// How the picture is laid out: names below on the left, and the numbers of interfaces small.
+static LAYOUT: &str = "\
+graph network {
+labelloc=b; labeljust=l; ranksep=1; edge [labeldistance=1.5, fontsize=11];
+";
+
+/// The name of a router in the picture.
+#[tactic(auto, unfolding(crate::specs::Dot::router_name))]
+fn router_name(alloc: Global, ia: IsdAs, router: u8) -> Result<String, AllocError>
+    ensures { IfOk result (λ text. string_bytes text ≡ router_name ia router) }
+{
+    format!(in alloc; "\"{ia} {router}\"")
+}
+
+/// A router, with its number.
+#[tactic(auto, unfolding(crate::specs::Dot::router_text))]
+fn router_text(alloc: Global, ia: IsdAs, router: u8) -> Result<String, AllocError>
+    ensures { IfOk result (λ text. string_bytes text ≡ router_text ia router) }
+{
+    let name = router_name(alloc, ia, router)?;
+    format!(in alloc; "{} [label={router}]; ", name.as_str())
+}
+
+/// The routers of an AS, of which there are so many.
+#[tactic(auto, unfolding(crate::specs::Dot::routers_text))]
+fn routers_text(alloc: Global, ia: IsdAs, routers: u8) -> Result<String, AllocError>
+    ensures { IfOk result (λ text. string_bytes text ≡ routers_text ia routers) }
+{
+    let mut text = String::new(alloc);
+    for router in 0..routers {
+        text.push_str(router_text(alloc, ia, router)?.as_str())?;
+    }
+    Ok(text)
+}
+
+/// The name of the box of an AS.
+#[tactic(auto, unfolding(crate::specs::Dot::box_name))]
+fn box_name(alloc: Global, ia: IsdAs) -> Result<String, AllocError>
+    ensures { IfOk result (λ text. string_bytes text ≡ box_name ia) }
+{
+    format!(in alloc; "\"cluster_{ia}\"")
+}
+
+/// How the box of an AS looks.
+#[tactic(auto, unfolding(crate::specs::Dot::core_text))]
+fn core_text(core: bool) -> &'static str
+    ensures { result.now ≡ core_text core }
+{
+    if core {
+        " core\"; style=bold; "
+    } else {
+        "\"; style=rounded; "
+    }
+}
+
+/// The box of an ISD, which is the same for each of its ASes.
+#[tactic(auto, unfolding(crate::specs::Dot::isd_text))]
+fn isd_text(alloc: Global, isd: Isd) -> Result<String, AllocError>
+    ensures { IfOk result (λ text. string_bytes text ≡ isd_text isd) }
+{
+    format!(in alloc; "subgraph cluster_{isd} {{ label=\"ISD {isd}\"; ")
+}
+
+/// An AS: a box with its routers, in the box of its ISD.
+#[tactic(auto, unfolding(crate::specs::Dot::as_text))]
+fn as_text(alloc: Global, one: &AsEntry) -> Result<String, AllocError>
+    ensures { IfOk result (λ text. string_bytes text ≡ as_text one.now) }
+{
+    let isd = isd_text(alloc, one.ia.isd())?;
+    let name = box_name(alloc, one.ia)?;
+    let core = core_text(one.core);
+    let routers = routers_text(alloc, one.ia, one.routers)?;
+    format!(in alloc;
+        "{}subgraph {} {{ label=\"{}{core}{}}} }}\n",
+        isd.as_str(),
+        name.as_str(),
+        one.ia,
+        routers.as_str()
+    )
+}
+
+/// The router at an end of a link.
+fn end_name(alloc: Global, end: &End) -> Result<String, AllocError>
+    ensures { IfOk result (λ text. string_bytes text ≡ end_name end.now) }
+{
+    router_name(alloc, end.ia, end.router)
+}
+
+/// The kind of a link.
+#[tactic(auto, unfolding(crate::specs::Dot::class_text))]
+fn class_text(class: LinkClass) -> &'static str
+    ensures { result.now ≡ class_text class }
+{
+    match class {
+        LinkClass::Core => "penwidth=3",
+        LinkClass::Child => "dir=forward",
+    }
+}
+
+/// Whether a link is cut.
+#[tactic(auto, unfolding(crate::specs::Dot::state_text))]
+fn state_text(up: bool) -> &'static str
+    ensures { result.now ≡ state_text up }
+{
+    if up { "];\n" } else { ", style=dashed];\n" }
+}
+
+/// The interfaces of a link, each at its end.
+#[tactic(auto, unfolding(crate::specs::Dot::interfaces_text))]
+fn interfaces_text(alloc: Global, link: &Link) -> Result<String, AllocError>
+    ensures { IfOk result (λ text. string_bytes text ≡ interfaces_text link.now) }
+{
+    format!(in alloc;
+        " [taillabel={}, headlabel={}, ",
+        link.a.number, link.b.number
+    )
+}
+
+/// A link: a line between the routers that own its interfaces.
+#[tactic(auto, unfolding(crate::specs::Dot::link_text))]
+fn link_text(alloc: Global, link: &Link) -> Result<String, AllocError>
+    ensures { IfOk result (λ text. string_bytes text ≡ link_text link.now) }
+{
+    let a = end_name(alloc, &link.a)?;
+    let b = end_name(alloc, &link.b)?;
+    let interfaces = interfaces_text(alloc, link)?;
+    let class = class_text(link.class);
+    let state = state_text(link.up);
+    format!(in alloc;
+        "{} -- {}{}{class}{state}",
+        a.as_str(),
+        b.as_str(),
+        interfaces.as_str()
+    )
+}
+
+/// The boxes of these ASes.
+fn boxes(alloc: Global, ases: &[AsEntry]) -> Result<String, AllocError>
+    ensures { IfOk result (λ text. string_bytes text ≡ flat_map as_text ases.now) }
+{
+    let mut text = String::new(alloc);
+    for one in ases {
+        text.push_str(as_text(alloc, one)?.as_str())?;
+    }
+    Ok(text)
+}
+
+/// The lines of these links.
+fn lines(alloc: Global, links: &[Link]) -> Result<String, AllocError>
+    ensures { IfOk result (λ text. string_bytes text ≡ flat_map link_text links.now) }
+{
+    let mut text = String::new(alloc);
+    for link in links {
+        text.push_str(link_text(alloc, link)?.as_str())?;
+    }
+    Ok(text)
+}
+
+/// The picture of the network of these ASes and links: a box for each AS and a line for each link,
+/// in their order.
+///
+/// `AllocError` for want of memory.
+#[tactic(auto, unfolding(crate::specs::Dot::dot_of))]
+pub fn network_dot(alloc: Global, ases: &[AsEntry], links: &[Link]) -> Result<String, AllocError>
+    ensures { IfOk result (λ text. string_bytes text
+        ≡ dot_of (record { ases = ases.now; links = links.now })) }
+{
+    let boxes = boxes(alloc, ases)?;
+    let lines = lines(alloc, links)?;
+    format!(in alloc; "{LAYOUT}{}{}}}\n", boxes.as_str(), lines.as_str())
+}
