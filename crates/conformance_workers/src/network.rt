@@ -57,11 +57,14 @@ fn network_once(alloc: Global, ways: &[(IsdAs, IsdAs)]) -> Result<Net, RunFault>
     listen(alloc, Hearing::All, &mut source, &mut sink)
 }
 
-/// The same, made once more if memory ran out and that may be.
+/// The same, made once more if memory ran out and that may be. The replies go into a vector, so a
+/// write fails only if memory runs out.
 pub(crate) fn network(alloc: Global, ways: &[(IsdAs, IsdAs)], shortage: &Shortage) -> Option<Net> {
     match network_once(alloc, ways) {
         Ok(net) => Some(net),
-        Err(RunFault::Memory) if shortage.may_want() => network_once(alloc, ways).ok(),
+        Err(RunFault::Memory | RunFault::Write) if shortage.may_want() => {
+            network_once(alloc, ways).ok()
+        }
         Err(_) => None,
     }
 }
