@@ -1,8 +1,8 @@
 """Prints the picture of the crates that README.md has, drawn from crates.txt.
 
 With --check it compares, and fails where README.md has another picture, lacks a row for a crate, or
-has a row for one that crates.txt doesn't list. An arrow that follows from two others is left out, and
-so are the crates of tests.
+has a row for one that crates.txt doesn't list. An arrow that follows from two others is left out,
+and so are the crates of tests.
 """
 import re
 import sys

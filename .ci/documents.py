@@ -1,8 +1,8 @@
 #!/usr/bin/env python3
 """Runs the commands of README.md and docs/tutorial.md, and compares what they print.
 
-In a block of a document a line that begins with `$ ` is a command, `> ` goes on with it, and the lines
-behind it are what it prints. The commands of a document run one after the other in one shell, in
+In a block of a document a line that begins with `$ ` is a command, `> ` goes on with it, and the
+lines behind it are what it prints. The commands of a document run one after the other in one shell, in
 `crates/scionet`, over the program that `rt ci` has proved and built: in sh, and in zsh where it is.
 """
 import re
@@ -27,7 +27,8 @@ def commands(text):
 def printed(shell, asked):
     """What the shell prints at each of these commands, one after the other."""
     script = "".join(f"{{ {it}}} 2>&1\necho '{MARK}'\n" for it in asked)
-    done = subprocess.run([shell], input=script, cwd="crates/scionet", capture_output=True, text=True)
+    how = {"cwd": "crates/scionet", "capture_output": True, "text": True}
+    done = subprocess.run([shell], input=script, **how)
     return done.stdout.split(f"{MARK}\n")
 
 
@@ -43,7 +44,8 @@ def main():
                 count += 1
                 if is_so != wanted:
                     wrong += 1
-                    print(f"documents: {name}, in {shell}: {command}printed {is_so!r}, not {wanted!r}")
+                    print(f"documents: {name}, in {shell}: {command}")
+                    print(f"documents: it printed {is_so!r}, not {wanted!r}")
     print(f"documents: {count} commands, {wrong} wrong")
     return 1 if wrong else 0
 
