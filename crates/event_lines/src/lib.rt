@@ -20,4 +20,4 @@ pub use asked::{AskedOption, lend_all};
 pub use fault::RunFault;
 pub use hearing::Hearing;
 pub use run::{listen, run_lines};
-pub use text::refusal_text;
+pub use text::{hops_text, refusal_text};

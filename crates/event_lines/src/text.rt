@@ -33,6 +33,15 @@ fn push_hops(alloc: Global, text: &mut String, hops: &[WalkHop]) -> Result<(), A
     Ok(())
 }
 
+/// Hops as lines tell them: `ISD-AS#INGRESS,EGRESS`, with one space between two.
+pub fn hops_text(alloc: Global, hops: &[WalkHop]) -> Result<String, AllocError>
+    ensures { IfOk result (λ text. string_bytes text ≡ hops_text hops.now) }
+{
+    let mut text = String::new(alloc);
+    push_hops(alloc, &mut text, hops)?;
+    Ok(text)
+}
+
 /// A router's refusal as lines tell it: its number and its name, and of a packet without a path
 /// header the header's too.
 pub fn refusal_text(alloc: Global, refusal: Refusal) -> Result<String, AllocError>

@@ -28,21 +28,22 @@ impl Segment {
         ensures { Reads (λ s. s) result (segment_in bytes.now) }
     {
         let value = document(alloc, bytes)?.ok_or(SegmentFault::NotJson)?;
-        segment_of(alloc, &value)
+        Segment::from_value(alloc, &value)
     }
-}
 
-/// The segment of a JSON value.
-#[tactic(auto, unfolding(crate::specs::Reading::chain_at))]
-fn segment_of(alloc: Global, value: &Value) -> Result<Segment, SegmentError>
-    ensures { Reads (λ s. s) result (judged (chain_at (view value.now))) }
-{
-    let kind = kind(value, "kind").ok_or(SegmentFault::NotJson)?;
-    let timestamp = whole(value, "timestamp", 0, 4_294_967_295).ok_or(SegmentFault::NotJson)?;
-    let beta0 = whole(value, "beta0", 0, 65535).ok_or(SegmentFault::NotJson)?;
-    let values = list(value, "entries").ok_or(SegmentFault::NotJson)?;
-    let entries = items(alloc, values, entry_of)?.ok_or(SegmentFault::NotJson)?;
-    Ok(Segment::new(kind, timestamp as u32, beta0 as u16, entries)?)
+    /// The segment that a JSON value describes, as [`Segment::from_json`] has it, with the same
+    /// refusals.
+    #[tactic(auto, unfolding(crate::specs::Reading::chain_at))]
+    pub fn from_value(alloc: Global, value: &Value) -> Result<Segment, SegmentError>
+        ensures { Reads (λ s. s) result (judged (chain_at (view value.now))) }
+    {
+        let kind = kind(value, "kind").ok_or(SegmentFault::NotJson)?;
+        let timestamp = whole(value, "timestamp", 0, 4_294_967_295).ok_or(SegmentFault::NotJson)?;
+        let beta0 = whole(value, "beta0", 0, 65535).ok_or(SegmentFault::NotJson)?;
+        let values = list(value, "entries").ok_or(SegmentFault::NotJson)?;
+        let entries = items(alloc, values, entry_of)?.ok_or(SegmentFault::NotJson)?;
+        Ok(Segment::new(kind, timestamp as u32, beta0 as u16, entries)?)
+    }
 }
 
 /// An entry.

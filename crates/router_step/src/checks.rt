@@ -1,4 +1,6 @@
 //! The tests that a router makes, each as its definition says it.
+//!
+//! [`step`](crate::step) makes them in their order; who shows a packet asks them one by one.
 
 ghost use Rattle.std.specs.Prelude.{◌≡◌};
 ghost use Rattle.router_step.specs.Place.{is_over_link};
@@ -14,14 +16,14 @@ use path_header::{HopField, InfoField, SegLens};
 use scion_topology::{LinkKind, RouterView};
 
 /// Whether no segment has a single hop field.
-pub(crate) fn has_no_single(lens: SegLens) -> bool
+pub fn has_no_single(lens: SegLens) -> bool
     ensures { result ≡ has_no_single lens }
 {
     lens.first != 1 && lens.second != 1 && lens.third != 1
 }
 
 /// Whether a packet may start at this hop field, where a host sends it.
-pub(crate) fn is_start_right(arrival: &Arrival, hop: usize) -> bool
+pub fn is_start_right(arrival: &Arrival, hop: usize) -> bool
     ensures { result ≡ is_start_right arrival.now hop }
 {
     match *arrival {
@@ -31,7 +33,7 @@ pub(crate) fn is_start_right(arrival: &Arrival, hop: usize) -> bool
 }
 
 /// Whether the packet came over a link.
-pub(crate) fn is_over_link(arrival: &Arrival) -> bool
+pub fn is_over_link(arrival: &Arrival) -> bool
     ensures { result ≡ is_over_link arrival.now }
 {
     match *arrival {
@@ -41,7 +43,7 @@ pub(crate) fn is_over_link(arrival: &Arrival) -> bool
 }
 
 /// Whether the interface belongs to the view's router.
-fn is_owned(view: &RouterView<'_>, interface: IfId) -> bool
+pub fn is_owned(view: &RouterView<'_>, interface: IfId) -> bool
     ensures { result ≡ is_owned view.now interface }
 {
     match view.entry(interface) {
@@ -51,7 +53,7 @@ fn is_owned(view: &RouterView<'_>, interface: IfId) -> bool
 }
 
 /// Whether a packet that came over a link came in where it may.
-pub(crate) fn way_in_fits(
+pub fn way_in_fits(
     view: &RouterView<'_>,
     arrival: &Arrival,
     info: &InfoField,
@@ -66,14 +68,14 @@ pub(crate) fn way_in_fits(
 }
 
 /// Whether the hop is live.
-fn is_live(now: u32, info: &InfoField, hop: &HopField) -> bool
+pub fn is_live(now: u32, info: &InfoField, hop: &HopField) -> bool
     ensures { result ≡ is_live now info.now hop.now }
 {
     hop_is_live(info.timestamp, hop.exp_time, now)
 }
 
 /// Whether the hop's authenticator is right under the accumulator of its segment.
-fn is_mac_right(view: &RouterView<'_>, info: &InfoField, hop: &HopField) -> bool
+pub fn is_mac_right(view: &RouterView<'_>, info: &InfoField, hop: &HopField) -> bool
     ensures { result ≡ is_mac_right view.now info.now hop.now }
 {
     view.authenticates(
@@ -106,7 +108,7 @@ pub(crate) fn pass(
 }
 
 /// Whether the source fits how the packet came.
-pub(crate) fn source_fits(view: &RouterView<'_>, arrival: &Arrival, source: IsdAs) -> bool
+pub fn source_fits(view: &RouterView<'_>, arrival: &Arrival, source: IsdAs) -> bool
     ensures { result ≡ source_fits view.now arrival.now source }
 {
     match *arrival {
@@ -117,7 +119,7 @@ pub(crate) fn source_fits(view: &RouterView<'_>, arrival: &Arrival, source: IsdA
 }
 
 /// Whether the packet is for this AS exactly where its path ends here.
-pub(crate) fn destination_fits(view: &RouterView<'_>, destination: IsdAs, last: bool) -> bool
+pub fn destination_fits(view: &RouterView<'_>, destination: IsdAs, last: bool) -> bool
     ensures { result ≡ destination_fits view.now destination last }
 {
     (destination == view.ia()) == last
@@ -125,7 +127,7 @@ pub(crate) fn destination_fits(view: &RouterView<'_>, destination: IsdAs, last: 
 
 /// Whether a path may go from a link of one kind to one of the other, with a switch to another
 /// segment between them or without.
-fn are_joined(switched: bool, from: LinkKind, to: LinkKind) -> bool
+pub fn are_joined(switched: bool, from: LinkKind, to: LinkKind) -> bool
     ensures { result ≡ are_joined switched from to }
 {
     match (switched, from, to) {
@@ -140,7 +142,7 @@ fn are_joined(switched: bool, from: LinkKind, to: LinkKind) -> bool
 }
 
 /// Whether the links by which the packet comes in and goes out may be joined.
-pub(crate) fn kinds_fit(
+pub fn kinds_fit(
     view: &RouterView<'_>,
     arrival: &Arrival,
     switched: bool,

@@ -6,7 +6,7 @@
 #![tactic(auto)]
 
 mod arrival;
-mod checks;
+pub mod checks;
 mod fault;
 pub mod laws;
 mod outcome;
@@ -18,3 +18,4 @@ pub use arrival::Arrival;
 pub use fault::Refusal;
 pub use outcome::Outcome;
 pub use packet::{destination_in, read_header, source_in, step};
+pub use place::{seg_id_on_arrival, way_in, way_out};

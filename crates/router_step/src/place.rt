@@ -26,7 +26,7 @@ pub(crate) fn hop_at(header: &HeaderMut<'_>) -> HopField
 }
 
 /// The interface by which a packet that travels this segment comes into the hop's AS.
-pub(crate) fn way_in(info: &InfoField, hop: &HopField) -> IfId
+pub fn way_in(info: &InfoField, hop: &HopField) -> IfId
     ensures { result ≡ way_in info.now hop.now }
 {
     if info.construction {
@@ -37,7 +37,7 @@ pub(crate) fn way_in(info: &InfoField, hop: &HopField) -> IfId
 }
 
 /// The interface by which it leaves.
-pub(crate) fn way_out(info: &InfoField, hop: &HopField) -> IfId
+pub fn way_out(info: &InfoField, hop: &HopField) -> IfId
     ensures { result ≡ way_out info.now hop.now }
 {
     if info.construction {
@@ -48,7 +48,7 @@ pub(crate) fn way_out(info: &InfoField, hop: &HopField) -> IfId
 }
 
 /// The accumulator on arrival: over a link and against construction direction that of one hop back.
-fn seg_id_on_arrival(arrival: &Arrival, info: &InfoField, hop: &HopField) -> u16
+pub fn seg_id_on_arrival(arrival: &Arrival, info: &InfoField, hop: &HopField) -> u16
     ensures { result ≡ seg_id_on_arrival arrival.now info.now hop.now }
 {
     match *arrival {

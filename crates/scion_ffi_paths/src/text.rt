@@ -5,14 +5,14 @@ ghost use Rattle.std.specs.List.{join_by};
 ghost use Rattle.std.specs.String.{string_bytes};
 ghost use Rattle.hex.specs.Hex.{encode_lower};
 ghost use Rattle.path_header.specs.Spelling.{spelling};
-ghost use Rattle.event_lines.specs.Text.{hop_text, hops_text};
+ghost use Rattle.event_lines.specs.Text.{hops_text};
 ghost use Rattle.scion_ffi_paths.specs.Text.{fault_text, path_text, paths_text, piece_text, place_of, truth_text};
 
 use crate::fault::RequestFault;
 use combinator::{OwnedPiece, Path};
+use event_lines::hops_text;
 use path_header::{Header, encode};
 use path_segment::Segment;
-use policy_expr::WalkHop;
 use std::alloc::{AllocError, Global};
 
 /// The most bytes that a header has.
@@ -81,37 +81,6 @@ fn pieces(alloc: Global, segments: &[Segment], pieces: &[OwnedPiece]) -> Result<
     Ok(text)
 }
 
-/// A hop.
-fn hop(alloc: Global, hop: &WalkHop) -> Result<String, AllocError>
-    ensures { IfOk result (λ text. string_bytes text ≡ hop_text hop.now) }
-{
-    format!(in alloc; "{}#{},{}", hop.ia, hop.ingress, hop.egress)
-}
-
-/// Adds hops, with one space between two.
-fn push_hops(alloc: Global, text: &mut String, hops: &[WalkHop]) -> Result<(), AllocError>
-    ensures { OnOk result (string_bytes text.new ≡ string_bytes text.old ++ hops_text hops.now) }
-{
-    let Some((first, later)) = hops.split_first() else {
-        return Ok(());
-    };
-    text.push_str(hop(alloc, first)?.as_str())?;
-    for one in later {
-        text.push_str(" ")?;
-        text.push_str(hop(alloc, one)?.as_str())?;
-    }
-    Ok(())
-}
-
-/// Hops, with one space between two.
-fn walk(alloc: Global, hops: &[WalkHop]) -> Result<String, AllocError>
-    ensures { IfOk result (λ text. string_bytes text ≡ hops_text hops.now) }
-{
-    let mut text = String::new(alloc);
-    push_hops(alloc, &mut text, hops)?;
-    Ok(text)
-}
-
 /// A header in hexadecimal.
 fn header(alloc: Global, header: &Header) -> Result<String, AllocError>
     ensures { IfOk result (λ text. string_bytes text ≡ encode_lower (spelling header.now)) }
@@ -131,7 +100,7 @@ fn path(alloc: Global, segments: &[Segment], path: &Path) -> Result<String, Allo
 {
     let header = header(alloc, path.header())?;
     let pieces = pieces(alloc, segments, path.pieces())?;
-    let walk = walk(alloc, path.walk())?;
+    let walk = hops_text(alloc, path.walk())?;
     format!(in alloc;
         "{{\"header\":\"{}\",\"pieces\":[{}],\"walk\":\"{}\"}}",
         header.as_str(),

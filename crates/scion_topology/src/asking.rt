@@ -14,6 +14,20 @@ use crate::view::RouterView;
 use isd_as::{IfId, IsdAs};
 
 impl Topology {
+    /// The ASes, in the order in which they were read.
+    pub fn ases(&self) -> &[AsEntry]
+        ensures { result.now ≡ self.now.ases }
+    {
+        &self.ases
+    }
+
+    /// The links, in the order in which they were read.
+    pub fn links(&self) -> &[Link]
+        ensures { result.now ≡ self.now.links }
+    {
+        &self.links
+    }
+
     /// What the topology says of an AS: [`TopologyFault::UnknownAs`] where it isn't listed.
     #[tactic(auto, unfolding(crate::specs::Topology::info_in))]
     pub fn as_info(&self, ia: IsdAs) -> Result<AsInfo, TopologyFault>
