@@ -38,14 +38,10 @@ added_by one beacon ingress egress =
 -- the kind of a beacon that begins over a link of this kind
 abbrev pub kind_over : LinkKind → SegKind
 kind_over links.Core = Core
-kind_over links.Parent = Intra
-kind_over links.Child = Intra
+kind_over link = Intra
 
 -- whether a beacon goes on over such a link: one between core ASes to a core AS, another to a child
 abbrev pub goes_on : SegKind → LinkKind → Bool
 goes_on Core links.Core = true
-goes_on Core links.Parent = false
-goes_on Core links.Child = false
-goes_on Intra links.Core = false
-goes_on Intra links.Parent = false
 goes_on Intra links.Child = true
+goes_on kind link = false

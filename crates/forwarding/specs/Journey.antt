@@ -35,8 +35,7 @@ to_come came spot =
 -- one router owns both
 abbrev pub is_one : Result ℕ TopologyFault → Result ℕ TopologyFault → Bool
 is_one (Ok one) (Ok other) = one == other
-is_one (Ok one) (Err fault) = false
-is_one (Err fault) other = false
+is_one one other = false
 
 -- the turns that an AS takes between the ends of a walk: 1 where its two interfaces have one owner,
 -- else 2

@@ -77,9 +77,7 @@ still packet = (replies.Still, packet)
 abbrev pub at_place : Network → View → ℕ → Packet → Place → TurnReply × Packet
 at_place n view now packet (AtRouter stop) =
     stepped n packet stop (packet_step view now stop.arrival packet.bytes)
-at_place n view now packet Delivered = still packet
-at_place n view now packet (Refused ia router refusal) = still packet
-at_place n view now packet Lost = still packet
+at_place n view now packet place = still packet
 
 unfoldable pub turn_under : Network → View → ℕ → Packet → TurnReply × Packet
 turn_under n view now packet = at_place n view now packet packet.place
@@ -92,9 +90,7 @@ by_view n now packet (Err fault) = still packet
 
 abbrev pub by_place : Network → ℕ → Packet → Place → TurnReply × Packet
 by_place n now packet (AtRouter stop) = by_view n now packet (view_in n stop.ia stop.router)
-by_place n now packet Delivered = still packet
-by_place n now packet (Refused ia router refusal) = still packet
-by_place n now packet Lost = still packet
+by_place n now packet place = still packet
 
 -- one turn: the reply and the packet after it; a packet that is at no router stays as it is
 unfoldable pub turn_of : Network → ℕ → Packet → TurnReply × Packet

@@ -16,9 +16,8 @@ is_live now chain = list_all (λ entry. is_live_at chain.timestamp entry.exp_tim
 -- the kinds are the same
 abbrev pub same_kind : SegKind → SegKind → Bool
 same_kind Core Core = true
-same_kind Core Intra = false
-same_kind Intra Core = false
 same_kind Intra Intra = true
+same_kind one other = false
 
 -- the entries are the same in each part
 abbrev pub same_entry : Entry → Entry → Bool

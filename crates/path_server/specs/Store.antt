@@ -29,8 +29,7 @@ IsAnswer segments segment now (Ok true) = AreLive segment now × ¬ (Contains se
 -- the list with this segment at its end, where the answer is that it is new
 abbrev pub with_new : Result Bool StoreFault → List Chain → Chain → List Chain
 with_new (Ok true) segments segment = segments ++ segment ∷ []
-with_new (Ok false) segments segment = segments
-with_new (Err fault) segments segment = segments
+with_new answer segments segment = segments
 
 -- the list after a segment was registered at this second
 unfoldable pub registered : List Chain → Chain → ℕ → List Chain

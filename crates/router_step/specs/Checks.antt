@@ -21,8 +21,7 @@ has_no_single lens = not (lens.first == 1) && (not (lens.second == 1) && not (le
 -- a packet that a host sends stands at the first hop field
 abbrev pub is_start_right : Arrival → ℕ → Bool
 is_start_right FromHost hop = hop == 0
-is_start_right Inside hop = true
-is_start_right (Link interface) hop = true
+is_start_right arrival hop = true
 
 -- step 2: the current info field is that of the current hop field, no segment has a single hop
 -- field, and a host's packet stands at the first
@@ -38,10 +37,9 @@ is_owned view interface =
 
 -- step 3: a packet that came over a link came by an interface of this router, the hop's way in
 abbrev pub way_in_fits : View → Arrival → InfoField → HopField → Bool
-way_in_fits view FromHost info hop = true
-way_in_fits view Inside info hop = true
 way_in_fits view (Link interface) info hop =
     is_owned view interface && (interface == way_in info hop)
+way_in_fits view arrival info hop = true
 
 -- step 4: the hop is live
 abbrev pub is_live : ℕ → InfoField → HopField → Bool
@@ -86,7 +84,6 @@ are_joined switched from to = false
 
 -- step 11: the links by which a packet comes in and goes out are a pair of kinds that may be joined
 abbrev pub kinds_fit : View → Arrival → Bool → LinkKind → Bool
-kinds_fit view FromHost switched out = true
-kinds_fit view Inside switched out = true
 kinds_fit view (Link interface) switched out =
     option_map_or (λ entry. are_joined switched entry.kind out) (entry_of view interface) false
+kinds_fit view arrival switched out = true

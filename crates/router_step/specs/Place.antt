@@ -40,9 +40,8 @@ with_seg_id header seg_id =
 
 -- the packet came over a link
 abbrev pub is_over_link : Arrival → Bool
-is_over_link FromHost = false
-is_over_link Inside = false
 is_over_link (Link interface) = true
+is_over_link arrival = false
 
 -- the accumulator on arrival: over a link and against construction direction that of one hop back
 abbrev pub seg_id_on_arrival : Arrival → InfoField → HopField → ℕ
@@ -75,5 +74,4 @@ gone (ToLink interface) header =
     record (with_seg_id header (seg_id_on_leaving (info_of header) (hop_of header))) {
       curr_hf = header.curr_hf + 1;
     }
-gone (ToRouter router) header = header
-gone Deliver header = header
+gone outcome header = header
