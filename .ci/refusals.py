@@ -92,19 +92,19 @@ def comment(lines):
     return re.sub(r"\[(`[^`]*`)\](?:\([^)]*\))?", r"\1", text).strip()
 
 
-def told(crate, type_name):
+def numbers_of(crate, type_name):
     """The numbers and names of a type's refusals, by variant, as the definitions have them."""
     for path in sorted(Path("crates", crate, "specs").glob("*.antt")):
         text = path.read_text()
-        if re.search(rf"^abbrev pub told : {type_name} ", text, re.M):
-            rows = re.findall(r'^told \(?(\w+)[^=]*= \((\d+), codes "(\w+)"\)$', text, re.M)
+        if re.search(rf"^abbrev pub code_and_name : {type_name} ", text, re.M):
+            rows = re.findall(r'^code_and_name \(?(\w+)[^=]*= \((\d+), codes "(\w+)"\)$', text, re.M)
             return {variant: (int(number), name) for variant, number, name in rows}
     sys.exit(f"{crate} has no table of {type_name}")
 
 
 def section(crate, type_name, calls, lines):
     """The part on one type of refusals."""
-    numbers = told(crate, type_name)
+    numbers = numbers_of(crate, type_name)
     pattern = re.compile(ENUM.replace("NAME", type_name), re.M)
     texts = [path.read_text() for path in Path("crates", crate, "src").glob("*.rt")]
     found = [it for text in texts for it in pattern.findall(text)]
@@ -124,12 +124,12 @@ def section(crate, type_name, calls, lines):
 def document():
     """The whole text."""
     specs = list(Path("crates").glob("*/specs/*.antt"))
-    table = re.compile(r"^abbrev pub told : ", re.M)
+    table = re.compile(r"^abbrev pub code_and_name : ", re.M)
     tables = {it.parts[1] for it in specs if table.search(it.read_text())}
     if tables != {*TYPES}:
         sys.exit(f"crates whose tables of refusals are not listed here: {tables ^ {*TYPES}}")
     names = {}
-    rows = [told(crate, one[0]) for crate, types in TYPES.items() for one in types]
+    rows = [numbers_of(crate, one[0]) for crate, types in TYPES.items() for one in types]
     for number, name in (it for table in rows for it in table.values()):
         if names.setdefault(number, name) != name:
             sys.exit(f"{number} is {name} and {names[number]}")

@@ -15,8 +15,8 @@ use std::alloc::Global;
 /// The beacon that a core AS begins over one of its links: `timestamp` is in seconds, and `beta0`
 /// the accumulator with which its entry is authenticated. The kind is that of the link.
 ///
-/// The first of these refusals: [`BeaconFault::NotCore`] where the topology has no such core AS,
-/// [`BeaconFault::NoInterface`] where the AS has no such interface, [`BeaconFault::LinkDown`] where
+/// The first of these refusals: [`BeaconFault::NotCore`] if the topology has no such core AS,
+/// [`BeaconFault::NoInterface`] if the AS has no such interface, [`BeaconFault::LinkDown`] where
 /// its link is down.
 pub fn originate(
     alloc: Global,
@@ -40,12 +40,12 @@ pub fn originate(
 
 /// The beacon, passed on by the AS to which it comes, over one of its links.
 ///
-/// The first of these refusals: [`BeaconFault::NotHere`] where the last way out does not lead to
-/// this AS, [`BeaconFault::LinkDown`] where that link is down, [`BeaconFault::Loop`] where the AS
-/// stands in the beacon already, [`BeaconFault::TooLong`] where the beacon has 62 entries,
-/// [`BeaconFault::NoInterface`] where the AS has no such interface, [`BeaconFault::WrongKind`]
+/// The first of these refusals: [`BeaconFault::NotHere`] if the last way out does not lead to
+/// this AS, [`BeaconFault::LinkDown`] if that link is down, [`BeaconFault::Loop`] if the AS
+/// stands in the beacon already, [`BeaconFault::TooLong`] if the beacon has 62 entries,
+/// [`BeaconFault::NoInterface`] if the AS has no such interface, [`BeaconFault::WrongKind`]
 /// where the link is no core link, or none to a child, as the beacon's kind asks, and
-/// [`BeaconFault::LinkDown`] where it is down.
+/// [`BeaconFault::LinkDown`] if it is down.
 pub fn extend(
     alloc: Global,
     topology: &Topology,
@@ -65,8 +65,8 @@ pub fn extend(
 
 /// The segment that ends in the AS to which the beacon comes.
 ///
-/// The first of these refusals: [`BeaconFault::NotHere`] where the last way out does not lead to
-/// this AS, [`BeaconFault::LinkDown`] where that link is down, [`BeaconFault::Loop`] where the AS
+/// The first of these refusals: [`BeaconFault::NotHere`] if the last way out does not lead to
+/// this AS, [`BeaconFault::LinkDown`] if that link is down, [`BeaconFault::Loop`] if the AS
 /// stands in the beacon already.
 pub fn terminate(
     alloc: Global,

@@ -62,5 +62,5 @@ impl BeaconFault {
     }
 }
 
-/// Why a call gave no beacon or segment: want of memory, or a refusal.
+/// Why a call gave no beacon or segment: running out of memory, or a refusal.
 pub type BeaconError = OrMemory<BeaconFault>;

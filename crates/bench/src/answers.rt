@@ -59,7 +59,7 @@ fn put(store: &mut PathStore, segment: Segment) -> Result<()> {
     }
 }
 
-/// The segments, spread over so many core ASes in each of two ISDs.
+/// The segments, spread over several core ASes in each of two ISDs.
 fn segments(alloc: Global, cores: u32) -> Result<SegmentSet> {
     let mut store = PathStore::new(alloc);
     for place in 0..SEGMENTS {
@@ -95,7 +95,7 @@ fn sum_of(list: &PathList) -> u64 {
     sum
 }
 
-/// Asks so many times for at most `limit` paths, and sums what is answered.
+/// Asks `count` times for at most `limit` paths, and sums what is answered.
 pub(crate) fn answers(alloc: Global, cores: u32, limit: usize, count: u32) -> Result<u64>
     requires { 0 < limit }
 {

@@ -104,7 +104,7 @@ pub(crate) fn seated(
     Ok(seats)
 }
 
-/// Publishes a segment between other ASes, and then a sweep that takes it out again, until so many
+/// Publishes a segment between other ASes, and then a sweep that takes it out again, until `count`
 /// threads have ended.
 fn publish_others<R: Wait>(
     rt: &R,
@@ -139,7 +139,7 @@ fn found(alloc: Global, reader: &mut BoardReader) -> u64 {
     0
 }
 
-/// Looks the segments up so many times, and counts what is found.
+/// Looks the segments up `count` times, and counts what is found.
 fn look_up(alloc: Global, mut reader: BoardReader, tally: &Tally, count: u32) {
     let mut sum = 0u64;
     for _ in 0..count {
@@ -148,7 +148,7 @@ fn look_up(alloc: Global, mut reader: BoardReader, tally: &Tally, count: u32) {
     tally.end(sum);
 }
 
-/// Looks the segments up so many times by each of these readers, while the writer publishes others.
+/// Looks the segments up `count` times by each of these readers, while the writer publishes others.
 fn looked_up<R: Threads + Wait + Sync>(
     rt: &R,
     alloc: Global,
@@ -174,7 +174,7 @@ fn looked_up<R: Threads + Wait + Sync>(
     Ok(tally.sum.load(Ordering::SeqCst))
 }
 
-/// Looks six segments up so many times by each of so many readers of one board, while its writer
+/// Looks six segments up `count` times by each of several readers of one board, while its writer
 /// publishes others, and counts what is found.
 pub(crate) fn look_ups<R: Threads + Wait + Sync>(
     rt: &R,

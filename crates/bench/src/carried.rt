@@ -3,7 +3,7 @@
 
 use crate::network;
 use anyhow::Result;
-use event_lines::{Hearing, listen};
+use event_lines::{AcceptedLines, listen};
 use forwarding::TurnReply;
 use network_core::{Event, Net, Reply};
 use router_step::Outcome;
@@ -11,7 +11,7 @@ use std::alloc::{AllocError, Global};
 use streams::{Reader, Writer};
 
 /// Adds the lines of a segment from AS 1 over its interface of this number, down the line of
-/// children whose numbers follow on it. So many beacons were made before.
+/// children whose numbers follow on it. `count` beacons were made before.
 fn push_segment(
     alloc: Global,
     text: &mut String,
@@ -52,7 +52,7 @@ fn network(alloc: Global) -> Result<Net> {
     text.push_str(asked.as_str())?;
     let mut source = Reader::new(text.as_bytes());
     let mut sink = Writer::new(Vec::new(alloc));
-    Ok(listen(alloc, Hearing::Preparing, &mut source, &mut sink)?)
+    Ok(listen(alloc, AcceptedLines::Preparing, &mut source, &mut sink)?)
 }
 
 /// A packet is sent by the answer's path.
@@ -99,7 +99,7 @@ fn turn(alloc: Global, net: &mut Net, packet: u32) -> Result<u64> {
     }
 }
 
-/// Sends so many packets, has each so many turns, and counts those that are delivered.
+/// Sends `count` packets, has each several turns, and counts those that are delivered.
 pub(crate) fn carried(alloc: Global, turns: u32, count: u32) -> Result<u64> {
     let mut net = network(alloc)?;
     let mut sum = 0u64;

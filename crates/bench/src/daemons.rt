@@ -58,7 +58,7 @@ fn ask<R: Wait>(
     None
 }
 
-/// Asks so many times, and counts the paths of the answers that come from where they are to come
+/// Asks `count` times, and counts the paths of the answers that come from where they are to come
 /// from.
 fn ask_all<R: Wait>(
     rt: &R,
@@ -83,7 +83,7 @@ fn ask_all<R: Wait>(
     tally.end(sum);
 }
 
-/// Asks so many times by each of the readers, once the cache has the answer to requests of weight
+/// Asks `count` times by each of the readers, once the cache has the answer to requests of weight
 /// 0.
 fn answered<R: Threads + Wait + Sync>(
     rt: &R,
@@ -125,7 +125,7 @@ fn answered<R: Threads + Wait + Sync>(
     Ok(tally.sum.load(Ordering::SeqCst))
 }
 
-/// Asks so many times by each of so many threads for eight paths, and counts those that the cache
+/// Asks `count` times by each of several threads for eight paths, and counts those that the cache
 /// served, or those that it did not.
 pub(crate) fn asks<R: Threads + Wait + Sync>(
     rt: &R,

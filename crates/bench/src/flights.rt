@@ -4,9 +4,9 @@
 ghost use Rattle.std.specs.Prelude.{◌≡◌, ◌<◌, ◌≤◌, All, IfOk};
 
 use anyhow::{Context, Result};
-use event_lines::{Hearing, listen};
+use event_lines::{AcceptedLines, listen};
 use network_core::{Net, Packet};
-use router_workers::{End, Flight, Open, run_workers};
+use router_workers::{End, Flight, OpenGate, run_workers};
 use std::alloc::Global;
 use std::sync::Wait;
 use std::thread::Threads;
@@ -38,7 +38,7 @@ fn network(alloc: Global) -> Result<Net> {
     let text = format!(in alloc; "{}{LINES}", pair())?;
     let mut source = Reader::new(text.as_bytes());
     let mut sink = Writer::new(Vec::new(alloc));
-    Ok(listen(alloc, Hearing::Preparing, &mut source, &mut sink)?)
+    Ok(listen(alloc, AcceptedLines::Preparing, &mut source, &mut sink)?)
 }
 
 /// The flights of both packets by turns.
@@ -67,7 +67,7 @@ fn worth(end: End) -> u64 {
     }
 }
 
-/// Carries a thousand flights on so many workers, so many times, and sums their turns. The flights
+/// Carries a thousand flights on several workers, `count` times, and sums their turns. The flights
 /// are made once, since a run leaves them as they are.
 pub(crate) fn flights<R: Threads + Wait + Sync>(
     rt: &R,
@@ -89,7 +89,7 @@ pub(crate) fn flights<R: Threads + Wait + Sync>(
             workers,
             1024,
             &flights,
-            &Open,
+            &OpenGate,
         )?;
         for end in report.ends() {
             sum = sum.wrapping_add(worth(*end));

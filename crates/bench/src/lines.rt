@@ -53,7 +53,7 @@ fn asking() -> &'static str {
 "#
 }
 
-/// So many turns of a packet, which is then shown.
+/// Several turns of a packet, which is then shown.
 fn push_turns(alloc: Global, text: &mut String, number: u32, count: u8) -> Result<()> {
     let turn = format!(in alloc; "{{\"do\":\"turn\",\"packet\":{number}}}\n")?;
     for _ in 0..count {
@@ -103,7 +103,7 @@ fn push_lines(alloc: Global, text: &mut String, about: About, number: u32) -> Re
     }
 }
 
-/// Runs a network over the lines of so many packets, beacons or requests, and sums the bytes of the
+/// Runs a network over the lines of `count` packets, beacons or requests, and sums the bytes of the
 /// answers.
 pub(crate) fn lines(alloc: Global, about: About, count: u32) -> Result<u64> {
     let mut text = String::from_str(alloc, start())?;

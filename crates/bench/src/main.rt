@@ -45,7 +45,7 @@ fn topology(alloc: Global) -> Result<Topology> {
     Ok(Topology::from_json(alloc, text.as_bytes())?)
 }
 
-/// Reads the network's text so many times, and sums the places of an AS.
+/// Reads the network's text `count` times, and sums the places of an AS.
 fn read(alloc: Global, count: u32) -> Result<u64> {
     let text = network::text(alloc)?;
     let mut sum = 0u64;
@@ -57,7 +57,7 @@ fn read(alloc: Global, count: u32) -> Result<u64> {
     Ok(sum)
 }
 
-/// Asks for so many far ends, and sums the interfaces there.
+/// Asks for `count` far ends, and sums the interfaces there.
 fn far_ends(alloc: Global, count: u32) -> Result<u64> {
     let topology = topology(alloc)?;
     let mut sum = 0u64;
@@ -72,7 +72,7 @@ fn far_ends(alloc: Global, count: u32) -> Result<u64> {
     Ok(sum)
 }
 
-/// Makes so many views of routers, and counts those that have an interface.
+/// Makes `count` views of routers, and counts those that have an interface.
 fn views(alloc: Global, count: u32) -> Result<u64> {
     let topology = topology(alloc)?;
     let mut sum = 0u64;
@@ -86,7 +86,7 @@ fn views(alloc: Global, count: u32) -> Result<u64> {
     Ok(sum)
 }
 
-/// Does a work on what standard input tells, so many times.
+/// Does a work on what standard input tells, `count` times.
 fn work_on_input<R: io::Input>(rt: &R, alloc: Global, name: &str, count: u32) -> Result<u64> {
     let input = Input::read(rt, alloc)?;
     match name {
@@ -102,13 +102,13 @@ fn work_on_input<R: io::Input>(rt: &R, alloc: Global, name: &str, count: u32) ->
     }
 }
 
-/// Does the work of this name so many times; of lines there are ten for each of `lines`, five for
+/// Does the work of this name `count` times; of lines there are ten for each of `lines`, five for
 /// each packet or beacon and one for each request, and segments that are made or registered are ten
-/// thousand times as many. Answers are of up to so many paths, the first three of 32
+/// thousand times as many. Answers are of up to a number of paths, the first three of 32
 /// paths that there are and the others of 2048. Packets are sent in a network over 64 hop fields,
-/// and carried there by 63 turns each. Flights are a thousand times as many, on so many workers.
-/// Look-ups on a board are as many by each of so many readers, and requests to a daemon by each of
-/// so many threads.
+/// and carried there by 63 turns each. Flights are a thousand times as many, on several workers.
+/// Look-ups on a board are as many by each of several readers, and requests to a daemon by each of
+/// several threads.
 fn work<R: Threads + Wait + Sync + io::Input>(
     rt: &R,
     alloc: Global,

@@ -27,7 +27,7 @@ pub(crate) enum Flaw {
     Cut,
 }
 
-/// Makes so many authenticators under a key that stands, each from the one before.
+/// Makes `count` authenticators under a key that stands, each from the one before.
 pub(crate) fn macs(count: u32) -> u64 {
     let key = MacKey::new(&KEY);
     let mut beta = 0u16;
@@ -54,7 +54,7 @@ pub(crate) fn macs_of_keys(count: u32) -> u64 {
     sum
 }
 
-/// Reads a packet's header so many times, with another accumulator each time.
+/// Reads a packet's header `count` times, with another accumulator each time.
 pub(crate) fn decodes(input: &Input, count: u32) -> Result<u64> {
     let mut bytes = input.packet.clone()?;
     let mut sum = 0u64;
@@ -84,7 +84,7 @@ fn worth<T: Drop>(answer: &Result<Outcome, T>) -> u64 {
     }
 }
 
-/// Has a packet pass the first so many routers on its way, so many times, as it was at first each
+/// Has a packet pass the first few routers on its way, `count` times, as it was at first each
 /// time, and sums what they answer.
 pub(crate) fn ways(alloc: Global, input: &Input, most: usize, count: u32) -> Result<u64> {
     let topology = Topology::from_json(alloc, input.topology.as_bytes())?;
@@ -105,7 +105,7 @@ pub(crate) fn ways(alloc: Global, input: &Input, most: usize, count: u32) -> Res
     Ok(sum)
 }
 
-/// Has a packet with a flaw come to its first router so many times, with another accumulator each
+/// Has a packet with a flaw come to its first router `count` times, with another accumulator each
 /// time, and counts what is refused.
 pub(crate) fn flawed(alloc: Global, input: &Input, flaw: Flaw, count: u32) -> Result<u64> {
     let topology = Topology::from_json(alloc, input.topology.as_bytes())?;

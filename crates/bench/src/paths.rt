@@ -11,7 +11,7 @@ use std::alloc::Global;
 /// The AS number of a walk's first hop, the others counting on from it.
 const FIRST_HOP: u64 = 100;
 
-/// Matches a sequence so many times with a walk of 64 hops of ISD 1, of which the first goes in at
+/// Matches a sequence `count` times with a walk of 64 hops of ISD 1, of which the first goes in at
 /// one interface and another by turns, and counts the words.
 pub(crate) fn matches(alloc: Global, input: &Input, count: u32) -> Result<u64> {
     let sequence = Seq::parse(alloc, input.sequence.as_str())?;
@@ -34,7 +34,7 @@ pub(crate) fn matches(alloc: Global, input: &Input, count: u32) -> Result<u64> {
     Ok(sum)
 }
 
-/// Reads a sequence so many times, and counts those that can be read.
+/// Reads a sequence `count` times, and counts those that can be read.
 pub(crate) fn parses(alloc: Global, input: &Input, count: u32) -> Result<u64> {
     let mut sum = 0u64;
     for _ in 0..count {
@@ -45,7 +45,7 @@ pub(crate) fn parses(alloc: Global, input: &Input, count: u32) -> Result<u64> {
     Ok(sum)
 }
 
-/// Verifies a path so many times, at one second and the next by turns, and sums the hops of those
+/// Verifies a path `count` times, at one second and the next by turns, and sums the hops of those
 /// that are accepted.
 pub(crate) fn verifies(input: &Input, count: u32) -> Result<u64> {
     let mut pieces = Pieces::new();

@@ -77,7 +77,7 @@ fn put(store: &mut PathStore, segment: Segment) -> u64 {
     }
 }
 
-/// Makes the other segments so many times, and sums their seconds.
+/// Makes the other segments `count` times, and sums their seconds.
 pub(crate) fn make(alloc: Global, count: u32) -> Result<u64> {
     let mut sum = 0u64;
     for _ in 0..count {
@@ -88,7 +88,7 @@ pub(crate) fn make(alloc: Global, count: u32) -> Result<u64> {
     Ok(sum)
 }
 
-/// Makes and registers the other segments so many times, and counts those that are taken in.
+/// Makes and registers the other segments `count` times, and counts those that are taken in.
 pub(crate) fn register(alloc: Global, count: u32) -> Result<u64> {
     let mut sum = 0u64;
     for _ in 0..count {
@@ -131,7 +131,7 @@ fn found(set: &SegmentSet) -> u64 {
         .wrapping_add(set.downs().len() as u64)
 }
 
-/// Looks 32 segments up, 32 between core ASes and 32 down up among the others, so many times, and
+/// Looks 32 segments up, 32 between core ASes and 32 down up among the others, `count` times, and
 /// counts what is found.
 pub(crate) fn look_up(alloc: Global, count: u32) -> Result<u64> {
     let (src, dst) = (address(1, 5000), address(2, 5000));
@@ -144,7 +144,7 @@ pub(crate) fn look_up(alloc: Global, count: u32) -> Result<u64> {
     Ok(sum)
 }
 
-/// Copies what such a look-up finds so many times, and counts what is copied. A look-up hands out
+/// Copies what such a look-up finds `count` times, and counts what is copied. A look-up returns
 /// copies, so this is the part of its work that is no search.
 pub(crate) fn copy(alloc: Global, count: u32) -> Result<u64> {
     let (src, dst) = (address(1, 5000), address(2, 5000));

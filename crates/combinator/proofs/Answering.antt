@@ -4,7 +4,7 @@ use Rattle.std.specs.Prelude.{◌⊎◌}
 use Rattle.std.specs.declared.cmp.Ordering.TheVariants.{Less}
 use Rattle.std.proofs.lemmas.Bool.{cases_lt}
 use Rattle.std.proofs.lemmas.List.Elements.{All-from_recursion}
-use Rattle.std.proofs.lemmas.List.Kept.{AllPairs-cons}
+use Rattle.std.proofs.lemmas.List.BestByWalk.{AllPairs-cons}
 use Rattle.path_segment.specs.declared.kind.SegKind.{SegKind}
 use Rattle.path_segment.specs.declared.kind.SegKind.TheVariants as segs
 use Rattle.policy_expr.specs.declared.hop.WalkHop.{WalkHop}
@@ -19,8 +19,8 @@ use Rattle.combinator.specs.Candidate.{Question, IsOf, segments_of, PathValue, I
 use Rattle.combinator.specs.Order.{path_cmp, HaveOneWalk}
 use Rattle.combinator.specs.Answer.{IsBest, IsLeftOut, IsAnswer}
 use Rattle.combinator.specs.Placed.{Tied, InOrder, Met}
-use Rattle.combinator.specs.Kept.{by_walk, IsNoWorse, IsMet, AreSettled}
-use Rattle.combinator.specs.Legs.{outer_of, IsCut, IsWhole}
+use Rattle.combinator.specs.BestByWalk.{by_walk, IsNoWorse, IsMet, AreMatched}
+use Rattle.combinator.specs.UsablePieces.{outer_of, IsCut, IsWhole}
 use Rattle.combinator.proofs.Ranks.{walks_total, tied_walks, same_shown, tied_shown}
 use Rattle.combinator.proofs.Agreeing.{best_is_one}
 use Rattle.combinator.proofs.Searched.{default_of, stand_before}
@@ -48,13 +48,13 @@ outer_up piece at e begins = ap (λ (b : Bool). cond b (ends_in piece) (begins_i
 outer_down : (piece : PieceValue) (at : ℕ) → piece.along ≡ true → ends_in piece ≡ at → outer_of piece ≡ at
 outer_down piece at e ends = ap (λ (b : Bool). cond b (ends_in piece) (begins_in piece)) e ∙ ends
 
-module _ (question : Question) (legs : List PieceValue)
-    (ups : (piece : PieceValue) → IsCut question.set.ups false question.src piece → Contains legs piece)
-    (cores : (piece : PieceValue) → IsWhole question.set.cores piece → Contains legs piece)
-    (downs : (piece : PieceValue) → IsCut question.set.downs true question.dst piece → Contains legs piece) where
+module _ (question : Question) (usable_pieces : List PieceValue)
+    (ups : (piece : PieceValue) → IsCut question.set.ups false question.src piece → Contains usable_pieces piece)
+    (cores : (piece : PieceValue) → IsWhole question.set.cores piece → Contains usable_pieces piece)
+    (downs : (piece : PieceValue) → IsCut question.set.downs true question.dst piece → Contains usable_pieces piece) where
   listed : (kind : PieceKind) (piece : PieceValue) → kind_of piece ≡ kind → IsOf question.set piece → HasRange piece
       → (IsCore piece → (piece.from ≡ 0) × (piece.to + 1 ≡ length piece.segment.entries))
-      → (kind ≡ Up → begins_in piece ≡ question.src) → (kind ≡ Down → ends_in piece ≡ question.dst) → Contains legs piece
+      → (kind ≡ Up → begins_in piece ≡ question.src) → (kind ≡ Down → ends_in piece ≡ question.dst) → Contains usable_pieces piece
   listed Up piece is own range whole up down =
       let parts = up_parts piece.segment.kind piece.along is in
       ups piece (record {
@@ -83,13 +83,13 @@ module _ (question : Question) (legs : List PieceValue)
       })
 
   module _ (kept : List PathValue)
-      (one : (first : PieceValue) → Contains legs first → begins_in first ≡ question.src → AreSettled question kept (first ∷ []))
-      (two : (first second : PieceValue) → Contains legs first → begins_in first ≡ question.src → Contains legs second → begins_in second ≡ ends_in first → AreSettled question kept (first ∷ second ∷ []))
-      (three : (first second third : PieceValue) → Contains legs first → begins_in first ≡ question.src → Contains legs second → begins_in second ≡ ends_in first
-      → Contains legs third → begins_in third ≡ ends_in second → AreSettled question kept (first ∷ second ∷ third ∷ [])) where
+      (one : (first : PieceValue) → Contains usable_pieces first → begins_in first ≡ question.src → AreMatched question kept (first ∷ []))
+      (two : (first second : PieceValue) → Contains usable_pieces first → begins_in first ≡ question.src → Contains usable_pieces second → begins_in second ≡ ends_in first → AreMatched question kept (first ∷ second ∷ []))
+      (three : (first second third : PieceValue) → Contains usable_pieces first → begins_in first ≡ question.src → Contains usable_pieces second → begins_in second ≡ ends_in first
+      → Contains usable_pieces third → begins_in third ≡ ends_in second → AreMatched question kept (first ∷ second ∷ third ∷ [])) where
     -- a piece at a place of a candidate
     at_place : (path : PathValue) (is : IsCandidate question path) (k : ℕ) (piece : PieceValue) → k < length path.pieces → get_or path.pieces k piece ≡ piece
-        → (kind_of piece ≡ Up → begins_in piece ≡ question.src) → (kind_of piece ≡ Down → ends_in piece ≡ question.dst) → Contains legs piece
+        → (kind_of piece ≡ Up → begins_in piece ≡ question.src) → (kind_of piece ≡ Down → ends_in piece ≡ question.dst) → Contains usable_pieces piece
     at_place path is k piece within at up down =
         let own : IsOf question.set piece = subst (IsOf question.set) at (is.own k piece within) in
         let range : HasRange piece = subst HasRange at (is.accepted.path.ranges k piece within) in
@@ -111,7 +111,7 @@ module _ (question : Question) (legs : List PieceValue)
 
     met_of : (pieces : List PieceValue) (header : _) → (is : IsCandidate question (path_with pieces header))
         → Spells (spelling header) header × IsMet kept (path_with pieces header)
-    unfolding AreSettled
+    unfolding AreMatched
     met_of [] header is = absurd (let some = is.accepted.path.some in omega arith)
     met_of (a ∷ []) header is =
         let path = is.accepted.path in

@@ -9,7 +9,7 @@ use Rattle.combinator.specs.Candidate.{Question, PathValue}
 use Rattle.combinator.specs.Order.{path_cmp}
 use Rattle.combinator.specs.Answer.{IsBest}
 use Rattle.combinator.specs.Placed.{Met}
-use Rattle.combinator.specs.Legs.{piece_of, outer_of, IsCut, IsWhole, AreIn}
+use Rattle.combinator.specs.UsablePieces.{piece_of, outer_of, IsCut, IsWhole, AreIn}
 
 -- ---- paths taken into an answer one by one
 
@@ -78,46 +78,46 @@ pub at_end : {X : Type 0} (P : X → Type 0) (xs : List X) (i : ℕ) → length 
 at_end {X} P xs i past so_far y there = so_far y (subst (λ (ys : List X). Contains ys y) (sym (take_past xs i past)) there)
 
 -- a piece of this segment is among what was collected of it
-cut_here : (segment : Chain) (along : Bool) (outer : ℕ) (legs : List PieceValue)
-    → (segment.kind ≡ kinds.Intra → (from to : ℕ) → from < to → to < length segment.entries → outer_of (piece_of segment from to along) ≡ outer → Contains legs (piece_of segment from to along))
-    → (piece : PieceValue) → segment ≡ piece.segment → HasRange piece → piece.segment.kind ≡ kinds.Intra → piece.along ≡ along → outer_of piece ≡ outer → Contains legs piece
-cut_here segment along outer legs all piece same range kind direction end =
-    let Q : Chain → Bool → Type 0 = λ s a. (s.kind ≡ kinds.Intra → (from to : ℕ) → from < to → to < length s.entries → outer_of (piece_of s from to a) ≡ outer → Contains legs (piece_of s from to a)) in
+cut_here : (segment : Chain) (along : Bool) (outer : ℕ) (usable_pieces : List PieceValue)
+    → (segment.kind ≡ kinds.Intra → (from to : ℕ) → from < to → to < length segment.entries → outer_of (piece_of segment from to along) ≡ outer → Contains usable_pieces (piece_of segment from to along))
+    → (piece : PieceValue) → segment ≡ piece.segment → HasRange piece → piece.segment.kind ≡ kinds.Intra → piece.along ≡ along → outer_of piece ≡ outer → Contains usable_pieces piece
+cut_here segment along outer usable_pieces all piece same range kind direction end =
+    let Q : Chain → Bool → Type 0 = λ s a. (s.kind ≡ kinds.Intra → (from to : ℕ) → from < to → to < length s.entries → outer_of (piece_of s from to a) ≡ outer → Contains usable_pieces (piece_of s from to a)) in
     let own : Q piece.segment piece.along = subst (λ (a : Bool). Q piece.segment a) (sym direction) (subst (λ (s : Chain). Q s along) same all) in
     own kind piece.from piece.to range.order range.within end
 
-pub cut_more : (segments : List Chain) (i : ℕ) (segment : Chain) (along : Bool) (outer : ℕ) (legs more : List PieceValue) → i < length segments → segment ≡ get_or segments i segment
-    → AreIn legs more → ((piece : PieceValue) → IsCut (take i segments) along outer piece → Contains legs piece)
+pub cut_more : (segments : List Chain) (i : ℕ) (segment : Chain) (along : Bool) (outer : ℕ) (usable_pieces more : List PieceValue) → i < length segments → segment ≡ get_or segments i segment
+    → AreIn usable_pieces more → ((piece : PieceValue) → IsCut (take i segments) along outer piece → Contains usable_pieces piece)
     → (segment.kind ≡ kinds.Intra → (from to : ℕ) → from < to → to < length segment.entries → outer_of (piece_of segment from to along) ≡ outer → Contains more (piece_of segment from to along))
     → (piece : PieceValue) → IsCut (take (i + 1) segments) along outer piece → Contains more piece
-cut_more segments i segment along outer legs more within is grown so_far all piece cut = elim (taken_more segments i segment piece.segment within is cut.there) [
+cut_more segments i segment along outer usable_pieces more within is grown so_far all piece cut = elim (taken_more segments i segment piece.segment within is cut.there) [
   | inl before ↦ grown piece (so_far piece (record { there = before; range = cut.range; kind = cut.kind; direction = cut.direction; end = cut.end }))
   | inr same ↦ cut_here segment along outer more all piece same cut.range cut.kind cut.direction cut.end
 ]
 
-pub cut_all : (segments : List Chain) (i : ℕ) (along : Bool) (outer : ℕ) (legs : List PieceValue) → length segments ≤ i
-    → ((piece : PieceValue) → IsCut (take i segments) along outer piece → Contains legs piece) → (piece : PieceValue) → IsCut segments along outer piece → Contains legs piece
-cut_all segments i along outer legs past so_far piece cut =
+pub cut_all : (segments : List Chain) (i : ℕ) (along : Bool) (outer : ℕ) (usable_pieces : List PieceValue) → length segments ≤ i
+    → ((piece : PieceValue) → IsCut (take i segments) along outer piece → Contains usable_pieces piece) → (piece : PieceValue) → IsCut segments along outer piece → Contains usable_pieces piece
+cut_all segments i along outer usable_pieces past so_far piece cut =
     so_far piece (record { there = subst (λ (xs : List Chain). Contains xs piece.segment) (sym (take_past segments i past)) cut.there; range = cut.range; kind = cut.kind; direction = cut.direction; end = cut.end })
 
-whole_here : (segment : Chain) (legs : List PieceValue)
-    → (segment.kind ≡ kinds.Core → (to : ℕ) (along : Bool) → to + 1 ≡ length segment.entries → Contains legs (piece_of segment 0 to along))
-    → (piece : PieceValue) → segment ≡ piece.segment → piece.segment.kind ≡ kinds.Core → piece.from ≡ 0 → piece.to + 1 ≡ length piece.segment.entries → Contains legs piece
-whole_here segment legs all piece same kind first last =
-    let Q : Chain → Type 0 = λ s. (s.kind ≡ kinds.Core → (to : ℕ) (along : Bool) → to + 1 ≡ length s.entries → Contains legs (piece_of s 0 to along)) in
+whole_here : (segment : Chain) (usable_pieces : List PieceValue)
+    → (segment.kind ≡ kinds.Core → (to : ℕ) (along : Bool) → to + 1 ≡ length segment.entries → Contains usable_pieces (piece_of segment 0 to along))
+    → (piece : PieceValue) → segment ≡ piece.segment → piece.segment.kind ≡ kinds.Core → piece.from ≡ 0 → piece.to + 1 ≡ length piece.segment.entries → Contains usable_pieces piece
+whole_here segment usable_pieces all piece same kind first last =
+    let Q : Chain → Type 0 = λ s. (s.kind ≡ kinds.Core → (to : ℕ) (along : Bool) → to + 1 ≡ length s.entries → Contains usable_pieces (piece_of s 0 to along)) in
     let own : Q piece.segment = subst Q same all in
-    subst (λ (from : ℕ). Contains legs (piece_of piece.segment from piece.to piece.along)) (sym first) (own kind piece.to piece.along last)
+    subst (λ (from : ℕ). Contains usable_pieces (piece_of piece.segment from piece.to piece.along)) (sym first) (own kind piece.to piece.along last)
 
-pub whole_more : (segments : List Chain) (i : ℕ) (segment : Chain) (legs more : List PieceValue) → i < length segments → segment ≡ get_or segments i segment
-    → AreIn legs more → ((piece : PieceValue) → IsWhole (take i segments) piece → Contains legs piece)
+pub whole_more : (segments : List Chain) (i : ℕ) (segment : Chain) (usable_pieces more : List PieceValue) → i < length segments → segment ≡ get_or segments i segment
+    → AreIn usable_pieces more → ((piece : PieceValue) → IsWhole (take i segments) piece → Contains usable_pieces piece)
     → (segment.kind ≡ kinds.Core → (to : ℕ) (along : Bool) → to + 1 ≡ length segment.entries → Contains more (piece_of segment 0 to along))
     → (piece : PieceValue) → IsWhole (take (i + 1) segments) piece → Contains more piece
-whole_more segments i segment legs more within is grown so_far all piece whole = elim (taken_more segments i segment piece.segment within is whole.there) [
+whole_more segments i segment usable_pieces more within is grown so_far all piece whole = elim (taken_more segments i segment piece.segment within is whole.there) [
   | inl before ↦ grown piece (so_far piece (record { there = before; kind = whole.kind; first = whole.first; last = whole.last }))
   | inr same ↦ whole_here segment more all piece same whole.kind whole.first whole.last
 ]
 
-pub whole_all : (segments : List Chain) (i : ℕ) (legs : List PieceValue) → length segments ≤ i
-    → ((piece : PieceValue) → IsWhole (take i segments) piece → Contains legs piece) → (piece : PieceValue) → IsWhole segments piece → Contains legs piece
-whole_all segments i legs past so_far piece whole =
+pub whole_all : (segments : List Chain) (i : ℕ) (usable_pieces : List PieceValue) → length segments ≤ i
+    → ((piece : PieceValue) → IsWhole (take i segments) piece → Contains usable_pieces piece) → (piece : PieceValue) → IsWhole segments piece → Contains usable_pieces piece
+whole_all segments i usable_pieces past so_far piece whole =
     so_far piece (record { there = subst (λ (xs : List Chain). Contains xs piece.segment) (sym (take_past segments i past)) whole.there; kind = whole.kind; first = whole.first; last = whole.last })

@@ -13,7 +13,7 @@ use Rattle.path_verifier.specs.Walk.{walk_of}
 use Rattle.combinator.specs.Candidate.{Question, PathValue, IsCandidate}
 use Rattle.combinator.specs.Order.{walk_cmp, bytes_cmp, HaveOneWalk}
 use Rattle.combinator.specs.Placed.{InOrder, IsGap}
-use Rattle.combinator.specs.Kept.{by_walk, IsNoWorse, IsMet, GoesOn}
+use Rattle.combinator.specs.BestByWalk.{by_walk, IsNoWorse, IsMet, IsNoWorseThan}
 use Rattle.combinator.proofs.Ranks.{bytes_total, walks_total, same_walk}
 use Rattle.combinator.proofs.Inserted.{placed_of, order_inserted}
 use Rattle.combinator.proofs.Searched.{default_of}
@@ -100,7 +100,7 @@ order_insert paths k path within gap order = order_inserted by_walk walks_total 
 
 -- the better of two paths of one walk is kept
 pub set_goes_on : (question : Question) (paths : List PathValue) (k : ℕ) (path : PathValue) → IsCandidate question path → HaveOneWalk (get_or paths k path) path
-    → IsNoWorse path (get_or paths k path) → GoesOn question paths (set paths k path)
+    → IsNoWorse path (get_or paths k path) → IsNoWorseThan question paths (set paths k path)
 set_goes_on question paths k path candidate same better = record {
   sound = λ sound. All-set (IsCandidate question) paths k path candidate sound;
   met = λ other met. any_set (λ one. HaveOneWalk one other × IsNoWorse one other) paths k path
@@ -111,7 +111,7 @@ pub set_meets : (paths : List PathValue) (k : ℕ) (path : PathValue) → k < le
 set_meets paths k path within = any_new (λ one. HaveOneWalk one path × IsNoWorse one path) paths k path within (refl, no_worse_itself path)
 
 -- a walk of which there was none is taken in
-pub insert_goes_on : (question : Question) (paths : List PathValue) (k : ℕ) (path : PathValue) → IsCandidate question path → GoesOn question paths (insert paths k path)
+pub insert_goes_on : (question : Question) (paths : List PathValue) (k : ℕ) (path : PathValue) → IsCandidate question path → IsNoWorseThan question paths (insert paths k path)
 insert_goes_on question paths k path candidate = record {
   sound = λ sound. All-append (IsCandidate question) (take k paths) (path ∷ drop k paths) (All-take (IsCandidate question) k paths sound)
       (All-cons (IsCandidate question) path (drop k paths) candidate (All-drop (IsCandidate question) k paths sound));
@@ -121,10 +121,10 @@ insert_goes_on question paths k path candidate = record {
 pub insert_meets : (paths : List PathValue) (k : ℕ) (path : PathValue) → IsMet (insert paths k path) path
 insert_meets paths k path = any_put (λ one. HaveOneWalk one path × IsNoWorse one path) paths k path (refl, no_worse_itself path)
 
-pub stays : (question : Question) (paths : List PathValue) → GoesOn question paths paths
+pub stays : (question : Question) (paths : List PathValue) → IsNoWorseThan question paths paths
 stays question paths = record { sound = λ sound. sound; met = λ other met. met }
 
-pub goes_further : (question : Question) (old mid new : List PathValue) → GoesOn question old mid → GoesOn question mid new → GoesOn question old new
+pub goes_further : (question : Question) (old mid new : List PathValue) → IsNoWorseThan question old mid → IsNoWorseThan question mid new → IsNoWorseThan question old new
 goes_further question old mid new first second = record {
   sound = λ sound. second.sound (first.sound sound);
   met = λ path met. second.met path (first.met path met);
@@ -156,9 +156,9 @@ module _ (old paths slice : List PathValue) (path : PathValue) (view : paths ≡
     pub order_replaced : InOrder by_walk paths → InOrder by_walk (set paths k last)
     order_replaced order = subst (λ (p : PathValue). InOrder by_walk (set paths k p)) (sym is) (order_set paths k path walk order)
 
-    pub goes_replaced : (question : Question) (read : PathValue) → read ≡ get_or paths k read → IsNoWorse path read → IsCandidate question path → GoesOn question old (set paths k last)
+    pub goes_replaced : (question : Question) (read : PathValue) → read ≡ get_or paths k read → IsNoWorse path read → IsCandidate question path → IsNoWorseThan question old (set paths k last)
     goes_replaced question read at better candidate =
-        subst (λ (p : PathValue). GoesOn question old (set paths k p)) (sym is) (subst (λ (xs : List PathValue). GoesOn question xs (set paths k path)) view
+        subst (λ (p : PathValue). IsNoWorseThan question old (set paths k p)) (sym is) (subst (λ (xs : List PathValue). IsNoWorseThan question xs (set paths k path)) view
         (set_goes_on question paths k path candidate walk (subst (IsNoWorse path) (at ∙ default_of paths k read path inside) better)))
 
     pub met_replaced : IsMet (set paths k last) path
@@ -170,9 +170,9 @@ module _ (old paths slice : List PathValue) (path : PathValue) (view : paths ≡
         subst (λ (xs : List PathValue). InOrder by_walk xs) (sym is)
         (order_insert paths k path (subst (λ (xs : List PathValue). k ≤ length xs) same within) (subst (λ (xs : List PathValue). IsGap by_walk path xs k) same gap) order)
 
-    pub goes_inserted : (question : Question) → IsCandidate question path → GoesOn question old new
+    pub goes_inserted : (question : Question) → IsCandidate question path → IsNoWorseThan question old new
     goes_inserted question candidate =
-        subst (GoesOn question old) (sym is) (subst (λ (xs : List PathValue). GoesOn question xs (insert paths k path)) view (insert_goes_on question paths k path candidate))
+        subst (IsNoWorseThan question old) (sym is) (subst (λ (xs : List PathValue). IsNoWorseThan question xs (insert paths k path)) view (insert_goes_on question paths k path candidate))
 
     pub met_inserted : IsMet new path
     met_inserted = subst (λ (xs : List PathValue). IsMet xs path) (sym is) (insert_meets paths k path)

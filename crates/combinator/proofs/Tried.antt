@@ -6,13 +6,13 @@ use Rattle.path_verifier.specs.Piece.{PieceValue}
 use Rattle.path_verifier.specs.Header.{header_of}
 use Rattle.path_verifier.specs.Accepted.{Request, request_of, IsAccepted}
 use Rattle.combinator.specs.Candidate.{Question, IsOf, PathValue, IsCandidate, path_with}
-use Rattle.combinator.specs.Kept.{GoesOn, AreSettled}
+use Rattle.combinator.specs.BestByWalk.{IsNoWorseThan, AreMatched}
 
-pub settled_on : (question : Question) (old new : List PathValue) (pieces : List PieceValue) → GoesOn question old new → AreSettled question old pieces → AreSettled question new pieces
-unfolding AreSettled
-settled_on question old new pieces goes settled = λ header candidate. (
-  (settled header candidate).0,
-  goes.met (path_with pieces header) (settled header candidate).1,
+pub settled_on : (question : Question) (old new : List PathValue) (pieces : List PieceValue) → IsNoWorseThan question old new → AreMatched question old pieces → AreMatched question new pieces
+unfolding AreMatched
+settled_on question old new pieces goes best_by_walk = λ header candidate. (
+  (best_by_walk header candidate).0,
+  goes.met (path_with pieces header) (best_by_walk header candidate).1,
 )
 
 pub own_one : (set : Selection) (first : PieceValue) (pieces : List PieceValue) → pieces ≡ first ∷ [] → IsOf set first → All (IsOf set) pieces

@@ -5,14 +5,14 @@ use Rattle.combinator.specs.declared.fault.CombineFault.{CombineFault}
 use Rattle.combinator.specs.declared.fault.CombineFault.TheVariants.{SameAs}
 
 -- the number and the name of a refusal
-abbrev pub told : CombineFault → ℕ × List ℕ
-told SameAs = (85, codes "SameAs")
+abbrev pub code_and_name : CombineFault → ℕ × List ℕ
+code_and_name SameAs = (85, codes "SameAs")
 
 abbrev pub code_of : CombineFault → ℕ
-code_of refusal = (told refusal).0
+code_of refusal = (code_and_name refusal).0
 
 abbrev pub name_of : CombineFault → List ℕ
-name_of refusal = (told refusal).1
+name_of refusal = (code_and_name refusal).1
 
 -- the ends of a request are two ASes, or it is refused
 abbrev pub ends_at : ℕ → ℕ → Result (Unit {0}) CombineFault

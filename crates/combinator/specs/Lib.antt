@@ -4,6 +4,6 @@ pub mod Order
 pub mod Answer
 pub mod Lasting
 pub mod Placed
-pub mod Kept
-pub mod Legs
+pub mod BestByWalk
+pub mod UsablePieces
 pub mod Choice

@@ -2,11 +2,11 @@ ghost use Rattle.std.specs.Prelude.{◌≡◌, ◌↔◌, [], length, option_map
 ghost use Rattle.combinator.specs.Candidate.{AreSpelled, question_of};
 ghost use Rattle.combinator.specs.Answer.{IsAnswer};
 
-use crate::ask::Ask;
-use crate::found::Found;
-use crate::legs::legs_of;
 use crate::ordered::in_order;
-use crate::search::settled;
+use crate::ranked::RankedPath;
+use crate::request::PathRequest;
+use crate::search::best_by_walk;
+use crate::usable_pieces::usable_pieces_of;
 use isd_as::IsdAs;
 use path_server::SegmentSet;
 use path_verifier::VerifiedPath;
@@ -18,7 +18,7 @@ use std::marker::Model;
 /// made.
 #[derive(Drop)]
 pub struct Paths<'s, 'p, A: Allocator + Clone> {
-    pub(crate) found: Vec<Found<'s, 'p, A>>,
+    pub(crate) found: Vec<RankedPath<'s, 'p, A>>,
 }
 
 impl<'s, 'p, A: Allocator + Clone> Model for Paths<'s, 'p, A> {
@@ -91,7 +91,7 @@ pub fn paths_between<'s, 'p, A: Allocator + Clone>(
     ensures spelled { OnOk result
         (AreSpelled (question_of set.entry.now src dst policy.entry.now)) }
 {
-    let ask = Ask {
+    let ask = PathRequest {
         set,
         src,
         dst,
@@ -103,14 +103,14 @@ pub fn paths_between<'s, 'p, A: Allocator + Clone>(
 /// The answer to what is asked.
 fn answered<'s, 'p, A: Allocator + Clone>(
     alloc: Global,
-    ask: &Ask<'s, 'p, A>,
+    ask: &PathRequest<'s, 'p, A>,
     limit: usize,
 ) -> Result<Paths<'s, 'p, A>, AllocError>
     ensures answer { IfOk result (IsAnswer ask.now limit) }
     ensures spelled { OnOk result (AreSpelled ask.now) }
 {
-    let legs = legs_of(alloc, ask)?;
-    let kept = settled(alloc, ask, &legs)?;
+    let usable_pieces = usable_pieces_of(alloc, ask)?;
+    let kept = best_by_walk(alloc, ask, &usable_pieces)?;
     let found = in_order(alloc, kept.into_list(), limit)?;
     Ok(Paths { found })
 }

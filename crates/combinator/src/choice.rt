@@ -27,7 +27,7 @@ impl<'s, 'p, A: Allocator + Clone> Model for Choice<'s, 'p, A> {
 }
 
 impl<'s, 'p, A: Allocator + Clone> Choice<'s, 'p, A> {
-    /// The option that is used, by its place in the list, and `None` where none leaves a path.
+    /// The option that is used, by its place in the list, and `None` if none leaves a path.
     pub fn option(&self) -> Option<usize>
         ensures { result ≡ self.now.used }
     {

@@ -13,7 +13,7 @@ use refusal::OrMemory;
 use std::alloc::{Allocator, Global};
 
 /// What [`paths_with`] gives, as a list that owns its paths, where the ends are two ASes; else
-/// [`CombineFault::SameAs`]. Want of memory stands in place of an answer alone.
+/// [`CombineFault::SameAs`]. Running out of memory stands in place of an answer alone.
 ///
 /// Takes the time of [`crate::paths_between`] for each option that is asked, and time and room for
 /// the segments of the paths that are answered.
@@ -31,7 +31,7 @@ pub fn combine<A: Allocator + Clone>(
         AnswersWith set.entry.now src dst options.entry.now limit list.used list.paths) }
     // It is given only between two ASes.
     ensures ends { OnOk result (ends_at src dst ≡ Ok tt) }
-    // Which refusal it is, want of memory apart.
+    // Which refusal it is, running out of memory apart.
     ensures refused { IfErr result (λ error. Fails error (ends_at src dst)) }
 {
     if src == dst {

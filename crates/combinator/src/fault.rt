@@ -33,7 +33,7 @@ impl CombineFault {
     }
 }
 
-/// Why no paths were answered: want of memory, or a refusal.
+/// Why no paths were answered: running out of memory, or a refusal.
 pub type CombineError = OrMemory<CombineFault>;
 
 impl From<CombineFault> for OrMemory<CombineFault> {

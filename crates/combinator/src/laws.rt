@@ -10,8 +10,8 @@ ghost use Rattle.combinator.specs.Answer.{IsAnswer, AnswersWith, asked};
 ghost use Rattle.combinator.specs.Lasting.{IsSameSet, AreAllLive};
 
 /// Two answers to one question have the same headers and walks, in one order; and under several
-/// options they use one option. So it is where the headers of the paths are of the grammar, as those
-/// of a set of segments are ([`crate::paths_between`]).
+/// options they use one option. So it is where the headers of the paths are of the grammar, as
+/// those of a set of segments are ([`crate::paths_between`]).
 pub fn answers_agree()
     ensures paths { (question : Question) (limit : ℕ) (paths others : List PathValue)
         → AreSpelled question

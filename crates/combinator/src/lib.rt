@@ -7,18 +7,18 @@
 #![tactic(auto)]
 
 mod answer;
-mod ask;
+mod best_by_walk;
 mod choice;
 mod combination;
 mod fault;
-mod found;
-mod kept;
 pub mod laws;
-mod leg;
-mod legs;
 mod ordered;
 mod path;
+mod ranked;
+mod request;
 mod search;
+mod usable_piece;
+mod usable_pieces;
 
 pub use answer::{Paths, paths_between};
 pub use choice::{Choice, paths_with};

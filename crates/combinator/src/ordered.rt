@@ -6,16 +6,16 @@ ghost use Rattle.combinator.specs.Order.{path_cmp};
 ghost use Rattle.combinator.specs.Answer.{IsBest};
 ghost use Rattle.combinator.specs.Placed.{Tied, InOrder, IsGap, Met};
 
-use crate::found::Found;
+use crate::ranked::RankedPath;
 use std::alloc::{AllocError, Allocator, Global};
 use std::cmp::Ordering;
 
 /// The first `limit` of these paths in the order of answers.
 pub(crate) fn in_order<'s, 'p, A: Allocator + Clone>(
     alloc: Global,
-    kept: Vec<Found<'s, 'p, A>>,
+    kept: Vec<RankedPath<'s, 'p, A>>,
     limit: usize,
-) -> Result<Vec<Found<'s, 'p, A>>, AllocError>
+) -> Result<Vec<RankedPath<'s, 'p, A>>, AllocError>
     ensures order { IfOk result (λ ordered. InOrder path_cmp ordered.items) }
     ensures few { IfOk result (λ ordered. length ordered.items ≤ limit) }
     ensures met { IfOk result (λ ordered. (path : PathValue) → Contains kept.entry.items path
@@ -33,8 +33,8 @@ pub(crate) fn in_order<'s, 'p, A: Allocator + Clone>(
 
 /// Takes a path into those that are in order, of which at most `limit` are kept.
 fn take_in<'s, 'p, A: Allocator + Clone>(
-    ordered: &mut Vec<Found<'s, 'p, A>>,
-    found: Found<'s, 'p, A>,
+    ordered: &mut Vec<RankedPath<'s, 'p, A>>,
+    found: RankedPath<'s, 'p, A>,
     limit: usize,
 ) -> Result<(), AllocError>
     requires order { InOrder path_cmp ordered.old.items }
@@ -60,8 +60,8 @@ fn take_in<'s, 'p, A: Allocator + Clone>(
 
 /// The place at which a path belongs, and nothing where one is there already that shows the same.
 fn place_in<'s, 'p, A: Allocator + Clone>(
-    ordered: &[Found<'s, 'p, A>],
-    found: &Found<'s, 'p, A>,
+    ordered: &[RankedPath<'s, 'p, A>],
+    found: &RankedPath<'s, 'p, A>,
 ) -> Option<usize>
     requires { InOrder path_cmp ordered.now }
     ensures tied { IfNone result (Tied path_cmp found.now ordered.now) }

@@ -2,7 +2,7 @@ ghost use Rattle.std.specs.Prelude.{◌≡◌, ◌↔◌, ◌≤◌, [], length,
 ghost use Rattle.path_verifier.specs.Walk.{walk_of};
 
 use crate::choice::Choice;
-use crate::found::Found;
+use crate::ranked::RankedPath;
 use path_header::Header;
 use path_verifier::{OwnedPiece, lend_all, own_all};
 use policy_expr::WalkHop;
@@ -125,7 +125,7 @@ impl PathList {
         self.paths.get(place)
     }
 
-    /// The policy option that was used, by its place in the list of options, and `None` where none
+    /// The policy option that was used, by its place in the list of options, and `None` if none
     /// leaves a path.
     pub fn option(&self) -> Option<usize>
         ensures { result ≡ self.now.used }
@@ -152,7 +152,7 @@ impl PathList {
 /// Copies of the paths that were found; or memory runs out.
 fn own_found<A: Allocator + Clone>(
     alloc: Global,
-    found: &[Found<'_, '_, A>],
+    found: &[RankedPath<'_, '_, A>],
 ) -> Result<Vec<Path>, AllocError>
     ensures { IfOk result (λ paths. paths.items ≡ found.now) }
 {
@@ -166,7 +166,7 @@ fn own_found<A: Allocator + Clone>(
 /// A copy of a path that was found; or memory runs out.
 fn own_path<A: Allocator + Clone>(
     alloc: Global,
-    found: &Found<'_, '_, A>,
+    found: &RankedPath<'_, '_, A>,
 ) -> Result<Path, AllocError>
     ensures { IfOk result (λ own. own ≡ found.now) }
 {

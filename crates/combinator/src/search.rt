@@ -4,57 +4,57 @@ ghost use Rattle.std.specs.Prelude.{◌≡◌, [], ◌∷◌, List, All, Contain
 ghost use Rattle.path_header.specs.Value.{HeaderValue};
 ghost use Rattle.path_verifier.specs.Piece.{PieceValue, begins_in, ends_in};
 ghost use Rattle.combinator.specs.Candidate.{IsOf, PathValue, IsCandidate};
-ghost use Rattle.combinator.specs.Kept.{IsMet, GoesOn, AreSettled};
+ghost use Rattle.combinator.specs.BestByWalk.{IsMet, IsNoWorseThan, AreMatched};
 
-use crate::ask::Ask;
-use crate::found::Found;
-use crate::kept::Kept;
-use crate::leg::Leg;
+use crate::best_by_walk::BestByWalk;
+use crate::ranked::RankedPath;
+use crate::request::PathRequest;
+use crate::usable_piece::UsablePiece;
 use path_verifier::{Pieces, accept};
 use std::alloc::{AllocError, Allocator, Global};
 
 /// Takes the path of these pieces in, where it may be sent.
-#[tactic(auto, unfolding(crate::specs::Kept::AreSettled))]
+#[tactic(auto, unfolding(crate::specs::BestByWalk::AreMatched))]
 fn consider<'s, 'p, A: Allocator + Clone>(
     alloc: Global,
-    ask: &Ask<'s, 'p, A>,
-    kept: &mut Kept<'s, 'p, A>,
+    ask: &PathRequest<'s, 'p, A>,
+    kept: &mut BestByWalk<'s, 'p, A>,
     pieces: &Pieces<'s>,
 ) -> Result<(), AllocError>
     requires { All (IsOf ask.now.set) pieces.now }
-    ensures goes { OnOk result (GoesOn ask.now kept.old kept.new) }
-    ensures settled { OnOk result (AreSettled ask.now kept.new pieces.now) }
+    ensures goes { OnOk result (IsNoWorseThan ask.now kept.old kept.new) }
+    ensures best_by_walk { OnOk result (AreMatched ask.now kept.new pieces.now) }
 {
     match accept(pieces, ask.src, ask.dst, ask.set.now(), ask.policy) {
         Err(_) => {}
-        Ok(path) => kept.keep(Found::new(alloc, path)?)?,
+        Ok(path) => kept.keep(RankedPath::new(alloc, path)?)?,
     }
     Ok(())
 }
 
 /// The paths that may be sent, one for each walk.
-pub(crate) fn settled<'s, 'p, A: Allocator + Clone>(
+pub(crate) fn best_by_walk<'s, 'p, A: Allocator + Clone>(
     alloc: Global,
-    ask: &Ask<'s, 'p, A>,
-    legs: &[Leg<'s>],
-) -> Result<Kept<'s, 'p, A>, AllocError>
-    requires { All (IsOf ask.now.set) legs.now }
+    ask: &PathRequest<'s, 'p, A>,
+    usable_pieces: &[UsablePiece<'s>],
+) -> Result<BestByWalk<'s, 'p, A>, AllocError>
+    requires { All (IsOf ask.now.set) usable_pieces.now }
     ensures sound { IfOk result (All (IsCandidate ask.now)) }
-    ensures one { IfOk result (λ kept. (first : PieceValue) → Contains legs.now first
-        → begins_in first ≡ ask.now.src → AreSettled ask.now kept (first ∷ [])) }
-    ensures two { IfOk result (λ kept. (first second : PieceValue) → Contains legs.now first
-        → begins_in first ≡ ask.now.src → Contains legs.now second
+    ensures one { IfOk result (λ kept. (first : PieceValue) → Contains usable_pieces.now first
+        → begins_in first ≡ ask.now.src → AreMatched ask.now kept (first ∷ [])) }
+    ensures two { IfOk result (λ kept. (first second : PieceValue) → Contains usable_pieces.now first
+        → begins_in first ≡ ask.now.src → Contains usable_pieces.now second
         → begins_in second ≡ ends_in first
-        → AreSettled ask.now kept (first ∷ second ∷ [])) }
+        → AreMatched ask.now kept (first ∷ second ∷ [])) }
     ensures three { IfOk result (λ kept. (first second third : PieceValue)
-        → Contains legs.now first → begins_in first ≡ ask.now.src → Contains legs.now second
-        → begins_in second ≡ ends_in first → Contains legs.now third
+        → Contains usable_pieces.now first → begins_in first ≡ ask.now.src → Contains usable_pieces.now second
+        → begins_in second ≡ ends_in first → Contains usable_pieces.now third
         → begins_in third ≡ ends_in second
-        → AreSettled ask.now kept (first ∷ second ∷ third ∷ [])) }
+        → AreMatched ask.now kept (first ∷ second ∷ third ∷ [])) }
 {
-    let mut kept = Kept::new(alloc);
-    for first in legs {
-        try_first(alloc, ask, &mut kept, legs, first)?;
+    let mut kept = BestByWalk::new(alloc);
+    for first in usable_pieces {
+        try_first(alloc, ask, &mut kept, usable_pieces, first)?;
     }
     Ok(kept)
 }
@@ -62,27 +62,27 @@ pub(crate) fn settled<'s, 'p, A: Allocator + Clone>(
 /// Tries the paths that begin with a piece, where that begins in the source.
 fn try_first<'s, 'p, A: Allocator + Clone>(
     alloc: Global,
-    ask: &Ask<'s, 'p, A>,
-    kept: &mut Kept<'s, 'p, A>,
-    legs: &[Leg<'s>],
-    first: &Leg<'s>,
+    ask: &PathRequest<'s, 'p, A>,
+    kept: &mut BestByWalk<'s, 'p, A>,
+    usable_pieces: &[UsablePiece<'s>],
+    first: &UsablePiece<'s>,
 ) -> Result<(), AllocError>
-    requires own { All (IsOf ask.now.set) legs.now }
+    requires own { All (IsOf ask.now.set) usable_pieces.now }
     requires first { IsOf ask.now.set first.now }
-    ensures goes { OnOk result (GoesOn ask.now kept.old kept.new) }
+    ensures goes { OnOk result (IsNoWorseThan ask.now kept.old kept.new) }
     ensures one { OnOk result (begins_in first.now ≡ ask.now.src
-        → AreSettled ask.now kept.new (first.now ∷ [])) }
+        → AreMatched ask.now kept.new (first.now ∷ [])) }
     ensures two { OnOk result (begins_in first.now ≡ ask.now.src → (second : PieceValue)
-        → Contains legs.now second → begins_in second ≡ ends_in first.now
-        → AreSettled ask.now kept.new (first.now ∷ second ∷ [])) }
+        → Contains usable_pieces.now second → begins_in second ≡ ends_in first.now
+        → AreMatched ask.now kept.new (first.now ∷ second ∷ [])) }
     ensures three { OnOk result (begins_in first.now ≡ ask.now.src
-        → (second third : PieceValue) → Contains legs.now second
-        → begins_in second ≡ ends_in first.now → Contains legs.now third
+        → (second third : PieceValue) → Contains usable_pieces.now second
+        → begins_in second ≡ ends_in first.now → Contains usable_pieces.now third
         → begins_in third ≡ ends_in second
-        → AreSettled ask.now kept.new (first.now ∷ second ∷ third ∷ [])) }
+        → AreMatched ask.now kept.new (first.now ∷ second ∷ third ∷ [])) }
 {
     if first.begins() == ask.src {
-        from_first(alloc, ask, kept, legs, first)?;
+        from_first(alloc, ask, kept, usable_pieces, first)?;
     }
     Ok(())
 }
@@ -90,26 +90,26 @@ fn try_first<'s, 'p, A: Allocator + Clone>(
 /// Tries the paths that begin with a piece.
 fn from_first<'s, 'p, A: Allocator + Clone>(
     alloc: Global,
-    ask: &Ask<'s, 'p, A>,
-    kept: &mut Kept<'s, 'p, A>,
-    legs: &[Leg<'s>],
-    first: &Leg<'s>,
+    ask: &PathRequest<'s, 'p, A>,
+    kept: &mut BestByWalk<'s, 'p, A>,
+    usable_pieces: &[UsablePiece<'s>],
+    first: &UsablePiece<'s>,
 ) -> Result<(), AllocError>
-    requires own { All (IsOf ask.now.set) legs.now }
+    requires own { All (IsOf ask.now.set) usable_pieces.now }
     requires first { IsOf ask.now.set first.now }
-    ensures goes { OnOk result (GoesOn ask.now kept.old kept.new) }
-    ensures one { OnOk result (AreSettled ask.now kept.new (first.now ∷ [])) }
-    ensures two { OnOk result ((second : PieceValue) → Contains legs.now second
+    ensures goes { OnOk result (IsNoWorseThan ask.now kept.old kept.new) }
+    ensures one { OnOk result (AreMatched ask.now kept.new (first.now ∷ [])) }
+    ensures two { OnOk result ((second : PieceValue) → Contains usable_pieces.now second
         → begins_in second ≡ ends_in first.now
-        → AreSettled ask.now kept.new (first.now ∷ second ∷ [])) }
-    ensures three { OnOk result ((second third : PieceValue) → Contains legs.now second
-        → begins_in second ≡ ends_in first.now → Contains legs.now third
+        → AreMatched ask.now kept.new (first.now ∷ second ∷ [])) }
+    ensures three { OnOk result ((second third : PieceValue) → Contains usable_pieces.now second
+        → begins_in second ≡ ends_in first.now → Contains usable_pieces.now third
         → begins_in third ≡ ends_in second
-        → AreSettled ask.now kept.new (first.now ∷ second ∷ third ∷ [])) }
+        → AreMatched ask.now kept.new (first.now ∷ second ∷ third ∷ [])) }
 {
     consider(alloc, ask, kept, &one_of(first))?;
-    for second in legs {
-        try_second(alloc, ask, kept, legs, first, second)?;
+    for second in usable_pieces {
+        try_second(alloc, ask, kept, usable_pieces, first, second)?;
     }
     Ok(())
 }
@@ -117,25 +117,25 @@ fn from_first<'s, 'p, A: Allocator + Clone>(
 /// Tries the paths that begin with two pieces, where they meet.
 fn try_second<'s, 'p, A: Allocator + Clone>(
     alloc: Global,
-    ask: &Ask<'s, 'p, A>,
-    kept: &mut Kept<'s, 'p, A>,
-    legs: &[Leg<'s>],
-    first: &Leg<'s>,
-    second: &Leg<'s>,
+    ask: &PathRequest<'s, 'p, A>,
+    kept: &mut BestByWalk<'s, 'p, A>,
+    usable_pieces: &[UsablePiece<'s>],
+    first: &UsablePiece<'s>,
+    second: &UsablePiece<'s>,
 ) -> Result<(), AllocError>
-    requires own { All (IsOf ask.now.set) legs.now }
+    requires own { All (IsOf ask.now.set) usable_pieces.now }
     requires first { IsOf ask.now.set first.now }
     requires second { IsOf ask.now.set second.now }
-    ensures goes { OnOk result (GoesOn ask.now kept.old kept.new) }
+    ensures goes { OnOk result (IsNoWorseThan ask.now kept.old kept.new) }
     ensures two { OnOk result (begins_in second.now ≡ ends_in first.now
-        → AreSettled ask.now kept.new (first.now ∷ second.now ∷ [])) }
+        → AreMatched ask.now kept.new (first.now ∷ second.now ∷ [])) }
     ensures three { OnOk result (begins_in second.now ≡ ends_in first.now
-        → (third : PieceValue) → Contains legs.now third
+        → (third : PieceValue) → Contains usable_pieces.now third
         → begins_in third ≡ ends_in second.now
-        → AreSettled ask.now kept.new (first.now ∷ second.now ∷ third ∷ [])) }
+        → AreMatched ask.now kept.new (first.now ∷ second.now ∷ third ∷ [])) }
 {
     if second.begins() == first.ends() {
-        from_second(alloc, ask, kept, legs, first, second)?;
+        from_second(alloc, ask, kept, usable_pieces, first, second)?;
     }
     Ok(())
 }
@@ -143,24 +143,24 @@ fn try_second<'s, 'p, A: Allocator + Clone>(
 /// Tries the paths that begin with two pieces.
 fn from_second<'s, 'p, A: Allocator + Clone>(
     alloc: Global,
-    ask: &Ask<'s, 'p, A>,
-    kept: &mut Kept<'s, 'p, A>,
-    legs: &[Leg<'s>],
-    first: &Leg<'s>,
-    second: &Leg<'s>,
+    ask: &PathRequest<'s, 'p, A>,
+    kept: &mut BestByWalk<'s, 'p, A>,
+    usable_pieces: &[UsablePiece<'s>],
+    first: &UsablePiece<'s>,
+    second: &UsablePiece<'s>,
 ) -> Result<(), AllocError>
-    requires own { All (IsOf ask.now.set) legs.now }
+    requires own { All (IsOf ask.now.set) usable_pieces.now }
     requires first { IsOf ask.now.set first.now }
     requires second { IsOf ask.now.set second.now }
-    ensures goes { OnOk result (GoesOn ask.now kept.old kept.new) }
+    ensures goes { OnOk result (IsNoWorseThan ask.now kept.old kept.new) }
     ensures two { OnOk result
-        (AreSettled ask.now kept.new (first.now ∷ second.now ∷ [])) }
-    ensures three { OnOk result ((third : PieceValue) → Contains legs.now third
+        (AreMatched ask.now kept.new (first.now ∷ second.now ∷ [])) }
+    ensures three { OnOk result ((third : PieceValue) → Contains usable_pieces.now third
         → begins_in third ≡ ends_in second.now
-        → AreSettled ask.now kept.new (first.now ∷ second.now ∷ third ∷ [])) }
+        → AreMatched ask.now kept.new (first.now ∷ second.now ∷ third ∷ [])) }
 {
     consider(alloc, ask, kept, &two_of(first, second))?;
-    for third in legs {
+    for third in usable_pieces {
         try_third(alloc, ask, kept, first, second, third)?;
     }
     Ok(())
@@ -169,18 +169,18 @@ fn from_second<'s, 'p, A: Allocator + Clone>(
 /// Tries the path of three pieces, where the last two meet.
 fn try_third<'s, 'p, A: Allocator + Clone>(
     alloc: Global,
-    ask: &Ask<'s, 'p, A>,
-    kept: &mut Kept<'s, 'p, A>,
-    first: &Leg<'s>,
-    second: &Leg<'s>,
-    third: &Leg<'s>,
+    ask: &PathRequest<'s, 'p, A>,
+    kept: &mut BestByWalk<'s, 'p, A>,
+    first: &UsablePiece<'s>,
+    second: &UsablePiece<'s>,
+    third: &UsablePiece<'s>,
 ) -> Result<(), AllocError>
     requires first { IsOf ask.now.set first.now }
     requires second { IsOf ask.now.set second.now }
     requires third { IsOf ask.now.set third.now }
-    ensures goes { OnOk result (GoesOn ask.now kept.old kept.new) }
+    ensures goes { OnOk result (IsNoWorseThan ask.now kept.old kept.new) }
     ensures three { OnOk result (begins_in third.now ≡ ends_in second.now
-        → AreSettled ask.now kept.new (first.now ∷ second.now ∷ third.now ∷ [])) }
+        → AreMatched ask.now kept.new (first.now ∷ second.now ∷ third.now ∷ [])) }
 {
     if third.begins() == second.ends() {
         consider(alloc, ask, kept, &three_of(first, second, third))?;
@@ -189,7 +189,7 @@ fn try_third<'s, 'p, A: Allocator + Clone>(
 }
 
 /// A piece.
-fn one_of<'s>(first: &Leg<'s>) -> Pieces<'s>
+fn one_of<'s>(first: &UsablePiece<'s>) -> Pieces<'s>
     ensures { result ≡ first.now ∷ [] }
 {
     let mut pieces = Pieces::new();
@@ -200,7 +200,7 @@ fn one_of<'s>(first: &Leg<'s>) -> Pieces<'s>
 }
 
 /// Two pieces.
-fn two_of<'s>(first: &Leg<'s>, second: &Leg<'s>) -> Pieces<'s>
+fn two_of<'s>(first: &UsablePiece<'s>, second: &UsablePiece<'s>) -> Pieces<'s>
     ensures { result ≡ first.now ∷ second.now ∷ [] }
 {
     let mut pieces = one_of(first);
@@ -211,7 +211,11 @@ fn two_of<'s>(first: &Leg<'s>, second: &Leg<'s>) -> Pieces<'s>
 }
 
 /// Three pieces.
-fn three_of<'s>(first: &Leg<'s>, second: &Leg<'s>, third: &Leg<'s>) -> Pieces<'s>
+fn three_of<'s>(
+    first: &UsablePiece<'s>,
+    second: &UsablePiece<'s>,
+    third: &UsablePiece<'s>,
+) -> Pieces<'s>
     ensures { result ≡ first.now ∷ second.now ∷ third.now ∷ [] }
 {
     let mut pieces = two_of(first, second);

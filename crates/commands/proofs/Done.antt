@@ -13,11 +13,11 @@ use Rattle.step_line.specs.Turn.{Turn}
 use Rattle.step_line.specs.Line.{line_of}
 use Rattle.step_line.specs.Fault.{Prints as StepPrints}
 use Rattle.event_lines.specs.declared.fault.RunFault.TheVariants as run
-use Rattle.event_lines.specs.declared.hearing.Hearing.{Hearing}
-use Rattle.event_lines.specs.declared.hearing.Hearing.TheVariants.{All, Preparing}
+use Rattle.event_lines.specs.declared.accepted.AcceptedLines.{AcceptedLines}
+use Rattle.event_lines.specs.declared.accepted.AcceptedLines.TheVariants.{All, Preparing}
 use Rattle.event_lines.specs.Run.{Listens}
 use Rattle.work_lines.specs.declared.fault.WorkFault.TheVariants as work
-use Rattle.event_lines.specs.Talk.{Unbegun}
+use Rattle.event_lines.specs.Answers.{Unbegun}
 use Rattle.commands.specs.declared.command.Command.{Command}
 use Rattle.commands.specs.declared.command.Command.TheVariants as command
 use Rattle.commands.specs.declared.fault.WordsFault.{WordsFault}
@@ -69,9 +69,9 @@ Appends-none None new keeps = tt
 Appends-none (Some x) None keeps = absurd keeps
 Appends-none (Some x) (Some y) keeps = keeps ∙ sym (append-nil x)
 
-Listens-unbegun : (hearing : Hearing) (before after held holds : Option (List ℕ)) → Keeps before after → Keeps held holds
-    → Listens hearing (Err run.Memory) before after held holds
-Listens-unbegun hearing before after held holds still quiet = (
+Listens-unbegun : (accepted : AcceptedLines) (before after held holds : Option (List ℕ)) → Keeps before after → Keeps held holds
+    → Listens accepted (Err run.Memory) before after held holds
+Listens-unbegun accepted before after held holds still quiet = (
   [],
   [],
   (

@@ -90,15 +90,15 @@ of_work work.Memory = Memory
 of_work work.Write = Write
 
 -- what is told of a fault on standard error
-abbrev pub told_of : CommandFault → List ℕ
-told_of (Usage text) = string_bytes text
-told_of PacketText = codes "scionet: bad packet text\n"
-told_of Topology = codes "scionet: topology refused\n"
-told_of Workers = codes "scionet: workers refused\n"
-told_of Memory = codes "scionet: out of memory\n"
-told_of Read = codes "scionet: read failed\n"
-told_of Write = codes "scionet: write failed\n"
-told_of InputTooLong = codes "scionet: input too long\n"
+abbrev pub text_of_fault : CommandFault → List ℕ
+text_of_fault (Usage text) = string_bytes text
+text_of_fault PacketText = codes "scionet: bad packet text\n"
+text_of_fault Topology = codes "scionet: topology refused\n"
+text_of_fault Workers = codes "scionet: workers refused\n"
+text_of_fault Memory = codes "scionet: out of memory\n"
+text_of_fault Read = codes "scionet: read failed\n"
+text_of_fault Write = codes "scionet: write failed\n"
+text_of_fault InputTooLong = codes "scionet: input too long\n"
 
 -- the status that a fault leads to
 abbrev pub status_of : CommandFault → Status

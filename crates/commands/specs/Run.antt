@@ -15,7 +15,7 @@ use Rattle.commands.specs.declared.fault.CommandFault.{CommandFault}
 use Rattle.commands.specs.declared.fault.CommandFault.TheVariants.{Usage, PacketText, Write, Memory}
 use Rattle.commands.specs.declared.status.Status.{Status}
 use Rattle.commands.specs.declared.status.Status.TheVariants.{Done}
-use Rattle.commands.specs.Fault.{of_input, of_run, of_work, status_of, told_of}
+use Rattle.commands.specs.Fault.{of_input, of_run, of_work, status_of, text_of_fault}
 
 -- ---- streams
 
@@ -99,8 +99,8 @@ abbrev pub after_work : Result (Unit {0}) WorkFault → Result (Unit {0}) Comman
 after_work (Ok done) = Ok done
 after_work (Err fault) = Err (of_work fault)
 
--- a network's run with its packets carried by so many workers, with so many places in an inbox: the
--- lines of the source that prepare it are answered on the sink, and the ends of the flights
+-- a network's run with its packets carried by `workers` workers, with `slots` places in an inbox:
+-- the lines of the source that prepare it are answered on the sink, and the ends of the flights
 -- reported there, or why not
 abbrev pub CarriesPackets : Result (Unit {0}) CommandFault → ℕ → ℕ → Change → Change → Type 0
 CarriesPackets answer workers slots source sink = (run : Result (Unit {0}) WorkFault)
@@ -130,8 +130,8 @@ Does answer (Some (command.Step turn)) source sink = Steps answer turn source si
 
 -- a fault is told of on standard error, whole where no write of it failed
 abbrev pub TellsOf : CommandFault → Change → Type 0
-TellsOf fault errors = AppendsFront errors.old errors.new (told_of fault)
-    × (errors.has_failed ≡ false → Appends errors.old errors.new (told_of fault))
+TellsOf fault errors = AppendsFront errors.old errors.new (text_of_fault fault)
+    × (errors.has_failed ≡ false → Appends errors.old errors.new (text_of_fault fault))
 
 -- so is that of an answer, if it is one
 abbrev pub Tells : {A : Type 0} → Result A CommandFault → Change → Type 0

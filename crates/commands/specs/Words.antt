@@ -11,7 +11,7 @@ use Rattle.clap.specs.declared.builder.command.Command.{Command}
 use Rattle.clap.specs.declared.builder.command.Command.TheViews.{out-Command}
 use Rattle.refusal.specs.Optional.{◌>>=◌}
 use Rattle.step_line.specs.Fields.{number_at}
-use Rattle.step_line.specs.Turn.{OptionTexts, Turn, turn_of}
+use Rattle.step_line.specs.Turn.{StepOptions, Turn, turn_of}
 use Rattle.commands.specs.declared.command.Command.{Command as Asked}
 use Rattle.commands.specs.declared.command.Command.TheVariants.{Step, Run, Work}
 
@@ -64,7 +64,7 @@ abbrev pub IsLocal : Command → Type 0
 IsLocal command = (out-Command command).has_globals ≡ false
 
 -- the texts of the options among the matches
-abbrev pub texts_in : List Row → Option OptionTexts
+abbrev pub texts_in : List Row → Option StepOptions
 texts_in rows = do
   ia ← first_of (codes "ia") rows
   router ← first_of (codes "router") rows

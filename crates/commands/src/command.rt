@@ -41,7 +41,7 @@ fn explained(alloc: Global, error: &Error) -> WordsFault
     }
 }
 
-/// The command that the matches name, and [`Command::Run`] where they name none.
+/// The command that the matches name, and [`Command::Run`] if they name none.
 fn named(alloc: Global, matches: &ArgMatches<'_>) -> Result<Option<Command>, AllocError>
     ensures value { IfOk result (λ o. o ≡ command_in (subcommand_rows_of matches.now)) }
     ensures range { IfOk result (λ o. IfSome o IsInRange) }
@@ -64,9 +64,9 @@ fn named(alloc: Global, matches: &ArgMatches<'_>) -> Result<Option<Command>, All
 impl Command {
     /// The command that the words behind the program's name ask for.
     ///
-    /// [`WordsFault::Usage`] where `clap` refuses them or they ask for help, with its text, and
+    /// [`WordsFault::Usage`] if `clap` refuses them or they ask for help, with its text, and
     /// where those of `step` describe no turn or a number of `work` can't be read, with the text
-    /// `scionet: usage`; [`WordsFault::Memory`] for want of memory.
+    /// `scionet: usage`; [`WordsFault::Memory`] if memory runs out.
     #[tactic(auto, unfolding(crate::specs::Words::asked))]
     pub fn parse<'a>(alloc: Global, words: &'a [&'a str]) -> Result<Command, WordsFault>
         ensures asks { Asks result (asked (map (λ word. word.now) words.entry.now)) }

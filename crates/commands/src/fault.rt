@@ -1,5 +1,5 @@
 ghost use Rattle.std.specs.Prelude.{◌≡◌};
-ghost use Rattle.commands.specs.Fault.{IsWordsFault, of_input, of_run, of_step, of_words, of_work, status_of, told_of};
+ghost use Rattle.commands.specs.Fault.{IsWordsFault, of_input, of_run, of_step, of_words, of_work, status_of, text_of_fault};
 ghost use Rattle.commands.specs.declared.fault.CommandFault.TheVariants as command;
 ghost use Rattle.commands.specs.declared.fault.WordsFault.TheVariants as words;
 
@@ -35,8 +35,8 @@ impl WordsFault {
         }
     }
 
-    /// The fault of words that can't be read: want of memory, or a refused command line, since
-    /// words that are no UTF-8 are no words of a command.
+    /// The fault of words that can't be read: running out of memory, or a refused command line,
+    /// since words that are no UTF-8 are no words of a command.
     pub fn unreadable(alloc: Global, error: &io::Error) -> WordsFault
         ensures { IsWordsFault result }
     {
@@ -98,7 +98,7 @@ impl CommandFault {
 
     /// What standard error says of the fault, line ends included.
     pub fn told(&self) -> &str
-        ensures { result.now ≡ told_of self.now }
+        ensures { result.now ≡ text_of_fault self.now }
     {
         match self {
             CommandFault::Usage(text) => text.as_str(),

@@ -7,7 +7,7 @@ ghost use Rattle.commands.specs.Words.{IsInRange, turn_in, work_in};
 use crate::command::Command;
 use clap::ArgMatches;
 use std::alloc::{AllocError, Global};
-use step_line::{StepCommand, Texts, number};
+use step_line::{StepArgs, StepCommand, number};
 
 /// The first text that was given for this option.
 #[tactic(auto, using(crate::proofs::Matches::first_of_rows))]
@@ -62,7 +62,7 @@ pub(crate) fn turn(
         return Ok(None);
     };
     let Some(interfaces) = interfaces_of(matches) else {
-        let texts = Texts {
+        let texts = StepArgs {
             ia,
             router,
             key,
@@ -73,7 +73,7 @@ pub(crate) fn turn(
         };
         return StepCommand::from_texts(alloc, texts);
     };
-    let texts = Texts {
+    let texts = StepArgs {
         ia,
         router,
         key,

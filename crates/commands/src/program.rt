@@ -50,8 +50,8 @@ fn run_network<S: Source, K: Sink>(
     Ok(())
 }
 
-/// The network that the source's lines prepare, with its packets carried by so many workers, whose
-/// inboxes have so many places.
+/// The network that the source's lines prepare, with its packets carried by `workers` workers,
+/// whose inboxes have `slots` places each.
 fn run_workers<R: Threads + Wait + Sync, S: Source, K: Sink>(
     rt: &R,
     alloc: Global,
@@ -78,7 +78,7 @@ fn run_workers<R: Threads + Wait + Sync, S: Source, K: Sink>(
 /// or the sink; [`CommandFault::InputTooLong`] where byte 67,108,865 is read;
 /// [`CommandFault::PacketText`] as in [`StepCommand::line`]; [`CommandFault::Topology`] as in
 /// [`run_lines`], after its answer; [`CommandFault::Workers`] as in [`work_lines`], after all
-/// replies; [`CommandFault::Memory`] for want of memory.
+/// replies; [`CommandFault::Memory`] if memory runs out.
 pub fn execute<'a, R: Threads + Wait + Sync, S: Source, K: Sink>(
     rt: &R,
     alloc: Global,
@@ -111,7 +111,7 @@ pub fn end<E: Sink>(fault: &CommandFault, errors: &mut E) -> Status
 /// Runs `scionet` with these words behind the program's name: does what they ask for, and tells of
 /// a fault on `errors`.
 ///
-/// [`Status::Refused`] where the words are refused or ask for help; [`Status::Failed`] after any
+/// [`Status::Refused`] if the words are refused or ask for help; [`Status::Failed`] after any
 /// other fault.
 pub fn run<'a, R: Threads + Wait + Sync, S: Source, K: Sink, E: Sink>(
     rt: &R,

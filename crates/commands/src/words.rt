@@ -8,7 +8,8 @@ use clap::builder::ValueParser;
 use clap::{Arg, ArgAction, Command};
 use std::alloc::{AllocError, Global};
 
-/// What `--version` prints behind the program's name: its version, and the toolchain that proved it.
+/// What `--version` prints behind the program's name: its version, and the toolchain that proved
+/// it.
 static VERSION: &str = "0.1.0, proved by rattle-kit-13f logic dac8208d650f15bf";
 
 /// What stands at the end of the program's long help.

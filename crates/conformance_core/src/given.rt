@@ -99,8 +99,8 @@ fn set_first(header: &mut Header, seg_id: u16) {
     }
 }
 
-/// The answers to a packet that is sent over this segment, with this accumulator in place of its own
-/// where one is given, and to three turns of it.
+/// The answers to a packet that is sent over this segment, with this accumulator in place of its
+/// own where one is given, and to three turns of it.
 fn answers(alloc: Global, segment: &Segment, other: Option<u16>) -> Result<[u16; 4], Fail> {
     let topology = Topology::from_json(alloc, row().as_bytes())?;
     let mut net = Net::new(alloc, topology);

@@ -1,7 +1,7 @@
 //! A run of events over three ASes in a row: a packet goes from the last to the first.
 
 use crate::given::step;
-use forwarding::Place;
+use forwarding::PacketLocation;
 use isd_as::IfId;
 use network_core::{Event, Net, Stopped, run};
 use policy_expr::{OptionText, PolicyText, WalkHop};
@@ -64,7 +64,7 @@ fn topology(alloc: Global, shortage: &Shortage) -> Option<Topology> {
 }
 
 /// The network after the events. Where memory runs out at one of them, that one and all behind it
-/// happen in the network that is handed back.
+/// happen in the network that is returned.
 fn network(alloc: Global, shortage: &Shortage) -> Option<Net> {
     let any = [OptionText {
         text: PolicyText {
@@ -104,7 +104,7 @@ fn a_run_delivers_its_packet(rt: HostRuntime) -> Result<(), Fail> {
     assert_eq!(rt; net.now(), 1000);
     assert_eq!(rt; net.packets().len(), 1);
     let packet = net.packet(0).ok_or(AllocError)?;
-    assert_eq!(rt; packet.place(), Place::Delivered);
+    assert_eq!(rt; packet.place(), PacketLocation::Delivered);
     assert_eq!(rt; packet.passed(), walk().as_slice());
     Ok(())
 }

@@ -233,7 +233,7 @@ fn changes_what_is_named(rt: HostRuntime) -> Result<(), Fail> {
     Ok(())
 }
 
-/// A ring of so many core ASes, with so many links between neighbours.
+/// A ring of core ASes, with several links between neighbours.
 fn ring(rt: &HostRuntime, ases: u32, links: u32) -> Result<String, Fail>
     requires { 0 < ases }
 {
@@ -275,7 +275,7 @@ fn limits_are_exact(rt: HostRuntime) -> Result<(), Fail> {
     Ok(())
 }
 
-/// The sentence of each refusal, and of want of memory.
+/// The sentence of each refusal, and of running out of memory.
 #[test]
 fn sentences(rt: HostRuntime) -> Result<(), Fail> {
     let alloc = rt.alloc();

@@ -25,7 +25,7 @@ fn texts_of<'a>(alloc: Global, sequences: &[&'a str]) -> Result<Vec<OptionText<'
     Ok(texts)
 }
 
-/// What a refusal of options is reported by, 1 for want of memory, and their number where there is
+/// What a refusal of options is reported by, 1 if memory runs out, and their number where there is
 /// none.
 fn told_of<A: Allocator + Clone>(
     answer: Result<Vec<PolicyOption<A>, A>, OptionError>,

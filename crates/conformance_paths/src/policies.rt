@@ -31,7 +31,7 @@ fn in_isds(alloc: Global, isds: &[u16]) -> Result<Vec<WalkHop>, AllocError> {
     Ok(walk)
 }
 
-/// What a refusal is reported by, 0 where there is none, 1 for want of memory.
+/// What a refusal is reported by, 0 where there is none, 1 if memory runs out.
 fn code_of<T: Drop>(answer: Result<T, PolicyError>) -> u16 {
     match answer {
         Ok(_) => 0,
@@ -471,7 +471,7 @@ fn reports_sequences(rt: HostRuntime) -> Result<(), Fail> {
     expect_report(&rt, alloc, PolicyFault::TooLarge, 64, "TooLarge", text)
 }
 
-/// What refusals of lists, and want of memory, are reported by.
+/// What refusals of lists, and running out of memory, are reported by.
 #[test]
 fn reports_lists(rt: HostRuntime) -> Result<(), Fail> {
     let alloc = rt.alloc();

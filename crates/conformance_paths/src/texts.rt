@@ -2,7 +2,7 @@
 
 use std::alloc::{AllocError, Global};
 
-/// The text so many times.
+/// The text, repeated `count` times.
 fn times(alloc: Global, text: &str, count: usize) -> Result<String, AllocError> {
     let mut all = String::new(alloc);
     for _ in 0..count {
@@ -41,7 +41,7 @@ pub(crate) fn printed_stars(alloc: Global) -> Result<String, AllocError> {
     format!(in alloc; "1-100{signs}")
 }
 
-/// The item `0` in so many parentheses.
+/// The item `0` in `count` pairs of parentheses.
 pub(crate) fn nested(alloc: Global, depth: usize) -> Result<String, AllocError> {
     let open = times(alloc, "(", depth)?;
     let closed = times(alloc, ")", depth)?;

@@ -12,7 +12,7 @@ use std::alloc::{AllocError, Allocator, Global};
 pub(crate) enum Gift {
     /// The one right value.
     Right,
-    /// Want of memory.
+    /// Running out of memory.
     Memory,
     /// Another value, or a refusal.
     Wrong,
@@ -56,7 +56,7 @@ fn judged(is_right: bool) -> Gift {
     if is_right { Gift::Right } else { Gift::Wrong }
 }
 
-/// Whether no value is want of memory.
+/// Whether no value is running out of memory.
 fn without_policy(error: PolicyError) -> Gift {
     match error {
         PolicyError::Memory => Gift::Memory,

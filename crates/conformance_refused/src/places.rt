@@ -46,8 +46,8 @@ fn tried<B: Allocator>(
 /// Refuses each allocation of a call in turn, alone or with all after it, until none is refused,
 /// and tells how many there were.
 ///
-/// The call wants memory exactly where one was refused, gives its value again with ample memory,
-/// and leaves no block.
+/// The call runs out of memory exactly where one was refused, gives its value again with ample
+/// memory, and leaves no block.
 fn expect_each<B: Allocator>(
     rt: &impl Abort,
     alloc: Global,
@@ -80,7 +80,7 @@ fn expect_each<B: Allocator>(
 }
 
 /// The same on the heap and in an arena, each with the one allocation refused and with all from it
-/// on. The call asks for at least so many each time.
+/// on. The call asks for at least that many each time.
 fn expect_here_and_there(
     rt: &impl Abort,
     alloc: Global,
@@ -109,8 +109,8 @@ fn given_over(
     call.at(alloc, &arena)
 }
 
-/// Arenas that are refused each chunk from one on, until none is refused: the call wants memory
-/// exactly where one was, and no chunk is left.
+/// Arenas that are refused each chunk from one on, until none is refused: the call runs out of
+/// memory exactly where one was, and no chunk is left.
 fn expect_chunks(rt: &impl Abort, alloc: Global, call: &Call<'_>) -> Result<(), Fail> {
     let chunks = Refusing::new(alloc);
     for number in 1..MANY {
@@ -133,15 +133,15 @@ fn expect_chunks(rt: &impl Abort, alloc: Global, call: &Call<'_>) -> Result<(), 
     Ok(())
 }
 
-/// What a call gives in a new arena of at most so many bytes.
+/// What a call gives in a new arena of at most `limit` bytes.
 fn given_within(alloc: Global, bytes: usize, call: &Call<'_>) -> Result<Gift, AllocError> {
     let arena = Bump::new(alloc);
     arena.set_allocation_limit(Some(bytes));
     call.at(alloc, &arena)
 }
 
-/// Arenas of more and more bytes: the call wants memory in the small ones, and from one on gives
-/// its value in each.
+/// Arenas of more and more bytes: the call runs out of memory in the small ones, and from one on
+/// gives its value in each.
 fn expect_limits(rt: &impl Abort, alloc: Global, call: &Call<'_>) -> Result<(), Fail> {
     let mut last = Gift::Memory;
     for bytes in (0..MANY_BYTES).step_by(32) {

@@ -1,4 +1,4 @@
-//! Texts that are refused: want of memory never stands for a refusal.
+//! Texts that are refused: running out of memory never stands for a refusal.
 
 use policy_expr::{Acl, AclText, PolicyError, PolicyFault, Seq};
 use refusing::{Allocations, Refusing};
@@ -13,7 +13,7 @@ fn refusal<T: Drop>(answer: Result<T, PolicyError>) -> Option<PolicyFault> {
     }
 }
 
-/// `0` in so many parentheses.
+/// `0` in pairs of parentheses.
 fn nested(alloc: Global, depth: usize) -> Result<String, AllocError> {
     let mut text = String::from_str(alloc, "0")?;
     for _ in 0..depth {
@@ -22,7 +22,7 @@ fn nested(alloc: Global, depth: usize) -> Result<String, AllocError> {
     Ok(text)
 }
 
-/// `0` so many times.
+/// `0`, repeated.
 fn zeros(alloc: Global, count: usize) -> Result<String, AllocError> {
     let mut text = String::new(alloc);
     for _ in 0..count {

@@ -16,7 +16,7 @@ fn within(as_number: u64) -> WalkHop {
     }
 }
 
-/// `1|0` so many times.
+/// `1|0`, repeated.
 fn pairs(alloc: Global, count: usize) -> Result<String, AllocError> {
     let mut text = String::from_str(alloc, "1|0")?;
     for _ in 1..count {

@@ -22,7 +22,7 @@ use std::thread;
 /// How often a call is made that a reader may make again.
 const TIMES: usize = 1_000;
 
-/// A board of so many readers.
+/// A board with room for `readers` readers.
 pub(crate) fn boarded<R: Wait>(
     rt: &R,
     alloc: Global,
@@ -136,7 +136,7 @@ pub(crate) fn found(
     None
 }
 
-/// A daemon with room for so many answers.
+/// A daemon with room for `capacity` answers.
 pub(crate) fn daemon(alloc: Global, capacity: usize, shortage: &Shortage) -> Option<Daemon>
     requires some { 0 < capacity }
     requires few { capacity ≤ 1024 }

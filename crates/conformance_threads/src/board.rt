@@ -12,8 +12,8 @@ use std::test::Fail;
 use std::thread;
 use std::thread::{Threads, join};
 
-/// What is found before the segment is published, after it, at a second at which it has expired, and
-/// after it was swept. The reader learns what was published.
+/// What is found before the segment is published, after it, at a second at which it has expired,
+/// and after it was swept. The reader learns what was published.
 fn row<R: Wait>(
     rt: &R,
     alloc: Global,

@@ -104,8 +104,8 @@ fn once<R: Wait>(
     made(alloc, &mut reader, shortage)
 }
 
-/// An answer by a daemon wants memory in no more cases than one without it, so none for keeping it:
-/// those who refuse the allocations count the cases of this test and of the next.
+/// An answer by a daemon runs out of memory in no more cases than one without it, so none for
+/// keeping it: those who refuse the allocations count the cases of this test and of the next.
 #[test]
 fn an_answer_is_asked_for(rt: HostRuntime) -> Result<(), Fail> {
     let shortage = Shortage::new();

@@ -1,9 +1,9 @@
-//! Tests of what threads share, over the crates below: what the contracts leave to tests, and worked
-//! rows.
+//! Tests of what threads share, over the crates below: what the contracts leave to tests, and
+//! worked rows.
 //!
-//! Each call may want memory, and is then made once more; but only one call of a test may. So these
-//! tests pass where any one allocation of theirs is refused, each in turn, and a test tells on
-//! standard output what wanted memory. The sentences of refusals stand apart from that.
+//! Each call may run out of memory, and is then made once more; but only one call of a test may. So
+//! these tests pass where any one allocation of theirs is refused, each in turn, and a test tells
+//! on standard output what wanted memory. The sentences of refusals stand apart from that.
 #![tactic(auto)]
 
 #[cfg(test)]

@@ -43,7 +43,7 @@ fn last_entry() -> Entry {
     )
 }
 
-/// What a refusal is reported by, 0 where there is none, 1 for want of memory.
+/// What a refusal is reported by, 0 where there is none, 1 if memory runs out.
 fn code_of<T: Drop>(answer: Result<T, SegmentError>) -> u16 {
     match answer {
         Ok(_) => 0,

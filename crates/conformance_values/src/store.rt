@@ -42,7 +42,7 @@ fn worked(alloc: Global, beta0: u16) -> Result<Segment, Fail> {
 }
 
 /// What registering a copy of a segment answers: 1 where it is new, 0 where it is known, or the
-/// code of the refusal; 2 where memory ran out, and 3 where another segment is handed back.
+/// code of the refusal; 2 where memory ran out, and 3 where another segment is returned.
 fn answer_to(
     alloc: Global,
     store: &mut PathStore,

@@ -15,7 +15,7 @@ subgraph cluster_2 { label=\"ISD 2\"; subgraph \"cluster_2-ff00:0:210\" { label=
 }
 ";
 
-/// An AS with so many routers.
+/// An AS with this number of routers.
 fn listed(ia: &str, core: bool, routers: u8) -> Result<AsEntry, Fail> {
     Ok(AsEntry {
         ia: IsdAs::parse(ia)?,

@@ -2,7 +2,7 @@ use packet_view::packet_lines;
 use std::alloc::Global;
 use std::process::Abort;
 use std::test::Fail;
-use step_line::{StepCommand, StepFault, Texts};
+use step_line::{StepArgs, StepCommand, StepFault};
 
 /// A packet of two hops from 1-ff00:0:111 to 1-ff00:0:110, at its first hop.
 const RIGHT: &str =
@@ -22,8 +22,8 @@ fn texts<'a, 'm>(
     now: &'a str,
     previous: Option<&'a str>,
     interfaces: &'m [&'a str],
-) -> Texts<'a, 'm> {
-    Texts {
+) -> StepArgs<'a, 'm> {
+    StepArgs {
         ia: "1-ff00:0:111",
         router: "0",
         key: "6b",
@@ -38,7 +38,7 @@ fn texts<'a, 'm>(
 fn expect_end(
     rt: &impl Abort,
     alloc: Global,
-    texts: Texts<'_, '_>,
+    texts: StepArgs<'_, '_>,
     packet: &str,
     end: &str,
 ) -> Result<(), Fail> {

@@ -3,7 +3,7 @@
 ghost use Rattle.std.specs.Prelude.{◌≡◌};
 
 use crate::network::{first, last, network};
-use forwarding::Place;
+use forwarding::PacketLocation;
 use inbox::Inbox;
 use network_core::{EventFault, Net};
 use refusal::OrMemory;
@@ -53,7 +53,7 @@ fn three_turns_deliver(rt: HostRuntime) -> Result<(), Fail> {
     let packet = net.packet(0).ok_or(EventFault::NoPacket)?;
     let flight = Flight::new(rt.alloc(), net.topology(), packet.sent())?;
     let flight = after_turn(after_turn(after_turn(flight)));
-    assert_eq!(rt; flight.place(), Place::Delivered);
+    assert_eq!(rt; flight.place(), PacketLocation::Delivered);
     assert_eq!(rt; flight.turns(), 3);
     assert_eq!(rt; flight.passed().len(), 3);
     Ok(())

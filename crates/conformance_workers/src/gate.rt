@@ -69,7 +69,8 @@ impl Gate for Meeting {
 }
 
 /// Asserts that two flights, one from the row's last AS to its first and one from the middle AS to
-/// the last, are delivered on so many workers, and that the gate's two had their turns at once.
+/// the last, are delivered on this number of workers, and that the gate's two had their turns at
+/// once.
 fn expect_meeting<R: Threads + Wait + Sync + Abort>(
     rt: &R,
     alloc: Global,

@@ -1,7 +1,7 @@
 //! Packets that were sent in the row of three ASes at second 1000, over the segment that was issued
 //! there.
 
-use event_lines::{Hearing, RunFault, listen};
+use event_lines::{AcceptedLines, RunFault, listen};
 use isd_as::IsdAs;
 use network_core::Net;
 use refusing::Shortage;
@@ -54,7 +54,7 @@ fn network_once(alloc: Global, ways: &[(IsdAs, IsdAs)]) -> Result<Net, RunFault>
     }
     let mut source = Reader::new(text.as_bytes());
     let mut sink = Writer::new(Vec::new(alloc));
-    listen(alloc, Hearing::All, &mut source, &mut sink)
+    listen(alloc, AcceptedLines::All, &mut source, &mut sink)
 }
 
 /// The same, made once more if memory ran out and that may be. The replies go into a vector, so a

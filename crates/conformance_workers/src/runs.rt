@@ -1,7 +1,7 @@
 //! Runs of flights: what is reported of each.
 //!
-//! Each call may want memory once, and is then made once more; a run that wants it has given no
-//! flight a turn.
+//! Each call may run out of memory once, and is then made once more; a run that wants it has given
+//! no flight a turn.
 
 ghost use Rattle.std.specs.Prelude.{◌≡◌, ◌<◌, ◌≤◌, All, IfOk, IfSome};
 
@@ -96,7 +96,7 @@ pub(crate) fn flights_of<'n>(
     }
 }
 
-/// What a run reports. One that wants memory has had no turn, and is done once more.
+/// What a run reports. One that runs out of memory has had no turn, and is done once more.
 fn reported<R: Threads + Wait + Sync>(
     rt: &R,
     alloc: Global,

@@ -28,7 +28,7 @@ pub struct Daemon {
     cache: Mutex<LruCache<u64, Arc<Entry>>>,
 }
 
-/// A cache that is empty, and has room for so many answers.
+/// A cache that is empty, and has room for `capacity` answers.
 fn empty_cache(alloc: Global, capacity: usize) -> Result<LruCache<u64, Arc<Entry>>, AllocError>
     requires { 0 < capacity }
     ensures empty { IfOk result (λ cache. cache.entries ≡ []) }
@@ -40,8 +40,8 @@ fn empty_cache(alloc: Global, capacity: usize) -> Result<LruCache<u64, Arc<Entry
     LruCache::new(alloc, capacity)
 }
 
-/// The answer to a lawful request over a set. The options of its texts are read in an arena, which is
-/// given up.
+/// The answer to a lawful request over a set. The options of its texts are read in an arena, which
+/// is given up.
 #[tactic(auto, using(crate::proofs::Lookups::lawful_wants))]
 fn made(alloc: Global, set: &SegmentSet, request: &Request<'_>) -> Result<PathList, AllocError>
     requires { lawful_at request.now ≡ Ok tt }
@@ -138,10 +138,10 @@ impl Daemon {
     /// that the reader finds on its board, under the policies that the options' texts are read as;
     /// and whether an entry of the cache served them. It may wait for another thread's ask.
     ///
-    /// The first of these refusals: [`AskFault::BadLimit`] where the limit is not 1 to 64; those of
-    /// [`PolicyOption::parse_all`]; [`AskFault::SameAs`] where the ends are one AS;
-    /// [`AskFault::NoEntry`] where the reader could not enter the board, and then the caller may ask
-    /// again. Want of memory comes only where none of the first three does.
+    /// The first of these refusals: [`AskFault::BadLimit`] if the limit is not 1 to 64; those of
+    /// [`PolicyOption::parse_all`]; [`AskFault::SameAs`] if the ends are one AS;
+    /// [`AskFault::NoEntry`] if the reader could not enter the board, and then the caller may ask
+    /// again. Running out of memory comes only where none of the first three does.
     #[tactic(auto, using(crate::proofs::Lookups::gives_none, crate::proofs::Lookups::looked_up_is_live))]
     pub fn ask<R: Wait>(
         &self,

@@ -48,5 +48,5 @@ impl AskFault {
     }
 }
 
-/// Why a daemon gives no answer: want of memory, or a refusal.
+/// Why a daemon gives no answer: running out of memory, or a refusal.
 pub type AskError = OrMemory<AskFault>;

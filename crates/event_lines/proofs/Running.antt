@@ -5,57 +5,57 @@ use Rattle.std.specs.Io.KnownBytes.{Appends, Consumes, IsAtEnd, Keeps}
 use Rattle.std.proofs.KnownBytes.{Appends-kept, Appends-trans, Consumes-kept, Consumes-trans, Consumes-nil, Appends-nil}
 use Rattle.event_lines.specs.declared.fault.RunFault.{RunFault}
 use Rattle.event_lines.specs.declared.fault.RunFault.TheVariants as faults
-use Rattle.event_lines.specs.declared.hearing.Hearing.{Hearing}
+use Rattle.event_lines.specs.declared.accepted.AcceptedLines.{AcceptedLines}
 use Rattle.event_lines.specs.Run.{AreAll, AreFirst, AreLines, Ends, Listens, Wrote, WroteSome, all_lines, ended, most_input, most_read}
 use Rattle.network_core.specs.Value.{NetValue}
-use Rattle.event_lines.specs.Saying.{Says, SaysAll}
-use Rattle.event_lines.specs.Talk.{Stage, Unbegun, Open, Closed, Told}
-use Rattle.event_lines.specs.Talking.{Exchanges, Finishes, Passes, PassesSome, TalkValue, last_after, last_lines}
+use Rattle.event_lines.specs.Replies.{RepliesTo, RepliesToAll}
+use Rattle.event_lines.specs.Answers.{Stage, Unbegun, Open, Closed, RepliesToInput}
+use Rattle.event_lines.specs.Session.{Exchanges, Finishes, Passes, PassesSome, SessionValue, last_after, last_lines}
 use Rattle.event_lines.proofs.Lines.{ended_append, joined, none_read}
 use Rattle.event_lines.proofs.Telling.{told_append}
 use Rattle.event_lines.proofs.Ran.{told_as_run}
 use Rattle.event_lines.proofs.Writing.{IsBegun, unbegun_says}
 
 -- these bytes were read, their lines were told, and the replies were written
-pub record SoFar (hearing : Hearing) (before after held holds : Option (List ℕ)) (talk : TalkValue) (count : ℕ) : Type 0 where
+pub record SoFar (accepted : AcceptedLines) (before after held holds : Option (List ℕ)) (session : SessionValue) (count : ℕ) : Type 0 where
   pub read : List ℕ
   pub consumed : Consumes before after read
   pub counted : length read ≡ count
   pub went : List ℕ
   pub appended : Appends held holds went
   pub lines : List (List ℕ)
-  pub are : AreLines read lines talk.rest
+  pub are : AreLines read lines session.rest
   pub texts : List (List ℕ)
-  pub told : SaysAll hearing Unbegun lines texts talk.stage
+  pub told : RepliesToAll accepted Unbegun lines texts session.stage
   pub same : went ≡ ended texts
-  pub none : talk.replies ≡ []
+  pub none : session.replies ≡ []
   pub few : count ≤ most_input
 
 -- nothing was read yet
-pub begun : (hearing : Hearing) (left held : Option (List ℕ)) (talk : TalkValue) → talk ≡ record { stage = Unbegun; rest = []; replies = [] }
-    → SoFar hearing left left held held talk 0
-begun hearing left held talk is = record {
+pub begun : (accepted : AcceptedLines) (left held : Option (List ℕ)) (session : SessionValue) → session ≡ record { stage = Unbegun; rest = []; replies = [] }
+    → SoFar accepted left left held held session 0
+begun accepted left held session is = record {
   read = [];
   consumed = Consumes-nil left;
   counted = refl;
   went = [];
   appended = Appends-nil held;
   lines = [];
-  are = subst (λ (t : TalkValue). AreLines [] [] t.rest) (sym is) (none_read [] refl);
+  are = subst (λ (t : SessionValue). AreLines [] [] t.rest) (sym is) (none_read [] refl);
   texts = [];
-  told = (refl, ap (λ (t : TalkValue). t.stage) is);
+  told = (refl, ap (λ (t : SessionValue). t.stage) is);
   same = refl;
-  none = ap (λ (t : TalkValue). t.replies) is;
+  none = ap (λ (t : SessionValue). t.replies) is;
   few = omega arith;
 }
 
 -- lines more were told, and their replies written
-pub passed_on : (hearing : Hearing) (before after now held holds with : Option (List ℕ)) {talk : TalkValue} {count : ℕ} (bytes : List ℕ) (next : TalkValue)
-    → SoFar hearing before after held holds talk count → Consumes after now bytes → count + length bytes ≤ most_input
-    → (lines : List (List ℕ)) → AreLines (talk.rest ++ bytes) lines next.rest
-    → Passes hearing lines talk next.stage holds with → next.replies ≡ []
-    → SoFar hearing before now held with next (count + length bytes)
-passed_on hearing before after now held holds with {talk} {count} bytes next far more few lines are passes none = record {
+pub passed_on : (accepted : AcceptedLines) (before after now held holds with : Option (List ℕ)) {session : SessionValue} {count : ℕ} (bytes : List ℕ) (next : SessionValue)
+    → SoFar accepted before after held holds session count → Consumes after now bytes → count + length bytes ≤ most_input
+    → (lines : List (List ℕ)) → AreLines (session.rest ++ bytes) lines next.rest
+    → Passes accepted lines session next.stage holds with → next.replies ≡ []
+    → SoFar accepted before now held with next (count + length bytes)
+passed_on accepted before after now held holds with {session} {count} bytes next far more few lines are passes none = record {
   read = far.read ++ bytes;
   consumed = Consumes-trans before after now far.read bytes far.consumed more;
   counted = length-append far.read bytes ∙ ap (λ n. n + length bytes) far.counted;
@@ -64,32 +64,32 @@ passed_on hearing before after now held holds with {talk} {count} bytes next far
   lines = far.lines ++ lines;
   are = joined bytes far.are are;
   texts = far.texts ++ passes.texts;
-  told = told_append hearing Unbegun talk.stage next.stage far.lines lines far.texts passes.texts far.told passes.told;
+  told = told_append accepted Unbegun session.stage next.stage far.lines lines far.texts passes.texts far.told passes.told;
   same = ap (λ l. l ++ ended passes.texts) far.same ∙ sym (ended_append far.texts passes.texts);
   none = none;
   few = few;
 }
 
 -- what was told so far is a run
-as_run : (hearing : Hearing) {before after held holds : Option (List ℕ)} {talk : TalkValue} {count : ℕ}
-    → (far : SoFar hearing before after held holds talk count) → Told hearing far.lines far.texts talk.stage
-as_run hearing {talk} far = told_as_run hearing far.lines far.texts talk.stage far.told
+as_run : (accepted : AcceptedLines) {before after held holds : Option (List ℕ)} {session : SessionValue} {count : ℕ}
+    → (far : SoFar accepted before after held holds session count) → RepliesToInput accepted far.lines far.texts session.stage
+as_run accepted {session} far = told_as_run accepted far.lines far.texts session.stage far.told
 
 -- ---- what was written
 
 -- the replies to lines more
-written_on : (hearing : Hearing) {before after held holds : Option (List ℕ)} (with : Option (List ℕ)) {talk : TalkValue} {count : ℕ} (lines : List (List ℕ)) (stage : Stage)
-    → (far : SoFar hearing before after held holds talk count) → Passes hearing lines talk stage holds with
-    → (went : List ℕ) × (Appends held with went × Wrote hearing (far.lines ++ lines) went stage)
-written_on hearing {before} {after} {held} {holds} with {talk} {count} lines stage far passes = (
+written_on : (accepted : AcceptedLines) {before after held holds : Option (List ℕ)} (with : Option (List ℕ)) {session : SessionValue} {count : ℕ} (lines : List (List ℕ)) (stage : Stage)
+    → (far : SoFar accepted before after held holds session count) → Passes accepted lines session stage holds with
+    → (went : List ℕ) × (Appends held with went × Wrote accepted (far.lines ++ lines) went stage)
+written_on accepted {before} {after} {held} {holds} with {session} {count} lines stage far passes = (
   far.went ++ ended passes.texts,
   (
     Appends-trans held holds with far.went (ended passes.texts) far.appended passes.kept,
     (
       far.texts ++ passes.texts,
       (
-        told_as_run hearing (far.lines ++ lines) (far.texts ++ passes.texts) stage
-            (told_append hearing Unbegun talk.stage stage far.lines lines far.texts passes.texts far.told passes.told),
+        told_as_run accepted (far.lines ++ lines) (far.texts ++ passes.texts) stage
+            (told_append accepted Unbegun session.stage stage far.lines lines far.texts passes.texts far.told passes.told),
         ap (λ l. l ++ ended passes.texts) far.same ∙ sym (ended_append far.texts passes.texts),
       ),
     ),
@@ -104,10 +104,10 @@ take_behind (x ∷ xs) ys n =
     ap (λ l. x ∷ l) (take_behind xs ys n) ∙ ap (λ k. take k (x ∷ (xs ++ ys))) next
 
 -- a beginning of the replies to lines more
-some_on : (hearing : Hearing) {before after held holds : Option (List ℕ)} (with : Option (List ℕ)) {talk : TalkValue} {count : ℕ} (lines : List (List ℕ))
-    → (far : SoFar hearing before after held holds talk count) → PassesSome hearing lines talk holds with
-    → (went : List ℕ) × (Appends held with went × WroteSome hearing (far.lines ++ lines) went)
-some_on hearing {before} {after} {held} {holds} with {talk} {count} lines far passes = (
+some_on : (accepted : AcceptedLines) {before after held holds : Option (List ℕ)} (with : Option (List ℕ)) {session : SessionValue} {count : ℕ} (lines : List (List ℕ))
+    → (far : SoFar accepted before after held holds session count) → PassesSome accepted lines session holds with
+    → (went : List ℕ) × (Appends held with went × WroteSome accepted (far.lines ++ lines) went)
+some_on accepted {before} {after} {held} {holds} with {session} {count} lines far passes = (
   far.went ++ take passes.most (ended passes.texts),
   (
     Appends-trans held holds with far.went (take passes.most (ended passes.texts)) far.appended passes.kept,
@@ -116,8 +116,8 @@ some_on hearing {before} {after} {held} {holds} with {talk} {count} lines far pa
       passes.stage,
       length far.went + passes.most,
       (
-        told_as_run hearing (far.lines ++ lines) (far.texts ++ passes.texts) passes.stage
-            (told_append hearing Unbegun talk.stage passes.stage far.lines lines far.texts passes.texts far.told passes.told),
+        told_as_run accepted (far.lines ++ lines) (far.texts ++ passes.texts) passes.stage
+            (told_append accepted Unbegun session.stage passes.stage far.lines lines far.texts passes.texts far.told passes.told),
         take_behind far.went (ended passes.texts) passes.most
             ∙ ap (take (length far.went + passes.most)) (ap (λ l. l ++ ended passes.texts) far.same ∙ sym (ended_append far.texts passes.texts)),
       ),
@@ -128,31 +128,31 @@ some_on hearing {before} {after} {held} {holds} with {talk} {count} lines far pa
 -- ---- the lines that were read
 
 -- the first of what was read, with more
-first_on : (hearing : Hearing) {before after held holds : Option (List ℕ)} {talk : TalkValue} {count : ℕ} (bytes : List ℕ) (lines later : List (List ℕ)) (rest : List ℕ)
-    → (far : SoFar hearing before after held holds talk count) → AreLines (talk.rest ++ bytes) (lines ++ later) rest
+first_on : (accepted : AcceptedLines) {before after held holds : Option (List ℕ)} {session : SessionValue} {count : ℕ} (bytes : List ℕ) (lines later : List (List ℕ)) (rest : List ℕ)
+    → (far : SoFar accepted before after held holds session count) → AreLines (session.rest ++ bytes) (lines ++ later) rest
     → AreFirst (far.read ++ bytes) (far.lines ++ lines)
-first_on hearing bytes lines later rest far are = (
+first_on accepted bytes lines later rest far are = (
   later,
   rest,
   subst (λ ls. AreLines (far.read ++ bytes) ls rest) (sym (append_assoc far.lines lines later)) (joined bytes far.are are),
 )
 
 -- the first of what was read, as it stands
-first_of : (hearing : Hearing) {before after held holds : Option (List ℕ)} {talk : TalkValue} {count : ℕ}
-    → (far : SoFar hearing before after held holds talk count) → AreFirst far.read far.lines
-first_of hearing {talk} far = ([], talk.rest, subst (λ ls. AreLines far.read ls talk.rest) (sym (append-nil far.lines)) far.are)
+first_of : (accepted : AcceptedLines) {before after held holds : Option (List ℕ)} {session : SessionValue} {count : ℕ}
+    → (far : SoFar accepted before after held holds session count) → AreFirst far.read far.lines
+first_of accepted {session} far = ([], session.rest, subst (λ ls. AreLines far.read ls session.rest) (sym (append-nil far.lines)) far.are)
 
 -- where lines were told a run has begun
-says_begun : (hearing : Hearing) (start next : Stage) (line text : List ℕ) → Says hearing start line text next → IsBegun next
-says_begun hearing start Unbegun line text says = absurd (unbegun_says hearing start line text says)
-says_begun hearing start (Open net) line text says = tt
-says_begun hearing start Closed line text says = tt
+says_begun : (accepted : AcceptedLines) (start next : Stage) (line text : List ℕ) → RepliesTo accepted start line text next → IsBegun next
+says_begun accepted start Unbegun line text says = absurd (unbegun_says accepted start line text says)
+says_begun accepted start (Open net) line text says = tt
+says_begun accepted start Closed line text says = tt
 
-told_begun : (hearing : Hearing) (start stage : Stage) (line : List ℕ) (lines texts : List (List ℕ)) → SaysAll hearing start (line ∷ lines) texts stage → IsBegun stage
-told_begun hearing start stage line lines [] told = absurd told
-told_begun hearing start stage line [] (text ∷ texts) told =
-    subst IsBegun (sym told.1.1.1) (says_begun hearing start told.0 line text told.1.0)
-told_begun hearing start stage line (next ∷ lines) (text ∷ texts) told = told_begun hearing told.0 stage next lines texts told.1.1
+told_begun : (accepted : AcceptedLines) (start stage : Stage) (line : List ℕ) (lines texts : List (List ℕ)) → RepliesToAll accepted start (line ∷ lines) texts stage → IsBegun stage
+told_begun accepted start stage line lines [] told = absurd told
+told_begun accepted start stage line [] (text ∷ texts) told =
+    subst IsBegun (sym told.1.1.1) (says_begun accepted start told.0 line text told.1.0)
+told_begun accepted start stage line (next ∷ lines) (text ∷ texts) told = told_begun accepted told.0 stage next lines texts told.1.1
 
 -- what is left is the last line
 last_begun : (stage : Stage) (line rest : List ℕ) (lines : List (List ℕ)) → IsBegun stage
@@ -163,16 +163,16 @@ last_begun (Open net) line (b ∷ rest) lines begun = refl
 last_begun Closed line [] lines begun = append-nil (line ∷ lines)
 last_begun Closed line (b ∷ rest) lines begun = refl
 
-all_told : (hearing : Hearing) (lines texts : List (List ℕ)) (stage : Stage) (rest : List ℕ) → SaysAll hearing Unbegun lines texts stage
+all_told : (accepted : AcceptedLines) (lines texts : List (List ℕ)) (stage : Stage) (rest : List ℕ) → RepliesToAll accepted Unbegun lines texts stage
     → lines ++ last_after stage rest ≡ all_lines lines rest
-all_told hearing [] texts stage rest told = ap (λ s. last_after s rest) told.1
-all_told hearing (line ∷ lines) texts stage rest told = last_begun stage line rest lines (told_begun hearing Unbegun stage line lines texts told)
+all_told accepted [] texts stage rest told = ap (λ s. last_after s rest) told.1
+all_told accepted (line ∷ lines) texts stage rest told = last_begun stage line rest lines (told_begun accepted Unbegun stage line lines texts told)
 
 -- all lines of what was read
-all_of : (hearing : Hearing) {before after held holds : Option (List ℕ)} {talk : TalkValue} {count : ℕ} (at_end : Type 0)
-    → (far : SoFar hearing before after held holds talk count) → at_end → AreAll at_end far.read (far.lines ++ last_lines talk)
-all_of hearing {talk} at_end far end =
-    (far.lines, talk.rest, (far.are, (end, all_told hearing far.lines far.texts talk.stage talk.rest far.told)))
+all_of : (accepted : AcceptedLines) {before after held holds : Option (List ℕ)} {session : SessionValue} {count : ℕ} (at_end : Type 0)
+    → (far : SoFar accepted before after held holds session count) → at_end → AreAll at_end far.read (far.lines ++ last_lines session)
+all_of accepted {session} at_end far end =
+    (far.lines, session.rest, (far.are, (end, all_told accepted far.lines far.texts session.stage session.rest far.told)))
 
 -- ---- how a run ends
 
@@ -183,13 +183,13 @@ still before after now read bytes none first then =
     subst (Consumes before now) (ap (λ l. read ++ l) none ∙ append-nil read) (Consumes-trans before after now read bytes first then)
 
 -- at the end of the input the run stands in a network
-pub ends_reached : (hearing : Hearing) (before after now held holds with : Option (List ℕ)) {talk : TalkValue} {count : ℕ} (bytes : List ℕ)
+pub ends_reached : (accepted : AcceptedLines) (before after now held holds with : Option (List ℕ)) {session : SessionValue} {count : ℕ} (bytes : List ℕ)
     (stage : Stage) (net : NetValue)
-    → SoFar hearing before after held holds talk count → bytes ≡ [] → Consumes after now bytes → IsAtEnd now
-    → Finishes hearing (Ok tt) talk stage holds with → stage ≡ Open net → Listens hearing (Ok net) before now held with
-ends_reached hearing before after now held holds with {talk = talk} bytes stage net far none more end finishes is =
-    let passes = subst (λ s. Passes hearing (last_lines talk) talk s holds with) (sym finishes.1.0 ∙ is) finishes.1.1 in
-    let wrote = written_on hearing with (last_lines talk) (Open net) far passes in (
+    → SoFar accepted before after held holds session count → bytes ≡ [] → Consumes after now bytes → IsAtEnd now
+    → Finishes accepted (Ok tt) session stage holds with → stage ≡ Open net → Listens accepted (Ok net) before now held with
+ends_reached accepted before after now held holds with {session = session} bytes stage net far none more end finishes is =
+    let passes = subst (λ s. Passes accepted (last_lines session) session s holds with) (sym finishes.1.0 ∙ is) finishes.1.1 in
+    let wrote = written_on accepted with (last_lines session) (Open net) far passes in (
       far.read,
       wrote.0,
       (
@@ -198,19 +198,19 @@ ends_reached hearing before after now held holds with {talk = talk} bytes stage 
           wrote.1.0,
           (
             omega (arith, far.counted, far.few),
-            (far.lines ++ last_lines talk, (all_of hearing (IsAtEnd now) far end, wrote.1.1)),
+            (far.lines ++ last_lines session, (all_of accepted (IsAtEnd now) far end, wrote.1.1)),
           ),
         ),
       ),
     )
 
 -- the last line could not be answered
-pub ends_unfinished : (hearing : Hearing) (before after now held holds with : Option (List ℕ)) {talk : TalkValue} {count : ℕ} (bytes : List ℕ)
+pub ends_unfinished : (accepted : AcceptedLines) (before after now held holds with : Option (List ℕ)) {session : SessionValue} {count : ℕ} (bytes : List ℕ)
     (stage : Stage) (fault : RunFault)
-    → SoFar hearing before after held holds talk count → bytes ≡ [] → Consumes after now bytes → IsAtEnd now
-    → Finishes hearing (Err fault) talk stage holds with → Listens hearing (Err fault) before now held with
-ends_unfinished hearing before after now held holds with {talk = talk} bytes stage faults.Topology far none more end finishes =
-    let wrote = written_on hearing with (last_lines talk) Closed far finishes in (
+    → SoFar accepted before after held holds session count → bytes ≡ [] → Consumes after now bytes → IsAtEnd now
+    → Finishes accepted (Err fault) session stage holds with → Listens accepted (Err fault) before now held with
+ends_unfinished accepted before after now held holds with {session = session} bytes stage faults.Topology far none more end finishes =
+    let wrote = written_on accepted with (last_lines session) Closed far finishes in (
       far.read,
       wrote.0,
       (
@@ -219,12 +219,12 @@ ends_unfinished hearing before after now held holds with {talk = talk} bytes sta
           wrote.1.0,
           (
             omega (arith, far.counted, far.few),
-            (far.lines ++ last_lines talk, (inr (all_of hearing (IsAtEnd now) far end), wrote.1.1)),
+            (far.lines ++ last_lines session, (inr (all_of accepted (IsAtEnd now) far end), wrote.1.1)),
           ),
         ),
       ),
     )
-ends_unfinished hearing before after now held holds with {talk = talk} bytes stage faults.Memory far none more end finishes = (
+ends_unfinished accepted before after now held holds with {session = session} bytes stage faults.Memory far none more end finishes = (
   far.read,
   far.went,
   (
@@ -233,13 +233,13 @@ ends_unfinished hearing before after now held holds with {talk = talk} bytes sta
       Appends-kept held holds with far.went far.appended finishes,
       (
         omega (arith, far.counted, far.few),
-        (far.lines, talk.stage, (first_of hearing far, (far.texts, (as_run hearing far, far.same)))),
+        (far.lines, session.stage, (first_of accepted far, (far.texts, (as_run accepted far, far.same)))),
       ),
     ),
   ),
 )
-ends_unfinished hearing before after now held holds with {talk = talk} bytes stage faults.Write far none more end (inl finishes) =
-    let wrote = some_on hearing with (last_lines talk) far finishes in (
+ends_unfinished accepted before after now held holds with {session = session} bytes stage faults.Write far none more end (inl finishes) =
+    let wrote = some_on accepted with (last_lines session) far finishes in (
       far.read,
       wrote.0,
       (
@@ -248,12 +248,12 @@ ends_unfinished hearing before after now held holds with {talk = talk} bytes sta
           wrote.1.0,
           (
             omega (arith, far.counted, far.few),
-            (far.lines ++ last_lines talk, (inr (all_of hearing (IsAtEnd now) far end), wrote.1.1)),
+            (far.lines ++ last_lines session, (inr (all_of accepted (IsAtEnd now) far end), wrote.1.1)),
           ),
         ),
       ),
     )
-ends_unfinished hearing before after now held holds with {talk = talk} bytes stage faults.Write far none more end (inr finishes) = (
+ends_unfinished accepted before after now held holds with {session = session} bytes stage faults.Write far none more end (inr finishes) = (
   far.read,
   far.went,
   (
@@ -265,12 +265,12 @@ ends_unfinished hearing before after now held holds with {talk = talk} bytes sta
         (
           far.lines,
           (
-            inl (first_of hearing far),
+            inl (first_of accepted far),
             (
               far.texts,
-              talk.stage,
+              session.stage,
               length far.went,
-              (as_run hearing far, sym (take_all (length far.went) far.went (omega arith)) ∙ ap (take (length far.went)) far.same),
+              (as_run accepted far, sym (take_all (length far.went) far.went (omega arith)) ∙ ap (take (length far.went)) far.same),
             ),
           ),
         ),
@@ -278,13 +278,13 @@ ends_unfinished hearing before after now held holds with {talk = talk} bytes sta
     ),
   ),
 )
-ends_unfinished hearing before after now held holds with bytes stage faults.Read far none more end finishes = absurd finishes
-ends_unfinished hearing before after now held holds with bytes stage faults.InputTooLong far none more end finishes = absurd finishes
+ends_unfinished accepted before after now held holds with bytes stage faults.Read far none more end finishes = absurd finishes
+ends_unfinished accepted before after now held holds with bytes stage faults.InputTooLong far none more end finishes = absurd finishes
 
 -- a read failed
-pub ends_unread : (hearing : Hearing) (before after now held holds : Option (List ℕ)) {talk : TalkValue} {count : ℕ}
-    → SoFar hearing before after held holds talk count → Keeps after now → Listens hearing (Err faults.Read) before now held holds
-ends_unread hearing before after now held holds {talk} far kept = (
+pub ends_unread : (accepted : AcceptedLines) (before after now held holds : Option (List ℕ)) {session : SessionValue} {count : ℕ}
+    → SoFar accepted before after held holds session count → Keeps after now → Listens accepted (Err faults.Read) before now held holds
+ends_unread accepted before after now held holds {session} far kept = (
   far.read,
   far.went,
   (
@@ -293,18 +293,18 @@ ends_unread hearing before after now held holds {talk} far kept = (
       far.appended,
       (
         omega (arith, far.counted, far.few),
-        (far.lines, talk.rest, talk.stage, (far.are, (far.texts, (as_run hearing far, far.same)))),
+        (far.lines, session.rest, session.stage, (far.are, (far.texts, (as_run accepted far, far.same)))),
       ),
     ),
   ),
 )
 
 -- a byte too many came
-pub ends_too_long : (hearing : Hearing) (before after now held holds : Option (List ℕ)) {talk : TalkValue} {count : ℕ} (bytes : List ℕ)
-    → SoFar hearing before after held holds talk count → count ≡ most_input → ¬ (bytes ≡ []) → length bytes ≤ 1
-    → Consumes after now bytes → Listens hearing (Err faults.InputTooLong) before now held holds
-ends_too_long hearing before after now held holds [] far full some few more = absurd (some refl)
-ends_too_long hearing before after now held holds {talk = talk} (b ∷ []) far full some few more = (
+pub ends_too_long : (accepted : AcceptedLines) (before after now held holds : Option (List ℕ)) {session : SessionValue} {count : ℕ} (bytes : List ℕ)
+    → SoFar accepted before after held holds session count → count ≡ most_input → ¬ (bytes ≡ []) → length bytes ≤ 1
+    → Consumes after now bytes → Listens accepted (Err faults.InputTooLong) before now held holds
+ends_too_long accepted before after now held holds [] far full some few more = absurd (some refl)
+ends_too_long accepted before after now held holds {session = session} (b ∷ []) far full some few more = (
   far.read ++ b ∷ [],
   far.went,
   (
@@ -320,7 +320,7 @@ ends_too_long hearing before after now held holds {talk = talk} (b ∷ []) far f
             refl,
             (
               far.counted ∙ full,
-              (far.lines, talk.rest, talk.stage, (far.are, (far.texts, (as_run hearing far, far.same)))),
+              (far.lines, session.rest, session.stage, (far.are, (far.texts, (as_run accepted far, far.same)))),
             ),
           ),
         ),
@@ -328,17 +328,17 @@ ends_too_long hearing before after now held holds {talk = talk} (b ∷ []) far f
     ),
   ),
 )
-ends_too_long hearing before after now held holds (b ∷ x ∷ bytes) far full some few more = absurd (omega (arith, few))
+ends_too_long accepted before after now held holds (b ∷ x ∷ bytes) far full some few more = absurd (omega (arith, few))
 
 -- the lines of what came could not all be answered
-pub ends_short : (hearing : Hearing) (before after now held holds with : Option (List ℕ)) (talk new : TalkValue) {count : ℕ} (bytes : List ℕ) (fault : RunFault) (at_end : Type 0)
-    → SoFar hearing before after held holds talk count → count + length bytes ≤ most_input → Consumes after now bytes
-    → Exchanges hearing (Err fault) bytes talk new holds with
+pub ends_short : (accepted : AcceptedLines) (before after now held holds with : Option (List ℕ)) (session new : SessionValue) {count : ℕ} (bytes : List ℕ) (fault : RunFault) (at_end : Type 0)
+    → SoFar accepted before after held holds session count → count + length bytes ≤ most_input → Consumes after now bytes
+    → Exchanges accepted (Err fault) bytes session new holds with
     → (read went : List ℕ) × (Consumes before now read × (Appends held with went
-    × ((length read ≤ most_read (Err fault)) × Ends hearing (Err fault) at_end read went)))
-ends_short hearing before after now held holds with talk new bytes faults.Topology at_end far few more exchanges =
+    × ((length read ≤ most_read (Err fault)) × Ends accepted (Err fault) at_end read went)))
+ends_short accepted before after now held holds with session new bytes faults.Topology at_end far few more exchanges =
     let (lines, later, rest, (are, passes)) = exchanges in
-    let wrote = written_on hearing with lines Closed far passes in (
+    let wrote = written_on accepted with lines Closed far passes in (
       far.read ++ bytes,
       wrote.0,
       (
@@ -347,14 +347,14 @@ ends_short hearing before after now held holds with talk new bytes faults.Topolo
           wrote.1.0,
           (
             omega (arith, length-append far.read bytes, far.counted, few),
-            (far.lines ++ lines, (inl (first_on hearing bytes lines later rest far are), wrote.1.1)),
+            (far.lines ++ lines, (inl (first_on accepted bytes lines later rest far are), wrote.1.1)),
           ),
         ),
       ),
     )
-ends_short hearing before after now held holds with talk new bytes faults.Memory at_end far few more exchanges =
+ends_short accepted before after now held holds with session new bytes faults.Memory at_end far few more exchanges =
     let (lines, later, rest, (stage, (are, passes))) = exchanges in
-    let wrote = written_on hearing with lines stage far passes in (
+    let wrote = written_on accepted with lines stage far passes in (
       far.read ++ bytes,
       wrote.0,
       (
@@ -363,14 +363,14 @@ ends_short hearing before after now held holds with talk new bytes faults.Memory
           wrote.1.0,
           (
             omega (arith, length-append far.read bytes, far.counted, few),
-            (far.lines ++ lines, stage, (first_on hearing bytes lines later rest far are, wrote.1.1)),
+            (far.lines ++ lines, stage, (first_on accepted bytes lines later rest far are, wrote.1.1)),
           ),
         ),
       ),
     )
-ends_short hearing before after now held holds with talk new bytes faults.Write at_end far few more exchanges =
+ends_short accepted before after now held holds with session new bytes faults.Write at_end far few more exchanges =
     let (lines, later, rest, (are, passes)) = exchanges in
-    let wrote = some_on hearing with lines far passes in (
+    let wrote = some_on accepted with lines far passes in (
       far.read ++ bytes,
       wrote.0,
       (
@@ -379,10 +379,10 @@ ends_short hearing before after now held holds with talk new bytes faults.Write 
           wrote.1.0,
           (
             omega (arith, length-append far.read bytes, far.counted, few),
-            (far.lines ++ lines, (inl (first_on hearing bytes lines later rest far are), wrote.1.1)),
+            (far.lines ++ lines, (inl (first_on accepted bytes lines later rest far are), wrote.1.1)),
           ),
         ),
       ),
     )
-ends_short hearing before after now held holds with talk new bytes faults.Read at_end far few more exchanges = absurd exchanges
-ends_short hearing before after now held holds with talk new bytes faults.InputTooLong at_end far few more exchanges = absurd exchanges
+ends_short accepted before after now held holds with session new bytes faults.Read at_end far few more exchanges = absurd exchanges
+ends_short accepted before after now held holds with session new bytes faults.InputTooLong at_end far few more exchanges = absurd exchanges

@@ -7,9 +7,9 @@ use Rattle.network_core.specs.Step.{Step}
 use Rattle.network_core.specs.Delivery.{IsFramed}
 use Rattle.event_lines.specs.Line.{Happens}
 use Rattle.event_lines.specs.Text.{reply_text}
-use Rattle.event_lines.specs.declared.hearing.Hearing.{Hearing}
-use Rattle.event_lines.specs.Saying.{Replies, Says, SaysAll}
-use Rattle.event_lines.specs.Talk.{Stage}
+use Rattle.event_lines.specs.declared.accepted.AcceptedLines.{AcceptedLines}
+use Rattle.event_lines.specs.Replies.{Replies, RepliesTo, RepliesToAll}
+use Rattle.event_lines.specs.Answers.{Stage}
 
 -- the text of an event's reply answers the line
 pub event_answered : {T F : Type 0} (result : Result T F) (bytes : T → List ℕ) (old new : NetValue)
@@ -21,16 +21,16 @@ event_answered (Ok text) bytes old new event reply told same step framed is =
 event_answered (Err fault) bytes old new event reply told same step framed is = tt
 
 -- lines behind lines
-pub told_append : (hearing : Hearing) (start middle stage : Stage) (lines more texts others : List (List ℕ))
-    → SaysAll hearing start lines texts middle → SaysAll hearing middle more others stage
-    → SaysAll hearing start (lines ++ more) (texts ++ others) stage
-told_append hearing start middle stage [] more texts others first second =
-    subst (λ t. SaysAll hearing start more (t ++ others) stage) (sym first.0)
-    (subst (λ s. SaysAll hearing s more others stage) first.1 second)
-told_append hearing start middle stage (line ∷ lines) more [] others first second = absurd first
-told_append hearing start middle stage (line ∷ lines) more (text ∷ texts) others first second =
-    (first.0, (first.1.0, told_append hearing first.0 middle stage lines more texts others first.1.1 second))
+pub told_append : (accepted : AcceptedLines) (start middle stage : Stage) (lines more texts others : List (List ℕ))
+    → RepliesToAll accepted start lines texts middle → RepliesToAll accepted middle more others stage
+    → RepliesToAll accepted start (lines ++ more) (texts ++ others) stage
+told_append accepted start middle stage [] more texts others first second =
+    subst (λ t. RepliesToAll accepted start more (t ++ others) stage) (sym first.0)
+    (subst (λ s. RepliesToAll accepted s more others stage) first.1 second)
+told_append accepted start middle stage (line ∷ lines) more [] others first second = absurd first
+told_append accepted start middle stage (line ∷ lines) more (text ∷ texts) others first second =
+    (first.0, (first.1.0, told_append accepted first.0 middle stage lines more texts others first.1.1 second))
 
 -- one line
-pub told_one : (hearing : Hearing) (start stage : Stage) (line text : List ℕ) → Says hearing start line text stage → SaysAll hearing start (line ∷ []) (text ∷ []) stage
-told_one hearing start stage line text says = (stage, (says, (refl, refl)))
+pub told_one : (accepted : AcceptedLines) (start stage : Stage) (line text : List ℕ) → RepliesTo accepted start line text stage → RepliesToAll accepted start (line ∷ []) (text ∷ []) stage
+told_one accepted start stage line text says = (stage, (says, (refl, refl)))

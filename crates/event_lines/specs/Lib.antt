@@ -1,8 +1,8 @@
 pub mod Line
 pub mod Seen
-pub mod Hearing
+pub mod AcceptedLines
 pub mod Text
-pub mod Talk
-pub mod Saying
+pub mod Answers
+pub mod Replies
 pub mod Run
-pub mod Talking
+pub mod Session

@@ -13,7 +13,7 @@ use Rattle.isd_as.specs.Reading.{address_at}
 use Rattle.policy_expr.specs.Options.{OptionTexts, options_at}
 use Rattle.network_core.specs.Event.{EventValue, Tick, Originate, Extend, Terminate, Sweep, Ask, ByAnswer, BackOf, Send, Turn, Lose, Alter, CutLink, MendLink, RotateKey}
 
--- what a line asks for: that an event happens, or what is told of a packet
+-- what a line asks for: that an event happens, or where a packet is
 pub data LineValue : Type 0 where
   Happens : EventValue → LineValue
   Shows : ℕ → LineValue

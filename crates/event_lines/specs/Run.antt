@@ -4,10 +4,10 @@ use Rattle.std.specs.List.{list_any}
 use Rattle.std.specs.Io.KnownBytes.{Appends, Consumes, IsAtEnd}
 use Rattle.event_lines.specs.declared.fault.RunFault.{RunFault}
 use Rattle.event_lines.specs.declared.fault.RunFault.TheVariants as faults
-use Rattle.event_lines.specs.declared.hearing.Hearing.{Hearing}
-use Rattle.event_lines.specs.declared.hearing.Hearing.TheVariants.{All}
+use Rattle.event_lines.specs.declared.accepted.AcceptedLines.{AcceptedLines}
+use Rattle.event_lines.specs.declared.accepted.AcceptedLines.TheVariants.{All}
 use Rattle.network_core.specs.Value.{NetValue}
-use Rattle.event_lines.specs.Talk.{Stage, Open, Closed, Told}
+use Rattle.event_lines.specs.Answers.{Stage, Open, Closed, RepliesToInput}
 
 -- ---- lines of bytes
 
@@ -46,7 +46,7 @@ abbrev pub AreAll : Type 0 → List ℕ → List (List ℕ) → Type 0
 AreAll at_end read lines = (whole : List (List ℕ)) × (rest : List ℕ)
     × (AreLines read whole rest × (at_end × (lines ≡ all_lines whole rest)))
 
--- these lines were told
+-- these lines were answered
 abbrev pub AreHeard : Type 0 → List ℕ → List (List ℕ) → Type 0
 AreHeard at_end read lines = AreFirst read lines ⊎ AreAll at_end read lines
 
@@ -57,50 +57,50 @@ abbrev pub most_input : ℕ
 most_input = 67108864
 
 -- exactly the replies to these lines were written, and the run then stands there
-abbrev pub Wrote : Hearing → List (List ℕ) → List ℕ → Stage → Type 0
-Wrote hearing lines went stage =
-    (texts : List (List ℕ)) × (Told hearing lines texts stage × (went ≡ ended texts))
+abbrev pub Wrote : AcceptedLines → List (List ℕ) → List ℕ → Stage → Type 0
+Wrote accepted lines went stage =
+    (texts : List (List ℕ)) × (RepliesToInput accepted lines texts stage × (went ≡ ended texts))
 
 -- a beginning of the replies to these lines was written
-abbrev pub WroteSome : Hearing → List (List ℕ) → List ℕ → Type 0
-WroteSome hearing lines went = (texts : List (List ℕ)) × (stage : Stage) × (n : ℕ)
-    × (Told hearing lines texts stage × (went ≡ take n (ended texts)))
+abbrev pub WroteSome : AcceptedLines → List (List ℕ) → List ℕ → Type 0
+WroteSome accepted lines went = (texts : List (List ℕ)) × (stage : Stage) × (n : ℕ)
+    × (RepliesToInput accepted lines texts stage × (went ≡ take n (ended texts)))
 
 -- the replies to all whole lines of what was read were written
-abbrev pub WroteWhole : Hearing → List ℕ → List ℕ → Type 0
-WroteWhole hearing read went = (lines : List (List ℕ)) × (rest : List ℕ) × (stage : Stage)
-    × (AreLines read lines rest × Wrote hearing lines went stage)
+abbrev pub WroteWhole : AcceptedLines → List ℕ → List ℕ → Type 0
+WroteWhole accepted read went = (lines : List (List ℕ)) × (rest : List ℕ) × (stage : Stage)
+    × (AreLines read lines rest × Wrote accepted lines went stage)
 
 -- what was read and what was written: all lines were answered, and the run reached this network;
 -- the topology was refused; a read failed; one byte too many came; memory ran out at some line; or
 -- a write failed
-abbrev pub Ends : Hearing → Result NetValue RunFault → Type 0 → List ℕ → List ℕ → Type 0
-Ends hearing (Ok net) at_end read went = (lines : List (List ℕ))
-    × (AreAll at_end read lines × Wrote hearing lines went (Open net))
-Ends hearing (Err faults.Topology) at_end read went = (lines : List (List ℕ))
-    × (AreHeard at_end read lines × Wrote hearing lines went Closed)
-Ends hearing (Err faults.Read) at_end read went = WroteWhole hearing read went
-Ends hearing (Err faults.InputTooLong) at_end read went = (front : List ℕ) × (byte : ℕ)
-    × ((read ≡ front ++ byte ∷ []) × ((length front ≡ most_input) × WroteWhole hearing front went))
-Ends hearing (Err faults.Memory) at_end read went = (lines : List (List ℕ)) × (stage : Stage)
-    × (AreFirst read lines × Wrote hearing lines went stage)
-Ends hearing (Err faults.Write) at_end read went = (lines : List (List ℕ))
-    × (AreHeard at_end read lines × WroteSome hearing lines went)
+abbrev pub Ends : AcceptedLines → Result NetValue RunFault → Type 0 → List ℕ → List ℕ → Type 0
+Ends accepted (Ok net) at_end read went = (lines : List (List ℕ))
+    × (AreAll at_end read lines × Wrote accepted lines went (Open net))
+Ends accepted (Err faults.Topology) at_end read went = (lines : List (List ℕ))
+    × (AreHeard at_end read lines × Wrote accepted lines went Closed)
+Ends accepted (Err faults.Read) at_end read went = WroteWhole accepted read went
+Ends accepted (Err faults.InputTooLong) at_end read went = (front : List ℕ) × (byte : ℕ)
+    × ((read ≡ front ++ byte ∷ []) × ((length front ≡ most_input) × WroteWhole accepted front went))
+Ends accepted (Err faults.Memory) at_end read went = (lines : List (List ℕ)) × (stage : Stage)
+    × (AreFirst read lines × Wrote accepted lines went stage)
+Ends accepted (Err faults.Write) at_end read went = (lines : List (List ℕ))
+    × (AreHeard at_end read lines × WroteSome accepted lines went)
 
 -- the most bytes that are read: one more where too many came
 abbrev pub most_read : Result NetValue RunFault → ℕ
 most_read (Err faults.InputTooLong) = most_input + 1
 most_read result = most_input
 
--- a run that hears these lines, of a source that had these bytes left before and has those after,
+-- a run that accepts these lines, of a source that had these bytes left before and has those after,
 -- into a sink that held these bytes before and holds those after
-abbrev pub Listens : Hearing → Result NetValue RunFault → Option (List ℕ) → Option (List ℕ)
+abbrev pub Listens : AcceptedLines → Result NetValue RunFault → Option (List ℕ) → Option (List ℕ)
     → Option (List ℕ) → Option (List ℕ) → Type 0
-Listens hearing result before after held holds = (read went : List ℕ)
+Listens accepted result before after held holds = (read went : List ℕ)
     × (Consumes before after read × (Appends held holds went
-    × ((length read ≤ most_read result) × Ends hearing result (IsAtEnd after) read went)))
+    × ((length read ≤ most_read result) × Ends accepted result (IsAtEnd after) read went)))
 
--- a run that hears all lines, whatever network it reached
+-- a run that accepts all lines, whatever network it reached
 abbrev pub Runs : Result (Unit {0}) RunFault → Option (List ℕ) → Option (List ℕ) → Option (List ℕ)
     → Option (List ℕ) → Type 0
 Runs (Ok done) before after held holds =

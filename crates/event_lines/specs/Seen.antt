@@ -8,9 +8,9 @@ use Rattle.event_lines.specs.declared.line.Line.TheVariants as lines
 use Rattle.event_lines.specs.Line.{LineValue, Happens, Shows, bytes_at}
 
 -- what the line asks for
-abbrev pub seen : Line → LineValue
-seen (lines.Happens event) = Happens (events.seen event)
-seen (lines.Show packet) = Shows packet
+abbrev pub line_value : Line → LineValue
+line_value (lines.Happens event) = Happens (events.event_value event)
+line_value (lines.Show packet) = Shows packet
 
 -- the bytes that an event with this word carries, a payload or a key; none where it carries none
 unfoldable pub payload_in : List ℕ → Data → Option (List ℕ)

@@ -1,4 +1,4 @@
--- What is told of an event, of a packet, and of a line that says nothing.
+-- The replies to an event, to a question about a packet, and to a line that asks for nothing.
 use Rattle.std.specs.Prelude.{ℕ, codes, List, [], ◌∷◌, ◌++◌, length, flat_map, Bool, true, false, Option, Some, None, option_map, slice_get}
 use Rattle.std.specs.List.{join_by}
 use Rattle.std.specs.Fmt.{decimal}
@@ -13,8 +13,8 @@ use Rattle.router_step.specs.declared.outcome.Outcome.TheVariants.{ToLink, ToRou
 use Rattle.router_step.specs.declared.fault.Refusal.{Refusal}
 use Rattle.router_step.specs.declared.fault.Refusal.TheVariants.{BadHeader}
 use Rattle.router_step.specs.Fault as router
-use Rattle.forwarding.specs.declared.place.Place.{Place}
-use Rattle.forwarding.specs.declared.place.Place.TheVariants as places
+use Rattle.forwarding.specs.declared.location.PacketLocation.{PacketLocation}
+use Rattle.forwarding.specs.declared.location.PacketLocation.TheVariants as places
 use Rattle.forwarding.specs.declared.reply.TurnReply.{TurnReply}
 use Rattle.forwarding.specs.declared.reply.TurnReply.TheVariants as turns
 use Rattle.network_core.specs.declared.fault.EventFault.{EventFault}
@@ -68,7 +68,7 @@ turn_text (turns.Refused refusal) = codes "refused " ++ refusal_text refusal
 turn_text turns.Still = codes "ok"
 
 -- where a packet is
-abbrev pub place_text : Place → List ℕ
+abbrev pub place_text : PacketLocation → List ℕ
 place_text (places.AtRouter stop) =
     codes "at " ++ (canonical stop.ia ++ (codes " " ++ decimal stop.router))
 place_text places.Delivered = codes "delivered"
@@ -117,11 +117,11 @@ reply_text net (Sent packet) = numbered (codes "packet") packet
 reply_text net (Turned reply) = turn_text reply
 reply_text net (Refused fault) = fault_text fault
 
--- what is told of a packet: where it is and which hops it has passed, if there is one
+-- the line on a packet: where it is and which hops it has passed, if there is one
 abbrev pub packet_text : Option PacketValue → List ℕ
 packet_text None = codes "no 130 NoPacket"
 packet_text (Some one) = place_text one.packet.place ++ passed_text one.packet.passed
 
--- what is told of a line that asks for nothing
+-- the reply to a line that asks for nothing
 abbrev pub bad_line : List ℕ
 bad_line = codes "no 140 BadLine"

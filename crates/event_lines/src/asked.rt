@@ -6,7 +6,7 @@ use std::marker::Model;
 
 /// A policy option of a request for paths: the texts of its policy, and its weight.
 #[derive(Drop)]
-pub struct AskedOption {
+pub struct OwnedOptionText {
     /// The texts of the access control list, where there is one.
     pub acl: Option<AclText>,
     /// The text of the sequence, where there is one.
@@ -15,7 +15,7 @@ pub struct AskedOption {
     pub weight: u32,
 }
 
-impl Model for AskedOption {
+impl Model for OwnedOptionText {
     ghost use Rattle.std.specs.Prelude.{option_map};
     ghost use Rattle.std.specs.String.{string_bytes};
     ghost use Rattle.policy_expr.specs.Options.{OptionTexts};
@@ -29,7 +29,7 @@ impl Model for AskedOption {
     } };
 }
 
-impl AskedOption {
+impl OwnedOptionText {
     /// The option, lent to a request.
     pub(crate) fn lent(&self) -> OptionText<'_>
         ensures { result ≡ self.now }
@@ -50,7 +50,10 @@ impl AskedOption {
 }
 
 /// The options, lent to a request.
-pub fn lend_all(alloc: Global, options: &[AskedOption]) -> Result<Vec<OptionText<'_>>, AllocError>
+pub fn lend_all(
+    alloc: Global,
+    options: &[OwnedOptionText],
+) -> Result<Vec<OptionText<'_>>, AllocError>
     ensures { IfOk result (λ lent. lent.items ≡ options.now) }
 {
     let mut lent = Vec::with_capacity(alloc, options.len())?;

@@ -2,14 +2,14 @@
 
 ghost use Rattle.std.specs.Prelude.{◌≡◌, None, IfSome, false};
 ghost use Rattle.event_lines.specs.Run.{has_end};
-ghost use Rattle.event_lines.specs.Talking.{IsCut};
+ghost use Rattle.event_lines.specs.Session.{IsCut};
 
 use memchr::memchr;
 
 /// The end of a line.
 pub(crate) const LINE_END: u8 = b'\n';
 
-/// The first line of the bytes without its end, and what stands behind it; `None` where no line
+/// The first line of the bytes without its end, and what stands behind it; `None` if no line
 /// ends among them.
 pub(crate) fn cut_line(bytes: &[u8]) -> Option<(&[u8], &[u8])>
     ensures cut { IfSome result (λ parts. IsCut bytes.now parts.0.now parts.1.now) }

@@ -7,7 +7,7 @@ ghost use Rattle.serde_json.specs.View.{view, items_view};
 ghost use Rattle.json_fields.specs.Fields.{items_at};
 ghost use Rattle.event_lines.specs.Line.{byte_at, bytes_at, ia_at, long_at, maybe_text_at, one_option, option_in, option_with, options_in, listed_options, short_at, texts_at};
 
-use crate::asked::AskedOption;
+use crate::asked::OwnedOptionText;
 use hex::FromHexError;
 use isd_as::{IfId, IsdAs};
 use json_fields::{list, text, whole};
@@ -123,7 +123,7 @@ fn maybe_text(
 
 /// The policy of the members `acl` and `sequence`, with this weight.
 #[tactic(auto, unfolding(crate::specs::Line::option_with))]
-fn weighed(alloc: Global, weight: u32, value: &Value) -> Result<Option<AskedOption>, AllocError>
+fn weighed(alloc: Global, weight: u32, value: &Value) -> Result<Option<OwnedOptionText>, AllocError>
     ensures { IfOk result (λ o. o ≡ option_with weight (view value.now)) }
 {
     let Some(acl) = texts(alloc, value, "acl")? else {
@@ -132,7 +132,7 @@ fn weighed(alloc: Global, weight: u32, value: &Value) -> Result<Option<AskedOpti
     let Some(sequence) = maybe_text(alloc, value, "sequence")? else {
         return Ok(None);
     };
-    Ok(Some(AskedOption {
+    Ok(Some(OwnedOptionText {
         acl,
         sequence,
         weight,
@@ -141,7 +141,7 @@ fn weighed(alloc: Global, weight: u32, value: &Value) -> Result<Option<AskedOpti
 
 /// A policy option of a list.
 #[tactic(auto, unfolding(crate::specs::Line::option_in))]
-fn option(alloc: Global, value: &Value) -> Result<Option<AskedOption>, AllocError>
+fn option(alloc: Global, value: &Value) -> Result<Option<OwnedOptionText>, AllocError>
     ensures { IfOk result (λ o. o ≡ option_in (view value.now)) }
 {
     let Some(weight) = long(value, "weight") else {
@@ -151,7 +151,7 @@ fn option(alloc: Global, value: &Value) -> Result<Option<AskedOption>, AllocErro
 }
 
 /// The policy options of a list.
-fn each_option(alloc: Global, values: &[Value]) -> Result<Option<Vec<AskedOption>>, AllocError>
+fn each_option(alloc: Global, values: &[Value]) -> Result<Option<Vec<OwnedOptionText>>, AllocError>
     ensures { IfOk result (λ o. option_map (λ v. v.items) o
         ≡ items_at option_in (items_view values.now)) }
 {
@@ -167,7 +167,7 @@ fn each_option(alloc: Global, values: &[Value]) -> Result<Option<Vec<AskedOption
 
 /// The policy options of the member `options`, beside which no other policy stands.
 #[tactic(auto, unfolding(crate::specs::Line::listed_options))]
-fn listed(alloc: Global, value: &Value) -> Result<Option<Vec<AskedOption>>, AllocError>
+fn listed(alloc: Global, value: &Value) -> Result<Option<Vec<OwnedOptionText>>, AllocError>
     ensures { IfOk result (λ o. option_map (λ v. v.items) o ≡ listed_options (view value.now)) }
 {
     if value.get("acl").is_some() || value.get("sequence").is_some() {
@@ -181,7 +181,7 @@ fn listed(alloc: Global, value: &Value) -> Result<Option<Vec<AskedOption>>, Allo
 
 /// One policy option of weight 0.
 #[tactic(auto, unfolding(crate::specs::Line::one_option))]
-fn single(alloc: Global, value: &Value) -> Result<Option<Vec<AskedOption>>, AllocError>
+fn single(alloc: Global, value: &Value) -> Result<Option<Vec<OwnedOptionText>>, AllocError>
     ensures { IfOk result (λ o. option_map (λ v. v.items) o ≡ one_option (view value.now)) }
 {
     let Some(option) = weighed(alloc, 0, value)? else {
@@ -193,7 +193,7 @@ fn single(alloc: Global, value: &Value) -> Result<Option<Vec<AskedOption>>, Allo
 }
 
 /// The policy options of a request.
-pub fn options(alloc: Global, value: &Value) -> Result<Option<Vec<AskedOption>>, AllocError>
+pub fn options(alloc: Global, value: &Value) -> Result<Option<Vec<OwnedOptionText>>, AllocError>
     ensures { IfOk result (λ o. option_map (λ v. v.items) o ≡ options_in (view value.now)) }
 {
     if value.get("options").is_none() {

@@ -4,14 +4,14 @@ ghost use Rattle.std.specs.Prelude.{◌≡◌, IfOk, Some, option_map};
 ghost use Rattle.std.specs.String.{string_bytes};
 ghost use Rattle.serde_json.specs.View.{view};
 ghost use Rattle.network_core.specs.Seen as events;
-ghost use Rattle.event_lines.specs.Hearing.{heard_as};
+ghost use Rattle.event_lines.specs.AcceptedLines.{accepted_as};
 ghost use Rattle.event_lines.specs.Line.{Happens, ask_in, line_in, said_by, show_in, untexted_event, worded};
-ghost use Rattle.event_lines.specs.Seen.{seen};
-ghost use Rattle.event_lines.specs.Saying.{Replies};
+ghost use Rattle.event_lines.specs.Seen.{line_value};
+ghost use Rattle.event_lines.specs.Replies.{Replies};
 
+use crate::accepted::AcceptedLines;
 use crate::asked::lend_all;
 use crate::fields::options;
-use crate::hearing::Hearing;
 use crate::line::{Line, ask, payload, show, untexted};
 use crate::text;
 use forwarding::TurnReply;
@@ -22,7 +22,7 @@ use std::alloc::{AllocError, Global};
 
 /// An event happens.
 fn happen(alloc: Global, net: &mut Net, event: &Event<'_>) -> Result<String, AllocError>
-    ensures { IfOk result (λ text. Replies net.old (Some (Happens (events.seen event.now)))
+    ensures { IfOk result (λ text. Replies net.old (Some (Happens (events.event_value event.now)))
         (string_bytes text) net.new) }
 {
     let reply = net.step(alloc, event)?;
@@ -34,7 +34,7 @@ fn happen(alloc: Global, net: &mut Net, event: &Event<'_>) -> Result<String, All
 
 /// What a line is answered.
 fn answer(alloc: Global, net: &mut Net, line: &Line<'_>) -> Result<String, AllocError>
-    ensures { IfOk result (λ text. Replies net.old (Some (seen line.now))
+    ensures { IfOk result (λ text. Replies net.old (Some (line_value line.now))
         (string_bytes text) net.new) }
 {
     match line {
@@ -43,17 +43,17 @@ fn answer(alloc: Global, net: &mut Net, line: &Line<'_>) -> Result<String, Alloc
     }
 }
 
-/// What a line is answered if it is heard; a bad line otherwise.
-fn answer_heard(
+/// The reply to a line if it is accepted; that to a bad line otherwise.
+fn answer_accepted(
     alloc: Global,
-    hearing: Hearing,
+    accepted: AcceptedLines,
     net: &mut Net,
     line: &Line<'_>,
 ) -> Result<String, AllocError>
-    ensures { IfOk result (λ text. Replies net.old (heard_as hearing (Some (seen line.now)))
+    ensures { IfOk result (λ text. Replies net.old (accepted_as accepted (Some (line_value line.now)))
         (string_bytes text) net.new) }
 {
-    if hearing.hears(line) {
+    if accepted.accepts(line) {
         answer(alloc, net, line)
     } else {
         text::bad_line(alloc)
@@ -63,15 +63,15 @@ fn answer_heard(
 /// What a line is answered that asks where a packet is.
 fn answer_show(
     alloc: Global,
-    hearing: Hearing,
+    accepted: AcceptedLines,
     net: &mut Net,
     value: &Value,
 ) -> Result<String, AllocError>
-    ensures { IfOk result (λ text. Replies net.old (heard_as hearing (show_in (view value.now)))
+    ensures { IfOk result (λ text. Replies net.old (accepted_as accepted (show_in (view value.now)))
         (string_bytes text) net.new) }
 {
     match show(value) {
-        Some(line) => answer_heard(alloc, hearing, net, &line),
+        Some(line) => answer_accepted(alloc, accepted, net, &line),
         None => text::bad_line(alloc),
     }
 }
@@ -80,12 +80,12 @@ fn answer_show(
 #[tactic(auto, unfolding(crate::specs::Line::ask_in))]
 fn answer_ask(
     alloc: Global,
-    hearing: Hearing,
+    accepted: AcceptedLines,
     net: &mut Net,
     value: &Value,
 ) -> Result<String, AllocError>
     ensures { IfOk result (λ text. Replies net.old
-        (heard_as hearing (option_map Happens (ask_in (view value.now))))
+        (accepted_as accepted (option_map Happens (ask_in (view value.now))))
         (string_bytes text) net.new) }
 {
     let Some(options) = options(alloc, value)? else {
@@ -93,7 +93,7 @@ fn answer_ask(
     };
     let lent = lend_all(alloc, &options)?;
     match ask(value, &lent) {
-        Some(event) => answer_heard(alloc, hearing, net, &Line::Happens(event)),
+        Some(event) => answer_accepted(alloc, accepted, net, &Line::Happens(event)),
         None => text::bad_line(alloc),
     }
 }
@@ -102,20 +102,20 @@ fn answer_ask(
 #[tactic(auto, unfolding(crate::specs::Line::untexted_event))]
 fn answer_untexted(
     alloc: Global,
-    hearing: Hearing,
+    accepted: AcceptedLines,
     net: &mut Net,
     word: &str,
     value: &Value,
 ) -> Result<String, AllocError>
     ensures { IfOk result (λ text. Replies net.old
-        (heard_as hearing (option_map Happens (untexted_event word.now (view value.now))))
+        (accepted_as accepted (option_map Happens (untexted_event word.now (view value.now))))
         (string_bytes text) net.new) }
 {
     let Some(payload) = payload(alloc, word, value)? else {
         return text::bad_line(alloc);
     };
     match untexted(word, value, &payload) {
-        Some(event) => answer_heard(alloc, hearing, net, &Line::Happens(event)),
+        Some(event) => answer_accepted(alloc, accepted, net, &Line::Happens(event)),
         None => text::bad_line(alloc),
     }
 }
@@ -124,41 +124,41 @@ fn answer_untexted(
 #[tactic(auto, unfolding(crate::specs::Line::said_by, crate::specs::Line::worded))]
 fn answer_object(
     alloc: Global,
-    hearing: Hearing,
+    accepted: AcceptedLines,
     net: &mut Net,
     value: &Value,
 ) -> Result<String, AllocError>
-    ensures { IfOk result (λ text. Replies net.old (heard_as hearing (said_by (view value.now)))
+    ensures { IfOk result (λ text. Replies net.old (accepted_as accepted (said_by (view value.now)))
         (string_bytes text) net.new) }
 {
     let Some(word) = json_fields::text(value, "do") else {
         return text::bad_line(alloc);
     };
     match word {
-        "show" => answer_show(alloc, hearing, net, value),
-        "ask" => answer_ask(alloc, hearing, net, value),
-        _ => answer_untexted(alloc, hearing, net, word, value),
+        "show" => answer_show(alloc, accepted, net, value),
+        "ask" => answer_ask(alloc, accepted, net, value),
+        _ => answer_untexted(alloc, accepted, net, word, value),
     }
 }
 
-/// What the bytes of a line are answered, without the line's end, if these lines are heard. A bad
-/// line is one that is not heard, or is no object of the table of lines: no JSON, an object without
-/// the member `do` or with a word there that is none of these, or one in which a member of the word
-/// is missing or has another form.
+/// What the bytes of a line are answered, without the line's end, if these lines are accepted. A
+/// bad line is one that is not accepted, or is no object of the table of lines: no JSON, an object
+/// without the member `do` or with a word there that is none of these, or one in which a member of
+/// the word is missing or has another form.
 ///
 /// Takes time and memory for the bytes of the line, beside what its event takes.
 #[tactic(auto, unfolding(crate::specs::Line::line_in))]
 pub(crate) fn answer_line(
     alloc: Global,
-    hearing: Hearing,
+    accepted: AcceptedLines,
     net: &mut Net,
     bytes: &[u8],
 ) -> Result<String, AllocError>
-    ensures { IfOk result (λ text. Replies net.old (heard_as hearing (line_in bytes.now))
+    ensures { IfOk result (λ text. Replies net.old (accepted_as accepted (line_in bytes.now))
         (string_bytes text) net.new) }
 {
     match document(alloc, bytes)? {
-        Some(value) => answer_object(alloc, hearing, net, &value),
+        Some(value) => answer_object(alloc, accepted, net, &value),
         None => text::bad_line(alloc),
     }
 }

@@ -4,7 +4,7 @@ ghost use Rattle.std.specs.Prelude.{◌≡◌, IfOk, None, Ok, Some, codes, opti
 ghost use Rattle.serde_json.specs.View.{view};
 ghost use Rattle.network_core.specs.Seen as events;
 ghost use Rattle.event_lines.specs.Line.{alter_in, ask_in, back_in, bytes_at, cut_in, extend_in, lose_in, mend_in, options_in, originate_in, plain_event, rotate_in, send_in, show_in, terminate_in, tick_in, turn_in, untexted_event};
-ghost use Rattle.event_lines.specs.Seen.{payload_in, seen};
+ghost use Rattle.event_lines.specs.Seen.{payload_in, line_value};
 
 use crate::fields::{byte, bytes, ia, interface, long, short};
 use network_core::Event;
@@ -27,7 +27,7 @@ pub(crate) enum Line<'a> {
 /// The line that asks where a packet is.
 #[tactic(auto, unfolding(crate::specs::Line::show_in))]
 pub(crate) fn show<'a>(value: &Value) -> Option<Line<'a>>
-    ensures { option_map seen result ≡ show_in (view value.now) }
+    ensures { option_map line_value result ≡ show_in (view value.now) }
 {
     let packet = long(value, "packet")?;
     Some(Line::Show { packet })
@@ -57,7 +57,7 @@ pub(crate) fn payload(
 #[tactic(auto, unfolding(crate::specs::Line::untexted_event, crate::specs::Seen::payload_in))]
 pub(crate) fn untexted<'a>(word: &str, value: &Value, payload: &'a [u8]) -> Option<Event<'a>>
     requires { payload_in word.now (view value.now) ≡ Some payload.now }
-    ensures { option_map events.seen result ≡ untexted_event word.now (view value.now) }
+    ensures { option_map events.event_value result ≡ untexted_event word.now (view value.now) }
 {
     match word {
         "send" => send(value, payload),
@@ -70,7 +70,7 @@ pub(crate) fn untexted<'a>(word: &str, value: &Value, payload: &'a [u8]) -> Opti
 /// The event of a line that carries neither bytes nor texts.
 #[tactic(auto, unfolding(crate::specs::Line::plain_event))]
 fn plain<'a>(word: &str, value: &Value) -> Option<Event<'a>>
-    ensures { option_map events.seen result ≡ plain_event word.now (view value.now) }
+    ensures { option_map events.event_value result ≡ plain_event word.now (view value.now) }
 {
     match word {
         "tick" => tick(value),
@@ -89,7 +89,7 @@ fn plain<'a>(word: &str, value: &Value) -> Option<Event<'a>>
 
 #[tactic(auto, unfolding(crate::specs::Line::tick_in))]
 fn tick<'a>(value: &Value) -> Option<Event<'a>>
-    ensures { option_map events.seen result ≡ tick_in (view value.now) }
+    ensures { option_map events.event_value result ≡ tick_in (view value.now) }
 {
     let now = long(value, "now")?;
     Some(Event::Tick { now })
@@ -97,7 +97,7 @@ fn tick<'a>(value: &Value) -> Option<Event<'a>>
 
 #[tactic(auto, unfolding(crate::specs::Line::originate_in))]
 fn originate<'a>(value: &Value) -> Option<Event<'a>>
-    ensures { option_map events.seen result ≡ originate_in (view value.now) }
+    ensures { option_map events.event_value result ≡ originate_in (view value.now) }
 {
     let ia = ia(value, "ia")?;
     let egress = interface(value, "egress")?;
@@ -107,7 +107,7 @@ fn originate<'a>(value: &Value) -> Option<Event<'a>>
 
 #[tactic(auto, unfolding(crate::specs::Line::extend_in))]
 fn extend<'a>(value: &Value) -> Option<Event<'a>>
-    ensures { option_map events.seen result ≡ extend_in (view value.now) }
+    ensures { option_map events.event_value result ≡ extend_in (view value.now) }
 {
     let beacon = long(value, "beacon")?;
     let ia = ia(value, "ia")?;
@@ -117,7 +117,7 @@ fn extend<'a>(value: &Value) -> Option<Event<'a>>
 
 #[tactic(auto, unfolding(crate::specs::Line::terminate_in))]
 fn terminate<'a>(value: &Value) -> Option<Event<'a>>
-    ensures { option_map events.seen result ≡ terminate_in (view value.now) }
+    ensures { option_map events.event_value result ≡ terminate_in (view value.now) }
 {
     let beacon = long(value, "beacon")?;
     let ia = ia(value, "ia")?;
@@ -126,7 +126,7 @@ fn terminate<'a>(value: &Value) -> Option<Event<'a>>
 
 #[tactic(auto, unfolding(crate::specs::Line::turn_in))]
 fn turn<'a>(value: &Value) -> Option<Event<'a>>
-    ensures { option_map events.seen result ≡ turn_in (view value.now) }
+    ensures { option_map events.event_value result ≡ turn_in (view value.now) }
 {
     let packet = long(value, "packet")?;
     Some(Event::Turn { packet })
@@ -134,7 +134,7 @@ fn turn<'a>(value: &Value) -> Option<Event<'a>>
 
 #[tactic(auto, unfolding(crate::specs::Line::lose_in))]
 fn lose<'a>(value: &Value) -> Option<Event<'a>>
-    ensures { option_map events.seen result ≡ lose_in (view value.now) }
+    ensures { option_map events.event_value result ≡ lose_in (view value.now) }
 {
     let packet = long(value, "packet")?;
     Some(Event::Lose { packet })
@@ -142,7 +142,7 @@ fn lose<'a>(value: &Value) -> Option<Event<'a>>
 
 #[tactic(auto, unfolding(crate::specs::Line::alter_in))]
 fn alter<'a>(value: &Value) -> Option<Event<'a>>
-    ensures { option_map events.seen result ≡ alter_in (view value.now) }
+    ensures { option_map events.event_value result ≡ alter_in (view value.now) }
 {
     let packet = long(value, "packet")?;
     let at = long(value, "at")?;
@@ -152,7 +152,7 @@ fn alter<'a>(value: &Value) -> Option<Event<'a>>
 
 #[tactic(auto, unfolding(crate::specs::Line::cut_in))]
 fn cut<'a>(value: &Value) -> Option<Event<'a>>
-    ensures { option_map events.seen result ≡ cut_in (view value.now) }
+    ensures { option_map events.event_value result ≡ cut_in (view value.now) }
 {
     let ia = ia(value, "ia")?;
     let interface = interface(value, "if")?;
@@ -161,7 +161,7 @@ fn cut<'a>(value: &Value) -> Option<Event<'a>>
 
 #[tactic(auto, unfolding(crate::specs::Line::mend_in))]
 fn mend<'a>(value: &Value) -> Option<Event<'a>>
-    ensures { option_map events.seen result ≡ mend_in (view value.now) }
+    ensures { option_map events.event_value result ≡ mend_in (view value.now) }
 {
     let ia = ia(value, "ia")?;
     let interface = interface(value, "if")?;
@@ -172,7 +172,7 @@ fn mend<'a>(value: &Value) -> Option<Event<'a>>
 #[tactic(auto, unfolding(crate::specs::Line::ask_in))]
 pub(crate) fn ask<'a>(value: &Value, options: &'a [OptionText<'a>]) -> Option<Event<'a>>
     requires { options_in (view value.now) ≡ Some options.now }
-    ensures { option_map events.seen result ≡ ask_in (view value.now) }
+    ensures { option_map events.event_value result ≡ ask_in (view value.now) }
 {
     let src = ia(value, "src")?;
     let dst = ia(value, "dst")?;
@@ -188,7 +188,7 @@ pub(crate) fn ask<'a>(value: &Value, options: &'a [OptionText<'a>]) -> Option<Ev
 #[tactic(auto, unfolding(crate::specs::Line::send_in))]
 fn send<'a>(value: &Value, payload: &'a [u8]) -> Option<Event<'a>>
     requires { bytes_at (codes "payload") (view value.now) ≡ Some payload.now }
-    ensures { option_map events.seen result ≡ send_in (view value.now) }
+    ensures { option_map events.event_value result ≡ send_in (view value.now) }
 {
     let ask = long(value, "ask")?;
     let path = long(value, "path")?;
@@ -198,7 +198,7 @@ fn send<'a>(value: &Value, payload: &'a [u8]) -> Option<Event<'a>>
 #[tactic(auto, unfolding(crate::specs::Line::back_in))]
 fn back<'a>(value: &Value, payload: &'a [u8]) -> Option<Event<'a>>
     requires { bytes_at (codes "payload") (view value.now) ≡ Some payload.now }
-    ensures { option_map events.seen result ≡ back_in (view value.now) }
+    ensures { option_map events.event_value result ≡ back_in (view value.now) }
 {
     let packet = long(value, "packet")?;
     Some(Event::Back { packet, payload })
@@ -207,7 +207,7 @@ fn back<'a>(value: &Value, payload: &'a [u8]) -> Option<Event<'a>>
 #[tactic(auto, unfolding(crate::specs::Line::rotate_in))]
 fn rotate<'a>(value: &Value, key: &'a [u8]) -> Option<Event<'a>>
     requires { bytes_at (codes "key") (view value.now) ≡ Some key.now }
-    ensures { option_map events.seen result ≡ rotate_in (view value.now) }
+    ensures { option_map events.event_value result ≡ rotate_in (view value.now) }
 {
     let ia = ia(value, "ia")?;
     Some(Event::RotateKey { ia, key })

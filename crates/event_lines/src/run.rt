@@ -3,11 +3,11 @@
 ghost use Rattle.std.specs.Prelude.{◌≡◌, ◌+◌, ◌<◌, ◌≤◌, ◌||◌, [], false, is_none, length, option_map};
 ghost use Rattle.std.specs.String.{string_bytes};
 ghost use Rattle.event_lines.specs.Run.{Listens, Runs, has_end, is_read_fault, is_write_fault, most_input};
-ghost use Rattle.event_lines.specs.Talking.{Brings, Exchanges, Finishes, Writes, stage_of, value_of};
+ghost use Rattle.event_lines.specs.Session.{Brings, Exchanges, Finishes, Writes, stage_of, value_of};
 
+use crate::accepted::AcceptedLines;
 use crate::fault::RunFault;
-use crate::hearing::Hearing;
-use crate::talk::Talk;
+use crate::session::Session;
 use network_core::Net;
 use std::alloc::Global;
 use streams::{Sink, Source, write_all};
@@ -18,7 +18,8 @@ const MAX_INPUT_LEN: usize = 67_108_864;
 /// The most bytes that one read asks for.
 const ROOM_LEN: usize = 8_192;
 
-/// How many bytes are asked for where so many were read: one where no more may come.
+/// How many bytes to read next, `count` bytes having been read: 1 at the limit, to find out whether
+/// more follow.
 fn wanted_after(count: usize) -> usize
     requires { count ≤ most_input }
     ensures some { 0 < result }
@@ -30,7 +31,7 @@ fn wanted_after(count: usize) -> usize
     if left == 0 { 1 } else { left.min(ROOM_LEN) }
 }
 
-/// What the next read brings, into `room`; `None` where it fails.
+/// What the next read brings, into `room`; `None` if it fails.
 fn read_into<'r, S: Source>(source: &mut S, room: &'r mut [u8]) -> Option<&'r [u8]>
     requires { 0 < length room.old }
     ensures bytes { Brings (option_map (λ bytes. bytes.now) result) (S.left source.old)
@@ -44,37 +45,38 @@ fn read_into<'r, S: Source>(source: &mut S, room: &'r mut [u8]) -> Option<&'r [u
 }
 
 /// Writes what is still to be written.
-fn write_replies<K: Sink>(talk: &mut Talk, sink: &mut K) -> Result<(), RunFault>
-    ensures written { Writes result (value_of talk.old) (value_of talk.new)
+fn write_replies<K: Sink>(session: &mut Session, sink: &mut K) -> Result<(), RunFault>
+    ensures written { Writes result (value_of session.old) (value_of session.new)
         (K.held sink.old) (K.held sink.new) }
     ensures flag { K.failed sink.new ≡ (K.failed sink.old || is_write_fault result) }
 {
-    if write_all(sink, talk.replies.as_bytes()).is_err() {
+    if write_all(sink, session.replies.as_bytes()).is_err() {
         return Err(RunFault::Write);
     }
     if sink.flush().is_err() {
         return Err(RunFault::Write);
     }
-    talk.replies.clear();
+    session.replies.clear();
     Ok(())
 }
 
-/// Hears bytes, and writes the replies to the lines that end among them.
+/// Answers the lines that end in these bytes, and writes the replies to the lines that end among
+/// them.
 fn exchange<K: Sink>(
     alloc: Global,
-    hearing: Hearing,
-    talk: &mut Talk,
+    accepted: AcceptedLines,
+    session: &mut Session,
     sink: &mut K,
     bytes: &[u8],
 ) -> Result<(), RunFault>
-    requires whole { has_end talk.old.rest.items ≡ false }
-    requires written { string_bytes talk.old.replies ≡ [] }
-    ensures told { Exchanges hearing result bytes.now (value_of talk.old) (value_of talk.new)
+    requires whole { has_end session.old.rest.items ≡ false }
+    requires written { string_bytes session.old.replies ≡ [] }
+    ensures told { Exchanges accepted result bytes.now (value_of session.old) (value_of session.new)
         (K.held sink.old) (K.held sink.new) }
     ensures flag { K.failed sink.new ≡ (K.failed sink.old || is_write_fault result) }
 {
-    let heard = talk.hear(alloc, hearing, bytes);
-    write_replies(talk, sink)?;
+    let heard = session.answer_bytes(alloc, accepted, bytes);
+    write_replies(session, sink)?;
     heard
 }
 
@@ -82,35 +84,35 @@ fn exchange<K: Sink>(
 /// empty line.
 fn finish<K: Sink>(
     alloc: Global,
-    hearing: Hearing,
-    talk: &mut Talk,
+    accepted: AcceptedLines,
+    session: &mut Session,
     sink: &mut K,
 ) -> Result<(), RunFault>
-    requires { string_bytes talk.old.replies ≡ [] }
-    ensures told { Finishes hearing result (value_of talk.old) (stage_of talk.new.net)
+    requires { string_bytes session.old.replies ≡ [] }
+    ensures told { Finishes accepted result (value_of session.old) (stage_of session.new.net)
         (K.held sink.old) (K.held sink.new) }
     ensures flag { K.failed sink.new ≡ (K.failed sink.old || is_write_fault result) }
 {
-    if talk.is_done() {
+    if session.is_done() {
         return Ok(());
     }
-    let heard = talk.answer(alloc, hearing);
-    write_replies(talk, sink)?;
+    let heard = session.answer(alloc, accepted);
+    write_replies(session, sink)?;
     heard
 }
 
-/// Answers the lines of a source, of those after the first the ones that are heard, and hands out
+/// Answers the lines of a source, of those after the first the accepted ones, and returns
 /// the network that they lead to. The first line is a topology, and each later one an event of its
-/// network or the question where a packet is; a line that is not heard is a bad line. Each is
+/// network or the question where a packet is; a line that is not accepted is a bad line. Each is
 /// answered by one line, which is written and flushed before more is read.
 ///
 /// The lines behind the first are a run of the events that they ask for, in their order, and the
 /// replies are the answers of its history. So what is promised of a run ([`network_core::run`])
 /// holds of them, and also of those that were answered before a fault.
 ///
-/// [`RunFault::Topology`] where the first line is no topology, after its answer;
-/// [`RunFault::Read`] and [`RunFault::Write`] where the source or the sink failed;
-/// [`RunFault::Memory`] where memory ran out at some line, after the answers to the lines before;
+/// [`RunFault::Topology`] if the first line is no topology, after its answer;
+/// [`RunFault::Read`] and [`RunFault::Write`] if the source or the sink failed;
+/// [`RunFault::Memory`] if memory ran out at some line, after the answers to the lines before;
 /// [`RunFault::InputTooLong`] at byte 67,108,865.
 ///
 /// It ends for every source that ends or passes that limit. A line takes time and memory for its
@@ -118,16 +120,16 @@ fn finish<K: Sink>(
 /// one read of up to 8,192 bytes brought, are held at a time.
 pub fn listen<S: Source, K: Sink>(
     alloc: Global,
-    hearing: Hearing,
+    accepted: AcceptedLines,
     source: &mut S,
     sink: &mut K,
 ) -> Result<Net, RunFault>
-    ensures listens { Listens hearing result (S.left source.old) (S.left source.new)
+    ensures listens { Listens accepted result (S.left source.old) (S.left source.new)
         (K.held sink.old) (K.held sink.new) }
     ensures source { S.failed source.new ≡ (S.failed source.old || is_read_fault result) }
     ensures sink { K.failed sink.new ≡ (K.failed sink.old || is_write_fault result) }
 {
-    let mut talk = Talk::new(alloc);
+    let mut session = Session::new(alloc);
     let mut room = [0u8; ROOM_LEN];
     let mut count = 0;
     loop {
@@ -136,13 +138,13 @@ pub fn listen<S: Source, K: Sink>(
             return Err(RunFault::Read);
         };
         if bytes.is_empty() {
-            finish(alloc, hearing, &mut talk, sink)?;
-            return Ok(talk.into_net());
+            finish(alloc, accepted, &mut session, sink)?;
+            return Ok(session.into_net());
         }
         if count == MAX_INPUT_LEN {
             return Err(RunFault::InputTooLong);
         }
-        exchange(alloc, hearing, &mut talk, sink, bytes)?;
+        exchange(alloc, accepted, &mut session, sink, bytes)?;
         count += bytes.len();
     }
 }
@@ -159,6 +161,6 @@ pub fn run_lines<S: Source, K: Sink>(
     ensures source { S.failed source.new ≡ (S.failed source.old || is_read_fault result) }
     ensures sink { K.failed sink.new ≡ (K.failed sink.old || is_write_fault result) }
 {
-    listen(alloc, Hearing::All, source, sink)?;
+    listen(alloc, AcceptedLines::All, source, sink)?;
     Ok(())
 }

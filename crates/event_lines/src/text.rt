@@ -1,11 +1,11 @@
-//! What is told of events and of packets.
+//! The replies to events, and the lines on packets.
 
 ghost use Rattle.std.specs.Prelude.{◌≡◌, ◌++◌, IfOk, OnOk, flat_map, option_map};
 ghost use Rattle.std.specs.String.{string_bytes};
 ghost use Rattle.event_lines.specs.Text.{answer_in, answer_text, bad_line, fault_text, hop_text, hops_text, outcome_text, packet_text, passed_text, path_text, paths_of, place_text, refusal_text, reply_text, turn_text};
 
 use combinator::Path;
-use forwarding::{Place, TurnReply};
+use forwarding::{PacketLocation, TurnReply};
 use network_core::{EventFault, Net, Packet, Reply};
 use policy_expr::WalkHop;
 use router_step::{Outcome, Refusal};
@@ -143,17 +143,17 @@ pub(crate) fn reply(alloc: Global, net: &Net, reply: Reply) -> Result<String, Al
 }
 
 /// Where a packet is.
-fn place(alloc: Global, place: Place) -> Result<String, AllocError>
+fn place(alloc: Global, place: PacketLocation) -> Result<String, AllocError>
     ensures { IfOk result (λ text. string_bytes text ≡ place_text place) }
 {
     match place {
-        Place::AtRouter(stop) => format!(in alloc; "at {} {}", stop.ia, stop.router),
-        Place::Delivered => String::from_str(alloc, "delivered"),
-        Place::Refused(ia, router, cause) => {
+        PacketLocation::AtRouter(stop) => format!(in alloc; "at {} {}", stop.ia, stop.router),
+        PacketLocation::Delivered => String::from_str(alloc, "delivered"),
+        PacketLocation::Refused(ia, router, cause) => {
             let cause = refusal_text(alloc, cause)?;
             format!(in alloc; "refused {ia} {router} {}", cause.as_str())
         }
-        Place::Lost => String::from_str(alloc, "lost"),
+        PacketLocation::Lost => String::from_str(alloc, "lost"),
     }
 }
 
@@ -169,7 +169,7 @@ fn push_passed(alloc: Global, text: &mut String, passed: &[WalkHop]) -> Result<(
     push_hops(alloc, text, passed)
 }
 
-/// What is told of a packet: where it is, and which hops it has passed.
+/// The line on a packet: where it is, and which hops it has passed.
 pub(crate) fn packet(alloc: Global, packet: Option<&Packet>) -> Result<String, AllocError>
     ensures { IfOk result (λ text. string_bytes text
         ≡ packet_text (option_map (λ p. p.now) packet.entry)) }

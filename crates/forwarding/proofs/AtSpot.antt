@@ -18,15 +18,15 @@ use Rattle.router_step.specs.declared.arrival.Arrival.TheVariants.{FromHost, Ins
 use Rattle.router_step.specs.declared.outcome.Outcome.TheVariants.{ToLink}
 use Rattle.router_step.specs.Place.{info_of, hop_of, with_seg_id, seg_id_on_arrival, seg_id_on_leaving, arrived, moved_on, gone}
 use Rattle.router_step.specs.Checks.{is_start_right, indices_fit, way_in_fits, is_live, is_mac_right, source_fits, is_last, ends_segment}
-use Rattle.forwarding.specs.Spot.{Spot, pieces_at, beta_at, beta_before, info_with, header_with, header_there, header_coming, advanced}
-use Rattle.forwarding.specs.Standing.{header_on}
+use Rattle.forwarding.specs.PathPosition.{PathPosition, pieces_at, beta_at, beta_before, info_with, header_with, header_there, header_coming, advanced}
+use Rattle.forwarding.specs.OnPath.{header_on}
 use Rattle.forwarding.proofs.Reading.{info_of-header_with, with_seg_id-header_with, hop_of-header_with, length_fields}
 use Rattle.forwarding.proofs.Places.{IsLong, long_of, segment_of_place, no_single}
 use Rattle.forwarding.proofs.Betas.{settled, onward}
 use Rattle.router_step.specs.Forward.{IsAdmitted}
 
 -- the spot is one of a path of at most three pieces, and the entry is the one at which it stands
-pub record IsSpot (spot : Spot) (entry : Entry) : Type 0 where
+pub record IsSpot (spot : PathPosition) (entry : Entry) : Type 0 where
   pub three : length (pieces_at spot) ≤ 3
   pub past_long : AllByRecursion IsLong spot.past
   pub ranged : HasRange spot.piece
@@ -38,19 +38,19 @@ both_long : (past later : List PieceValue) (piece : PieceValue) → AllByRecursi
 both_long [] later piece a b c = (b, c)
 both_long (one ∷ past) later piece a b c = (a.0, both_long past later piece a.1 b c)
 
-pub all_long : (spot : Spot) (entry : Entry) → IsSpot spot entry
+pub all_long : (spot : PathPosition) (entry : Entry) → IsSpot spot entry
     → AllByRecursion IsLong (pieces_at spot)
 all_long spot entry is =
     both_long spot.past spot.later spot.piece is.past_long
     (long_of spot.piece is.ranged) is.later_long
 
-pub within_piece : (spot : Spot) (entry : Entry) → IsSpot spot entry
+pub within_piece : (spot : PathPosition) (entry : Entry) → IsSpot spot entry
     → spot.reached < len_of spot.piece
 within_piece spot entry is = slice_get_within (travelled spot.piece) spot.reached entry is.there
 
 -- ---- the header after the arrival
 
-arrived_with : (arrival : Arrival) (spot : Spot) (seg_id : ℕ) (entry : Entry)
+arrived_with : (arrival : Arrival) (spot : PathPosition) (seg_id : ℕ) (entry : Entry)
     → slice_get (travelled spot.piece) spot.reached ≡ Some entry
     → arrived arrival (header_with spot seg_id) ≡ header_with spot
     (seg_id_on_arrival arrival (info_with spot.piece seg_id) (field_of entry))
@@ -63,7 +63,7 @@ arrived_with arrival spot seg_id entry there =
     (hop_of-header_with spot seg_id entry there)
     ∙ with_seg_id-header_with spot seg_id _
 
-pub arrived_there : (arrival : Arrival) (spot : Spot) (entry : Entry) → IsSpot spot entry
+pub arrived_there : (arrival : Arrival) (spot : PathPosition) (entry : Entry) → IsSpot spot entry
     → arrived arrival (header_on arrival spot) ≡ header_there spot
 arrived_there FromHost spot entry is =
     arrived_with FromHost spot (beta_at spot.piece spot.reached) entry is.there
@@ -75,7 +75,7 @@ arrived_there (Link interface) spot entry is =
 
 -- ---- the checks on arrival
 
-indices_there : (arrival : Arrival) (spot : Spot) (seg_id : ℕ) (entry : Entry) → IsSpot spot entry
+indices_there : (arrival : Arrival) (spot : PathPosition) (seg_id : ℕ) (entry : Entry) → IsSpot spot entry
     → is_start_right arrival (hop_count spot.past + spot.reached) ≡ true
     → indices_fit arrival (header_with spot seg_id) ≡ true
 unfolding header_with
@@ -86,7 +86,7 @@ indices_there arrival spot seg_id entry is start =
     and_from _ _ (eq-eqb _ _ (sym segment))
     (and_from _ _ (no_single (pieces_at spot) (all_long spot entry is)) start)
 
-pub indices_on : (arrival : Arrival) (spot : Spot) (entry : Entry) → IsSpot spot entry
+pub indices_on : (arrival : Arrival) (spot : PathPosition) (entry : Entry) → IsSpot spot entry
     → is_start_right arrival (hop_count spot.past + spot.reached) ≡ true
     → indices_fit arrival (header_on arrival spot) ≡ true
 indices_on FromHost spot entry is start =
@@ -97,7 +97,7 @@ indices_on (Link interface) spot entry is start =
     indices_there (Link interface) spot (beta_before spot.piece spot.reached) entry is start
 
 -- the router is one to which the packet may have come: what is asked of its arrival
-pub record Comes (view : View) (arrival : Arrival) (source : ℕ) (spot : Spot)
+pub record Comes (view : View) (arrival : Arrival) (source : ℕ) (spot : PathPosition)
     (entry : Entry) : Type 0 where
   pub start : is_start_right arrival (hop_count spot.past + spot.reached) ≡ true
   pub way : way_in_fits view arrival (info_with spot.piece 0) (field_of entry) ≡ true
@@ -108,13 +108,13 @@ pub record IsOwn (view : View) (now : ℕ) (piece : PieceValue) (i : ℕ) (entry
   pub live : is_live now (info_with piece (beta_at piece i)) (field_of entry) ≡ true
   pub mac : is_mac_right view (info_with piece (beta_at piece i)) (field_of entry) ≡ true
 
-hop_on : (arrival : Arrival) (spot : Spot) (entry : Entry) → IsSpot spot entry
+hop_on : (arrival : Arrival) (spot : PathPosition) (entry : Entry) → IsSpot spot entry
     → hop_of (header_on arrival spot) ≡ field_of entry
 hop_on FromHost spot entry is = hop_of-header_with spot _ entry is.there
 hop_on Inside spot entry is = hop_of-header_with spot _ entry is.there
 hop_on (Link interface) spot entry is = hop_of-header_with spot _ entry is.there
 
-way_on_arrival : (view : View) (arrival : Arrival) (spot : Spot) (entry : Entry) → IsSpot spot entry
+way_on_arrival : (view : View) (arrival : Arrival) (spot : PathPosition) (entry : Entry) → IsSpot spot entry
     → way_in_fits view arrival (info_with spot.piece 0) (field_of entry) ≡ true
     → way_in_fits view arrival (info_of (header_on arrival spot))
     (hop_of (header_on arrival spot)) ≡ true
@@ -128,7 +128,7 @@ way_on_arrival view (Link interface) spot entry is way =
     (hop_on (Link interface) spot entry is)
     ∙ way
 
-pub admitted_there : (view : View) (now : ℕ) (arrival : Arrival) (source : ℕ) (spot : Spot)
+pub admitted_there : (view : View) (now : ℕ) (arrival : Arrival) (source : ℕ) (spot : PathPosition)
     (entry : Entry) → IsSpot spot entry → Comes view arrival source spot entry
     → IsOwn view now spot.piece spot.reached entry
     → IsAdmitted view now arrival source (header_on arrival spot) (header_there spot)
@@ -153,14 +153,14 @@ admitted_there view now arrival source spot entry is comes own = record {
 
 -- ---- where the path goes on
 
-pub hops_of_spot : (spot : Spot)
+pub hops_of_spot : (spot : PathPosition)
     → length (flat_map fields_of (pieces_at spot)) ≡ hop_count spot.past +
     (len_of spot.piece + hop_count spot.later)
 hops_of_spot spot = length_fields (pieces_at spot)
     ∙ sum_by-append len_of spot.past (spot.piece ∷ spot.later)
     ∙ ap (λ n. hop_count spot.past + n) (sum_by-cons len_of spot.piece spot.later)
 
-pub not_last : (spot : Spot) (seg_id : ℕ)
+pub not_last : (spot : PathPosition) (seg_id : ℕ)
     → spot.reached + 1 < len_of spot.piece + hop_count spot.later
     → is_last (header_with spot seg_id) ≡ false
 unfolding header_with
@@ -170,7 +170,7 @@ not_last spot seg_id more =
     (flat_map fields_of (pieces_at spot)) = omega arith in
     grind (arith, nat_tests)
 
-pub last : (spot : Spot) (seg_id : ℕ) → spot.reached + 1 ≡ len_of spot.piece → spot.later ≡ []
+pub last : (spot : PathPosition) (seg_id : ℕ) → spot.reached + 1 ≡ len_of spot.piece → spot.later ≡ []
     → is_last (header_with spot seg_id) ≡ true
 unfolding header_with
 last spot seg_id at_end none =
@@ -182,7 +182,7 @@ last spot seg_id at_end none =
 
 -- ---- on one piece
 
-pub stays : (spot : Spot) (seg_id : ℕ) (entry : Entry) → IsSpot spot entry
+pub stays : (spot : PathPosition) (seg_id : ℕ) (entry : Entry) → IsSpot spot entry
     → spot.reached + 1 < len_of spot.piece → ends_segment (header_with spot seg_id) ≡ false
 unfolding header_with
 stays spot seg_id entry is more =
@@ -203,7 +203,7 @@ not_moved header =
     ap (λ n. record header { curr_inf = n; curr_hf = header.curr_hf + 0 }) inf
     ∙ ap (λ n. record header { curr_hf = n }) hf
 
-further : (spot : Spot) (seg_id : ℕ)
+further : (spot : PathPosition) (seg_id : ℕ)
     → record (header_with spot seg_id) { curr_hf = (header_with spot seg_id).curr_hf + 1 }
     ≡ header_with (advanced spot) seg_id
 unfolding header_with
@@ -213,7 +213,7 @@ further spot seg_id =
     ap (λ n. record (header_with spot seg_id) { curr_hf = n }) place
 
 -- a packet that leaves comes to the next entry
-pub leaving : (spot : Spot) (entry : Entry) (interface : ℕ) → IsSpot spot entry
+pub leaving : (spot : PathPosition) (entry : Entry) (interface : ℕ) → IsSpot spot entry
     → spot.reached + 1 < len_of spot.piece
     → gone (ToLink interface) (header_there spot) ≡ header_coming (advanced spot)
 leaving spot entry interface is more =

@@ -9,7 +9,7 @@ use Rattle.path_header.specs.declared.fields.HopField.{HopField}
 use Rattle.path_header.specs.Value.{HeaderValue, lens_from}
 use Rattle.path_verifier.specs.Piece.{PieceValue}
 use Rattle.path_verifier.specs.Header.{fields_of, len_of, info_of, hop_count}
-use Rattle.forwarding.specs.Spot.{Spot, pieces_at, beta_at, info_with, info_left, header_with, header_there}
+use Rattle.forwarding.specs.PathPosition.{PathPosition, pieces_at, beta_at, info_with, info_left, header_with, header_there}
 use Rattle.forwarding.specs.Turned.{header_behind}
 
 abbrev pub lens_of : List PieceValue → SegLens
@@ -30,7 +30,7 @@ pub header_like : (i i' h h' : ℕ) (l l' : SegLens) (xs xs' : List InfoField)
 header_like i i' h h' l l' xs xs' ys ys' ei eh el exs eys = cc
 
 -- where a packet stands at the last entry of the last piece, that is its header
-pub there_behind : (spot : Spot) → spot.later ≡ [] → spot.reached + 1 ≡ len_of spot.piece
+pub there_behind : (spot : PathPosition) → spot.later ≡ [] → spot.reached + 1 ≡ len_of spot.piece
     → header_there spot ≡ header_behind (pieces_at spot)
 unfolding header_with header_behind
 there_behind spot none over =

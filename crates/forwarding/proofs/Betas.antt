@@ -14,7 +14,7 @@ use Rattle.path_verifier.specs.Header.{field_of, len_of}
 use Rattle.path_verifier.proofs.Entries.{length_travelled, length-entries_of}
 use Rattle.router_step.specs.declared.arrival.Arrival.TheVariants.{Link}
 use Rattle.router_step.specs.Place.{seg_id_on_arrival, seg_id_on_leaving}
-use Rattle.forwarding.specs.Spot.{place_of, beta_at, beta_before, info_with}
+use Rattle.forwarding.specs.PathPosition.{place_of, beta_at, beta_before, info_with}
 
 -- ---- where an entry stands
 

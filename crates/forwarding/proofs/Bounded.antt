@@ -20,8 +20,8 @@ use Rattle.router_step.specs.Done.{Situation, Does, at_the_way_out}
 use Rattle.router_step.proofs.Frames.{frame_stepped}
 use Rattle.router_step.proofs.StepLaws.{new_header, over_own_link, to_owner}
 use Rattle.router_step.proofs.Continuing.{header_again}
-use Rattle.forwarding.specs.declared.place.Stop.{Stop}
-use Rattle.forwarding.specs.declared.place.Place.TheVariants.{AtRouter}
+use Rattle.forwarding.specs.declared.location.RouterStop.{RouterStop}
+use Rattle.forwarding.specs.declared.location.PacketLocation.TheVariants.{AtRouter}
 use Rattle.forwarding.specs.Frame.{addresses, framed}
 use Rattle.forwarding.specs.Turn.{Packet, IsAtNoRouter, put_at, put, over_link, at_owner, at_place, stepped, turn_under, turned, after}
 use Rattle.forwarding.proofs.Ended.{ended_stays, turn_by_view}
@@ -46,7 +46,7 @@ IsHeld view (Link interface) header = Unit {0}
 -- a packet at a router of the network, at most so many turns from its end: two for each hop field
 -- from the current one on, less those that it has had there
 record IsNear (n : Network) (left : ℕ) (packet : Packet) : Type 0 where
-  stop : Stop
+  stop : RouterStop
   there : packet.place ≡ AtRouter stop
   view : View
   seen : view_in n stop.ia stop.router ≡ Ok view
@@ -248,12 +248,12 @@ module _ (n : Network) (network : IsNetwork n) where
       ]
 
   -- and wherever it stands, the network has the router
-  there_after : (moments : List ℕ) (left : ℕ) (packet : Packet) (stop : Stop) → Nears n left packet
+  there_after : (moments : List ℕ) (left : ℕ) (packet : Packet) (stop : RouterStop) → Nears n left packet
       → (after n packet moments).place ≡ AtRouter stop → IsOk (view_in n stop.ia stop.router)
   there_after [] left packet stop (inl ended) at = absurd (ended stop at)
   there_after [] left packet stop (inr near) at =
       let same : near.stop ≡ stop = (let both = sym near.there ∙ at in cc) in
-      subst (λ (s : Stop). IsOk (view_in n s.ia s.router)) same (ap is_ok near.seen)
+      subst (λ (s : RouterStop). IsOk (view_in n s.ia s.router)) same (ap is_ok near.seen)
   there_after (now ∷ later) left packet stop (inl ended) at =
       absurd (ended_on (now ∷ later) packet ended stop at)
   there_after (now ∷ later) zero packet stop (inr near) at =
@@ -301,7 +301,7 @@ ended_in_time n source destination ia router header payload moments network ther
     (starts n source destination ia router header payload there is fits) enough
 
 pub fewer_before : (n : Network) (source destination ia router : ℕ) (header : HeaderValue)
-    (payload moments : List ℕ) (stop : Stop) → IsNetwork n → IsOk (view_in n ia router)
+    (payload moments : List ℕ) (stop : RouterStop) → IsNetwork n → IsOk (view_in n ia router)
     → IsHeader header → Fits header
     → (after n (put_at (framed source destination header payload) ia router) moments).place
     ≡ AtRouter stop
@@ -317,7 +317,7 @@ owners_are_there n ia number router network owned =
     ap is_ok (owner_is_there n ia number router network owned).1
 
 pub stops_are_there : (n : Network) (source destination ia router : ℕ) (header : HeaderValue)
-    (payload moments : List ℕ) (stop : Stop) → IsNetwork n → IsOk (view_in n ia router)
+    (payload moments : List ℕ) (stop : RouterStop) → IsNetwork n → IsOk (view_in n ia router)
     → IsHeader header → Fits header
     → (after n (put_at (framed source destination header payload) ia router) moments).place
     ≡ AtRouter stop

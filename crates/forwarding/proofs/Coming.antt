@@ -10,7 +10,7 @@ use Rattle.path_verifier.specs.Piece.{PieceValue, travelled}
 use Rattle.path_verifier.specs.Header.{len_of}
 use Rattle.path_verifier.specs.Walk.{hop_of, hops_of, entered_by, left_by, joined, walk_of}
 use Rattle.path_verifier.proofs.Hops.{hop_there, length_hops_of}
-use Rattle.forwarding.specs.Spot.{Spot, advanced, in_by, out_by}
+use Rattle.forwarding.specs.PathPosition.{PathPosition, advanced, in_by, out_by}
 use Rattle.forwarding.specs.Journey.{first_out, way_beyond, walk_beyond, to_come}
 use Rattle.forwarding.proofs.Places.{IsLong}
 use Rattle.forwarding.proofs.Switching.{at_end, at_start}
@@ -39,7 +39,7 @@ entered_same w hop [] = refl
 entered_same w hop (next ∷ later) = refl
 
 -- on one piece
-pub cross : (came : ℕ) (spot : Spot) (entry next : Entry)
+pub cross : (came : ℕ) (spot : PathPosition) (entry next : Entry)
     → slice_get (travelled spot.piece) spot.reached ≡ Some entry
     → slice_get (travelled spot.piece) (spot.reached + 1) ≡ Some next
     → to_come came spot ≡ record {
@@ -104,7 +104,7 @@ beyond came past later piece next i entry first second here over there further s
     ∙ sym (ap (λ (xs : List WalkHop). entered_by came (left_by w xs) ++ back) whole)
 
 -- at the end of the path
-pub finish : (came : ℕ) (spot : Spot) (entry : Entry)
+pub finish : (came : ℕ) (spot : PathPosition) (entry : Entry)
     → slice_get (travelled spot.piece) spot.reached ≡ Some entry
     → spot.reached + 1 ≡ len_of spot.piece → spot.later ≡ []
     → to_come came spot ≡ record { ia = entry.ia; ingress = came; egress = 0 } ∷ []

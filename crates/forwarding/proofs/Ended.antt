@@ -4,24 +4,24 @@ use Rattle.scion_topology.specs.declared.fault.TopologyFault.{TopologyFault}
 use Rattle.scion_topology.specs.View.{View}
 use Rattle.scion_topology.specs.Network.{Network}
 use Rattle.scion_topology.specs.Topology.{view_in}
-use Rattle.forwarding.specs.declared.place.Stop.{Stop}
-use Rattle.forwarding.specs.declared.place.Place.{Place}
-use Rattle.forwarding.specs.declared.place.Place.TheVariants.{AtRouter, Delivered, Refused, Lost}
+use Rattle.forwarding.specs.declared.location.RouterStop.{RouterStop}
+use Rattle.forwarding.specs.declared.location.PacketLocation.{PacketLocation}
+use Rattle.forwarding.specs.declared.location.PacketLocation.TheVariants.{AtRouter, Delivered, Refused, Lost}
 use Rattle.forwarding.specs.Turn.{Packet, still, by_view, by_place, turn_under, turn_of}
 
-at_none : (n : Network) (now : ℕ) (packet : Packet) (place : Place)
-    → ((stop : Stop) → place ≢ AtRouter stop) → by_place n now packet place ≡ still packet
+at_none : (n : Network) (now : ℕ) (packet : Packet) (place : PacketLocation)
+    → ((stop : RouterStop) → place ≢ AtRouter stop) → by_place n now packet place ≡ still packet
 at_none n now packet (AtRouter stop) none = absurd (none stop refl)
 at_none n now packet Delivered none = refl
 at_none n now packet (Refused ia router refusal) none = refl
 at_none n now packet Lost none = refl
 
 pub ended_stays : (n : Network) (now : ℕ) (packet : Packet)
-    → ((stop : Stop) → packet.place ≢ AtRouter stop) → turn_of n now packet ≡ still packet
+    → ((stop : RouterStop) → packet.place ≢ AtRouter stop) → turn_of n now packet ≡ still packet
 unfolding turn_of
 ended_stays n now packet none = at_none n now packet packet.place none
 
-pub turn_by_view : (n : Network) (now : ℕ) (packet : Packet) (stop : Stop) (view : View)
+pub turn_by_view : (n : Network) (now : ℕ) (packet : Packet) (stop : RouterStop) (view : View)
     → packet.place ≡ AtRouter stop → view_in n stop.ia stop.router ≡ Ok view
     → turn_under n view now packet ≡ turn_of n now packet
 unfolding turn_of

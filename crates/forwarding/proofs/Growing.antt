@@ -19,7 +19,7 @@ use Rattle.beaconing.specs.Calls.{originated, last_of, extended, terminated}
 use Rattle.beaconing.specs.Issued.{IsUnderWay, Grows}
 use Rattle.beaconing.proofs.Made.{extended_grows, terminated_grows}
 use Rattle.beaconing.proofs.Coming.{comes_over}
-use Rattle.forwarding.specs.Sound.{Holds, InUse}
+use Rattle.forwarding.specs.Sound.{KeysAndLinksHold, KeyIsInUse}
 use Rattle.forwarding.proofs.Steady.{holds_none, holds_more, in_use_none, in_use_more}
 
 -- an AS accepts the key that it has in use
@@ -81,20 +81,20 @@ no_keys before none = sym (ap (λ (es : List Entry). length es) none)
 
 pub begun_holds : (n : Network) (ia egress timestamp beta0 : ℕ) (beacon : Chain) (from to : ℕ)
     → IsNetwork n → originated n ia egress timestamp beta0 ≡ Ok beacon
-    → Holds n (key_in n ia ∷ []) beacon from to
+    → KeysAndLinksHold n (key_in n ia ∷ []) beacon from to
 begun_holds n ia egress timestamp beta0 beacon from to network found =
     let b = is_begun n ia egress timestamp beta0 beacon network found in
-    subst (λ (c : Chain). Holds n (key_in n ia ∷ []) c from to) (sym b.is)
+    subst (λ (c : Chain). KeysAndLinksHold n (key_in n ia ∷ []) c from to) (sym b.is)
     (holds_more n [] b.before b.entry (key_in n ia) from to (no_keys b.before b.none)
     (holds_none n [] b.before from to b.none) (accepts_own n ia b.entry network b.of)
     (λ last there. absurd (no_last b.before b.none last there)))
 
 pub begun_in_use : (n : Network) (ia egress timestamp beta0 : ℕ) (beacon : Chain) (from to x : ℕ)
     → IsNetwork n → originated n ia egress timestamp beta0 ≡ Ok beacon
-    → InUse n (key_in n ia ∷ []) beacon from to x
+    → KeyIsInUse n (key_in n ia ∷ []) beacon from to x
 begun_in_use n ia egress timestamp beta0 beacon from to x network found =
     let b = is_begun n ia egress timestamp beta0 beacon network found in
-    subst (λ (c : Chain). InUse n (key_in n ia ∷ []) c from to x) (sym b.is)
+    subst (λ (c : Chain). KeyIsInUse n (key_in n ia ∷ []) c from to x) (sym b.is)
     (in_use_more n [] b.before b.entry (key_in n ia) from to x (no_keys b.before b.none)
     (in_use_none n [] b.before from to x b.none) (λ same. ap (key_in n) (sym b.of ∙ same)))
 
@@ -109,46 +109,46 @@ up_behind n beacon ia after network grows last there =
     subst (λ (e : Entry). IsUp n e.ia e.cons_egress true) same over.up
 
 grown_holds : (n : Network) (keys : List (List ℕ)) (beacon : Chain) (ia : ℕ) (after : Chain)
-    (from to : ℕ) → IsNetwork n → IsUnderWay n keys beacon → Holds n keys beacon from to
-    → Grows n beacon ia after → Holds n (keys ++ key_in n ia ∷ []) after from to
+    (from to : ℕ) → IsNetwork n → IsUnderWay n keys beacon → KeysAndLinksHold n keys beacon from to
+    → Grows n beacon ia after → KeysAndLinksHold n (keys ++ key_in n ia ∷ []) after from to
 grown_holds n keys beacon ia after from to network way holds grows =
-    subst (λ (c : Chain). Holds n (keys ++ key_in n ia ∷ []) c from to) (sym grows.is)
+    subst (λ (c : Chain). KeysAndLinksHold n (keys ++ key_in n ia ∷ []) c from to) (sym grows.is)
     (holds_more n keys beacon grows.entry (key_in n ia) from to way.made.keyed holds
     (accepts_own n ia grows.entry network grows.of) (up_behind n beacon ia after network grows))
 
 grown_in_use : (n : Network) (keys : List (List ℕ)) (beacon : Chain) (ia : ℕ) (after : Chain)
-    (from to x : ℕ) → IsUnderWay n keys beacon → InUse n keys beacon from to x
-    → Grows n beacon ia after → InUse n (keys ++ key_in n ia ∷ []) after from to x
+    (from to x : ℕ) → IsUnderWay n keys beacon → KeyIsInUse n keys beacon from to x
+    → Grows n beacon ia after → KeyIsInUse n (keys ++ key_in n ia ∷ []) after from to x
 grown_in_use n keys beacon ia after from to x way in_use grows =
-    subst (λ (c : Chain). InUse n (keys ++ key_in n ia ∷ []) c from to x) (sym grows.is)
+    subst (λ (c : Chain). KeyIsInUse n (keys ++ key_in n ia ∷ []) c from to x) (sym grows.is)
     (in_use_more n keys beacon grows.entry (key_in n ia) from to x way.made.keyed in_use
     (λ same. ap (key_in n) (sym grows.of ∙ same)))
 
 pub passed_holds : (n : Network) (keys : List (List ℕ)) (beacon : Chain) (ia egress : ℕ)
     (next : Chain) (from to : ℕ) → IsNetwork n → IsUnderWay n keys beacon
-    → Holds n keys beacon from to → extended n beacon ia egress ≡ Ok next
-    → Holds n (keys ++ key_in n ia ∷ []) next from to
+    → KeysAndLinksHold n keys beacon from to → extended n beacon ia egress ≡ Ok next
+    → KeysAndLinksHold n (keys ++ key_in n ia ∷ []) next from to
 passed_holds n keys beacon ia egress next from to network way holds found =
     grown_holds n keys beacon ia next from to network way holds
     (extended_grows n beacon ia egress next found)
 
 pub ended_holds : (n : Network) (keys : List (List ℕ)) (beacon : Chain) (ia : ℕ) (segment : Chain)
-    (from to : ℕ) → IsNetwork n → IsUnderWay n keys beacon → Holds n keys beacon from to
-    → terminated n beacon ia ≡ Ok segment → Holds n (keys ++ key_in n ia ∷ []) segment from to
+    (from to : ℕ) → IsNetwork n → IsUnderWay n keys beacon → KeysAndLinksHold n keys beacon from to
+    → terminated n beacon ia ≡ Ok segment → KeysAndLinksHold n (keys ++ key_in n ia ∷ []) segment from to
 ended_holds n keys beacon ia segment from to network way holds found =
     grown_holds n keys beacon ia segment from to network way holds
     (terminated_grows n beacon ia segment found)
 
 pub passed_in_use : (n : Network) (keys : List (List ℕ)) (beacon : Chain) (ia egress : ℕ)
-    (next : Chain) (from to x : ℕ) → IsUnderWay n keys beacon → InUse n keys beacon from to x
-    → extended n beacon ia egress ≡ Ok next → InUse n (keys ++ key_in n ia ∷ []) next from to x
+    (next : Chain) (from to x : ℕ) → IsUnderWay n keys beacon → KeyIsInUse n keys beacon from to x
+    → extended n beacon ia egress ≡ Ok next → KeyIsInUse n (keys ++ key_in n ia ∷ []) next from to x
 passed_in_use n keys beacon ia egress next from to x way in_use found =
     grown_in_use n keys beacon ia next from to x way in_use
     (extended_grows n beacon ia egress next found)
 
 pub ended_in_use : (n : Network) (keys : List (List ℕ)) (beacon : Chain) (ia : ℕ) (segment : Chain)
-    (from to x : ℕ) → IsUnderWay n keys beacon → InUse n keys beacon from to x
-    → terminated n beacon ia ≡ Ok segment → InUse n (keys ++ key_in n ia ∷ []) segment from to x
+    (from to x : ℕ) → IsUnderWay n keys beacon → KeyIsInUse n keys beacon from to x
+    → terminated n beacon ia ≡ Ok segment → KeyIsInUse n (keys ++ key_in n ia ∷ []) segment from to x
 ended_in_use n keys beacon ia segment from to x way in_use found =
     grown_in_use n keys beacon ia segment from to x way in_use
     (terminated_grows n beacon ia segment found)

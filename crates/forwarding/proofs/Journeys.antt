@@ -10,8 +10,8 @@ use Rattle.router_step.specs.declared.arrival.Arrival.{Arrival}
 use Rattle.router_step.specs.declared.arrival.Arrival.TheVariants.{FromHost, Inside, Link}
 use Rattle.forwarding.specs.Turn.{Packet, turn_of, turned, after}
 use Rattle.forwarding.specs.Journey.{is_one, turns_over, turns_left, to_come}
-use Rattle.forwarding.specs.Open.{LetsThrough}
-use Rattle.forwarding.specs.Standing.{Standing, arrived_with}
+use Rattle.forwarding.specs.Forwardable.{MayForward}
+use Rattle.forwarding.specs.OnPath.{OnPath, arrived_with}
 use Rattle.forwarding.proofs.Way.{some_to_come}
 use Rattle.forwarding.proofs.Leading.{one_turn}
 
@@ -38,7 +38,7 @@ some_left n (Link interface) hops some = some_over n hops some
 
 pub turns_before : (n : Network) (source destination : ℕ) (payload : List ℕ)
     (pieces : List PieceValue) (left : ℕ) (packet : Packet)
-    → Standing n source destination payload pieces left packet → 0 < left
+    → OnPath n source destination payload pieces left packet → 0 < left
 turns_before n source destination payload pieces left packet s =
     let some = some_left n s.arrival (to_come s.came s.spot)
     (some_to_come s.came s.spot s.entry s.there) in
@@ -65,16 +65,16 @@ stays_on n (now ∷ later) source destination payload pieces =
 
 less_by : (n : Network) (source destination : ℕ) (payload : List ℕ) (pieces : List PieceValue)
     (one other : ℕ) (packet : Packet) → one ≡ other
-    → Standing n source destination payload pieces one packet
-    → Standing n source destination payload pieces other packet
+    → OnPath n source destination payload pieces one packet
+    → OnPath n source destination payload pieces other packet
 less_by n source destination payload pieces one other packet same s =
-    subst (λ k. Standing n source destination payload pieces k packet) same s
+    subst (λ k. OnPath n source destination payload pieces k packet) same s
 
 module _ (n : Network) (source destination : ℕ) (payload : List ℕ) (pieces : List PieceValue) where
   stands_by : (moments : List ℕ) (left : ℕ) (packet : Packet)
-      → AllByRecursion (λ now. LetsThrough n now source destination pieces) moments
-      → Standing n source destination payload pieces left packet → length moments < left
-      → Standing n source destination payload pieces (left - length moments)
+      → AllByRecursion (λ now. MayForward n now source destination pieces) moments
+      → OnPath n source destination payload pieces left packet → length moments < left
+      → OnPath n source destination payload pieces (left - length moments)
       (after n packet moments)
   stands_by [] left packet lets s more =
       less_by n source destination payload pieces left (left - 0) packet (omega arith) s
@@ -90,8 +90,8 @@ module _ (n : Network) (source destination : ℕ) (payload : List ℕ) (pieces :
       ]
 
   delivered_by : (moments : List ℕ) (left : ℕ) (packet : Packet)
-      → AllByRecursion (λ now. LetsThrough n now source destination pieces) moments
-      → Standing n source destination payload pieces left packet → left ≤ length moments
+      → AllByRecursion (λ now. MayForward n now source destination pieces) moments
+      → OnPath n source destination payload pieces left packet → left ≤ length moments
       → after n packet moments ≡ arrived_with source destination payload pieces
   delivered_by [] left packet lets s enough =
       absurd (
@@ -109,18 +109,18 @@ module _ (n : Network) (source destination : ℕ) (payload : List ℕ) (pieces :
 
 pub stands_after : (n : Network) (source destination : ℕ) (payload : List ℕ)
     (pieces : List PieceValue) (left : ℕ) (packet : Packet) (moments : List ℕ)
-    → All (λ now. LetsThrough n now source destination pieces) moments
-    → Standing n source destination payload pieces left packet → length moments < left
-    → Standing n source destination payload pieces (left - length moments) (after n packet moments)
+    → All (λ now. MayForward n now source destination pieces) moments
+    → OnPath n source destination payload pieces left packet → length moments < left
+    → OnPath n source destination payload pieces (left - length moments) (after n packet moments)
 stands_after n source destination payload pieces left packet moments lets s more =
     stands_by n source destination payload pieces moments left packet
-    (recursion_from_All (λ now. LetsThrough n now source destination pieces) moments lets) s more
+    (recursion_from_All (λ now. MayForward n now source destination pieces) moments lets) s more
 
 pub delivered_after : (n : Network) (source destination : ℕ) (payload : List ℕ)
     (pieces : List PieceValue) (left : ℕ) (packet : Packet) (moments : List ℕ)
-    → All (λ now. LetsThrough n now source destination pieces) moments
-    → Standing n source destination payload pieces left packet → left ≤ length moments
+    → All (λ now. MayForward n now source destination pieces) moments
+    → OnPath n source destination payload pieces left packet → left ≤ length moments
     → after n packet moments ≡ arrived_with source destination payload pieces
 delivered_after n source destination payload pieces left packet moments lets s enough =
     delivered_by n source destination payload pieces moments left packet
-    (recursion_from_All (λ now. LetsThrough n now source destination pieces) moments lets) s enough
+    (recursion_from_All (λ now. MayForward n now source destination pieces) moments lets) s enough

@@ -9,10 +9,10 @@ use Rattle.policy_expr.specs.declared.hop.WalkHop.{WalkHop}
 use Rattle.path_verifier.specs.Piece.{PieceValue}
 use Rattle.router_step.specs.declared.arrival.Arrival.{Arrival}
 use Rattle.router_step.specs.declared.arrival.Arrival.TheVariants.{FromHost, Inside, Link}
-use Rattle.forwarding.specs.Spot.{Spot, out_by}
+use Rattle.forwarding.specs.PathPosition.{PathPosition, out_by}
 use Rattle.forwarding.specs.Turn.{Packet}
 use Rattle.forwarding.specs.Journey.{is_one, turns_through, turns_over, turns_left, to_come}
-use Rattle.forwarding.specs.Standing.{IsPlaced, Standing}
+use Rattle.forwarding.specs.OnPath.{IsPlaced, OnPath}
 
 module _ (n m : Network)
     (same : (ia number : ℕ) → owner_in m ia number ≡ owner_in n ia number) where
@@ -37,7 +37,7 @@ module _ (n m : Network)
   left_same Inside hops = ap (λ k. 1 + k) (over_same (drop 1 hops))
   left_same (Link interface) hops = over_same hops
 
-  placed_same : (spot : Spot) (entry : Entry) (arrival : Arrival) (router came : ℕ)
+  placed_same : (spot : PathPosition) (entry : Entry) (arrival : Arrival) (router came : ℕ)
       (passed : List WalkHop) → IsPlaced n spot entry arrival router came passed
       → IsPlaced m spot entry arrival router came passed
   placed_same spot entry FromHost router came passed placed = (
@@ -67,8 +67,8 @@ module _ (n m : Network)
   )
 
   stands_still : (source destination : ℕ) (payload : List ℕ) (pieces : List PieceValue) (left : ℕ)
-      (packet : Packet) → Standing n source destination payload pieces left packet
-      → Standing m source destination payload pieces left packet
+      (packet : Packet) → OnPath n source destination payload pieces left packet
+      → OnPath m source destination payload pieces left packet
   stands_still source destination payload pieces left packet s = record {
     spot = s.spot;
     entry = s.entry;
@@ -88,8 +88,8 @@ module _ (n m : Network)
 pub stands_linked : (n m : Network) (up : Bool) (ia number source destination : ℕ)
     (payload : List ℕ)
     (pieces : List PieceValue) (left : ℕ) (packet : Packet) → set_up up ia number n ≡ Ok m
-    → Standing n source destination payload pieces left packet
-    → Standing m source destination payload pieces left packet
+    → OnPath n source destination payload pieces left packet
+    → OnPath m source destination payload pieces left packet
 stands_linked n m up ia number source destination payload pieces left packet change =
     stands_still n m (λ x y. (still_there up ia number n m x y change).owner)
     source destination payload pieces left packet
@@ -97,8 +97,8 @@ stands_linked n m up ia number source destination payload pieces left packet cha
 pub stands_keyed : (n m : Network) (ia : ℕ) (key : List ℕ) (source destination : ℕ)
     (payload : List ℕ)
     (pieces : List PieceValue) (left : ℕ) (packet : Packet) → rotated ia key n ≡ Ok m
-    → Standing n source destination payload pieces left packet
-    → Standing m source destination payload pieces left packet
+    → OnPath n source destination payload pieces left packet
+    → OnPath m source destination payload pieces left packet
 stands_keyed n m ia key source destination payload pieces left packet change =
     stands_still n m (λ x y. (same_interfaces ia key n m x y change).owner)
     source destination payload pieces left packet

@@ -10,7 +10,7 @@ use Rattle.path_verifier.specs.Piece.{PieceValue, HasRange, travelled, first_pla
 use Rattle.path_verifier.specs.Walk.{walk_of}
 use Rattle.path_verifier.specs.Accepted.{MakesPath}
 use Rattle.path_verifier.proofs.Lengths.{path_is_short}
-use Rattle.forwarding.specs.Spot.{Spot, place_of, out_by}
+use Rattle.forwarding.specs.PathPosition.{PathPosition, place_of, out_by}
 use Rattle.forwarding.specs.Journey.{first_out}
 use Rattle.forwarding.proofs.Betas.{entry_there}
 use Rattle.forwarding.proofs.Places.{IsLong, long_of}
@@ -21,7 +21,7 @@ pub all_long : (pieces : List PieceValue) → AllByRecursion HasRange pieces
 all_long [] ranges = tt
 all_long (piece ∷ pieces) ranges = (long_of piece ranges.0, all_long pieces ranges.1)
 
-abbrev pub start : PieceValue → List PieceValue → Spot
+abbrev pub start : PieceValue → List PieceValue → PathPosition
 start piece later = record { past = []; piece = piece; later = later; reached = 0 }
 
 first_place_at : (piece : PieceValue) → place_of piece 0 ≡ first_place piece

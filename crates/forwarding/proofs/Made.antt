@@ -21,11 +21,11 @@ use Rattle.path_segment.specs.declared.kind.SegKind.TheVariants.{Core, Intra}
 use Rattle.path_verifier.specs.Piece.{PieceValue, HasRange, kind_in, travelled}
 use Rattle.path_verifier.proofs.Entries.{length_travelled}
 use Rattle.beaconing.specs.Issued.{AreWays, LeadsOn, IsMade}
-use Rattle.forwarding.specs.Spot.{place_of, out_by}
+use Rattle.forwarding.specs.PathPosition.{place_of, out_by}
 use Rattle.path_verifier.specs.Accepted.{AreLive, MakesPath}
-use Rattle.forwarding.specs.Open.{ahead, behind, IsLinked, IsOpen, LetsThrough}
+use Rattle.forwarding.specs.Forwardable.{ahead, behind, IsLinked, IsForwardable, MayForward}
 use Rattle.refusal.proofs.Steps.{ok_is}
-use Rattle.forwarding.specs.Sound.{Holds, IsSound}
+use Rattle.forwarding.specs.Sound.{KeysAndLinksHold, IsIssuedAndAccepted}
 use Rattle.forwarding.proofs.Betas.{entry_there}
 
 -- what the AS of the later entry is to the one of the earlier, in construction order, and the other
@@ -193,8 +193,8 @@ key_at : (keys : List (List ℕ)) (i : ℕ) → i < length keys
 key_at keys i within = (get_or keys i [], slice_get-get_or keys i [] within)
 
 pub made_is_open : (n : Network) (keys : List (List ℕ)) (piece : PieceValue) → IsNetwork n
-    → HasRange piece → IsMade n keys piece.segment → Holds n keys piece.segment piece.from piece.to
-    → IsOpen n piece
+    → HasRange piece → IsMade n keys piece.segment → KeysAndLinksHold n keys piece.segment piece.from piece.to
+    → IsForwardable n piece
 made_is_open n keys piece network range made holds = record {
   hops = λ i entry there. (
       let at = entry_there piece i entry range there in
@@ -249,16 +249,16 @@ made_is_open n keys piece network range made holds = record {
       ]);
 }
 
-pub sound_is_open : (n : Network) (keys : List (List ℕ)) (piece : PieceValue) → IsSound n keys piece
-    → IsOpen n piece
+pub sound_is_open : (n : Network) (keys : List (List ℕ)) (piece : PieceValue) → IsIssuedAndAccepted n keys piece
+    → IsForwardable n piece
 sound_is_open n keys piece is =
     made_is_open n keys piece is.network is.range is.issued.made is.holds
 
 -- a path of sound pieces is let through while it is live
 pub sound_is_let_through : (n : Network) (now source destination moment : ℕ)
     (pieces : List PieceValue) → IsNetwork n → MakesPath pieces source destination moment
-    → AreLive now pieces → All (λ piece. (keys : List (List ℕ)) × IsSound n keys piece) pieces
-    → LetsThrough n now source destination pieces
+    → AreLive now pieces → All (λ piece. (keys : List (List ℕ)) × IsIssuedAndAccepted n keys piece) pieces
+    → MayForward n now source destination pieces
 sound_is_let_through n now source destination moment pieces network path live sound = record {
   network = network;
   moment = moment;

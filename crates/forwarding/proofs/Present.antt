@@ -22,8 +22,8 @@ use Rattle.router_step.specs.Packet.{source_of, destination_of, header_in, packe
 use Rattle.router_step.specs.Step.{step_of}
 use Rattle.router_step.specs.Done.{Situation, at_the_way_out}
 use Rattle.router_step.proofs.StepLaws.{to_owner}
-use Rattle.forwarding.specs.declared.place.Stop.{Stop}
-use Rattle.forwarding.specs.declared.place.Place.TheVariants.{AtRouter}
+use Rattle.forwarding.specs.declared.location.RouterStop.{RouterStop}
+use Rattle.forwarding.specs.declared.location.PacketLocation.TheVariants.{AtRouter}
 use Rattle.forwarding.specs.declared.reply.TurnReply.TheVariants as replies
 use Rattle.forwarding.specs.Turn.{Packet, put, over_link, at_owner, at_place, stepped, turn_under, turn_of, turned}
 use Rattle.forwarding.proofs.Bounded.{ok_there, owners_are_there}
@@ -33,19 +33,19 @@ use Rattle.forwarding.proofs.Routers.{view_is}
 
 -- ---- the turn is done
 
-turn_is : (n : Network) (now : ℕ) (packet : Packet) (stop : Stop) (view : View)
+turn_is : (n : Network) (now : ℕ) (packet : Packet) (stop : RouterStop) (view : View)
     → packet.place ≡ AtRouter stop → view_in n stop.ia stop.router ≡ Ok view
     → turn_of n now packet ≡ stepped n packet stop (packet_step view now stop.arrival packet.bytes)
 unfolding turn_under
 turn_is n now packet stop view at seen =
     sym (turn_by_view n now packet stop view at seen) ∙ ap (at_place n view now packet) at
 
-not_still : (n : Network) (packet : Packet) (stop : Stop) (r : Result (Outcome × List ℕ) Refusal)
+not_still : (n : Network) (packet : Packet) (stop : RouterStop) (r : Result (Outcome × List ℕ) Refusal)
     → (stepped n packet stop r).0 ≢ replies.Still
 not_still n packet stop (Ok done) same = absurd cc
 not_still n packet stop (Err refusal) same = absurd cc
 
-pub turn_is_done : (n : Network) (now : ℕ) (packet : Packet) (stop : Stop)
+pub turn_is_done : (n : Network) (now : ℕ) (packet : Packet) (stop : RouterStop)
     → packet.place ≡ AtRouter stop → IsOk (view_in n stop.ia stop.router)
     → (turn_of n now packet).0 ≢ replies.Still
 turn_is_done n now packet stop at there same =
@@ -58,17 +58,17 @@ turn_is_done n now packet stop at there same =
 -- where the packet is at a router, the network has that router
 abbrev pub IsPresent : Network → Packet → Type 0
 IsPresent n packet =
-    (stop : Stop) → packet.place ≡ AtRouter stop → IsOk (view_in n stop.ia stop.router)
+    (stop : RouterStop) → packet.place ≡ AtRouter stop → IsOk (view_in n stop.ia stop.router)
 
-module _ (n : Network) (network : IsNetwork n) (stop : Stop) (view : View)
+module _ (n : Network) (network : IsNetwork n) (stop : RouterStop) (view : View)
     (seen : view_in n stop.ia stop.router ≡ Ok view) where
   at_far_end : (packet : Packet) (out ia number : ℕ) (owner : Result ℕ TopologyFault)
       → owner_in n ia number ≡ owner → IsPresent n packet
       → IsPresent n (at_owner packet stop out ia number owner)
   at_far_end packet out ia number (Ok router) owned before = λ next at. (
-      let here : Stop = record { ia = ia; router = router; arrival = Link number; came = number } in
+      let here : RouterStop = record { ia = ia; router = router; arrival = Link number; came = number } in
       let same : here ≡ next = cc in
-      subst (λ (s : Stop). IsOk (view_in n s.ia s.router)) same
+      subst (λ (s : RouterStop). IsOk (view_in n s.ia s.router)) same
       (owners_are_there n ia number router network owned))
   at_far_end packet out ia number (Err fault) owned before = before
 
@@ -104,7 +104,7 @@ module _ (n : Network) (network : IsNetwork n) (stop : Stop) (view : View)
     still_there : (bytes : List ℕ) → IsPresent n (bearing bytes)
     still_there bytes next is =
         let same : stop ≡ next = (let both = sym at ∙ is in cc) in
-        subst (λ (s : Stop). IsOk (view_in n s.ia s.router)) same (ap is_ok seen)
+        subst (λ (s : RouterStop). IsOk (view_in n s.ia s.router)) same (ap is_ok seen)
 
     goes : (now source destination : ℕ) (bytes : List ℕ) (outcome : Outcome)
         (header new : HeaderValue)
@@ -113,9 +113,9 @@ module _ (n : Network) (network : IsNetwork n) (stop : Stop) (view : View)
     goes now source destination bytes (ToLink out) header new done =
         beyond (bearing bytes) out (far_end_in n stop.ia out) (still_there bytes)
     goes now source destination bytes (ToRouter router) header new done = λ next is. (
-        let here : Stop = record stop { router = router; arrival = Inside } in
+        let here : RouterStop = record stop { router = router; arrival = Inside } in
         let same : here ≡ next = cc in
-        subst (λ (s : Stop). IsOk (view_in n s.ia s.router)) same
+        subst (λ (s : RouterStop). IsOk (view_in n s.ia s.router)) same
         (to_router now source destination router header new done))
     goes now source destination bytes Deliver header new done = λ next is. absurd cc
 
@@ -133,7 +133,7 @@ module _ (n : Network) (network : IsNetwork n) (stop : Stop) (view : View)
         step.0.1 step.1)
     by_step now (Err refusal) is = λ next same. absurd cc
 
-pub turn_stays_present : (n : Network) (now : ℕ) (packet : Packet) (stop : Stop) → IsNetwork n
+pub turn_stays_present : (n : Network) (now : ℕ) (packet : Packet) (stop : RouterStop) → IsNetwork n
     → packet.place ≡ AtRouter stop → IsOk (view_in n stop.ia stop.router)
     → IsPresent n (turned n now packet)
 turn_stays_present n now packet stop network at there =

@@ -10,12 +10,12 @@ use Rattle.path_verifier.specs.Header.{len_of}
 use Rattle.path_verifier.specs.Walk.{walk_of}
 use Rattle.policy_expr.specs.declared.hop.WalkHop.{WalkHop}
 use Rattle.router_step.specs.declared.arrival.Arrival.TheVariants.{Inside, Link}
-use Rattle.forwarding.specs.Spot.{Spot, pieces_at, advanced, in_by, out_by}
-use Rattle.forwarding.specs.Open.{IsLinked}
-use Rattle.forwarding.specs.declared.place.Stop.{Stop}
+use Rattle.forwarding.specs.PathPosition.{PathPosition, pieces_at, advanced, in_by, out_by}
+use Rattle.forwarding.specs.Forwardable.{IsLinked}
+use Rattle.forwarding.specs.declared.location.RouterStop.{RouterStop}
 use Rattle.forwarding.specs.Frame.{HasFrame}
 use Rattle.forwarding.specs.Turn.{Packet, noted, turned}
-use Rattle.forwarding.specs.Standing.{at_spot, GoesOn}
+use Rattle.forwarding.specs.OnPath.{at_spot, ComesNearer}
 use Rattle.forwarding.specs.Journey.{to_come, turns_over}
 use Rattle.forwarding.proofs.AtSpot.{IsSpot}
 use Rattle.forwarding.proofs.Stepping.{onward_by}
@@ -26,7 +26,7 @@ pub noted_is : (passed : List WalkHop) (hop : WalkHop) → length passed < 64
     → noted passed hop ≡ passed ++ hop ∷ []
 noted_is passed hop few = rw (lt-ltb (length passed) 64 few) refl
 
-pub advanced_spot : (spot : Spot) (entry next : Entry) → IsSpot spot entry
+pub advanced_spot : (spot : PathPosition) (entry next : Entry) → IsSpot spot entry
     → slice_get (travelled spot.piece) (spot.reached + 1) ≡ Some next → IsSpot (advanced spot) next
 advanced_spot spot entry next is there =
     record {
@@ -47,7 +47,7 @@ short passed hop later walk is few = let count =
 -- where a turn leads over an open way, or to the router that owns it
 pub onward : (n : Network) (now source destination : ℕ) (payload : List ℕ)
     (pieces : List PieceValue)
-    (left : ℕ) (packet : Packet) (stop : Stop) (passed : List WalkHop) (view : View) (spot : Spot)
+    (left : ℕ) (packet : Packet) (stop : RouterStop) (passed : List WalkHop) (view : View) (spot : PathPosition)
     (entry next : Entry) (goes : IsLinked n spot.piece entry next)
     → turned n now packet
     ≡ placed n source destination payload stop passed (onward_by view goes.near spot entry)
@@ -60,7 +60,7 @@ pub onward : (n : Network) (now source destination : ℕ) (payload : List ℕ)
     → left ≡ 1 + turns_over n (to_come (in_by spot.piece next) (advanced spot)))
     → (goes.near.router ≢ view.router
     → left ≡ 2 + turns_over n (to_come (in_by spot.piece next) (advanced spot)))
-    → GoesOn n now source destination payload pieces left packet
+    → ComesNearer n now source destination payload pieces left packet
 onward n now source destination payload pieces left packet stop passed view spot entry next goes
     steps here frame there further more whole few walk at_once later =
     let ahead = to_come (in_by spot.piece next) (advanced spot) in

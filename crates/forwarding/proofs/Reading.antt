@@ -16,10 +16,10 @@ use Rattle.path_verifier.specs.Header.{field_of, fields_of, len_of, hop_count}
 use Rattle.path_verifier.specs.Header as path
 use Rattle.path_verifier.proofs.Headers.{field_there, length_fields_of}
 use Rattle.router_step.specs.Place.{info_of, hop_of, with_seg_id}
-use Rattle.forwarding.specs.Spot.{Spot, info_with, info_left, header_with}
+use Rattle.forwarding.specs.PathPosition.{PathPosition, info_with, info_left, header_with}
 
 -- the info field at which the packet stands is that of its piece
-pub info_of-header_with : (spot : Spot) (seg_id : ℕ)
+pub info_of-header_with : (spot : PathPosition) (seg_id : ℕ)
     → info_of (header_with spot seg_id) ≡ info_with spot.piece seg_id
 unfolding header_with
 info_of-header_with spot seg_id =
@@ -32,7 +32,7 @@ info_of-header_with spot seg_id =
     (record { construction = false; seg_id = 0; timestamp = 0 }))
     (sym (length-map spot.past info_left)) ∙ seam
 
-pub with_seg_id-header_with : (spot : Spot) (old new : ℕ)
+pub with_seg_id-header_with : (spot : PathPosition) (old new : ℕ)
     → with_seg_id (header_with spot old) new ≡ header_with spot new
 unfolding header_with
 with_seg_id-header_with spot old new =
@@ -59,7 +59,7 @@ length_fields (piece ∷ pieces) =
     ∙ ap (λ n. len_of piece + n) (length_fields pieces) ∙ sym (sum_by-cons len_of piece pieces)
 
 -- the hop field at which it stands is that of the entry
-pub hop_of-header_with : (spot : Spot) (seg_id : ℕ) (entry : Entry)
+pub hop_of-header_with : (spot : PathPosition) (seg_id : ℕ) (entry : Entry)
     → slice_get (travelled spot.piece) spot.reached ≡ Some entry
     → hop_of (header_with spot seg_id) ≡ field_of entry
 unfolding header_with

@@ -13,7 +13,7 @@ use Rattle.path_verifier.proofs.Lengths.{path_is_short}
 use Rattle.router_step.specs.declared.arrival.Arrival.TheVariants.{Inside}
 use Rattle.router_step.specs.Packet.{destination_of, source_of, header_in}
 use Rattle.forwarding.specs.Frame.{framed, HasFrame}
-use Rattle.forwarding.specs.Spot.{Spot, pieces_at}
+use Rattle.forwarding.specs.PathPosition.{PathPosition, pieces_at}
 use Rattle.forwarding.specs.Turned.{header_behind}
 use Rattle.forwarding.proofs.Places.{long_of}
 use Rattle.forwarding.proofs.Framed.{destination_is, source_is, header_is_read}
@@ -64,7 +64,7 @@ behind_spelled source destination moment pieces path frame =
     record { ia = 0; cons_ingress = 0; cons_egress = 0; exp_time = 0; mac = [] } in
     let entry = get_or (travelled last.piece) place none in
     let there = slice_get-get_or (travelled last.piece) place none within in
-    let spot : Spot =
+    let spot : PathPosition =
     record { past = last.past; piece = last.piece; later = []; reached = place } in
     let three : length (pieces_at spot) ≤ 3 = (
     let most = path_is_short pieces source destination moment path in

@@ -18,7 +18,7 @@ use Rattle.path_verifier.proofs.Lengths.{path_is_short}
 use Rattle.path_verifier.proofs.TurnedPath.{path_turned}
 use Rattle.path_verifier.proofs.TurnedLate.{too_late, expiry_turned}
 use Rattle.scion_topology.specs.Network.{Network}
-use Rattle.forwarding.specs.Sound.{IsSound}
+use Rattle.forwarding.specs.Sound.{IsIssuedAndAccepted}
 use Rattle.forwarding.specs.Turned.{header_behind, no_rules}
 use Rattle.forwarding.proofs.Way.{long_each}
 use Rattle.forwarding.proofs.TurnedHeader.{header_back}
@@ -60,8 +60,8 @@ back_expired pieces src dst now moment least header rules path is late fault =
     )
 
 -- a sound piece is sound the other way
-pub sound_turned : (n : Network) (keys : List (List ℕ)) (piece : PieceValue) → IsSound n keys piece
-    → IsSound n keys (turned_piece piece)
+pub sound_turned : (n : Network) (keys : List (List ℕ)) (piece : PieceValue) → IsIssuedAndAccepted n keys piece
+    → IsIssuedAndAccepted n keys (turned_piece piece)
 sound_turned n keys piece s = record {
   network = s.network;
   range = record { order = s.range.order; within = s.range.within };

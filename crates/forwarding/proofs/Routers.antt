@@ -18,8 +18,8 @@ use Rattle.path_verifier.specs.Piece.{PieceValue, kind_of}
 use Rattle.path_verifier.specs.Header.{hop_count}
 use Rattle.router_step.specs.declared.arrival.Arrival.TheVariants.{FromHost, Inside, Link}
 use Rattle.router_step.specs.Checks.{are_joined, kinds_fit}
-use Rattle.forwarding.specs.Spot.{Spot, beta_at, in_by, out_by}
-use Rattle.forwarding.specs.Open.{ahead, behind, IsAccepted, IsLinked}
+use Rattle.forwarding.specs.PathPosition.{PathPosition, beta_at, in_by, out_by}
+use Rattle.forwarding.specs.Forwardable.{ahead, behind, IsAuthenticHop, IsLinked}
 use Rattle.forwarding.proofs.AtSpot.{Comes, IsOwn}
 use Rattle.forwarding.proofs.Stepping.{Opens}
 
@@ -35,7 +35,7 @@ view_is n ia router one named below = rw (named, lt-ltb router one.routers below
 
 -- the AS accepts its hop while that is live
 pub own : (n : Network) (now router : ℕ) (piece : PieceValue) (i : ℕ) (entry : Entry)
-    (accepted : IsAccepted n piece i entry) → IsLive piece.segment.timestamp entry.exp_time now
+    (accepted : IsAuthenticHop n piece i entry) → IsLive piece.segment.timestamp entry.exp_time now
     → IsOwn (view_for n accepted.one entry.ia router) now piece i entry
 own n now router piece i entry accepted live = record {
   live = le-leb _ _ live;
@@ -126,7 +126,7 @@ opens_beyond n one router piece next_piece before entry first second came goes s
 
 -- ---- arrivals
 
-pub comes_over : (n : Network) (one : AsEntry) (router source : ℕ) (spot : Spot)
+pub comes_over : (n : Network) (one : AsEntry) (router source : ℕ) (spot : PathPosition)
     (before entry : Entry) (came : IsLinked n spot.piece before entry) → came.far.router ≡ router
     → source ≢ entry.ia
     → Comes (view_for n one entry.ia router) (Link (in_by spot.piece entry)) source spot entry
@@ -138,11 +138,11 @@ comes_over n one router source spot before entry came owned other = record {
   from = rw (ne_eqb source entry.ia other) refl;
 }
 
-pub comes_inside : (n : Network) (one : AsEntry) (router source : ℕ) (spot : Spot) (entry : Entry)
+pub comes_inside : (n : Network) (one : AsEntry) (router source : ℕ) (spot : PathPosition) (entry : Entry)
     → Comes (view_for n one entry.ia router) Inside source spot entry
 comes_inside n one router source spot entry = record { start = refl; way = refl; from = refl }
 
-pub comes_first : (n : Network) (one : AsEntry) (router source : ℕ) (spot : Spot) (entry : Entry)
+pub comes_first : (n : Network) (one : AsEntry) (router source : ℕ) (spot : PathPosition) (entry : Entry)
     → hop_count spot.past + spot.reached ≡ 0 → source ≡ entry.ia
     → Comes (view_for n one entry.ia router) FromHost source spot entry
 comes_first n one router source spot entry start same =

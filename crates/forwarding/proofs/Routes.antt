@@ -18,7 +18,7 @@ use Rattle.path_verifier.specs.Accepted.{DoMeet, MayAdjoin, MakesPath}
 use Rattle.path_verifier.proofs.Lengths.{walk_is_short, path_is_short, pieces_adjoin}
 use Rattle.std.proofs.lemmas.List.Elements.{recursion_from_All}
 use Rattle.path_verifier.proofs.Course.{path_begins, path_ends}
-use Rattle.forwarding.specs.Open.{IsOpen, LetsThrough}
+use Rattle.forwarding.specs.Forwardable.{IsForwardable, MayForward}
 use Rattle.forwarding.proofs.Routers.{MayFollow}
 use Rattle.forwarding.proofs.Way.{IsRoute}
 
@@ -107,7 +107,7 @@ hop_of_as walk k ia e =
 
 -- an accepted path over open pieces is a route at each moment at which it is live
 pub route_of : (n : Network) (now source destination : ℕ) (pieces : List PieceValue)
-    → LetsThrough n now source destination pieces → IsRoute n now source destination pieces
+    → MayForward n now source destination pieces → IsRoute n now source destination pieces
 route_of n now source destination pieces lets =
     let network = lets.network in
     let moment = lets.moment in
@@ -125,7 +125,7 @@ route_of n now source destination pieces lets =
       all_ranges = recursion_from_All HasRange pieces path.ranges;
       few = (let short = walk_is_short pieces in let few = path.few in omega arith);
       ranges = λ past later piece is. all_at HasRange past later piece pieces is path.ranges;
-      opens = λ past later piece is. all_at (IsOpen n) past later piece pieces is lets.pieces_open;
+      opens = λ past later piece is. all_at (IsForwardable n) past later piece pieces is lets.pieces_open;
       live = λ past later piece i entry is there. live_there
           (λ (e : Entry). IsLive piece.segment.timestamp e.exp_time now) piece.along
           (entries_of piece) i entry

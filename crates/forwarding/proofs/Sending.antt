@@ -17,10 +17,10 @@ use Rattle.path_verifier.specs.Header.{fields_of, len_of, header_of}
 use Rattle.path_verifier.specs.Header as path
 use Rattle.path_verifier.specs.Accepted.{MakesPath}
 use Rattle.router_step.specs.declared.arrival.Arrival.TheVariants.{FromHost}
-use Rattle.forwarding.specs.Spot.{header_with, header_there, out_by}
+use Rattle.forwarding.specs.PathPosition.{header_with, header_there, out_by}
 use Rattle.forwarding.specs.Frame.{framed, HasFrame}
 use Rattle.forwarding.specs.Turn.{put_at}
-use Rattle.forwarding.specs.Standing.{Standing}
+use Rattle.forwarding.specs.OnPath.{OnPath}
 use Rattle.path_verifier.proofs.Lengths.{path_is_short}
 use Rattle.forwarding.specs.Journey.{first_out, turns_for}
 use Rattle.forwarding.proofs.Places.{long_of}
@@ -52,7 +52,7 @@ pub starts : (n : Network) (source destination moment router : ℕ) (payload : L
     (pieces : List PieceValue) → MakesPath pieces source destination moment
     → HasFrame source destination pieces
     → owner_in n source (first_out (walk_of pieces)) ≡ Ok router
-    → Standing n source destination payload pieces (turns_for n (walk_of pieces))
+    → OnPath n source destination payload pieces (turns_for n (walk_of pieces))
     (put_at (framed source destination (header_of pieces) payload) source router)
 starts n source destination moment router payload [] path frame owned =
     absurd (let some = path.some in omega arith)

@@ -18,8 +18,8 @@ use Rattle.path_verifier.proofs.Headers.{field_there}
 use Rattle.router_step.specs.declared.arrival.Arrival.{Arrival}
 use Rattle.router_step.specs.declared.arrival.Arrival.TheVariants.{FromHost, Inside, Link}
 use Rattle.router_step.specs.Place.{seg_id_on_arrival, seg_id_on_leaving}
-use Rattle.forwarding.specs.Spot.{Spot, pieces_at, beta_at, beta_before, info_with, info_left, header_with}
-use Rattle.forwarding.specs.Standing.{header_on}
+use Rattle.forwarding.specs.PathPosition.{PathPosition, pieces_at, beta_at, beta_before, info_with, info_left, header_with}
+use Rattle.forwarding.specs.OnPath.{header_on}
 use Rattle.forwarding.proofs.Betas.{settled, onward}
 use Rattle.forwarding.proofs.Places.{long_of}
 use Rattle.forwarding.proofs.Stepping.{first_info}
@@ -163,7 +163,7 @@ past_within : (past later : List PieceValue) (info : InfoField)
 past_within [] later info = omega arith
 past_within (one ∷ past) later info = let more = past_within past later info in omega arith
 
-is_header_there : (spot : Spot) (entry : Entry) (seg_id : ℕ) → IsSpot spot entry
+is_header_there : (spot : PathPosition) (entry : Entry) (seg_id : ℕ) → IsSpot spot entry
     → IsHeader (header_of (pieces_at spot)) → IsHeader (header_with spot seg_id)
 unfolding header_of header_with
 is_header_there spot entry seg_id is header = record {
@@ -177,7 +177,7 @@ is_header_there spot entry seg_id is header = record {
       omega arith);
 }
 
-fits_there : (spot : Spot) (seg_id : ℕ) → AllByRecursion HasRange (pieces_at spot)
+fits_there : (spot : PathPosition) (seg_id : ℕ) → AllByRecursion HasRange (pieces_at spot)
     → Fits (header_of (pieces_at spot)) → seg_id < 2 ^ 16 → Fits (header_with spot seg_id)
 unfolding header_of header_with
 fits_there spot seg_id ranges fits small = record {
@@ -200,7 +200,7 @@ range_at : (past later : List PieceValue) (piece : PieceValue)
 range_at [] later piece all = all.0
 range_at (one ∷ past) later piece all = range_at past later piece all.1
 
-module _ (spot : Spot) (entry : Entry) (is : IsSpot spot entry)
+module _ (spot : PathPosition) (entry : Entry) (is : IsSpot spot entry)
     (ranges : AllByRecursion HasRange (pieces_at spot))
     (header : IsHeader (header_of (pieces_at spot)))
     (fits : Fits (header_of (pieces_at spot))) where

@@ -20,7 +20,7 @@ use Rattle.beaconing.specs.Entry.{key_of, key_in}
 use Rattle.beaconing.specs.Calls.{last_of}
 use Rattle.beaconing.specs.Issued.{IsMade}
 use Rattle.beaconing.proofs.Outlasting.{segment_linked, segment_keyed}
-use Rattle.forwarding.specs.Sound.{Holds, InUse, IsSound, PassesBy, LeavesAlone}
+use Rattle.forwarding.specs.Sound.{KeysAndLinksHold, KeyIsInUse, IsIssuedAndAccepted, AvoidsAs, AvoidsLink}
 use Rattle.forwarding.proofs.Made.{joint}
 
 -- ---- one entry more
@@ -45,7 +45,7 @@ none_there entries none i entry at =
 
 -- nothing is asked of a chain of no entries
 pub holds_none : (n : Network) (keys : List (List ℕ)) (chain : Chain) (from to : ℕ)
-    → chain.entries ≡ [] → Holds n keys chain from to
+    → chain.entries ≡ [] → KeysAndLinksHold n keys chain from to
 holds_none n keys chain from to none = record {
   keys_held =
       λ i entry key one low high at keyed named. absurd (none_there chain.entries none i entry at);
@@ -54,10 +54,10 @@ holds_none n keys chain from to none = record {
 
 -- one entry more, whose AS accepts its key, and to which the beacon came over a link that is up
 pub holds_more : (n : Network) (keys : List (List ℕ)) (b : Chain) (e : Entry) (key : List ℕ)
-    (from to : ℕ) → length keys ≡ length b.entries → Holds n keys b from to
+    (from to : ℕ) → length keys ≡ length b.entries → KeysAndLinksHold n keys b from to
     → ((one : AsEntry) → as_named n.ases e.ia ≡ Some one → Contains one.keys key)
     → ((last : Entry) → last_of b ≡ Some last → IsUp n last.ia last.cons_egress true)
-    → Holds n (keys ++ key ∷ []) (with_last b e) from to
+    → KeysAndLinksHold n (keys ++ key ∷ []) (with_last b e) from to
 holds_more n keys b e key from to keyed holds own up = record {
   keys_held = λ i entry k one low high at at_key named. elim (at_last b.entries e i entry at) [
     | inl inside ↦ elim (at_last keys key i k at_key) [
@@ -91,7 +91,7 @@ same_named : (n m : Network) (ia : ℕ) (one : AsEntry) → m.ases ≡ n.ases
 same_named n m ia one same named = ap (λ ases. as_named ases ia) (sym same) ∙ named
 
 pub mended_holds : (n m : Network) (x y : ℕ) (keys : List (List ℕ)) (chain : Chain) (from to : ℕ)
-    → set_up true x y n ≡ Ok m → Holds n keys chain from to → Holds m keys chain from to
+    → set_up true x y n ≡ Ok m → KeysAndLinksHold n keys chain from to → KeysAndLinksHold m keys chain from to
 mended_holds n m x y keys chain from to change holds = record {
   keys_held = λ i entry key one low high at keyed named. (
       holds.keys_held i entry key one low high at keyed
@@ -107,7 +107,7 @@ mended_holds n m x y keys chain from to change holds = record {
 
 pub cut_holds : (n m : Network) (x y : ℕ) (keys : List (List ℕ)) (chain : Chain) (from to : ℕ)
     → IsNetwork n → IsMade n keys chain → set_up false x y n ≡ Ok m
-    → LeavesAlone chain from to x y → Holds n keys chain from to → Holds m keys chain from to
+    → AvoidsLink chain from to x y → KeysAndLinksHold n keys chain from to → KeysAndLinksHold m keys chain from to
 cut_holds n m x y keys chain from to network made change alone holds = record {
   keys_held = λ i entry key one low high at keyed named. (
       holds.keys_held i entry key one low high at keyed
@@ -137,8 +137,8 @@ still_up n m x key ia number change up = record {
 
 -- a new key of an AS that is none of the chain's
 pub rotated_holds : (n m : Network) (x : ℕ) (key : List ℕ) (keys : List (List ℕ)) (chain : Chain)
-    (from to : ℕ) → rotated x key n ≡ Ok m → PassesBy chain from to x
-    → Holds n keys chain from to → Holds m keys chain from to
+    (from to : ℕ) → rotated x key n ≡ Ok m → AvoidsAs chain from to x
+    → KeysAndLinksHold n keys chain from to → KeysAndLinksHold m keys chain from to
 rotated_holds n m x key keys chain from to change past holds = record {
   keys_held = λ i entry k one low high at keyed named. (
       holds.keys_held i entry k one low high at keyed
@@ -164,8 +164,8 @@ before_rotation n m x key change =
 
 -- the first new key of an AS since its entries were made under the one in use
 pub renewed_holds : (n m : Network) (x : ℕ) (key : List ℕ) (keys : List (List ℕ)) (chain : Chain)
-    (from to : ℕ) → rotated x key n ≡ Ok m → InUse n keys chain from to x
-    → Holds n keys chain from to → Holds m keys chain from to
+    (from to : ℕ) → rotated x key n ≡ Ok m → KeyIsInUse n keys chain from to x
+    → KeysAndLinksHold n keys chain from to → KeysAndLinksHold m keys chain from to
 renewed_holds n m x key keys chain from to change in_use holds = record {
   keys_held = λ i entry k one low high at keyed named. elim (cases_eq x entry.ia) [
     | inl same ↦ (
@@ -194,13 +194,13 @@ abbrev key_found : Option AsEntry → List ℕ
 key_found found = option_map_or key_of found []
 
 pub in_use_none : (n : Network) (keys : List (List ℕ)) (chain : Chain) (from to ia : ℕ)
-    → chain.entries ≡ [] → InUse n keys chain from to ia
+    → chain.entries ≡ [] → KeyIsInUse n keys chain from to ia
 in_use_none n keys chain from to ia none i entry key low high at keyed same =
     absurd (none_there chain.entries none i entry at)
 
 pub in_use_more : (n : Network) (keys : List (List ℕ)) (b : Chain) (e : Entry) (key : List ℕ)
-    (from to ia : ℕ) → length keys ≡ length b.entries → InUse n keys b from to ia
-    → (e.ia ≡ ia → key ≡ key_in n ia) → InUse n (keys ++ key ∷ []) (with_last b e) from to ia
+    (from to ia : ℕ) → length keys ≡ length b.entries → KeyIsInUse n keys b from to ia
+    → (e.ia ≡ ia → key ≡ key_in n ia) → KeyIsInUse n (keys ++ key ∷ []) (with_last b e) from to ia
 in_use_more n keys b e key from to ia keyed in_use own i entry k low high at at_key same =
     elim (at_last b.entries e i entry at) [
       | inl inside ↦ elim (at_last keys key i k at_key) [
@@ -214,15 +214,15 @@ in_use_more n keys b e key from to ia keyed in_use own i entry k low high at at_
     ]
 
 pub in_use_linked : (n m : Network) (up : Bool) (x y : ℕ) (keys : List (List ℕ)) (chain : Chain)
-    (from to ia : ℕ) → set_up up x y n ≡ Ok m → InUse n keys chain from to ia
-    → InUse m keys chain from to ia
+    (from to ia : ℕ) → set_up up x y n ≡ Ok m → KeyIsInUse n keys chain from to ia
+    → KeyIsInUse m keys chain from to ia
 in_use_linked n m up x y keys chain from to ia change in_use i entry key low high at keyed same =
     in_use i entry key low high at keyed same
     ∙ ap (λ ases. key_found (as_named ases ia)) (sym (same_ases up x y n m change))
 
 pub in_use_keyed : (n m : Network) (x : ℕ) (new : List ℕ) (keys : List (List ℕ)) (chain : Chain)
-    (from to ia : ℕ) → rotated x new n ≡ Ok m → x ≢ ia → InUse n keys chain from to ia
-    → InUse m keys chain from to ia
+    (from to ia : ℕ) → rotated x new n ≡ Ok m → x ≢ ia → KeyIsInUse n keys chain from to ia
+    → KeyIsInUse m keys chain from to ia
 in_use_keyed n m x new keys chain from to ia change other in_use i entry key low high at keyed same
     =
     in_use i entry key low high at keyed same
@@ -231,7 +231,7 @@ in_use_keyed n m x new keys chain from to ia change other in_use i entry key low
 -- ---- sound pieces
 
 pub mended_sound : (n m : Network) (x y : ℕ) (keys : List (List ℕ)) (piece : PieceValue)
-    → set_up true x y n ≡ Ok m → IsSound n keys piece → IsSound m keys piece
+    → set_up true x y n ≡ Ok m → IsIssuedAndAccepted n keys piece → IsIssuedAndAccepted m keys piece
 mended_sound n m x y keys piece change is = record {
   network = linked_network true x y n m is.network change;
   range = is.range;
@@ -240,8 +240,8 @@ mended_sound n m x y keys piece change is = record {
 }
 
 pub cut_sound : (n m : Network) (x y : ℕ) (keys : List (List ℕ)) (piece : PieceValue)
-    → set_up false x y n ≡ Ok m → LeavesAlone piece.segment piece.from piece.to x y
-    → IsSound n keys piece → IsSound m keys piece
+    → set_up false x y n ≡ Ok m → AvoidsLink piece.segment piece.from piece.to x y
+    → IsIssuedAndAccepted n keys piece → IsIssuedAndAccepted m keys piece
 cut_sound n m x y keys piece change alone is = record {
   network = linked_network false x y n m is.network change;
   range = is.range;
@@ -254,8 +254,8 @@ cut_sound n m x y keys piece change alone is = record {
 
 pub rotated_sound : (n m : Network) (x : ℕ) (key : List ℕ) (keys : List (List ℕ))
     (piece : PieceValue)
-    → rotated x key n ≡ Ok m → PassesBy piece.segment piece.from piece.to x
-    → IsSound n keys piece → IsSound m keys piece
+    → rotated x key n ≡ Ok m → AvoidsAs piece.segment piece.from piece.to x
+    → IsIssuedAndAccepted n keys piece → IsIssuedAndAccepted m keys piece
 rotated_sound n m x key keys piece change past is = record {
   network = rotated_network x key n m is.network change;
   range = is.range;
@@ -265,8 +265,8 @@ rotated_sound n m x key keys piece change past is = record {
 
 pub renewed_sound : (n m : Network) (x : ℕ) (key : List ℕ) (keys : List (List ℕ))
     (piece : PieceValue)
-    → rotated x key n ≡ Ok m → InUse n keys piece.segment piece.from piece.to x
-    → IsSound n keys piece → IsSound m keys piece
+    → rotated x key n ≡ Ok m → KeyIsInUse n keys piece.segment piece.from piece.to x
+    → IsIssuedAndAccepted n keys piece → IsIssuedAndAccepted m keys piece
 renewed_sound n m x key keys piece change in_use is = record {
   network = rotated_network x key n m is.network change;
   range = is.range;

@@ -21,8 +21,8 @@ use Rattle.router_step.specs.declared.fault.Refusal.{Refusal}
 use Rattle.router_step.specs.Place.{info_of, hop_of, way_out, moved_on, gone}
 use Rattle.router_step.specs.Checks.{destination_fits, kinds_fit}
 use Rattle.router_step.specs.Step.{step_of}
-use Rattle.forwarding.specs.Spot.{Spot, beta_at, info_with, info_left, header_with, header_there, header_coming, advanced, out_by}
-use Rattle.forwarding.specs.Standing.{header_on}
+use Rattle.forwarding.specs.PathPosition.{PathPosition, beta_at, info_with, info_left, header_with, header_there, header_coming, advanced, out_by}
+use Rattle.forwarding.specs.OnPath.{header_on}
 use Rattle.forwarding.proofs.Reading.{info_of-header_with, hop_of-header_with}
 use Rattle.forwarding.proofs.Betas.{first_place_is}
 use Rattle.router_step.specs.Forward.{MayLeave, goes}
@@ -36,7 +36,7 @@ pub record Opens (view : View) (arrival : Arrival) (has_switched : Bool) (piece 
   pub kinds : kinds_fit view arrival has_switched out.kind ≡ true
   pub up : out.up ≡ true
 
-way_there : (spot : Spot) (seg_id : ℕ) (entry : Entry) → IsSpot spot entry
+way_there : (spot : PathPosition) (seg_id : ℕ) (entry : Entry) → IsSpot spot entry
     → way_out (info_of (header_with spot seg_id))
     (hop_of (header_with spot seg_id)) ≡ out_by spot.piece entry
 way_there spot seg_id entry is =
@@ -45,7 +45,7 @@ way_there spot seg_id entry is =
     ∙ ap (λ (h : HopField). way_out (info_with spot.piece seg_id) h)
     (hop_of-header_with spot seg_id entry is.there)
 
-pub may_leave : (view : View) (arrival : Arrival) (has_switched : Bool) (spot : Spot)
+pub may_leave : (view : View) (arrival : Arrival) (has_switched : Bool) (spot : PathPosition)
     (entry : Entry) (out : IfEntry) → IsSpot spot entry
     → Opens view arrival has_switched spot.piece entry out
     → MayLeave view arrival has_switched (header_there spot) out
@@ -57,12 +57,12 @@ may_leave view arrival has_switched spot entry out is opens = record {
 }
 
 -- what a step answers that leads from a spot on
-abbrev pub onward_by : View → IfEntry → Spot → Entry → Outcome × HeaderValue
+abbrev pub onward_by : View → IfEntry → PathPosition → Entry → Outcome × HeaderValue
 onward_by view out spot entry =
     if not (out.router == view.router) then (ToRouter out.router, header_there spot) else
     (ToLink (out_by spot.piece entry), header_coming (advanced spot))
 
-pub answer : (view : View) (out : IfEntry) (spot : Spot) (entry : Entry) → IsSpot spot entry
+pub answer : (view : View) (out : IfEntry) (spot : PathPosition) (entry : Entry) → IsSpot spot entry
     → spot.reached + 1 < len_of spot.piece
     → (other : Bool) → not (out.router == view.router) ≡ other
     → (
@@ -88,7 +88,7 @@ pub destination_elsewhere : (view : View) (destination : ℕ) → destination �
 destination_elsewhere view destination other = rw (ne_eqb destination view.ia other) refl
 
 -- on its piece a packet goes on to the next entry
-pub goes_on : (view : View) (now : ℕ) (arrival : Arrival) (source destination : ℕ) (spot : Spot)
+pub goes_on : (view : View) (now : ℕ) (arrival : Arrival) (source destination : ℕ) (spot : PathPosition)
     (entry : Entry) (out : IfEntry) → IsSpot spot entry → Comes view arrival source spot entry
     → IsOwn view now spot.piece spot.reached entry → destination ≢ view.ia
     → spot.reached + 1 < len_of spot.piece → Opens view arrival false spot.piece entry out
@@ -110,7 +110,7 @@ goes_on view now arrival source destination spot entry out is comes own other mo
     ∙ ap done (answer view out spot entry is more (not (out.router == view.router)) refl)
 
 -- at its end it is delivered
-pub arrives : (view : View) (now : ℕ) (arrival : Arrival) (source destination : ℕ) (spot : Spot)
+pub arrives : (view : View) (now : ℕ) (arrival : Arrival) (source destination : ℕ) (spot : PathPosition)
     (entry : Entry) → IsSpot spot entry → Comes view arrival source spot entry
     → IsOwn view now spot.piece spot.reached entry → destination ≡ view.ia
     → spot.reached + 1 ≡ len_of spot.piece → spot.later ≡ []

@@ -16,8 +16,8 @@ use Rattle.router_step.specs.declared.arrival.Arrival.TheVariants.{Link}
 use Rattle.router_step.specs.Place.{info_of, hop_of, moved_on, gone}
 use Rattle.router_step.specs.Checks.{is_live, is_mac_right, ends_segment}
 use Rattle.router_step.specs.Step.{step_of}
-use Rattle.forwarding.specs.Spot.{Spot, beta_at, info_with, header_with, header_there}
-use Rattle.forwarding.specs.Standing.{header_on}
+use Rattle.forwarding.specs.PathPosition.{PathPosition, beta_at, info_with, header_with, header_there}
+use Rattle.forwarding.specs.OnPath.{header_on}
 use Rattle.forwarding.proofs.Reading.{info_of-header_with, hop_of-header_with}
 use Rattle.forwarding.proofs.Places.{IsLong, long_of, segment_of_place}
 use Rattle.router_step.specs.Forward.{MayLeave, goes}
@@ -25,11 +25,11 @@ use Rattle.router_step.proofs.Computed.{a_switch, went_on}
 use Rattle.forwarding.proofs.AtSpot.{IsSpot, within_piece, Comes, IsOwn, admitted_there, not_last}
 use Rattle.forwarding.proofs.Stepping.{Opens, may_leave, onward_by, answer, done, destination_elsewhere, is_beyond, switch_header}
 
-abbrev pub at_end : List PieceValue → PieceValue → PieceValue → List PieceValue → ℕ → Spot
+abbrev pub at_end : List PieceValue → PieceValue → PieceValue → List PieceValue → ℕ → PathPosition
 at_end past piece next later i =
     record { past = past; piece = piece; later = next ∷ later; reached = i }
 
-abbrev pub at_start : List PieceValue → PieceValue → PieceValue → List PieceValue → Spot
+abbrev pub at_start : List PieceValue → PieceValue → PieceValue → List PieceValue → PathPosition
 at_start past piece next later =
     record { past = past ++ piece ∷ []; piece = next; later = later; reached = 0 }
 

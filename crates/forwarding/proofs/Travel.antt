@@ -14,16 +14,16 @@ use Rattle.path_verifier.specs.Walk.{walk_of}
 use Rattle.policy_expr.specs.declared.hop.WalkHop.{WalkHop}
 use Rattle.router_step.specs.declared.arrival.Arrival.{Arrival}
 use Rattle.router_step.specs.declared.arrival.Arrival.TheVariants.{FromHost, Inside, Link}
-use Rattle.forwarding.specs.Spot.{Spot, pieces_at, advanced, in_by, out_by}
-use Rattle.forwarding.specs.Open.{IsLinked}
+use Rattle.forwarding.specs.PathPosition.{PathPosition, pieces_at, advanced, in_by, out_by}
+use Rattle.forwarding.specs.Forwardable.{IsLinked}
 use Rattle.path_header.specs.Value.{IsHeader}
 use Rattle.path_header.specs.Spelling.{Fits, Spells, spelling}
 use Rattle.path_verifier.specs.Header.{header_of}
 use Rattle.std.specs.List.{AllByRecursion}
-use Rattle.forwarding.specs.declared.place.Place.TheVariants.{Delivered}
+use Rattle.forwarding.specs.declared.location.PacketLocation.TheVariants.{Delivered}
 use Rattle.forwarding.specs.Frame.{framed, HasFrame}
 use Rattle.forwarding.specs.Turn.{Packet, noted}
-use Rattle.forwarding.specs.Standing.{header_on, at_spot, IsPlaced, Standing, GoesOn, Arrives}
+use Rattle.forwarding.specs.OnPath.{header_on, at_spot, IsPlaced, OnPath, ComesNearer, Arrives}
 use Rattle.forwarding.specs.Journey.{to_come, turns_through, turns_over, turns_left}
 use Rattle.forwarding.proofs.AtSpot.{IsSpot, IsOwn, within_piece}
 use Rattle.forwarding.proofs.Places.{long_of}
@@ -44,7 +44,7 @@ module _ (n : Network) (now source destination : ℕ) (payload : List ℕ) (piec
     (route : IsRoute n now source destination pieces)
     (frame : HasFrame source destination pieces) where
   -- the header with which a packet comes to a spot of the path has a spelling
-  spelled : (arrival : Arrival) (spot : Spot) (entry : Entry) → IsSpot spot entry
+  spelled : (arrival : Arrival) (spot : PathPosition) (entry : Entry) → IsSpot spot entry
       → pieces_at spot ≡ pieces → ((interface : ℕ) → arrival ≡ Link interface → 0 < spot.reached)
       → Spells (spelling (header_on arrival spot)) (header_on arrival spot)
   spelled arrival spot entry good whole later =
@@ -52,12 +52,12 @@ module _ (n : Network) (now source destination : ℕ) (payload : List ℕ) (piec
       (subst (λ (ps : List PieceValue). IsHeader (header_of ps)) (sym whole) frame.is_header)
       (subst (λ (ps : List PieceValue). Fits (header_of ps)) (sym whole) frame.fits) arrival later
 
-  pub from_inside : (left : ℕ) (spot : Spot) (entry : Entry) (router came : ℕ)
+  pub from_inside : (left : ℕ) (spot : PathPosition) (entry : Entry) (router came : ℕ)
       (passed : List WalkHop) → IsSpot spot entry → pieces_at spot ≡ pieces
       → IsPlaced n spot entry Inside router came passed
       → passed ++ to_come came spot ≡ walk_of pieces
       → left ≡ 1 + turns_over n (drop 1 (to_come came spot))
-      → GoesOn n now source destination payload pieces left
+      → ComesNearer n now source destination payload pieces left
       (at_spot source destination payload spot entry Inside router came passed)
   from_inside left spot entry router came passed good whole placed walk count =
       let open_piece = route.opens spot.past spot.later spot.piece whole in
@@ -94,12 +94,12 @@ module _ (n : Network) (now source destination : ℕ) (payload : List ℕ) (piec
       (λ same. count ∙ ap (λ (w : List WalkHop). 1 + turns_over n (drop 1 w)) split)
       (λ differs. absurd (differs owner))
 
-  pub from_host : (left : ℕ) (spot : Spot) (entry : Entry) (router came : ℕ) (passed : List WalkHop)
+  pub from_host : (left : ℕ) (spot : PathPosition) (entry : Entry) (router came : ℕ) (passed : List WalkHop)
       → IsSpot spot entry → pieces_at spot ≡ pieces
       → IsPlaced n spot entry FromHost router came passed
       → passed ++ to_come came spot ≡ walk_of pieces
       → left ≡ 1 + turns_over n (drop 1 (to_come came spot))
-      → GoesOn n now source destination payload pieces left
+      → ComesNearer n now source destination payload pieces left
       (at_spot source destination payload spot entry FromHost router came passed)
   from_host left spot entry router came passed good whole placed walk count =
       let open_piece = route.opens spot.past spot.later spot.piece whole in
@@ -150,7 +150,7 @@ module _ (n : Network) (now source destination : ℕ) (payload : List ℕ) (piec
   -- ---- over a link
 
   -- what of an arrival over a link is known of the entry at which it stands
-  pub came_over : (spot : Spot) (entry : Entry) (interface router came : ℕ) (passed : List WalkHop)
+  pub came_over : (spot : PathPosition) (entry : Entry) (interface router came : ℕ) (passed : List WalkHop)
       → IsSpot spot entry → pieces_at spot ≡ pieces
       → IsPlaced n spot entry (Link interface) router came passed
       → (before : Entry) × IsLinked n spot.piece before entry
@@ -165,13 +165,13 @@ module _ (n : Network) (now source destination : ℕ) (payload : List ℕ) (piec
             (ap (slice_get (travelled spot.piece)) back ∙ good.there),
       )
 
-  over_piece : (left : ℕ) (spot : Spot) (entry : Entry) (router : ℕ) (passed : List WalkHop)
+  over_piece : (left : ℕ) (spot : PathPosition) (entry : Entry) (router : ℕ) (passed : List WalkHop)
       → IsSpot spot entry → pieces_at spot ≡ pieces
       → IsPlaced n spot entry (Link (in_by spot.piece entry)) router (in_by spot.piece entry) passed
       → passed ++ to_come (in_by spot.piece entry) spot ≡ walk_of pieces
       → left ≡ turns_over n (to_come (in_by spot.piece entry) spot)
       → spot.reached + 1 < len_of spot.piece
-      → GoesOn n now source destination payload pieces left
+      → ComesNearer n now source destination payload pieces left
       (at_spot source destination payload spot entry (Link (in_by spot.piece entry)) router
       (in_by spot.piece entry) passed)
   over_piece left spot entry router passed good whole placed walk count more =
@@ -219,7 +219,7 @@ module _ (n : Network) (now source destination : ℕ) (payload : List ℕ) (piec
       ∙ ap (λ k. k + turns_over n ahead)
       (through_two n hop router goes.near.router owned goes.near_owner differs))
 
-  over_end : (left : ℕ) (spot : Spot) (entry : Entry) (router : ℕ) (passed : List WalkHop)
+  over_end : (left : ℕ) (spot : PathPosition) (entry : Entry) (router : ℕ) (passed : List WalkHop)
       → IsSpot spot entry → pieces_at spot ≡ pieces
       → IsPlaced n spot entry (Link (in_by spot.piece entry)) router (in_by spot.piece entry) passed
       → passed ++ to_come (in_by spot.piece entry) spot ≡ walk_of pieces
@@ -277,7 +277,7 @@ module _ (n : Network) (now source destination : ℕ) (payload : List ℕ) (piec
       (at_end past piece next_piece later i) ≡ walk_of pieces
       → left ≡ turns_over n (to_come (in_by piece entry) (at_end past piece next_piece later i))
       → i + 1 ≡ len_of piece
-      → GoesOn n now source destination payload pieces left
+      → ComesNearer n now source destination payload pieces left
       (at_spot source destination payload (at_end past piece next_piece later i) entry
       (Link (in_by piece entry)) router (in_by piece entry) passed)
   over_beyond left past later piece next_piece i entry router passed good whole placed walk count
@@ -377,7 +377,7 @@ module _ (n : Network) (now source destination : ℕ) (payload : List ℕ) (piec
       (to_come (in_by piece entry)
       (record { past = past; piece = piece; later = later; reached = i }))
       → i + 1 ≡ len_of piece
-      → GoesOn n now source destination payload pieces left
+      → ComesNearer n now source destination payload pieces left
       (at_spot source destination payload
       (record { past = past; piece = piece; later = later; reached = i }) entry
       (Link (in_by piece entry)) router (in_by piece entry) passed)
@@ -394,12 +394,12 @@ module _ (n : Network) (now source destination : ℕ) (payload : List ℕ) (piec
       inl (over_beyond left past later piece next i entry router passed good whole placed walk count
       at_the_end)
 
-  over_link : (left : ℕ) (spot : Spot) (entry : Entry) (router : ℕ) (passed : List WalkHop)
+  over_link : (left : ℕ) (spot : PathPosition) (entry : Entry) (router : ℕ) (passed : List WalkHop)
       → IsSpot spot entry → pieces_at spot ≡ pieces
       → IsPlaced n spot entry (Link (in_by spot.piece entry)) router (in_by spot.piece entry) passed
       → passed ++ to_come (in_by spot.piece entry) spot ≡ walk_of pieces
       → left ≡ turns_over n (to_come (in_by spot.piece entry) spot)
-      → GoesOn n now source destination payload pieces left
+      → ComesNearer n now source destination payload pieces left
       (at_spot source destination payload spot entry (Link (in_by spot.piece entry)) router
       (in_by spot.piece entry) passed)
       ⊎ Arrives n now source destination payload pieces left
@@ -418,12 +418,12 @@ module _ (n : Network) (now source destination : ℕ) (payload : List ℕ) (piec
       ]
 
   -- however it came
-  at_any : (left : ℕ) (spot : Spot) (entry : Entry) (arrival : Arrival) (router came : ℕ)
+  at_any : (left : ℕ) (spot : PathPosition) (entry : Entry) (arrival : Arrival) (router came : ℕ)
       (passed : List WalkHop) → IsSpot spot entry → pieces_at spot ≡ pieces
       → IsPlaced n spot entry arrival router came passed
       → passed ++ to_come came spot ≡ walk_of pieces
       → left ≡ turns_left n arrival (to_come came spot)
-      → GoesOn n now source destination payload pieces left
+      → ComesNearer n now source destination payload pieces left
       (at_spot source destination payload spot entry arrival router came passed)
       ⊎ Arrives n now source destination payload pieces left
       (at_spot source destination payload spot entry arrival router came passed)
@@ -442,11 +442,11 @@ module _ (n : Network) (now source destination : ℕ) (payload : List ℕ) (piec
           (refl, (refl, ap (λ m. owner_in n entry.ia m) (sym in_is) ∙ placed.1.1.1.1)),
         ),
       ) in
-      subst (λ m. GoesOn n now source destination payload pieces left
+      subst (λ m. ComesNearer n now source destination payload pieces left
       (at_spot source destination payload spot entry (Link m) router came passed)
       ⊎ Arrives n now source destination payload pieces left
       (at_spot source destination payload spot entry (Link m) router came passed)) (sym in_is)
-      (subst (λ c. GoesOn n now source destination payload pieces left
+      (subst (λ c. ComesNearer n now source destination payload pieces left
       (at_spot source destination payload spot entry
       (Link (in_by spot.piece entry)) router c passed)
       ⊎ Arrives n now source destination payload pieces left
@@ -456,7 +456,7 @@ module _ (n : Network) (now source destination : ℕ) (payload : List ℕ) (piec
       (ap (λ c. passed ++ to_come c spot) (sym came_is) ∙ walk)
       (count ∙ ap (λ c. turns_over n (to_come c spot)) came_is)))
 
-  good_spot : (spot : Spot) (entry : Entry) → pieces_at spot ≡ pieces
+  good_spot : (spot : PathPosition) (entry : Entry) → pieces_at spot ≡ pieces
       → slice_get (travelled spot.piece) spot.reached ≡ Some entry → IsSpot spot entry
   good_spot spot entry whole there =
       let three : length (pieces_at spot) ≤ 3 = (
@@ -468,11 +468,11 @@ module _ (n : Network) (now source destination : ℕ) (payload : List ℕ) (piec
   -- a packet that stands on an open path is not refused: it stands on it again after a turn, one
   -- turn nearer to its end, or it is delivered with its whole walk
   pub turn_leads_on : (left : ℕ) (packet : Packet)
-      → Standing n source destination payload pieces left packet
-      → GoesOn n now source destination payload pieces left packet
+      → OnPath n source destination payload pieces left packet
+      → ComesNearer n now source destination payload pieces left packet
       ⊎ Arrives n now source destination payload pieces left packet
   turn_leads_on left packet s =
-      subst (λ (u : Packet). GoesOn n now source destination payload pieces left u
+      subst (λ (u : Packet). ComesNearer n now source destination payload pieces left u
       ⊎ Arrives n now source destination payload pieces left u) (sym s.is)
       (at_any left s.spot s.entry s.arrival s.router s.came s.passed
       (good_spot s.spot s.entry s.whole s.there) s.whole s.placed s.walk s.count)

@@ -18,14 +18,14 @@ use Rattle.router_step.specs.declared.arrival.Arrival.TheVariants.{Inside, Link}
 use Rattle.router_step.specs.declared.outcome.Outcome.{Outcome}
 use Rattle.router_step.specs.declared.fault.Refusal.{Refusal}
 use Rattle.router_step.specs.Step.{step_of}
-use Rattle.forwarding.specs.Spot.{Spot, header_there, advanced, in_by, out_by}
-use Rattle.forwarding.specs.Open.{IsAccepted, IsLinked}
-use Rattle.forwarding.specs.declared.place.Stop.{Stop}
-use Rattle.forwarding.specs.declared.place.Place.TheVariants.{AtRouter, Delivered}
+use Rattle.forwarding.specs.PathPosition.{PathPosition, header_there, advanced, in_by, out_by}
+use Rattle.forwarding.specs.Forwardable.{IsAuthenticHop, IsLinked}
+use Rattle.forwarding.specs.declared.location.RouterStop.{RouterStop}
+use Rattle.forwarding.specs.declared.location.PacketLocation.TheVariants.{AtRouter, Delivered}
 use Rattle.path_header.specs.Spelling.{Spells, spelling}
 use Rattle.forwarding.specs.Frame.{framed}
 use Rattle.forwarding.specs.Turn.{Packet, noted, put, stepped, turn_under, by_view, turn_of, turned}
-use Rattle.forwarding.specs.Standing.{header_on, at_spot}
+use Rattle.forwarding.specs.OnPath.{header_on, at_spot}
 use Rattle.forwarding.proofs.Framed.{frame_goes}
 use Rattle.forwarding.proofs.AtSpot.{IsSpot, Comes, IsOwn}
 use Rattle.forwarding.proofs.Stepping.{Opens, onward_by, goes_on, arrives}
@@ -33,7 +33,7 @@ use Rattle.forwarding.proofs.Switching.{at_end, at_start, switches}
 use Rattle.forwarding.proofs.Routers.{view_for, view_is, own}
 
 -- a packet at a router
-abbrev pub carried : ℕ → ℕ → List ℕ → HeaderValue → Stop → List WalkHop → Packet
+abbrev pub carried : ℕ → ℕ → List ℕ → HeaderValue → RouterStop → List WalkHop → Packet
 carried source destination payload header stop passed = record {
   bytes = framed source destination header payload;
   place = AtRouter stop;
@@ -41,25 +41,25 @@ carried source destination payload header stop passed = record {
 }
 
 -- what a step over the header makes of it
-abbrev pub placed : Network → ℕ → ℕ → List ℕ → Stop → List WalkHop → Outcome × HeaderValue → Packet
+abbrev pub placed : Network → ℕ → ℕ → List ℕ → RouterStop → List WalkHop → Outcome × HeaderValue → Packet
 placed n source destination payload stop passed done =
     put n (carried source destination payload done.1 stop passed) stop done.0
 
 -- a way into an AS, at this router of it
-abbrev pub stop_at : ℕ → ℕ → Arrival → ℕ → Stop
+abbrev pub stop_at : ℕ → ℕ → Arrival → ℕ → RouterStop
 stop_at ia router arrival came =
     record { ia = ia; router = router; arrival = arrival; came = came }
 
 -- over a link to the next entry
-abbrev pub crossed : ℕ → ℕ → List ℕ → Spot → Entry → Entry → ℕ → ℕ → List WalkHop → Packet
+abbrev pub crossed : ℕ → ℕ → List ℕ → PathPosition → Entry → Entry → ℕ → ℕ → List WalkHop → Packet
 crossed source destination payload spot entry next router came passed =
     at_spot source destination payload (advanced spot) next (Link (in_by spot.piece next)) router
     (in_by spot.piece next)
     (noted passed (record { ia = entry.ia; ingress = came; egress = out_by spot.piece entry }))
 
 -- what a step answers puts the packet over the link, or at the router that owns it
-pub over : (n : Network) (source destination : ℕ) (payload : List ℕ) (stop : Stop)
-    (passed : List WalkHop) (view : View) (spot : Spot) (entry next : Entry)
+pub over : (n : Network) (source destination : ℕ) (payload : List ℕ) (stop : RouterStop)
+    (passed : List WalkHop) (view : View) (spot : PathPosition) (entry next : Entry)
     (goes : IsLinked n spot.piece entry next) → stop.ia ≡ entry.ia → goes.near.router ≡ view.router
     → placed n source destination payload stop passed (onward_by view goes.near spot entry)
     ≡ crossed source destination payload spot entry next goes.far.router stop.came passed
@@ -74,8 +74,8 @@ over n source destination payload stop passed view spot entry next goes here sam
     (noted passed (record { ia = ia; ingress = stop.came; egress = out_by spot.piece entry })))
     here)
 
-pub inside : (n : Network) (source destination : ℕ) (payload : List ℕ) (stop : Stop)
-    (passed : List WalkHop) (view : View) (spot : Spot) (entry next : Entry)
+pub inside : (n : Network) (source destination : ℕ) (payload : List ℕ) (stop : RouterStop)
+    (passed : List WalkHop) (view : View) (spot : PathPosition) (entry next : Entry)
     (goes : IsLinked n spot.piece entry next) → stop.ia ≡ entry.ia → goes.near.router ≢ view.router
     → placed n source destination payload stop passed (onward_by view goes.near spot entry)
     ≡ at_spot source destination payload spot entry Inside goes.near.router stop.came passed
@@ -86,7 +86,7 @@ inside n source destination payload stop passed view spot entry next goes here o
 
 -- a turn is the router's step
 turn_is : (n : Network) (now source destination : ℕ) (payload : List ℕ) (header : HeaderValue)
-    (stop : Stop) (passed : List WalkHop) (one : AsEntry) (done : Outcome × HeaderValue)
+    (stop : RouterStop) (passed : List WalkHop) (one : AsEntry) (done : Outcome × HeaderValue)
     → as_named n.ases stop.ia ≡ Some one → stop.router < one.routers
     → source < 2 ^ 64 → destination < 2 ^ 64 → Spells (spelling header) header
     → step_of (view_for n one stop.ia stop.router) now stop.arrival source destination header
@@ -106,8 +106,8 @@ turn_is n now source destination payload header stop passed one done named below
 module _ (n : Network) (now source destination : ℕ) (payload : List ℕ) (from : source < 2 ^ 64)
     (for : destination < 2 ^ 64) where
   -- on one piece
-  pub turns_on : (spot : Spot) (entry next : Entry) (arrival : Arrival) (router came : ℕ)
-      (passed : List WalkHop) → (accepted : IsAccepted n spot.piece spot.reached entry)
+  pub turns_on : (spot : PathPosition) (entry next : Entry) (arrival : Arrival) (router came : ℕ)
+      (passed : List WalkHop) → (accepted : IsAuthenticHop n spot.piece spot.reached entry)
       (goes : IsLinked n spot.piece entry next) → IsSpot spot entry → router < accepted.one.routers
       → Spells (spelling (header_on arrival spot)) (header_on arrival spot)
       → IsLive spot.piece.segment.timestamp entry.exp_time now
@@ -127,8 +127,8 @@ module _ (n : Network) (now source destination : ℕ) (payload : List ℕ) (from
       (own n now router spot.piece spot.reached entry accepted live) other more opens)
 
   -- at the end of the path
-  pub turns_last : (spot : Spot) (entry : Entry) (arrival : Arrival) (router came : ℕ)
-      (passed : List WalkHop) → (accepted : IsAccepted n spot.piece spot.reached entry)
+  pub turns_last : (spot : PathPosition) (entry : Entry) (arrival : Arrival) (router came : ℕ)
+      (passed : List WalkHop) → (accepted : IsAuthenticHop n spot.piece spot.reached entry)
       → IsSpot spot entry → router < accepted.one.routers
       → Spells (spelling (header_on arrival spot)) (header_on arrival spot)
       → IsLive spot.piece.segment.timestamp entry.exp_time now
@@ -152,7 +152,7 @@ module _ (n : Network) (now source destination : ℕ) (payload : List ℕ) (from
   -- onto the next piece
   pub turns_beyond : (past later : List PieceValue) (piece next_piece : PieceValue) (i : ℕ)
       (entry first second : Entry) (interface router came : ℕ) (passed : List WalkHop)
-      → (accepted : IsAccepted n piece i entry) (first_accepted : IsAccepted n next_piece 0 first)
+      → (accepted : IsAuthenticHop n piece i entry) (first_accepted : IsAuthenticHop n next_piece 0 first)
       (goes : IsLinked n next_piece first second)
       → IsSpot (at_end past piece next_piece later i) entry → router < accepted.one.routers
       → Spells (spelling (header_on (Link interface) (at_end past piece next_piece later i)))

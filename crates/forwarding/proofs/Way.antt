@@ -13,8 +13,8 @@ use Rattle.path_verifier.specs.Piece.{PieceValue, HasRange, kind_of, travelled}
 use Rattle.path_verifier.specs.Header.{len_of}
 use Rattle.path_verifier.specs.Walk.{hops_of, walk_of, entered_by, left_by}
 use Rattle.policy_expr.specs.declared.hop.WalkHop.{WalkHop}
-use Rattle.forwarding.specs.Spot.{Spot, pieces_at}
-use Rattle.forwarding.specs.Open.{IsOpen}
+use Rattle.forwarding.specs.PathPosition.{PathPosition, pieces_at}
+use Rattle.forwarding.specs.Forwardable.{IsForwardable}
 use Rattle.std.specs.List.{AllByRecursion}
 use Rattle.forwarding.specs.Journey.{to_come, way_beyond, walk_beyond, turns_through, turns_over}
 use Rattle.forwarding.proofs.AtSpot.{IsSpot}
@@ -32,7 +32,7 @@ pub record IsRoute (n : Network) (now source destination : ℕ)
   pub ranges : (past later : List PieceValue) (piece : PieceValue) → past ++ piece ∷ later ≡ pieces
       → HasRange piece
   pub opens : (past later : List PieceValue) (piece : PieceValue) → past ++ piece ∷ later ≡ pieces
-      → IsOpen n piece
+      → IsForwardable n piece
   pub live : (past later : List PieceValue) (piece : PieceValue) (i : ℕ) (entry : Entry)
       → past ++ piece ∷ later ≡ pieces → slice_get (travelled piece) i ≡ Some entry
       → IsLive piece.segment.timestamp entry.exp_time now
@@ -57,7 +57,7 @@ pub some_front : (came w : ℕ) (hop : WalkHop) (xs back : List WalkHop)
 some_front came w hop [] back = omega arith
 some_front came w hop (x ∷ xs) back = omega arith
 
-pub some_to_come : (came : ℕ) (spot : Spot) (entry : Entry)
+pub some_to_come : (came : ℕ) (spot : PathPosition) (entry : Entry)
     → slice_get (travelled spot.piece) spot.reached ≡ Some entry → 0 < length (to_come came spot)
 some_to_come came spot entry there =
     rw (hops_from spot.piece spot.reached entry there)
@@ -117,7 +117,7 @@ pub later_are_long : (past later : List PieceValue) (piece : PieceValue)
 later_are_long [] later piece ranges = long_each later ranges.1
 later_are_long (one ∷ past) later piece ranges = later_are_long past later piece ranges.1
 
-pub spot_of : (spot : Spot) (entry : Entry) → length (pieces_at spot) ≤ 3
+pub spot_of : (spot : PathPosition) (entry : Entry) → length (pieces_at spot) ≤ 3
     → AllByRecursion HasRange (pieces_at spot)
     → slice_get (travelled spot.piece) spot.reached ≡ Some entry → IsSpot spot entry
 spot_of spot entry three ranges there = record {

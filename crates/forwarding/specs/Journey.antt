@@ -8,7 +8,7 @@ use Rattle.path_verifier.specs.Piece.{PieceValue}
 use Rattle.path_verifier.specs.Walk.{hops_of, entered_by, left_by}
 use Rattle.router_step.specs.declared.arrival.Arrival.{Arrival}
 use Rattle.router_step.specs.declared.arrival.Arrival.TheVariants.{FromHost, Inside, Link}
-use Rattle.forwarding.specs.Spot.{Spot}
+use Rattle.forwarding.specs.PathPosition.{PathPosition}
 
 -- the way out of the first of these hops, 0 where there is none
 abbrev pub first_out : List WalkHop → ℕ
@@ -27,7 +27,7 @@ walk_beyond (piece ∷ later) =
     left_by (way_beyond later) (drop 1 (hops_of piece)) ++ walk_beyond later
 
 -- the walk from a spot on, for a packet that came into its AS by this interface
-abbrev pub to_come : ℕ → Spot → List WalkHop
+abbrev pub to_come : ℕ → PathPosition → List WalkHop
 to_come came spot =
     entered_by came (left_by (way_beyond spot.later) (drop spot.reached (hops_of spot.piece)))
     ++ walk_beyond spot.later

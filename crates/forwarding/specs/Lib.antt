@@ -1,8 +1,8 @@
 pub mod Frame
 pub mod Turn
-pub mod Spot
+pub mod PathPosition
 pub mod Journey
-pub mod Standing
-pub mod Open
+pub mod OnPath
+pub mod Forwardable
 pub mod Sound
 pub mod Turned

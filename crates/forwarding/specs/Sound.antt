@@ -12,7 +12,7 @@ use Rattle.beaconing.specs.Issued.{IsIssued}
 
 -- between these places the ASes of a chain's entries accept the keys under which they were made,
 -- and the links from entry to entry are up
-pub record Holds (n : Network) (keys : List (List ℕ)) (chain : Chain) (from to : ℕ) : Type 0 where
+pub record KeysAndLinksHold (n : Network) (keys : List (List ℕ)) (chain : Chain) (from to : ℕ) : Type 0 where
   pub keys_held : (i : ℕ) (entry : Entry) (key : List ℕ) (one : AsEntry) → from ≤ i → i ≤ to
       → slice_get chain.entries i ≡ Some entry → slice_get keys i ≡ Some key
       → as_named n.ases entry.ia ≡ Some one → Contains one.keys key
@@ -21,27 +21,27 @@ pub record Holds (n : Network) (keys : List (List ℕ)) (chain : Chain) (from to
       → IsUp n entry.ia entry.cons_egress true
 
 -- between these places each entry of this AS was made under the key that the AS has in use
-abbrev pub InUse : Network → List (List ℕ) → Chain → ℕ → ℕ → ℕ → Type 0
-InUse n keys chain from to ia = (i : ℕ) (entry : Entry) (key : List ℕ) → from ≤ i → i ≤ to
+abbrev pub KeyIsInUse : Network → List (List ℕ) → Chain → ℕ → ℕ → ℕ → Type 0
+KeyIsInUse n keys chain from to ia = (i : ℕ) (entry : Entry) (key : List ℕ) → from ≤ i → i ≤ to
     → slice_get chain.entries i ≡ Some entry → slice_get keys i ≡ Some key → entry.ia ≡ ia
     → key ≡ key_in n ia
 
 -- the piece is of a segment that the network has made under these keys, which are accepted now,
 -- over links that are up now
-pub record IsSound (n : Network) (keys : List (List ℕ)) (piece : PieceValue) : Type 0 where
+pub record IsIssuedAndAccepted (n : Network) (keys : List (List ℕ)) (piece : PieceValue) : Type 0 where
   pub network : IsNetwork n
   pub range : HasRange piece
   pub issued : IsIssued n keys piece.segment
-  pub holds : Holds n keys piece.segment piece.from piece.to
+  pub holds : KeysAndLinksHold n keys piece.segment piece.from piece.to
 
 -- between these places no entry is of this AS
-abbrev pub PassesBy : Chain → ℕ → ℕ → ℕ → Type 0
-PassesBy chain from to ia = (i : ℕ) (entry : Entry) → from ≤ i → i ≤ to
+abbrev pub AvoidsAs : Chain → ℕ → ℕ → ℕ → Type 0
+AvoidsAs chain from to ia = (i : ℕ) (entry : Entry) → from ≤ i → i ≤ to
     → slice_get chain.entries i ≡ Some entry → ia ≢ entry.ia
 
 -- between these places no link from an entry to the next ends at this interface
-abbrev pub LeavesAlone : Chain → ℕ → ℕ → ℕ → ℕ → Type 0
-LeavesAlone chain from to ia number = (i : ℕ) (entry next : Entry) → from ≤ i → i + 1 ≤ to
+abbrev pub AvoidsLink : Chain → ℕ → ℕ → ℕ → ℕ → Type 0
+AvoidsLink chain from to ia number = (i : ℕ) (entry next : Entry) → from ≤ i → i + 1 ≤ to
     → slice_get chain.entries i ≡ Some entry → slice_get chain.entries (i + 1) ≡ Some next
     → ¬ ((entry.ia ≡ ia) × (entry.cons_egress ≡ number))
     × ¬ ((next.ia ≡ ia) × (next.cons_ingress ≡ number))

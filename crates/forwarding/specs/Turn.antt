@@ -11,16 +11,16 @@ use Rattle.router_step.specs.declared.outcome.Outcome.{Outcome}
 use Rattle.router_step.specs.declared.outcome.Outcome.TheVariants.{ToLink, ToRouter, Deliver}
 use Rattle.router_step.specs.declared.fault.Refusal.{Refusal}
 use Rattle.router_step.specs.Packet.{packet_step}
-use Rattle.forwarding.specs.declared.place.Stop.{Stop}
-use Rattle.forwarding.specs.declared.place.Place.{Place}
-use Rattle.forwarding.specs.declared.place.Place.TheVariants.{AtRouter, Delivered, Refused, Lost}
+use Rattle.forwarding.specs.declared.location.RouterStop.{RouterStop}
+use Rattle.forwarding.specs.declared.location.PacketLocation.{PacketLocation}
+use Rattle.forwarding.specs.declared.location.PacketLocation.TheVariants.{AtRouter, Delivered, Refused, Lost}
 use Rattle.forwarding.specs.declared.reply.TurnReply.{TurnReply}
 use Rattle.forwarding.specs.declared.reply.TurnReply.TheVariants as replies
 
 -- a packet: its bytes, where it is, and the hops that it has passed
 pub record Packet : Type 0 where
   pub bytes : List ℕ
-  pub place : Place
+  pub place : PacketLocation
   pub passed : List WalkHop
 
 -- a packet of these bytes that a host sends, put at this router of its AS
@@ -36,24 +36,24 @@ abbrev pub noted : List WalkHop → WalkHop → List WalkHop
 noted passed hop = if nat_lt (length passed) 64 then passed ++ hop ∷ [] else passed
 
 -- the hop of the AS in which the packet stands, left by this interface
-abbrev pub hop_by : Stop → ℕ → WalkHop
+abbrev pub hop_by : RouterStop → ℕ → WalkHop
 hop_by stop out = record { ia = stop.ia; ingress = stop.came; egress = out }
 
 -- at the router that owns the far end of a link; where there is none, nothing is done
-abbrev pub at_owner : Packet → Stop → ℕ → ℕ → ℕ → Result ℕ TopologyFault → Packet
+abbrev pub at_owner : Packet → RouterStop → ℕ → ℕ → ℕ → Result ℕ TopologyFault → Packet
 at_owner packet stop out ia number (Ok router) = record packet {
   place = AtRouter (record { ia = ia; router = router; arrival = Link number; came = number });
   passed = noted packet.passed (hop_by stop out);
 }
 at_owner packet stop out ia number (Err fault) = packet
 
-abbrev pub over_link : Network → Packet → Stop → ℕ → Result (ℕ × ℕ) TopologyFault → Packet
+abbrev pub over_link : Network → Packet → RouterStop → ℕ → Result (ℕ × ℕ) TopologyFault → Packet
 over_link n packet stop out (Ok end) =
     at_owner packet stop out end.0 end.1 (owner_in n end.0 end.1)
 over_link n packet stop out (Err fault) = packet
 
 -- where a router's outcome puts the packet
-abbrev pub put : Network → Packet → Stop → Outcome → Packet
+abbrev pub put : Network → Packet → RouterStop → Outcome → Packet
 put n packet stop (ToLink out) = over_link n packet stop out (far_end_in n stop.ia out)
 put n packet stop (ToRouter router) =
     record packet { place = AtRouter (record stop { router = router; arrival = Inside }) }
@@ -62,7 +62,7 @@ put n packet stop Deliver =
 
 -- what a router's step makes of the packet: new bytes and a new place, or the refusal; and the
 -- reply of the turn
-abbrev pub stepped : Network → Packet → Stop → Result (Outcome × List ℕ) Refusal
+abbrev pub stepped : Network → Packet → RouterStop → Result (Outcome × List ℕ) Refusal
     → TurnReply × Packet
 stepped n packet stop (Ok done) =
     (replies.Went done.0, put n (record packet { bytes = done.1 }) stop done.0)
@@ -74,7 +74,7 @@ abbrev pub still : Packet → TurnReply × Packet
 still packet = (replies.Still, packet)
 
 -- the turn of the router of this view, where the packet stands at a router
-abbrev pub at_place : Network → View → ℕ → Packet → Place → TurnReply × Packet
+abbrev pub at_place : Network → View → ℕ → Packet → PacketLocation → TurnReply × Packet
 at_place n view now packet (AtRouter stop) =
     stepped n packet stop (packet_step view now stop.arrival packet.bytes)
 at_place n view now packet place = still packet
@@ -88,7 +88,7 @@ abbrev pub by_view : Network → ℕ → Packet → Result View TopologyFault �
 by_view n now packet (Ok view) = turn_under n view now packet
 by_view n now packet (Err fault) = still packet
 
-abbrev pub by_place : Network → ℕ → Packet → Place → TurnReply × Packet
+abbrev pub by_place : Network → ℕ → Packet → PacketLocation → TurnReply × Packet
 by_place n now packet (AtRouter stop) = by_view n now packet (view_in n stop.ia stop.router)
 by_place n now packet place = still packet
 
@@ -107,7 +107,7 @@ after n packet (now ∷ later) = after n (turned n now packet) later
 
 -- the packet is at no router: it was delivered, refused or lost
 abbrev pub IsAtNoRouter : Packet → Type 0
-IsAtNoRouter packet = (stop : Stop) → packet.place ≢ AtRouter stop
+IsAtNoRouter packet = (stop : RouterStop) → packet.place ≢ AtRouter stop
 
 -- a packet that was lost on its way
 abbrev pub lost : Packet → Packet

@@ -21,15 +21,15 @@ ghost use Rattle.forwarding.specs.Turned.{header_behind, no_rules};
 ghost use Rattle.beaconing.specs.Entry.{key_in};
 ghost use Rattle.beaconing.specs.Calls.{originated, extended, terminated};
 ghost use Rattle.beaconing.specs.Issued.{IsMade, IsUnderWay};
-ghost use Rattle.forwarding.specs.declared.place.Place.{Place};
-ghost use Rattle.forwarding.specs.declared.place.Stop.{Stop};
+ghost use Rattle.forwarding.specs.declared.location.PacketLocation.{PacketLocation};
+ghost use Rattle.forwarding.specs.declared.location.RouterStop.{RouterStop};
 ghost use Rattle.forwarding.specs.declared.reply.TurnReply.{TurnReply};
 ghost use Rattle.forwarding.specs.Frame.{framed, HasFrame};
 ghost use Rattle.forwarding.specs.Turn.{Packet, IsAtNoRouter, put_at, still, turn_under, turn_of, turned, after};
 ghost use Rattle.forwarding.specs.Journey.{first_out, turns_for};
-ghost use Rattle.forwarding.specs.Open.{IsOpen, LetsThrough};
-ghost use Rattle.forwarding.specs.Standing.{Standing, GoesOn, arrived_with, Arrives};
-ghost use Rattle.forwarding.specs.Sound.{Holds, InUse, IsSound, PassesBy, LeavesAlone};
+ghost use Rattle.forwarding.specs.Forwardable.{IsForwardable, MayForward};
+ghost use Rattle.forwarding.specs.OnPath.{OnPath, ComesNearer, arrived_with, Arrives};
+ghost use Rattle.forwarding.specs.Sound.{KeysAndLinksHold, KeyIsInUse, IsIssuedAndAccepted, AvoidsAs, AvoidsLink};
 
 /// One turn of a packet that stands on a path that the network lets through leads on: no router
 /// refuses it, and it stands at the next place of its path, one turn nearer to its end; or it is
@@ -38,26 +38,26 @@ ghost use Rattle.forwarding.specs.Sound.{Holds, InUse, IsSound, PassesBy, Leaves
 pub fn one_turn_leads_on()
     ensures { (n : Network) (now source destination : ℕ) (payload : List ℕ)
         (pieces : List PieceValue) (left : ℕ) (packet : Packet)
-        → LetsThrough n now source destination pieces
-        → Standing n source destination payload pieces left packet
-        → GoesOn n now source destination payload pieces left packet
+        → MayForward n now source destination pieces
+        → OnPath n source destination payload pieces left packet
+        → ComesNearer n now source destination payload pieces left packet
         ⊎ Arrives n now source destination payload pieces left packet }
 {}
 
-/// In a network that does not change, a packet that stands on its path has so many turns before it
-/// as is said: after fewer turns, at moments at which the network lets the path through, it stands
-/// on its path still, and after as many or more it is delivered.
+/// In a network that does not change, a packet that stands on its path has a number of turns before
+/// it as is said: after fewer turns, at moments at which the network lets the path through, it
+/// stands on its path still, and after as many or more it is delivered.
 pub fn journeys_end()
     ensures before { (n : Network) (source destination : ℕ) (payload : List ℕ)
         (pieces : List PieceValue) (left : ℕ) (packet : Packet) (moments : List ℕ)
-        → All (λ now. LetsThrough n now source destination pieces) moments
-        → Standing n source destination payload pieces left packet → length moments < left
-        → Standing n source destination payload pieces (left - length moments)
+        → All (λ now. MayForward n now source destination pieces) moments
+        → OnPath n source destination payload pieces left packet → length moments < left
+        → OnPath n source destination payload pieces (left - length moments)
         (after n packet moments) }
     ensures then { (n : Network) (source destination : ℕ) (payload : List ℕ)
         (pieces : List PieceValue) (left : ℕ) (packet : Packet) (moments : List ℕ)
-        → All (λ now. LetsThrough n now source destination pieces) moments
-        → Standing n source destination payload pieces left packet → left ≤ length moments
+        → All (λ now. MayForward n now source destination pieces) moments
+        → OnPath n source destination payload pieces left packet → left ≤ length moments
         → after n packet moments ≡ arrived_with source destination payload pieces }
 {}
 
@@ -68,7 +68,7 @@ pub fn sent_packets_stand()
         (pieces : List PieceValue) → MakesPath pieces source destination moment
         → HasFrame source destination pieces
         → owner_in n source (first_out (walk_of pieces)) ≡ Ok router
-        → Standing n source destination payload pieces (turns_for n (walk_of pieces))
+        → OnPath n source destination payload pieces (turns_for n (walk_of pieces))
         (put_at (framed source destination (header_of pieces) payload) source router) }
 {}
 
@@ -91,31 +91,31 @@ pub fn journeys_are_bounded()
         → IsAtNoRouter
         (after n (put_at (framed source destination header payload) ia router) moments) }
     ensures before { (n : Network) (source destination ia router : ℕ) (header : HeaderValue)
-        (payload moments : List ℕ) (stop : Stop) → IsNetwork n → IsOk (view_in n ia router)
+        (payload moments : List ℕ) (stop : RouterStop) → IsNetwork n → IsOk (view_in n ia router)
         → IsHeader header → Fits header
         → (after n (put_at (framed source destination header payload) ia router) moments).place
-        ≡ Place.AtRouter stop
+        ≡ PacketLocation.AtRouter stop
         → length moments < 2 * length header.hops }
     ensures there { (n : Network) (source destination ia router : ℕ) (header : HeaderValue)
-        (payload moments : List ℕ) (stop : Stop) → IsNetwork n → IsOk (view_in n ia router)
+        (payload moments : List ℕ) (stop : RouterStop) → IsNetwork n → IsOk (view_in n ia router)
         → IsHeader header → Fits header
         → (after n (put_at (framed source destination header payload) ia router) moments).place
-        ≡ Place.AtRouter stop
+        ≡ PacketLocation.AtRouter stop
         → IsOk (view_in n stop.ia stop.router) }
     ensures owners { (n : Network) (ia number router : ℕ) → IsNetwork n
         → owner_in n ia number ≡ Ok router → IsOk (view_in n ia router) }
 {}
 
-/// A turn of a packet at a router that the network has is done, whatever its bytes, and leaves it at
-/// such a router or at none. A network has its routers whatever link goes up or down and whatever AS
-/// takes another key.
+/// A turn of a packet at a router that the network has is done, whatever its bytes, and leaves it
+/// at such a router or at none. A network has its routers whatever link goes up or down and
+/// whatever AS takes another key.
 pub fn turns_are_done()
-    ensures done { (n : Network) (now : ℕ) (packet : Packet) (stop : Stop)
-        → packet.place ≡ Place.AtRouter stop → IsOk (view_in n stop.ia stop.router)
+    ensures done { (n : Network) (now : ℕ) (packet : Packet) (stop : RouterStop)
+        → packet.place ≡ PacketLocation.AtRouter stop → IsOk (view_in n stop.ia stop.router)
         → (turn_of n now packet).0 ≢ TurnReply.Still }
-    ensures there { (n : Network) (now : ℕ) (packet : Packet) (stop next : Stop) → IsNetwork n
-        → packet.place ≡ Place.AtRouter stop → IsOk (view_in n stop.ia stop.router)
-        → (turned n now packet).place ≡ Place.AtRouter next
+    ensures there { (n : Network) (now : ℕ) (packet : Packet) (stop next : RouterStop) → IsNetwork n
+        → packet.place ≡ PacketLocation.AtRouter stop → IsOk (view_in n stop.ia stop.router)
+        → (turned n now packet).place ≡ PacketLocation.AtRouter next
         → IsOk (view_in n next.ia next.router) }
     ensures links { (n m : Network) (up : Bool) (x y ia router : ℕ) → set_up up x y n ≡ Ok m
         → IsOk (view_in n ia router) → IsOk (view_in m ia router) }
@@ -128,25 +128,25 @@ pub fn turns_are_done()
 pub fn packets_stand_through_changes()
     ensures links { (n m : Network) (up : Bool) (ia number source destination : ℕ)
         (payload : List ℕ) (pieces : List PieceValue) (left : ℕ) (packet : Packet)
-        → set_up up ia number n ≡ Ok m → Standing n source destination payload pieces left packet
-        → Standing m source destination payload pieces left packet }
+        → set_up up ia number n ≡ Ok m → OnPath n source destination payload pieces left packet
+        → OnPath m source destination payload pieces left packet }
     ensures keys { (n m : Network) (ia : ℕ) (key : List ℕ) (source destination : ℕ)
         (payload : List ℕ) (pieces : List PieceValue) (left : ℕ) (packet : Packet)
-        → rotated ia key n ≡ Ok m → Standing n source destination payload pieces left packet
-        → Standing m source destination payload pieces left packet }
+        → rotated ia key n ≡ Ok m → OnPath n source destination payload pieces left packet
+        → OnPath m source destination payload pieces left packet }
 {}
 
 /// A packet that is at no router stays as it is, at any moment and whatever the network.
 pub fn ended_packets_stay()
     ensures { (n : Network) (now : ℕ) (packet : Packet)
-        → ((stop : Stop) → packet.place ≢ Place.AtRouter stop)
+        → ((stop : RouterStop) → packet.place ≢ PacketLocation.AtRouter stop)
         → turn_of n now packet ≡ still packet }
 {}
 
 /// The turn by the view that the network has of the packet's place is the packet's turn.
 pub fn views_are_of_the_place()
-    ensures { (n : Network) (now : ℕ) (packet : Packet) (stop : Stop) (view : View)
-        → packet.place ≡ Place.AtRouter stop → view_in n stop.ia stop.router ≡ Ok view
+    ensures { (n : Network) (now : ℕ) (packet : Packet) (stop : RouterStop) (view : View)
+        → packet.place ≡ PacketLocation.AtRouter stop → view_in n stop.ia stop.router ≡ Ok view
         → turn_under n view now packet ≡ turn_of n now packet }
 {}
 
@@ -154,11 +154,11 @@ pub fn views_are_of_the_place()
 /// through, travelled either way; and so a path of such pieces while its hops are live.
 pub fn sound_pieces_are_open()
     ensures piece { (n : Network) (keys : List (List ℕ)) (piece : PieceValue)
-        → IsSound n keys piece → IsOpen n piece }
+        → IsIssuedAndAccepted n keys piece → IsForwardable n piece }
     ensures path { (n : Network) (now source destination moment : ℕ) (pieces : List PieceValue)
         → IsNetwork n → MakesPath pieces source destination moment → AreLive now pieces
-        → All (λ piece. (keys : List (List ℕ)) × IsSound n keys piece) pieces
-        → LetsThrough n now source destination pieces }
+        → All (λ piece. (keys : List (List ℕ)) × IsIssuedAndAccepted n keys piece) pieces
+        → MayForward n now source destination pieces }
 {}
 
 /// A piece stays sound where a link is mended; where one is cut that is none of its own; where an
@@ -166,19 +166,19 @@ pub fn sound_pieces_are_open()
 /// which that AS made its entry was in use until then.
 pub fn sound_pieces_outlast_changes()
     ensures mended { (n m : Network) (ia number : ℕ) (keys : List (List ℕ)) (piece : PieceValue)
-        → set_up true ia number n ≡ Ok m → IsSound n keys piece → IsSound m keys piece }
+        → set_up true ia number n ≡ Ok m → IsIssuedAndAccepted n keys piece → IsIssuedAndAccepted m keys piece }
     ensures cut { (n m : Network) (ia number : ℕ) (keys : List (List ℕ)) (piece : PieceValue)
         → set_up false ia number n ≡ Ok m
-        → LeavesAlone piece.segment piece.from piece.to ia number
-        → IsSound n keys piece → IsSound m keys piece }
+        → AvoidsLink piece.segment piece.from piece.to ia number
+        → IsIssuedAndAccepted n keys piece → IsIssuedAndAccepted m keys piece }
     ensures others { (n m : Network) (ia : ℕ) (key : List ℕ) (keys : List (List ℕ))
         (piece : PieceValue) → rotated ia key n ≡ Ok m
-        → PassesBy piece.segment piece.from piece.to ia
-        → IsSound n keys piece → IsSound m keys piece }
+        → AvoidsAs piece.segment piece.from piece.to ia
+        → IsIssuedAndAccepted n keys piece → IsIssuedAndAccepted m keys piece }
     ensures own { (n m : Network) (ia : ℕ) (key : List ℕ) (keys : List (List ℕ))
         (piece : PieceValue) → rotated ia key n ≡ Ok m
-        → InUse n keys piece.segment piece.from piece.to ia
-        → IsSound n keys piece → IsSound m keys piece }
+        → KeyIsInUse n keys piece.segment piece.from piece.to ia
+        → IsIssuedAndAccepted n keys piece → IsIssuedAndAccepted m keys piece }
 {}
 
 /// Between two places of a chain, be it a beacon under way or a segment, the keys of its entries
@@ -187,49 +187,49 @@ pub fn sound_pieces_outlast_changes()
 pub fn chains_hold()
     ensures begun { (n : Network) (ia egress timestamp beta0 : ℕ) (beacon : Chain) (from to : ℕ)
         → IsNetwork n → originated n ia egress timestamp beta0 ≡ Ok beacon
-        → Holds n (key_in n ia ∷ []) beacon from to }
+        → KeysAndLinksHold n (key_in n ia ∷ []) beacon from to }
     ensures passed_on { (n : Network) (keys : List (List ℕ)) (beacon : Chain) (ia egress : ℕ)
         (next : Chain) (from to : ℕ) → IsNetwork n → IsUnderWay n keys beacon
-        → Holds n keys beacon from to → extended n beacon ia egress ≡ Ok next
-        → Holds n (keys ++ (key_in n ia ∷ [])) next from to }
+        → KeysAndLinksHold n keys beacon from to → extended n beacon ia egress ≡ Ok next
+        → KeysAndLinksHold n (keys ++ (key_in n ia ∷ [])) next from to }
     ensures ended { (n : Network) (keys : List (List ℕ)) (beacon : Chain) (ia : ℕ)
         (segment : Chain) (from to : ℕ) → IsNetwork n → IsUnderWay n keys beacon
-        → Holds n keys beacon from to → terminated n beacon ia ≡ Ok segment
-        → Holds n (keys ++ (key_in n ia ∷ [])) segment from to }
+        → KeysAndLinksHold n keys beacon from to → terminated n beacon ia ≡ Ok segment
+        → KeysAndLinksHold n (keys ++ (key_in n ia ∷ [])) segment from to }
     ensures mended { (n m : Network) (ia number : ℕ) (keys : List (List ℕ)) (chain : Chain)
-        (from to : ℕ) → set_up true ia number n ≡ Ok m → Holds n keys chain from to
-        → Holds m keys chain from to }
+        (from to : ℕ) → set_up true ia number n ≡ Ok m → KeysAndLinksHold n keys chain from to
+        → KeysAndLinksHold m keys chain from to }
     ensures cut { (n m : Network) (ia number : ℕ) (keys : List (List ℕ)) (chain : Chain)
         (from to : ℕ) → IsNetwork n → IsMade n keys chain → set_up false ia number n ≡ Ok m
-        → LeavesAlone chain from to ia number → Holds n keys chain from to
-        → Holds m keys chain from to }
+        → AvoidsLink chain from to ia number → KeysAndLinksHold n keys chain from to
+        → KeysAndLinksHold m keys chain from to }
     ensures others { (n m : Network) (ia : ℕ) (key : List ℕ) (keys : List (List ℕ))
-        (chain : Chain) (from to : ℕ) → rotated ia key n ≡ Ok m → PassesBy chain from to ia
-        → Holds n keys chain from to → Holds m keys chain from to }
+        (chain : Chain) (from to : ℕ) → rotated ia key n ≡ Ok m → AvoidsAs chain from to ia
+        → KeysAndLinksHold n keys chain from to → KeysAndLinksHold m keys chain from to }
     ensures own { (n m : Network) (ia : ℕ) (key : List ℕ) (keys : List (List ℕ)) (chain : Chain)
-        (from to : ℕ) → rotated ia key n ≡ Ok m → InUse n keys chain from to ia
-        → Holds n keys chain from to → Holds m keys chain from to }
+        (from to : ℕ) → rotated ia key n ≡ Ok m → KeyIsInUse n keys chain from to ia
+        → KeysAndLinksHold n keys chain from to → KeysAndLinksHold m keys chain from to }
 {}
 
 /// The key under which an AS made an entry is in use from then on until that AS takes another.
 pub fn keys_stay_in_use()
     ensures begun { (n : Network) (ia egress timestamp beta0 : ℕ) (beacon : Chain)
         (from to x : ℕ) → IsNetwork n → originated n ia egress timestamp beta0 ≡ Ok beacon
-        → InUse n (key_in n ia ∷ []) beacon from to x }
+        → KeyIsInUse n (key_in n ia ∷ []) beacon from to x }
     ensures passed_on { (n : Network) (keys : List (List ℕ)) (beacon : Chain) (ia egress : ℕ)
         (next : Chain) (from to x : ℕ) → IsUnderWay n keys beacon
-        → InUse n keys beacon from to x → extended n beacon ia egress ≡ Ok next
-        → InUse n (keys ++ (key_in n ia ∷ [])) next from to x }
+        → KeyIsInUse n keys beacon from to x → extended n beacon ia egress ≡ Ok next
+        → KeyIsInUse n (keys ++ (key_in n ia ∷ [])) next from to x }
     ensures ended { (n : Network) (keys : List (List ℕ)) (beacon : Chain) (ia : ℕ)
         (segment : Chain) (from to x : ℕ) → IsUnderWay n keys beacon
-        → InUse n keys beacon from to x → terminated n beacon ia ≡ Ok segment
-        → InUse n (keys ++ (key_in n ia ∷ [])) segment from to x }
+        → KeyIsInUse n keys beacon from to x → terminated n beacon ia ≡ Ok segment
+        → KeyIsInUse n (keys ++ (key_in n ia ∷ [])) segment from to x }
     ensures links { (n m : Network) (up : Bool) (x number : ℕ) (keys : List (List ℕ))
         (chain : Chain) (from to ia : ℕ) → set_up up x number n ≡ Ok m
-        → InUse n keys chain from to ia → InUse m keys chain from to ia }
+        → KeyIsInUse n keys chain from to ia → KeyIsInUse m keys chain from to ia }
     ensures others { (n m : Network) (x : ℕ) (key : List ℕ) (keys : List (List ℕ)) (chain : Chain)
-        (from to ia : ℕ) → rotated x key n ≡ Ok m → x ≢ ia → InUse n keys chain from to ia
-        → InUse m keys chain from to ia }
+        (from to ia : ℕ) → rotated x key n ≡ Ok m → x ≢ ia → KeyIsInUse n keys chain from to ia
+        → KeyIsInUse m keys chain from to ia }
 {}
 
 /// Of the bytes of a delivered packet both addresses are read as they were sent, and the header
@@ -257,6 +257,6 @@ pub fn delivered_packets_are_answered()
         → least < 2 * moment → (fault : VerifyFault)
         → IsRefused (request_of (turned_pieces pieces) header dst src moment rules) fault
         ↔ (fault ≡ VerifyFault.Expired) }
-    ensures sound { (n : Network) (keys : List (List ℕ)) (piece : PieceValue) → IsSound n keys piece
-        → IsSound n keys (turned_piece piece) }
+    ensures sound { (n : Network) (keys : List (List ℕ)) (piece : PieceValue) → IsIssuedAndAccepted n keys piece
+        → IsIssuedAndAccepted n keys (turned_piece piece) }
 {}

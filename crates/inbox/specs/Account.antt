@@ -74,9 +74,9 @@ module _ {T : Type 0} where
   abbrev pub spent : Account T
   spent = account (tally (share 0 0) [] []) no_roles
 
-  -- what a pass knows of the values in the inbox: with the whole share, that each value was put in as
-  -- often as it was taken out or is left; with every role, that what came out and then what is left
-  -- has the values of the first two senders in each one's order
+  -- what a pass knows of the values in the inbox: with the whole share, that each value was put in
+  -- as often as it was taken out or is left; with every role, that what came out and then what is
+  -- left has the values of the first two senders in each one's order
   pub record AddsUp (v : Account T) (items : List T) : Type 0 where
     pub as_often : IsWhole v.tally.share → (h : T → ℕ)
         → weigh h v.tally.put ≡ weigh h v.tally.taken + weigh h items

@@ -2,7 +2,7 @@
 use Rattle.std.specs.Prelude.{◌≡◌, ℕ, suc, ◌+◌, ◌*◌, ◌-◌, ◌^◌, max}
 use Rattle.inbox.specs.declared.account.Share.{Share}
 
--- so many pieces of a whole that was halved so often
+-- `pieces` pieces of a whole that was halved `halvings` times
 abbrev pub share : ℕ → ℕ → Share
 share pieces halvings = record { pieces = pieces; halvings = halvings }
 

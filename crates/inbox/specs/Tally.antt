@@ -32,8 +32,8 @@ module _ {T : Type 0} where
       (port : ℕ) (v : Tally T) → get_elem? views port ≡ some v → v.share.pieces ≡ 0
       → (v.put ≡ []) × (v.taken ≡ [])
 
-  -- the rule of the tallies, where these values are in the inbox: all shares together are the whole,
-  -- and what was put in is what was taken out and what is left
+  -- the rule of the tallies, where these values are in the inbox: all shares together are the
+  -- whole, and what was put in is what was taken out and what is left
   abbrev pub Balanced : List T → List (Tally T) → Type 0
   Balanced items views =
       ((n : ℕ) × AreWithin n views × (total (λ v. worth n v.share) views ≡ 2 ^ n))

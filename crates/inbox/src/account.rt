@@ -3,7 +3,8 @@
 
 use std::collections::LinkedList;
 
-/// A share of the right to know the whole: so many pieces of a whole that was halved so often.
+/// A share of the right to know the whole: a number of pieces of a whole that was halved a number
+/// of times.
 pub(crate) struct Share {
     pieces: u64,
     halvings: u64,

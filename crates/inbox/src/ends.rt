@@ -11,12 +11,12 @@ use std::sync::Wait;
 
 /// The way into an inbox: contracts see the inbox, and the account of the pass.
 #[derive(Drop)]
-pub struct Outlet<'a, T: Drop> {
+pub struct Sender<'a, T: Drop> {
     inbox: &'a Inbox<T>,
     pass: SenderPass<T>,
 }
 
-impl<'a, T: Drop> Model for Outlet<'a, T> {
+impl<'a, T: Drop> Model for Sender<'a, T> {
     ghost use Rattle.std.specs.Prelude.{◌≡◌};
     ghost use Rattle.inbox.specs.Inbox.{Way};
 
@@ -27,17 +27,17 @@ impl<'a, T: Drop> Model for Outlet<'a, T> {
     ghost invariant = { λ o. o.pass.inbox ≡ o.inbox.now.inbox };
 }
 
-impl<'a, T: Drop> Outlet<'a, T> {
+impl<'a, T: Drop> Sender<'a, T> {
     /// The way into an inbox with a pass of it.
-    pub fn new(inbox: &'a Inbox<T>, pass: SenderPass<T>) -> Outlet<'a, T>
+    pub fn new(inbox: &'a Inbox<T>, pass: SenderPass<T>) -> Sender<'a, T>
         requires { pass.inbox ≡ inbox.now.inbox }
         ensures of { result.of ≡ inbox.now }
         ensures account { result.account ≡ pass.account }
     {
-        Outlet { inbox, pass }
+        Sender { inbox, pass }
     }
 
-    /// Puts a value at the back. It is handed back only where the inbox is full at that step.
+    /// Puts a value at the back. It is returned only where the inbox is full at that step.
     pub fn push<R: Wait>(&mut self, rt: &R, x: T) -> Result<(), T>
         ensures of { self.new.of ≡ self.old.of }
         ensures put { OnOk result (self.new.account ≡ with_put self.old.account x) }
@@ -49,12 +49,12 @@ impl<'a, T: Drop> Outlet<'a, T> {
     }
 
     /// A further way into the same inbox, with a further pass of it.
-    pub fn split(&mut self) -> Outlet<'a, T>
+    pub fn split(&mut self) -> Sender<'a, T>
         ensures of { (self.new.of ≡ self.old.of) × (result.of ≡ self.old.of) }
         ensures kept { self.new.account ≡ kept self.old.account }
         ensures given { result.account ≡ given self.old.account }
     {
-        Outlet {
+        Sender {
             inbox: self.inbox,
             pass: self.inbox.split(&mut self.pass),
         }
@@ -65,7 +65,7 @@ impl<'a, T: Drop> Outlet<'a, T> {
         ensures inbox { result.inbox ≡ self.entry.of.inbox }
         ensures account { result.account ≡ self.entry.account }
     {
-        let Outlet {
+        let Sender {
             inbox: _inbox,
             pass,
         } = self;
@@ -75,12 +75,12 @@ impl<'a, T: Drop> Outlet<'a, T> {
 
 /// The way out of an inbox: contracts see the inbox, and the account of the pass.
 #[derive(Drop)]
-pub struct Intake<'a, T: Drop> {
+pub struct Receiver<'a, T: Drop> {
     inbox: &'a Inbox<T>,
     pass: ReceiverPass<T>,
 }
 
-impl<'a, T: Drop> Model for Intake<'a, T> {
+impl<'a, T: Drop> Model for Receiver<'a, T> {
     ghost use Rattle.std.specs.Prelude.{◌≡◌};
     ghost use Rattle.inbox.specs.Inbox.{Way};
 
@@ -91,14 +91,14 @@ impl<'a, T: Drop> Model for Intake<'a, T> {
     ghost invariant = { λ i. i.pass.inbox ≡ i.inbox.now.inbox };
 }
 
-impl<'a, T: Drop> Intake<'a, T> {
+impl<'a, T: Drop> Receiver<'a, T> {
     /// The way out of an inbox with a pass of it.
-    pub fn new(inbox: &'a Inbox<T>, pass: ReceiverPass<T>) -> Intake<'a, T>
+    pub fn new(inbox: &'a Inbox<T>, pass: ReceiverPass<T>) -> Receiver<'a, T>
         requires { pass.inbox ≡ inbox.now.inbox }
         ensures of { result.of ≡ inbox.now }
         ensures account { result.account ≡ pass.account }
     {
-        Intake { inbox, pass }
+        Receiver { inbox, pass }
     }
 
     /// Takes the value at the front. It gives nothing only where the inbox is empty at that step.
@@ -116,7 +116,7 @@ impl<'a, T: Drop> Intake<'a, T> {
         ensures inbox { result.inbox ≡ self.entry.of.inbox }
         ensures account { result.account ≡ self.entry.account }
     {
-        let Intake {
+        let Receiver {
             inbox: _inbox,
             pass,
         } = self;

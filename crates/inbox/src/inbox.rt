@@ -11,7 +11,7 @@ use std::alloc::{AllocError, Global};
 use std::marker::{Model, PhantomData};
 use std::sync::Wait;
 
-/// A queue of so many places, which threads share: contracts see which one it is, and how many
+/// A queue of fixed length, which threads share: contracts see which one it is, and how many
 /// places it has.
 #[derive(Drop)]
 pub struct Inbox<T: Drop> {
@@ -32,7 +32,7 @@ impl<T: Drop> Model for Inbox<T> {
 
 impl<T: Drop> Inbox<T> {
     /// An empty inbox of 1 to 4,096 places, with the pass of the first sender and that of the
-    /// receiver, with which nothing was put in or taken out. [`AllocError`] where there is no
+    /// receiver, with which nothing was put in or taken out. [`AllocError`] if there is no
     /// memory for the places; no later call takes any.
     pub fn new(
         alloc: Global,
@@ -97,7 +97,7 @@ impl<T: Drop> Inbox<T> {
         self.queue.learn_as::<TakesIn>(&mut pass.pass);
     }
 
-    /// Puts a value at the back. It is handed back only where the inbox is full at that step; what
+    /// Puts a value at the back. It is returned only where the inbox is full at that step; what
     /// the pass knows of the whole holds there. It may wait for a thread that is within a step.
     pub fn push<R: Wait>(&self, rt: &R, pass: &mut SenderPass<T>, x: T) -> Result<(), T>
         requires { pass.old.inbox ≡ self.now.inbox }

@@ -1,7 +1,7 @@
 //! Tests of what no clause says: that there is room where places are free, and in which order
 //! values come out while there are several passes.
 
-use crate::{Inbox, Intake, Outlet};
+use crate::{Inbox, Receiver, Sender};
 use std::test::Fail;
 
 #[test]
@@ -18,9 +18,9 @@ fn an_inbox_of_one_place_hands_the_second_value_back(rt: HostRuntime) -> Result<
 fn values_of_two_senders_come_out_in_order(rt: HostRuntime) -> Result<(), Fail> {
     let (inbox, mut sender, receiver) = Inbox::new(rt.alloc(), 8)?;
     let further = inbox.split(&mut sender);
-    let mut first = Outlet::new(&inbox, sender);
-    let mut second = Outlet::new(&inbox, further);
-    let mut intake = Intake::new(&inbox, receiver);
+    let mut first = Sender::new(&inbox, sender);
+    let mut second = Sender::new(&inbox, further);
+    let mut intake = Receiver::new(&inbox, receiver);
     for number in 0..4u8 {
         assert_eq!(rt; first.push(&rt, number), Ok(()));
         assert_eq!(rt; second.push(&rt, number + 10), Ok(()));

@@ -7,9 +7,9 @@ ghost use Rattle.json_fields.specs.Fields.{items_at, IsReader, GivesPassing};
 use serde_json::Value;
 use std::alloc::{AllocError, Global};
 
-/// Each value of a list as `one` reads it: `None` where it reads one of them as nothing.
+/// Each value of a list as `one` reads it: `None` if it reads one of them as nothing.
 ///
-/// [`AllocError`] where memory ran out.
+/// [`AllocError`] if memory ran out.
 pub fn items<T: Drop, F: Fn(&Value) -> Option<T>>(
     alloc: Global,
     values: &[Value],

@@ -5,14 +5,14 @@ ghost use Rattle.json_fields.specs.Fields.{text_at, truth_at, whole_at, list_at}
 
 use serde_json::Value;
 
-/// The member of this name: `None` where there is none, or where the value is no object.
+/// The member of this name: `None` if there is none, or where the value is no object.
 pub fn member<'a>(value: &'a Value, name: &str) -> Option<&'a Value>
     ensures { option_map (λ v. view v.now) result ≡ get name.now (view value.now) }
 {
     value.get(name)
 }
 
-/// The text at this name: `None` where there is no such member, or none that is a text.
+/// The text at this name: `None` if there is no such member, or none that is a text.
 #[tactic(auto, unfolding(crate::specs::Fields::text_at))]
 pub fn text<'a>(value: &'a Value, name: &str) -> Option<&'a str>
     ensures { option_map (λ t. t.now) result ≡ text_at name.now (view value.now) }
@@ -21,7 +21,7 @@ pub fn text<'a>(value: &'a Value, name: &str) -> Option<&'a str>
     member.as_str()
 }
 
-/// True or false at this name: `None` where there is no such member, or none that is either.
+/// True or false at this name: `None` if there is no such member, or none that is either.
 #[tactic(auto, unfolding(crate::specs::Fields::truth_at))]
 pub fn truth(value: &Value, name: &str) -> Option<bool>
     ensures { result ≡ truth_at name.now (view value.now) }
@@ -30,7 +30,7 @@ pub fn truth(value: &Value, name: &str) -> Option<bool>
     member.as_bool()
 }
 
-/// The whole number at this name: `None` where there is no such member, or none that is written as
+/// The whole number at this name: `None` if there is no such member, or none that is written as
 /// a whole number from `low` to `high`, both included.
 #[tactic(auto, unfolding(crate::specs::Fields::whole_at))]
 pub fn whole(value: &Value, name: &str, low: u64, high: u64) -> Option<u64>
@@ -47,7 +47,7 @@ pub fn whole(value: &Value, name: &str, low: u64, high: u64) -> Option<u64>
     }
 }
 
-/// The values of the list at this name: `None` where there is no such member, or none that is a
+/// The values of the list at this name: `None` if there is no such member, or none that is a
 /// list.
 #[tactic(auto, unfolding(crate::specs::Fields::list_at))]
 pub fn list<'a>(value: &'a Value, name: &str) -> Option<&'a [Value]>

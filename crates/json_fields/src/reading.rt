@@ -5,9 +5,9 @@ ghost use Rattle.json_fields.specs.Fields.{document_in};
 use serde_json::Value;
 use std::alloc::{AllocError, Global};
 
-/// The value that a JSON text says: `None` where the bytes are not UTF-8 or no JSON.
+/// The value that a JSON text says: `None` if the bytes are not UTF-8 or no JSON.
 ///
-/// [`AllocError`] where memory ran out.
+/// [`AllocError`] if memory ran out.
 pub fn document(alloc: Global, bytes: &[u8]) -> Result<Option<Value>, AllocError>
     ensures { IfOk result (λ found. option_map (λ v. view v) found ≡ document_in bytes.now) }
 {

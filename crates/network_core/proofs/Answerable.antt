@@ -16,19 +16,19 @@ use Rattle.router_step.specs.Packet.{destination_of, source_of}
 use Rattle.forwarding.specs.Frame.{HasFrame}
 use Rattle.forwarding.specs.Turn.{Packet}
 use Rattle.forwarding.specs.Turned.{header_behind, no_rules}
-use Rattle.forwarding.specs.Standing.{arrived_with}
+use Rattle.forwarding.specs.OnPath.{arrived_with}
 use Rattle.forwarding.proofs.Received.{received}
 use Rattle.forwarding.proofs.Replies.{back_in_time, back_expired}
 use Rattle.network_core.specs.declared.fault.EventFault.{EventFault}
 use Rattle.network_core.specs.declared.fault.EventFault.TheVariants as faults
 use Rattle.network_core.specs.declared.reply.Reply.{Reply}
 use Rattle.network_core.specs.declared.reply.Reply.TheVariants as replies
-use Rattle.network_core.specs.Value.{Way, asked_at, SentValue, PacketValue, NetValue}
+use Rattle.network_core.specs.Value.{Way, asked_at, Shipment, PacketValue, NetValue}
 use Rattle.network_core.specs.Event.{BackOf}
-use Rattle.network_core.specs.Step.{packet_at, header_back, way_back, way_by, sent_with, sent_by, Sends}
+use Rattle.network_core.specs.Step.{packet_at, header_back, way_back, way_by, shipment_of, shipment_by, Sends}
 use Rattle.network_core.specs.Headline.{IsAnswerable}
 
-abbrev okay : SentValue → Result SentValue EventFault
+abbrev okay : Shipment → Result Shipment EventFault
 okay sent = Ok sent
 
 abbrev header_ok : HeaderValue → Result HeaderValue EventFault
@@ -37,7 +37,7 @@ header_ok h = Ok h
 abbrev way_ok : Way → Result Way EventFault
 way_ok w = Ok w
 
-module _ (net : NetValue) (p moment : ℕ) (sent : SentValue) (one : PacketValue)
+module _ (net : NetValue) (p moment : ℕ) (sent : Shipment) (one : PacketValue)
     (there : slice_get net.packets p ≡ Some one) (holds : one.sent ≡ sent)
     (arrived : one.packet
     ≡ arrived_with sent.way.source sent.way.destination sent.payload sent.way.pieces)
@@ -56,7 +56,7 @@ module _ (net : NetValue) (p moment : ℕ) (sent : SentValue) (one : PacketValue
     rules = no_rules;
   }
 
-  abbrev back : SentValue
+  abbrev back : Shipment
   back = record {
     way = way sent.way.destination sent.way.source (turned_pieces sent.way.pieces);
     payload = payload;
@@ -73,7 +73,7 @@ module _ (net : NetValue) (p moment : ℕ) (sent : SentValue) (one : PacketValue
       let read = received sent.way.source sent.way.destination moment sent.payload sent.way.pieces path frame in
       let source = ap (λ (packet : Packet). destination_of packet.bytes) arrived ∙ read.1 in
       let destination = ap (λ (packet : Packet). source_of packet.bytes) arrived ∙ read.0 in
-      let pieces = ap (λ (s : SentValue). turned_pieces s.way.pieces) holds in
+      let pieces = ap (λ (s : Shipment). turned_pieces s.way.pieces) holds in
       ap (λ s. way s (source_of one.packet.bytes) (turned_pieces one.sent.way.pieces)) source
       ∙ ap (λ d. way sent.way.destination d (turned_pieces one.sent.way.pieces)) destination
       ∙ ap (λ ps. way sent.way.destination sent.way.source ps) pieces
@@ -81,25 +81,25 @@ module _ (net : NetValue) (p moment : ℕ) (sent : SentValue) (one : PacketValue
   checked : check (nat_le (length payload) 1024) faults.PayloadTooLong ≡ Ok tt
   checked = ap (λ b. check b faults.PayloadTooLong) (le-leb (length payload) 1024 few)
 
-  sent_is : sent_with back.way payload ≡ Ok back
+  sent_is : shipment_of back.way payload ≡ Ok back
   sent_is = bind_from (check (nat_le (length payload) 1024) faults.PayloadTooLong) _ tt (Ok back) checked refl
 
   routed : way_by net (BackOf p) ≡ Ok back.way
   routed = bind_from (packet_at net p) _ one (Ok back.way) (ap (λ o. ok_or o faults.NoPacket) there)
       (bind_from (header_back one.packet one.packet.place) _ header (Ok back.way) header_is (ap way_ok way_is))
 
-  replied_is : sent_by net (BackOf p) payload ≡ Ok back
+  replied_is : shipment_by net (BackOf p) payload ≡ Ok back
   replied_is = bind_from (way_by net (BackOf p)) _ back.way (Ok back) routed sent_is
 
   -- past the path's expiry the event is refused, and changes nothing
   refused_late : (expiry : ℕ) → IsExpiry sent.way.pieces expiry → expiry < 2 * net.moment
-      → (reply : Reply) (new : NetValue) (answer : Result SentValue EventFault) → answer ≡ Ok back
+      → (reply : Reply) (new : NetValue) (answer : Result Shipment EventFault) → answer ≡ Ok back
       → Sends answer net reply new → (reply ≡ replies.Refused (faults.Path Expired)) × (new ≡ net)
   refused_late expiry least past reply new (Ok other) is sends =
       let same = ok_is other back is in
       let late = back_expired sent.way.pieces sent.way.source sent.way.destination moment net.moment
       expiry header no_rules path least past in
-      elim (subst (λ (s : SentValue). Sends (Ok s) net reply new) same sends) [
+      elim (subst (λ (s : Shipment). Sends (Ok s) net reply new) same sends) [
         | inl done ↦ absurd (refused_is_not_accepted (asked_at net.moment back.way) Expired ((late Expired).1 refl) done.0)
         | inr none ↦ (
           none.1.1.0 ∙ ap (λ f. replies.Refused (faults.Path f)) ((late none.0).0 none.1.0),
@@ -118,5 +118,5 @@ module _ (net : NetValue) (p moment : ℕ) (sent : SentValue) (one : PacketValue
     in_time = λ at expiry least low. back_in_time sent.way.pieces sent.way.source
         sent.way.destination moment at expiry path least low;
     late = λ expiry least past reply new step. refused_late expiry least past reply new
-        (sent_by net (BackOf p) payload) replied_is step;
+        (shipment_by net (BackOf p) payload) replied_is step;
   }

@@ -19,9 +19,9 @@ use Rattle.network_core.specs.declared.fault.EventFault.TheVariants as faults
 use Rattle.network_core.specs.declared.reply.Reply.{Reply}
 use Rattle.network_core.specs.declared.reply.Reply.TheVariants as replies
 use Rattle.network_core.specs.Event.{ByAnswer, EventValue, Tick, Originate, Extend, Terminate, Sweep, Ask, Send, Turn, Lose, Alter, CutLink, MendLink, RotateKey}
-use Rattle.network_core.specs.Value.{Way, KeptAnswer, way_on, SentValue, NetValue, new_net}
-use Rattle.network_core.specs.Step.{with_network, options_asked, sent_by, way_by, sent_with, IsAnswerTo, GivesAnswer, Asks, Step}
-use Rattle.network_core.specs.History.{Moment, IsHistory, net_at, Occurs, IssuedIn, IssuedBefore, IsAskedBefore}
+use Rattle.network_core.specs.Value.{Way, KeptAnswer, way_on, Shipment, NetValue, new_net}
+use Rattle.network_core.specs.Step.{with_network, options_asked, shipment_by, way_by, shipment_of, IsAnswerTo, GivesAnswer, Asks, Step}
+use Rattle.network_core.specs.History.{EventRecord, IsHistory, net_at, Occurs, IssuedIn, IssuedBefore, IsAskedBefore}
 use Rattle.network_core.specs.Delivery.{AllFramed}
 use Rattle.network_core.specs.Headline.{HaveBeginning}
 use Rattle.network_core.proofs.Effects.{done_below, both_done}
@@ -123,7 +123,7 @@ event_of one net src dst options limit is =
 
 -- ---- in a history that begins with nothing made
 
-module _ (start : NetValue) (history : List Moment) (is : IsHistory start history)
+module _ (start : NetValue) (history : List EventRecord) (is : IsHistory start history)
     (network : IsNetwork start.network) (no_beacons : start.beacons ≡ [])
     (no_segments : start.segments ≡ []) (no_answers : start.answers ≡ []) where
   abbrev at : ℕ → NetValue
@@ -148,7 +148,7 @@ module _ (start : NetValue) (history : List Moment) (is : IsHistory start histor
         issued = a.issued;
       }
 
-  asked_there : (k : ℕ) (m : Moment) → slice_get history k ≡ Some m
+  asked_there : (k : ℕ) (m : EventRecord) → slice_get history k ≡ Some m
       → (a : IsAsk (at k) m.event m.reply (at (k + 1)))
       → IsAskedBefore start history (k + 1) (length (at k).answers) a.gives.one
   asked_there k m there a =
@@ -173,7 +173,7 @@ module _ (start : NetValue) (history : List Moment) (is : IsHistory start histor
   no_more k same all number one there =
       asked_still k number one (all number one (ap (λ xs. slice_get xs number) (sym same) ∙ there))
 
-  one_more : (k : ℕ) (m : Moment) → slice_get history k ≡ Some m → AllAsked k
+  one_more : (k : ℕ) (m : EventRecord) → slice_get history k ≡ Some m → AllAsked k
       → IsAsk (at k) m.event m.reply (at (k + 1)) → AllAsked (k + 1)
   one_more k m found all a number one there =
       let longer = ap (λ (net : NetValue). net.answers) a.gives.kept in
@@ -183,7 +183,7 @@ module _ (start : NetValue) (history : List Moment) (is : IsHistory start histor
             (subst (λ n. IsAskedBefore start history (k + 1) n a.gives.one) new.0 (asked_there k m found a))
       ]
 
-  asked_next : (k : ℕ) (m : Moment) → slice_get history k ≡ Some m → AllAsked k → AllAsked (k + 1)
+  asked_next : (k : ℕ) (m : EventRecord) → slice_get history k ≡ Some m → AllAsked k → AllAsked (k + 1)
   asked_next k m there all =
       elim (asks (at k) (at (k + 1)) m.event m.reply (becomes_at start history k m is there)) [
         | inl same ↦ no_more k same all
@@ -212,7 +212,7 @@ either a b = elim (cases_Bool (ltb a b)) [
 
 -- ---- the first of the events that issued the pieces of a path
 
-module _ (start : NetValue) (history : List Moment) (sent : ℕ) where
+module _ (start : NetValue) (history : List EventRecord) (sent : ℕ) where
   abbrev Issued : ℕ → PieceValue → Type 0
   Issued begin piece = (first last : ℕ) × ((begin ≤ first) × ((last < sent)
       × IssuedIn start history first last piece.segment))
@@ -263,22 +263,22 @@ module _ (start : NetValue) (history : List Moment) (sent : ℕ) where
 
 -- ---- what is sent by an answer
 
-way_sent : (way : Way) (payload : List ℕ) (sent : SentValue) → sent_with way payload ≡ Ok sent
+way_sent : (way : Way) (payload : List ℕ) (sent : Shipment) → shipment_of way payload ≡ Ok sent
     → way ≡ sent.way
 way_sent way payload sent is =
     let passed = both_done (check (nat_le (length payload) 1024) faults.PayloadTooLong) _ sent is in
-    ap (λ (s : SentValue). s.way) (ok_is (record { way = way; payload = payload }) sent passed.1.1)
+    ap (λ (s : Shipment). s.way) (ok_is (record { way = way; payload = payload }) sent passed.1.1)
 
 -- the path by which it was sent, and its answer
-record IsByAnswer (net : NetValue) (ask path : ℕ) (sent : SentValue) : Type 0 where
+record IsByAnswer (net : NetValue) (ask path : ℕ) (sent : Shipment) : Type 0 where
   one : KeptAnswer
   there : slice_get net.answers ask ≡ Some one
   chosen : PathValue
   found : slice_get one.answer.paths path ≡ Some chosen
   same : chosen.pieces ≡ sent.way.pieces
 
-by_answer : (net : NetValue) (ask path : ℕ) (payload : List ℕ) (sent : SentValue)
-    → sent_by net (ByAnswer ask path) payload ≡ Ok sent → IsByAnswer net ask path sent
+by_answer : (net : NetValue) (ask path : ℕ) (payload : List ℕ) (sent : Shipment)
+    → shipment_by net (ByAnswer ask path) payload ≡ Ok sent → IsByAnswer net ask path sent
 by_answer net ask path payload sent is =
     let way = both_done (way_by net (ByAnswer ask path)) _ sent is in
     let one = both_done (ok_or (slice_get net.answers ask) faults.NoAnswer) _ way.0 way.1.0 in
@@ -292,11 +292,11 @@ by_answer net ask path payload sent is =
       same = ap (λ (w : Way). w.pieces) on ∙ ap (λ (w : Way). w.pieces) (way_sent way.0 payload sent way.1.1);
     }
 
-pub of_answer : (network : Network) (history : List Moment) (number p ask path : ℕ)
+pub of_answer : (network : Network) (history : List EventRecord) (number p ask path : ℕ)
     (payload : List ℕ) → IsNetwork network → IsHistory (new_net network) history → AllFramed history
     → Occurs history number (Send (ByAnswer ask path) payload) (replies.Sent p)
-    → (sent : SentValue)
-    × ((sent_by (net_at (new_net network) history number) (ByAnswer ask path) payload ≡ Ok sent)
+    → (sent : Shipment)
+    × ((shipment_by (net_at (new_net network) history number) (ByAnswer ask path) payload ≡ Ok sent)
     × HaveBeginning (new_net network) history number sent.way.pieces)
 of_answer network history number p ask path payload known is framed answers =
     let start = new_net network in

@@ -10,8 +10,8 @@ use Rattle.policy_expr.specs.declared.hop.WalkHop.{WalkHop}
 use Rattle.router_step.specs.declared.arrival.Arrival.{Arrival}
 use Rattle.router_step.specs.declared.arrival.Arrival.TheVariants.{FromHost, Inside, Link}
 use Rattle.forwarding.specs.Turn.{Packet, turn_of}
-use Rattle.forwarding.specs.Open.{LetsThrough}
-use Rattle.forwarding.specs.Standing.{Standing, arrived_with}
+use Rattle.forwarding.specs.Forwardable.{MayForward}
+use Rattle.forwarding.specs.OnPath.{OnPath, arrived_with}
 use Rattle.forwarding.specs.Journey.{to_come, turns_over, turns_left}
 use Rattle.forwarding.proofs.Lasting.{stands_linked, stands_keyed}
 use Rattle.forwarding.proofs.Leading.{one_turn}
@@ -21,9 +21,9 @@ use Rattle.network_core.specs.declared.fault.EventFault.TheVariants as faults
 use Rattle.network_core.specs.declared.reply.Reply.{Reply}
 use Rattle.network_core.specs.declared.reply.Reply.TheVariants as replies
 use Rattle.network_core.specs.Event.{EventValue, Turn, Lose, Alter}
-use Rattle.network_core.specs.Value.{SentValue, PacketValue, NetValue}
+use Rattle.network_core.specs.Value.{Shipment, PacketValue, NetValue}
 use Rattle.network_core.specs.Step.{Made, is_in_flight, flying_at, with_packet, turns, loses, alters, Leads, Step}
-use Rattle.network_core.specs.History.{Moment, IsHistory, net_after}
+use Rattle.network_core.specs.History.{EventRecord, IsHistory, net_after}
 use Rattle.network_core.specs.Delivery.{is_done, LetsGoOn, AllLetGoOn, is_turn_of, turns_of}
 use Rattle.network_core.proofs.Effects.{renews}
 use Rattle.network_core.proofs.Keeping.{Keeps, kept}
@@ -43,22 +43,22 @@ left_some n Inside hops some = omega arith
 left_some n (Link interface) hops some = over_some n hops some
 
 -- the packet of what was sent stands so many turns from its end
-abbrev pub Stands : NetValue → SentValue → ℕ → Packet → Type 0
-Stands net sent left packet = Standing net.network sent.way.source sent.way.destination sent.payload
+abbrev pub Stands : NetValue → Shipment → ℕ → Packet → Type 0
+Stands net sent left packet = OnPath net.network sent.way.source sent.way.destination sent.payload
     sent.way.pieces left packet
 
-pub standing_some : (net : NetValue) (sent : SentValue) (left : ℕ) (packet : Packet)
+pub standing_some : (net : NetValue) (sent : Shipment) (left : ℕ) (packet : Packet)
     → Stands net sent left packet → 0 < left
 standing_some net sent left packet s =
     subst (λ k. 0 < k) (sym s.count)
     (left_some net.network s.arrival (to_come s.came s.spot) (some_to_come s.came s.spot s.entry s.there))
 
 -- and stands so after any event that leaves it as it is
-stands_on : (old new : NetValue) (event : EventValue) (reply : Reply) (sent : SentValue) (left : ℕ)
+stands_on : (old new : NetValue) (event : EventValue) (reply : Reply) (sent : Shipment) (left : ℕ)
     (packet : Packet) → Step old event reply new → Stands old sent left packet
     → Stands new sent left packet
 stands_on old new event reply sent left packet is stands = elim (renews old new event reply is) [
-  | inl same ↦ subst (λ n. Standing n sent.way.source sent.way.destination sent.payload
+  | inl same ↦ subst (λ n. OnPath n sent.way.source sent.way.destination sent.payload
       sent.way.pieces left packet) (sym same) stands
   | inr some ↦ elim some [
     | inl s ↦ stands_linked old.network new.network s.up s.ia s.number sent.way.source
@@ -71,24 +71,24 @@ stands_on old new event reply sent left packet is stands = elim (renews old new 
 -- ---- the packet after so many of its turns
 
 -- it is on its way, or it was delivered
-pub record Flies (net : NetValue) (sent : SentValue) (total done : ℕ) (packet : Packet) : Type 0 where
+pub record Flies (net : NetValue) (sent : Shipment) (total done : ℕ) (packet : Packet) : Type 0 where
   pub left : ℕ
   pub stands : Stands net sent left packet
   pub count : left + done ≡ total
 
-pub record Landed (sent : SentValue) (total done : ℕ) (packet : Packet) : Type 0 where
+pub record Landed (sent : Shipment) (total done : ℕ) (packet : Packet) : Type 0 where
   pub there : packet
       ≡ arrived_with sent.way.source sent.way.destination sent.payload sent.way.pieces
   pub count : total ≤ done
 
-pub record Carried (net : NetValue) (p : ℕ) (sent : SentValue) (total done : ℕ) : Type 0 where
+pub record Carried (net : NetValue) (p : ℕ) (sent : Shipment) (total done : ℕ) : Type 0 where
   pub packet : PacketValue
   pub there : slice_get net.packets p ≡ Some packet
   pub holds : packet.sent ≡ sent
   pub state : Flies net sent total done packet.packet ⊎ Landed sent total done packet.packet
 
 -- an event that does not name it
-carried_kept : (p : ℕ) (sent : SentValue) (total done : ℕ) (old new : NetValue) (event : EventValue)
+carried_kept : (p : ℕ) (sent : Shipment) (total done : ℕ) (old new : NetValue) (event : EventValue)
     (reply : Reply) → Step old event reply new → Keeps p old new
     → Carried old p sent total done → Carried new p sent total done
 carried_kept p sent total done old new event reply is keeps c = record {
@@ -121,11 +121,11 @@ flying net p packet r there at =
     ap (λ o. ok_or o faults.NoPacket >>= λ one. is_in_flight one.packet.place >>= λ _. Ok one) there
     ∙ ap (λ s. s >>= λ _. Ok packet) at
 
-in_flight_there : (net : NetValue) (sent : SentValue) (left : ℕ) (packet : Packet)
+in_flight_there : (net : NetValue) (sent : Shipment) (left : ℕ) (packet : Packet)
     → Stands net sent left packet → is_in_flight packet.place ≡ Ok tt
 in_flight_there net sent left packet s = ap (λ (q : Packet). is_in_flight q.place) s.is
 
-ended_there : (sent : SentValue) (total done : ℕ) (packet : Packet) → Landed sent total done packet
+ended_there : (sent : Shipment) (total done : ℕ) (packet : Packet) → Landed sent total done packet
     → is_in_flight packet.place ≡ Err faults.NotInFlight
 ended_there sent total done packet l = ap (λ (q : Packet). is_in_flight q.place) l.there
 
@@ -146,10 +146,10 @@ leads_err : (made : Made) (old new : NetValue) (reply : Reply) (fault : EventFau
 leads_err (Ok x) old new reply fault is leads = absurd cc
 leads_err (Err other) old new reply fault is leads = leads.1
 
-turn_carried : (p : ℕ) (sent : SentValue) (total done : ℕ) (old new : NetValue) (reply : Reply)
+turn_carried : (p : ℕ) (sent : Shipment) (total done : ℕ) (old new : NetValue) (reply : Reply)
     → Leads (turns old p) old reply new
     → (is_done reply ≡ true
-    → LetsThrough old.network old.moment sent.way.source sent.way.destination sent.way.pieces)
+    → MayForward old.network old.moment sent.way.source sent.way.destination sent.way.pieces)
     → Carried old p sent total done → Carried new p sent total (done + 1)
 turn_carried p sent total done old new reply is through c = elim c.state [
   | inl f ↦ (
@@ -170,7 +170,7 @@ turn_carried p sent total done old new reply is through c = elim c.state [
             sent.way.pieces f.left c.packet.packet lets f.stands) [
               | inl on ↦ (let one = on.one in inl (record {
                 left = on.less;
-                stands = subst (λ n. Standing n sent.way.source sent.way.destination sent.payload
+                stands = subst (λ n. OnPath n sent.way.source sent.way.destination sent.payload
                     sent.way.pieces on.less next) (sym same) on.stands;
                 count = omega arith;
               }))
@@ -206,7 +206,7 @@ not_done : (made : Made) (old new : NetValue) (reply : Reply) → Leads made old
 not_done (Ok made) old new reply is done never = absurd (never (ap is_done is.0 ∙ done))
 not_done (Err fault) old new reply is done never = is.1
 
-same_count : (p : ℕ) (sent : SentValue) (total done : ℕ) (net : NetValue)
+same_count : (p : ℕ) (sent : Shipment) (total done : ℕ) (net : NetValue)
     → Carried net p sent total done → Carried net p sent total (done + 0)
 same_count p sent total done net c =
     let same : done ≡ done + 0 = omega arith in subst (λ k. Carried net p sent total k) same c
@@ -216,7 +216,7 @@ one_if b = if b then 1 else 0
 
 -- ---- any event
 
-pub carried_on : (p : ℕ) (sent : SentValue) (total done : ℕ) (old new : NetValue) (event : EventValue)
+pub carried_on : (p : ℕ) (sent : Shipment) (total done : ℕ) (old new : NetValue) (event : EventValue)
     (reply : Reply) → Step old event reply new → LetsGoOn p sent old event reply
     → Carried old p sent total done
     → Carried new p sent total (done + one_if (is_turn_of p event))
@@ -251,7 +251,7 @@ carried_on p sent total done old new event reply is lets c =
 
 -- ---- any events
 
-pub carried_through : (p : ℕ) (sent : SentValue) (total done : ℕ) (net : NetValue) (later : List Moment)
+pub carried_through : (p : ℕ) (sent : Shipment) (total done : ℕ) (net : NetValue) (later : List EventRecord)
     → IsHistory net later → AllLetGoOn p sent net later → Carried net p sent total done
     → Carried (net_after net later) p sent total (done + turns_of p later)
 carried_through p sent total done net [] is lets c = same_count p sent total done net c

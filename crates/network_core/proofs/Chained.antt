@@ -16,7 +16,7 @@ use Rattle.beaconing.specs.Calls.{originated, extended}
 use Rattle.beaconing.specs.Issued.{IsMade, IsUnderWay, IsIssued}
 use Rattle.beaconing.proofs.Made.{extended_grows, terminated_grows, begun_under_way, passed_under_way}
 use Rattle.beaconing.proofs.Outlasting.{segment_linked, segment_keyed}
-use Rattle.forwarding.specs.Sound.{Holds, InUse, IsSound, PassesBy, LeavesAlone}
+use Rattle.forwarding.specs.Sound.{KeysAndLinksHold, KeyIsInUse, IsIssuedAndAccepted, AvoidsAs, AvoidsLink}
 use Rattle.forwarding.proofs.Growing.{begun_holds, begun_in_use, passed_holds, passed_in_use, ended_holds, ended_in_use}
 use Rattle.forwarding.proofs.Steady.{mended_holds, cut_holds, rotated_holds, renewed_holds, in_use_linked, in_use_keyed}
 use Rattle.network_core.specs.declared.fault.EventFault.{EventFault}
@@ -27,7 +27,7 @@ use Rattle.network_core.specs.declared.reply.Reply.TheVariants.{Begun, Registere
 use Rattle.network_core.specs.Event.{EventValue, Originate, Extend, Terminate, CutLink, RotateKey}
 use Rattle.network_core.specs.Value.{NetValue}
 use Rattle.network_core.specs.Step.{Made, with_beacon, begun, passed_on, beacon_at, Leads, Step}
-use Rattle.network_core.specs.History.{Moment, IsHistory, net_at, Occurs, PassOn, key_then, IssuedIn}
+use Rattle.network_core.specs.History.{EventRecord, IsHistory, net_at, Occurs, PassOn, key_then, IssuedIn}
 use Rattle.network_core.specs.Headline.{IsDone}
 use Rattle.network_core.proofs.Effects.{stores, done_below, both_done}
 use Rattle.network_core.proofs.Numbers.{StepAt, becomes_at, network_at, under_on}
@@ -168,12 +168,12 @@ shorter b c e rest ys is front =
 
 -- ---- along the chain
 
-module _ (start : NetValue) (history : List Moment) (is : IsHistory start history)
+module _ (start : NetValue) (history : List EventRecord) (is : IsHistory start history)
     (network : IsNetwork start.network) (piece : PieceValue) (begin : ℕ)
     (once : (i j ia : ℕ) (key other : List ℕ) → begin ≤ i → i < j → IsDone history i (RotateKey ia key)
-    → IsDone history j (RotateKey ia other) → PassesBy piece.segment piece.from piece.to ia)
+    → IsDone history j (RotateKey ia other) → AvoidsAs piece.segment piece.from piece.to ia)
     (uncut : (k ia number : ℕ) → begin ≤ k → IsDone history k (CutLink ia number)
-    → LeavesAlone piece.segment piece.from piece.to ia number) where
+    → AvoidsLink piece.segment piece.from piece.to ia number) where
   abbrev at : ℕ → NetValue
   at k = net_at start history k
 
@@ -184,32 +184,32 @@ module _ (start : NetValue) (history : List Moment) (is : IsHistory start histor
   -- where the piece goes, its keys are held and its links up, and an AS that has not taken another
   -- key since has the key in use
   record Good (k : ℕ) (keys : List (List ℕ)) (chain : Chain) : Type 0 where
-    pub holds : Holds (at k).network keys chain piece.from piece.to
+    pub holds : KeysAndLinksHold (at k).network keys chain piece.from piece.to
     pub fresh : (x : ℕ) → Unrotated history begin k x
-        → InUse (at k).network keys chain piece.from piece.to x
+        → KeyIsInUse (at k).network keys chain piece.from piece.to x
 
   alone_there : (chain : Chain) (ia number : ℕ) → Begins chain
-      → LeavesAlone piece.segment piece.from piece.to ia number
-      → LeavesAlone chain piece.from piece.to ia number
+      → AvoidsLink piece.segment piece.from piece.to ia number
+      → AvoidsLink chain piece.from piece.to ia number
   alone_there chain ia number front alone i entry next low high there then_there =
       alone i entry next low high
       (in_front chain.entries front.0 piece.segment.entries i entry front.1 there)
       (in_front chain.entries front.0 piece.segment.entries (i + 1) next front.1 then_there)
 
-  past_there : (chain : Chain) (ia : ℕ) → Begins chain → PassesBy piece.segment piece.from piece.to ia
-      → PassesBy chain piece.from piece.to ia
+  past_there : (chain : Chain) (ia : ℕ) → Begins chain → AvoidsAs piece.segment piece.from piece.to ia
+      → AvoidsAs chain piece.from piece.to ia
   past_there chain ia front past i entry low high there =
       past i entry low high (in_front chain.entries front.0 piece.segment.entries i entry front.1 there)
 
   -- an event that is done
-  good_on : (k : ℕ) (m : Moment) (keys : List (List ℕ)) (chain : Chain) → begin ≤ k
+  good_on : (k : ℕ) (m : EventRecord) (keys : List (List ℕ)) (chain : Chain) → begin ≤ k
       → slice_get history k ≡ Some m → StepAt start history k m → IsMade (at k).network keys chain
       → Begins chain → Good k keys chain → Good (k + 1) keys chain
   good_on k m keys chain from there step made front good =
       elim (changes (at k) (at (k + 1)) m.event m.reply step) [
         | inl same ↦ record {
-          holds = subst (λ n. Holds n keys chain piece.from piece.to) (sym same) good.holds;
-          fresh = λ x none. subst (λ n. InUse n keys chain piece.from piece.to x) (sym same)
+          holds = subst (λ n. KeysAndLinksHold n keys chain piece.from piece.to) (sym same) good.holds;
+          fresh = λ x none. subst (λ n. KeyIsInUse n keys chain piece.from piece.to x) (sym same)
               (good.fresh x (unrotated_before history begin k x none));
         }
         | inr some ↦ elim some [
@@ -252,8 +252,8 @@ module _ (start : NetValue) (history : List Moment) (is : IsHistory start histor
   good_idle : (k : ℕ) (keys : List (List ℕ)) (chain : Chain) → at (k + 1) ≡ at k → Good k keys chain
       → Good (k + 1) keys chain
   good_idle k keys chain same good = record {
-    holds = subst (λ (net : NetValue). Holds net.network keys chain piece.from piece.to) (sym same) good.holds;
-    fresh = λ x none. subst (λ (net : NetValue). InUse net.network keys chain piece.from piece.to x) (sym same)
+    holds = subst (λ (net : NetValue). KeysAndLinksHold net.network keys chain piece.from piece.to) (sym same) good.holds;
+    fresh = λ x none. subst (λ (net : NetValue). KeyIsInUse net.network keys chain piece.from piece.to x) (sym same)
         (good.fresh x (unrotated_before history begin k x none));
   }
 
@@ -292,18 +292,18 @@ module _ (start : NetValue) (history : List Moment) (is : IsHistory start histor
   -- into the network that the event leaves, under the key of that number
   stand : (k b : ℕ) (c : Chain) (keys ks : List (List ℕ)) → HasMore (at k) (at (k + 1)) b c → keys ≡ ks
       → IsUnderWay (at k).network keys c
-      → (Begins c → Holds (at k).network keys c piece.from piece.to)
-      → (Begins c → (x : ℕ) → Unrotated history begin k x → InUse (at k).network keys c piece.from piece.to x)
+      → (Begins c → KeysAndLinksHold (at k).network keys c piece.from piece.to)
+      → (Begins c → (x : ℕ) → Unrotated history begin k x → KeyIsInUse (at k).network keys c piece.from piece.to x)
       → Stands b ks (k + 1)
   stand k b c keys ks more same under holds fresh = record {
     chain = c;
     there = more.there;
     under = subst (λ n. IsUnderWay n ks c) (sym more.network) (subst (λ x. IsUnderWay (at k).network x c) same under);
     good = λ front. record {
-      holds = subst (λ n. Holds n ks c piece.from piece.to) (sym more.network)
-          (subst (λ x. Holds (at k).network x c piece.from piece.to) same (holds front));
-      fresh = λ x none. subst (λ n. InUse n ks c piece.from piece.to x) (sym more.network)
-          (subst (λ y. InUse (at k).network y c piece.from piece.to x) same
+      holds = subst (λ n. KeysAndLinksHold n ks c piece.from piece.to) (sym more.network)
+          (subst (λ x. KeysAndLinksHold (at k).network x c piece.from piece.to) same (holds front));
+      fresh = λ x none. subst (λ n. KeyIsInUse n ks c piece.from piece.to x) (sym more.network)
+          (subst (λ y. KeyIsInUse (at k).network y c piece.from piece.to x) same
           (fresh front x (unrotated_before history begin k x none)));
     };
   }
@@ -312,7 +312,7 @@ module _ (start : NetValue) (history : List Moment) (is : IsHistory start histor
       → Occurs history first (Originate ia egress beta0) (Begun b)
       → MadeAt b (key_then start history first ∷ [])
   first_made first ia egress beta0 b from answers =
-      let m : Moment = record { event = Originate ia egress beta0; reply = Begun b; net = answers.net } in
+      let m : EventRecord = record { event = Originate ia egress beta0; reply = Begun b; net = answers.net } in
       let made = originate_made (at first) (at (first + 1)) ia egress beta0 b (becomes_at start history first m is answers.there) in
       let key = key_is start history first m ia answers.there refl in
       let now = network_at start history first is network in
@@ -349,7 +349,7 @@ module _ (start : NetValue) (history : List Moment) (is : IsHistory start histor
       → Occurs history k (Extend b ia egress) (Begun next)
       → MadeAt next (keys ++ key_then start history k ∷ [])
   next_made k b ia egress next keys before answers =
-      let m : Moment = record { event = Extend b ia egress; reply = Begun next; net = answers.net } in
+      let m : EventRecord = record { event = Extend b ia egress; reply = Begun next; net = answers.net } in
       let passed = extend_made (at k) (at (k + 1)) b ia egress next (becomes_at start history k m is answers.there) in
       let after = after_made before.made k b passed.from before.numbered passed.was in
       let low = before.from in
@@ -393,7 +393,7 @@ module _ (start : NetValue) (history : List Moment) (is : IsHistory start histor
   whole : Begins piece.segment
   whole = ([], append-nil piece.segment.entries)
 
-  issued_on : (k : ℕ) (m : Moment) (keys : List (List ℕ)) → StepAt start history k m
+  issued_on : (k : ℕ) (m : EventRecord) (keys : List (List ℕ)) → StepAt start history k m
       → IsIssued (at k).network keys piece.segment → IsIssued (at (k + 1)).network keys piece.segment
   issued_on k m keys step issued = elim (changes (at k) (at (k + 1)) m.event m.reply step) [
     | inl same ↦ subst (λ n. IsIssued n keys piece.segment) (sym same) issued
@@ -423,7 +423,7 @@ module _ (start : NetValue) (history : List Moment) (is : IsHistory start histor
   ended_issues : (first last : ℕ) → begin ≤ first → (issued : IssuedIn start history first last piece.segment)
       → (begin < last) × Issues (map (key_then start history) (first ∷ issued.between ++ last ∷ [])) last
   ended_issues first last from issued =
-      let m : Moment = record { event = Terminate issued.beacon issued.at; reply = Registered issued.is_new; net = issued.ended.net } in
+      let m : EventRecord = record { event = Terminate issued.beacon issued.at; reply = Registered issued.is_new; net = issued.ended.net } in
       let n = (at last).network in
       let beacon = last_made issued.between issued.begun issued.beacon (key_then start history first ∷ [])
       (first_made first issued.ia issued.egress issued.beta0 issued.begun from issued.start_of) issued.passed_on in
@@ -444,9 +444,9 @@ module _ (start : NetValue) (history : List Moment) (is : IsHistory start histor
         record {
           issued = issued.made;
           good = record {
-            holds = subst (λ ks. Holds n ks piece.segment piece.from piece.to) all
+            holds = subst (λ ks. KeysAndLinksHold n ks piece.segment piece.from piece.to) all
                 (ended_holds n keys issued.chain issued.at piece.segment piece.from piece.to now under (good front).holds issued.gives);
-            fresh = λ x none. subst (λ ks. InUse n ks piece.segment piece.from piece.to x) all
+            fresh = λ x none. subst (λ ks. KeyIsInUse n ks piece.segment piece.from piece.to x) all
                 (ended_in_use n keys issued.chain issued.at piece.segment piece.from piece.to x under ((good front).fresh x none) issued.gives);
           };
         },
@@ -455,7 +455,7 @@ module _ (start : NetValue) (history : List Moment) (is : IsHistory start histor
   -- the piece is sound from the chain's end on
   pub sound_from : (first last k : ℕ) → HasRange piece → begin ≤ first → last ≤ k
       → IssuedIn start history first last piece.segment
-      → (begin < last) × ((keys : List (List ℕ)) × IsSound (at k).network keys piece)
+      → (begin < last) × ((keys : List (List ℕ)) × IsIssuedAndAccepted (at k).network keys piece)
   sound_from first last k range from order issued =
       let e = ended_issues first last from issued in
       let after = e.0 in

@@ -9,15 +9,15 @@ use Rattle.path_verifier.specs.Walk.{walk_of}
 use Rattle.path_verifier.specs.Accepted.{IsAccepted}
 use Rattle.forwarding.specs.Frame.{framed, HasFrame}
 use Rattle.forwarding.specs.Turn.{Packet, put_at}
-use Rattle.forwarding.specs.Standing.{Standing}
+use Rattle.forwarding.specs.OnPath.{OnPath}
 use Rattle.forwarding.specs.Journey.{first_out, to_come, turns_for}
 use Rattle.forwarding.proofs.Sending.{starts}
 use Rattle.network_core.specs.declared.fault.EventFault.TheVariants as faults
 use Rattle.network_core.specs.declared.reply.Reply.{Reply}
 use Rattle.network_core.specs.declared.reply.Reply.TheVariants as replies
-use Rattle.network_core.specs.Value.{asked_at, SentValue, PacketValue, NetValue}
+use Rattle.network_core.specs.Value.{asked_at, Shipment, PacketValue, NetValue}
 use Rattle.network_core.specs.Step.{Made, packet_of, departs, Leads, Sends}
-use Rattle.network_core.specs.History.{Moment, IsHistory, net_after}
+use Rattle.network_core.specs.History.{EventRecord, IsHistory, net_after}
 use Rattle.network_core.specs.Delivery.{AllLetGoOn, turns_of, IsForwarded, AreSound, AllLeaveUndisturbed, HasSentFrame}
 use Rattle.network_core.proofs.Carrying.{Carried, standing_some, carried_through}
 use Rattle.network_core.proofs.Readied.{last_there}
@@ -36,7 +36,7 @@ made_of (Ok done) old new p is =
     ap (λ (r : Reply). Ok (r, done.1)) (sym is.0) ∙ ap (λ (net : NetValue). Ok (replies.Sent p, net)) (sym is.1)
 made_of (Err fault) old new p is = absurd (let e = is.0 in cc)
 
-departed : (p : ℕ) (old new : NetValue) (sent : SentValue) → IsAccepted (asked_at old.moment sent.way)
+departed : (p : ℕ) (old new : NetValue) (sent : Shipment) → IsAccepted (asked_at old.moment sent.way)
     → HasFrame sent.way.source sent.way.destination sent.way.pieces
     → departs old sent ≡ Ok (replies.Sent p, new)
     → Carried new p sent (turns_for old.network (walk_of sent.way.pieces)) 0
@@ -59,7 +59,7 @@ departed p old new sent accepted frame is =
       holds = refl;
       state = inl (record {
         left = turns_for old.network (walk_of sent.way.pieces);
-        stands = subst (λ header. Standing old.network sent.way.source sent.way.destination sent.payload
+        stands = subst (λ header. OnPath old.network sent.way.source sent.way.destination sent.payload
             sent.way.pieces (turns_for old.network (walk_of sent.way.pieces))
             (put_at (framed sent.way.source sent.way.destination header sent.payload) sent.way.source router))
             (sym accepted.header) stands;
@@ -68,7 +68,7 @@ departed p old new sent accepted frame is =
     })
 
 -- what an event of this answer sent was accepted, and departed
-pub accepted_then : (p : ℕ) (old new : NetValue) (sent : SentValue)
+pub accepted_then : (p : ℕ) (old new : NetValue) (sent : Shipment)
     → Sends (Ok sent) old (replies.Sent p) new
     → IsAccepted (asked_at old.moment sent.way) × (departs old sent ≡ Ok (replies.Sent p, new))
 accepted_then p old new sent is = elim is [
@@ -76,7 +76,7 @@ accepted_then p old new sent is = elim is [
   | inr none ↦ absurd (let e = none.1.1.0 in cc)
 ]
 
-pub sent_then : (p : ℕ) (old new : NetValue) (sent : SentValue)
+pub sent_then : (p : ℕ) (old new : NetValue) (sent : Shipment)
     → Sends (Ok sent) old (replies.Sent p) new
     → HasFrame sent.way.source sent.way.destination sent.way.pieces
     → Carried new p sent (turns_for old.network (walk_of sent.way.pieces)) 0
@@ -85,7 +85,7 @@ sent_then p old new sent is frame =
     departed p old new sent from.0 frame from.1
 
 -- what departed is the last packet, of this number
-pub departed_last : (p : ℕ) (old new : NetValue) (sent : SentValue)
+pub departed_last : (p : ℕ) (old new : NetValue) (sent : Shipment)
     → departs old sent ≡ Ok (replies.Sent p, new)
     → (one : PacketValue) × ((slice_get new.packets p ≡ Some one) × (one.sent ≡ sent))
 departed_last p old new sent is =
@@ -100,23 +100,23 @@ departed_last p old new sent is =
     (one, (ap (λ ps. slice_get ps p) (sym packets) ∙ ap (slice_get (old.packets ++ one ∷ [])) (sym number) ∙ last_there old.packets one, refl))
 
 -- the numbers of what was sent have a place for their bits
-pub frame_sent : (p : ℕ) (old new : NetValue) (sent : SentValue)
+pub frame_sent : (p : ℕ) (old new : NetValue) (sent : Shipment)
     → Sends (Ok sent) old (replies.Sent p) new → HasSentFrame (replies.Sent p) new
     → HasFrame sent.way.source sent.way.destination sent.way.pieces
 frame_sent p old new sent is framed =
     let last = departed_last p old new sent (accepted_then p old new sent is).1 in
-    subst (λ (s : SentValue). HasFrame s.way.source s.way.destination s.way.pieces) last.1.1
+    subst (λ (s : Shipment). HasFrame s.way.source s.way.destination s.way.pieces) last.1.1
     (framed p last.0 refl last.1.0)
 
 -- ---- after each prefix
 
-pub history_take : (net : NetValue) (later : List Moment) (k : ℕ) → IsHistory net later
+pub history_take : (net : NetValue) (later : List EventRecord) (k : ℕ) → IsHistory net later
     → IsHistory net (take k later)
 history_take net later zero is = tt
 history_take net [] (suc k) is = tt
 history_take net (moment ∷ later) (suc k) is = (is.0, history_take moment.net later k is.1)
 
-let_take : (p : ℕ) (sent : SentValue) (net : NetValue) (later : List Moment) (k : ℕ)
+let_take : (p : ℕ) (sent : Shipment) (net : NetValue) (later : List EventRecord) (k : ℕ)
     → AllLetGoOn p sent net later → AllLetGoOn p sent net (take k later)
 let_take p sent net later zero lets = tt
 let_take p sent net [] (suc k) lets = tt
@@ -124,7 +124,7 @@ let_take p sent net (moment ∷ later) (suc k) lets = (lets.0, let_take p sent m
 
 -- ---- what that says of the packet
 
-forwarded : (net : NetValue) (p total done : ℕ) (sent : SentValue) → Carried net p sent total done
+forwarded : (net : NetValue) (p total done : ℕ) (sent : Shipment) → Carried net p sent total done
     → IsForwarded net p total done sent
 forwarded net p total done sent c = elim c.state [
   | inl f ↦ (
@@ -159,7 +159,7 @@ forwarded net p total done sent c = elim c.state [
 ]
 
 -- after each number of the events that follow it
-pub delivery : (p k : ℕ) (old new : NetValue) (sent : SentValue) (later : List Moment)
+pub delivery : (p k : ℕ) (old new : NetValue) (sent : Shipment) (later : List EventRecord)
     → Sends (Ok sent) old (replies.Sent p) new
     → HasFrame sent.way.source sent.way.destination sent.way.pieces
     → IsHistory new later → AllLetGoOn p sent new later
@@ -175,7 +175,7 @@ delivery p k old new sent later is frame history lets =
     (let_take p sent new later k lets) from))
 
 -- the same where its pieces are sound and the events leave it undisturbed
-pub undisturbed : (p k : ℕ) (old new : NetValue) (sent : SentValue) (later : List Moment)
+pub undisturbed : (p k : ℕ) (old new : NetValue) (sent : Shipment) (later : List EventRecord)
     → Sends (Ok sent) old (replies.Sent p) new
     → HasFrame sent.way.source sent.way.destination sent.way.pieces
     → IsNetwork new.network → AreSound new.network sent.way.pieces

@@ -16,9 +16,9 @@ use Rattle.network_core.specs.declared.fault.EventFault.TheVariants as faults
 use Rattle.network_core.specs.declared.reply.Reply.{Reply}
 use Rattle.network_core.specs.declared.reply.Reply.TheVariants.{Begun, Registered}
 use Rattle.network_core.specs.Event.{EventValue, Tick, Originate, Extend, Terminate, Sweep, Ask, Send, Turn, Lose, Alter, CutLink, MendLink, RotateKey}
-use Rattle.network_core.specs.Value.{SentValue, NetValue}
+use Rattle.network_core.specs.Value.{Shipment, NetValue}
 use Rattle.policy_expr.specs.Options.{WeighedRules}
-use Rattle.network_core.specs.Step.{Made, with_beacon, with_segment, begun, passed_on, ended, beacon_at, with_network, flying_at, turns, loses, alters, options_asked, sent_by, departs, Leads, Asks, Sends, Step}
+use Rattle.network_core.specs.Step.{Made, with_beacon, with_segment, begun, passed_on, ended, beacon_at, with_network, flying_at, turns, loses, alters, options_asked, shipment_by, departs, Leads, Asks, Sends, Step}
 
 -- ---- steps of a definition
 
@@ -156,14 +156,14 @@ then_spares : {A : Type 0} (old : NetValue) (r : Result A EventFault) (f : A →
 then_spares old (Ok x) f each = each x
 then_spares old (Err fault) f each = tt
 
-depart_spares : (old : NetValue) (sent : SentValue) → SparesIn old (departs old sent)
+depart_spares : (old : NetValue) (sent : Shipment) → SparesIn old (departs old sent)
 depart_spares old sent =
     then_spares old
     (refused_as faults.Topology (owner_in old.network sent.way.source (first_out (walk_of sent.way.pieces)))) _
     (λ router. then_spares old (check (ltb (length old.packets) 1_000_000) faults.TooMany) _
     (λ _. (refl, (refl, refl))))
 
-send_spares : (old new : NetValue) (reply : Reply) (sent : Result SentValue EventFault)
+send_spares : (old new : NetValue) (reply : Reply) (sent : Result Shipment EventFault)
     → Sends sent old reply new → Spares old new
 send_spares old new reply (Err fault) is = all_spared old new is.1
 send_spares old new reply (Ok sent) is = elim is [
@@ -238,7 +238,7 @@ renews old new Sweep reply is = inl (ap (λ (net : NetValue). net.network) is.1)
 renews old new (Ask src dst read limit) reply is =
     inl (ask_spares old new reply (options_asked old src dst read limit) src dst limit is).0
 renews old new (Send route payload) reply is =
-    inl (send_spares old new reply (sent_by old route payload) is).0
+    inl (send_spares old new reply (shipment_by old route payload) is).0
 renews old new (Turn number) reply is = inl (turn_spares old new number reply is).0
 renews old new (Lose number) reply is = inl (lose_spares old new number reply is).0
 renews old new (Alter number at change) reply is = inl (alter_spares old new number at change reply is).0
@@ -354,7 +354,7 @@ stores old new Sweep reply is =
 stores old new (Ask src dst read limit) reply is =
     inl (ask_spares old new reply (options_asked old src dst read limit) src dst limit is).1
 stores old new (Send route payload) reply is =
-    inl (send_spares old new reply (sent_by old route payload) is).1
+    inl (send_spares old new reply (shipment_by old route payload) is).1
 stores old new (Turn number) reply is = inl (turn_spares old new number reply is).1
 stores old new (Lose number) reply is = inl (lose_spares old new number reply is).1
 stores old new (Alter number at change) reply is = inl (alter_spares old new number at change reply is).1

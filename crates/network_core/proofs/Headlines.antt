@@ -13,9 +13,9 @@ use Rattle.forwarding.proofs.Made.{sound_is_let_through}
 use Rattle.network_core.specs.declared.fault.EventFault.{EventFault}
 use Rattle.network_core.specs.declared.reply.Reply.TheVariants as replies
 use Rattle.network_core.specs.Event.{RouteValue, Send, Turn, Lose, Alter}
-use Rattle.network_core.specs.Value.{asked_at, SentValue, NetValue}
-use Rattle.network_core.specs.Step.{sent_by, Sends}
-use Rattle.network_core.specs.History.{Moment, IsHistory, net_after, net_at, Occurs}
+use Rattle.network_core.specs.Value.{asked_at, Shipment, NetValue}
+use Rattle.network_core.specs.Step.{shipment_by, Sends}
+use Rattle.network_core.specs.History.{EventRecord, IsHistory, net_after, net_at, Occurs}
 use Rattle.network_core.specs.Delivery.{LetsGoOn, AllLetGoOn, AreSound, turns_of, IsForwarded, HasSentFrame, IsFramed, AllFramed}
 use Rattle.network_core.specs.Headline.{Kept, Undisturbed, turns_since, Headline}
 use Rattle.network_core.proofs.Numbers.{becomes_at, left_at, network_at}
@@ -31,13 +31,13 @@ none_left : (start : NetValue) (j : ℕ) → net_at start [] j ≡ start
 none_left start zero = refl
 none_left start (suc j) = refl
 
-history_drop : (start : NetValue) (history : List Moment) (n : ℕ) → IsHistory start history
+history_drop : (start : NetValue) (history : List EventRecord) (n : ℕ) → IsHistory start history
     → IsHistory (net_at start history n) (drop n history)
 history_drop start history zero is = is
 history_drop start [] (suc n) is = tt
 history_drop start (m ∷ later) (suc n) is = history_drop m.net later n is.1
 
-net_drop : (start : NetValue) (history : List Moment) (n j : ℕ)
+net_drop : (start : NetValue) (history : List EventRecord) (n j : ℕ)
     → net_at (net_at start history n) (drop n history) j ≡ net_at start history (n + j)
 net_drop start history zero j = let same : j ≡ 0 + j = omega arith in ap (net_at start history) same
 net_drop start [] (suc n) j = none_left start j ∙ sym (none_left start (suc n + j))
@@ -45,27 +45,27 @@ net_drop start (m ∷ later) (suc n) j =
     let same : suc (n + j) ≡ suc n + j = omega arith in
     net_drop m.net later n j ∙ ap (net_at start (m ∷ later)) same
 
-there_drop : (history : List Moment) (n j : ℕ) → slice_get (drop n history) j ≡ slice_get history (n + j)
+there_drop : (history : List EventRecord) (n j : ℕ) → slice_get (drop n history) j ≡ slice_get history (n + j)
 there_drop history zero j = let same : j ≡ 0 + j = omega arith in ap (slice_get history) same
 there_drop [] (suc n) j = refl
 there_drop (m ∷ later) (suc n) j =
     let same : suc (n + j) ≡ suc n + j = omega arith in
     there_drop later n j ∙ ap (slice_get (m ∷ later)) same
 
-none_taken : (j : ℕ) → take {A = Moment} j [] ≡ []
+none_taken : (j : ℕ) → take {A = EventRecord} j [] ≡ []
 none_taken zero = refl
 none_taken (suc j) = refl
 
-drop_take : (n k : ℕ) (history : List Moment) → drop n (take (n + k) history) ≡ take k (drop n history)
+drop_take : (n k : ℕ) (history : List EventRecord) → drop n (take (n + k) history) ≡ take k (drop n history)
 drop_take zero k history = let same : 0 + k ≡ k = omega arith in ap (λ j. take j history) same
-drop_take (suc n) k [] = ap (λ (xs : List Moment). drop (suc n) xs) (none_taken (suc n + k)) ∙ sym (none_taken k)
+drop_take (suc n) k [] = ap (λ (xs : List EventRecord). drop (suc n) xs) (none_taken (suc n + k)) ∙ sym (none_taken k)
 drop_take (suc n) k (m ∷ history) =
     let same : suc n + k ≡ suc (n + k) = omega arith in
     ap (λ j. drop (suc n) (take j (m ∷ history))) same ∙ drop_take n k history
 
 -- from each number to the recursion on the list
-by_number : (p : ℕ) (sent : SentValue) (net : NetValue) (later : List Moment)
-    → ((j : ℕ) (m : Moment) → slice_get later j ≡ Some m
+by_number : (p : ℕ) (sent : Shipment) (net : NetValue) (later : List EventRecord)
+    → ((j : ℕ) (m : EventRecord) → slice_get later j ≡ Some m
     → LetsGoOn p sent (net_at net later j) m.event m.reply)
     → AllLetGoOn p sent net later
 by_number p sent net [] each = tt
@@ -74,8 +74,8 @@ by_number p sent net (m ∷ later) each =
 
 -- ---- a packet that event number `number` sent
 
-module _ (start : NetValue) (history : List Moment) (is : IsHistory start history)
-    (network : IsNetwork start.network) (number p : ℕ) (sent : SentValue)
+module _ (start : NetValue) (history : List EventRecord) (is : IsHistory start history)
+    (network : IsNetwork start.network) (number p : ℕ) (sent : Shipment)
     (sends : Sends (Ok sent) (net_at start history number) (replies.Sent p) (net_at start history (number + 1)))
     (frame : HasFrame sent.way.source sent.way.destination sent.way.pieces) where
   accepted : IsAccepted (asked_at (net_at start history number).moment sent.way)
@@ -93,7 +93,7 @@ module _ (start : NetValue) (history : List Moment) (is : IsHistory start histor
       one.0 one.1 k (accepted.path.ranges i d within) one.2.0 (omega arith) one.2.1.1).1
 
   -- each event behind it lets the packet go on
-  lets_at : (k : ℕ) (m : Moment) → number < k → slice_get history k ≡ Some m
+  lets_at : (k : ℕ) (m : EventRecord) → number < k → slice_get history k ≡ Some m
       → Undisturbed start history number p sent.way.pieces
       → LetsGoOn p sent (net_at start history k) m.event m.reply
   lets_at k m after there quiet = record {
@@ -134,18 +134,18 @@ module _ (start : NetValue) (history : List Moment) (is : IsHistory start histor
 
 -- ---- the same of the first k events alone
 
-take_take : (j k : ℕ) (history : List Moment) → j ≤ k → take j (take k history) ≡ take j history
+take_take : (j k : ℕ) (history : List EventRecord) → j ≤ k → take j (take k history) ≡ take j history
 take_take zero k history low = refl
 take_take (suc j) zero history low = absurd (omega arith)
 take_take (suc j) (suc k) [] low = refl
 take_take (suc j) (suc k) (m ∷ history) low = ap (λ later. m ∷ later) (take_take j k history (omega arith))
 
-net_take : (start : NetValue) (history : List Moment) (j k : ℕ) → j ≤ k
+net_take : (start : NetValue) (history : List EventRecord) (j k : ℕ) → j ≤ k
     → net_at start (take k history) j ≡ net_at start history j
 net_take start history j k low = ap (net_after start) (take_take j k history low)
 
-module _ (start : NetValue) (history : List Moment) (is : IsHistory start history)
-    (network : IsNetwork start.network) (number p : ℕ) (sent : SentValue)
+module _ (start : NetValue) (history : List EventRecord) (is : IsHistory start history)
+    (network : IsNetwork start.network) (number p : ℕ) (sent : Shipment)
     (sends : Sends (Ok sent) (net_at start history number) (replies.Sent p) (net_at start history (number + 1)))
     (frame : HasFrame sent.way.source sent.way.destination sent.way.pieces) where
   sends_first : (k : ℕ) → number < k → Sends (Ok sent) (net_at start (take k history) number)
@@ -197,32 +197,32 @@ pub all_at : {X : Type 0} (P : X → Type 0) (xs : List X) (place : ℕ) (x : X)
 all_at P xs place x all there =
     subst P (get_or_from_slice_get xs place x x there) (all place x (slice_get_within xs place x there))
 
-sends_ok : (r : Result SentValue EventFault) (p : ℕ) (old new : NetValue)
+sends_ok : (r : Result Shipment EventFault) (p : ℕ) (old new : NetValue)
     → Sends r old (replies.Sent p) new
-    → (sent : SentValue) × ((r ≡ Ok sent) × Sends (Ok sent) old (replies.Sent p) new)
+    → (sent : Shipment) × ((r ≡ Ok sent) × Sends (Ok sent) old (replies.Sent p) new)
 sends_ok (Ok sent) p old new is = (sent, (refl, is))
 sends_ok (Err fault) p old new is = absurd (let e = is.0 in cc)
 
 -- of what an event sent the numbers have a place for their bits, where they have it of each
-framed_at : (start : NetValue) (history : List Moment) (number p : ℕ) (route : RouteValue)
+framed_at : (start : NetValue) (history : List EventRecord) (number p : ℕ) (route : RouteValue)
     (payload : List ℕ) → IsHistory start history → AllFramed history
     → Occurs history number (Send route payload) (replies.Sent p)
     → HasSentFrame (replies.Sent p) (net_at start history (number + 1))
 framed_at start history number p route payload is framed occurs =
-    let m : Moment = record { event = Send route payload; reply = replies.Sent p; net = occurs.net } in
+    let m : EventRecord = record { event = Send route payload; reply = replies.Sent p; net = occurs.net } in
     let of : IsFramed (Send route payload) (replies.Sent p) occurs.net =
-    all_at (λ (x : Moment). IsFramed x.event x.reply x.net) history number m framed occurs.there in
+    all_at (λ (x : EventRecord). IsFramed x.event x.reply x.net) history number m framed occurs.there in
     subst (HasSentFrame (replies.Sent p)) (left_at start history number m is occurs.there) (of route payload refl)
 
-pub of_send : (start : NetValue) (history : List Moment) (number p : ℕ) (route : RouteValue)
+pub of_send : (start : NetValue) (history : List EventRecord) (number p : ℕ) (route : RouteValue)
     (payload : List ℕ) → IsNetwork start.network → IsHistory start history → AllFramed history
     → Occurs history number (Send route payload) (replies.Sent p)
-    → (sent : SentValue) × ((sent_by (net_at start history number) route payload ≡ Ok sent)
+    → (sent : Shipment) × ((shipment_by (net_at start history number) route payload ≡ Ok sent)
     × Headline start history number p sent)
 of_send start history number p route payload network is framed occurs =
     let step = becomes_at start history number
     (record { event = Send route payload; reply = replies.Sent p; net = occurs.net }) is occurs.there in
-    let s = sends_ok (sent_by (net_at start history number) route payload) p (net_at start history number) (net_at start history (number + 1)) step in
+    let s = sends_ok (shipment_by (net_at start history number) route payload) p (net_at start history number) (net_at start history (number + 1)) step in
     let frame = frame_sent p (net_at start history number) (net_at start history (number + 1)) s.0 s.1.1
     (framed_at start history number p route payload is framed occurs) in
     (s.0, (s.1.0, headline start history is network number p s.0 s.1.1 frame))

@@ -18,13 +18,13 @@ use Rattle.network_core.specs.declared.reply.Reply.{Reply}
 use Rattle.network_core.specs.declared.reply.Reply.TheVariants.{Begun, Registered}
 use Rattle.network_core.specs.Event.{EventValue, Originate, Extend, Terminate}
 use Rattle.network_core.specs.Value.{NetValue}
-use Rattle.network_core.specs.History.{Moment, IsHistory, net_at, Occurs, PassOn, doer, key_then, IssuedIn, IssuedBefore}
+use Rattle.network_core.specs.History.{EventRecord, IsHistory, net_at, Occurs, PassOn, doer, key_then, IssuedIn, IssuedBefore}
 use Rattle.network_core.proofs.Effects.{IsStart, IsPass, IsEnd, stores}
 use Rattle.network_core.proofs.Numbers.{StepAt, becomes_at, event_or_none, network_at, under_on}
 
 -- ---- the chain of events that gave a beacon
 
-pub record IsPassed (start : NetValue) (history : List Moment) (k b : ℕ) (chain : Chain) : Type 0 where
+pub record IsPassed (start : NetValue) (history : List EventRecord) (k b : ℕ) (chain : Chain) : Type 0 where
   pub first : ℕ
   pub ia : ℕ
   pub egress : ℕ
@@ -36,7 +36,7 @@ pub record IsPassed (start : NetValue) (history : List Moment) (k b : ℕ) (chai
   pub under : IsUnderWay (net_at start history k).network
       (map (key_then start history) (first ∷ between)) chain
 
-pub occurs_at : (history : List Moment) (k : ℕ) (m : Moment) (event : EventValue) (reply : Reply)
+pub occurs_at : (history : List EventRecord) (k : ℕ) (m : EventRecord) (event : EventValue) (reply : Reply)
     → slice_get history k ≡ Some m → m.event ≡ event → m.reply ≡ reply → Occurs history k event reply
 occurs_at history k m event reply there event_is reply_is = record {
   net = m.net;
@@ -47,14 +47,14 @@ occurs_at history k m event reply there event_is reply_is = record {
 }
 
 -- the key at the number of an event
-pub key_is : (start : NetValue) (history : List Moment) (k : ℕ) (m : Moment) (ia : ℕ)
+pub key_is : (start : NetValue) (history : List EventRecord) (k : ℕ) (m : EventRecord) (ia : ℕ)
     → slice_get history k ≡ Some m → doer m.event ≡ ia
     → key_then start history k ≡ key_in (net_at start history k).network ia
 key_is start history k m ia there of =
-    ap (λ o. option_map_or (λ (x : Moment). key_in (net_at start history k).network (doer x.event)) o []) there
+    ap (λ o. option_map_or (λ (x : EventRecord). key_in (net_at start history k).network (doer x.event)) o []) there
     ∙ ap (key_in (net_at start history k).network) of
 
-pass_more : (history : List Moment) (between : List ℕ) (begun b k ia egress next : ℕ)
+pass_more : (history : List EventRecord) (between : List ℕ) (begun b k ia egress next : ℕ)
     → PassOn history begun between b → Occurs history k (Extend b ia egress) (Begun next)
     → PassOn history begun (between ++ k ∷ []) next
 pass_more history [] begun b k ia egress next passes answers =
@@ -100,7 +100,7 @@ all_registered P segments s now new all = all_with_new P (answer_to segments s n
 
 -- ---- in a history that begins with nothing made
 
-module _ (start : NetValue) (history : List Moment) (is : IsHistory start history)
+module _ (start : NetValue) (history : List EventRecord) (is : IsHistory start history)
     (network : IsNetwork start.network) (no_beacons : start.beacons ≡ []) (no_segments : start.segments ≡ []) where
   abbrev at : ℕ → NetValue
   at k = net_at start history k
@@ -109,7 +109,7 @@ module _ (start : NetValue) (history : List Moment) (is : IsHistory start histor
   AllPassed k = (b : ℕ) (chain : Chain) → slice_get (at k).beacons b ≡ Some chain → IsPassed start history k b chain
 
   -- an event leaves the chain of a beacon as it was
-  passed_still : (k b : ℕ) (m : Moment) (chain : Chain) → StepAt start history k m
+  passed_still : (k b : ℕ) (m : EventRecord) (chain : Chain) → StepAt start history k m
       → IsPassed start history k b chain → IsPassed start history (k + 1) b chain
   passed_still k b m chain step p = record {
     first = p.first;
@@ -123,7 +123,7 @@ module _ (start : NetValue) (history : List Moment) (is : IsHistory start histor
     under = under_on (at k) (at (k + 1)) m.event m.reply (map (key_then start history) (p.first ∷ p.between)) chain step p.under;
   }
 
-  started : (k : ℕ) (m : Moment) → slice_get history k ≡ Some m → StepAt start history k m
+  started : (k : ℕ) (m : EventRecord) → slice_get history k ≡ Some m → StepAt start history k m
       → (s : IsStart (at k) m.event m.reply (at (k + 1)))
       → IsPassed start history (k + 1) (length (at k).beacons) s.chain
   started k m there step s =
@@ -150,7 +150,7 @@ module _ (start : NetValue) (history : List Moment) (is : IsHistory start histor
       ap (λ x. map (key_then start history) (first ∷ between) ++ x ∷ []) (sym of)
       ∙ sym (map-append (key_then start history) (first ∷ between) (k ∷ []))
 
-  went_on : (k : ℕ) (m : Moment) → slice_get history k ≡ Some m → StepAt start history k m → AllPassed k
+  went_on : (k : ℕ) (m : EventRecord) → slice_get history k ≡ Some m → StepAt start history k m → AllPassed k
       → (s : IsPass (at k) m.event m.reply (at (k + 1)))
       → IsPassed start history (k + 1) (length (at k).beacons) s.chain
   went_on k m there step all s =
@@ -173,7 +173,7 @@ module _ (start : NetValue) (history : List Moment) (is : IsHistory start histor
             (subst (λ ks. IsUnderWay (at k).network ks s.chain) more under);
       }
 
-  one_longer : (k : ℕ) (m : Moment) (c : Chain) → StepAt start history k m → AllPassed k
+  one_longer : (k : ℕ) (m : EventRecord) (c : Chain) → StepAt start history k m → AllPassed k
       → (at (k + 1)).beacons ≡ (at k).beacons ++ c ∷ []
       → IsPassed start history (k + 1) (length (at k).beacons) c → AllPassed (k + 1)
   one_longer k m c step all longer last b chain there =
@@ -183,12 +183,12 @@ module _ (start : NetValue) (history : List Moment) (is : IsHistory start histor
             (subst (λ x. IsPassed start history (k + 1) x c) new.0 last)
       ]
 
-  no_longer : (k : ℕ) (m : Moment) → StepAt start history k m → AllPassed k
+  no_longer : (k : ℕ) (m : EventRecord) → StepAt start history k m → AllPassed k
       → (at (k + 1)).beacons ≡ (at k).beacons → AllPassed (k + 1)
   no_longer k m step all same b chain there =
       passed_still k b m chain step (all b chain (ap (λ bs. slice_get bs b) (sym same) ∙ there))
 
-  passed_next : (k : ℕ) (m : Moment) → slice_get history k ≡ Some m → AllPassed k → AllPassed (k + 1)
+  passed_next : (k : ℕ) (m : EventRecord) → slice_get history k ≡ Some m → AllPassed k → AllPassed (k + 1)
   passed_next k m there all =
       let step = becomes_at start history k m is there in
       elim (stores (at k) (at (k + 1)) m.event m.reply step) [
@@ -241,7 +241,7 @@ module _ (start : NetValue) (history : List Moment) (is : IsHistory start histor
   later_too k segments all = All-weaker (IssuedBefore start history k) (IssuedBefore start history (k + 1))
       (λ s i. (let before = i.2 in let more : i.1 < k + 1 = omega arith in (i.0, i.1, more, i.3))) segments all
 
-  issued_there : (k : ℕ) (m : Moment) → slice_get history k ≡ Some m
+  issued_there : (k : ℕ) (m : EventRecord) → slice_get history k ≡ Some m
       → (e : IsEnd (at k) m.event m.reply (at (k + 1))) → IssuedBefore start history (k + 1) e.chain
   issued_there k m there e =
       let p = passed_all k e.beacon e.from e.was in
@@ -269,7 +269,7 @@ module _ (start : NetValue) (history : List Moment) (is : IsHistory start histor
       } in
       (p.first, k, before, issued)
 
-  stored_next : (k : ℕ) (m : Moment) → slice_get history k ≡ Some m
+  stored_next : (k : ℕ) (m : EventRecord) → slice_get history k ≡ Some m
       → All (IssuedBefore start history k) (at k).segments
       → All (IssuedBefore start history (k + 1)) (at (k + 1)).segments
   stored_next k m there all =

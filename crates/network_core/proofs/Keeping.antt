@@ -12,9 +12,9 @@ use Rattle.network_core.specs.declared.fault.EventFault.{EventFault}
 use Rattle.network_core.specs.declared.fault.EventFault.TheVariants as faults
 use Rattle.network_core.specs.declared.reply.Reply.{Reply}
 use Rattle.network_core.specs.Event.{EventValue, Tick, Originate, Extend, Terminate, Sweep, Ask, Send, Turn, Lose, Alter, CutLink, MendLink, RotateKey}
-use Rattle.network_core.specs.Value.{SentValue, PacketValue, NetValue}
+use Rattle.network_core.specs.Value.{Shipment, PacketValue, NetValue}
 use Rattle.policy_expr.specs.Options.{WeighedRules}
-use Rattle.network_core.specs.Step.{Made, ticked, originates, extends, terminates, cleared, with_beacon, with_segment, begun, passed_on, ended, with_network, flying_at, turns, loses, alters, options_asked, sent_by, packet_of, departs, Leads, Asks, Sends, Step}
+use Rattle.network_core.specs.Step.{Made, ticked, originates, extends, terminates, cleared, with_beacon, with_segment, begun, passed_on, ended, with_network, flying_at, turns, loses, alters, options_asked, shipment_by, packet_of, departs, Leads, Asks, Sends, Step}
 
 -- ---- what is so of each network that an event makes
 
@@ -58,7 +58,7 @@ module _ {A : Type 0} (part : NetValue → A) (apart : IsApart part) (old new : 
   beacon_stays c = then_in Stays (check (ltb (length old.beacons) 1_000_000) faults.TooMany) _
       (λ _. apart.beacons old _)
 
-  send_stays : (reply : Reply) (sent : Result SentValue EventFault) → Sends sent old reply new
+  send_stays : (reply : Reply) (sent : Result Shipment EventFault) → Sends sent old reply new
       → Stays new
   send_stays reply (Err fault) is = ap part is.1
   send_stays reply (Ok sent) is = elim is [
@@ -86,7 +86,7 @@ module _ {A : Type 0} (part : NetValue → A) (apart : IsApart part) (old new : 
       (λ _. apart.segments old _))) is
   stays Sweep reply plain is =
       by_leads Stays old new reply (cleared old) refl (apart.segments old _) is
-  stays (Send route payload) reply plain is = send_stays reply (sent_by old route payload) is
+  stays (Send route payload) reply plain is = send_stays reply (shipment_by old route payload) is
   stays (Turn q) reply plain is = by_leads Stays old new reply (turns old q) refl
       (then_in Stays (flying_at old q) _ (λ one. apart.packets old _)) is
   stays (Lose q) reply plain is = by_leads Stays old new reply (loses old q) refl
@@ -132,7 +132,7 @@ beacon_keeps : (p : ℕ) (old : NetValue) (c : _) → In (Keeps p old) (with_bea
 beacon_keeps p old c =
     then_in (Keeps p old) (check (ltb (length old.beacons) 1_000_000) faults.TooMany) _ (λ _. refl)
 
-depart_keeps : (p : ℕ) (old : NetValue) (sent : SentValue) → p < length old.packets
+depart_keeps : (p : ℕ) (old : NetValue) (sent : Shipment) → p < length old.packets
     → In (Keeps p old) (departs old sent)
 depart_keeps p old sent within =
     then_in (Keeps p old)
@@ -140,7 +140,7 @@ depart_keeps p old sent within =
     (λ router. then_in (Keeps p old) (check (ltb (length old.packets) 1_000_000) faults.TooMany) _
     (λ _. there_still old.packets (packet_of sent router ∷ []) p within))
 
-send_keeps : (p : ℕ) (old new : NetValue) (reply : Reply) (sent : Result SentValue EventFault)
+send_keeps : (p : ℕ) (old new : NetValue) (reply : Reply) (sent : Result Shipment EventFault)
     → p < length old.packets → Sends sent old reply new → Keeps p old new
 send_keeps p old new reply (Err fault) within is = ap (λ (net : NetValue). slice_get net.packets p) is.1
 send_keeps p old new reply (Ok sent) within is = elim is [
@@ -174,7 +174,7 @@ kept p old new Sweep reply within other is =
 kept p old new (Ask src dst read limit) reply within other is =
     ask_keeps p old new reply (options_asked old src dst read limit) src dst limit is
 kept p old new (Send route payload) reply within other is =
-    send_keeps p old new reply (sent_by old route payload) within is
+    send_keeps p old new reply (shipment_by old route payload) within is
 kept p old new (Turn q) reply within other is =
     by_leads (Keeps p old) old new reply (turns old q) refl
     (then_in (Keeps p old) (flying_at old q) _ (λ one. set_elsewhere old.packets q p

@@ -11,42 +11,42 @@ use Rattle.network_core.specs.declared.reply.Reply.{Reply}
 use Rattle.network_core.specs.Event.{EventValue}
 use Rattle.network_core.specs.Value.{NetValue}
 use Rattle.network_core.specs.Step.{Step}
-use Rattle.network_core.specs.History.{Moment, IsHistory, net_at}
+use Rattle.network_core.specs.History.{EventRecord, IsHistory, net_at}
 use Rattle.network_core.proofs.Effects.{renews}
 
 -- ---- the event of a number
 
-step_at : (start : NetValue) (history : List Moment) (k : ℕ) (m : Moment) → IsHistory start history
+step_at : (start : NetValue) (history : List EventRecord) (k : ℕ) (m : EventRecord) → IsHistory start history
     → slice_get history k ≡ Some m
     → Step (net_at start history k) m.event m.reply m.net × (m.net ≡ net_at start history (k + 1))
 step_at start [] k m is there = absurd cc
 step_at start (x ∷ history) zero m is there =
     let same = same_Some x m there in
-    (subst (λ (y : Moment). Step start y.event y.reply y.net) same is.0, ap (λ (y : Moment). y.net) (sym same))
+    (subst (λ (y : EventRecord). Step start y.event y.reply y.net) same is.0, ap (λ (y : EventRecord). y.net) (sym same))
 step_at start (x ∷ history) (suc k) m is there =
     let rest = step_at x.net history k m is.1 there in
     let place : suc (k + 1) ≡ suc k + 1 = omega arith in
     (rest.0, rest.1 ∙ ap (net_at start (x ∷ history)) place)
 
 -- the network that the event leaves is the one that the next number finds
-abbrev pub StepAt : NetValue → List Moment → ℕ → Moment → Type 0
+abbrev pub StepAt : NetValue → List EventRecord → ℕ → EventRecord → Type 0
 StepAt start history k m =
     Step (net_at start history k) m.event m.reply (net_at start history (k + 1))
 
-pub becomes_at : (start : NetValue) (history : List Moment) (k : ℕ) (m : Moment)
+pub becomes_at : (start : NetValue) (history : List EventRecord) (k : ℕ) (m : EventRecord)
     → IsHistory start history → slice_get history k ≡ Some m → StepAt start history k m
 becomes_at start history k m is there =
     let s = step_at start history k m is there in
     subst (λ net. Step (net_at start history k) m.event m.reply net) s.1 s.0
 
 -- and the event leaves that network
-pub left_at : (start : NetValue) (history : List Moment) (k : ℕ) (m : Moment)
+pub left_at : (start : NetValue) (history : List EventRecord) (k : ℕ) (m : EventRecord)
     → IsHistory start history → slice_get history k ≡ Some m → m.net ≡ net_at start history (k + 1)
 left_at start history k m is there = (step_at start history k m is there).1
 
 -- a number has an event, or it is behind the last one
-pub event_or_none : (start : NetValue) (history : List Moment) (k : ℕ)
-    → ((m : Moment) × (slice_get history k ≡ Some m)) ⊎ (net_at start history (k + 1) ≡ net_at start history k)
+pub event_or_none : (start : NetValue) (history : List EventRecord) (k : ℕ)
+    → ((m : EventRecord) × (slice_get history k ≡ Some m)) ⊎ (net_at start history (k + 1) ≡ net_at start history k)
 event_or_none start [] k = inr (none_left start (k + 1) ∙ sym (none_left start k))
   where
     none_left : (start : NetValue) (j : ℕ) → net_at start [] j ≡ start
@@ -63,11 +63,11 @@ event_or_none start (x ∷ history) (suc k) = elim (event_or_none x.net history 
 -- ---- what is kept
 
 -- what each event from a number on keeps is kept from that number on
-abbrev pub Keeps : NetValue → List Moment → (NetValue → Type 0) → ℕ → Type 0
-Keeps start history P i = (k : ℕ) (m : Moment) → i ≤ k → slice_get history k ≡ Some m
+abbrev pub Keeps : NetValue → List EventRecord → (NetValue → Type 0) → ℕ → Type 0
+Keeps start history P i = (k : ℕ) (m : EventRecord) → i ≤ k → slice_get history k ≡ Some m
     → StepAt start history k m → P (net_at start history k) → P (net_at start history (k + 1))
 
-kept_on : (start : NetValue) (history : List Moment) (P : NetValue → Type 0) (i d : ℕ)
+kept_on : (start : NetValue) (history : List EventRecord) (P : NetValue → Type 0) (i d : ℕ)
     → IsHistory start history → Keeps start history P i
     → P (net_at start history i) → P (net_at start history (i + d))
 kept_on start history P i zero is each at =
@@ -81,7 +81,7 @@ kept_on start history P i (suc d) is each at =
       | inr none ↦ subst P (sym none) before
     ])
 
-pub kept_to : (start : NetValue) (history : List Moment) (P : NetValue → Type 0) (i j : ℕ) → i ≤ j
+pub kept_to : (start : NetValue) (history : List EventRecord) (P : NetValue → Type 0) (i j : ℕ) → i ≤ j
     → IsHistory start history → Keeps start history P i
     → P (net_at start history i) → P (net_at start history j)
 kept_to start history P i j order is each at =
@@ -101,7 +101,7 @@ network_on old new event reply is network = elim (renews old new event reply is)
 ]
 
 -- a network stays one
-pub network_at : (start : NetValue) (history : List Moment) (k : ℕ) → IsHistory start history
+pub network_at : (start : NetValue) (history : List EventRecord) (k : ℕ) → IsHistory start history
     → IsNetwork start.network → IsNetwork (net_at start history k).network
 network_at start history k is network =
     kept_to start history (λ net. IsNetwork net.network) 0 k (omega arith) is

@@ -8,9 +8,9 @@ use Rattle.scion_topology.specs.Topology.{owner_in, set_up, rotated}
 use Rattle.path_segment.specs.Chain.{Chain}
 use Rattle.path_server.specs.Store.{answer_to}
 use Rattle.path_verifier.specs.Walk.{walk_of}
-use Rattle.forwarding.specs.declared.place.Stop.{Stop}
-use Rattle.forwarding.specs.declared.place.Place.{Place}
-use Rattle.forwarding.specs.declared.place.Place.TheVariants as places
+use Rattle.forwarding.specs.declared.location.RouterStop.{RouterStop}
+use Rattle.forwarding.specs.declared.location.PacketLocation.{PacketLocation}
+use Rattle.forwarding.specs.declared.location.PacketLocation.TheVariants as places
 use Rattle.forwarding.specs.Journey.{first_out}
 use Rattle.forwarding.specs.Turn.{Packet, turn_of, lost, altered}
 use Rattle.policy_expr.specs.Options.{WeighedRules}
@@ -18,8 +18,8 @@ use Rattle.network_core.specs.declared.fault.EventFault.{EventFault}
 use Rattle.network_core.specs.declared.fault.EventFault.TheVariants as faults
 use Rattle.network_core.specs.declared.reply.Reply.{Reply}
 use Rattle.network_core.specs.Event.{EventValue, Tick, Originate, Extend, Terminate, Sweep, Ask, Send, Turn, Lose, Alter, CutLink, MendLink, RotateKey}
-use Rattle.network_core.specs.Value.{SentValue, PacketValue, NetValue}
-use Rattle.network_core.specs.Step.{Made, ticked, originates, extends, terminates, cleared, with_beacon, with_segment, begun, passed_on, ended, with_network, with_packet, is_in_flight, packet_at, flying_at, turns, loses, alters, options_asked, sent_by, packet_of, departs, Asks, Sends, Step}
+use Rattle.network_core.specs.Value.{Shipment, PacketValue, NetValue}
+use Rattle.network_core.specs.Step.{Made, ticked, originates, extends, terminates, cleared, with_beacon, with_segment, begun, passed_on, ended, with_network, with_packet, is_in_flight, packet_at, flying_at, turns, loses, alters, options_asked, shipment_by, packet_of, departs, Asks, Sends, Step}
 use Rattle.network_core.proofs.Effects.{done_below, both_done}
 use Rattle.network_core.proofs.Issuing.{last_or}
 use Rattle.network_core.proofs.Keeping.{In, by_leads, then_in}
@@ -39,29 +39,29 @@ set_or (z ∷ xs) (suc k) zero y x there = inl there
 set_or (z ∷ xs) (suc k) (suc i) y x there = set_or xs k i y x there
 
 -- a packet in flight is there, and at a router
-stop_of : (place : Place) (done : Unit {0}) → is_in_flight place ≡ Ok done
-    → (stop : Stop) × (place ≡ places.AtRouter stop)
+stop_of : (place : PacketLocation) (done : Unit {0}) → is_in_flight place ≡ Ok done
+    → (stop : RouterStop) × (place ≡ places.AtRouter stop)
 stop_of (places.AtRouter stop) done is = (stop, refl)
 stop_of places.Delivered done is = absurd cc
 stop_of (places.Refused ia router refusal) done is = absurd cc
 stop_of places.Lost done is = absurd cc
 
 pub flying_there : (net : NetValue) (q : ℕ) (one : PacketValue) → flying_at net q ≡ Ok one
-    → (slice_get net.packets q ≡ Some one) × ((stop : Stop) × (one.packet.place ≡ places.AtRouter stop))
+    → (slice_get net.packets q ≡ Some one) × ((stop : RouterStop) × (one.packet.place ≡ places.AtRouter stop))
 flying_there net q one is =
     let first = both_done (packet_at net q) _ one is in
     let then = both_done (is_in_flight first.0.packet.place) _ one first.1.1 in
     let same : first.0 ≡ one = (let last = then.1.1 in cc) in
-    subst (λ (p : PacketValue). (slice_get net.packets q ≡ Some p) × ((stop : Stop) × (p.packet.place ≡ places.AtRouter stop))) same
+    subst (λ (p : PacketValue). (slice_get net.packets q ≡ Some p) × ((stop : RouterStop) × (p.packet.place ≡ places.AtRouter stop))) same
     (ok_or_ok (slice_get net.packets q) faults.NoPacket first.0 first.1.0, stop_of first.0.packet.place then.0 then.1.0)
 
 -- ---- what outlasts each change of a packet and of the topology, in networks that are sane
 
 pub record Outlasts (IsSane : Network → Type 0) (P : Network → PacketValue → Type 0) : Type 0 where
-  pub departed : (n : Network) (sent : SentValue) (router : ℕ) → IsSane n
+  pub departed : (n : Network) (sent : Shipment) (router : ℕ) → IsSane n
       → owner_in n sent.way.source (first_out (walk_of sent.way.pieces)) ≡ Ok router
       → P n (packet_of sent router)
-  pub turned : (n : Network) (now : ℕ) (one : PacketValue) (stop : Stop) → IsSane n
+  pub turned : (n : Network) (now : ℕ) (one : PacketValue) (stop : RouterStop) → IsSane n
       → one.packet.place ≡ places.AtRouter stop → P n one
       → P n (record one { packet = (turn_of n now one.packet).1 })
   pub lost : (n : Network) (one : PacketValue) → P n one → P n (record one { packet = lost one.packet })
@@ -82,7 +82,7 @@ module _ (IsSane : Network → Type 0) (P : Network → PacketValue → Type 0) 
   beacon_holds c =
       then_in (AllHold P) (check (ltb (length old.beacons) 1_000_000) faults.TooMany) _ (λ _. held)
 
-  one_more : (sent : SentValue) (router : ℕ)
+  one_more : (sent : Shipment) (router : ℕ)
       → owner_in old.network sent.way.source (first_out (walk_of sent.way.pieces)) ≡ Ok router
       → AllHold P (record old { packets = old.packets ++ packet_of sent router ∷ [] })
   one_more sent router owned i one there =
@@ -99,7 +99,7 @@ module _ (IsSane : Network → Type 0) (P : Network → PacketValue → Type 0) 
         | inr same ↦ subst (P old.network) same holds
       ]
 
-  sent_holds : (reply : Reply) (sent : Result SentValue EventFault) → Sends sent old reply new
+  sent_holds : (reply : Reply) (sent : Result Shipment EventFault) → Sends sent old reply new
       → AllHold P new
   sent_holds reply (Err fault) is = subst (AllHold P) (sym is.1) held
   sent_holds reply (Ok sent) is =
@@ -149,7 +149,7 @@ module _ (IsSane : Network → Type 0) (P : Network → PacketValue → Type 0) 
   holds_on Sweep reply is = by_leads (AllHold P) old new reply (cleared old) held held is
   holds_on (Ask src dst read limit) reply is =
       asked_holds reply src dst limit (options_asked old src dst read limit) is
-  holds_on (Send route payload) reply is = sent_holds reply (sent_by old route payload) is
+  holds_on (Send route payload) reply is = sent_holds reply (shipment_by old route payload) is
   holds_on (Turn q) reply is = by_leads (AllHold P) old new reply (turns old q) held
       (then_with (AllHold P) (flying_at old q) _ (λ one flying. (
       let there = flying_there old q one flying in

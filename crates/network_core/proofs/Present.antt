@@ -3,7 +3,7 @@ use Rattle.std.proofs.Common.{◌≡◌, ℕ, ◌+◌, List, Ok, Err, IsOk, refl
 use Rattle.scion_topology.specs.Network.{Network}
 use Rattle.scion_topology.specs.Topology.{IsNetwork, view_in}
 use Rattle.path_verifier.specs.Walk.{walk_of}
-use Rattle.forwarding.specs.declared.place.Stop.{Stop}
+use Rattle.forwarding.specs.declared.location.RouterStop.{RouterStop}
 use Rattle.router_step.specs.declared.arrival.Arrival.TheVariants.{FromHost}
 use Rattle.forwarding.specs.declared.reply.TurnReply.TheVariants.{Still}
 use Rattle.forwarding.specs.Journey.{first_out}
@@ -14,7 +14,7 @@ use Rattle.network_core.specs.declared.reply.Reply.TheVariants as replies
 use Rattle.network_core.specs.Event.{Turn}
 use Rattle.network_core.specs.Value.{PacketValue, NetValue, new_net}
 use Rattle.network_core.specs.Step.{Made, turns, flying_at, Leads}
-use Rattle.network_core.specs.History.{Moment, IsHistory, net_at, Occurs}
+use Rattle.network_core.specs.History.{EventRecord, IsHistory, net_at, Occurs}
 use Rattle.network_core.proofs.Effects.{both_done}
 use Rattle.network_core.proofs.Numbers.{becomes_at, kept_to, network_on}
 use Rattle.network_core.proofs.Packets.{Outlasts, AllHold, flying_there, holds_on}
@@ -25,9 +25,9 @@ Stands n one = IsPresent n one.packet
 lasting : Outlasts IsNetwork Stands
 lasting = record {
   departed = λ n sent router network owned stop at. (
-      let here : Stop = record { ia = sent.way.source; router = router; arrival = FromHost; came = 0 } in
+      let here : RouterStop = record { ia = sent.way.source; router = router; arrival = FromHost; came = 0 } in
       let same : here ≡ stop = cc in
-      subst (λ (s : Stop). IsOk (view_in n s.ia s.router)) same
+      subst (λ (s : RouterStop). IsOk (view_in n s.ia s.router)) same
       (owners_are_there n sent.way.source (first_out (walk_of sent.way.pieces)) router network owned));
   turned = λ n now one stop network at present.
       turn_stays_present n now one.packet stop network at (present stop at);
@@ -43,7 +43,7 @@ none_yet : (network : Network) → AllHold Stands (new_net network)
 none_yet network i one there = absurd cc
 
 -- after each number of events
-all_stand : (network : Network) (history : List Moment) (k : ℕ) → IsNetwork network
+all_stand : (network : Network) (history : List EventRecord) (k : ℕ) → IsNetwork network
     → IsHistory (new_net network) history
     → IsNetwork (net_at (new_net network) history k).network
     × AllHold Stands (net_at (new_net network) history k)
@@ -68,10 +68,10 @@ turned_still old new p (Ok made) present is leads =
     (present p one.0 there.0 there.1.0 there.1.1) still
 turned_still old new p (Err fault) present is leads = absurd (let reply = leads.0 in cc)
 
-pub no_turn_is_still : (network : Network) (history : List Moment) (k p : ℕ) → IsNetwork network
+pub no_turn_is_still : (network : Network) (history : List EventRecord) (k p : ℕ) → IsNetwork network
     → IsHistory (new_net network) history → Occurs history k (Turn p) (replies.Turned Still) → ⊥
 no_turn_is_still network history k p known is occurs =
     let start = new_net network in
-    let m : Moment = record { event = Turn p; reply = replies.Turned Still; net = occurs.net } in
+    let m : EventRecord = record { event = Turn p; reply = replies.Turned Still; net = occurs.net } in
     turned_still (net_at start history k) (net_at start history (k + 1)) p _
     (all_stand network history k known is).1 refl (becomes_at start history k m is occurs.there)

@@ -8,7 +8,7 @@ use Rattle.forwarding.specs.Frame.{HasFrame}
 use Rattle.network_core.specs.declared.fault.EventFault.{EventFault}
 use Rattle.network_core.specs.declared.reply.Reply.{Reply}
 use Rattle.network_core.specs.declared.reply.Reply.TheVariants as replies
-use Rattle.network_core.specs.Value.{SentValue, PacketValue, NetValue}
+use Rattle.network_core.specs.Value.{Shipment, PacketValue, NetValue}
 use Rattle.network_core.specs.Step.{Made, Leads, departs}
 use Rattle.network_core.specs.Delivery.{HasSentFrame}
 use Rattle.network_core.specs.Doing.{DoesSend, Keeps, ReadiesFrom}
@@ -20,7 +20,7 @@ leads_refused (Err other) fault old new is same = (cc, same)
 
 -- the call's answer is that of the event
 pub not_ready : {X : Type 0} (view : X → PacketValue) (old new : NetValue)
-    (sent : Result SentValue EventFault) (error : OrMemory EventFault) → new ≡ old
+    (sent : Result Shipment EventFault) (error : OrMemory EventFault) → new ≡ old
     → ReadiesFrom view old sent (Err error) → DoesSend sent old new (Err error)
 not_ready view old new (Ok sent) Memory same ready = (ready, same)
 not_ready view old new (Ok sent) (Refused fault) same ready = elim ready [
@@ -61,7 +61,7 @@ framed_last old new reply packet replied left frame p one sent there =
     (same_Some packet one last) frame
 
 pub ready_kept : {X : Type 0} (view : X → PacketValue) (old new : NetValue)
-    (sent : Result SentValue EventFault) (packet : X) (answer : Result Reply (OrMemory EventFault))
+    (sent : Result Shipment EventFault) (packet : X) (answer : Result Reply (OrMemory EventFault))
     → ReadiesFrom view old sent (Ok packet) → Keeps (view packet) old new answer
     → DoesSend sent old new answer
 ready_kept view old new (Ok sent) packet (Ok reply) ready keeps = (

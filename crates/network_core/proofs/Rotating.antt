@@ -6,7 +6,7 @@ use Rattle.std.proofs.lemmas.Bool.{cases_eq, cases_lt}
 use Rattle.std.proofs.lemmas.Option.{same_Some}
 use Rattle.network_core.specs.Event.{EventValue, RotateKey}
 use Rattle.network_core.specs.Value.{NetValue}
-use Rattle.network_core.specs.History.{Moment, IsHistory, net_at}
+use Rattle.network_core.specs.History.{EventRecord, IsHistory, net_at}
 use Rattle.network_core.specs.Delivery.{is_done}
 use Rattle.network_core.specs.Headline.{IsDone}
 use Rattle.network_core.proofs.Issuing.{occurs_at}
@@ -27,14 +27,14 @@ decide x (RotateKey ia key) true = elim (cases_eq ia x) [
 decide x (RotateKey ia key) false = inr (λ k e d. (let no_such : ⊥ = cc in no_such))
 decide x event done = inr (λ k e d. (let no_such : ⊥ = cc in no_such))
 
-moment_or_none : (history : List Moment) (k : ℕ)
-    → ((m : Moment) × (slice_get history k ≡ Some m)) ⊎ (slice_get history k ≡ None)
+moment_or_none : (history : List EventRecord) (k : ℕ)
+    → ((m : EventRecord) × (slice_get history k ≡ Some m)) ⊎ (slice_get history k ≡ None)
 moment_or_none [] k = inr refl
 moment_or_none (m ∷ later) zero = inl (m, refl)
 moment_or_none (m ∷ later) (suc k) = moment_or_none later k
 
 -- event number k is this one, and was done
-pub done_at : (history : List Moment) (k : ℕ) (m : Moment) (event : EventValue)
+pub done_at : (history : List EventRecord) (k : ℕ) (m : EventRecord) (event : EventValue)
     → slice_get history k ≡ Some m → m.event ≡ event → is_done m.reply ≡ true → IsDone history k event
 done_at history k m event there event_is done = record {
   reply = m.reply;
@@ -43,30 +43,30 @@ done_at history k m event there event_is done = record {
 }
 
 -- from number `begin` on and before number k no event takes another key of this AS into use
-abbrev pub Unrotated : List Moment → ℕ → ℕ → ℕ → Type 0
+abbrev pub Unrotated : List EventRecord → ℕ → ℕ → ℕ → Type 0
 Unrotated history begin k x =
     (j : ℕ) (key : List ℕ) → begin ≤ j → j < k → ¬ (IsDone history j (RotateKey x key))
 
 -- one of these events does
-abbrev pub WasRotated : List Moment → ℕ → ℕ → ℕ → Type 0
+abbrev pub WasRotated : List EventRecord → ℕ → ℕ → ℕ → Type 0
 WasRotated history begin k x =
     (j : ℕ) × ((key : List ℕ) × ((begin ≤ j) × ((j < k) × IsDone history j (RotateKey x key))))
 
-same_event : (history : List Moment) (j k : ℕ) (m : Moment) (event : EventValue) → j ≡ k
+same_event : (history : List EventRecord) (j k : ℕ) (m : EventRecord) (event : EventValue) → j ≡ k
     → slice_get history k ≡ Some m → IsDone history j event
     → (m.event ≡ event) × (is_done m.reply ≡ true)
 same_event history j k m event same there d =
     let e = same_Some m (record { event = event; reply = d.reply; net = d.occurs.net })
     (sym there ∙ ap (slice_get history) (sym same) ∙ d.occurs.there) in
-    (ap (λ (x : Moment). x.event) e, ap (λ (x : Moment). is_done x.reply) e ∙ d.done)
+    (ap (λ (x : EventRecord). x.event) e, ap (λ (x : EventRecord). is_done x.reply) e ∙ d.done)
 
-none_there : (history : List Moment) (j k : ℕ) (event : EventValue) → j ≡ k
+none_there : (history : List EventRecord) (j k : ℕ) (event : EventValue) → j ≡ k
     → slice_get history k ≡ None → IsDone history j event → ⊥
 none_there history j k event same none d =
     let e = sym none ∙ ap (slice_get history) (sym same) ∙ d.occurs.there in
     let no_such : ⊥ = cc in no_such
 
-pub rotated_or : (history : List Moment) (begin x k : ℕ)
+pub rotated_or : (history : List EventRecord) (begin x k : ℕ)
     → Unrotated history begin k x ⊎ WasRotated history begin k x
 rotated_or history begin x zero = inl (λ j key low below d. (let no_such : ⊥ = omega arith in no_such))
 rotated_or history begin x (suc k) = elim (rotated_or history begin x k) [
@@ -94,15 +94,15 @@ rotated_or history begin x (suc k) = elim (rotated_or history begin x k) [
   ]
 ]
 
-pub unrotated_before : (history : List Moment) (begin k x : ℕ) → Unrotated history begin (k + 1) x
+pub unrotated_before : (history : List EventRecord) (begin k x : ℕ) → Unrotated history begin (k + 1) x
     → Unrotated history begin k x
 unrotated_before history begin k x none j key low below d = none j key low (omega arith) d
 
 -- ---- from number to number
 
-pub kept_from : (start : NetValue) (history : List Moment) (P : ℕ → Type 0) (i d : ℕ)
+pub kept_from : (start : NetValue) (history : List EventRecord) (P : ℕ → Type 0) (i d : ℕ)
     → IsHistory start history
-    → ((k : ℕ) (m : Moment) → i ≤ k → slice_get history k ≡ Some m → StepAt start history k m → P k
+    → ((k : ℕ) (m : EventRecord) → i ≤ k → slice_get history k ≡ Some m → StepAt start history k m → P k
     → P (k + 1))
     → ((k : ℕ) → i ≤ k → net_at start history (k + 1) ≡ net_at start history k → P k → P (k + 1))
     → P i → P (i + d)
@@ -117,9 +117,9 @@ kept_from start history P i (suc d) is each idle at =
       | inr none ↦ idle (i + d) low none before
     ])
 
-pub kept_between : (start : NetValue) (history : List Moment) (P : ℕ → Type 0) (i j : ℕ) → i ≤ j
+pub kept_between : (start : NetValue) (history : List EventRecord) (P : ℕ → Type 0) (i j : ℕ) → i ≤ j
     → IsHistory start history
-    → ((k : ℕ) (m : Moment) → i ≤ k → slice_get history k ≡ Some m → StepAt start history k m → P k
+    → ((k : ℕ) (m : EventRecord) → i ≤ k → slice_get history k ≡ Some m → StepAt start history k m → P k
     → P (k + 1))
     → ((k : ℕ) → i ≤ k → net_at start history (k + 1) ≡ net_at start history k → P k → P (k + 1))
     → P i → P j

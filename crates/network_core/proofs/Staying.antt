@@ -5,14 +5,14 @@ use Rattle.std.specs.Option.{ok_or}
 use Rattle.std.proofs.lemmas.Bool.{cases_eq}
 use Rattle.std.proofs.lemmas.Option.{slice_get_within}
 use Rattle.refusal.specs.Refusal.{◌>>=◌}
-use Rattle.forwarding.specs.declared.place.Place.TheVariants.{Delivered}
+use Rattle.forwarding.specs.declared.location.PacketLocation.TheVariants.{Delivered}
 use Rattle.network_core.specs.declared.fault.EventFault.{EventFault}
 use Rattle.network_core.specs.declared.fault.EventFault.TheVariants as faults
 use Rattle.network_core.specs.declared.reply.Reply.{Reply}
 use Rattle.network_core.specs.Event.{EventValue, Tick, Originate, Extend, Terminate, Sweep, Ask, Send, Turn, Lose, Alter, CutLink, MendLink, RotateKey}
 use Rattle.network_core.specs.Value.{PacketValue, NetValue}
 use Rattle.network_core.specs.Step.{Made, is_in_flight, flying_at, turns, loses, alters, Leads, Step}
-use Rattle.network_core.specs.History.{Moment, IsHistory, net_at}
+use Rattle.network_core.specs.History.{EventRecord, IsHistory, net_at}
 use Rattle.network_core.proofs.Keeping.{kept}
 use Rattle.network_core.proofs.Numbers.{kept_to}
 
@@ -71,7 +71,7 @@ module _ (p : ℕ) (old new : NetValue) (one : PacketValue) (there : slice_get o
   stays_on (MendLink ia number) reply is = kept p old new (MendLink ia number) reply within (λ n. n) is ∙ there
   stays_on (RotateKey ia key) reply is = kept p old new (RotateKey ia key) reply within (λ n. n) is ∙ there
 
-pub delivered_stays : (start : NetValue) (history : List Moment) (p k j : ℕ) (one : PacketValue)
+pub delivered_stays : (start : NetValue) (history : List EventRecord) (p k j : ℕ) (one : PacketValue)
     → IsHistory start history → k ≤ j → slice_get (net_at start history k).packets p ≡ Some one
     → one.packet.place ≡ Delivered → slice_get (net_at start history j).packets p ≡ Some one
 delivered_stays start history p k j one is order there delivered =

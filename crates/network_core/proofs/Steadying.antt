@@ -10,10 +10,10 @@ use Rattle.forwarding.proofs.Steady.{mended_sound, cut_sound, rotated_sound}
 use Rattle.network_core.specs.declared.fault.EventFault.{EventFault}
 use Rattle.network_core.specs.declared.reply.Reply.{Reply}
 use Rattle.network_core.specs.Event.{EventValue, Tick, Originate, Extend, Terminate, Sweep, Ask, Send, Turn, Lose, Alter, CutLink, MendLink, RotateKey}
-use Rattle.network_core.specs.Value.{SentValue, NetValue}
+use Rattle.network_core.specs.Value.{Shipment, NetValue}
 use Rattle.policy_expr.specs.Options.{WeighedRules}
 use Rattle.network_core.specs.Step.{with_network, options_asked, Leads, Asks, Step}
-use Rattle.network_core.specs.History.{Moment, IsHistory}
+use Rattle.network_core.specs.History.{EventRecord, IsHistory}
 use Rattle.network_core.specs.Delivery.{is_done, AllLetGoOn, AreSound, LeavesUndisturbed, AllLeaveUndisturbed}
 use Rattle.network_core.proofs.Keeping.{IsApart, stays}
 use Rattle.network_core.proofs.Numbers.{network_on}
@@ -105,7 +105,7 @@ changes old new (RotateKey ia key) reply is =
 -- ---- sound pieces
 
 -- each event that leaves the packet undisturbed leaves its pieces sound
-pub sound_on : (p : ℕ) (sent : SentValue) (old new : NetValue) (event : EventValue) (reply : Reply)
+pub sound_on : (p : ℕ) (sent : Shipment) (old new : NetValue) (event : EventValue) (reply : Reply)
     → Step old event reply new → LeavesUndisturbed p sent old event reply
     → AreSound old.network sent.way.pieces → AreSound new.network sent.way.pieces
 sound_on p sent old new event reply is quiet sound = elim (changes old new event reply is) [
@@ -129,7 +129,7 @@ sound_on p sent old new event reply is quiet sound = elim (changes old new event
 
 -- ---- any events
 
-pub let_all : (p : ℕ) (sent : SentValue) (moment : ℕ) (net : NetValue) (later : List Moment)
+pub let_all : (p : ℕ) (sent : Shipment) (moment : ℕ) (net : NetValue) (later : List EventRecord)
     → MakesPath sent.way.pieces sent.way.source sent.way.destination moment → IsHistory net later
     → IsNetwork net.network → AreSound net.network sent.way.pieces
     → AllLeaveUndisturbed p sent net later → AllLetGoOn p sent net later

@@ -8,19 +8,19 @@ use Rattle.path_verifier.specs.Piece.{PieceValue}
 use Rattle.path_verifier.specs.Walk.{walk_of}
 use Rattle.path_verifier.specs.Accepted.{AreLive}
 use Rattle.router_step.specs.declared.fault.Refusal.{Refusal}
-use Rattle.forwarding.specs.declared.place.Stop.{Stop}
-use Rattle.forwarding.specs.declared.place.Place.{Place}
-use Rattle.forwarding.specs.declared.place.Place.TheVariants as places
+use Rattle.forwarding.specs.declared.location.RouterStop.{RouterStop}
+use Rattle.forwarding.specs.declared.location.PacketLocation.{PacketLocation}
+use Rattle.forwarding.specs.declared.location.PacketLocation.TheVariants as places
 use Rattle.forwarding.specs.Journey.{first_out}
 use Rattle.forwarding.specs.Frame.{HasFrame}
-use Rattle.forwarding.specs.Open.{LetsThrough}
-use Rattle.forwarding.specs.Standing.{arrived_with}
-use Rattle.forwarding.specs.Sound.{IsSound, PassesBy, LeavesAlone}
+use Rattle.forwarding.specs.Forwardable.{MayForward}
+use Rattle.forwarding.specs.OnPath.{arrived_with}
+use Rattle.forwarding.specs.Sound.{IsIssuedAndAccepted, AvoidsAs, AvoidsLink}
 use Rattle.network_core.specs.declared.reply.Reply.{Reply}
 use Rattle.network_core.specs.declared.reply.Reply.TheVariants as replies
 use Rattle.network_core.specs.Event.{EventValue, RouteValue, Send, Turn, Lose, Alter, CutLink, RotateKey}
-use Rattle.network_core.specs.Value.{SentValue, PacketValue, NetValue}
-use Rattle.network_core.specs.History.{Moment}
+use Rattle.network_core.specs.Value.{Shipment, PacketValue, NetValue}
+use Rattle.network_core.specs.History.{EventRecord}
 
 -- the event was done
 abbrev pub is_done : Reply → Bool
@@ -29,14 +29,14 @@ is_done reply = true
 
 -- the event, if it was done, neither loses the packet nor alters it, and a turn of the packet finds
 -- that the network lets its path through
-pub record LetsGoOn (p : ℕ) (sent : SentValue) (old : NetValue) (event : EventValue) (reply : Reply)
+pub record LetsGoOn (p : ℕ) (sent : Shipment) (old : NetValue) (event : EventValue) (reply : Reply)
     : Type 0 where
   pub unlost : event ≡ Lose p → is_done reply ≡ true → ⊥
   pub unaltered : (at change : ℕ) → event ≡ Alter p at change → is_done reply ≡ true → ⊥
   pub let_through : event ≡ Turn p → is_done reply ≡ true
-      → LetsThrough old.network old.moment sent.way.source sent.way.destination sent.way.pieces
+      → MayForward old.network old.moment sent.way.source sent.way.destination sent.way.pieces
 
-abbrev pub AllLetGoOn : ℕ → SentValue → NetValue → List Moment → Type 0
+abbrev pub AllLetGoOn : ℕ → Shipment → NetValue → List EventRecord → Type 0
 AllLetGoOn p sent net [] = Unit {0}
 AllLetGoOn p sent net (moment ∷ later) =
     LetsGoOn p sent net moment.event moment.reply × AllLetGoOn p sent moment.net later
@@ -46,15 +46,15 @@ abbrev pub is_turn_of : ℕ → EventValue → Bool
 is_turn_of p (Turn other) = other == p
 is_turn_of p event = false
 
-abbrev pub turns_of : ℕ → List Moment → ℕ
+abbrev pub turns_of : ℕ → List EventRecord → ℕ
 turns_of p [] = 0
 turns_of p (moment ∷ later) = (if is_turn_of p moment.event then 1 else 0) + turns_of p later
 
--- the packet, with so many turns to its walk's end and so many had: no router has refused it; the
--- hops that it has passed are the beginning of its walk; it is delivered exactly once it has had
--- its turns, and stands at a router before; and it is delivered with its whole walk passed, the
--- header behind all pieces and the payload as it was sent
-pub record IsForwarded (net : NetValue) (p total done : ℕ) (sent : SentValue) : Type 0 where
+-- the packet, with `total` turns to its walk's end, of which `done` were had: no router has refused
+-- it; the hops that it has passed are the beginning of its walk; it is delivered exactly once it
+-- has had its turns, and stands at a router before; and it is delivered with its whole walk passed,
+-- the header behind all pieces and the payload as it was sent
+pub record IsForwarded (net : NetValue) (p total done : ℕ) (sent : Shipment) : Type 0 where
   pub packet : PacketValue
   pub there : slice_get net.packets p ≡ Some packet
   pub holds : packet.sent ≡ sent
@@ -63,35 +63,35 @@ pub record IsForwarded (net : NetValue) (p total done : ℕ) (sent : SentValue) 
   pub rest : List WalkHop
   pub so_far : packet.packet.passed ++ rest ≡ walk_of sent.way.pieces
   pub exact : packet.packet.place ≡ places.Delivered ↔ (total ≤ done)
-  pub waits : done < total → (stop : Stop) × (packet.packet.place ≡ places.AtRouter stop)
+  pub waits : done < total → (stop : RouterStop) × (packet.packet.place ≡ places.AtRouter stop)
   pub whole : packet.packet.place ≡ places.Delivered → packet.packet
       ≡ arrived_with sent.way.source sent.way.destination sent.payload sent.way.pieces
 
 -- each piece is of a segment that the network has made under some keys, which are accepted now,
 -- over links that are up now
 abbrev pub AreSound : Network → List PieceValue → Type 0
-AreSound n pieces = All (λ piece. (keys : List (List ℕ)) × IsSound n keys piece) pieces
+AreSound n pieces = All (λ piece. (keys : List (List ℕ)) × IsIssuedAndAccepted n keys piece) pieces
 
 -- the event, if it was done, neither loses the packet nor alters it, cuts no link of its path and
 -- changes no key of its ASes, and a turn of the packet comes while its path is live
-pub record LeavesUndisturbed (p : ℕ) (sent : SentValue) (old : NetValue) (event : EventValue)
+pub record LeavesUndisturbed (p : ℕ) (sent : Shipment) (old : NetValue) (event : EventValue)
     (reply : Reply) : Type 0 where
   pub unlost : event ≡ Lose p → is_done reply ≡ true → ⊥
   pub unaltered : (at change : ℕ) → event ≡ Alter p at change → is_done reply ≡ true → ⊥
   pub in_time : event ≡ Turn p → is_done reply ≡ true → AreLive old.moment sent.way.pieces
   pub links : (ia number : ℕ) → event ≡ CutLink ia number → is_done reply ≡ true
-      → All (λ piece. LeavesAlone piece.segment piece.from piece.to ia number) sent.way.pieces
+      → All (λ piece. AvoidsLink piece.segment piece.from piece.to ia number) sent.way.pieces
   pub keys : (ia : ℕ) (key : List ℕ) → event ≡ RotateKey ia key → is_done reply ≡ true
-      → All (λ piece. PassesBy piece.segment piece.from piece.to ia) sent.way.pieces
+      → All (λ piece. AvoidsAs piece.segment piece.from piece.to ia) sent.way.pieces
 
-abbrev pub AllLeaveUndisturbed : ℕ → SentValue → NetValue → List Moment → Type 0
+abbrev pub AllLeaveUndisturbed : ℕ → Shipment → NetValue → List EventRecord → Type 0
 AllLeaveUndisturbed p sent net [] = Unit {0}
 AllLeaveUndisturbed p sent net (moment ∷ later) =
     LeavesUndisturbed p sent net moment.event moment.reply
     × AllLeaveUndisturbed p sent moment.net later
 
 -- the network has the AS from which this was sent, and there the interface by which it leaves
-abbrev pub MayDepart : Network → SentValue → Type 0
+abbrev pub MayDepart : Network → Shipment → Type 0
 MayDepart n sent = IsOk (owner_in n sent.way.source (first_out (walk_of sent.way.pieces)))
 
 -- so it is for each packet of a network
@@ -111,14 +111,14 @@ abbrev pub IsFramed : EventValue → Reply → NetValue → Type 0
 IsFramed event reply net = (route : RouteValue) (payload : List ℕ) → event ≡ Send route payload
     → HasSentFrame reply net
 
-abbrev pub AllFramed : List Moment → Type 0
+abbrev pub AllFramed : List EventRecord → Type 0
 AllFramed history = All (λ moment. IsFramed moment.event moment.reply moment.net) history
 
 -- a router has refused the packet; the packet is at a router
-abbrev pub IsRefusedAt : Place → Type 0
+abbrev pub IsRefusedAt : PacketLocation → Type 0
 IsRefusedAt (places.Refused ia router refusal) = Unit {0}
 IsRefusedAt place = ⊥
 
-abbrev pub IsAtRouter : Place → Type 0
+abbrev pub IsAtRouter : PacketLocation → Type 0
 IsAtRouter (places.AtRouter stop) = Unit {0}
 IsAtRouter place = ⊥

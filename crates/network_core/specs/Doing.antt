@@ -9,13 +9,14 @@ use Rattle.network_core.specs.declared.reply.Reply.{Reply}
 use Rattle.network_core.specs.declared.fault.EventFault.TheVariants.{Path}
 use Rattle.network_core.specs.declared.reply.Reply.TheVariants as replies
 use Rattle.network_core.specs.Event.{EventValue}
-use Rattle.network_core.specs.Value.{KeptAnswer, asked_at, SentValue, PacketValue, NetValue}
+use Rattle.network_core.specs.Value.{KeptAnswer, asked_at, Shipment, PacketValue, NetValue}
 use Rattle.network_core.specs.Step.{Made, flying_at, departs, IsAnswerTo, Asks, Sends, Departs, Step, TakesMemory}
 use Rattle.network_core.specs.Delivery.{HasSentFrame, IsFramed}
 use Rattle.path_verifier.specs.declared.fault.VerifyFault.{VerifyFault}
 use Rattle.path_verifier.specs.Accepted.{IsAccepted, IsRefused}
 
--- what was to be made was made, or its refusal or want of memory is told and nothing is changed
+-- what was to be made was made, or its refusal or running out of memory is told and nothing is
+-- changed
 abbrev pub Does : Made → Type 0 → NetValue → NetValue → Result Reply (OrMemory EventFault) → Type 0
 Does made takes old new (Ok reply) = made ≡ Ok (reply, new)
 Does made takes old new (Err (Refused fault)) = (made ≡ Err fault) × (new ≡ old)
@@ -26,21 +27,22 @@ abbrev pub error_as : {F : Type 0} → (F → EventFault) → OrMemory F → OrM
 error_as of_fault Memory = Memory
 error_as of_fault (Refused fault) = Refused (of_fault fault)
 
--- one event was done so, what it sent having its frame; or its refusal or want of memory is told
+-- one event was done so, what it sent having its frame; or its refusal or running out of memory is
+-- told
 abbrev pub DoesEvent : NetValue → EventValue → NetValue → Result Reply (OrMemory EventFault)
     → Type 0
 DoesEvent old event new (Ok reply) = Step old event reply new × IsFramed event reply new
 DoesEvent old event new (Err (Refused fault)) = Step old event (replies.Refused fault) new
 DoesEvent old event new (Err Memory) = TakesMemory old event × (new ≡ old)
 
--- what was to be sent departed and has its frame, or its refusal or want of memory is told
-abbrev pub DoesSend : Result SentValue EventFault → NetValue → NetValue
+-- what was to be sent departed and has its frame, or its refusal or running out of memory is told
+abbrev pub DoesSend : Result Shipment EventFault → NetValue → NetValue
     → Result Reply (OrMemory EventFault) → Type 0
 DoesSend sent old new (Ok reply) = Sends sent old reply new × HasSentFrame reply new
 DoesSend sent old new (Err (Refused fault)) = Sends sent old (replies.Refused fault) new
 DoesSend sent old new (Err Memory) = Departs old sent × (new ≡ old)
 
--- what was asked was answered, or its refusal or want of memory is told
+-- what was asked was answered, or its refusal or running out of memory is told
 abbrev pub DoesAsk : Result (List WeighedRules) EventFault → ℕ → ℕ → ℕ → NetValue → NetValue
     → Result Reply (OrMemory EventFault) → Type 0
 DoesAsk options src dst limit old new (Ok reply) = Asks options src dst limit old reply new
@@ -64,8 +66,8 @@ KeepsAnswer one old new (Ok reply) =
 KeepsAnswer one old new (Err Memory) = new ≡ old
 KeepsAnswer one old new (Err (Refused fault)) = ⊥
 
--- a packet is ready that would depart so, or its refusal or want of memory is told
-abbrev pub Readies : {X : Type 0} → (X → PacketValue) → NetValue → SentValue
+-- a packet is ready that would depart so, or its refusal or running out of memory is told
+abbrev pub Readies : {X : Type 0} → (X → PacketValue) → NetValue → Shipment
     → Result X (OrMemory EventFault) → Type 0
 Readies view net sent (Ok packet) =
     IsAccepted (asked_at net.moment sent.way)
@@ -81,7 +83,7 @@ Readies view net sent (Err (Refused fault)) =
 
 -- the same where there may be nothing to be sent
 abbrev pub ReadiesFrom : {X : Type 0} → (X → PacketValue) → NetValue
-    → Result SentValue EventFault → Result X (OrMemory EventFault) → Type 0
+    → Result Shipment EventFault → Result X (OrMemory EventFault) → Type 0
 ReadiesFrom view net (Ok sent) answer = Readies view net sent answer
 ReadiesFrom view net (Err fault) answer = answer ≡ Err (Refused fault)
 

@@ -10,26 +10,26 @@ use Rattle.network_core.specs.declared.fault.EventFault.{EventFault}
 use Rattle.network_core.specs.declared.fault.EventFault.TheVariants.{Beacon, Store, Policy, Combination, Path, Topology, NoPacket, NotInFlight, NoBeacon, NoAnswer, TimeBack, PayloadTooLong, BadOffset, BadLimit, TooMany, NotDelivered}
 
 -- the number and the name of a refusal
-abbrev pub told : EventFault → ℕ × List ℕ
-told (Beacon fault) = beacon.told fault
-told (Store fault) = store.told fault
-told (Policy fault) = policy.told fault
-told (Combination fault) = combination.told fault
-told (Path fault) = path.told fault
-told (Topology fault) = topology.told fault
-told NoPacket = (130, codes "NoPacket")
-told NotInFlight = (131, codes "NotInFlight")
-told NoBeacon = (132, codes "NoBeacon")
-told NoAnswer = (133, codes "NoAnswer")
-told TimeBack = (134, codes "TimeBack")
-told PayloadTooLong = (135, codes "PayloadTooLong")
-told BadOffset = (136, codes "BadOffset")
-told BadLimit = (137, codes "BadLimit")
-told TooMany = (138, codes "TooMany")
-told NotDelivered = (139, codes "NotDelivered")
+abbrev pub code_and_name : EventFault → ℕ × List ℕ
+code_and_name (Beacon fault) = beacon.code_and_name fault
+code_and_name (Store fault) = store.code_and_name fault
+code_and_name (Policy fault) = policy.code_and_name fault
+code_and_name (Combination fault) = combination.code_and_name fault
+code_and_name (Path fault) = path.code_and_name fault
+code_and_name (Topology fault) = topology.code_and_name fault
+code_and_name NoPacket = (130, codes "NoPacket")
+code_and_name NotInFlight = (131, codes "NotInFlight")
+code_and_name NoBeacon = (132, codes "NoBeacon")
+code_and_name NoAnswer = (133, codes "NoAnswer")
+code_and_name TimeBack = (134, codes "TimeBack")
+code_and_name PayloadTooLong = (135, codes "PayloadTooLong")
+code_and_name BadOffset = (136, codes "BadOffset")
+code_and_name BadLimit = (137, codes "BadLimit")
+code_and_name TooMany = (138, codes "TooMany")
+code_and_name NotDelivered = (139, codes "NotDelivered")
 
 abbrev pub code_of : EventFault → ℕ
-code_of refusal = (told refusal).0
+code_of refusal = (code_and_name refusal).0
 
 abbrev pub name_of : EventFault → List ℕ
-name_of refusal = (told refusal).1
+name_of refusal = (code_and_name refusal).1

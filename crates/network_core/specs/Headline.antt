@@ -7,33 +7,33 @@ use Rattle.path_verifier.specs.Header.{hop_count}
 use Rattle.path_verifier.specs.declared.fault.VerifyFault.TheVariants.{Expired}
 use Rattle.path_verifier.specs.Turned.{turned_pieces}
 use Rattle.path_verifier.specs.Accepted.{IsExpiry, IsAccepted}
-use Rattle.forwarding.specs.declared.place.Place.TheVariants.{Delivered}
+use Rattle.forwarding.specs.declared.location.PacketLocation.TheVariants.{Delivered}
 use Rattle.forwarding.specs.Journey.{turns_for}
-use Rattle.forwarding.specs.Sound.{PassesBy, LeavesAlone}
+use Rattle.forwarding.specs.Sound.{AvoidsAs, AvoidsLink}
 use Rattle.network_core.specs.declared.fault.EventFault.TheVariants.{Path}
 use Rattle.network_core.specs.declared.reply.Reply.{Reply}
 use Rattle.network_core.specs.declared.reply.Reply.TheVariants.{Refused}
 use Rattle.network_core.specs.Event.{BackOf, EventValue, Send, Turn, Lose, Alter, CutLink, RotateKey}
-use Rattle.network_core.specs.Value.{asked_at, SentValue, PacketValue, NetValue}
-use Rattle.network_core.specs.Step.{sent_by, Step}
-use Rattle.network_core.specs.History.{Moment, net_at, Occurs, IssuedIn}
+use Rattle.network_core.specs.Value.{asked_at, Shipment, PacketValue, NetValue}
+use Rattle.network_core.specs.Step.{shipment_by, Step}
+use Rattle.network_core.specs.History.{EventRecord, net_at, Occurs, IssuedIn}
 use Rattle.network_core.specs.Delivery.{is_done, turns_of, IsForwarded}
 
 -- event number k is this one, and was done
-pub record IsDone (history : List Moment) (k : ℕ) (event : EventValue) : Type 0 where
+pub record IsDone (history : List EventRecord) (k : ℕ) (event : EventValue) : Type 0 where
   pub reply : Reply
   pub occurs : Occurs history k event reply
   pub done : is_done reply ≡ true
 
 -- each piece is of a segment that was issued by events from number `begin` on and before number
 -- `sent`
-abbrev pub AreIssuedFrom : NetValue → List Moment → ℕ → ℕ → List PieceValue → Type 0
+abbrev pub AreIssuedFrom : NetValue → List EventRecord → ℕ → ℕ → List PieceValue → Type 0
 AreIssuedFrom start history begin sent pieces =
     All (λ piece. (first last : ℕ) × ((begin ≤ first) × ((last < sent)
     × IssuedIn start history first last piece.segment))) pieces
 
 -- and the first of all these events has number `begin`
-pub record HaveBeginning (start : NetValue) (history : List Moment) (sent : ℕ)
+pub record HaveBeginning (start : NetValue) (history : List EventRecord) (sent : ℕ)
     (pieces : List PieceValue) : Type 0 where
   pub begin : ℕ
   pub each : AreIssuedFrom start history begin sent pieces
@@ -42,19 +42,19 @@ pub record HaveBeginning (start : NetValue) (history : List Moment) (sent : ℕ)
 
 -- the pieces are issued from number `begin` on; and from there on no AS of their travelled entries
 -- has taken another key twice, and no link between two of them was cut
-pub record Kept (start : NetValue) (history : List Moment) (sent : ℕ) (pieces : List PieceValue)
+pub record Kept (start : NetValue) (history : List EventRecord) (sent : ℕ) (pieces : List PieceValue)
     : Type 0 where
   pub begin : ℕ
   pub issued : AreIssuedFrom start history begin sent pieces
   pub keys : (i j ia : ℕ) (key other : List ℕ) → begin ≤ i → i < j
       → IsDone history i (RotateKey ia key) → IsDone history j (RotateKey ia other)
-      → All (λ piece. PassesBy piece.segment piece.from piece.to ia) pieces
+      → All (λ piece. AvoidsAs piece.segment piece.from piece.to ia) pieces
   pub links : (k ia number : ℕ) → begin ≤ k → IsDone history k (CutLink ia number)
-      → All (λ piece. LeavesAlone piece.segment piece.from piece.to ia number) pieces
+      → All (λ piece. AvoidsLink piece.segment piece.from piece.to ia number) pieces
 
 -- and nobody alters the packet, nothing loses it, and each of its turns comes at a second not past
 -- the expiry of its path
-pub record Undisturbed (start : NetValue) (history : List Moment) (sent p : ℕ)
+pub record Undisturbed (start : NetValue) (history : List EventRecord) (sent p : ℕ)
     (pieces : List PieceValue) : Type 0 where
   pub kept : Kept start history sent pieces
   pub unaltered : (k at change : ℕ) → ¬ (IsDone history k (Alter p at change))
@@ -64,16 +64,16 @@ pub record Undisturbed (start : NetValue) (history : List Moment) (sent p : ℕ)
   pub in_time : (k : ℕ) → IsDone history k (Turn p) → 2 * (net_at start history k).moment ≤ expiry
 
 -- the turns of a packet in the first k events that come after number sent
-abbrev pub turns_since : List Moment → ℕ → ℕ → ℕ → ℕ
+abbrev pub turns_since : List EventRecord → ℕ → ℕ → ℕ → ℕ
 turns_since history sent p k = turns_of p (drop (sent + 1) (take k history))
 
 -- what answers a delivered packet is sent by the way back: from its destination to its source, with
 -- its pieces in reversed order and direction; this way is accepted at each second up to the expiry
 -- of the path, and the event is refused as Expired after it
-pub record IsAnswerable (net : NetValue) (p : ℕ) (sent : SentValue) (payload : List ℕ)
+pub record IsAnswerable (net : NetValue) (p : ℕ) (sent : Shipment) (payload : List ℕ)
     : Type 0 where
-  pub back : SentValue
-  pub replies : sent_by net (BackOf p) payload ≡ Ok back
+  pub back : Shipment
+  pub replies : shipment_by net (BackOf p) payload ≡ Ok back
   pub source : back.way.source ≡ sent.way.destination
   pub destination : back.way.destination ≡ sent.way.source
   pub pieces : back.way.pieces ≡ turned_pieces sent.way.pieces
@@ -84,10 +84,10 @@ pub record IsAnswerable (net : NetValue) (p : ℕ) (sent : SentValue) (payload :
       → (reply ≡ Refused (Path Expired)) × (new ≡ net)
 
 -- what event number `number` sent: its path was accepted; and after each later number of events,
--- where the packet was undisturbed up to there, it is forwarded, it is delivered once it has had two
--- turns for each hop field, and a delivered one may be answered with up to 1,024 bytes; and one that
--- is delivered stays as it is, whatever happens then
-pub record Headline (start : NetValue) (history : List Moment) (number p : ℕ) (sent : SentValue)
+-- where the packet was undisturbed up to there, it is forwarded, it is delivered once it has had
+-- two turns for each hop field, and a delivered one may be answered with up to 1,024 bytes; and one
+-- that is delivered stays as it is, whatever happens then
+pub record Headline (start : NetValue) (history : List EventRecord) (number p : ℕ) (sent : Shipment)
     : Type 0 where
   pub accepted : IsAccepted (asked_at (net_at start history number).moment sent.way)
   pub forwarded : (k : ℕ) → number < k

@@ -15,35 +15,35 @@ use Rattle.network_core.specs.Value.{KeptAnswer, way_on, asked_at, NetValue}
 use Rattle.network_core.specs.Step.{IsAnswerTo, Step}
 
 -- an event, its answer, and the network after it
-pub record Moment : Type 0 where
+pub record EventRecord : Type 0 where
   pub event : EventValue
   pub reply : Reply
   pub net : NetValue
 
 -- each event is a step from the network that the one before left
-abbrev pub IsHistory : NetValue → List Moment → Type 0
+abbrev pub IsHistory : NetValue → List EventRecord → Type 0
 IsHistory start [] = Unit {0}
 IsHistory start (moment ∷ later) =
     Step start moment.event moment.reply moment.net × IsHistory moment.net later
 
 -- the network after all of these events
-abbrev pub net_after : NetValue → List Moment → NetValue
+abbrev pub net_after : NetValue → List EventRecord → NetValue
 net_after start [] = start
 net_after start (moment ∷ later) = net_after moment.net later
 
 -- the network that event number k finds, counted from 0: that after the k events before
-abbrev pub net_at : NetValue → List Moment → ℕ → NetValue
+abbrev pub net_at : NetValue → List EventRecord → ℕ → NetValue
 net_at start history k = net_after start (take k history)
 
 -- event number k is this one and has this answer
-pub record Occurs (history : List Moment) (k : ℕ) (event : EventValue) (reply : Reply)
+pub record Occurs (history : List EventRecord) (k : ℕ) (event : EventValue) (reply : Reply)
     : Type 0 where
   pub net : NetValue
   pub there : slice_get history k ≡ Some (record { event = event; reply = reply; net = net })
 
 -- the events of these numbers pass a beacon on, each the one that the event before gave, and the
 -- last of them gives this one
-abbrev pub PassOn : List Moment → ℕ → List ℕ → ℕ → Type 0
+abbrev pub PassOn : List EventRecord → ℕ → List ℕ → ℕ → Type 0
 PassOn history beacon [] last = beacon ≡ last
 PassOn history beacon (k ∷ later) last =
     (ia egress next : ℕ) × Occurs history k (Extend beacon ia egress) (Begun next)
@@ -57,15 +57,15 @@ doer (Terminate beacon ia) = ia
 doer event = 0
 
 -- the key that the AS of event number k has in use then
-abbrev pub key_then : NetValue → List Moment → ℕ → List ℕ
+abbrev pub key_then : NetValue → List EventRecord → ℕ → List ℕ
 key_then start history k = option_map_or
-    (λ (moment : Moment). key_in (net_at start history k).network (doer moment.event))
+    (λ (moment : EventRecord). key_in (net_at start history k).network (doer moment.event))
     (slice_get history k) []
 
 -- the segment was issued by events of this history: an Originate of number `first`, any number of
 -- Extends and a Terminate of number `last`, each on the beacon that the one before gave; and the
 -- network makes it so, with the key that each AS had at its own event
-pub record IssuedIn (start : NetValue) (history : List Moment) (first last : ℕ) (segment : Chain)
+pub record IssuedIn (start : NetValue) (history : List EventRecord) (first last : ℕ) (segment : Chain)
     : Type 0 where
   pub ia : ℕ
   pub egress : ℕ
@@ -85,19 +85,19 @@ pub record IssuedIn (start : NetValue) (history : List Moment) (first last : ℕ
       (map (key_then start history) (first ∷ between ++ last ∷ [])) segment
 
 -- the segment was issued by events of the history before number k
-abbrev pub IssuedBefore : NetValue → List Moment → ℕ → Chain → Type 0
+abbrev pub IssuedBefore : NetValue → List EventRecord → ℕ → Chain → Type 0
 IssuedBefore start history k segment =
     (first last : ℕ) × (last < k) × IssuedIn start history first last segment
 
 -- after each number of events every stored segment was issued by events before
-abbrev pub AreIssued : NetValue → List Moment → Type 0
+abbrev pub AreIssued : NetValue → List EventRecord → Type 0
 AreIssued start history =
     (k : ℕ) → All (IssuedBefore start history k) (net_at start history k).segments
 
 -- the answer of this number was given by an Ask before event number k: it is what the network's
 -- segments answered then; each of its paths was accepted then, for the ends of the request and
 -- under the policy of the option that is used; and their segments were issued by events before
-pub record IsAskedBefore (start : NetValue) (history : List Moment) (k number : ℕ)
+pub record IsAskedBefore (start : NetValue) (history : List EventRecord) (k number : ℕ)
     (one : KeptAnswer) : Type 0 where
   pub at : ℕ
   pub before : at < k
@@ -112,7 +112,7 @@ pub record IsAskedBefore (start : NetValue) (history : List Moment) (k number : 
       one.answer.paths
 
 -- after each number of events every answer was given by an event before
-abbrev pub AreAsked : NetValue → List Moment → Type 0
+abbrev pub AreAsked : NetValue → List EventRecord → Type 0
 AreAsked start history = (k number : ℕ) (one : KeptAnswer)
     → slice_get (net_at start history k).answers number ≡ Some one
     → IsAskedBefore start history k number one

@@ -4,32 +4,32 @@ use Rattle.std.specs.Prelude.{◌≡◌, ℕ, List, map, Ok}
 use Rattle.scion_topology.specs.Network.{Network}
 use Rattle.network_core.specs.declared.reply.Reply.TheVariants.{Sent}
 use Rattle.network_core.specs.Event.{RouteValue, ByAnswer, EventValue, Send}
-use Rattle.network_core.specs.Value.{SentValue, NetValue, new_net}
-use Rattle.network_core.specs.Step.{sent_by}
-use Rattle.network_core.specs.History.{Moment, IsHistory, net_after, net_at, Occurs, AreIssued, AreAsked}
+use Rattle.network_core.specs.Value.{Shipment, NetValue, new_net}
+use Rattle.network_core.specs.Step.{shipment_by}
+use Rattle.network_core.specs.History.{EventRecord, IsHistory, net_after, net_at, Occurs, AreIssued, AreAsked}
 use Rattle.network_core.specs.Headline.{HaveBeginning, Headline}
 
 -- a history from a new network of this topology; every segment that is stored on the way was issued
 -- by events of it, and every answer was given by one; what a Send of it sent is delivered where it
 -- is undisturbed; and what was sent by an answer was issued before
-pub record IsRun (network : Network) (history : List Moment) : Type 0 where
+pub record IsRun (network : Network) (history : List EventRecord) : Type 0 where
   pub is : IsHistory (new_net network) history
   pub issued : AreIssued (new_net network) history
   pub asked : AreAsked (new_net network) history
   pub delivered : (number p : ℕ) (route : RouteValue) (payload : List ℕ)
       → Occurs history number (Send route payload) (Sent p)
-      → (sent : SentValue)
-      × ((sent_by (net_at (new_net network) history number) route payload ≡ Ok sent)
+      → (sent : Shipment)
+      × ((shipment_by (net_at (new_net network) history number) route payload ≡ Ok sent)
       × Headline (new_net network) history number p sent)
   pub by_answer : (number p ask path : ℕ) (payload : List ℕ)
       → Occurs history number (Send (ByAnswer ask path) payload) (Sent p)
-      → (sent : SentValue)
-      × ((sent_by (net_at (new_net network) history number) (ByAnswer ask path) payload ≡ Ok sent)
+      → (sent : Shipment)
+      × ((shipment_by (net_at (new_net network) history number) (ByAnswer ask path) payload ≡ Ok sent)
       × HaveBeginning (new_net network) history number sent.way.pieces)
 
 -- a run of these events leads to this network
 pub record Ran (network : Network) (events : List EventValue) (net : NetValue) : Type 0 where
-  pub history : List Moment
+  pub history : List EventRecord
   pub run : IsRun network history
   pub of : map (λ moment. moment.event) history ≡ events
   pub ends : net_after (new_net network) history ≡ net

@@ -17,19 +17,19 @@ way_of given = record {
 }
 
 -- the value of an event
-abbrev pub seen : Event → EventValue
-seen (events.Tick now) = Tick now
-seen (events.Originate ia egress beta0) = Originate ia egress beta0
-seen (events.Extend beacon ia egress) = Extend beacon ia egress
-seen (events.Terminate beacon ia) = Terminate beacon ia
-seen events.Sweep = Sweep
-seen (events.Ask src dst options limit) = Ask src dst (options_at options.now) limit
-seen (events.Send ask path payload) = Send (ByAnswer ask path) payload.now
-seen (events.SendGiven way payload) = Send (ByWay (way_of way)) payload.now
-seen (events.Turn packet) = Turn packet
-seen (events.Lose packet) = Lose packet
-seen (events.Alter packet at xor) = Alter packet at xor
-seen (events.Back packet payload) = Send (BackOf packet) payload.now
-seen (events.CutLink ia interface) = CutLink ia interface
-seen (events.MendLink ia interface) = MendLink ia interface
-seen (events.RotateKey ia key) = RotateKey ia key.now
+abbrev pub event_value : Event → EventValue
+event_value (events.Tick now) = Tick now
+event_value (events.Originate ia egress beta0) = Originate ia egress beta0
+event_value (events.Extend beacon ia egress) = Extend beacon ia egress
+event_value (events.Terminate beacon ia) = Terminate beacon ia
+event_value events.Sweep = Sweep
+event_value (events.Ask src dst options limit) = Ask src dst (options_at options.now) limit
+event_value (events.Send ask path payload) = Send (ByAnswer ask path) payload.now
+event_value (events.SendGiven way payload) = Send (ByWay (way_of way)) payload.now
+event_value (events.Turn packet) = Turn packet
+event_value (events.Lose packet) = Lose packet
+event_value (events.Alter packet at xor) = Alter packet at xor
+event_value (events.Back packet payload) = Send (BackOf packet) payload.now
+event_value (events.CutLink ia interface) = CutLink ia interface
+event_value (events.MendLink ia interface) = MendLink ia interface
+event_value (events.RotateKey ia key) = RotateKey ia key.now

@@ -22,8 +22,8 @@ use Rattle.path_verifier.specs.Accepted.{IsAccepted, IsRefused}
 use Rattle.combinator.specs.Answer.{AnswersWith}
 use Rattle.combinator.specs.Fault.{ends_at}
 use Rattle.router_step.specs.Packet.{destination_of, source_of, header_in}
-use Rattle.forwarding.specs.declared.place.Place.{Place}
-use Rattle.forwarding.specs.declared.place.Place.TheVariants as places
+use Rattle.forwarding.specs.declared.location.PacketLocation.{PacketLocation}
+use Rattle.forwarding.specs.declared.location.PacketLocation.TheVariants as places
 use Rattle.forwarding.specs.Frame.{framed}
 use Rattle.forwarding.specs.Turn.{Packet, put_at, turn_of, lost, altered}
 use Rattle.forwarding.specs.Turned.{no_rules}
@@ -33,7 +33,7 @@ use Rattle.network_core.specs.declared.fault.EventFault.TheVariants as faults
 use Rattle.network_core.specs.declared.reply.Reply.{Reply}
 use Rattle.network_core.specs.declared.reply.Reply.TheVariants.{Done, Begun, Registered, Swept, Answered, Sent, Turned, Refused}
 use Rattle.network_core.specs.Event.{RouteValue, ByAnswer, ByWay, BackOf, EventValue, Tick, Originate, Extend, Terminate, Sweep, Ask, Send, Turn, Lose, Alter, CutLink, MendLink, RotateKey}
-use Rattle.network_core.specs.Value.{Way, KeptAnswer, way_on, asked_at, SentValue, PacketValue, NetValue}
+use Rattle.network_core.specs.Value.{Way, KeptAnswer, way_on, asked_at, Shipment, PacketValue, NetValue}
 
 -- what an event that is done makes of a network
 abbrev pub Made : Type 0
@@ -103,8 +103,8 @@ with_network net changed = do
 
 -- ---- asking for paths
 
--- the options under which up to so many paths are asked for: BadLimit; the refusal of the options'
--- texts; that of one AS at both ends; TooMany
+-- the options under which paths are asked for, at most `limit` of them: BadLimit; the refusal of
+-- the options' texts; that of one AS at both ends; TooMany
 abbrev pub options_asked : NetValue → ℕ → ℕ → Result (List WeighedRules) OptionFault → ℕ
     → Result (List WeighedRules) EventFault
 options_asked net src dst read limit = do
@@ -152,7 +152,7 @@ abbrev pub packet_at : NetValue → ℕ → Result PacketValue EventFault
 packet_at net number = ok_or (slice_get net.packets number) faults.NoPacket
 
 -- the packet is at a router: NotInFlight
-abbrev pub is_in_flight : Place → Result (Unit {0}) EventFault
+abbrev pub is_in_flight : PacketLocation → Result (Unit {0}) EventFault
 is_in_flight (places.AtRouter stop) = Ok tt
 is_in_flight place = Err faults.NotInFlight
 
@@ -192,7 +192,7 @@ alters net number at change = do
 -- ---- sending
 
 -- the header of a packet that was delivered, reversed: NotDelivered
-abbrev pub header_back : Packet → Place → Result HeaderValue EventFault
+abbrev pub header_back : Packet → PacketLocation → Result HeaderValue EventFault
 header_back packet places.Delivered = do
   read ← or_else faults.NotDelivered (header_in packet.bytes)
   Ok (reversed read.0)
@@ -223,18 +223,18 @@ way_by net (BackOf number) = do
   Ok (way_back one header)
 
 -- what is sent, of at most 1,024 bytes: PayloadTooLong
-abbrev pub sent_with : Way → List ℕ → Result SentValue EventFault
-sent_with way payload = do
+abbrev pub shipment_of : Way → List ℕ → Result Shipment EventFault
+shipment_of way payload = do
   _ ← check (nat_le (length payload) 1024) faults.PayloadTooLong
   Ok (record { way = way; payload = payload })
 
-abbrev pub sent_by : NetValue → RouteValue → List ℕ → Result SentValue EventFault
-sent_by net route payload = do
+abbrev pub shipment_by : NetValue → RouteValue → List ℕ → Result Shipment EventFault
+shipment_by net route payload = do
   way ← way_by net route
-  sent_with way payload
+  shipment_of way payload
 
 -- the packet of it, at this router of its source
-abbrev pub packet_of : SentValue → ℕ → PacketValue
+abbrev pub packet_of : Shipment → ℕ → PacketValue
 packet_of sent router = record {
   sent = sent;
   packet = put_at (framed sent.way.source sent.way.destination sent.way.header sent.payload)
@@ -243,7 +243,7 @@ packet_of sent router = record {
 
 -- a path that may be sent departs: the packet stands at the router that owns the way out of the
 -- walk's first hop, and there are at most a million packets
-abbrev pub departs : NetValue → SentValue → Made
+abbrev pub departs : NetValue → Shipment → Made
 departs net sent = do
   router ← refused_as faults.Topology
       (owner_in net.network sent.way.source (first_out (walk_of sent.way.pieces)))
@@ -258,7 +258,7 @@ Leads (Ok made) old reply new = (reply ≡ made.0) × (new ≡ made.1)
 Leads (Err fault) old reply new = (reply ≡ Refused fault) × (new ≡ old)
 
 -- a path that the verifier accepts at the moment departs, and another is refused by its fault
-abbrev pub Sends : Result SentValue EventFault → NetValue → Reply → NetValue → Type 0
+abbrev pub Sends : Result Shipment EventFault → NetValue → Reply → NetValue → Type 0
 Sends (Ok sent) old reply new =
     (IsAccepted (asked_at old.moment sent.way) × Leads (departs old sent) old reply new)
     ⊎ ((fault : VerifyFault) × (IsRefused (asked_at old.moment sent.way) fault
@@ -275,7 +275,7 @@ Step old (Terminate beacon ia) reply new = Leads (terminates old beacon ia) old 
 Step old Sweep reply new = Leads (cleared old) old reply new
 Step old (Ask src dst read limit) reply new =
     Asks (options_asked old src dst read limit) src dst limit old reply new
-Step old (Send route payload) reply new = Sends (sent_by old route payload) old reply new
+Step old (Send route payload) reply new = Sends (shipment_by old route payload) old reply new
 Step old (Turn packet) reply new = Leads (turns old packet) old reply new
 Step old (Lose packet) reply new = Leads (loses old packet) old reply new
 Step old (Alter packet at change) reply new = Leads (alters old packet at change) old reply new
@@ -287,11 +287,11 @@ Step old (RotateKey ia key) reply new =
     Leads (with_network old (rotated ia key old.network)) old reply new
 
 -- a path that the verifier accepts departs
-abbrev pub Departs : NetValue → Result SentValue EventFault → Type 0
+abbrev pub Departs : NetValue → Result Shipment EventFault → Type 0
 Departs net (Ok sent) = IsAccepted (asked_at net.moment sent.way) × IsOk (departs net sent)
 Departs net (Err fault) = ⊥
 
--- want of memory is possible: the event makes a beacon, a segment, an answer or a packet
+-- running out of memory is possible: the event makes a beacon, a segment, an answer or a packet
 abbrev pub TakesMemory : NetValue → EventValue → Type 0
 TakesMemory net (Tick to) = ⊥
 TakesMemory net (Originate ia egress beta0) = IsOk (begun net ia egress beta0)
@@ -299,7 +299,7 @@ TakesMemory net (Extend beacon ia egress) = IsOk (passed_on net beacon ia egress
 TakesMemory net (Terminate beacon ia) = IsOk (ended net beacon ia)
 TakesMemory net Sweep = ⊥
 TakesMemory net (Ask src dst read limit) = IsOk (options_asked net src dst read limit)
-TakesMemory net (Send route payload) = Departs net (sent_by net route payload)
+TakesMemory net (Send route payload) = Departs net (shipment_by net route payload)
 TakesMemory net (Turn packet) = ⊥
 TakesMemory net (Lose packet) = ⊥
 TakesMemory net (Alter packet at change) = ⊥

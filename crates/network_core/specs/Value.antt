@@ -24,13 +24,13 @@ asked_at moment way =
     request_of way.pieces way.header way.source way.destination moment way.rules
 
 -- what was accepted for sending
-pub record SentValue : Type 0 where
+pub record Shipment : Type 0 where
   pub way : Way
   pub payload : List ℕ
 
 -- a packet: what was sent, and the packet on its way
 pub record PacketValue : Type 0 where
-  pub sent : SentValue
+  pub sent : Shipment
   pub packet : Packet
 
 -- an answer that is kept: the ends of the request, what was answered, and the policy of the option

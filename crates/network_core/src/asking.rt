@@ -10,7 +10,7 @@ ghost use Rattle.network_core.specs.Doing.{AnswersTo, DoesAsk, Judges, KeepsAnsw
 ghost use Rattle.network_core.specs.Step.{options_asked, rules_used};
 
 use crate::answer::Answer;
-use crate::beacons::MOST;
+use crate::beacons::MAX_OBJECTS;
 use crate::fault::EventFault;
 use crate::net::{EventError, Net};
 use crate::reply::Reply;
@@ -41,8 +41,8 @@ impl Net {
         self.keep_answer(answer)
     }
 
-    /// The options of a request, or the first cause why it is refused. Want of memory stands only
-    /// where there is no cause.
+    /// The options of a request, or the first cause why it is refused. Running out of memory stands
+    /// only where there is no cause.
     fn options_asked(
         &self,
         alloc: Global,
@@ -66,7 +66,7 @@ impl Net {
         if src == dst {
             return Err(OrMemory::Refused(EventFault::Combination(CombineFault::SameAs)));
         }
-        if self.answers.len() >= MOST {
+        if self.answers.len() >= MAX_OBJECTS {
             return Err(OrMemory::Refused(EventFault::TooMany));
         }
         match options {

@@ -19,7 +19,7 @@ use scion_topology::TopologyFault;
 use std::alloc::Global;
 
 /// The most beacons, the most answers, and the most packets.
-pub(crate) const MOST: usize = 1_000_000;
+pub(crate) const MAX_OBJECTS: usize = 1_000_000;
 
 impl Net {
     /// The moment goes on.
@@ -95,7 +95,7 @@ impl Net {
         ensures { Does (with_beacon self.old beacon) (Unit {0}) self.old self.new result }
     {
         let number = self.beacons.len();
-        if number >= MOST {
+        if number >= MAX_OBJECTS {
             return Err(OrMemory::Refused(EventFault::TooMany));
         }
         self.beacons.push(beacon)?;

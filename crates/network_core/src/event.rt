@@ -10,7 +10,7 @@ use std::alloc::Global;
 pub struct Given<'a> {
     /// The AS that sends.
     pub source: IsdAs,
-    /// The AS for which it is.
+    /// The destination AS.
     pub destination: IsdAs,
     /// The pieces, in order of travel.
     pub pieces: &'a Pieces<'a>,

@@ -1,7 +1,7 @@
 ghost use Rattle.std.specs.Prelude.{◌≡◌, IfOk, OnErr, option_map, slice_get};
 ghost use Rattle.network_core.specs.Delivery.{IsFramed};
 ghost use Rattle.network_core.specs.Doing.{DoesEvent, Keeps};
-ghost use Rattle.network_core.specs.Seen.{seen};
+ghost use Rattle.network_core.specs.Seen.{event_value};
 ghost use Rattle.network_core.specs.Step.{Step, TakesMemory};
 ghost use Rattle.network_core.specs.Value.{new_net};
 
@@ -133,19 +133,19 @@ impl Net {
     }
 
     /// One event: what it is answered, and the network after it. One that is refused changes
-    /// nothing, and so does want of memory, which comes only where a beacon, a segment, an answer
-    /// or a packet was to be made.
+    /// nothing, and so does running out of memory, which comes only where a beacon, a segment, an
+    /// answer or a packet was to be made.
     ///
     /// Takes time for the entries of the beacon that is named, for the segments of the store where
     /// one is registered or the store is swept, and for the bytes of the packet that is named;
     /// where paths are asked for, that of [`combinator::combine`] over the segments that may lead
     /// there.
     pub fn step(&mut self, alloc: Global, event: &Event<'_>) -> Result<Reply, AllocError>
-        ensures step { IfOk result (λ reply. Step self.old (seen event.now) reply self.new) }
+        ensures step { IfOk result (λ reply. Step self.old (event_value event.now) reply self.new) }
         // Of what it sent, both addresses and the numbers of the header have a place for their
         // bits.
-        ensures framed { IfOk result (λ reply. IsFramed (seen event.now) reply self.new) }
-        ensures short { OnErr result (TakesMemory self.old (seen event.now)) }
+        ensures framed { IfOk result (λ reply. IsFramed (event_value event.now) reply self.new) }
+        ensures short { OnErr result (TakesMemory self.old (event_value event.now)) }
         ensures kept { OnErr result (self.new ≡ self.old) }
     {
         match self.attempt(alloc, event) {
@@ -157,7 +157,7 @@ impl Net {
 
     /// Does an event, or says why not.
     fn attempt(&mut self, alloc: Global, event: &Event<'_>) -> Result<Reply, EventError>
-        ensures { DoesEvent self.old (seen event.now) self.new result }
+        ensures { DoesEvent self.old (event_value event.now) self.new result }
     {
         match event {
             Event::Tick { now } => self.tick(*now),
@@ -172,7 +172,7 @@ impl Net {
                 limit,
             } => self.ask(alloc, *src, *dst, options, *limit),
             Event::Send { ask, path, payload } => self.send(alloc, *ask, *path, payload),
-            Event::SendGiven { way, payload } => self.send_given(alloc, way, payload),
+            Event::SendGiven { way, payload } => self.send_over(alloc, way, payload),
             Event::Turn { packet } => self.turn(*packet),
             Event::Lose { packet } => self.lose(*packet),
             Event::Alter { packet, at, xor } => self.alter(*packet, *at, *xor),

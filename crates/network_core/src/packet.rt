@@ -4,7 +4,7 @@ ghost use Rattle.path_verifier.specs.Walk.{walk_of};
 ghost use Rattle.forwarding.specs.Journey.{first_out};
 ghost use Rattle.network_core.specs.Value.{asked_at};
 
-use forwarding::{Place, Transit, first_out};
+use forwarding::{PacketInFlight, PacketLocation, first_out};
 use isd_as::{IfId, IsdAs};
 use path_header::Header;
 use path_verifier::OwnedPiece;
@@ -30,9 +30,9 @@ impl Model for Sent {
     ghost use Rattle.std.specs.Coded.{codes};
     ghost use Rattle.policy_expr.specs.Code.{coded_tree};
     ghost use Rattle.path_verifier.specs.Accepted.{request_of, IsAccepted};
-    ghost use Rattle.network_core.specs.Value.{SentValue};
+    ghost use Rattle.network_core.specs.Value.{Shipment};
 
-    ghost Value = { SentValue };
+    ghost Value = { Shipment };
 
     ghost coded = { Prim.hlevel (codes, coded_tree) };
 
@@ -116,7 +116,7 @@ impl Sent {
 #[derive(Drop)]
 pub struct Packet {
     pub(crate) sent: Sent,
-    pub(crate) transit: Transit,
+    pub(crate) transit: PacketInFlight,
 }
 
 impl Model for Packet {
@@ -147,7 +147,7 @@ impl Packet {
     }
 
     /// Where it is.
-    pub fn place(&self) -> Place
+    pub fn place(&self) -> PacketLocation
         ensures { result ≡ self.now.packet.place }
     {
         self.transit.place()

@@ -10,7 +10,7 @@ pub enum Reply {
     Begun(usize),
     /// It gave a segment, which was registered: whether the store has it as new, or knew it.
     Registered(bool),
-    /// It took so many segments out of the store.
+    /// The number of segments that it took out of the store.
     Swept(usize),
     /// It gave the answer of this number.
     Answered(usize),

@@ -1,7 +1,7 @@
 ghost use Rattle.std.specs.Prelude.{◌≡◌, IfErr, IfOk, Some, map, slice_get, take};
 ghost use Rattle.network_core.specs.Event.{EventValue};
 ghost use Rattle.network_core.specs.Ran.{Ran};
-ghost use Rattle.network_core.specs.Seen.{seen};
+ghost use Rattle.network_core.specs.Seen.{event_value};
 ghost use Rattle.network_core.specs.Step.{TakesMemory};
 
 use crate::event::Event;
@@ -19,7 +19,7 @@ pub struct Stopped {
 }
 
 /// Runs events in order over a topology, in a network that begins with nothing in it. Where memory
-/// runs out at an event that makes something, the network after the events before is handed back.
+/// runs out at an event that makes something, the network after the events before is returned.
 ///
 /// Each segment that is stored on the way was issued by events of the run, and the paths of each
 /// answer were accepted when it was given, so what is sent by an answer was issued before. And what
@@ -31,10 +31,10 @@ pub struct Stopped {
 /// second not past the path's expiry. A delivered packet stays as it is. Its hops are a word of the
 /// policy under which it was sent, and pass its list.
 pub fn run(alloc: Global, topology: Topology, events: &[Event<'_>]) -> Result<Net, Stopped>
-    ensures ran { IfOk result (λ net. Ran topology (map seen events.now) net) }
+    ensures ran { IfOk result (λ net. Ran topology (map event_value events.now) net) }
     ensures stopped { IfErr result (λ s. (event : EventValue)
-        × ((slice_get (map seen events.now) s.done ≡ Some event)
-        × (TakesMemory s.net event × Ran topology (take s.done (map seen events.now)) s.net))) }
+        × ((slice_get (map event_value events.now) s.done ≡ Some event)
+        × (TakesMemory s.net event × Ran topology (take s.done (map event_value events.now)) s.net))) }
 {
     topology.known();
     let mut net = Net::new(alloc, topology);

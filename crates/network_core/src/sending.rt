@@ -9,15 +9,15 @@ ghost use Rattle.network_core.specs.Doing.{DoesSend, Judges, Readies, ReadiesFro
 ghost use Rattle.network_core.specs.Event.{BackOf, ByAnswer};
 ghost use Rattle.network_core.specs.Seen.{way_of};
 ghost use Rattle.network_core.specs.Value.{asked_at};
-ghost use Rattle.network_core.specs.Step.{header_back, packet_of, sent_by, sent_with};
+ghost use Rattle.network_core.specs.Step.{header_back, packet_of, shipment_by, shipment_of};
 
-use crate::beacons::MOST;
+use crate::beacons::MAX_OBJECTS;
 use crate::event::Given;
 use crate::fault::EventFault;
 use crate::net::{EventError, Net};
 use crate::packet::{Packet, Sent};
 use crate::reply::Reply;
-use forwarding::{Place, Transit, frame};
+use forwarding::{PacketInFlight, PacketLocation, frame};
 use path_header::Header;
 use path_verifier::{lend_all, own_all, verify};
 use policy_expr::Policy;
@@ -37,7 +37,7 @@ impl Net {
         path: u32,
         payload: &[u8],
     ) -> Result<Reply, EventError>
-        ensures { DoesSend (sent_by self.old (ByAnswer ask path) payload.now)
+        ensures { DoesSend (shipment_by self.old (ByAnswer ask path) payload.now)
             self.old self.new result }
     {
         match self.ready_answered(alloc, ask, path, payload) {
@@ -47,13 +47,13 @@ impl Net {
     }
 
     /// Sends a packet by a way that is given.
-    pub(crate) fn send_given(
+    pub(crate) fn send_over(
         &mut self,
         alloc: Global,
         way: &Given<'_>,
         payload: &[u8],
     ) -> Result<Reply, EventError>
-        ensures { DoesSend (sent_with (way_of way.now) payload.now) self.old self.new result }
+        ensures { DoesSend (shipment_of (way_of way.now) payload.now) self.old self.new result }
     {
         check_payload(payload)?;
         let packet = self.ready(alloc, way, payload)?;
@@ -67,7 +67,7 @@ impl Net {
         packet: u32,
         payload: &[u8],
     ) -> Result<Reply, EventError>
-        ensures { DoesSend (sent_by self.old (BackOf packet) payload.now) self.old self.new result }
+        ensures { DoesSend (shipment_by self.old (BackOf packet) payload.now) self.old self.new result }
     {
         match self.ready_back(alloc, packet, payload) {
             Ok(packet) => self.keep_packet(packet),
@@ -84,7 +84,7 @@ impl Net {
         payload: &[u8],
     ) -> Result<Packet, EventError>
         ensures { ReadiesFrom (λ p. p) self.now
-            (sent_by self.now (ByAnswer ask path) payload.now) result }
+            (shipment_by self.now (ByAnswer ask path) payload.now) result }
     {
         let answer = self.answer_numbered(ask)?;
         let path = answer.path_numbered(path)?;
@@ -103,7 +103,7 @@ impl Net {
     /// The answer to a delivered packet, ready to depart, or the first cause why it may not.
     fn ready_back(&self, alloc: Global, packet: u32, payload: &[u8]) -> Result<Packet, EventError>
         ensures { ReadiesFrom (λ p. p) self.now
-            (sent_by self.now (BackOf packet) payload.now) result }
+            (shipment_by self.now (BackOf packet) payload.now) result }
     {
         let one = self.packet_numbered(packet)?;
         let header = header_back(one)?;
@@ -144,7 +144,7 @@ impl Net {
             Ok(router) => router,
             Err(fault) => return Err(OrMemory::Refused(EventFault::Topology(fault))),
         };
-        if self.packets.len() >= MOST {
+        if self.packets.len() >= MAX_OBJECTS {
             return Err(OrMemory::Refused(EventFault::TooMany));
         }
         Ok(packet_of(alloc, way, payload, self.moment, router)?)
@@ -168,7 +168,7 @@ fn header_back(one: &Packet) -> Result<Header, EventError>
     ensures { Judges (λ header. header) result
         (header_back one.now.packet one.now.packet.place) }
 {
-    if one.place() != Place::Delivered {
+    if one.place() != PacketLocation::Delivered {
         return Err(OrMemory::Refused(EventFault::NotDelivered));
     }
     match read_header(one.bytes()) {
@@ -207,7 +207,7 @@ fn packet_of(
     };
     Ok(Packet {
         sent,
-        transit: Transit::at_router(bytes, way.source, router),
+        transit: PacketInFlight::at_router(bytes, way.source, router),
     })
 }
 

@@ -8,7 +8,7 @@ use crate::fault::EventFault;
 use crate::net::{EventError, Net};
 use crate::packet::Packet;
 use crate::reply::Reply;
-use forwarding::Place;
+use forwarding::PacketLocation;
 use refusal::OrMemory;
 
 impl Net {
@@ -61,7 +61,7 @@ impl Net {
     {
         let one = self.packet_numbered(packet)?;
         match one.place() {
-            Place::AtRouter(_) => Ok(packet as usize),
+            PacketLocation::AtRouter(_) => Ok(packet as usize),
             _ => Err(OrMemory::Refused(EventFault::NotInFlight)),
         }
     }

@@ -19,7 +19,7 @@ router_name ia router = codes "\"" ++ (canonical ia ++ (codes " " ++ (decimal ro
 unfoldable pub router_text : ℕ → ℕ → List ℕ
 router_text ia router = router_name ia router ++ (codes " [label=" ++ (decimal router ++ codes "]; "))
 
--- the routers of an AS, of which there are so many
+-- the routers of an AS, by their number
 unfoldable pub routers_text : ℕ → ℕ → List ℕ
 routers_text ia zero = []
 routers_text ia (suc router) = routers_text ia router ++ router_text ia router

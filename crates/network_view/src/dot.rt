@@ -29,7 +29,7 @@ fn router_text(alloc: Global, ia: IsdAs, router: u8) -> Result<String, AllocErro
     format!(in alloc; "{} [label={router}]; ", name.as_str())
 }
 
-/// The routers of an AS, of which there are so many.
+/// The routers of an AS, by their number.
 #[tactic(auto, unfolding(crate::specs::Dot::routers_text))]
 fn routers_text(alloc: Global, ia: IsdAs, routers: u8) -> Result<String, AllocError>
     ensures { IfOk result (λ text. string_bytes text ≡ routers_text ia routers) }
@@ -167,7 +167,7 @@ fn lines(alloc: Global, links: &[Link]) -> Result<String, AllocError>
 /// The picture of the network of these ASes and links: a box for each AS and a line for each link,
 /// in their order.
 ///
-/// `AllocError` for want of memory.
+/// `AllocError` if memory runs out.
 #[tactic(auto, unfolding(crate::specs::Dot::dot_of))]
 pub fn network_dot(alloc: Global, ases: &[AsEntry], links: &[Link]) -> Result<String, AllocError>
     ensures { IfOk result (λ text. string_bytes text

@@ -12,7 +12,7 @@ use Rattle.router_step.specs.declared.fault.Refusal.{Refusal}
 use Rattle.router_step.specs.Place.{info_at, hop_of}
 use Rattle.router_step.specs.Packet.{destination_of, source_of, header_in}
 
--- so many bytes from a place of the packet on, and what they say
+-- a number of bytes from a place of the packet on, and what they say
 unfoldable pub field_text : List ℕ → ℕ → ℕ → List ℕ → List ℕ
 field_text packet start len says =
     encode_lower (take len (drop start packet)) ++ (codes " " ++ (says ++ codes "\n"))

@@ -15,7 +15,7 @@ use std::alloc::{AllocError, Global};
 /// The bytes in front of the path header: two addresses.
 const ADDRESSES_LEN: usize = 16;
 
-/// So many bytes from a place of the packet on, and what they say.
+/// The `len` bytes of the packet from place `at` on, and what they say.
 #[tactic(auto, unfolding(crate::specs::Fields::field_text))]
 fn field_text(
     alloc: Global,

@@ -45,8 +45,8 @@ fn check_text(alloc: Global, check: &Check) -> Result<String, AllocError>
 /// blanks at both ends, at the router whose turn this is: each field of the packet, each check up
 /// to the first that fails, and the line of [`StepCommand::line`], which has no end.
 ///
-/// [`StepFault::PacketText`] where the text is not hexadecimal digits, two for each byte;
-/// [`StepFault::Memory`] for want of memory.
+/// [`StepFault::PacketText`] if the text is not hexadecimal digits, two for each byte;
+/// [`StepFault::Memory`] if memory runs out.
 #[tactic(auto, unfolding(crate::specs::Lines::lines_of))]
 pub fn packet_lines(alloc: Global, command: &StepCommand, text: &[u8]) -> Result<String, StepFault>
     ensures { Prints result (lines_of command.now text.now) }

@@ -4,18 +4,18 @@ use Rattle.path_header.specs.declared.fault.HeaderFault.{HeaderFault}
 use Rattle.path_header.specs.declared.fault.HeaderFault.TheVariants.{Short, Reserved, PeerFlag, AlertFlag, SegLens, TooManyHops, BadIndex, RoomTooSmall}
 
 -- the number and the name of a refusal
-abbrev pub told : HeaderFault → ℕ × List ℕ
-told Short = (20, codes "Short")
-told Reserved = (21, codes "Reserved")
-told PeerFlag = (22, codes "PeerFlag")
-told AlertFlag = (23, codes "AlertFlag")
-told SegLens = (24, codes "SegLens")
-told TooManyHops = (25, codes "TooManyHops")
-told BadIndex = (26, codes "BadIndex")
-told RoomTooSmall = (27, codes "RoomTooSmall")
+abbrev pub code_and_name : HeaderFault → ℕ × List ℕ
+code_and_name Short = (20, codes "Short")
+code_and_name Reserved = (21, codes "Reserved")
+code_and_name PeerFlag = (22, codes "PeerFlag")
+code_and_name AlertFlag = (23, codes "AlertFlag")
+code_and_name SegLens = (24, codes "SegLens")
+code_and_name TooManyHops = (25, codes "TooManyHops")
+code_and_name BadIndex = (26, codes "BadIndex")
+code_and_name RoomTooSmall = (27, codes "RoomTooSmall")
 
 abbrev pub code_of : HeaderFault → ℕ
-code_of refusal = (told refusal).0
+code_of refusal = (code_and_name refusal).0
 
 abbrev pub name_of : HeaderFault → List ℕ
-name_of refusal = (told refusal).1
+name_of refusal = (code_and_name refusal).1

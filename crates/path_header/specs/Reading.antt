@@ -67,7 +67,7 @@ hop_at bytes =
     else if nat_lt 0 (slice_index bytes 0) then Err Reserved
     else Ok (hop_from bytes)
 
--- so many fields of this width, one after the other
+-- a number of fields of this width, one after the other
 unfoldable pub fields_at : {A : Type 0} → (List ℕ → Result A HeaderFault) → ℕ → ℕ → List ℕ → Result (List A) HeaderFault
 fields_at one width zero bytes = Ok []
 fields_at one width (suc n) bytes = do

@@ -7,7 +7,7 @@ ghost use Rattle.path_header.specs.Shown.{judged};
 use crate::fault::HeaderFault;
 use crate::reading::{check_hop, check_info, meta_of};
 
-/// Checks so many info fields, one after the other.
+/// Checks `count` info fields, one after the other.
 fn check_infos(bytes: &[u8], count: usize) -> Result<(), HeaderFault>
     requires few { count ≤ 3 }
     requires long { 8 * count ≤ length bytes.now }
@@ -20,7 +20,7 @@ fn check_infos(bytes: &[u8], count: usize) -> Result<(), HeaderFault>
     Ok(())
 }
 
-/// Checks so many hop fields, one after the other.
+/// Checks `count` hop fields, one after the other.
 fn check_hops(bytes: &[u8], count: usize) -> Result<(), HeaderFault>
     requires few { count ≤ 64 }
     requires long { 12 * count ≤ length bytes.now }

@@ -15,7 +15,7 @@ pub struct InfoField {
 
 /// What a path header says of an AS on a segment.
 ///
-/// The way in is `cons_ingress` and the way out `cons_egress` where the path goes in construction
+/// The way in is `cons_ingress` and the way out `cons_egress` if the path goes in construction
 /// direction, and the other way round where it does not.
 #[derive(Clone, Copy, Debug, PartialEq, Eq)]
 pub struct HopField {

@@ -56,9 +56,9 @@ impl Header {
     /// The header of segments of these lengths and of these fields, at its first info and hop
     /// field.
     ///
-    /// The first of these that holds is the refusal: [`HeaderFault::SegLens`] where the first
+    /// The first of these that holds is the refusal: [`HeaderFault::SegLens`] if the first
     /// length is 0, a length behind a 0 is not, or a length is above 63;
-    /// [`HeaderFault::TooManyHops`] where their sum is above 64; [`HeaderFault::Short`] where there
+    /// [`HeaderFault::TooManyHops`] where their sum is above 64; [`HeaderFault::Short`] if there
     /// are not as many info fields as lengths that are not 0, or not as many hop fields as their
     /// sum.
     pub fn new(lens: [u8; 3], infos: &[InfoField], hops: &[HopField]) -> Result<Header, HeaderFault>

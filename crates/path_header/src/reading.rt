@@ -15,13 +15,13 @@ use isd_as::IfId;
 /// The path header at the front of these bytes, and its length in bytes.
 ///
 /// Bytes after the header play no part. The first of these that holds is the refusal:
-/// [`HeaderFault::Short`] where there are fewer than 4 bytes; [`HeaderFault::Reserved`] where a
-/// reserved bit of the meta field is set; [`HeaderFault::SegLens`] where the first length is 0 or a
+/// [`HeaderFault::Short`] if there are fewer than 4 bytes; [`HeaderFault::Reserved`] if a
+/// reserved bit of the meta field is set; [`HeaderFault::SegLens`] if the first length is 0 or a
 /// length behind a 0 is not; [`HeaderFault::TooManyHops`] where their sum is above 64; `Short`
 /// where there are fewer bytes than the fields need; for each info field in order
-/// [`HeaderFault::PeerFlag`] where its flag P is set, and `Reserved`; for each hop field in order
-/// [`HeaderFault::AlertFlag`] where its flag I or E is set, and `Reserved`;
-/// [`HeaderFault::BadIndex`] where the current info or hop field is none of the header's.
+/// [`HeaderFault::PeerFlag`] if its flag P is set, and `Reserved`; for each hop field in order
+/// [`HeaderFault::AlertFlag`] if its flag I or E is set, and `Reserved`;
+/// [`HeaderFault::BadIndex`] if the current info or hop field is none of the header's.
 pub fn decode(bytes: &[u8]) -> Result<(Header, usize), HeaderFault>
     // What is read is spelled by the bytes in front, as many as are reported.
     ensures found { IfOk result (λ r. (r.1 ≤ length bytes.now) × Spells (take r.1 bytes.now) r.0) }
@@ -162,7 +162,7 @@ fn hop_of(bytes: &[u8]) -> Result<HopField, HeaderFault>
     Ok(hop_in(bytes))
 }
 
-/// So many info fields, one after the other.
+/// The info fields, `count` of them, one after the other.
 fn infos_of(bytes: &[u8], count: usize) -> Result<ArrayVec<InfoField, 3>, HeaderFault>
     requires few { count ≤ 3 }
     requires long { 8 * count ≤ length bytes.now }
@@ -178,7 +178,7 @@ fn infos_of(bytes: &[u8], count: usize) -> Result<ArrayVec<InfoField, 3>, Header
     Ok(infos)
 }
 
-/// So many hop fields, one after the other.
+/// The hop fields, `count` of them, one after the other.
 fn hops_of(bytes: &[u8], count: usize) -> Result<ArrayVec<HopField, 64>, HeaderFault>
     requires few { count ≤ 64 }
     requires long { 12 * count ≤ length bytes.now }

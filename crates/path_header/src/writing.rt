@@ -10,7 +10,7 @@ use crate::header::Header;
 
 /// Writes the one spelling of this header to the front of the room, and gives its length in bytes.
 ///
-/// Every byte after it stays. [`HeaderFault::RoomTooSmall`] where the header does not fit, which
+/// Every byte after it stays. [`HeaderFault::RoomTooSmall`] if the header does not fit, which
 /// leaves the room as it was; [`Header::encoded_len`] is the test.
 pub fn encode(header: &Header, room: &mut [u8]) -> Result<usize, HeaderFault>
     ensures fits { IsOk result ↔ (header_len header.now ≤ length room.old) }

@@ -39,7 +39,7 @@ impl Beacon {
     /// The beacon of its first AS: `timestamp` is in seconds, and `beta0` the accumulator with
     /// which the first hop is authenticated.
     ///
-    /// [`SegmentFault::BadEnds`] where the entry has a way in or no way out.
+    /// [`SegmentFault::BadEnds`] if the entry has a way in or no way out.
     pub fn first(
         alloc: Global,
         kind: SegKind,
@@ -69,9 +69,9 @@ impl Beacon {
 
     /// The beacon with one more entry, by which the AS passes it on.
     ///
-    /// The first of these refusals: [`SegmentFault::TooLong`] where the beacon has 62 entries,
-    /// [`SegmentFault::BadEnds`] where the entry has no way in or no way out,
-    /// [`SegmentFault::Loop`] where its AS stands in the beacon already.
+    /// The first of these refusals: [`SegmentFault::TooLong`] if the beacon has 62 entries,
+    /// [`SegmentFault::BadEnds`] if the entry has no way in or no way out,
+    /// [`SegmentFault::Loop`] if its AS stands in the beacon already.
     pub fn with_entry(&self, alloc: Global, entry: Entry) -> Result<Beacon, SegmentError>
         // It is the beacon of these entries, or the rule that they would break.
         ensures whole { Answers (λ b. b) result (beacon_of (with_last self.now entry)) }
@@ -93,8 +93,8 @@ impl Beacon {
 
     /// The segment that ends with this entry.
     ///
-    /// The first of these refusals: [`SegmentFault::BadEnds`] where the entry has no way in, or a
-    /// way out, [`SegmentFault::Loop`] where its AS stands in the beacon already.
+    /// The first of these refusals: [`SegmentFault::BadEnds`] if the entry has no way in, or a
+    /// way out, [`SegmentFault::Loop`] if its AS stands in the beacon already.
     pub fn finish(&self, alloc: Global, entry: Entry) -> Result<Segment, SegmentError>
         // It is the segment of these entries, or the rule that they would break.
         ensures whole { Answers (λ s. s) result (segment_of (with_last self.now entry)) }

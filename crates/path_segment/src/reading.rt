@@ -22,8 +22,8 @@ impl Segment {
     /// 65535), `exp` (0 to 255) and `mac` (12 hexadecimal digits). Members beside these are
     /// ignored.
     ///
-    /// [`SegmentFault::NotJson`] where the text is not of this form, and then the refusals of
-    /// [`Segment::new`]. Want of memory is [`OrMemory::Memory`].
+    /// [`SegmentFault::NotJson`] if the text is not of this form, and then the refusals of
+    /// [`Segment::new`]. Running out of memory is [`OrMemory::Memory`].
     pub fn from_json(alloc: Global, bytes: &[u8]) -> Result<Segment, SegmentError>
         ensures { Reads (λ s. s) result (segment_in bytes.now) }
     {

@@ -40,9 +40,9 @@ impl Segment {
     /// which the first hop is authenticated.
     ///
     /// The first of these refusals: [`SegmentFault::TooShort`] for fewer than 2 entries,
-    /// [`SegmentFault::TooLong`] for more than 63, [`SegmentFault::BadEnds`] where the first entry
+    /// [`SegmentFault::TooLong`] for more than 63, [`SegmentFault::BadEnds`] if the first entry
     /// has a way in or a later one none, or the last a way out or an earlier one none,
-    /// [`SegmentFault::Loop`] where an AS stands in two entries.
+    /// [`SegmentFault::Loop`] if an AS stands in two entries.
     pub fn new(
         kind: SegKind,
         timestamp: u32,

@@ -56,7 +56,7 @@ bounded_push : (segments : List Chain) (segment : Chain) → count_by (is_alike 
 bounded_push segments segment free bounded other =
     let pushed = fold_push (λ a x. a + cond (is_alike other x) 1 0) 0 segments segment in
     elim (cases_Bool (is_alike other segment)) [
-      | inl alike ↦ (let same = count_by-same (is_alike other) (is_alike segment) (is_alike-same other segment alike) segments in rw pushed (rw alike (omega arith)))
+      | inl same_ends ↦ (let same = count_by-same (is_alike other) (is_alike segment) (is_alike-same other segment same_ends) segments in rw pushed (rw same_ends (omega arith)))
       | inr unlike ↦ (let few = bounded other in rw pushed (rw unlike (omega arith)))
     ]
 

@@ -23,6 +23,6 @@ alike_tests k l m f g h i j n kind first last = rw (kind, first, last) refl
 -- what is like a segment is like those that it is like
 pub is_alike-same : (a b : Chain) → is_alike a b ≡ true → (x : Chain) → is_alike a x ≡ is_alike b x
 unfolding is_alike
-is_alike-same a b alike x =
-    let same = (is_alike-Decides a b).0 alike in
+is_alike-same a b same_ends x =
+    let same = (is_alike-Decides a b).0 same_ends in
     alike_tests a.kind b.kind x.kind (first_as a) (first_as b) (first_as x) (last_as a) (last_as b) (last_as x) same.0 same.1 same.2

@@ -8,18 +8,18 @@ use Rattle.path_server.specs.declared.fault.StoreFault.{StoreFault}
 use Rattle.path_server.specs.declared.fault.StoreFault.TheVariants.{Full, Expired}
 
 -- the number and the name of a refusal
-abbrev pub told : StoreFault → ℕ × List ℕ
-told Full = (50, codes "Full")
-told Expired = (51, codes "Expired")
+abbrev pub code_and_name : StoreFault → ℕ × List ℕ
+code_and_name Full = (50, codes "Full")
+code_and_name Expired = (51, codes "Expired")
 
 abbrev pub code_of : StoreFault → ℕ
-code_of refusal = (told refusal).0
+code_of refusal = (code_and_name refusal).0
 
 abbrev pub name_of : StoreFault → List ℕ
-name_of refusal = (told refusal).1
+name_of refusal = (code_and_name refusal).1
 
--- an error that fits what was to come: the refusal, or want of memory where a new segment was to be
--- taken in
+-- an error that fits what was to come: the refusal, or running out of memory where a new segment
+-- was to be taken in
 abbrev pub FailsToTake : OrMemory StoreFault → Result Bool StoreFault → Type 0
 FailsToTake Memory wanted = wanted ≡ Ok true
 FailsToTake (Refused fault) wanted = wanted ≡ Err fault

@@ -15,7 +15,8 @@ abbrev pub kind_number : SegKind → ℕ
 kind_number Core = 0
 kind_number Intra = 1
 
--- ends as a number: by kind, then by the AS in which a segment ends, then by that in which it begins
+-- ends as a number: by kind, then by the AS in which a segment ends, then by that in which it
+-- begins
 abbrev pub number_of : Ends → ℕ
 number_of ends = kind_number ends.kind * 2 ^ 128 + ends.ases
 

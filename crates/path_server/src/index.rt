@@ -55,19 +55,20 @@ fn end_near(segments: &[Segment], index: &[usize], ends: Ends) -> usize
     }
 }
 
-/// Makes an index that has at least as many places that of these segments.
-pub(crate) fn renew(segments: &[Segment], index: &mut Vec<usize>)
+/// Rebuilds `index` for these segments. It must have at least as many entries as there are
+/// segments.
+pub(crate) fn rebuild(segments: &[Segment], index: &mut Vec<usize>)
     requires { length segments.now ≤ vec_len index.old }
     ensures each { HasEachPlace segments.now index.new.items }
     ensures ordered { IsNonDecreasingBy (order_at segments.now) index.new.items }
 {
     index.truncate(segments.len());
-    number(index);
+    number_places(index);
     index.sort_unstable_by(|place, other| in_order(segments, *place, *other));
 }
 
 /// Writes each element's own place into it.
-fn number(index: &mut [usize])
+fn number_places(index: &mut [usize])
     ensures { index.new ≡ range_with_len 0 (length index.old) }
 {
     for place in 0..index.len() {

@@ -5,13 +5,13 @@
 //! which paths between two ASes can be made; an index of their ends finds them.
 #![tactic(auto)]
 
-mod alike;
 mod ends;
 mod fault;
 mod index;
 pub mod laws;
 mod lookup;
 mod op;
+mod same_ends;
 mod set;
 mod store;
 

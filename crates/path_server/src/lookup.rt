@@ -55,15 +55,15 @@ pub(crate) fn ending_in(
     let last = ia.number();
     let low = Ends::new(SegKind::Intra, 0, last);
     let high = Ends::new(SegKind::Intra, u64::MAX, last);
-    let alike = range(segments, index, low, high);
-    let mut places = Vec::with_capacity(alloc, alike.len())?;
-    add_live(&mut places, segments, alike, now)?;
+    let same_ends = range(segments, index, low, high);
+    let mut places = Vec::with_capacity(alloc, same_ends.len())?;
+    add_live(&mut places, segments, same_ends, now)?;
     put_in_order(&mut places);
     copied_at(alloc, segments, &places)
 }
 
 /// The numbers of the ASes of a side of a path: its own, and those in which its segments begin.
-pub(crate) fn reached(
+pub(crate) fn ases_reached(
     alloc: Global,
     ia: IsdAs,
     segments: &[Segment],
@@ -82,7 +82,7 @@ pub(crate) fn reached(
 
 /// Copies of the live core segments from the ASes of one side to those of the other, either way
 /// round, by the numbers of the ASes.
-pub(crate) fn joining(
+pub(crate) fn core_segments_between(
     alloc: Global,
     segments: &[Segment],
     index: &[usize],

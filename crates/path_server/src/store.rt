@@ -5,12 +5,12 @@ ghost use Rattle.path_server.specs.Index.{IsIndex};
 ghost use Rattle.path_server.specs.Store.{answer_to, registered, swept, expired_count, after, TakesIn};
 ghost use Rattle.path_server.specs.Lookup.{segments_for};
 
-use crate::alike::answer_to;
 use crate::ends::Ends;
 use crate::fault::{StoreError, StoreFault};
-use crate::index::{end_of, renew};
-use crate::lookup::{ending_in, joining, reached};
+use crate::index::{end_of, rebuild};
+use crate::lookup::{ases_reached, core_segments_between, ending_in};
 use crate::op::StoreOp;
+use crate::same_ends::answer_to;
 use crate::set::SegmentSet;
 use isd_as::IsdAs;
 use path_segment::Segment;
@@ -74,10 +74,10 @@ impl PathStore {
     /// Takes a segment in at the second `now`, behind the others, and says whether it is new. Where
     /// an equal one is there nothing changes.
     ///
-    /// The first of these refusals, with the segment handed back: [`StoreFault::Expired`] where it
-    /// is not live at `now`, [`StoreFault::Full`] where it is new and 32 segments of its kind,
-    /// first AS and last AS are there. Want of memory hands it back too, and comes only where the
-    /// segment was to be taken in.
+    /// The first of these refusals, with the segment returned: [`StoreFault::Expired`] if it is not
+    /// live at `now`, [`StoreFault::Full`] if it is new and 32 segments of its kind, first AS and
+    /// last AS are there. Running out of memory hands it back too, and comes only where the segment
+    /// was to be taken in.
     ///
     /// It looks at the segments of that kind and those ends alone, and moves the places in the
     /// index that stand behind the new one.
@@ -104,7 +104,7 @@ impl PathStore {
         answer_to(&self.segments, &self.index, segment, now)
     }
 
-    /// Takes a segment in, behind the others. Want of memory hands it back.
+    /// Takes a segment in, behind the others. Running out of memory hands it back.
     fn take_in(&mut self, segment: Segment) -> Result<(), Segment>
         ensures taken { OnOk result (self.new ≡ self.old ++ segment ∷ []) }
         ensures kept { OnErr result (self.new ≡ self.old) }
@@ -132,13 +132,14 @@ impl PathStore {
     {
         let before = self.segments.len();
         keep_live(&mut self.segments, now);
-        renew(&self.segments, &mut self.index);
+        rebuild(&self.segments, &mut self.index);
         before - self.segments.len()
     }
 
     /// Does one operation. A registration that the store would refuse changes nothing.
     ///
-    /// Want of memory comes only where a new segment was to be taken in, of which it keeps a copy.
+    /// Running out of memory comes only where a new segment was to be taken in, of which it keeps a
+    /// copy.
     pub fn apply(&mut self, alloc: Global, operation: &StoreOp) -> Result<(), AllocError>
         ensures done { OnOk result (self.new ≡ after self.old operation.now) }
         ensures kept { OnErr result (self.new ≡ self.old) }
@@ -196,9 +197,9 @@ impl PathStore {
         let (segments, index) = (&self.segments, &self.index);
         let ups = ending_in(alloc, segments, index, src, now)?;
         let downs = ending_in(alloc, segments, index, dst, now)?;
-        let near = reached(alloc, src, &ups)?;
-        let far = reached(alloc, dst, &downs)?;
-        let cores = joining(alloc, segments, index, &near, &far, now)?;
+        let near = ases_reached(alloc, src, &ups)?;
+        let far = ases_reached(alloc, dst, &downs)?;
+        let cores = core_segments_between(alloc, segments, index, &near, &far, now)?;
         Ok(SegmentSet {
             ups,
             cores,

@@ -9,9 +9,9 @@ use Rattle.path_segment.specs.declared.entry.Entry.{Entry}
 use Rattle.path_header.specs.declared.fields.HopField.{HopField}
 use Rattle.path_header.specs.Value.{IsHeader, lens_from}
 use Rattle.path_header.specs.Building.{first_header}
-use Rattle.path_verifier.specs.declared.pieces.Held.{Held}
-use Rattle.path_verifier.specs.declared.pieces.Held.TheVariants.{Zero, One, Two, Three}
-use Rattle.path_verifier.specs.Held.{pieces_in}
+use Rattle.path_verifier.specs.declared.pieces.PieceSlots.{PieceSlots}
+use Rattle.path_verifier.specs.declared.pieces.PieceSlots.TheVariants.{Zero, One, Two, Three}
+use Rattle.path_verifier.specs.PieceSlots.{pieces_in}
 use Rattle.path_verifier.specs.Piece.{PieceValue, HasRange, travelled}
 use Rattle.path_verifier.specs.Header.{field_of, fields_of, info_of, len_of, hop_count, header_of, HaveSixBits}
 use Rattle.path_verifier.specs.Accepted.{MakesPath}
@@ -27,7 +27,7 @@ pub length_fields_of : (piece : PieceValue) → length (fields_of piece) ≡ len
 unfolding fields_of
 length_fields_of piece = length-map (travelled piece) field_of
 
-pub length-pieces_in : (held : Held) → length (pieces_in held) ≤ 3
+pub length-pieces_in : (held : PieceSlots) → length (pieces_in held) ≤ 3
 length-pieces_in Zero = omega arith
 length-pieces_in (One a) = omega arith
 length-pieces_in (Two a b) = omega arith

@@ -2,19 +2,19 @@ ghost use Rattle.std.specs.Prelude.{◌≡◌, ◌+◌, ◌<◌, ◌≤◌, ◌+
 ghost use Rattle.std.specs.List.{AllByRecursion, flat_map};
 ghost use Rattle.path_header.specs.Value.{IsHeader, lens_from};
 ghost use Rattle.path_header.specs.Building.{first_header};
-ghost use Rattle.path_verifier.specs.Held.{pieces_in};
+ghost use Rattle.path_verifier.specs.PieceSlots.{pieces_in};
 ghost use Rattle.path_verifier.specs.Piece.{HasRange};
 ghost use Rattle.path_verifier.specs.Header.{field_of, fields_of, info_of, header_of, len_of, hop_count, HaveSixBits};
 
 use crate::piece::Piece;
-use crate::pieces::Held;
+use crate::pieces::PieceSlots;
 use arrayvec::ArrayVec;
 use path_header::{Header, HopField, InfoField};
 use path_segment::Entry;
 
 /// The header of these pieces, the packet standing at its first info and hop field.
 #[tactic(auto, unfolding(crate::specs::Header::header_of))]
-pub(crate) fn header_of(held: &Held<'_>) -> Header
+pub(crate) fn header_of(held: &PieceSlots<'_>) -> Header
     requires some { 0 < length (pieces_in held.now) }
     requires ranges { AllByRecursion HasRange (pieces_in held.now) }
     requires few { hop_count (pieces_in held.now) ≤ 64 }
@@ -35,16 +35,16 @@ fn built(lens: [u8; 3], infos: &[InfoField], fields: &[HopField]) -> Header
 }
 
 /// How many hop fields each piece has, and 0 where there is no piece.
-fn lens_of(held: &Held<'_>) -> [u8; 3]
+fn lens_of(held: &PieceSlots<'_>) -> [u8; 3]
     requires { AllByRecursion HasRange (pieces_in held.now) }
     ensures value { lens_from result ≡ lens_from (map len_of (pieces_in held.now)) }
     ensures few { HaveSixBits (lens_from result) }
 {
     match held {
-        Held::Zero => [0, 0, 0],
-        Held::One(first) => [len_of(first), 0, 0],
-        Held::Two(first, second) => [len_of(first), len_of(second), 0],
-        Held::Three(first, second, third) => [len_of(first), len_of(second), len_of(third)],
+        PieceSlots::Zero => [0, 0, 0],
+        PieceSlots::One(first) => [len_of(first), 0, 0],
+        PieceSlots::Two(first, second) => [len_of(first), len_of(second), 0],
+        PieceSlots::Three(first, second, third) => [len_of(first), len_of(second), len_of(third)],
     }
 }
 
@@ -58,19 +58,19 @@ fn len_of(piece: &Piece<'_>) -> u8
 }
 
 /// The info field of each piece.
-fn infos_of(held: &Held<'_>) -> ArrayVec<InfoField, 3>
+fn infos_of(held: &PieceSlots<'_>) -> ArrayVec<InfoField, 3>
     requires { AllByRecursion HasRange (pieces_in held.now) }
     ensures { result.items ≡ map info_of (pieces_in held.now) }
 {
     let mut infos = ArrayVec::new();
     match held {
-        Held::Zero => {}
-        Held::One(first) => infos.push(info_of(first)),
-        Held::Two(first, second) => {
+        PieceSlots::Zero => {}
+        PieceSlots::One(first) => infos.push(info_of(first)),
+        PieceSlots::Two(first, second) => {
             infos.push(info_of(first));
             infos.push(info_of(second));
         }
-        Held::Three(first, second, third) => {
+        PieceSlots::Three(first, second, third) => {
             infos.push(info_of(first));
             infos.push(info_of(second));
             infos.push(info_of(third));
@@ -92,20 +92,20 @@ fn info_of(piece: &Piece<'_>) -> InfoField
 }
 
 /// The hop fields of all pieces.
-fn fields_of_all(held: &Held<'_>) -> ArrayVec<HopField, 64>
+fn fields_of_all(held: &PieceSlots<'_>) -> ArrayVec<HopField, 64>
     requires ranges { AllByRecursion HasRange (pieces_in held.now) }
     requires few { hop_count (pieces_in held.now) ≤ 64 }
     ensures { result.items ≡ flat_map fields_of (pieces_in held.now) }
 {
     let mut fields = ArrayVec::new();
     match held {
-        Held::Zero => {}
-        Held::One(first) => push_fields(&mut fields, first),
-        Held::Two(first, second) => {
+        PieceSlots::Zero => {}
+        PieceSlots::One(first) => push_fields(&mut fields, first),
+        PieceSlots::Two(first, second) => {
             push_fields(&mut fields, first);
             push_fields(&mut fields, second);
         }
-        Held::Three(first, second, third) => {
+        PieceSlots::Three(first, second, third) => {
             push_fields(&mut fields, first);
             push_fields(&mut fields, second);
             push_fields(&mut fields, third);

@@ -1,7 +1,7 @@
 ghost use Rattle.std.specs.Prelude.{◌≡◌, ◌≤◌, length, IfOk};
 
 use crate::piece::Piece;
-use crate::pieces::{Held, Pieces};
+use crate::pieces::{PieceSlots, Pieces};
 use path_segment::Segment;
 use std::alloc::{AllocError, Global};
 use std::marker::Model;
@@ -58,13 +58,13 @@ pub fn own_all(alloc: Global, pieces: &Pieces<'_>) -> Result<Vec<OwnedPiece>, Al
     ensures { IfOk result (λ own. own.items ≡ pieces.now) }
 {
     match &pieces.held {
-        Held::Zero => Ok(Vec::new(alloc)),
-        Held::One(first) => Ok(vec![in alloc; OwnedPiece::of(alloc, first)?]?),
-        Held::Two(first, second) => Ok(vec![in alloc;
+        PieceSlots::Zero => Ok(Vec::new(alloc)),
+        PieceSlots::One(first) => Ok(vec![in alloc; OwnedPiece::of(alloc, first)?]?),
+        PieceSlots::Two(first, second) => Ok(vec![in alloc;
             OwnedPiece::of(alloc, first)?,
             OwnedPiece::of(alloc, second)?,
         ]?),
-        Held::Three(first, second, third) => Ok(vec![in alloc;
+        PieceSlots::Three(first, second, third) => Ok(vec![in alloc;
             OwnedPiece::of(alloc, first)?,
             OwnedPiece::of(alloc, second)?,
             OwnedPiece::of(alloc, third)?,
@@ -78,10 +78,10 @@ pub fn lend_all(pieces: &[OwnedPiece]) -> Pieces<'_>
     ensures { result ≡ pieces.now }
 {
     let held = match pieces {
-        [] => Held::Zero,
-        [first] => Held::One(first.lend()),
-        [first, second] => Held::Two(first.lend(), second.lend()),
-        [first, second, third] => Held::Three(first.lend(), second.lend(), third.lend()),
+        [] => PieceSlots::Zero,
+        [first] => PieceSlots::One(first.lend()),
+        [first, second] => PieceSlots::Two(first.lend(), second.lend()),
+        [first, second, third] => PieceSlots::Three(first.lend(), second.lend(), third.lend()),
         _ => unreachable!(),
     };
     Pieces { held }

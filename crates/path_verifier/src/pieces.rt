@@ -1,5 +1,5 @@
 ghost use Rattle.std.specs.Prelude.{◌≡◌, ◌==◌, ◌<◌, ◌↔◌, [], ◌∷◌, ◌++◌, length, slice_get, option_map, IsOk, IsTrue, OnOk, OnErr, IfErr};
-ghost use Rattle.path_verifier.specs.Held.{pieces_in};
+ghost use Rattle.path_verifier.specs.PieceSlots.{pieces_in};
 ghost use Rattle.path_verifier.specs.Turned.{turned_pieces};
 
 use crate::fault::VerifyFault;
@@ -10,12 +10,12 @@ use std::mem;
 /// The pieces of a path in order of travel: none to three of them.
 #[derive(Debug, Drop)]
 pub struct Pieces<'s> {
-    pub(crate) held: Held<'s>,
+    pub(crate) held: PieceSlots<'s>,
 }
 
 /// Pieces by their number.
 #[derive(Debug, Drop)]
-pub(crate) enum Held<'s> {
+pub(crate) enum PieceSlots<'s> {
     Zero,
     One(Piece<'s>),
     Two(Piece<'s>, Piece<'s>),
@@ -24,7 +24,7 @@ pub(crate) enum Held<'s> {
 
 impl<'s> Model for Pieces<'s> {
     ghost use Rattle.std.specs.Prelude.{List};
-    ghost use Rattle.path_verifier.specs.Held.{pieces_in};
+    ghost use Rattle.path_verifier.specs.PieceSlots.{pieces_in};
     ghost use Rattle.path_verifier.specs.Piece.{PieceValue};
 
     ghost Value = { List PieceValue };
@@ -37,7 +37,9 @@ impl<'s> Pieces<'s> {
     pub fn new() -> Pieces<'s>
         ensures { result ≡ [] }
     {
-        Pieces { held: Held::Zero }
+        Pieces {
+            held: PieceSlots::Zero,
+        }
     }
 
     /// Adds a piece at the end, where there are fewer than three; else [`VerifyFault::PieceCount`],
@@ -49,21 +51,21 @@ impl<'s> Pieces<'s> {
         ensures err { OnErr result (self.new ≡ self.old) }
     {
         let held = &mut self.held;
-        match mem::replace(held, Held::Zero) {
-            Held::Zero => {
-                *held = Held::One(piece);
+        match mem::replace(held, PieceSlots::Zero) {
+            PieceSlots::Zero => {
+                *held = PieceSlots::One(piece);
                 Ok(())
             }
-            Held::One(first) => {
-                *held = Held::Two(first, piece);
+            PieceSlots::One(first) => {
+                *held = PieceSlots::Two(first, piece);
                 Ok(())
             }
-            Held::Two(first, second) => {
-                *held = Held::Three(first, second, piece);
+            PieceSlots::Two(first, second) => {
+                *held = PieceSlots::Three(first, second, piece);
                 Ok(())
             }
-            Held::Three(first, second, third) => {
-                *held = Held::Three(first, second, third);
+            PieceSlots::Three(first, second, third) => {
+                *held = PieceSlots::Three(first, second, third);
                 Err(VerifyFault::PieceCount)
             }
         }
@@ -74,10 +76,10 @@ impl<'s> Pieces<'s> {
         ensures { result ≡ length self.now }
     {
         match &self.held {
-            Held::Zero => 0,
-            Held::One(_) => 1,
-            Held::Two(_, _) => 2,
-            Held::Three(_, _, _) => 3,
+            PieceSlots::Zero => 0,
+            PieceSlots::One(_) => 1,
+            PieceSlots::Two(_, _) => 2,
+            PieceSlots::Three(_, _, _) => 3,
         }
     }
 
@@ -93,12 +95,12 @@ impl<'s> Pieces<'s> {
         ensures { option_map (λ p. p.now) result ≡ slice_get self.now place }
     {
         match (&self.held, place) {
-            (Held::One(piece), 0) => Some(piece),
-            (Held::Two(piece, _), 0) => Some(piece),
-            (Held::Two(_, piece), 1) => Some(piece),
-            (Held::Three(piece, _, _), 0) => Some(piece),
-            (Held::Three(_, piece, _), 1) => Some(piece),
-            (Held::Three(_, _, piece), 2) => Some(piece),
+            (PieceSlots::One(piece), 0) => Some(piece),
+            (PieceSlots::Two(piece, _), 0) => Some(piece),
+            (PieceSlots::Two(_, piece), 1) => Some(piece),
+            (PieceSlots::Three(piece, _, _), 0) => Some(piece),
+            (PieceSlots::Three(_, piece, _), 1) => Some(piece),
+            (PieceSlots::Three(_, _, piece), 2) => Some(piece),
             _ => None,
         }
     }
@@ -123,41 +125,41 @@ impl<'s> Pieces<'s> {
     }
 }
 
-impl<'s> Held<'s> {
+impl<'s> PieceSlots<'s> {
     /// Whether there is no piece.
     pub(crate) fn is_empty(&self) -> bool
         ensures { result ≡ (length (pieces_in self.now) == 0) }
     {
         match self {
-            Held::Zero => true,
+            PieceSlots::Zero => true,
             _ => false,
         }
     }
 
     /// The pieces of the way back.
-    fn turned(&self) -> Held<'s>
+    fn turned(&self) -> PieceSlots<'s>
         ensures { pieces_in result ≡ turned_pieces (pieces_in self.now) }
     {
         match self {
-            Held::Zero => Held::Zero,
-            Held::One(first) => Held::One(first.turned()),
-            Held::Two(first, second) => Held::Two(second.turned(), first.turned()),
-            Held::Three(first, second, third) => {
-                Held::Three(third.turned(), second.turned(), first.turned())
+            PieceSlots::Zero => PieceSlots::Zero,
+            PieceSlots::One(first) => PieceSlots::One(first.turned()),
+            PieceSlots::Two(first, second) => PieceSlots::Two(second.turned(), first.turned()),
+            PieceSlots::Three(first, second, third) => {
+                PieceSlots::Three(third.turned(), second.turned(), first.turned())
             }
         }
     }
 
     /// The same pieces once more.
-    fn again(&self) -> Held<'s>
+    fn again(&self) -> PieceSlots<'s>
         ensures { pieces_in result ≡ pieces_in self.now }
     {
         match self {
-            Held::Zero => Held::Zero,
-            Held::One(first) => Held::One(first.again()),
-            Held::Two(first, second) => Held::Two(first.again(), second.again()),
-            Held::Three(first, second, third) => {
-                Held::Three(first.again(), second.again(), third.again())
+            PieceSlots::Zero => PieceSlots::Zero,
+            PieceSlots::One(first) => PieceSlots::One(first.again()),
+            PieceSlots::Two(first, second) => PieceSlots::Two(first.again(), second.again()),
+            PieceSlots::Three(first, second, third) => {
+                PieceSlots::Three(first.again(), second.again(), third.again())
             }
         }
     }

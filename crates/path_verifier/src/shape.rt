@@ -6,7 +6,7 @@ ghost use Rattle.path_header.specs.Value.{HeaderValue};
 ghost use Rattle.policy_expr.specs.Policy.{Rules};
 ghost use Rattle.path_verifier.specs.declared.fault.VerifyFault.{VerifyFault};
 ghost use Rattle.path_verifier.specs.Fault.{code_of};
-ghost use Rattle.path_verifier.specs.Held.{pieces_in};
+ghost use Rattle.path_verifier.specs.PieceSlots.{pieces_in};
 ghost use Rattle.path_verifier.specs.Piece.{HasRange, kind_of, begins_in, ends_in};
 ghost use Rattle.path_verifier.specs.Header.{hop_count};
 ghost use Rattle.path_verifier.specs.Accepted.{AreCutWell, AreLive, DoAdjoin, DoBeginIn, DoEndIn, DoMeet, IsCore, IsExpiry, MayAdjoin, request_of, Keeps, IsRefused};
@@ -15,12 +15,13 @@ use crate::fault::VerifyFault;
 use crate::kind::PieceKind;
 use crate::kind::PieceKind::{Core, Down, Up};
 use crate::piece::Piece;
-use crate::pieces::Held;
+use crate::pieces::PieceSlots;
 use crate::walk::MAX_HOPS;
 use isd_as::IsdAs;
 
-/// Whether the pieces keep each rule up to that on the number of hops, or the first that they break.
-pub(crate) fn check_shape(held: &Held<'_>, src: IsdAs, dst: IsdAs) -> Result<(), VerifyFault>
+/// Whether the pieces keep each rule up to that on the number of hops, or the first that they
+/// break.
+pub(crate) fn check_shape(held: &PieceSlots<'_>, src: IsdAs, dst: IsdAs) -> Result<(), VerifyFault>
     ensures kept { OnOk result ((header : HeaderValue) (now : ℕ) (rules : Rules)
         (fault : VerifyFault) → code_of fault < 78
         → Keeps (request_of (pieces_in held.now) header src dst now rules) fault) }
@@ -58,15 +59,15 @@ pub(crate) fn check_shape(held: &Held<'_>, src: IsdAs, dst: IsdAs) -> Result<(),
 }
 
 /// Whether the places of each piece are those of two entries, the first before the second.
-fn are_in_range(held: &Held<'_>) -> bool
+fn are_in_range(held: &PieceSlots<'_>) -> bool
     ensures fact { IsTrue result ↔ All HasRange (pieces_in held.now) }
     ensures each { IsTrue result → AllByRecursion HasRange (pieces_in held.now) }
 {
     match held {
-        Held::Zero => true,
-        Held::One(first) => first.has_range(),
-        Held::Two(first, second) => first.has_range() && second.has_range(),
-        Held::Three(first, second, third) => {
+        PieceSlots::Zero => true,
+        PieceSlots::One(first) => first.has_range(),
+        PieceSlots::Two(first, second) => first.has_range() && second.has_range(),
+        PieceSlots::Three(first, second, third) => {
             first.has_range() && second.has_range() && third.has_range()
         }
     }
@@ -80,20 +81,20 @@ fn may_adjoin(kind: PieceKind, next: PieceKind) -> bool
 }
 
 /// Whether each piece may come right behind the one before it.
-fn do_adjoin(held: &Held<'_>) -> bool
+fn do_adjoin(held: &PieceSlots<'_>) -> bool
     ensures { IsTrue result ↔ DoAdjoin (map kind_of (pieces_in held.now)) }
 {
     match held {
-        Held::Zero | Held::One(_) => true,
-        Held::Two(first, second) => may_adjoin(first.kind(), second.kind()),
-        Held::Three(first, second, third) => {
+        PieceSlots::Zero | PieceSlots::One(_) => true,
+        PieceSlots::Two(first, second) => may_adjoin(first.kind(), second.kind()),
+        PieceSlots::Three(first, second, third) => {
             may_adjoin(first.kind(), second.kind()) && may_adjoin(second.kind(), third.kind())
         }
     }
 }
 
 /// Whether the pieces are cut only where they may be.
-fn are_cut_well(held: &Held<'_>) -> bool
+fn are_cut_well(held: &PieceSlots<'_>) -> bool
     requires { AllByRecursion HasRange (pieces_in held.now) }
     ensures { IsTrue result ↔ AreCutWell (pieces_in held.now) }
 {
@@ -105,14 +106,14 @@ fn are_cut_well(held: &Held<'_>) -> bool
 }
 
 /// Whether there is a core piece.
-fn has_core(held: &Held<'_>) -> bool
+fn has_core(held: &PieceSlots<'_>) -> bool
     ensures { IsTrue result ↔ Any IsCore (pieces_in held.now) }
 {
     match held {
-        Held::Zero => false,
-        Held::One(first) => first.is_core(),
-        Held::Two(first, second) => first.is_core() || second.is_core(),
-        Held::Three(first, second, third) => {
+        PieceSlots::Zero => false,
+        PieceSlots::One(first) => first.is_core(),
+        PieceSlots::Two(first, second) => first.is_core() || second.is_core(),
+        PieceSlots::Three(first, second, third) => {
             first.is_core() || second.is_core() || third.is_core()
         }
     }
@@ -128,44 +129,44 @@ fn fits_core(piece: &Piece<'_>) -> bool
 }
 
 /// Whether each piece is as it must be in a path with a core piece.
-fn all_fit_core(held: &Held<'_>) -> bool
+fn all_fit_core(held: &PieceSlots<'_>) -> bool
     requires { AllByRecursion HasRange (pieces_in held.now) }
     ensures { IsTrue result ↔ All (λ piece. (piece.from ≡ 0)
         × (IsCore piece → piece.to + 1 ≡ length piece.segment.entries)) (pieces_in held.now) }
 {
     match held {
-        Held::Zero => true,
-        Held::One(first) => fits_core(first),
-        Held::Two(first, second) => fits_core(first) && fits_core(second),
-        Held::Three(first, second, third) => {
+        PieceSlots::Zero => true,
+        PieceSlots::One(first) => fits_core(first),
+        PieceSlots::Two(first, second) => fits_core(first) && fits_core(second),
+        PieceSlots::Three(first, second, third) => {
             fits_core(first) && fits_core(second) && fits_core(third)
         }
     }
 }
 
 /// Whether each piece begins where its segment does.
-fn all_begin_first(held: &Held<'_>) -> bool
+fn all_begin_first(held: &PieceSlots<'_>) -> bool
     ensures { IsTrue result ↔ All (λ piece. piece.from ≡ 0) (pieces_in held.now) }
 {
     match held {
-        Held::Zero => true,
-        Held::One(first) => first.begins_first(),
-        Held::Two(first, second) => first.begins_first() && second.begins_first(),
-        Held::Three(first, second, third) => {
+        PieceSlots::Zero => true,
+        PieceSlots::One(first) => first.begins_first(),
+        PieceSlots::Two(first, second) => first.begins_first() && second.begins_first(),
+        PieceSlots::Three(first, second, third) => {
             first.begins_first() && second.begins_first() && third.begins_first()
         }
     }
 }
 
 /// Whether each piece begins behind the entry in which its segment begins.
-fn all_begin_later(held: &Held<'_>) -> bool
+fn all_begin_later(held: &PieceSlots<'_>) -> bool
     ensures { IsTrue result ↔ All (λ piece. 0 < piece.from) (pieces_in held.now) }
 {
     match held {
-        Held::Zero => true,
-        Held::One(first) => first.begins_later(),
-        Held::Two(first, second) => first.begins_later() && second.begins_later(),
-        Held::Three(first, second, third) => {
+        PieceSlots::Zero => true,
+        PieceSlots::One(first) => first.begins_later(),
+        PieceSlots::Two(first, second) => first.begins_later() && second.begins_later(),
+        PieceSlots::Three(first, second, third) => {
             first.begins_later() && second.begins_later() && third.begins_later()
         }
     }
@@ -181,64 +182,65 @@ fn meets(piece: &Piece<'_>, next: &Piece<'_>) -> bool
 }
 
 /// Whether each piece ends in the AS in which the next one begins.
-fn do_meet(held: &Held<'_>) -> bool
+fn do_meet(held: &PieceSlots<'_>) -> bool
     requires { AllByRecursion HasRange (pieces_in held.now) }
     ensures { IsTrue result ↔ DoMeet (pieces_in held.now) }
 {
     match held {
-        Held::Zero | Held::One(_) => true,
-        Held::Two(first, second) => meets(first, second),
-        Held::Three(first, second, third) => meets(first, second) && meets(second, third),
+        PieceSlots::Zero | PieceSlots::One(_) => true,
+        PieceSlots::Two(first, second) => meets(first, second),
+        PieceSlots::Three(first, second, third) => meets(first, second) && meets(second, third),
     }
 }
 
 /// Whether the first piece begins in this AS.
-fn begin_in(held: &Held<'_>, src: IsdAs) -> bool
+fn begin_in(held: &PieceSlots<'_>, src: IsdAs) -> bool
     requires { AllByRecursion HasRange (pieces_in held.now) }
     ensures { IsTrue result ↔ DoBeginIn src (pieces_in held.now) }
 {
     match held {
-        Held::Zero => false,
-        Held::One(first) | Held::Two(first, _) | Held::Three(first, _, _) => {
+        PieceSlots::Zero => false,
+        PieceSlots::One(first) | PieceSlots::Two(first, _) | PieceSlots::Three(first, _, _) => {
             first.begins_in() == src
         }
     }
 }
 
 /// Whether the last piece ends in this AS.
-fn end_in(held: &Held<'_>, dst: IsdAs) -> bool
+fn end_in(held: &PieceSlots<'_>, dst: IsdAs) -> bool
     requires { AllByRecursion HasRange (pieces_in held.now) }
     ensures { IsTrue result ↔ DoEndIn dst (pieces_in held.now) }
 {
     match held {
-        Held::Zero => false,
-        Held::One(last) | Held::Two(_, last) | Held::Three(_, _, last) => last.ends_in() == dst,
+        PieceSlots::Zero => false,
+        PieceSlots::One(last) | PieceSlots::Two(_, last) | PieceSlots::Three(_, _, last) =>
+            last.ends_in() == dst,
     }
 }
 
 /// How many hop fields the pieces have together.
-fn hop_count(held: &Held<'_>) -> usize
+fn hop_count(held: &PieceSlots<'_>) -> usize
     requires { AllByRecursion HasRange (pieces_in held.now) }
     ensures { result ≡ hop_count (pieces_in held.now) }
 {
     match held {
-        Held::Zero => 0,
-        Held::One(first) => first.len(),
-        Held::Two(first, second) => first.len() + second.len(),
-        Held::Three(first, second, third) => first.len() + second.len() + third.len(),
+        PieceSlots::Zero => 0,
+        PieceSlots::One(first) => first.len(),
+        PieceSlots::Two(first, second) => first.len() + second.len(),
+        PieceSlots::Three(first, second, third) => first.len() + second.len() + third.len(),
     }
 }
 
 /// Whether each hop of each piece is live at the second `now`.
-pub(crate) fn are_live(held: &Held<'_>, now: u32) -> bool
+pub(crate) fn are_live(held: &PieceSlots<'_>, now: u32) -> bool
     requires { AllByRecursion HasRange (pieces_in held.now) }
     ensures { IsTrue result ↔ AreLive now (pieces_in held.now) }
 {
     match held {
-        Held::Zero => true,
-        Held::One(first) => first.is_live(now),
-        Held::Two(first, second) => first.is_live(now) && second.is_live(now),
-        Held::Three(first, second, third) => {
+        PieceSlots::Zero => true,
+        PieceSlots::One(first) => first.is_live(now),
+        PieceSlots::Two(first, second) => first.is_live(now) && second.is_live(now),
+        PieceSlots::Three(first, second, third) => {
             first.is_live(now) && second.is_live(now) && third.is_live(now)
         }
     }
@@ -246,16 +248,16 @@ pub(crate) fn are_live(held: &Held<'_>, now: u32) -> bool
 
 /// The moment, in half seconds, at which the first hop of the pieces expires.
 #[tactic(auto, using(crate::proofs::Expiry::expiry_of_one))]
-pub(crate) fn expiry_of(held: &Held<'_>) -> u64
+pub(crate) fn expiry_of(held: &PieceSlots<'_>) -> u64
     requires some { 0 < length (pieces_in held.now) }
     requires ranges { AllByRecursion HasRange (pieces_in held.now) }
     ensures { IsExpiry (pieces_in held.now) result }
 {
     match held {
-        Held::Zero => unreachable!(),
-        Held::One(first) => first.expiry(),
-        Held::Two(first, second) => first.expiry().min(second.expiry()),
-        Held::Three(first, second, third) => {
+        PieceSlots::Zero => unreachable!(),
+        PieceSlots::One(first) => first.expiry(),
+        PieceSlots::Two(first, second) => first.expiry().min(second.expiry()),
+        PieceSlots::Three(first, second, third) => {
             first.expiry().min(second.expiry().min(third.expiry()))
         }
     }

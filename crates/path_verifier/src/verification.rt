@@ -2,7 +2,7 @@ ghost use Rattle.std.specs.Prelude.{◌≡◌, ◌<◌, ◌≤◌, length, IfOk,
 ghost use Rattle.std.specs.List.{AllByRecursion};
 ghost use Rattle.path_header.specs.Value.{HeaderValue};
 ghost use Rattle.policy_expr.specs.Policy.{AllowsHops, HasWord, Rules};
-ghost use Rattle.path_verifier.specs.Held.{pieces_in};
+ghost use Rattle.path_verifier.specs.PieceSlots.{pieces_in};
 ghost use Rattle.path_verifier.specs.Piece.{HasRange};
 ghost use Rattle.path_verifier.specs.Header.{header_of, hop_count};
 ghost use Rattle.path_verifier.specs.Walk.{walk_of};
@@ -13,7 +13,7 @@ ghost use Rattle.path_verifier.specs.Accepted.{Request, request_of, IsAccepted, 
 use crate::fault::VerifyFault;
 use crate::header::header_of;
 use crate::path::VerifiedPath;
-use crate::pieces::{Held, Pieces};
+use crate::pieces::{PieceSlots, Pieces};
 use crate::shape::{are_live, check_shape};
 use crate::walk::{Walk, names_once};
 use isd_as::IsdAs;
@@ -27,15 +27,15 @@ use std::alloc::Allocator;
 /// The first of these refusals: [`VerifyFault::PieceCount`] for no pieces; [`VerifyFault::Range`]
 /// where a piece is not from one entry of its segment to a later one; [`VerifyFault::Kinds`] where
 /// they are not up, core and down pieces in this order, at most one of each;
-/// [`VerifyFault::CutAtCore`] where a core piece is not whole, a piece beside it doesn't begin
+/// [`VerifyFault::CutAtCore`] if a core piece is not whole, a piece beside it doesn't begin
 /// where its segment does, or of an up and a down piece alone one does and the other does not;
-/// [`VerifyFault::NotJoined`] where a piece doesn't begin in the AS in which the one before it
-/// ends; [`VerifyFault::Source`] and [`VerifyFault::Destination`] where the path has other ends;
-/// [`VerifyFault::TooManyHops`] for more than 64 hop fields; [`VerifyFault::Loop`] where the walk
-/// names an AS twice; [`VerifyFault::Expired`] where a hop is not live at `now`;
-/// [`VerifyFault::HeaderDiffers`] where the header is not that of the pieces, the packet standing
-/// at its beginning; [`VerifyFault::AclDenied`] where the policy's list denies a hop, with the
-/// first such hop and the entry that decides it; [`VerifyFault::SequenceMismatch`] where the walk
+/// [`VerifyFault::NotJoined`] if a piece doesn't begin in the AS in which the one before it
+/// ends; [`VerifyFault::Source`] and [`VerifyFault::Destination`] if the path has other ends;
+/// [`VerifyFault::TooManyHops`] for more than 64 hop fields; [`VerifyFault::Loop`] if the walk
+/// names an AS twice; [`VerifyFault::Expired`] if a hop is not live at `now`;
+/// [`VerifyFault::HeaderDiffers`] if the header is not that of the pieces, the packet standing
+/// at its beginning; [`VerifyFault::AclDenied`] if the policy's list denies a hop, with the
+/// first such hop and the entry that decides it; [`VerifyFault::SequenceMismatch`] if the walk
 /// is no word of the policy's sequence.
 pub fn verify<'s, 'p, A: Allocator + Clone>(
     pieces: &Pieces<'s>,
@@ -155,7 +155,12 @@ fn walk_and_header<A: Allocator + Clone>(
 }
 
 /// The walk of the pieces, where they make a path, or the first rule that they break.
-fn checked_walk(held: &Held<'_>, src: IsdAs, dst: IsdAs, now: u32) -> Result<Walk, VerifyFault>
+fn checked_walk(
+    held: &PieceSlots<'_>,
+    src: IsdAs,
+    dst: IsdAs,
+    now: u32,
+) -> Result<Walk, VerifyFault>
     ensures walk { IfOk result (λ walk. walk ≡ walk_of (pieces_in held.now)) }
     ensures path { OnOk result (MakesPath (pieces_in held.now) src dst now) }
     ensures fault { IfErr result (λ fault. (header : HeaderValue) (rules : Rules)

@@ -1,13 +1,13 @@
 ghost use Rattle.std.specs.Prelude.{◌≡◌, ◌↔◌, ◌+◌, ◌<◌, ◌≤◌, [], ◌∷◌, ◌++◌, length, map, drop, slice_get, IsTrue, Some};
 ghost use Rattle.std.specs.List.{AllByRecursion};
-ghost use Rattle.path_verifier.specs.Held.{pieces_in};
+ghost use Rattle.path_verifier.specs.PieceSlots.{pieces_in};
 ghost use Rattle.path_verifier.specs.Piece.{HasRange};
 ghost use Rattle.path_verifier.specs.Walk.{hop_of, hops_of, entered_by, left_by, met, joined, walk_of};
 ghost use Rattle.path_verifier.specs.Header.{len_of, hop_count};
 ghost use Rattle.path_verifier.specs.Accepted.{NamesOnce};
 
 use crate::piece::Piece;
-use crate::pieces::Held;
+use crate::pieces::PieceSlots;
 use arrayvec::ArrayVec;
 use doubles::has_double;
 use isd_as::{IfId, IsdAs};
@@ -166,20 +166,20 @@ impl Walk {
 
     /// The walk of these pieces.
     #[tactic(auto, unfolding(crate::specs::Walk::walk_of))]
-    pub(crate) fn of(held: &Held<'_>) -> Walk
+    pub(crate) fn of(held: &PieceSlots<'_>) -> Walk
         requires ranges { AllByRecursion HasRange (pieces_in held.now) }
         requires few { hop_count (pieces_in held.now) ≤ 64 }
         ensures { result ≡ walk_of (pieces_in held.now) }
     {
         let mut walk = Walk::new();
         match held {
-            Held::Zero => {}
-            Held::One(first) => walk.go_on(first),
-            Held::Two(first, second) => {
+            PieceSlots::Zero => {}
+            PieceSlots::One(first) => walk.go_on(first),
+            PieceSlots::Two(first, second) => {
                 walk.go_on(first);
                 walk.go_on(second);
             }
-            Held::Three(first, second, third) => {
+            PieceSlots::Three(first, second, third) => {
                 walk.go_on(first);
                 walk.go_on(second);
                 walk.go_on(third);

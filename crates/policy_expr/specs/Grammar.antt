@@ -13,7 +13,7 @@ pub data Part : Type 0 where
   alternatives : Part
   item : Part
 
--- the tokens spell the tree as such a part, with at most so many parentheses open at once
+-- the tokens spell the tree as such a part, with at most `depth` parentheses open at once
 pub data Spells : ℕ → Part → List Token → Tree → Type 0 where
   predicate : (depth : ℕ) (p : HopPred) → Spells depth item (signs.Hop p ∷ []) (hop p)
   in_parentheses : (depth : ℕ) (ts : List Token) (t : Tree) → Spells depth following ts t → Spells (depth + 1) item (signs.Open ∷ (ts ++ signs.Close ∷ [])) t

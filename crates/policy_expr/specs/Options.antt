@@ -7,15 +7,15 @@ use Rattle.policy_expr.specs.Fault as policies
 use Rattle.policy_expr.specs.Policy.{Rules, policy_at}
 
 -- the number and the name of a refusal
-abbrev pub told : OptionFault → ℕ × List ℕ
-told OptionCount = (67, codes "OptionCount")
-told (Unread fault) = policies.told fault
+abbrev pub code_and_name : OptionFault → ℕ × List ℕ
+code_and_name OptionCount = (67, codes "OptionCount")
+code_and_name (Unread fault) = policies.code_and_name fault
 
 abbrev pub code_of : OptionFault → ℕ
-code_of refusal = (told refusal).0
+code_of refusal = (code_and_name refusal).0
 
 abbrev pub name_of : OptionFault → List ℕ
-name_of refusal = (told refusal).1
+name_of refusal = (code_and_name refusal).1
 
 -- what an option shows: its policy and its weight
 pub record WeighedRules : Type 0 where

@@ -76,7 +76,7 @@ sequence_at text = do
 
 -- ---- which refusal comes first, and what calls answer
 
--- the first fault of these tokens, where so many parentheses are open and an item stands before
+-- the first fault of these tokens, where `open` parentheses are open and an item stands before
 -- them or not
 abbrev pub fault_at : ℕ → Bool → List Token → Option PolicyFault
 fault_at depth false [] = Some faults.UnexpectedEnd
@@ -89,8 +89,8 @@ fault_at depth true (signs.Close ∷ ts) = if depth == 0 then Some faults.Unbala
 fault_at depth true (signs.Other ∷ ts) = Some faults.BadPredicate
 fault_at depth true (t ∷ ts) = fault_at depth true ts
 
--- the error of a text: its first fault, and TooLarge where it has none; want of memory only where
--- it spells a sequence
+-- the error of a text: its first fault, and TooLarge where it has none; running out of memory only
+-- where it spells a sequence
 abbrev pub IsRefusal : List ℕ → OrMemory PolicyFault → Type 0
 IsRefusal text Memory = (tree : Tree) × SpellsSequence text tree × (node_count tree ≤ 256)
 IsRefusal text (Refused fault) = fault ≡ unwrap_or (fault_at 0 false (tokens text)) faults.TooLarge

@@ -15,7 +15,7 @@ use std::marker::Model;
 pub struct AclEntry {
     /// Whether a hop that it decides is allowed: `+`.
     pub allows: bool,
-    /// Which hops it matches, or `None` where it is bare and matches each.
+    /// Which hops it matches, or `None` if it is bare and matches each.
     pub pred: Option<HopPred>,
 }
 
@@ -63,7 +63,7 @@ impl<A: Allocator + Clone> Acl<A> {
     /// anywhere round them. A predicate of wildcards alone counts as none.
     ///
     /// The first of these refusals: [`PolicyFault::BadPredicate`] for an entry that can't be read,
-    /// [`PolicyFault::TooLarge`] for more than 256 entries, [`PolicyFault::NoDefault`] where there
+    /// [`PolicyFault::TooLarge`] for more than 256 entries, [`PolicyFault::NoDefault`] if there
     /// is none or the last is not bare, [`PolicyFault::AfterDefault`] where another is.
     pub fn parse(alloc: A, text: &AclText) -> Result<Acl<A>, PolicyError>
         ensures { Answers (λ acl. acl) result (acl_at text.now) }

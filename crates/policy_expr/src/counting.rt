@@ -86,7 +86,7 @@ impl Place {
     }
 }
 
-/// Whether a sequence may end where so many parentheses are open and an item stands before the end
+/// Whether a sequence may end where `open` parentheses are open and an item stands before the end
 /// or not.
 fn check_end(depth: usize, has_item: bool) -> Result<(), PolicyFault>
     ensures { result_err result ≡ fault_at depth has_item [] }

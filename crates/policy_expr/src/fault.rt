@@ -73,7 +73,7 @@ impl From<AddrFault> for PolicyFault {
     }
 }
 
-/// Why a call that takes memory gave no policy: want of memory, or a refusal.
+/// Why a call that takes memory gave no policy: running out of memory, or a refusal.
 pub type PolicyError = OrMemory<PolicyFault>;
 
 impl From<PolicyFault> for OrMemory<PolicyFault> {

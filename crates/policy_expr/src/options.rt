@@ -71,7 +71,7 @@ impl<A: Allocator + Clone> Model for PolicyOption<A> {
 impl<A: Allocator + Clone> PolicyOption<A> {
     /// The options of these texts, in their order.
     ///
-    /// The first of these refusals: [`OptionFault::OptionCount`] where there are not 1 to 16; then
+    /// The first of these refusals: [`OptionFault::OptionCount`] if there are not 1 to 16; then
     /// those of [`Policy::parse`], of the first text that has one.
     #[tactic(auto, using(crate::proofs::Weighed::judged_read))]
     pub fn parse_all(

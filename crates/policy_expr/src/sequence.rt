@@ -74,7 +74,7 @@ impl<A: Allocator + Clone> Seq<A> {
         Ok(Seq { root, table })
     }
 
-    /// Is a sequence, so that its text is read as it again.
+    /// Printing and parsing again gives the same sequence.
     pub fn known(&self)
         ensures kept { IsSequence self.now }
         ensures again { sequence_at (printed self.now) ≡ Ok self.now }

@@ -56,8 +56,8 @@ abbrev pub Judges : {A F : Type 0} → Result (Unit {0}) F → Result A F → Ty
 Judges (Ok done) wanted = IsOk wanted
 Judges (Err fault) wanted = wanted ≡ Err fault
 
--- the error of a call that judges before it takes memory: want of memory stands in place of a value
--- alone
+-- the error of a call that judges before it takes memory: running out of memory stands in place of
+-- a value alone
 abbrev pub Fails : {A F : Type 0} → OrMemory F → Result A F → Type 0
 Fails Memory wanted = IsOk wanted
 Fails (Refused fault) wanted = wanted ≡ Err fault
@@ -67,8 +67,8 @@ abbrev pub Answers : {X Y F : Type 0} → (X → Y) → Result X (OrMemory F) �
 Answers view (Ok x) wanted = wanted ≡ Ok (view x)
 Answers view (Err error) wanted = Fails error wanted
 
--- what a call answers that takes memory while it judges: want of memory may stand in place of a
--- refusal too
+-- what a call answers that takes memory while it judges: running out of memory may stand in place
+-- of a refusal too
 abbrev pub Reads : {X Y F : Type 0} → (X → Y) → Result X (OrMemory F) → Result Y F → Type 0
 Reads view (Ok x) wanted = wanted ≡ Ok (view x)
 Reads view (Err Memory) wanted = Unit {0}

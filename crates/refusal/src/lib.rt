@@ -1,7 +1,7 @@
-//! Refusals beside want of memory, and the words in which contracts speak of both.
+//! Refusals beside running out of memory, and the words in which contracts speak of both.
 //!
-//! A call that takes memory answers a value, the refusal of its crate, or want of memory. The error
-//! of every such call is [`OrMemory`] of its crate's refusals.
+//! A call that takes memory answers a value, the refusal of its crate, or running out of memory.
+//! The error of every such call is [`OrMemory`] of its crate's refusals.
 #![tactic(auto)]
 
 mod fault;

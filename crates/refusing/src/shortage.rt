@@ -20,8 +20,8 @@ impl Shortage {
         }
     }
 
-    /// Notes that a call was answered with want of memory, and says whether it may be, so that the
-    /// caller makes it once more.
+    /// Notes that a call was answered with running out of memory, and says whether it may be, so
+    /// that the caller makes it once more.
     pub fn may_want(&self) -> bool {
         let before = self.wants.fetch_add(1, Ordering::SeqCst);
         before == 0 && self.misses.load(Ordering::SeqCst) == 0

@@ -4,21 +4,21 @@ use Rattle.router_step.specs.declared.fault.Refusal.{Refusal}
 use Rattle.router_step.specs.declared.fault.Refusal.TheVariants.{BadHeader, IndexMismatch, WrongIngress, Expired, BadMac, SourceAs, DestinationAs, SwitchInside, UnknownEgress, LinkKinds, LinkDown}
 
 -- the number and the name of a refusal
-abbrev pub told : Refusal → ℕ × List ℕ
-told (BadHeader fault) = (90, codes "BadHeader")
-told IndexMismatch = (91, codes "IndexMismatch")
-told WrongIngress = (92, codes "WrongIngress")
-told Expired = (93, codes "Expired")
-told BadMac = (94, codes "BadMac")
-told SourceAs = (95, codes "SourceAs")
-told DestinationAs = (96, codes "DestinationAs")
-told SwitchInside = (97, codes "SwitchInside")
-told UnknownEgress = (98, codes "UnknownEgress")
-told LinkKinds = (99, codes "LinkKinds")
-told LinkDown = (100, codes "LinkDown")
+abbrev pub code_and_name : Refusal → ℕ × List ℕ
+code_and_name (BadHeader fault) = (90, codes "BadHeader")
+code_and_name IndexMismatch = (91, codes "IndexMismatch")
+code_and_name WrongIngress = (92, codes "WrongIngress")
+code_and_name Expired = (93, codes "Expired")
+code_and_name BadMac = (94, codes "BadMac")
+code_and_name SourceAs = (95, codes "SourceAs")
+code_and_name DestinationAs = (96, codes "DestinationAs")
+code_and_name SwitchInside = (97, codes "SwitchInside")
+code_and_name UnknownEgress = (98, codes "UnknownEgress")
+code_and_name LinkKinds = (99, codes "LinkKinds")
+code_and_name LinkDown = (100, codes "LinkDown")
 
 abbrev pub code_of : Refusal → ℕ
-code_of refusal = (told refusal).0
+code_of refusal = (code_and_name refusal).0
 
 abbrev pub name_of : Refusal → List ℕ
-name_of refusal = (told refusal).1
+name_of refusal = (code_and_name refusal).1

@@ -142,12 +142,7 @@ pub fn are_joined(switched: bool, from: LinkKind, to: LinkKind) -> bool
 }
 
 /// Whether the links by which the packet comes in and goes out may be joined.
-pub fn kinds_fit(
-    view: &RouterView<'_>,
-    arrival: &Arrival,
-    switched: bool,
-    out: LinkKind,
-) -> bool
+pub fn kinds_fit(view: &RouterView<'_>, arrival: &Arrival, switched: bool, out: LinkKind) -> bool
     ensures { result ≡ kinds_fit view.now arrival.now switched out }
 {
     match *arrival {

@@ -33,7 +33,7 @@ pub enum Refusal {
     /// The path changes segments in this AS, and the packet did not come over a link.
     #[error("a packet from inside the AS can't change segments")]
     SwitchInside,
-    /// The AS has no interface of the hop's way out.
+    /// The hop's egress interface is unknown.
     #[error("the AS has no interface of the way out")]
     UnknownEgress,
     /// The links in and out are not of kinds that a path may join.

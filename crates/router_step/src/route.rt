@@ -147,8 +147,8 @@ fn leave(
     Ok(Outcome::ToLink(interface))
 }
 
-/// One step over a path header, after which the header is as the step says, or its bytes are as they
-/// were where the packet is refused.
+/// One step over a path header, after which the header is as the step says, or its bytes are as
+/// they were where the packet is refused.
 #[tactic(auto, unfolding(crate::specs::Step::step_of))]
 pub(crate) fn step_header(
     view: &RouterView<'_>,

@@ -10,8 +10,8 @@ use Rattle.path_verifier.specs.Accepted.{AreLive}
 use Rattle.path_verifier.specs.Header.{hop_count}
 use Rattle.forwarding.specs.Frame.{framed}
 use Rattle.forwarding.specs.Turn.{Packet, put_at, after}
-use Rattle.forwarding.specs.Open.{LetsThrough}
-use Rattle.forwarding.specs.Standing.{Standing, arrived_with}
+use Rattle.forwarding.specs.Forwardable.{MayForward}
+use Rattle.forwarding.specs.OnPath.{OnPath, arrived_with}
 use Rattle.forwarding.specs.Journey.{first_out, to_come, turns_for}
 use Rattle.forwarding.proofs.Bounds.{turns_are_few}
 use Rattle.forwarding.proofs.Sending.{starts}
@@ -49,7 +49,7 @@ began n start first (now ∷ later) none is = absurd (omega (arith, none))
 -- ---- after its turns
 
 before : (n : Network) (sent : Sending) (total done : ℕ) (packet : Packet) → done < total
-    → total ≤ 2 * hop_count sent.pieces → Standing n sent.source sent.destination sent.payload sent.pieces (total - done)
+    → total ≤ 2 * hop_count sent.pieces → OnPath n sent.source sent.destination sent.payload sent.pieces (total - done)
     packet → IsForwarded sent total done packet
 before n sent total done packet early few stands =
     let place = ap (λ (q : Packet). q.place) stands.is in
@@ -94,16 +94,16 @@ delivered n sent start moments flight sound live =
     let first = began n start flight.start flight.moments flight.count flight.is ∙ from.is in
     let total = turns_for n (walk_of sent.pieces) in
     let few = turns_are_few n sent.pieces sent.source sent.destination flight.moment path in
-    let lets : All (λ now. LetsThrough n now sent.source sent.destination sent.pieces)
+    let lets : All (λ now. MayForward n now sent.source sent.destination sent.pieces)
     moments = λ k d within. sound_is_let_through n _ sent.source sent.destination
     flight.moment sent.pieces flight.network path (live k d within) sound in
-    let stands = subst (λ header. Standing n sent.source sent.destination sent.payload
+    let stands = subst (λ header. OnPath n sent.source sent.destination sent.payload
     sent.pieces total
     (put_at (framed sent.source sent.destination header sent.payload) sent.source
     from.router)) (sym flight.accepted.header)
     (starts n sent.source sent.destination flight.moment from.router sent.payload
     sent.pieces path flight.frame from.owned) in
-    let here = subst (λ p. Standing n sent.source sent.destination sent.payload
+    let here = subst (λ p. OnPath n sent.source sent.destination sent.payload
     sent.pieces total p) (sym first) stands in
     elim (cases_lt (length moments) total) [
       | inr enough ↦ behind sent total (length moments) (after n start moments) enough

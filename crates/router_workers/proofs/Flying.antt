@@ -7,9 +7,9 @@ use Rattle.scion_topology.specs.Topology.{view_in}
 use Rattle.path_header.specs.Value.{HeaderValue}
 use Rattle.path_verifier.specs.Piece.{PieceValue}
 use Rattle.path_verifier.specs.Header.{header_of, hop_count}
-use Rattle.forwarding.specs.declared.place.Stop.{Stop}
-use Rattle.forwarding.specs.declared.place.Place.{Place}
-use Rattle.forwarding.specs.declared.place.Place.TheVariants.{AtRouter, Delivered, Refused, Lost}
+use Rattle.forwarding.specs.declared.location.RouterStop.{RouterStop}
+use Rattle.forwarding.specs.declared.location.PacketLocation.{PacketLocation}
+use Rattle.forwarding.specs.declared.location.PacketLocation.TheVariants.{AtRouter, Delivered, Refused, Lost}
 use Rattle.forwarding.specs.Frame.{framed}
 use Rattle.forwarding.specs.Turn.{Packet, put_at, turn_under, turn_of, turned, after}
 use Rattle.forwarding.proofs.Ended.{turn_by_view}
@@ -21,14 +21,14 @@ use Rattle.router_workers.proofs.Delivered.{departs}
 
 -- ---- while it is at a router it has had fewer than 128 turns
 
-stop_of : (place : Place) → IsAtRouter place → (stop : Stop) × (place ≡ AtRouter stop)
+stop_of : (place : PacketLocation) → IsAtRouter place → (stop : RouterStop) × (place ≡ AtRouter stop)
 stop_of (AtRouter stop) is = (stop, refl)
 stop_of Delivered is = absurd is
 stop_of (Refused ia router refusal) is = absurd is
 stop_of Lost is = absurd is
 
 -- where it stands, from where it departs
-at_stop : (flight : FlightValue) (is : IsFlight flight) (stop : Stop)
+at_stop : (flight : FlightValue) (is : IsFlight flight) (stop : RouterStop)
     → flight.packet.place ≡ AtRouter stop
     → (after flight.fabric (put_at (framed flight.sent.source flight.sent.destination
     flight.sent.header flight.sent.payload) flight.sent.source
@@ -40,7 +40,7 @@ at_stop flight is stop at =
     ∙ ap (λ (p : Packet). p.place) (sym is.is) ∙ at
 
 -- the network has the router at which it stands
-pub view_there : (flight : FlightValue) → IsFlight flight → (stop : Stop)
+pub view_there : (flight : FlightValue) → IsFlight flight → (stop : RouterStop)
     → flight.packet.place ≡ AtRouter stop → IsOk (view_in flight.fabric stop.ia stop.router)
 view_there flight is stop at =
     let n = flight.fabric in
@@ -112,13 +112,13 @@ flies_with now flight packet is here left = subst
 
 -- ---- by a view
 
-at_router : (n : Network) (place : Place) (view : View) → IsViewAt n place view → IsAtRouter place
+at_router : (n : Network) (place : PacketLocation) (view : View) → IsViewAt n place view → IsAtRouter place
 at_router n (AtRouter stop) view is = tt
 at_router n Delivered view is = absurd is
 at_router n (Refused ia router refusal) view is = absurd is
 at_router n Lost view is = absurd is
 
-same_turn : (n : Network) (now : ℕ) (packet : Packet) (view : View) (place : Place)
+same_turn : (n : Network) (now : ℕ) (packet : Packet) (view : View) (place : PacketLocation)
     → packet.place ≡ place → IsViewAt n place view
     → turn_under n view now packet ≡ turn_of n now packet
 same_turn n now packet view (AtRouter stop) at is = turn_by_view n now packet stop view at is

@@ -3,8 +3,8 @@ use Rattle.std.proofs.Common.{◌≡◌, ℕ, List, [], ◌∷◌, ◌++◌, len
 use Rattle.std.specs.Prelude.{slice_get}
 use Rattle.std.specs.Result.{is_ok}
 use Rattle.inbox.specs.Inbox.{Opened}
-use Rattle.router_workers.specs.declared.posts.Post.{Post}
-use Rattle.router_workers.specs.Posts.{ArePosts}
+use Rattle.router_workers.specs.declared.pass_pairs.PassPair.{PassPair}
+use Rattle.router_workers.specs.PassPairs.{ArePassPairs}
 
 -- what a push that was done leaves
 pub pushed : {X A E : Type 0} (result : Result A E) (done : A) (old new : List X) (x : X)
@@ -26,15 +26,15 @@ both_or_last (c ∷ xs) (d ∷ ys) x a y b zero same one two = inl (one, two)
 both_or_last (c ∷ xs) (d ∷ ys) x a y b (suc i) same one two =
     both_or_last xs ys x a y b i (omega (arith, same)) one two
 
-pub one_more : {T : Type 0} (inboxes : List Opened) (posts : List (Post T)) (inbox : Opened)
-    (post : Post T) → length inboxes ≡ length posts → ArePosts inboxes posts
-    → post.sender.inbox ≡ inbox.inbox → post.receiver.inbox ≡ inbox.inbox
-    → ArePosts (inboxes ++ inbox ∷ []) (posts ++ post ∷ [])
-one_more inboxes posts inbox post same are sender receiver i one two at there =
-    elim (both_or_last inboxes posts inbox one post two i same at there) [
+pub one_more : {T : Type 0} (inboxes : List Opened) (pairs : List (PassPair T)) (inbox : Opened)
+    (pair : PassPair T) → length inboxes ≡ length pairs → ArePassPairs inboxes pairs
+    → pair.sender.inbox ≡ inbox.inbox → pair.receiver.inbox ≡ inbox.inbox
+    → ArePassPairs (inboxes ++ inbox ∷ []) (pairs ++ pair ∷ [])
+one_more inboxes pairs inbox pair same are sender receiver i one two at there =
+    elim (both_or_last inboxes pairs inbox one pair two i same at there) [
       | inl before ↦ are i one two before.0 before.1
       | inr last ↦ (
-        ap (λ (p : Post _). p.sender.inbox) (sym last.1) ∙ sender ∙ ap (λ (o : Opened). o.inbox) last.0,
-        ap (λ (p : Post _). p.receiver.inbox) (sym last.1) ∙ receiver ∙ ap (λ (o : Opened). o.inbox) last.0,
+        ap (λ (p : PassPair _). p.sender.inbox) (sym last.1) ∙ sender ∙ ap (λ (o : Opened). o.inbox) last.0,
+        ap (λ (p : PassPair _). p.receiver.inbox) (sym last.1) ∙ receiver ∙ ap (λ (o : Opened). o.inbox) last.0,
       )
     ]

@@ -5,8 +5,8 @@ use Rattle.std.proofs.lemmas.Bool.{cases_lt}
 use Rattle.scion_topology.specs.Network.{Network}
 use Rattle.path_verifier.specs.Walk.{walk_of}
 use Rattle.path_verifier.specs.Accepted.{AreLive}
-use Rattle.forwarding.specs.declared.place.Place.{Place}
-use Rattle.forwarding.specs.declared.place.Place.TheVariants as places
+use Rattle.forwarding.specs.declared.location.PacketLocation.{PacketLocation}
+use Rattle.forwarding.specs.declared.location.PacketLocation.TheVariants as places
 use Rattle.forwarding.specs.Turn.{Packet, turned, after}
 use Rattle.forwarding.specs.Journey.{turns_for}
 use Rattle.router_workers.specs.declared.end.End.{End}
@@ -46,10 +46,10 @@ same_as_after n now packet (suc k) =
 
 -- ---- a sound flight
 
-never : (place : Place) → IsAtRouter place → place ≡ places.Delivered → ⊥
+never : (place : PacketLocation) → IsAtRouter place → place ≡ places.Delivered → ⊥
 never place at delivered = subst IsAtRouter delivered at
 
-refused_at : (place other : Place) (ia router : ℕ) (refusal : _)
+refused_at : (place other : PacketLocation) (ia router : ℕ) (refusal : _)
     → place ≡ places.Refused ia router refusal → IsRefusedAt place
 refused_at place other ia router refusal is = subst IsRefusedAt (sym is) tt
 

@@ -8,43 +8,43 @@ use Rattle.router_step.specs.declared.outcome.Outcome.{Outcome}
 use Rattle.router_step.specs.declared.outcome.Outcome.TheVariants.{ToLink, ToRouter, Deliver}
 use Rattle.router_step.specs.declared.fault.Refusal.{Refusal}
 use Rattle.router_step.specs.Packet.{packet_step}
-use Rattle.forwarding.specs.declared.place.Stop.{Stop}
-use Rattle.forwarding.specs.declared.place.Place.{Place}
-use Rattle.forwarding.specs.declared.place.Place.TheVariants.{AtRouter, Delivered, Refused, Lost}
+use Rattle.forwarding.specs.declared.location.RouterStop.{RouterStop}
+use Rattle.forwarding.specs.declared.location.PacketLocation.{PacketLocation}
+use Rattle.forwarding.specs.declared.location.PacketLocation.TheVariants.{AtRouter, Delivered, Refused, Lost}
 use Rattle.forwarding.specs.Turn.{Packet, at_owner, over_link, put, stepped, at_place, turn_under, by_view, by_place, turn_of, turned, after}
 use Rattle.router_workers.specs.Flight.{FlightValue, IsFlight}
 use Rattle.router_workers.proofs.Delivered.{departs}
 
-abbrev pub IsUnlost : Place → Type 0
+abbrev pub IsUnlost : PacketLocation → Type 0
 IsUnlost Lost = ⊥
 IsUnlost place = Unit {0}
 
-owner_unlost : (packet : Packet) (stop : Stop) (out ia number : ℕ) (owner : Result ℕ TopologyFault)
+owner_unlost : (packet : Packet) (stop : RouterStop) (out ia number : ℕ) (owner : Result ℕ TopologyFault)
     → IsUnlost packet.place → IsUnlost (at_owner packet stop out ia number owner).place
 owner_unlost packet stop out ia number (Ok router) is = tt
 owner_unlost packet stop out ia number (Err fault) is = is
 
-link_unlost : (n : Network) (packet : Packet) (stop : Stop) (out : ℕ)
+link_unlost : (n : Network) (packet : Packet) (stop : RouterStop) (out : ℕ)
     (far : Result (ℕ × ℕ) TopologyFault) → IsUnlost packet.place
     → IsUnlost (over_link n packet stop out far).place
 link_unlost n packet stop out (Ok end) is =
     owner_unlost packet stop out end.0 end.1 (owner_in n end.0 end.1) is
 link_unlost n packet stop out (Err fault) is = is
 
-put_unlost : (n : Network) (packet : Packet) (stop : Stop) (outcome : Outcome)
+put_unlost : (n : Network) (packet : Packet) (stop : RouterStop) (outcome : Outcome)
     → IsUnlost packet.place → IsUnlost (put n packet stop outcome).place
 put_unlost n packet stop (ToLink out) is = link_unlost n packet stop out (far_end_in n stop.ia out) is
 put_unlost n packet stop (ToRouter router) is = tt
 put_unlost n packet stop Deliver is = tt
 
-stepped_unlost : (n : Network) (packet : Packet) (stop : Stop)
+stepped_unlost : (n : Network) (packet : Packet) (stop : RouterStop)
     (result : Result (Outcome × List ℕ) Refusal) → IsUnlost packet.place
     → IsUnlost (stepped n packet stop result).1.place
 stepped_unlost n packet stop (Ok done) is =
     put_unlost n (record packet { bytes = done.1 }) stop done.0 is
 stepped_unlost n packet stop (Err refusal) is = tt
 
-at_unlost : (n : Network) (view : View) (now : ℕ) (packet : Packet) (place : Place)
+at_unlost : (n : Network) (view : View) (now : ℕ) (packet : Packet) (place : PacketLocation)
     → IsUnlost packet.place → IsUnlost (at_place n view now packet place).1.place
 at_unlost n view now packet (AtRouter stop) is =
     stepped_unlost n packet stop (packet_step view now stop.arrival packet.bytes) is
@@ -58,7 +58,7 @@ unfolding turn_under
 view_unlost n now packet (Ok view) is = at_unlost n view now packet packet.place is
 view_unlost n now packet (Err fault) is = is
 
-place_unlost : (n : Network) (now : ℕ) (packet : Packet) (place : Place)
+place_unlost : (n : Network) (now : ℕ) (packet : Packet) (place : PacketLocation)
     → IsUnlost packet.place → IsUnlost (by_place n now packet place).1.place
 place_unlost n now packet (AtRouter stop) is =
     view_unlost n now packet (view_in n stop.ia stop.router) is

@@ -4,19 +4,19 @@ use Rattle.policy_expr.specs.declared.hop.WalkHop.{WalkHop}
 use Rattle.scion_topology.specs.Network.{Network}
 use Rattle.path_verifier.specs.Walk.{walk_of}
 use Rattle.path_verifier.specs.Header.{hop_count}
-use Rattle.forwarding.specs.declared.place.Place.TheVariants as places
+use Rattle.forwarding.specs.declared.location.PacketLocation.TheVariants as places
 use Rattle.forwarding.specs.Turn.{Packet}
-use Rattle.forwarding.specs.Standing.{arrived_with}
+use Rattle.forwarding.specs.OnPath.{arrived_with}
 use Rattle.network_core.specs.Delivery.{IsRefusedAt, IsAtRouter, AreSound}
 use Rattle.router_workers.specs.Flight.{Sending}
 use Rattle.router_workers.specs.declared.end.End.{End}
 use Rattle.router_workers.specs.declared.end.End.TheVariants as ends
 
--- a packet of what was sent, with so many turns to its walk's end and so many had: no router has
--- refused it; the hops that it has passed are the beginning of its walk; it is delivered exactly
--- once it has had its turns, and stands at a router before; two turns for each of its hop fields
--- are enough; and it is delivered with its whole walk passed, the header behind all pieces and the
--- payload as it was sent
+-- a packet of what was sent, with `total` turns to its walk's end, of which `done` were had: no
+-- router has refused it; the hops that it has passed are the beginning of its walk; it is delivered
+-- exactly once it has had its turns, and stands at a router before; two turns for each of its hop
+-- fields are enough; and it is delivered with its whole walk passed, the header behind all pieces
+-- and the payload as it was sent
 pub record IsForwarded (sent : Sending) (total done : ℕ) (packet : Packet) : Type 0 where
   pub unrefused : ¬ (IsRefusedAt packet.place)
   pub rest : List WalkHop
@@ -32,8 +32,8 @@ pub record IsForwarded (sent : Sending) (total done : ℕ) (packet : Packet) : T
 abbrev pub IsSoundIn : Network → Sending → Type 0
 IsSoundIn n sent = AreSound n sent.pieces
 
--- the end of a flight with so many turns to its walk's end, none of them had before: delivered after
--- just so many, or dropped before; never refused
+-- the end of a flight with `total` turns to its walk's end, none of them had before: delivered
+-- after exactly that many, or dropped before; never refused
 abbrev pub IsSoundEnd : ℕ → End → Type 0
 IsSoundEnd total (ends.Delivered turns) = turns ≡ total
 IsSoundEnd total (ends.Refused refusal turns) = ⊥

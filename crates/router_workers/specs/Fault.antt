@@ -4,12 +4,12 @@ use Rattle.router_workers.specs.declared.fault.RunFault.{RunFault}
 use Rattle.router_workers.specs.declared.fault.RunFault.TheVariants.{Workers, Memory}
 
 -- the number and the name of a refusal
-abbrev pub told : RunFault → ℕ × List ℕ
-told Workers = (120, codes "Workers")
-told Memory = (121, codes "Memory")
+abbrev pub code_and_name : RunFault → ℕ × List ℕ
+code_and_name Workers = (120, codes "Workers")
+code_and_name Memory = (121, codes "Memory")
 
 abbrev pub code_of : RunFault → ℕ
-code_of refusal = (told refusal).0
+code_of refusal = (code_and_name refusal).0
 
 abbrev pub name_of : RunFault → List ℕ
-name_of refusal = (told refusal).1
+name_of refusal = (code_and_name refusal).1

@@ -11,12 +11,12 @@ use Rattle.policy_expr.specs.Policy.{Rules}
 use Rattle.path_verifier.specs.Piece.{PieceValue}
 use Rattle.path_verifier.specs.Walk.{walk_of}
 use Rattle.path_verifier.specs.Accepted.{IsAccepted, request_of}
-use Rattle.forwarding.specs.declared.place.Place.{Place}
-use Rattle.forwarding.specs.declared.place.Place.TheVariants as places
+use Rattle.forwarding.specs.declared.location.PacketLocation.{PacketLocation}
+use Rattle.forwarding.specs.declared.location.PacketLocation.TheVariants as places
 use Rattle.forwarding.specs.Frame.{framed, HasFrame}
 use Rattle.forwarding.specs.Turn.{Packet, put_at, turned, after}
 use Rattle.forwarding.specs.Journey.{first_out}
-use Rattle.network_core.specs.Value.{SentValue}
+use Rattle.network_core.specs.Value.{Shipment}
 
 -- what is sent: a path with its ends and its header, and a payload
 pub record Sending : Type 0 where
@@ -27,7 +27,7 @@ pub record Sending : Type 0 where
   pub payload : List ℕ
 
 -- what was accepted for sending, without the policy
-abbrev pub sending_of : SentValue → Sending
+abbrev pub sending_of : Shipment → Sending
 sending_of sent = record {
   source = sent.way.source;
   destination = sent.way.destination;
@@ -64,12 +64,12 @@ advanced now flight = record flight {
 }
 
 -- the view is that which the network has of the router at which a packet stands
-abbrev pub IsViewAt : Network → Place → View → Type 0
+abbrev pub IsViewAt : Network → PacketLocation → View → Type 0
 IsViewAt n (places.AtRouter stop) view = view_in n stop.ia stop.router ≡ Ok view
 IsViewAt n place view = ⊥
 
--- what was sent was accepted, and has turned, from where it departs, at just so many moments as the
--- flight has had turns, which are at most 128
+-- what was sent was accepted, and has turned, from where it departs, at exactly as many moments as
+-- the flight has had turns, which are at most 128
 pub record IsFlight (flight : FlightValue) : Type 0 where
   pub network : IsNetwork flight.fabric
   pub moment : ℕ

@@ -2,21 +2,21 @@
 use Rattle.std.specs.Prelude.{◌≡◌, ℕ, zero, suc, ◌<◌, List, Some, length, slice_get}
 use Rattle.scion_topology.specs.Network.{Network}
 use Rattle.router_step.specs.declared.fault.Refusal.{Refusal}
-use Rattle.forwarding.specs.declared.place.Place.{Place}
-use Rattle.forwarding.specs.declared.place.Place.TheVariants as places
+use Rattle.forwarding.specs.declared.location.PacketLocation.{PacketLocation}
+use Rattle.forwarding.specs.declared.location.PacketLocation.TheVariants as places
 use Rattle.forwarding.specs.Turn.{Packet, turned}
 use Rattle.network_core.specs.Delivery.{IsAtRouter}
 use Rattle.router_workers.specs.Flight.{FlightValue}
 use Rattle.router_workers.specs.declared.end.End.{End}
 use Rattle.router_workers.specs.declared.end.End.TheVariants.{Delivered, Refused, Dropped}
 
--- a packet after so many turns at one second
+-- a packet after a number of turns at one second
 abbrev pub repeated : Network → ℕ → Packet → ℕ → Packet
 repeated n now packet zero = packet
 repeated n now packet (suc k) = turned n now (repeated n now packet k)
 
--- where a flight as it was given is after so many turns of the run
-abbrev pub place_after : ℕ → FlightValue → ℕ → Place
+-- where a flight as it was given is after a number of turns of the run
+abbrev pub place_after : ℕ → FlightValue → ℕ → PacketLocation
 place_after now given turns = (repeated given.fabric now given.packet turns).place
 
 -- it was at a router before each of these turns
@@ -24,12 +24,12 @@ abbrev pub FliesUntil : ℕ → FlightValue → ℕ → Type 0
 FliesUntil now given turns = (k : ℕ) → k < turns → IsAtRouter (place_after now given k)
 
 -- some router has refused it so
-abbrev pub RefusedAs : Refusal → Place → Type 0
+abbrev pub RefusedAs : Refusal → PacketLocation → Type 0
 RefusedAs refusal place = (ia : ℕ) × ((router : ℕ) × (place ≡ places.Refused ia router refusal))
 
--- the end that a run at this second, with inboxes of so many places, may report of one of these
--- flights: delivered or refused after just so many turns; or dropped, still at a router after so
--- many, where more flights were given than an inbox has places
+-- the end that a run at this second, with inboxes of `slots` places, may report of one of these
+-- flights: delivered or refused after exactly that many turns; or dropped, still at a router after
+-- so many, where more flights were given than an inbox has places
 abbrev pub IsEnd : List FlightValue → ℕ → ℕ → FlightValue → End → Type 0
 IsEnd flights now slots given (Delivered turns) =
     (place_after now given turns ≡ places.Delivered) × FliesUntil now given turns
@@ -51,7 +51,7 @@ abbrev pub IsEndOf : List FlightValue → ℕ → ℕ → ℕ → End → Type 0
 IsEndOf flights now slots number end = (given : FlightValue)
     × ((slice_get flights number ≡ Some given) × IsEnd flights now slots given end)
 
--- the carried flight is that of this number after so many turns of the run, and was at a router
+-- the carried flight is that of this number after its turns of the run, and was at a router
 -- before each
 pub record IsCarried (flights : List FlightValue) (now number turns : ℕ) (carried : FlightValue)
     : Type 0 where

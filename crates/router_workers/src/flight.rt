@@ -4,7 +4,7 @@ ghost use Rattle.forwarding.specs.Turn.{IsAtNoRouter};
 ghost use Rattle.network_core.specs.Delivery.{IsAtRouter};
 ghost use Rattle.router_workers.specs.Flight.{FlightValue, departed, sending_of, grounded, advanced, IsViewAt, IsFlight};
 
-use forwarding::{Place, Transit, frame};
+use forwarding::{PacketInFlight, PacketLocation, frame};
 use isd_as::IsdAs;
 use network_core::Sent;
 use path_header::Header;
@@ -29,7 +29,7 @@ pub struct Flight<'a> {
     header: &'a Header,
     payload: &'a [u8],
     turns: u32,
-    transit: Transit,
+    transit: PacketInFlight,
 }
 
 impl<'a> Model for Flight<'a> {
@@ -66,8 +66,8 @@ impl<'a> Model for Flight<'a> {
 
 impl<'a> Flight<'a> {
     /// What was sent, as it departs in this network: at the router that owns the way out of its
-    /// first AS, with no turn had. Refused with [`TopologyFault::UnknownAs`] where the network
-    /// lacks that AS, and with [`TopologyFault::NoLink`] where the AS lacks that interface. It
+    /// first AS, with no turn had. Refused with [`TopologyFault::UnknownAs`] if the network
+    /// lacks that AS, and with [`TopologyFault::NoLink`] if the AS lacks that interface. It
     /// makes one growth, for the packet's bytes; the room for the hops that it will pass is its
     /// own.
     pub fn new(
@@ -99,7 +99,7 @@ impl<'a> Flight<'a> {
             header: sent.header(),
             payload: sent.payload(),
             turns: 0,
-            transit: Transit::at_router(bytes, sent.source(), router),
+            transit: PacketInFlight::at_router(bytes, sent.source(), router),
         })
     }
 
@@ -150,7 +150,7 @@ impl<'a> Flight<'a> {
     {
         self.known();
         match self.place() {
-            Place::AtRouter(stop) => match self.fabric.view(stop.ia, stop.router) {
+            PacketLocation::AtRouter(stop) => match self.fabric.view(stop.ia, stop.router) {
                 Ok(view) => Some(view),
                 Err(_) => unreachable!(),
             },
@@ -166,7 +166,7 @@ impl<'a> Flight<'a> {
     }
 
     /// Where it is.
-    pub fn place(&self) -> Place
+    pub fn place(&self) -> PacketLocation
         ensures { result ≡ self.now.packet.place }
     {
         self.transit.place()

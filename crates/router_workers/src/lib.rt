@@ -7,19 +7,19 @@
 //! was no room for it in an inbox.
 #![tactic(auto)]
 
+mod carried;
 mod end;
 mod fault;
 mod flight;
-mod job;
 pub mod laws;
-mod posts;
+mod pass_pairs;
 mod report;
 mod run;
-mod station;
+mod worker;
 
 pub use end::End;
 pub use fault::RunFault;
 pub use flight::Flight;
 pub use report::Report;
 pub use run::run_workers;
-pub use station::{Gate, Open, worker_of};
+pub use worker::{Gate, OpenGate, worker_of};

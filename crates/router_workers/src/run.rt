@@ -3,14 +3,14 @@
 ghost use Rattle.std.specs.Prelude.{◌≡◌, ◌↔◌, ◌⊎◌, ◌<◌, ◌≤◌, IfOk, IfErr, All, length, vec_capacity};
 ghost use Rattle.router_workers.specs.Run.{IsEndOf, AreEnds, IsReport};
 
+use crate::carried::{CarriedFlight, FlightEnd, RunFacts};
 use crate::end::End;
 use crate::fault::RunFault;
 use crate::flight::Flight;
-use crate::job::{Done, Job, Run};
-use crate::posts::{doors_of, inboxes_of, stations_of};
+use crate::pass_pairs::{ends_of, inboxes_of, workers_of};
 use crate::report::Report;
-use crate::station::{Desk, Gate, Station, send_on, work};
-use inbox::Outlet;
+use crate::worker::{Gate, RunState, Worker, send_on, work};
+use inbox::Sender;
 use scion_topology::Topology;
 use std::alloc::{AllocError, Global};
 use std::marker::Brand;
@@ -22,13 +22,14 @@ use std::thread::Threads;
 /// The most workers of a run.
 const MOST_WORKERS: usize = 8;
 
-/// Carries flights at the second `now` through the network of `topology` on so many workers, each a
-/// thread with an inbox of `slots` places, and reports of each flight, in their order, how it ended
-/// and after how many turns: delivered, or refused by a router, after just so many as the network's
-/// routers take at that second; or dropped, since it found its next inbox full. What has ended
-/// before ends at once, with no turn. The flights that are given are lent, and stay as they are.
+/// Carries flights at the second `now` through the network of `topology` on `workers` workers, each
+/// a thread with an inbox of `slots` places, and reports of each flight, in their order, how it
+/// ended and after how many turns: delivered, or refused by a router, after exactly as many as the
+/// network's routers take at that second; or dropped, since it found its next inbox full. What has
+/// ended before ends at once, with no turn. The flights that are given are lent, and stay as they
+/// are.
 ///
-/// [`RunFault::Workers`] where there are not 1 to 8 workers; [`RunFault::Memory`] where memory, or
+/// [`RunFault::Workers`] if there are not 1 to 8 workers; [`RunFault::Memory`] if memory, or
 /// a thread, is not to be had. Then no worker has taken a flight: all that may fail comes before.
 pub fn run_workers<'f, R: Threads + Wait + Sync, G: Gate>(
     rt: &R,
@@ -57,7 +58,7 @@ pub fn run_workers<'f, R: Threads + Wait + Sync, G: Gate>(
     }
 }
 
-fn run_with<'f, J: Run + Send + Sync, R: Threads + Wait + Sync, G: Gate>(
+fn run_with<'f, J: RunFacts + Send + Sync, R: Threads + Wait + Sync, G: Gate>(
     rt: &R,
     alloc: Global,
     topology: &Topology,
@@ -78,8 +79,8 @@ fn run_with<'f, J: Run + Send + Sync, R: Threads + Wait + Sync, G: Gate>(
     let places = places_for::<J>(alloc, flights.len())?;
     let left = AtomicUsize::new(flights.len());
     let begun = AtomicBool::new(false);
-    let (inboxes, posts) = inboxes_of::<Job<'f, J>>(alloc, workers, slots)?;
-    let desk = Desk {
+    let (inboxes, pairs) = inboxes_of::<CarriedFlight<'f, J>>(alloc, workers, slots)?;
+    let state = RunState {
         ends: &places,
         left: &left,
         begun: &begun,
@@ -88,18 +89,21 @@ fn run_with<'f, J: Run + Send + Sync, R: Threads + Wait + Sync, G: Gate>(
         now,
         crowded: flights.len() > slots,
     };
-    let (mut roots, intakes) = doors_of(alloc, &inboxes, posts)?;
-    fill(rt, alloc, &desk, &mut roots, flights)?;
-    let stations = stations_of(alloc, roots, intakes)?;
+    let (mut first_senders, receivers) = ends_of(alloc, &inboxes, pairs)?;
+    fill(rt, alloc, &state, &mut first_senders, flights)?;
+    let worker_list = workers_of(alloc, first_senders, receivers)?;
     let ends = Vec::with_capacity(alloc, flights.len())?;
-    start(rt, &desk, stations)?;
+    start(rt, &state, worker_list)?;
     Ok(Report {
         ends: collect(rt, &places, ends),
     })
 }
 
 /// A place for the end of each flight; or memory runs out.
-fn places_for<J: Run>(alloc: Global, count: usize) -> Result<Vec<OnceLock<Done<J>>>, AllocError>
+fn places_for<J: RunFacts>(
+    alloc: Global,
+    count: usize,
+) -> Result<Vec<OnceLock<FlightEnd<J>>>, AllocError>
     ensures { IfOk result (λ places. length places.items ≡ count) }
 {
     let mut places = Vec::with_capacity(alloc, count)?;
@@ -111,43 +115,43 @@ fn places_for<J: Run>(alloc: Global, count: usize) -> Result<Vec<OnceLock<Done<J
 
 /// Settles the flights that have ended, and puts the others into the inboxes of their workers, in
 /// their order; or memory runs out.
-fn fill<'f, J: Run, R: Wait, G: Gate>(
+fn fill<'f, J: RunFacts, R: Wait, G: Gate>(
     rt: &R,
     alloc: Global,
-    desk: &Desk<'_, J, G>,
-    roots: &mut Vec<Outlet<'_, Job<'f, J>>>,
+    state: &RunState<'_, J, G>,
+    first_senders: &mut Vec<Sender<'_, CarriedFlight<'f, J>>>,
     flights: &[Flight<'f>],
 ) -> Result<(), AllocError>
-    requires some { 0 < length roots.old.items }
+    requires some { 0 < length first_senders.old.items }
     requires flights { flights.now ≡ J.flights }
-    ensures { 0 < length roots.new.items }
+    ensures { 0 < length first_senders.new.items }
 {
     for (number, flight) in flights.iter().enumerate() {
-        let job = Job::new(alloc, number, flight)?;
-        send_on(rt, desk, roots, job);
+        let carried = CarriedFlight::new(alloc, number, flight)?;
+        send_on(rt, state, first_senders, carried);
     }
     Ok(())
 }
 
 /// Starts a thread for each worker, and returns once all of them have ended. The workers begin when
 /// all threads are there; where one can't be made, none begins.
-fn start<'f, J: Run + Send + Sync, R: Threads + Wait + Sync, G: Gate>(
+fn start<'f, J: RunFacts + Send + Sync, R: Threads + Wait + Sync, G: Gate>(
     rt: &R,
-    desk: &Desk<'_, J, G>,
-    stations: Vec<Station<'_, 'f, J>>,
+    state: &RunState<'_, J, G>,
+    worker_list: Vec<Worker<'_, 'f, J>>,
 ) -> Result<(), AllocError> {
     thread::scope(
         thread::scope_env(),
         rt,
         move |scope| -> Result<(), AllocError> {
-            for station in stations {
-                if scope.spawn(move || work(rt, desk, station)).is_err() {
-                    desk.left.store(0, Ordering::SeqCst);
-                    desk.begun.store(true, Ordering::SeqCst);
+            for worker in worker_list {
+                if scope.spawn(move || work(rt, state, worker)).is_err() {
+                    state.left.store(0, Ordering::SeqCst);
+                    state.begun.store(true, Ordering::SeqCst);
                     return Err(AllocError);
                 }
             }
-            desk.begun.store(true, Ordering::SeqCst);
+            state.begun.store(true, Ordering::SeqCst);
             Ok(())
         },
     )
@@ -155,7 +159,11 @@ fn start<'f, J: Run + Send + Sync, R: Threads + Wait + Sync, G: Gate>(
 
 /// The ends of all flights, in their order, once they are noted. There is room for them, so nothing
 /// may fail any more.
-fn collect<J: Run, R: Wait>(rt: &R, places: &[OnceLock<Done<J>>], ends: Vec<End>) -> Vec<End>
+fn collect<J: RunFacts, R: Wait>(
+    rt: &R,
+    places: &[OnceLock<FlightEnd<J>>],
+    ends: Vec<End>,
+) -> Vec<End>
     requires empty { length ends.items ≡ 0 }
     requires room { length places.now ≤ vec_capacity ends }
     ensures all { length result.items ≡ length places.now }
@@ -169,7 +177,7 @@ fn collect<J: Run, R: Wait>(rt: &R, places: &[OnceLock<Done<J>>], ends: Vec<End>
 }
 
 /// The end of the flight of this number, once it is noted.
-fn end_of<J: Run, R: Wait>(rt: &R, places: &[OnceLock<Done<J>>], number: usize) -> End
+fn end_of<J: RunFacts, R: Wait>(rt: &R, places: &[OnceLock<FlightEnd<J>>], number: usize) -> End
     requires { number < length places.now }
     ensures { IsEndOf J.flights J.now J.slots number result }
 {

@@ -68,7 +68,7 @@ fn entry(interface: &ScionInterface) -> Option<IfEntry>
     })
 }
 
-/// Writes the interfaces to the front of the room, in their order; `false` where one says nothing.
+/// Writes the interfaces to the front of the room, in their order; `false` if one says nothing.
 #[tactic(auto, unfolding(crate::specs::Parts::entries_told))]
 fn fill(room: &mut [IfEntry], interfaces: &[ScionInterface]) -> bool
     requires { length interfaces.now ≤ length room.old }

@@ -6,14 +6,14 @@ use Rattle.scion_ffi_paths.specs.declared.fault.RequestFault.{RequestFault}
 use Rattle.scion_ffi_paths.specs.declared.fault.RequestFault.TheVariants.{BadRequest, BadLimit, Policy, Ends}
 
 -- the number and the name of a refusal
-abbrev pub told : RequestFault → ℕ × List ℕ
-told BadRequest = (150, codes "BadRequest")
-told BadLimit = (137, codes "BadLimit")
-told (Policy fault) = options.told fault
-told (Ends fault) = ends.told fault
+abbrev pub code_and_name : RequestFault → ℕ × List ℕ
+code_and_name BadRequest = (150, codes "BadRequest")
+code_and_name BadLimit = (137, codes "BadLimit")
+code_and_name (Policy fault) = options.code_and_name fault
+code_and_name (Ends fault) = ends.code_and_name fault
 
 abbrev pub code_of : RequestFault → ℕ
-code_of refusal = (told refusal).0
+code_of refusal = (code_and_name refusal).0
 
 abbrev pub name_of : RequestFault → List ℕ
-name_of refusal = (told refusal).1
+name_of refusal = (code_and_name refusal).1

@@ -5,7 +5,7 @@ ghost use Rattle.serde_json.specs.View.{view};
 ghost use Rattle.scion_ffi_paths.specs.Asked.{asked_at, asked_in};
 
 use crate::segment::segments;
-use event_lines::AskedOption;
+use event_lines::OwnedOptionText;
 use event_lines::fields::{ia, long, options};
 use isd_as::IsdAs;
 use json_fields::{document, list};
@@ -22,7 +22,7 @@ pub(crate) struct Request {
     /// The AS in which they end.
     pub(crate) dst: IsdAs,
     /// The policy options.
-    pub(crate) options: Vec<AskedOption>,
+    pub(crate) options: Vec<OwnedOptionText>,
     /// The most paths.
     pub(crate) limit: u32,
     /// The second at which they are to be live.

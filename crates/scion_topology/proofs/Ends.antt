@@ -11,7 +11,7 @@ use Rattle.scion_topology.specs.declared.network.LinkClass.{LinkClass}
 use Rattle.scion_topology.specs.declared.network.LinkClass.TheVariants.{Core, Child}
 use Rattle.scion_topology.specs.Network.{Network, as_named, is_end, has_end, link_named, kind_at_a, kind_at_b, end_as_interface, interface_of, with_first, table_of, mirrored, interface_in}
 use Rattle.scion_topology.specs.Causes.{is_listed, has_unknown_end, lacks_router, has_no_router, is_ill_joined, stands, joins_twice}
-use Rattle.scion_topology.specs.Topology.{IsNetwork, known, joined, near_end, far_end, far_end_in, owner_in}
+use Rattle.scion_topology.specs.Topology.{IsNetwork, known, known_link, near_end, far_end, far_end_in, owner_in}
 use Rattle.refusal.proofs.Steps.{bind_ok, ok_is, ok_or_ok}
 use Rattle.scion_topology.proofs.Judging.{IsFree-IsNetwork, listed_known, has_router}
 use Rattle.scion_topology.proofs.Places.{are_apart, is_numbered, ends_there, network_apart}
@@ -81,7 +81,7 @@ pub ends_at_b : (link : Link) → has_end link link.b.ia link.b.number ≡ true
 ends_at_b link = or_right (is_end link.a link.b.ia link.b.number) _ (and_from _ _ (eq-eqb link.b.ia link.b.ia refl) (eq-eqb link.b.number link.b.number refl))
 
 -- a link of a network, found by one end, is found by the other
-pub joined_by_end : (n : Network) (ia number x m : ℕ) (link : Link) → IsNetwork n → joined n ia number ≡ Ok link → has_end link x m ≡ true → joined n x m ≡ Ok link
+pub joined_by_end : (n : Network) (ia number x m : ℕ) (link : Link) → IsNetwork n → known_link n ia number ≡ Ok link → has_end link x m ≡ true → known_link n x m ≡ Ok link
 joined_by_end n ia number x m link network found ends =
     let free = IsFree-IsNetwork n network in
     let at = bind_ok (known n ia) _ link found in
@@ -117,8 +117,8 @@ pub record IsJoined (n : Network) (ia number : ℕ) (link : Link) : Type 0 where
   pub apart : eqb link.a.ia link.b.ia ≡ false
   pub routers : has_no_router n.ases link ≡ false
 
-pub IsJoined-joined : (n : Network) (ia number : ℕ) (link : Link) → IsNetwork n → joined n ia number ≡ Ok link → IsJoined n ia number link
-IsJoined-joined n ia number link network found =
+pub IsJoined-known_link : (n : Network) (ia number : ℕ) (link : Link) → IsNetwork n → known_link n ia number ≡ Ok link → IsJoined n ia number link
+IsJoined-known_link n ia number link network found =
     let free = IsFree-IsNetwork n network in
     let at = bind_ok (known n ia) _ link found in
     let named = ok_or_ok (link_named n.links ia number) faults.NoLink link at.2 in
@@ -136,10 +136,10 @@ far_at_a : (link : Link) → far_end link link.a.ia link.a.number ≡ link.b
 far_at_a link = rw (and_from (eqb link.a.ia link.a.ia) (eqb link.a.number link.a.number) (eq-eqb _ _ refl) (eq-eqb _ _ refl)) refl
 
 -- the far end of the far end is the end itself
-far_back_at : (n : Network) (ia number : ℕ) (link : Link) → IsNetwork n → joined n ia number ≡ Ok link → far_end_in n (far_end link ia number).ia (far_end link ia number).number ≡ Ok (ia, number)
+far_back_at : (n : Network) (ia number : ℕ) (link : Link) → IsNetwork n → known_link n ia number ≡ Ok link → far_end_in n (far_end link ia number).ia (far_end link ia number).number ≡ Ok (ia, number)
 unfolding far_end_in
 far_back_at n ia number link network found =
-    let is = IsJoined-joined n ia number link network found in
+    let is = IsJoined-known_link n ia number link network found in
     let side = sides link ia number is.ends in
     elim (cases_Bool (is_end link.a ia number)) [
       | inl here ↦ (
@@ -155,7 +155,7 @@ far_back_at n ia number link network found =
 pub far_back : (n : Network) (ia number x m : ℕ) → IsNetwork n → far_end_in n ia number ≡ Ok (x, m) → far_end_in n x m ≡ Ok (ia, number)
 unfolding far_end_in
 far_back n ia number x m network found =
-    let at = bind_ok (joined n ia number) _ (x, m) found in
+    let at = bind_ok (known_link n ia number) _ (x, m) found in
     let pair = ok_is ((far_end at.0 ia number).ia, (far_end at.0 ia number).number) (x, m) at.2 in
     let x-is : (far_end at.0 ia number).ia ≡ x = ap (λ (p : ℕ × ℕ). p.0) pair in
     let m-is : (far_end at.0 ia number).number ≡ m = ap (λ (p : ℕ × ℕ). p.1) pair in
@@ -166,10 +166,10 @@ far_back n ia number x m network found =
 pub owner_below : (n : Network) (ia number router : ℕ) (one : AsEntry) → IsNetwork n → owner_in n ia number ≡ Ok router → known n ia ≡ Ok one → router < one.routers
 unfolding owner_in
 owner_below n ia number router one network found is_known =
-    let at = bind_ok (joined n ia number) _ router found in
+    let at = bind_ok (known_link n ia number) _ router found in
     let link = at.0 in
     let owner : (near_end link ia number).router ≡ router = ok_is _ _ at.2 in
-    let is = IsJoined-joined n ia number link network at.1 in
+    let is = IsJoined-known_link n ia number link network at.1 in
     let side = sides link ia number is.ends in
     let lacks = or_parts (lacks_router n.ases link.a) (lacks_router n.ases link.b) is.routers in
     let named = ok_or_ok (as_named n.ases ia) faults.UnknownAs one is_known in
@@ -224,11 +224,11 @@ seen_at_a link = rw (eq-eqb link.a.ia link.a.ia refl) refl
 pub seen_at_b : (link : Link) → eqb link.a.ia link.b.ia ≡ false → interface_of link.b.ia link ≡ Some (end_as_interface link.b (kind_at_b link.class) link.up)
 seen_at_b link apart = rw (apart, eq-eqb link.b.ia link.b.ia refl) refl
 
-mirrored_at : (n : Network) (ia number x m : ℕ) (near : IfEntry) (link : Link) → IsNetwork n → joined n ia number ≡ Ok link → (far_end link ia number).ia ≡ x → (far_end link ia number).number ≡ m → interface_in (table_of ia n.links) number ≡ Some near → AreMirrored n x m near
+mirrored_at : (n : Network) (ia number x m : ℕ) (near : IfEntry) (link : Link) → IsNetwork n → known_link n ia number ≡ Ok link → (far_end link ia number).ia ≡ x → (far_end link ia number).number ≡ m → interface_in (table_of ia n.links) number ≡ Some near → AreMirrored n x m near
 mirrored_at n ia number x m near link network found x-is m-is shown =
     let free = IsFree-IsNetwork n network in
     let apart = network_apart n network in
-    let is = IsJoined-joined n ia number link network found in
+    let is = IsJoined-known_link n ia number link network found in
     let side = sides link ia number is.ends in
     let near_shown : interface_of ia link ≡ Some near = sym (interface_in-table_of ia number n.links link apart is.named) ∙ shown in
     elim (cases_Bool (is_end link.a ia number)) [
@@ -259,7 +259,7 @@ mirrored_at n ia number x m near link network found x-is m-is shown =
 pub far_is_mirrored : (n : Network) (ia number x m : ℕ) (near : IfEntry) → IsNetwork n → far_end_in n ia number ≡ Ok (x, m) → interface_in (table_of ia n.links) number ≡ Some near → AreMirrored n x m near
 unfolding far_end_in
 far_is_mirrored n ia number x m near network found shown =
-    let at = bind_ok (joined n ia number) _ (x, m) found in
+    let at = bind_ok (known_link n ia number) _ (x, m) found in
     let pair = ok_is ((far_end at.0 ia number).ia, (far_end at.0 ia number).number) (x, m) at.2 in
     mirrored_at n ia number x m near at.0 network at.1 (ap (λ (p : ℕ × ℕ). p.0) pair) (ap (λ (p : ℕ × ℕ). p.1) pair) shown
 
@@ -269,10 +269,10 @@ far_is_shown n ia number x m near network found shown =
     rw far.shown (far.kind, far.up)
 
 -- an interface at which a link ends is in its AS's table
-shown_at : (n : Network) (ia number : ℕ) (link : Link) → IsNetwork n → joined n ia number ≡ Ok link → IsSome (interface_in (table_of ia n.links) number)
+shown_at : (n : Network) (ia number : ℕ) (link : Link) → IsNetwork n → known_link n ia number ≡ Ok link → IsSome (interface_in (table_of ia n.links) number)
 shown_at n ia number link network found =
     let free = IsFree-IsNetwork n network in
-    let is = IsJoined-joined n ia number link network found in
+    let is = IsJoined-known_link n ia number link network found in
     let shown = interface_in-table_of ia number n.links link (network_apart n network) is.named in
     let side = sides link ia number is.ends in
     elim (cases_Bool (is_end link.a ia number)) [
@@ -282,4 +282,4 @@ shown_at n ia number link network found =
 
 pub near_is_shown : (n : Network) (ia number x m : ℕ) → IsNetwork n → far_end_in n ia number ≡ Ok (x, m) → IsSome (interface_in (table_of ia n.links) number)
 unfolding far_end_in
-near_is_shown n ia number x m network found = let at = bind_ok (joined n ia number) _ (x, m) found in shown_at n ia number at.0 network at.1
+near_is_shown n ia number x m network found = let at = bind_ok (known_link n ia number) _ (x, m) found in shown_at n ia number at.0 network at.1

@@ -231,13 +231,13 @@ well_classed ases Child a b one other at_a at_b joins =
     or_from _ _ (not_from_true _ (eq-eqb _ _ isd)) (core_is ases b other at_b ∙ joins.1)
 
 link_from : (ases : List AsEntry) (link : Link) → is_link link ≡ true → has_unknown_end ases link ≡ false → has_no_router ases link ≡ false → is_ill_joined ases link ≡ false → IsLink ases link
-link_from ases link numbered known routed joined =
+link_from ases link numbered known routed known_link =
     let some = IsNumbered-is_link link numbered in
     let ends = or_parts (not (is_listed ases link.a.ia)) (not (is_listed ases link.b.ia)) known in
     let a = listed_known ases link.a.ia (not-false _ ends.0) in
     let b = listed_known ases link.b.ia (not-false _ ends.1) in
     let routers = or_parts (lacks_router ases link.a) (lacks_router ases link.b) routed in
-    let classed = or_parts (eqb link.a.ia link.b.ia) (is_ill_classed ases link.class link.a.ia link.b.ia) joined in
+    let classed = or_parts (eqb link.a.ia link.b.ia) (is_ill_classed ases link.class link.a.ia link.b.ia) known_link in
     record {
       one = a.0;
       other = b.0;

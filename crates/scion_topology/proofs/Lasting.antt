@@ -14,7 +14,7 @@ use Rattle.scion_topology.specs.declared.network.End.{End}
 use Rattle.scion_topology.specs.declared.network.Link.{Link}
 use Rattle.scion_topology.specs.Keys.{is_key, key_of, renewed}
 use Rattle.scion_topology.specs.Network.{Network, as_named, is_end, has_end, link_named, interface_of, with_first, table_of, interface_in}
-use Rattle.scion_topology.specs.Topology.{IsNetwork, known, joined, near_end, far_end, interface_at, far_end_in, owner_in, with_up, with_key, set_up, rotated}
+use Rattle.scion_topology.specs.Topology.{IsNetwork, known, known_link, near_end, far_end, interface_at, far_end_in, owner_in, with_up, with_key, set_up, rotated}
 use Rattle.scion_topology.specs.Ends.{IsAt, IsShown, at_a, at_b, IsUp, IsStill, IsSame}
 use Rattle.scion_topology.specs.Index.{place_in, set_from}
 use Rattle.refusal.proofs.Steps.{bind_ok, ok_is, ok_or_ok}
@@ -24,7 +24,7 @@ use Rattle.scion_topology.proofs.Marking.{with_up-set_from}
 use Rattle.scion_topology.proofs.Relinked.{set_up-none, IsNetwork-relinked}
 use Rattle.scion_topology.proofs.Keyed.{with_key-keyed_at, IsNetwork-rekeyed}
 use Rattle.scion_topology.proofs.KeyTests.{made_key}
-use Rattle.scion_topology.proofs.Ends.{IsJoined-joined, sides}
+use Rattle.scion_topology.proofs.Ends.{IsJoined-known_link, sides}
 use Rattle.scion_topology.proofs.Shown.{found_at, shows_both_ends}
 
 -- ---- what a change is
@@ -32,13 +32,13 @@ use Rattle.scion_topology.proofs.Shown.{found_at, shows_both_ends}
 -- a link that went up or down, in a network of the same ASes
 pub record IsLinked (up : Bool) (x y : ℕ) (n m : Network) : Type 0 where
   pub link : Link
-  pub found : joined n x y ≡ Ok link
+  pub found : known_link n x y ≡ Ok link
   pub is : record n { links = with_up up x y n.links } ≡ m
 
 pub is_linked : (up : Bool) (x y : ℕ) (n m : Network) → set_up up x y n ≡ Ok m → IsLinked up x y n m
 unfolding set_up
 is_linked up x y n m change =
-    let at = bind_ok (joined n x y) _ m change in
+    let at = bind_ok (known_link n x y) _ m change in
     record { link = at.0; found = at.1; is = ok_is (record n { links = with_up up x y n.links }) m at.2 }
 
 -- an AS with other keys, in a network of the same links
@@ -166,12 +166,12 @@ asked_split : {A : Type 0} (g : Link → A) (a : Result AsEntry TopologyFault) (
 asked_split g (Ok one) o = asked_found g o
 asked_split g (Err fault) o = refl
 
-asked_at : {A : Type 0} (g : Link → A) (n : Network) (ia i : ℕ) → (joined n ia i >>= λ link. Ok (g link)) ≡ if_known (known n ia) (asked g (link_named n.links ia i))
+asked_at : {A : Type 0} (g : Link → A) (n : Network) (ia i : ℕ) → (known_link n ia i >>= λ link. Ok (g link)) ≡ if_known (known n ia) (asked g (link_named n.links ia i))
 asked_at g n ia i = asked_split g (known n ia) (link_named n.links ia i)
 
-asked_linked : {A : Type 0} (g : Link → A) → IgnoresState g → (up : Bool) (x y ia i : ℕ) (n m : Network) → set_up up x y n ≡ Ok m → (joined m ia i >>= λ link. Ok (g link)) ≡ (joined n ia i >>= λ link. Ok (g link))
+asked_linked : {A : Type 0} (g : Link → A) → IgnoresState g → (up : Bool) (x y ia i : ℕ) (n m : Network) → set_up up x y n ≡ Ok m → (known_link m ia i >>= λ link. Ok (g link)) ≡ (known_link n ia i >>= λ link. Ok (g link))
 asked_linked g same up x y ia i n m change =
-    ap (λ (k : Network). joined k ia i >>= λ link. Ok (g link)) (sym (is_linked up x y n m change).is)
+    ap (λ (k : Network). known_link k ia i >>= λ link. Ok (g link)) (sym (is_linked up x y n m change).is)
     ∙ asked_at g (record n { links = with_up up x y n.links }) ia i
     ∙ ap (if_known (known n ia)) (asked_up g same up x y ia i n.links)
     ∙ sym (asked_at g n ia i)
@@ -193,10 +193,10 @@ if_there None (Some one) r e = absurd cc
 if_there (Some one) None r e = absurd cc
 if_there (Some one) (Some other) r e = refl
 
-asked_keyed : {A : Type 0} (g : Link → A) (x : ℕ) (key : List ℕ) (ia i : ℕ) (n m : Network) → rotated x key n ≡ Ok m → (joined m ia i >>= λ link. Ok (g link)) ≡ (joined n ia i >>= λ link. Ok (g link))
+asked_keyed : {A : Type 0} (g : Link → A) (x : ℕ) (key : List ℕ) (ia i : ℕ) (n m : Network) → rotated x key n ≡ Ok m → (known_link m ia i >>= λ link. Ok (g link)) ≡ (known_link n ia i >>= λ link. Ok (g link))
 asked_keyed g x key ia i n m change =
     let keyed = is_keyed x key n m change in
-    ap (λ (k : Network). joined k ia i >>= λ link. Ok (g link)) (sym keyed.is)
+    ap (λ (k : Network). known_link k ia i >>= λ link. Ok (g link)) (sym keyed.is)
     ∙ asked_at g (record n { ases = with_key x keyed.new n.ases }) ia i
     ∙ if_there (as_named (with_key x keyed.new n.ases) ia) (as_named n.ases ia) (asked g (link_named n.links ia i)) (there_still ia x keyed.new n.ases)
     ∙ sym (asked_at g n ia i)
@@ -307,13 +307,13 @@ up_at m end other entry ia number up at shows is = record {
 pub changed_shows : (up : Bool) (x y far_ia far_number : ℕ) (n m : Network) → IsNetwork n → set_up up x y n ≡ Ok m → far_end_in n x y ≡ Ok (far_ia, far_number) → IsUp m x y up × IsUp m far_ia far_number up
 unfolding far_end_in
 changed_shows up x y far_ia far_number n m network change leads =
-    let at = bind_ok (joined n x y) _ (far_ia, far_number) leads in
+    let at = bind_ok (known_link n x y) _ (far_ia, far_number) leads in
     let link = at.0 in
     let new : Link = record link { up = up } in
     let pair = ok_is ((far_end link x y).ia, (far_end link x y).number) (far_ia, far_number) at.2 in
     let ia_is : (far_end link x y).ia ≡ far_ia = ap (λ (p : ℕ × ℕ). p.0) pair in
     let number_is : (far_end link x y).number ≡ far_number = ap (λ (p : ℕ × ℕ). p.1) pair in
-    let is = IsJoined-joined n x y link network at.1 in
+    let is = IsJoined-known_link n x y link network at.1 in
     let side = sides link x y is.ends in
     let there : Contains m.links new = subst (λ (k : Network). Contains k.links new) (is_linked up x y n m change).is (changed_listed up x y n.links link is.named) in
     let shows = shows_both_ends m new (linked_network up x y n m network change) there in
@@ -404,10 +404,10 @@ pub others_stay : (up : Bool) (x y ia m far far_m : ℕ) (n k : Network) → IsN
     → interface_at k ia m ≡ interface_at n ia m
 unfolding far_end_in
 others_stay up x y ia m far far_m n k network change leads not_near not_far =
-    let end = bind_ok (joined n ia m) _ (far, far_m) leads in
+    let end = bind_ok (known_link n ia m) _ (far, far_m) leads in
     let link = end.0 in
     let pair = ok_is ((far_end link ia m).ia, (far_end link ia m).number) (far, far_m) end.2 in
-    let shown = IsJoined-joined n ia m link network end.1 in
+    let shown = IsJoined-known_link n ia m link network end.1 in
     let free = IsFree-IsNetwork n network in
     let ends = no_end link x y ia m far far_m shown.ends (ap (λ (p : ℕ × ℕ). p.0) pair) (ap (λ (p : ℕ × ℕ). p.1) pair) not_near not_far in
     let others = others_in n.links link x y ia m (network_apart n network)

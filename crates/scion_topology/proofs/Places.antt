@@ -13,7 +13,7 @@ use Rattle.scion_topology.specs.declared.network.Link.{Link}
 use Rattle.scion_topology.specs.Network.{Network, has_end, link_named, interface_of, with_first, table_of}
 use Rattle.scion_topology.specs.Causes.{is_ill_joined}
 use Rattle.refusal.specs.Refusal.{◌>>=◌}
-use Rattle.scion_topology.specs.Topology.{IsNetwork, known, joined}
+use Rattle.scion_topology.specs.Topology.{IsNetwork, known, known_link}
 use Rattle.scion_topology.specs.Index.{IndexValue, places_of, index_at, place_beside, index_in, place_in}
 use Rattle.std.proofs.lemmas.Option.{slice_get-get_or}
 use Rattle.scion_topology.proofs.Indexes.{slice_get-past}
@@ -151,8 +151,8 @@ IsFirst-place_in n ia number k e =
     let at = bind_ok (known n ia) _ k e in
     IsFirst-position (λ link. has_end link ia number) n.links k (ok_or_ok (position (λ link. has_end link ia number) n.links) faults.NoLink k at.2)
 
-pub joined-place_in : (n : Network) (ia number k : ℕ) (link : Link) → place_in n ia number ≡ Ok k → link ≡ get_or n.links k link → joined n ia number ≡ Ok link
-joined-place_in n ia number k link e is =
+pub known_link-place_in : (n : Network) (ia number k : ℕ) (link : Link) → place_in n ia number ≡ Ok k → link ≡ get_or n.links k link → known_link n ia number ≡ Ok link
+known_link-place_in n ia number k link e is =
     let at = bind_ok (known n ia) _ k e in
     let first = IsFirst-place_in n ia number k e in
     let found : link_named n.links ia number ≡ Some link = first.found link is in
@@ -170,8 +170,8 @@ joined_err (Ok x) links ia number d e =
     rw absent (ap (λ (f : TopologyFault). Err f) none.1)
 joined_err (Err f) links ia number d e = cc
 
-pub joined-place_in_err : (n : Network) (ia number : ℕ) (d : TopologyFault) → place_in n ia number ≡ Err d → joined n ia number ≡ Err d
-joined-place_in_err n ia number d e = joined_err (known n ia) n.links ia number d e
+pub known_link-place_in_err : (n : Network) (ia number : ℕ) (d : TopologyFault) → place_in n ia number ≡ Err d → known_link n ia number ≡ Err d
+known_link-place_in_err n ia number d e = joined_err (known n ia) n.links ia number d e
 
 pub place_in-bound : (n : Network) (ia number : ℕ) (r : Result ℕ TopologyFault) → r ≡ place_in n ia number → IfOk r (λ k. k < length n.links)
 place_in-bound n ia number (Ok k) e = (IsFirst-place_in n ia number k (sym e)).within

@@ -15,7 +15,7 @@ use Rattle.scion_topology.specs.Table.{marked_table}
 use Rattle.scion_topology.specs.Index.{IndexValue, index_at, index_from, places_of, place_in, marked, set_from}
 use Rattle.refusal.proofs.Steps.{bind_ok, ok_or_ok}
 use Rattle.scion_topology.proofs.Judging.{IsFree-IsNetwork, judged, rules_from}
-use Rattle.scion_topology.proofs.Places.{network_apart, are_apart, joined-place_in, joined-place_in_err}
+use Rattle.scion_topology.proofs.Places.{network_apart, are_apart, known_link-place_in, known_link-place_in_err}
 use Rattle.scion_topology.proofs.Marking.{places_of-set_from, table_of-misses, table_of-with_up, Misses, with_up-set_from, cause_of-set_from, is_link-set_from}
 use Rattle.scion_topology.proofs.Tables.{position-cons}
 use Rattle.scion_topology.proofs.Ends.{ends_stand, ends_at_a, ends_at_b}
@@ -23,7 +23,7 @@ use Rattle.scion_topology.proofs.Ends.{ends_stand, ends_at_a, ends_at_b}
 -- where there is no such link, nothing is changed
 pub set_up-none : (up : Bool) (ia number : ℕ) (n : Network) (d : TopologyFault) → place_in n ia number ≡ Err d → set_up up ia number n ≡ Err d
 unfolding set_up
-set_up-none up ia number n d none = rw (joined-place_in_err n ia number d none) refl
+set_up-none up ia number n d none = rw (known_link-place_in_err n ia number d none) refl
 
 -- the network with the link at its place up, or down
 abbrev pub relinked : ℕ → Bool → Network → Network
@@ -36,7 +36,7 @@ set_up-place_in up ia number place n link found is =
     let first = ok_or_ok (position (λ l. has_end l ia number) n.links) faults.NoLink place at.2 in
     let zero_place : 0 + place ≡ place = omega arith in
     let same : with_up up ia number n.links ≡ set_from 0 place up n.links = rw zero_place at (with_up-set_from 0 ia number place up n.links first) in
-    rw (joined-place_in n ia number place link found is, same) refl
+    rw (known_link-place_in n ia number place link found is, same) refl
 
 pub IsNetwork-relinked : (place : ℕ) (up : Bool) (n : Network) → IsNetwork n → IsNetwork (relinked place up n)
 IsNetwork-relinked place up n network = let passed = judged n network in rules_from (relinked place up n) (record {

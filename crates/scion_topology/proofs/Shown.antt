@@ -11,14 +11,14 @@ use Rattle.scion_topology.specs.declared.network.Link.{Link}
 use Rattle.scion_topology.specs.Network.{Network, as_named, is_end, has_end, link_named, interface_of, with_first, table_of, interface_in}
 use Rattle.scion_topology.specs.Rules.{IsAs, IsLink}
 use Rattle.scion_topology.specs.Causes.{stands, joins_twice}
-use Rattle.scion_topology.specs.Topology.{IsNetwork, known, joined, far_end, interface_at, far_end_in, owner_in}
+use Rattle.scion_topology.specs.Topology.{IsNetwork, known, known_link, far_end, interface_at, far_end_in, owner_in}
 use Rattle.scion_topology.specs.Ends.{IsAt, ShowsBothEnds, AreJoined, IsEndOf, at_a, at_b}
 use Rattle.refusal.proofs.Steps.{bind_ok, ok_is, ok_or_ok}
 use Rattle.scion_topology.proofs.Judging.{IsFree-IsNetwork, are_named, listed_of_named, ia_of_named}
 use Rattle.scion_topology.proofs.Seeing.{entry_is}
 use Rattle.scion_topology.proofs.Deciding.{apart_test}
 use Rattle.scion_topology.proofs.Places.{network_apart}
-use Rattle.scion_topology.proofs.Ends.{IsJoined-joined, interface_in-table_of, seen_at_a, seen_at_b, sides, ends_at_a, ends_at_b}
+use Rattle.scion_topology.proofs.Ends.{IsJoined-known_link, interface_in-table_of, seen_at_a, seen_at_b, sides, ends_at_a, ends_at_b}
 
 stands_there : (links : List Link) (k : ℕ) (link : Link) (ia number : ℕ) → k < length links → get_or links k link ≡ link → has_end link ia number ≡ true → list_any (λ l. has_end l ia number) links ≡ true
 stands_there links k link ia number within at ends = list_any-from_Any (λ l. has_end l ia number) links (k, link, within, at, ends)
@@ -91,12 +91,12 @@ listed_of_found (first ∷ rest) ia number link found = elim (cases_Bool (has_en
 pub are_joined : (n : Network) (ia number far_ia far_number : ℕ) → IsNetwork n → far_end_in n ia number ≡ Ok (far_ia, far_number) → AreJoined n ia number far_ia far_number
 unfolding far_end_in
 are_joined n ia number far_ia far_number network found =
-    let at = bind_ok (joined n ia number) _ (far_ia, far_number) found in
+    let at = bind_ok (known_link n ia number) _ (far_ia, far_number) found in
     let link = at.0 in
     let pair = ok_is ((far_end link ia number).ia, (far_end link ia number).number) (far_ia, far_number) at.2 in
     let ia_is : (far_end link ia number).ia ≡ far_ia = ap (λ (p : ℕ × ℕ). p.0) pair in
     let number_is : (far_end link ia number).number ≡ far_number = ap (λ (p : ℕ × ℕ). p.1) pair in
-    let is = IsJoined-joined n ia number link network at.1 in
+    let is = IsJoined-known_link n ia number link network at.1 in
     let side = sides link ia number is.ends in
     let sides_are : (IsAt link.a ia number × IsAt link.b far_ia far_number) ⊎ (IsAt link.b ia number × IsAt link.a far_ia far_number) = elim (cases_Bool (is_end link.a ia number)) [
       | inl here ↦ (

@@ -4,19 +4,19 @@ use Rattle.scion_topology.specs.declared.fault.TopologyFault.{TopologyFault}
 use Rattle.scion_topology.specs.declared.fault.TopologyFault.TheVariants.{NotJson, BadField, DuplicateAs, DuplicateIf, UnknownAs, BadKind, NoRouter, NoLink, TooMany}
 
 -- the number and the name of a refusal
-abbrev pub told : TopologyFault → ℕ × List ℕ
-told NotJson = (10, codes "NotJson")
-told BadField = (11, codes "BadField")
-told DuplicateAs = (12, codes "DuplicateAs")
-told DuplicateIf = (13, codes "DuplicateIf")
-told UnknownAs = (14, codes "UnknownAs")
-told BadKind = (15, codes "BadKind")
-told NoRouter = (16, codes "NoRouter")
-told NoLink = (17, codes "NoLink")
-told TooMany = (18, codes "TooMany")
+abbrev pub code_and_name : TopologyFault → ℕ × List ℕ
+code_and_name NotJson = (10, codes "NotJson")
+code_and_name BadField = (11, codes "BadField")
+code_and_name DuplicateAs = (12, codes "DuplicateAs")
+code_and_name DuplicateIf = (13, codes "DuplicateIf")
+code_and_name UnknownAs = (14, codes "UnknownAs")
+code_and_name BadKind = (15, codes "BadKind")
+code_and_name NoRouter = (16, codes "NoRouter")
+code_and_name NoLink = (17, codes "NoLink")
+code_and_name TooMany = (18, codes "TooMany")
 
 abbrev pub code_of : TopologyFault → ℕ
-code_of refusal = (told refusal).0
+code_of refusal = (code_and_name refusal).0
 
 abbrev pub name_of : TopologyFault → List ℕ
-name_of refusal = (told refusal).1
+name_of refusal = (code_and_name refusal).1

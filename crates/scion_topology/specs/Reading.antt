@@ -1,4 +1,5 @@
--- Reading the ASes and links of a topology from JSON: objects with the named members and any others.
+-- Reading the ASes and links of a topology from JSON: objects with the named members and any
+-- others.
 use Rattle.std.specs.Prelude.{ℕ, ◌&&◌, nat_le, true, if◌then◌else◌, codes, List, [], ◌∷◌, length, Option, Some, None}
 use Rattle.std.specs.Result.{result_ok}
 use Rattle.std.specs.Str.{bytes_eq}

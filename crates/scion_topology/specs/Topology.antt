@@ -45,8 +45,8 @@ abbrev pub known : Network → ℕ → Result AsEntry TopologyFault
 known n ia = ok_or (as_named n.ases ia) faults.UnknownAs
 
 -- the link at this interface of this AS
-abbrev pub joined : Network → ℕ → ℕ → Result Link TopologyFault
-joined n ia number = known n ia >>= λ _. ok_or (link_named n.links ia number) faults.NoLink
+abbrev pub known_link : Network → ℕ → ℕ → Result Link TopologyFault
+known_link n ia number = known n ia >>= λ _. ok_or (link_named n.links ia number) faults.NoLink
 
 -- an AS's place in the list, and what the list says of it
 unfoldable pub info_in : Network → ℕ → Result AsInfo TopologyFault
@@ -74,13 +74,13 @@ far_end link ia number = if is_end link.a ia number then link.b else link.a
 -- the AS and the interface at the far end
 unfoldable pub far_end_in : Network → ℕ → ℕ → Result (ℕ × ℕ) TopologyFault
 far_end_in n ia number = do
-  link ← joined n ia number
+  link ← known_link n ia number
   Ok ((far_end link ia number).ia, (far_end link ia number).number)
 
 -- the router that owns an interface
 unfoldable pub owner_in : Network → ℕ → ℕ → Result ℕ TopologyFault
 owner_in n ia number = do
-  link ← joined n ia number
+  link ← known_link n ia number
   Ok (near_end link ia number).router
 
 -- the view of a router
@@ -110,7 +110,7 @@ with_key ia key (one ∷ rest) =
 -- the network with that link up, or down
 unfoldable pub set_up : Bool → ℕ → ℕ → Network → Result Network TopologyFault
 set_up up ia number n = do
-  link ← joined n ia number
+  link ← known_link n ia number
   Ok (record n { links = with_up up ia number n.links })
 
 -- the network with another key in use for an AS

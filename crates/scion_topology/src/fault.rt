@@ -74,7 +74,7 @@ impl TopologyFault {
     }
 }
 
-/// Why a topology was not read: want of memory, or why the text is no topology.
+/// Why a topology was not read: running out of memory, or why the text is no topology.
 pub type ReadError = OrMemory<TopologyFault>;
 
 impl From<TopologyFault> for OrMemory<TopologyFault> {

@@ -7,14 +7,14 @@ const HINTS: usize = 4096;
 /// Where ASes are looked for first: a place for each remainder of an address by the number of
 /// hints. A hint may be wrong, so whoever takes it tests it.
 #[derive(Drop)]
-pub struct Hints {
+pub struct HashHints {
     places: Vec<u16>,
 }
 
-impl Hints {
+impl HashHints {
     /// Hints before any place is noted.
-    pub(crate) fn new(alloc: Global) -> Result<Hints, AllocError> {
-        Ok(Hints {
+    pub(crate) fn new(alloc: Global) -> Result<HashHints, AllocError> {
+        Ok(HashHints {
             places: vec![in alloc; 0; HINTS]?,
         })
     }

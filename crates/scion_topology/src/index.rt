@@ -5,7 +5,7 @@ ghost use Rattle.scion_topology.specs.Index.{seen, added, marked, place_beside};
 
 use crate::entry::{IfEntry, LinkKind};
 use crate::network::{End, Link, LinkClass};
-use crate::table::Table;
+use crate::table::InterfaceTable;
 use isd_as::{IfId, IsdAs};
 use std::alloc::{AllocError, Global};
 
@@ -15,7 +15,7 @@ use std::alloc::{AllocError, Global};
 pub struct AsIndex {
     pub(crate) ia: IsdAs,
     pub(crate) position: usize,
-    pub(crate) table: Table,
+    pub(crate) table: InterfaceTable,
     pub(crate) places: Vec<usize>,
 }
 
@@ -28,7 +28,7 @@ impl AsIndex {
         AsIndex {
             ia,
             position,
-            table: Table::new(alloc),
+            table: InterfaceTable::new(alloc),
             places: Vec::new(alloc),
         }
     }

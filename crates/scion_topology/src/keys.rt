@@ -37,7 +37,7 @@ impl Model for Key {
 }
 
 impl Key {
-    /// The key of these bytes: [`TopologyFault::BadField`] where there is none or more than 64.
+    /// The key of these bytes: [`TopologyFault::BadField`] if there is none or more than 64.
     #[tactic(auto, unfolding(crate::specs::Keys::key_of))]
     pub fn new(bytes: &[u8]) -> Result<Key, TopologyFault>
         ensures value { result ≡ key_of bytes.now }
@@ -99,7 +99,7 @@ impl Model for Keys {
 
 impl Keys {
     /// The keys of an AS with this one in use, and this one before it:
-    /// [`TopologyFault::BadField`] where either has no byte or more than 64.
+    /// [`TopologyFault::BadField`] if either has no byte or more than 64.
     #[tactic(auto, unfolding(crate::specs::Keys::keys_of, crate::specs::Keys::key_of))]
     pub fn new(key: &[u8], previous: Option<&[u8]>) -> Result<Keys, TopologyFault>
         ensures { result ≡ keys_of key.now (option_copied previous.entry) }

@@ -6,10 +6,9 @@
 //! its hops and the one before it, and the table of the AS's interfaces. Only reading takes memory.
 #![tactic(auto)]
 
-mod asking;
-mod causes;
-mod changing;
-mod doubled;
+mod as_lookup;
+mod changes;
+mod duplicates;
 mod entry;
 mod fault;
 mod fields;
@@ -17,11 +16,12 @@ mod hints;
 mod index;
 mod keys;
 pub mod laws;
-mod listed;
 mod lookup;
 mod network;
+mod queries;
 mod table;
 mod topology;
+mod validation;
 mod view;
 
 pub use entry::{IfEntry, LinkKind};

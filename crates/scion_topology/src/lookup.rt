@@ -5,7 +5,7 @@ ghost use Rattle.std.specs.BTreeMap.{get};
 ghost use Rattle.scion_topology.specs.Placed.{AreOwn};
 
 use crate::entry::IfEntry;
-use crate::hints::Hints;
+use crate::hints::HashHints;
 use crate::index::{AsIndex, add_at, interface_at_a, interface_at_b, mark_at};
 use crate::network::{AsEntry, Link};
 use isd_as::{IfId, IsdAs};
@@ -17,7 +17,7 @@ use std::collections::BTreeMap;
 pub struct Indexes {
     list: Vec<AsIndex>,
     places: BTreeMap<IsdAs, usize>,
-    hints: Hints,
+    hints: HashHints,
     ghost own: { AreOwn list.items (get nat_cmp places) },
 }
 
@@ -44,7 +44,7 @@ impl Indexes {
         Ok(Indexes {
             list: Vec::new(alloc),
             places: BTreeMap::new(alloc),
-            hints: Hints::new(alloc)?,
+            hints: HashHints::new(alloc)?,
         })
     }
 

@@ -14,12 +14,12 @@ use std::marker::Model;
 ///
 /// Where a number stands twice, it is the first of the two that is found.
 #[derive(Drop)]
-pub struct Table {
+pub struct InterfaceTable {
     entries: Vec<IfEntry>,
     places: BTreeMap<IfId, usize>,
 }
 
-impl Model for Table {
+impl Model for InterfaceTable {
     ghost use Rattle.std.specs.Prelude.{◌≡◌, ℕ, List};
     ghost use Rattle.std.specs.Ordering.{nat_cmp};
     ghost use Rattle.std.specs.BTreeMap.{get};
@@ -34,12 +34,12 @@ impl Model for Table {
         → get nat_cmp t.places number ≡ place_in_table t.entries.items number };
 }
 
-impl Table {
+impl InterfaceTable {
     /// The table of no interface.
-    pub(crate) fn new(alloc: Global) -> Table
+    pub(crate) fn new(alloc: Global) -> InterfaceTable
         ensures { result ≡ [] }
     {
-        Table {
+        InterfaceTable {
             entries: Vec::new(alloc),
             places: BTreeMap::new(alloc),
         }

@@ -5,12 +5,12 @@ ghost use Rattle.refusal.specs.Refusal.{Reads, unless};
 ghost use Rattle.scion_topology.specs.Causes.{is_as, is_link, cause_of};
 ghost use Rattle.scion_topology.specs.Topology.{network_of, network_in};
 
-use crate::causes::first_cause;
+use crate::as_lookup::AsLookup;
 use crate::fault::{ReadError, TopologyFault};
 use crate::fields::{as_of, link_of};
-use crate::listed::Listed;
 use crate::lookup::Indexes;
 use crate::network::{AsEntry, Link};
+use crate::validation::first_cause;
 use json_fields::{document, items, list};
 use refusal::OrMemory;
 use serde_json::Value;
@@ -55,7 +55,7 @@ impl Topology {
     /// The refusals, each looked for in all of the text before the next:
     /// [`TopologyFault::NotJson`], [`TopologyFault::BadField`], [`TopologyFault::TooMany`],
     /// [`TopologyFault::DuplicateAs`], [`TopologyFault::UnknownAs`], [`TopologyFault::NoRouter`],
-    /// [`TopologyFault::BadKind`], [`TopologyFault::DuplicateIf`]. Want of memory is
+    /// [`TopologyFault::BadKind`], [`TopologyFault::DuplicateIf`]. Running out of memory is
     /// [`OrMemory::Memory`].
     pub fn from_json(alloc: Global, bytes: &[u8]) -> Result<Topology, ReadError>
         ensures { Reads (λ n. n) result (network_in bytes.now) }
@@ -85,7 +85,7 @@ impl Topology {
         ensures refused { IfSome (cause_of ases.items links.items)
             (λ fault. result ≡ Err (OrMemory.Refused fault)) }
     {
-        let listed = Listed::new(alloc, &ases);
+        let listed = AsLookup::new(alloc, &ases);
         if let Some(cause) = first_cause(alloc, &listed, &links) {
             return Err(OrMemory::Refused(cause));
         }

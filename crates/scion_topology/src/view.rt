@@ -7,7 +7,7 @@ ghost use Rattle.scion_topology.specs.Building.{is_named, names_twice, view_of};
 use crate::entry::IfEntry;
 use crate::fault::TopologyFault;
 use crate::keys::Keys;
-use crate::table::Table;
+use crate::table::InterfaceTable;
 use isd_as::{IfId, IsdAs};
 use std::marker::Model;
 
@@ -28,9 +28,9 @@ pub struct RouterView<'a> {
 #[derive(Drop)]
 enum Source<'a> {
     /// An AS of a topology lends both.
-    Lent(&'a Keys, &'a Table),
+    Borrowed(&'a Keys, &'a InterfaceTable),
     /// Both were given: the keys by their bytes, and the interfaces in any order.
-    Given(Keys, &'a [IfEntry]),
+    Owned(Keys, &'a [IfEntry]),
 }
 
 impl<'a> Model for RouterView<'a> {
@@ -59,7 +59,7 @@ impl<'a> RouterView<'a> {
     /// The view of router `router` of the AS `ia`, with this key in use, this key before it, and
     /// these interfaces, in any order. It takes no memory.
     ///
-    /// The first of these that holds is the refusal: [`TopologyFault::BadField`] where the ISD or
+    /// The first of these that holds is the refusal: [`TopologyFault::BadField`] if the ISD or
     /// the AS number is the wildcard, a key has no byte or more than 64, or an interface has
     /// number 0; [`TopologyFault::DuplicateIf`] where two interfaces have the same number.
     #[tactic(auto, unfolding(crate::specs::Building::view_of, crate::specs::Keys::keys_of))]
@@ -82,7 +82,7 @@ impl<'a> RouterView<'a> {
         Ok(RouterView {
             ia,
             router,
-            source: Source::Given(keys, table),
+            source: Source::Owned(keys, table),
         })
     }
 
@@ -92,7 +92,7 @@ impl<'a> RouterView<'a> {
         ia: IsdAs,
         router: u8,
         keys: &'a Keys,
-        table: &'a Table,
+        table: &'a InterfaceTable,
     ) -> RouterView<'a>
         requires { IsRight
             (record { ia = ia; router = router; keys = keys.now; table = table.now }) }
@@ -101,7 +101,7 @@ impl<'a> RouterView<'a> {
         RouterView {
             ia,
             router,
-            source: Source::Lent(keys, table),
+            source: Source::Borrowed(keys, table),
         }
     }
 
@@ -143,8 +143,8 @@ impl<'a> RouterView<'a> {
         ensures { option_copied result ≡ entry_of self.now number }
     {
         match &self.source {
-            Source::Lent(_, table) => table.get(number),
-            Source::Given(_, table) => table.iter().find(|entry| entry.number == number),
+            Source::Borrowed(_, table) => table.get(number),
+            Source::Owned(_, table) => table.iter().find(|entry| entry.number == number),
         }
     }
 
@@ -174,8 +174,8 @@ impl<'a> RouterView<'a> {
         ensures { result.now ≡ self.now.keys }
     {
         match &self.source {
-            Source::Lent(keys, _) => keys,
-            Source::Given(keys, _) => keys,
+            Source::Borrowed(keys, _) => keys,
+            Source::Owned(keys, _) => keys,
         }
     }
 

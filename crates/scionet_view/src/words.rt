@@ -5,9 +5,10 @@ use clap::error::ErrorKind;
 use clap::{Arg, ArgAction, ArgMatches, Command, Error};
 use commands::WordsFault;
 use std::alloc::{AllocError, Global};
-use step_line::{StepCommand, Texts};
+use step_line::{StepArgs, StepCommand};
 
-/// What `--version` prints behind the program's name: its version, and the toolchain that proved it.
+/// What `--version` prints behind the program's name: its version, and the toolchain that proved
+/// it.
 static VERSION: &str = "0.1.0, proved by rattle-kit-13f logic dac8208d650f15bf";
 
 /// What stands at the end of the long help of `packet`.
@@ -139,7 +140,7 @@ fn turn(alloc: Global, matches: &ArgMatches<'_>) -> Result<Option<StepCommand>, 
     ) else {
         return Ok(None);
     };
-    let texts = Texts {
+    let texts = StepArgs {
         ia,
         router,
         key,
@@ -153,7 +154,7 @@ fn turn(alloc: Global, matches: &ArgMatches<'_>) -> Result<Option<StepCommand>, 
 
 /// What the words behind the program's name ask to see.
 ///
-/// [`WordsFault::Usage`] where `clap` refuses them or they ask for help, with its text, and where
+/// [`WordsFault::Usage`] if `clap` refuses them or they ask for help, with its text, and where
 /// they describe no turn, with the text `scionet_view: usage`; [`WordsFault::Memory`] for want of
 /// memory.
 pub(crate) fn asked<'a>(alloc: Global, words: &'a [&'a str]) -> Result<View, WordsFault> {

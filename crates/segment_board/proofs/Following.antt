@@ -3,7 +3,7 @@ use Rattle.std.proofs.Common.{◌≡◌, List, [], ◌∷◌, ◌++◌, refl, ap
 use mathlib.Core.List.{IsPrefix}
 use Rattle.path_server.specs.declared.op.StoreOp.{StoreOp}
 use Rattle.segment_board.specs.declared.edition.Edition.{Edition}
-use Rattle.segment_board.specs.History.{Reached, Follows, GoesOn, newest, edition_after}
+use Rattle.segment_board.specs.History.{KnownHistory, Follows, ContinuesFrom, newest, edition_after}
 use Rattle.segment_board.proofs.Prefixes.{prefix_self, prefix_trans, prefix_back}
 use Rattle.segment_board.proofs.Growing.{newest_last}
 
@@ -17,10 +17,10 @@ pub follows_after : (e : Edition) (ops : List StoreOp) → Follows e (edition_af
 follows_after e ops = inr (omega arith, (ops, refl))
 
 -- what was reached goes on from itself
-pub goes_self : (x : Reached) → GoesOn x x
+pub goes_self : (x : KnownHistory) → ContinuesFrom x x
 goes_self x = record { board = refl; history = prefix_self x.log; newer = inl refl }
 
-pub goes_trans : (x y z : Reached) → GoesOn x y → GoesOn y z → GoesOn x z
+pub goes_trans : (x y z : KnownHistory) → ContinuesFrom x y → ContinuesFrom y z → ContinuesFrom x z
 goes_trans x y z p q = record {
   board = q.board ∙ p.board;
   history = prefix_trans x.log y.log z.log p.history q.history;
@@ -28,7 +28,7 @@ goes_trans x y z p q = record {
 }
 
 -- where the history goes on by an edition that follows the newest that was shown, so does what was reached
-pub goes_after : (x y : Reached) (old : List Edition) (ops : List StoreOp) → y.board ≡ x.board → IsPrefix x.log old → y.log ≡ old ++ edition_after (newest x.log) ops ∷ [] → GoesOn x y
+pub goes_after : (x y : KnownHistory) (old : List Edition) (ops : List StoreOp) → y.board ≡ x.board → IsPrefix x.log old → y.log ≡ old ++ edition_after (newest x.log) ops ∷ [] → ContinuesFrom x y
 goes_after x y old ops board before log = record {
   board = board;
   history = prefix_trans x.log old y.log before (edition_after (newest x.log) ops ∷ [], sym log);
@@ -36,7 +36,7 @@ goes_after x y old ops board before log = record {
 }
 
 -- what goes on from another, and begins its history, is the same
-pub goes_back : (x y : Reached) → GoesOn x y → IsPrefix y.log x.log → y ≡ x
+pub goes_back : (x y : KnownHistory) → ContinuesFrom x y → IsPrefix y.log x.log → y ≡ x
 goes_back x y on back =
     let log : y.log ≡ x.log = prefix_back y.log x.log back on.history in
     let board : y.board ≡ x.board = on.board in

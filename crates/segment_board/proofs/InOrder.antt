@@ -9,12 +9,12 @@ use Rattle.logbook.specs.Pages.{Book, Named}
 use Rattle.path_server.specs.Store.{after, store_of}
 use Rattle.path_server.specs.declared.op.StoreOp.{StoreOp}
 use Rattle.segment_board.specs.declared.edition.Edition.{Edition}
-use Rattle.segment_board.specs.declared.shown.BoardOp.{BoardOp}
-use Rattle.segment_board.specs.declared.shown.BoardOp.TheVariants.{Apply, Mark}
-use Rattle.segment_board.specs.History.{Reached, newest, opening, head_of}
-use Rattle.segment_board.specs.Shown.{Image, taken, IsTied, IsReady}
+use Rattle.segment_board.specs.declared.board_state.BoardOp.{BoardOp}
+use Rattle.segment_board.specs.declared.board_state.BoardOp.TheVariants.{Apply, Mark}
+use Rattle.segment_board.specs.History.{KnownHistory, newest, opening, head_of}
+use Rattle.segment_board.specs.BoardState.{BoardValue, taken, IsTied, IsReady}
 use Rattle.segment_board.specs.Board.{Written}
-use Rattle.segment_board.specs.Desk.{shown_of, queue_of, edition_of, awaited, operations_of}
+use Rattle.segment_board.specs.WriterState.{shown_of, queue_of, edition_of, awaited, operations_of}
 use Rattle.segment_board.specs.Writing.{IsInOrder}
 use Rattle.segment_board.proofs.Prefixes.{prefix_self, prefix_trans}
 use Rattle.segment_board.proofs.Growing.{newest_last}
@@ -33,7 +33,7 @@ pub goes_on : {E : Type 0} (r : Result (Unit {0}) E) (op : StoreOp) (P : E → T
 goes_on (Ok u) op P old new h = (op ∷ [], added old new op h)
 goes_on (Err e) op P old new h = ([], ap operations_of h.1 ∙ sym (append-nil (operations_of old)))
 
-pub marked : (old new : List BoardOp) (f : Reached) → new ≡ old ++ Mark f ∷ [] → operations_of new ≡ operations_of old
+pub marked : (old new : List BoardOp) (f : KnownHistory) → new ≡ old ++ Mark f ∷ [] → operations_of new ≡ operations_of old
 marked old new f e = ap operations_of e ∙ (operations-append old (Mark f ∷ []) ∙ append-nil (operations_of old))
 
 pub on_ok : {T E : Type 0} (r : Result T E) (P Q R : Type 0) → MatchResult r (λ _. P) (λ _. Q) → (P → R) → OnOk r R
@@ -48,27 +48,27 @@ pub at_ok : {T E : Type 0} (r : Result T E) (v : T) (P Q : Type 0) → r ≡ Ok 
 at_ok r v P Q is h = subst (λ z. MatchResult z (λ _. P) (λ _. Q)) is h
 
 -- what lies on a board at first
-pub tied_first : (x first : Image) → x ≡ first → first.store ≡ [] → first.front.log ≡ opening ∷ [] → IsTied x
-tied_first x first is store log = subst (λ (y : Image). IsTied y) (sym is) (store ∙ ap (λ (l : List Edition). store_of (newest l).operations) (sym log))
+pub tied_first : (x first : BoardValue) → x ≡ first → first.store ≡ [] → first.front.log ≡ opening ∷ [] → IsTied x
+tied_first x first is store log = subst (λ (y : BoardValue). IsTied y) (sym is) (store ∙ ap (λ (l : List Edition). store_of (newest l).operations) (sym log))
 
 -- a board's writer is in order at first
-pub opened : {P A S : Type 0} {g : _} (u : Writer Image BoardOp (Option Reached) P A S g) (head : Named) (root latest : Reached) (first : Image)
+pub opened : {P A S : Type 0} {g : _} (u : Writer BoardValue BoardOp (Option KnownHistory) P A S g) (head : Named) (root latest : KnownHistory) (first : BoardValue)
     → head ≡ head_of root.board → root.log ≡ opening ∷ [] → latest ≡ root → first.store ≡ [] → first.front ≡ root
     → shown_of u ≡ first → queue_of u ≡ [] → view u.desk.place ≡ Some (shown_of u).front → IsInOrder u head root latest
 opened u head root latest first head_is log same store front is queue knows =
-    let shown : (shown_of u).front ≡ latest = ap (λ (x : Image). x.front) is ∙ (front ∙ sym same) in
+    let shown : (shown_of u).front ≡ latest = ap (λ (x : BoardValue). x.front) is ∙ (front ∙ sym same) in
     record {
-      head_is = head_is ∙ ap (λ (r : Reached). head_of r.board) (sym same);
-      root_board = ap (λ (r : Reached). r.board) (sym same);
+      head_is = head_is ∙ ap (λ (r : KnownHistory). head_of r.board) (sym same);
+      root_board = ap (λ (r : KnownHistory). r.board) (sym same);
       root_log = log;
-      shown_board = ap (λ (r : Reached). r.board) shown;
-      tied = tied_first (shown_of u) first is store (ap (λ (r : Reached). r.log) front ∙ log);
-      behind = subst (λ (r : Reached). IsPrefix r.log latest.log) (sym shown) (prefix_self latest.log);
-      ahead = subst (λ (r : Reached). IsPrefix (newest r.log).operations (awaited u).operations) shown (operations_of (queue_of u), refl);
+      shown_board = ap (λ (r : KnownHistory). r.board) shown;
+      tied = tied_first (shown_of u) first is store (ap (λ (r : KnownHistory). r.log) front ∙ log);
+      behind = subst (λ (r : KnownHistory). IsPrefix r.log latest.log) (sym shown) (prefix_self latest.log);
+      ahead = subst (λ (r : KnownHistory). IsPrefix (newest r.log).operations (awaited u).operations) shown (operations_of (queue_of u), refl);
       knows = knows;
     }
 
-module _ {P A S : Type 0} {g : _} (w v : Writer Image BoardOp (Option Reached) P A S g) (head : Named) (root latest : Reached) where
+module _ {P A S : Type 0} {g : _} (w v : Writer BoardValue BoardOp (Option KnownHistory) P A S g) (head : Named) (root latest : KnownHistory) where
   same_awaited : v.desk ≡ w.desk → (ops : List StoreOp) → operations_of (queue_of v) ≡ operations_of (queue_of w) ++ ops → (awaited w).operations ++ ops ≡ (awaited v).operations
   same_awaited desk ops e =
       append_assoc (edition_of w).operations (operations_of (queue_of w)) ops
@@ -78,7 +78,7 @@ module _ {P A S : Type 0} {g : _} (w v : Writer Image BoardOp (Option Reached) P
   knows_still o desk = ap (λ d. view d.place) desk ∙ (o.knows ∙ ap (λ d. Some d.shown.value.front) (sym desk))
 
   behind_still : IsInOrder w head root latest → v.desk ≡ w.desk → IsPrefix (shown_of v).front.log latest.log
-  behind_still o desk = subst (λ (x : Image). IsPrefix x.front.log latest.log) (sym (ap (λ d. d.shown.value) desk)) o.behind
+  behind_still o desk = subst (λ (x : BoardValue). IsPrefix x.front.log latest.log) (sym (ap (λ d. d.shown.value) desk)) o.behind
 
   -- more is pending
   pub more_pending : IsInOrder w head root latest → v.desk ≡ w.desk → (ops : List StoreOp) → operations_of (queue_of v) ≡ operations_of (queue_of w) ++ ops → IsInOrder v head root latest
@@ -87,7 +87,7 @@ module _ {P A S : Type 0} {g : _} (w v : Writer Image BoardOp (Option Reached) P
     root_board = o.root_board;
     root_log = o.root_log;
     shown_board = ap (λ d. d.shown.value.front.board) desk ∙ o.shown_board;
-    tied = subst (λ (x : Image). IsTied x) (sym (ap (λ d. d.shown.value) desk)) o.tied;
+    tied = subst (λ (x : BoardValue). IsTied x) (sym (ap (λ d. d.shown.value) desk)) o.tied;
     behind = behind_still o desk;
     ahead = prefix_trans (newest latest.log).operations (awaited w).operations (awaited v).operations o.ahead (ops, same_awaited desk ops more);
     knows = knows_still o desk;
@@ -97,13 +97,13 @@ module _ {P A S : Type 0} {g : _} (w v : Writer Image BoardOp (Option Reached) P
       → written latest.board (edition_of v) (operations_of (queue_of v)) ≡ written latest.board (edition_of w) (operations_of (queue_of w) ++ ops)
   more_view desk ops e i = written latest.board (newest (desk i).shown.value.front.log) (e i)
 
-  module _ (next : Reached) where
+  module _ (next : KnownHistory) where
     -- the history has gone on by what is awaited
     pub made_ready : IsInOrder w head root latest → v.desk ≡ w.desk → next ≡ record latest { log = latest.log ++ awaited w ∷ [] }
         → operations_of (queue_of v) ≡ operations_of (queue_of w) → IsInOrder v head root next
     made_ready o desk step same =
-        let board : next.board ≡ latest.board = ap (λ (r : Reached). r.board) step in
-        let log : next.log ≡ latest.log ++ awaited w ∷ [] = ap (λ (r : Reached). r.log) step in
+        let board : next.board ≡ latest.board = ap (λ (r : KnownHistory). r.board) step in
+        let log : next.log ≡ latest.log ++ awaited w ∷ [] = ap (λ (r : KnownHistory). r.log) step in
         let all : (awaited w).operations ≡ (awaited v).operations = sym (append-nil (awaited w).operations) ∙ same_awaited desk [] (same ∙ sym (append-nil (operations_of (queue_of w)))) in
         let last : (newest next.log).operations ≡ (awaited v).operations = ap (λ (l : List Edition). (newest l).operations) log ∙ (ap (λ (e : Edition). e.operations) (newest_last latest.log (awaited w)) ∙ all) in
         record {
@@ -111,7 +111,7 @@ module _ {P A S : Type 0} {g : _} (w v : Writer Image BoardOp (Option Reached) P
           root_board = o.root_board ∙ sym board;
           root_log = o.root_log;
           shown_board = ap (λ d. d.shown.value.front.board) desk ∙ (o.shown_board ∙ sym board);
-          tied = subst (λ (x : Image). IsTied x) (sym (ap (λ d. d.shown.value) desk)) o.tied;
+          tied = subst (λ (x : BoardValue). IsTied x) (sym (ap (λ d. d.shown.value) desk)) o.tied;
           behind = prefix_trans (shown_of v).front.log latest.log next.log (behind_still o desk) (awaited w ∷ [], sym log);
           ahead = subst (λ (z : List StoreOp). IsPrefix (newest next.log).operations z) last (prefix_self (newest next.log).operations);
           knows = knows_still o desk;
@@ -121,10 +121,10 @@ module _ {P A S : Type 0} {g : _} (w v : Writer Image BoardOp (Option Reached) P
         → queue_of v ≡ queue_of w ++ Mark next ∷ [] → IsReady (shown_of v) (queue_of v)
     is_ready o desk step queue =
         let ready : IsReady (shown_of w) (queue_of w ++ Mark next ∷ []) =
-        ready_mark (shown_of w) (queue_of w) next latest.log o.tied (ap (λ (r : Reached). r.board) step ∙ sym o.shown_board) o.behind (ap (λ (r : Reached). r.log) step) in
-        subst (λ (x : Image). IsReady x (queue_of v)) (sym (ap (λ d. d.shown.value) desk)) (subst (λ (q : List BoardOp). IsReady (shown_of w) q) (sym queue) ready)
+        ready_mark (shown_of w) (queue_of w) next latest.log o.tied (ap (λ (r : KnownHistory). r.board) step ∙ sym o.shown_board) o.behind (ap (λ (r : KnownHistory). r.log) step) in
+        subst (λ (x : BoardValue). IsReady x (queue_of v)) (sym (ap (λ d. d.shown.value) desk)) (subst (λ (q : List BoardOp). IsReady (shown_of w) q) (sym queue) ready)
 
-    module _ (u : Writer Image BoardOp (Option Reached) P A S g) where
+    module _ (u : Writer BoardValue BoardOp (Option KnownHistory) P A S g) where
       abbrev pub Showed : Type 0
       Showed = (shown_of u ≡ fold taken (shown_of v) (queue_of v)) × (queue_of u ≡ []) × (view u.desk.place ≡ Some (shown_of u).front)
 
@@ -138,16 +138,16 @@ module _ {P A S : Type 0} {g : _} (w v : Writer Image BoardOp (Option Reached) P
       pub showed : IsInOrder v head root next → queue_of v ≡ queue_of w ++ Mark next ∷ [] → IsReady (shown_of v) (queue_of v) → Showed → IsInOrder u head root next
       showed o queue ready s =
           let is = shown_next queue s in
-          let front : (shown_of u).front ≡ next = ap (λ (x : Image). x.front) is in
+          let front : (shown_of u).front ≡ next = ap (λ (x : BoardValue). x.front) is in
           let all : (newest next.log).operations ≡ (awaited u).operations =
-          sym (ap (λ (r : Reached). (newest r.log).operations ++ operations_of (queue_of u)) front ∙ (ap (λ (q : List BoardOp). (newest next.log).operations ++ operations_of q) s.1 ∙ append-nil (newest next.log).operations)) in
+          sym (ap (λ (r : KnownHistory). (newest r.log).operations ++ operations_of (queue_of u)) front ∙ (ap (λ (q : List BoardOp). (newest next.log).operations ++ operations_of q) s.1 ∙ append-nil (newest next.log).operations)) in
           record {
             head_is = o.head_is;
             root_board = o.root_board;
             root_log = o.root_log;
-            shown_board = ap (λ (r : Reached). r.board) front;
-            tied = subst (λ (x : Image). IsTied x) (sym s.0) ready.0;
-            behind = subst (λ (r : Reached). IsPrefix r.log next.log) (sym front) (prefix_self next.log);
+            shown_board = ap (λ (r : KnownHistory). r.board) front;
+            tied = subst (λ (x : BoardValue). IsTied x) (sym s.0) ready.0;
+            behind = subst (λ (r : KnownHistory). IsPrefix r.log next.log) (sym front) (prefix_self next.log);
             ahead = subst (λ (z : List StoreOp). IsPrefix (newest next.log).operations z) all (prefix_self (newest next.log).operations);
             knows = s.2;
           }
@@ -155,16 +155,16 @@ module _ {P A S : Type 0} {g : _} (w v : Writer Image BoardOp (Option Reached) P
       pub kept : IsInOrder v head root next → Kept → IsInOrder u head root next
       kept o s =
           let all : (awaited v).operations ≡ (awaited u).operations =
-          sym (ap (λ (x : Image). (newest x.front.log).operations ++ operations_of (queue_of u)) s.0 ∙ ap (λ (q : List BoardOp). (edition_of v).operations ++ operations_of q) s.1) in
+          sym (ap (λ (x : BoardValue). (newest x.front.log).operations ++ operations_of (queue_of u)) s.0 ∙ ap (λ (q : List BoardOp). (edition_of v).operations ++ operations_of q) s.1) in
           record {
             head_is = o.head_is;
             root_board = o.root_board;
             root_log = o.root_log;
-            shown_board = ap (λ (x : Image). x.front.board) s.0 ∙ o.shown_board;
-            tied = subst (λ (x : Image). IsTied x) (sym s.0) o.tied;
-            behind = subst (λ (x : Image). IsPrefix x.front.log next.log) (sym s.0) o.behind;
+            shown_board = ap (λ (x : BoardValue). x.front.board) s.0 ∙ o.shown_board;
+            tied = subst (λ (x : BoardValue). IsTied x) (sym s.0) o.tied;
+            behind = subst (λ (x : BoardValue). IsPrefix x.front.log next.log) (sym s.0) o.behind;
             ahead = subst (λ (z : List StoreOp). IsPrefix (newest next.log).operations z) all o.ahead;
-            knows = s.2 ∙ (o.knows ∙ ap (λ (x : Image). Some x.front) (sym s.0));
+            knows = s.2 ∙ (o.knows ∙ ap (λ (x : BoardValue). Some x.front) (sym s.0));
           }
 
       pub after_show : {T E : Type 0} (r : Result T E) → IsInOrder v head root next → queue_of v ≡ queue_of w ++ Mark next ∷ [] → IsReady (shown_of v) (queue_of v)
@@ -175,14 +175,14 @@ module _ {P A S : Type 0} {g : _} (w v : Writer Image BoardOp (Option Reached) P
       pub showed_view : next ≡ record latest { log = latest.log ++ awaited w ∷ [] } → queue_of v ≡ queue_of w ++ Mark next ∷ [] → Showed
           → written next.board (edition_of u) (operations_of (queue_of u)) ≡ written latest.board (awaited w) []
       showed_view step queue s =
-          let board : next.board ≡ latest.board = ap (λ (r : Reached). r.board) step in
-          let last : edition_of u ≡ awaited w = ap (λ (x : Image). newest x.front.log) (shown_next queue s) ∙ (ap (λ (r : Reached). newest r.log) step ∙ newest_last latest.log (awaited w)) in
+          let board : next.board ≡ latest.board = ap (λ (r : KnownHistory). r.board) step in
+          let last : edition_of u ≡ awaited w = ap (λ (x : BoardValue). newest x.front.log) (shown_next queue s) ∙ (ap (λ (r : KnownHistory). newest r.log) step ∙ newest_last latest.log (awaited w)) in
           λ i. written (board i) (last i) (operations_of (s.1 i))
 
       pub kept_view : v.desk ≡ w.desk → next ≡ record latest { log = latest.log ++ awaited w ∷ [] } → operations_of (queue_of v) ≡ operations_of (queue_of w) → Kept
           → written next.board (edition_of u) (operations_of (queue_of u)) ≡ written latest.board (edition_of w) (operations_of (queue_of w))
       kept_view desk step same s =
-          let board : next.board ≡ latest.board = ap (λ (r : Reached). r.board) step in
+          let board : next.board ≡ latest.board = ap (λ (r : KnownHistory). r.board) step in
           let shown : shown_of u ≡ shown_of w = s.0 ∙ ap (λ d. d.shown.value) desk in
           let ops : operations_of (queue_of u) ≡ operations_of (queue_of w) = ap operations_of s.1 ∙ same in
           λ i. written (board i) (newest (shown i).front.log) (ops i)

@@ -3,12 +3,12 @@ use Rattle.std.proofs.Common.{◌≡◌, List, [], ◌∷◌, ◌++◌, fold, re
 use Rattle.std.proofs.lemmas.List.Sums.{fold-append, fold_push}
 use mathlib.Core.List.{IsPrefix}
 use Rattle.path_server.specs.Store.{after, store_of}
-use Rattle.segment_board.specs.declared.shown.BoardOp.{BoardOp}
-use Rattle.segment_board.specs.declared.shown.BoardOp.TheVariants.{Apply, Mark}
+use Rattle.segment_board.specs.declared.board_state.BoardOp.{BoardOp}
+use Rattle.segment_board.specs.declared.board_state.BoardOp.TheVariants.{Apply, Mark}
 use Rattle.segment_board.specs.declared.edition.Edition.{Edition}
-use Rattle.segment_board.specs.History.{Reached, GoesOn, newest, edition_after}
-use Rattle.segment_board.specs.Shown.{Image, taken, IsTied, IsReady}
-use Rattle.segment_board.specs.Desk.{operations_of}
+use Rattle.segment_board.specs.History.{KnownHistory, ContinuesFrom, newest, edition_after}
+use Rattle.segment_board.specs.BoardState.{BoardValue, taken, IsTied, IsReady}
+use Rattle.segment_board.specs.WriterState.{operations_of}
 use Rattle.segment_board.proofs.Growing.{newest_last}
 use Rattle.segment_board.proofs.Following.{goes_self, goes_after}
 
@@ -18,17 +18,17 @@ operations-append (Apply op ∷ xs) ys = ap (λ ops. op ∷ ops) (operations-app
 operations-append (Mark f ∷ xs) ys = operations-append xs ys
 
 -- the store after a queue is the one after its operations
-store_after : (x : Image) (q : List BoardOp) → (fold taken x q).store ≡ fold after x.store (operations_of q)
+store_after : (x : BoardValue) (q : List BoardOp) → (fold taken x q).store ≡ fold after x.store (operations_of q)
 store_after x [] = refl
 store_after x (Apply op ∷ q) = store_after (record x { store = after x.store op }) q
 store_after x (Mark f ∷ q) = store_after (record x { front = f }) q
 
 -- a queue that ends with a mark leaves its front
-pub fold_mark : (x : Image) (q : List BoardOp) (f : Reached) → fold taken x (q ++ Mark f ∷ []) ≡ record { store = fold after x.store (operations_of q); front = f }
+pub fold_mark : (x : BoardValue) (q : List BoardOp) (f : KnownHistory) → fold taken x (q ++ Mark f ∷ []) ≡ record { store = fold after x.store (operations_of q); front = f }
 fold_mark x q f = fold_push taken x q (Mark f) ∙ ap (λ s. record { store = s; front = f }) (store_after x q)
 
 -- a queue may be published that ends with the front of all that is awaited
-pub ready_mark : (x : Image) (q : List BoardOp) (f : Reached) (old : List Edition) → IsTied x → f.board ≡ x.front.board → IsPrefix x.front.log old
+pub ready_mark : (x : BoardValue) (q : List BoardOp) (f : KnownHistory) (old : List Edition) → IsTied x → f.board ≡ x.front.board → IsPrefix x.front.log old
     → f.log ≡ old ++ edition_after (newest x.front.log) (operations_of q) ∷ [] → IsReady x (q ++ Mark f ∷ [])
 ready_mark x q f old tied board before log =
     let e = fold_mark x q f in
@@ -36,8 +36,8 @@ ready_mark x q f old tied board before log =
     let last : (newest f.log).operations ≡ (newest x.front.log).operations ++ ops = ap (λ (l : List Edition). (newest l).operations) log ∙ ap (λ (z : Edition). z.operations) (newest_last old (edition_after (newest x.front.log) ops)) in
     let made : fold after x.store ops ≡ store_of (newest f.log).operations =
     ap (λ s. fold after s ops) tied ∙ (sym (fold-append after [] (newest x.front.log).operations ops) ∙ ap store_of (sym last)) in
-    (subst (λ (y : Image). IsTied y) (sym e) made, subst (λ (y : Image). GoesOn x.front y.front) (sym e) (goes_after x.front f old ops board before log))
+    (subst (λ (y : BoardValue). IsTied y) (sym e) made, subst (λ (y : BoardValue). ContinuesFrom x.front y.front) (sym e) (goes_after x.front f old ops board before log))
 
 -- where nothing is pending, what lies on the board may be published as it is
-pub ready_alone : (x : Image) (q : List BoardOp) → IsTied x → q ≡ [] → IsReady x q
+pub ready_alone : (x : BoardValue) (q : List BoardOp) → IsTied x → q ≡ [] → IsReady x q
 ready_alone x q tied none = subst (λ (ops : List BoardOp). IsReady x ops) (sym none) (tied, goes_self x.front)

@@ -4,12 +4,12 @@ use Rattle.segment_board.specs.declared.fault.BoardFault.{BoardFault}
 use Rattle.segment_board.specs.declared.fault.BoardFault.TheVariants.{NoPlace, NoEntry}
 
 -- the number and the name of a refusal
-abbrev pub told : BoardFault → ℕ × List ℕ
-told NoPlace = (110, codes "NoPlace")
-told NoEntry = (111, codes "NoEntry")
+abbrev pub code_and_name : BoardFault → ℕ × List ℕ
+code_and_name NoPlace = (110, codes "NoPlace")
+code_and_name NoEntry = (111, codes "NoEntry")
 
 abbrev pub code_of : BoardFault → ℕ
-code_of refusal = (told refusal).0
+code_of refusal = (code_and_name refusal).0
 
 abbrev pub name_of : BoardFault → List ℕ
-name_of refusal = (told refusal).1
+name_of refusal = (code_and_name refusal).1

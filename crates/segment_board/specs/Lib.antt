@@ -1,7 +1,7 @@
 pub mod Fault
 pub mod History
-pub mod Shown
+pub mod BoardState
 pub mod Rule
-pub mod Desk
+pub mod WriterState
 pub mod Board
 pub mod Writing

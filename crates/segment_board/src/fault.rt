@@ -37,5 +37,5 @@ impl BoardFault {
     }
 }
 
-/// Why a look-up gives nothing: want of memory, or a refusal.
+/// Why a look-up gives nothing: running out of memory, or a refusal.
 pub type LookupError = OrMemory<BoardFault>;

@@ -4,20 +4,20 @@
 ghost use Rattle.std.specs.Prelude.{◌≡◌, ◌+◌, ◌^◌, ◌<◌, [], ◌∷◌, ◌++◌, length, MatchBool};
 ghost use mathlib.Core.List.{IsPrefix};
 ghost use Rattle.segment_board.specs.History.{head_of, newest, opening, Rises};
-ghost use Rattle.segment_board.specs.Desk.{awaited};
+ghost use Rattle.segment_board.specs.WriterState.{awaited};
 
+use crate::board_state::StoreWriter;
 use crate::edition::Edition;
-use crate::shown::StoreWriter;
 use logbook::{Gain, Offer, Plain, Play, Rule, Seen, Start, Word};
 use std::marker::Model;
 
 /// The word whose number is the length of the history.
-pub(crate) type Head = Word<Edition, u64, Rising>;
+pub(crate) type Head = Word<Edition, u64, AppendOnly>;
 
 /// The rule of the history: the operations of each edition begin those of the next.
-pub struct Rising;
+pub struct AppendOnly;
 
-impl Rule<Edition, u64> for Rising {
+impl Rule<Edition, u64> for AppendOnly {
     ghost use Rattle.std.specs.Prelude.{[], ◌∷◌};
     ghost use base.Fml.{ftrue};
     ghost use Rattle.segment_board.specs.History.{IsKept, opening};
@@ -55,7 +55,7 @@ impl Play<Edition, u64> for Adds {
 
 impl Plain<StoreWriter, Edition, u64> for Adds {
     ghost use Rattle.std.specs.Prelude.{None};
-    ghost use Rattle.segment_board.specs.Desk.{awaited};
+    ghost use Rattle.segment_board.specs.WriterState.{awaited};
 
     ghost ask = { awaited };
 
@@ -64,46 +64,46 @@ impl Plain<StoreWriter, Edition, u64> for Adds {
 
 /// A beginning of the history that was seen.
 #[derive(Drop)]
-pub(crate) struct Front {
+pub(crate) struct HistoryPrefix {
     count: u64,
-    seen: Seen<Edition, u64, Rising>,
+    seen: Seen<Edition, u64, AppendOnly>,
 }
 
-impl Model for Front {
+impl Model for HistoryPrefix {
     ghost use Rattle.std.specs.Prelude.{◌≡◌, length};
-    ghost use Rattle.segment_board.specs.History.{Reached, Rises};
+    ghost use Rattle.segment_board.specs.History.{KnownHistory, Rises};
 
-    ghost Value = { Reached };
+    ghost Value = { KnownHistory };
 
     ghost view = { λ f. record { board = f.seen.book; log = f.seen.log } };
 
     ghost invariant = { λ f. (f.count ≡ length f.seen.log) × Rises f.seen.log };
 }
 
-impl Front {
+impl HistoryPrefix {
     /// A new history, in which nothing was published.
-    pub(crate) fn start() -> (Head, Front)
+    pub(crate) fn start() -> (Head, HistoryPrefix)
         ensures head { result.0 ≡ head_of result.1.board }
         ensures log { result.1.log ≡ opening ∷ [] }
     {
         let (seen, mut first, _second) = Seen::open(Start::alone(), 1, 0);
         let head = Word::tracked(1, &mut first);
-        (head, Front { count: 1, seen })
+        (head, HistoryPrefix { count: 1, seen })
     }
 
     /// A copy.
-    pub(crate) fn again(&self) -> Front
+    pub(crate) fn again(&self) -> HistoryPrefix
         ensures same { result ≡ self.now }
         ensures rises { Rises result.log }
     {
-        Front {
+        HistoryPrefix {
             count: self.count,
             seen: self.seen.again(),
         }
     }
 
     /// Whether at least as much was seen here as there.
-    pub(crate) fn reaches(&self, other: &Front) -> bool
+    pub(crate) fn reaches(&self, other: &HistoryPrefix) -> bool
         requires { other.now.board ≡ self.now.board }
         ensures order { MatchBool result (IsPrefix other.now.log self.now.log)
             (IsPrefix self.now.log other.now.log) }
@@ -127,7 +127,7 @@ impl Front {
             return false;
         }
         let mut seen = self.seen.again();
-        let mut offer: Offer<Edition, u64, Rising, Nothing> = seen.plain::<
+        let mut offer: Offer<Edition, u64, AppendOnly, Nothing> = seen.plain::<
             Nothing,
             StoreWriter,
             Adds,
@@ -153,7 +153,7 @@ impl Front {
 /// What was published when the writer told it. A reader that learns it sees no less from then on.
 #[derive(Drop)]
 pub struct Told {
-    pub(crate) front: Front,
+    pub(crate) front: HistoryPrefix,
 }
 
 impl Model for Told {

@@ -7,11 +7,11 @@
 //! that it had seen or learnt.
 #![tactic(auto)]
 
+mod board_state;
 mod edition;
 mod fault;
 mod history;
 mod reader;
-mod shown;
 mod writer;
 
 pub use fault::{BoardFault, LookupError};

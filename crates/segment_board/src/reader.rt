@@ -5,12 +5,12 @@ ghost use mathlib.Core.List.{IsPrefix};
 ghost use Rattle.left_right.specs.Sides.{view as view_of};
 ghost use Rattle.path_server.specs.Store.{store_of};
 ghost use Rattle.path_server.specs.Lookup.{segments_for};
-ghost use Rattle.segment_board.specs.History.{GoesOn, newest};
+ghost use Rattle.segment_board.specs.History.{ContinuesFrom, newest};
 ghost use Rattle.segment_board.specs.Board.{GivesNothing};
 
+use crate::board_state::{Enters, StoreReader};
 use crate::fault::{BoardFault, LookupError};
-use crate::history::{Front, Told};
-use crate::shown::{Enters, StoreReader};
+use crate::history::{HistoryPrefix, Told};
 use core::mem::replace_with;
 use isd_as::IsdAs;
 use path_server::SegmentSet;
@@ -23,8 +23,8 @@ use std::marker::Model;
 #[derive(Drop)]
 pub struct BoardReader {
     pub(crate) place: StoreReader,
-    pub(crate) front: Front,
-    pub(crate) told: Front,
+    pub(crate) front: HistoryPrefix,
+    pub(crate) told: HistoryPrefix,
 }
 
 impl Model for BoardReader {
@@ -46,7 +46,7 @@ impl Model for BoardReader {
 
 /// What is asked of the store that a reader finds.
 #[derive(Clone, Copy)]
-struct Question {
+struct StoreQuery {
     alloc: Global,
     src: IsdAs,
     dst: IsdAs,
@@ -57,11 +57,14 @@ struct Question {
 /// could not enter.
 fn look(
     place: StoreReader,
-    asked: Question,
-) -> (StoreReader, Option<(Front, Result<SegmentSet, AllocError>)>)
+    asked: StoreQuery,
+) -> (
+    StoreReader,
+    Option<(HistoryPrefix, Result<SegmentSet, AllocError>)>,
+)
     ensures stayed { IfNone result.1 (view_of result.0.place ≡ view_of place.place) }
     ensures seen { IfSome result.1 (λ r. view_of result.0.place ≡ Some r.0) }
-    ensures later { IfSome result.1 (λ r. IfSome (view_of place.place) (λ y. GoesOn y r.0)) }
+    ensures later { IfSome result.1 (λ r. IfSome (view_of place.place) (λ y. ContinuesFrom y r.0)) }
     ensures found { IfSome result.1 (λ r. IfOk r.1 (λ set. set
         ≡ segments_for (store_of (newest r.0.log).operations) asked.src asked.dst asked.now)) }
 {
@@ -98,9 +101,10 @@ impl BoardReader {
 
     /// Copies of the segments of which paths from `src` to `dst` can be made at the second `now`,
     /// in the store that some published operations made. These begin with all that this reader had
-    /// seen or learnt, and it has seen them then, after want of memory too. Waits for nobody.
+    /// seen or learnt, and it has seen them then, after running out of memory too. Waits for
+    /// nobody.
     ///
-    /// [`BoardFault::NoEntry`] where the reader could not enter the board, and then it has seen what
+    /// [`BoardFault::NoEntry`] if the reader could not enter the board, and then it has seen what
     /// it had; the caller may ask again.
     pub fn lookup(
         &mut self,
@@ -116,7 +120,7 @@ impl BoardReader {
         ensures told { self.new.told ≡ self.old.told }
         ensures none { IfErr result (λ fault. GivesNothing fault self.old self.new) }
     {
-        let asked = Question {
+        let asked = StoreQuery {
             alloc,
             src,
             dst,

@@ -4,14 +4,14 @@ ghost use Rattle.std.specs.Prelude.{◌≡◌, ◌<◌, ◌≤◌, ◌+◌, ◌+
 ghost use Rattle.left_right.specs.Sides.{view as view_of};
 ghost use Rattle.path_server.specs.declared.op.StoreOp.TheVariants.{Register, Sweep};
 ghost use Rattle.segment_board.specs.declared.fault.BoardFault.TheVariants.{NoPlace};
-ghost use Rattle.segment_board.specs.declared.shown.BoardOp.TheVariants.{Apply, Mark};
-ghost use Rattle.segment_board.specs.Shown.{taken, IsReady};
-ghost use Rattle.segment_board.specs.Desk.{shown_of, queue_of};
+ghost use Rattle.segment_board.specs.declared.board_state.BoardOp.TheVariants.{Apply, Mark};
+ghost use Rattle.segment_board.specs.BoardState.{taken, IsReady};
+ghost use Rattle.segment_board.specs.WriterState.{shown_of, queue_of};
 
+use crate::board_state::{BoardOp, BoardState, Learns, Publishes, StoreWriter, Tells};
 use crate::fault::BoardFault;
-use crate::history::{Front, Head, Told};
+use crate::history::{Head, HistoryPrefix, Told};
 use crate::reader::BoardReader;
-use crate::shown::{BoardOp, Learns, Publishes, Shown, StoreWriter, Tells};
 use core::mem::replace_with;
 use left_right::writer::Writer;
 use path_segment::Segment;
@@ -25,12 +25,12 @@ use std::sync::Wait;
 pub struct BoardWriter {
     writer: StoreWriter,
     head: Head,
-    root: Front,
-    latest: Front,
+    root: HistoryPrefix,
+    latest: HistoryPrefix,
 }
 
 impl Model for BoardWriter {
-    ghost use Rattle.segment_board.specs.Desk.{edition_of, queue_of, operations_of};
+    ghost use Rattle.segment_board.specs.WriterState.{edition_of, queue_of, operations_of};
     ghost use Rattle.segment_board.specs.Board.{Written};
     ghost use Rattle.segment_board.specs.Writing.{IsInOrder};
 
@@ -73,7 +73,7 @@ fn add(writer: &mut StoreWriter, op: StoreOp) -> Result<(), StoreOp>
 }
 
 /// Adds the mark at the end of what is to be published, and says whether there was memory for it.
-fn mark(writer: &mut StoreWriter, front: Front) -> bool
+fn mark(writer: &mut StoreWriter, front: HistoryPrefix) -> bool
     ensures desk { writer.new.desk ≡ writer.old.desk }
     ensures queue { MatchBool result
         (queue_of writer.new ≡ queue_of writer.old ++ Mark front ∷ [])
@@ -89,14 +89,14 @@ pub fn new_board<R: Wait>(rt: &R, alloc: Global, readers: usize) -> Result<Board
     requires few { readers ≤ 8 }
     ensures { IfOk result (λ board. (board.published ≡ []) × (board.pending ≡ [])) }
 {
-    let (head, root) = Front::start();
+    let (head, root) = HistoryPrefix::start();
     let latest = root.again();
-    let first = Shown {
+    let first = BoardState {
         alloc,
         store: PathStore::new(alloc),
         front: root.again(),
     };
-    let second = Shown {
+    let second = BoardState {
         alloc,
         store: PathStore::new(alloc),
         front: root.again(),
@@ -119,7 +119,7 @@ pub fn new_board<R: Wait>(rt: &R, alloc: Global, readers: usize) -> Result<Board
 impl BoardWriter {
     /// A reader that has seen nothing.
     ///
-    /// [`BoardFault::NoPlace`] where no place was given; the caller may ask again.
+    /// [`BoardFault::NoPlace`] if no place was given; the caller may ask again.
     pub fn reader(&mut self) -> Result<BoardReader, BoardFault>
         ensures same { self.new ≡ self.old }
         ensures reader { IfOk result
@@ -168,7 +168,7 @@ impl BoardWriter {
     /// Publishes all that is pending, at one step: as the next edition. It may wait for readers
     /// that are inside.
     ///
-    /// After want of memory all is pending that was, and a later call publishes it.
+    /// After running out of memory all is pending that was, and a later call publishes it.
     pub fn publish<R: Wait>(&mut self, rt: &R) -> Result<(), AllocError>
         ensures done { OnOk result (self.new ≡ record self.old {
           edition = self.old.edition + 1;

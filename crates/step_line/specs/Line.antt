@@ -23,7 +23,8 @@ refusal_text (BadHeader fault) =
     coded (codes "refused 90 BadHeader") (header.code_of fault) (header.name_of fault)
 refusal_text refusal = coded (codes "refused") (code_of refusal) (name_of refusal)
 
--- where the packet goes: `link IF HEX`, `router N HEX` or `deliver HEX`, with its bytes after the step
+-- where the packet goes: `link IF HEX`, `router N HEX` or `deliver HEX`, with its bytes after the
+-- step
 abbrev pub outcome_text : Outcome → List ℕ → List ℕ
 outcome_text (ToLink interface) packet = coded (codes "link") interface (encode_lower packet)
 outcome_text (ToRouter router) packet = coded (codes "router") router (encode_lower packet)

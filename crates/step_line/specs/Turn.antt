@@ -9,7 +9,7 @@ use Rattle.refusal.specs.Optional.{◌>>=◌, only}
 use Rattle.step_line.specs.Fields.{ia_at, number_at, bytes_of, arrival_at, interfaces_at}
 
 -- the texts of the options, and of the interfaces
-pub record OptionTexts : Type 0 where
+pub record StepOptions : Type 0 where
   pub ia : List ℕ
   pub router : List ℕ
   pub key : List ℕ
@@ -38,7 +38,7 @@ previous_of (Some text) = do
   Some (Some key)
 
 -- the turn that the texts describe, if each can be read and the parts make a view
-unfoldable pub turn_of : OptionTexts → Option Turn
+unfoldable pub turn_of : StepOptions → Option Turn
 turn_of texts = do
   ia ← ia_at texts.ia
   router ← number_at 0 63 texts.router

@@ -7,7 +7,7 @@ ghost use Rattle.step_line.specs.Fault.{Prints};
 use crate::fault::StepFault;
 use crate::fields::{arrival, bytes, interfaces, number, number_of_router};
 use crate::line::{outcome_line, refusal_line};
-use crate::texts::Texts;
+use crate::texts::StepArgs;
 use isd_as::IsdAs;
 use router_step::{Arrival, step};
 use scion_topology::{IfEntry, RouterView};
@@ -46,14 +46,14 @@ impl Model for StepCommand {
 }
 
 impl StepCommand {
-    /// The turn that the texts describe, or `None` where one can't be read or the parts make no
+    /// The turn that the texts describe, or `None` if one can't be read or the parts make no
     /// view.
     #[tactic(auto, unfolding(crate::specs::Turn::turn_of))]
     ///
-    /// `AllocError` for want of memory.
+    /// `AllocError` if memory runs out.
     pub fn from_texts(
         alloc: Global,
-        texts: Texts<'_, '_>,
+        texts: StepArgs<'_, '_>,
     ) -> Result<Option<StepCommand>, AllocError>
         ensures { IfOk result (λ o. o ≡ turn_of texts.entry) }
     {
@@ -81,7 +81,7 @@ impl StepCommand {
         Ok(StepCommand::of_parts(ia, router, key, previous, moment as u32, arrival, table))
     }
 
-    /// The turn of these parts, or `None` where they make no view.
+    /// The turn of these parts, or `None` if they make no view.
     #[tactic(auto, using(crate::proofs::Views::view_of_accepts, crate::proofs::Views::turn_with_accepted, crate::proofs::Views::turn_with_refused))]
     fn of_parts(
         ia: IsdAs,
@@ -143,7 +143,7 @@ impl StepCommand {
     /// hexadecimal, letters of either case, with spaces, tabs, CR and LF at both ends. The text
     /// comes as bytes, which need not be UTF-8.
     ///
-    /// [`StepFault::PacketText`] where the text is not hexadecimal digits, two for each byte.
+    /// [`StepFault::PacketText`] if the text is not hexadecimal digits, two for each byte.
     #[tactic(auto, unfolding(crate::specs::Line::line_of))]
     pub fn line(&self, alloc: Global, text: &[u8]) -> Result<String, StepFault>
         ensures { Prints result (line_of self.now text.now) }
@@ -158,7 +158,7 @@ impl StepCommand {
     }
 }
 
-/// The key before, where one is given; `None` where its text is no hexadecimal.
+/// The key before, where one is given; `None` if its text is no hexadecimal.
 fn previous_key(alloc: Global, text: Option<&str>) -> Result<Option<Option<Vec<u8>>>, AllocError>
     ensures { IfOk result (λ o. option_map items_of o ≡ previous_of (option_copied text.entry)) }
 {

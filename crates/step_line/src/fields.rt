@@ -35,7 +35,7 @@ pub fn number(text: &str, low: u64, high: u64) -> Option<u64>
     }
 }
 
-/// The bytes that the text writes in hexadecimal, with letters of either case; `None` where it
+/// The bytes that the text writes in hexadecimal, with letters of either case; `None` if it
 /// writes none.
 pub fn bytes(alloc: Global, text: &[u8]) -> Result<Option<Vec<u8>>, AllocError>
     ensures { IfOk result (λ o. option_map (λ v. v.items) o ≡ bytes_of text.now) }

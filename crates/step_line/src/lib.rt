@@ -14,4 +14,4 @@ pub use command::StepCommand;
 pub use fault::StepFault;
 pub use fields::{bytes, number};
 pub use line::refusal_line;
-pub use texts::Texts;
+pub use texts::StepArgs;

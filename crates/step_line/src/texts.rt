@@ -2,7 +2,7 @@ use std::marker::Model;
 
 /// The texts of the options and of the interfaces, as a command line gives them.
 #[derive(Drop)]
-pub struct Texts<'a, 'm> {
+pub struct StepArgs<'a, 'm> {
     /// The address of the router's AS.
     pub ia: &'a str,
     /// The router's number in its AS.
@@ -19,12 +19,12 @@ pub struct Texts<'a, 'm> {
     pub interfaces: &'m [&'a str],
 }
 
-impl<'a, 'm> Model for Texts<'a, 'm> {
+impl<'a, 'm> Model for StepArgs<'a, 'm> {
     ghost use Rattle.std.specs.Prelude.{map};
     ghost use Rattle.std.specs.Option.{option_copied};
-    ghost use Rattle.step_line.specs.Turn.{OptionTexts};
+    ghost use Rattle.step_line.specs.Turn.{StepOptions};
 
-    ghost Value = { OptionTexts };
+    ghost Value = { StepOptions };
 
     ghost view = { λ t. record {
       ia = t.ia.now;

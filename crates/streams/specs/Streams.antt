@@ -18,11 +18,11 @@ abbrev pub is_failed_read : {A : Type 0} → Result A InputFault → Bool
 is_failed_read (Err Read) = true
 is_failed_read result = false
 
--- so many bytes were consumed as the fact says
+-- as many bytes were consumed as the fact says
 abbrev pub ConsumesSome : Option (List ℕ) → Option (List ℕ) → (ℕ → Type 0) → Type 0
 ConsumesSome old new fits = (bytes : List ℕ) × (Consumes old new bytes × fits (length bytes))
 
--- all bytes up to the end were read, at most so many; or one more than that, or not more, were
+-- all bytes up to the end were read, at most `most`; or one more than that, or not more, were
 -- consumed
 abbrev pub ReadsAll : {A : Type 0} → (A → List ℕ) → ℕ → Result A InputFault
     → Option (List ℕ) → Option (List ℕ) → Type 0
@@ -31,7 +31,7 @@ ReadsAll items most (Ok bytes) old new =
 ReadsAll items most (Err TooLong) old new = ConsumesSome old new (λ n. n ≡ most + 1)
 ReadsAll items most (Err fault) old new = ConsumesSome old new (λ n. n ≤ most)
 
--- one read of at most so many bytes behind those that there are: how many came, none only at the
+-- one read of at most `most` bytes behind those that there are: how many came, none only at the
 -- end, or why they are not among them
 abbrev pub ReadsOn : ℕ → ℕ → Result ℕ InputFault → Option (List ℕ) → Option (List ℕ)
     → List ℕ → List ℕ → Type 0

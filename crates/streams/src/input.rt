@@ -36,8 +36,8 @@ fn read_on<S: Source>(
 
 /// All bytes that the source has left, at most `most`.
 ///
-/// [`InputFault::TooLong`] where it has more, found where byte `most + 1` is read;
-/// [`InputFault::Read`] where a read fails; [`InputFault::Memory`] where there is no room for what
+/// [`InputFault::TooLong`] if it has more, found where byte `most + 1` is read;
+/// [`InputFault::Read`] if a read fails; [`InputFault::Memory`] if there is no room for what
 /// was read.
 pub fn read_all<S: Source>(alloc: Global, source: &mut S, most: u64) -> Result<Vec<u8>, InputFault>
     ensures bytes { ReadsAll (λ bytes. bytes.items) most result

@@ -9,7 +9,7 @@ use crate::stream::Sink;
 
 /// Writes all of the bytes, in as many writes as that takes, at most one for each byte.
 ///
-/// [`WriteFailed`] where a write fails or takes none of some bytes; those before it stay written.
+/// [`WriteFailed`] if a write fails or takes none of some bytes; those before it stay written.
 pub fn write_all<K: Sink>(sink: &mut K, bytes: &[u8]) -> Result<(), WriteFailed>
     ensures written { OnOk result (Appends (K.held sink.old) (K.held sink.new) bytes.now) }
     ensures front { AppendsFront (K.held sink.old) (K.held sink.new) bytes.now }

@@ -2,7 +2,7 @@
 use Rattle.std.specs.Prelude.{◌≡◌, ℕ, ◌+◌, codes, List, [], ◌∷◌, ◌++◌, Some, Ok, length, slice_get}
 use Rattle.std.specs.Fmt.{decimal}
 use Rattle.scion_topology.specs.Network.{Network}
-use Rattle.network_core.specs.Value.{NetValue, PacketValue, SentValue}
+use Rattle.network_core.specs.Value.{NetValue, PacketValue, Shipment}
 use Rattle.router_workers.specs.declared.end.End.{End}
 use Rattle.router_workers.specs.declared.end.End.TheVariants.{Delivered, Refused, Dropped}
 use Rattle.router_workers.specs.Flight.{FlightValue, departed, grounded, sending_of}
@@ -11,7 +11,7 @@ use Rattle.event_lines.specs.Text.{refusal_text}
 use Rattle.event_lines.specs.Run.{ended}
 
 -- a flight of what was sent, as it departs in this network, with no turn had
-abbrev pub IsFlightOf : Network → SentValue → FlightValue → Type 0
+abbrev pub IsFlightOf : Network → Shipment → FlightValue → Type 0
 IsFlightOf n sent flight =
     (departed n (sending_of sent) ≡ Ok flight.packet)
     × (flight ≡ grounded n (sending_of sent) flight.packet)
@@ -40,7 +40,7 @@ report_lines number [] = []
 report_lines number (end ∷ ends) = flight_text number end ∷ report_lines (number + 1) ends
 
 -- the bytes are the lines, each with its end, of how flights of the network's packets ended at the
--- moment that it has reached, with inboxes of so many places
+-- moment that it has reached, with inboxes of `slots` places
 abbrev pub Reports : NetValue → ℕ → List ℕ → Type 0
 Reports net slots bytes = (flights : List FlightValue) × (ends : List End)
     × (AreFlights net flights

@@ -6,13 +6,13 @@ use Rattle.network_core.specs.Value.{NetValue}
 use Rattle.router_workers.specs.declared.fault.RunFault.{RunFault}
 use Rattle.router_workers.specs.declared.fault.RunFault.TheVariants as run
 use Rattle.event_lines.specs.declared.fault.RunFault.TheVariants as lines
-use Rattle.event_lines.specs.declared.hearing.Hearing.TheVariants.{Preparing}
+use Rattle.event_lines.specs.declared.accepted.AcceptedLines.TheVariants.{Preparing}
 use Rattle.event_lines.specs.Run.{Listens}
 use Rattle.work_lines.specs.declared.fault.WorkFault.{WorkFault}
 use Rattle.work_lines.specs.declared.fault.WorkFault.TheVariants as faults
 use Rattle.work_lines.specs.Report.{Reports}
 
--- so many workers may be asked for
+-- the number of workers that may be asked for
 abbrev pub IsNumberOfWorkers : ℕ → Type 0
 IsNumberOfWorkers workers = (0 < workers) × (workers ≤ 8)
 
@@ -59,7 +59,7 @@ abbrev pub of_run : RunFault → WorkFault
 of_run run.Workers = faults.Workers
 of_run run.Memory = faults.Memory
 
--- flights could not be carried by so many workers
+-- flights could not be carried by these workers
 abbrev pub Stops : ℕ → WorkFault → Type 0
 Stops workers faults.Workers = ¬ (IsNumberOfWorkers workers)
 Stops workers faults.Memory = Unit {0}

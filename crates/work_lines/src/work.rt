@@ -9,15 +9,15 @@ ghost use Rattle.work_lines.specs.Work.{IsNumberOfWorkers, Stops, Works, Writes,
 use crate::fault::WorkFault;
 use crate::flights::flights_of;
 use crate::report::report;
-use event_lines::{Hearing, listen};
+use event_lines::{AcceptedLines, listen};
 use network_core::Net;
-use router_workers::{Open, run_workers};
+use router_workers::{OpenGate, run_workers};
 use std::alloc::Global;
 use std::sync::Wait;
 use std::thread::Threads;
 use streams::{Sink, Source, write_all};
 
-/// What is told of the flights of a network's packets, once so many workers have carried them.
+/// The report on the flights of a network's packets, once `workers` workers have carried them.
 fn carry<R: Threads + Wait + Sync>(
     rt: &R,
     alloc: Global,
@@ -41,7 +41,7 @@ fn carry<R: Threads + Wait + Sync>(
         workers,
         slots,
         &flights,
-        &Open,
+        &OpenGate,
     )?;
     Ok(report(alloc, carried.ends())?)
 }
@@ -62,14 +62,15 @@ fn write_report<K: Sink>(text: &str, sink: &mut K) -> Result<(), WorkFault>
 
 /// Answers the lines of a source, those that prepare a network, as [`listen`] does; then carries a
 /// packet for each that was sent through the network that they lead to, at the moment that it has
-/// reached, on so many workers with inboxes of `slots` places each, as [`run_workers`] does; and
+/// reached, on `workers` workers with inboxes of `slots` places each, as [`run_workers`] does; and
 /// then writes for each, in their order, how its flight ended: `flight N delivered TURNS`, `flight
 /// N refused CODE Name`, or `flight N dropped`.
 ///
-/// [`WorkFault::Lines`] where the lines were not answered to their end, with no flight made;
-/// [`WorkFault::Workers`] where there are not 1 to 8 workers, also where there is no packet;
-/// [`WorkFault::Memory`] where a flight, the run or the report wants memory; [`WorkFault::Write`]
-/// where the sink failed at the report. All but the first come after all replies were written.
+/// [`WorkFault::Lines`] if the lines were not answered to their end, with no flight made;
+/// [`WorkFault::Workers`] if there are not 1 to 8 workers, also where there is no packet;
+/// [`WorkFault::Memory`] if a flight, the run or the report runs out of memory;
+/// [`WorkFault::Write`] where the sink failed at the report. All but the first come after all
+/// replies were written.
 ///
 /// Beside the time and memory of [`listen`] it takes those of a copy of each packet, of its turns,
 /// and of its line.
@@ -88,7 +89,7 @@ pub fn work_lines<R: Threads + Wait + Sync, S: Source, K: Sink>(
     ensures source { S.failed source.new ≡ (S.failed source.old || is_read_fault result) }
     ensures sink { K.failed sink.new ≡ (K.failed sink.old || is_write_fault result) }
 {
-    let net = listen(alloc, Hearing::Preparing, source, sink)?;
+    let net = listen(alloc, AcceptedLines::Preparing, source, sink)?;
     let text = carry(rt, alloc, &net, workers, slots)?;
     write_report(text.as_str(), sink)
 }

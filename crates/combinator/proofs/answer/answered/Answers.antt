@@ -4,19 +4,19 @@ use Rattle.combinator.specs.Candidate.{IsOf, PathValue}
 use Rattle.combinator.specs.Order.{path_cmp}
 use Rattle.combinator.specs.Answer.{IsBest}
 use Rattle.combinator.specs.Placed.{InOrder, Met}
-use Rattle.combinator.specs.Kept.{by_walk}
+use Rattle.combinator.specs.BestByWalk.{by_walk}
 use Rattle.combinator.proofs.Answering.{all_met, answer}
 use Rattle.combinator.proofs.answer.answered.Goals as goal
 
-pub settled-requires : goal.settled-requires
-settled-requires g c = subst (All (IsOf c.args.ask.now.set)) (sym c.deref.ensures.value) c.in_ok-legs.ensures.own
+pub best_by_walk-requires : goal.best_by_walk-requires
+best_by_walk-requires g c = subst (All (IsOf c.args.ask.now.set)) (sym c.deref.ensures.value) c.in_ok-usable_pieces.ensures.own
 
 pub returns : goal.returns
 returns g c =
     let met = all_met c.args.ask.now c.deref.result.now
-    (λ piece is. subst (λ (pieces : List PieceValue). Contains pieces piece) (sym c.deref.ensures.value) (c.in_ok-legs.ensures.ups piece is))
-    (λ piece is. subst (λ (pieces : List PieceValue). Contains pieces piece) (sym c.deref.ensures.value) (c.in_ok-legs.ensures.cores piece is))
-    (λ piece is. subst (λ (pieces : List PieceValue). Contains pieces piece) (sym c.deref.ensures.value) (c.in_ok-legs.ensures.downs piece is))
+    (λ piece is. subst (λ (pieces : List PieceValue). Contains pieces piece) (sym c.deref.ensures.value) (c.in_ok-usable_pieces.ensures.ups piece is))
+    (λ piece is. subst (λ (pieces : List PieceValue). Contains pieces piece) (sym c.deref.ensures.value) (c.in_ok-usable_pieces.ensures.cores piece is))
+    (λ piece is. subst (λ (pieces : List PieceValue). Contains pieces piece) (sym c.deref.ensures.value) (c.in_ok-usable_pieces.ensures.downs piece is))
     c.in_ok-kept.kept c.in_ok-kept.ensures.one c.in_ok-kept.ensures.two c.in_ok-kept.ensures.three in record {
       answer = answer c.args.ask.now c.args.limit c.in_ok-kept.kept c.in_ok-found.found.items c.in_ok-kept.ensures.sound (subst (InOrder by_walk) c.into_list.ensures.all c.into_list.ensures.order)
           met c.in_ok-found.ensures.order c.in_ok-found.ensures.few

@@ -1,7 +1,7 @@
 use Rattle.std.proofs.Common.{◌≡◌, [], ◌∷◌, sym, subst}
 use Rattle.path_verifier.specs.Piece.{PieceValue, begins_in, ends_in}
 use Rattle.combinator.specs.Candidate.{IsOf}
-use Rattle.combinator.specs.Kept.{AreSettled}
+use Rattle.combinator.specs.BestByWalk.{AreMatched}
 use Rattle.combinator.proofs.Keeping.{goes_further}
 use Rattle.combinator.proofs.Collected.{by_items, at_end}
 use Rattle.combinator.proofs.Tried.{own_two, settled_on}
@@ -21,14 +21,14 @@ loop-third-preserved g c =
     record {
       goes = goes_further c.args.ask.now c.args.kept.now before after c.loop-third.invariant.goes goes;
       two = settled_on c.args.ask.now before after (c.args.first.now ∷ c.args.second.now ∷ []) goes c.loop-third.invariant.two;
-      three = by_items (λ (third : PieceValue). begins_in third ≡ ends_in c.args.second.now → AreSettled c.args.ask.now before (c.args.first.now ∷ c.args.second.now ∷ third ∷ []))
-          (λ (third : PieceValue). begins_in third ≡ ends_in c.args.second.now → AreSettled c.args.ask.now after (c.args.first.now ∷ c.args.second.now ∷ third ∷ []))
-          c.args.legs.now c.loop-third.third-index c.third-item.result c.loop-third-test.true c.third-item.is
+      three = by_items (λ (third : PieceValue). begins_in third ≡ ends_in c.args.second.now → AreMatched c.args.ask.now before (c.args.first.now ∷ c.args.second.now ∷ third ∷ []))
+          (λ (third : PieceValue). begins_in third ≡ ends_in c.args.second.now → AreMatched c.args.ask.now after (c.args.first.now ∷ c.args.second.now ∷ third ∷ []))
+          c.args.usable_pieces.now c.loop-third.third-index c.third-item.result c.loop-third-test.true c.third-item.is
           (λ third was meet. settled_on c.args.ask.now before after (c.args.first.now ∷ c.args.second.now ∷ third ∷ []) goes (was meet))
           c.loop-third.invariant.three c.in_ok-try_third.ensures.three;
     }
 
 pub returns-clause-three : goal.returns-clause-three
 returns-clause-three g c =
-    at_end (λ (third : PieceValue). begins_in third ≡ ends_in c.args.second.now → AreSettled c.args.ask.now c.loop-third.kept (c.args.first.now ∷ c.args.second.now ∷ third ∷ []))
-    c.args.legs.now c.loop-third.third-index c.loop-third-test.false c.loop-third.invariant.three
+    at_end (λ (third : PieceValue). begins_in third ≡ ends_in c.args.second.now → AreMatched c.args.ask.now c.loop-third.kept (c.args.first.now ∷ c.args.second.now ∷ third ∷ []))
+    c.args.usable_pieces.now c.loop-third.third-index c.loop-third-test.false c.loop-third.invariant.three

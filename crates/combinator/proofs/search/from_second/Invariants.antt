@@ -1,11 +1,11 @@
 use Rattle.std.proofs.Common.{◌≡◌, [], ◌∷◌, take, Contains}
 use Rattle.path_verifier.specs.Piece.{PieceValue, begins_in, ends_in}
-use Rattle.combinator.specs.Kept.{GoesOn, AreSettled}
+use Rattle.combinator.specs.BestByWalk.{IsNoWorseThan, AreMatched}
 use Rattle.combinator.proofs.search.from_second.Given as goal
 
 abbrev pub invariant-loop-third : goal.invariant-loop-third
 invariant-loop-third g l = record {
-  goes : GoesOn l.ask l.fn.kept l.kept;
-  two : AreSettled l.ask l.kept (l.first ∷ l.second ∷ []);
-  three : (third : PieceValue) → Contains (take l.third-index l.legs) third → begins_in third ≡ ends_in l.second → AreSettled l.ask l.kept (l.first ∷ l.second ∷ third ∷ []);
+  goes : IsNoWorseThan l.ask l.fn.kept l.kept;
+  two : AreMatched l.ask l.kept (l.first ∷ l.second ∷ []);
+  three : (third : PieceValue) → Contains (take l.third-index l.usable_pieces) third → begins_in third ≡ ends_in l.second → AreMatched l.ask l.kept (l.first ∷ l.second ∷ third ∷ []);
 }

@@ -1,5 +1,5 @@
 use Rattle.std.proofs.Common.{subst}
-use Rattle.combinator.specs.Kept.{AreSettled}
+use Rattle.combinator.specs.BestByWalk.{AreMatched}
 use Rattle.combinator.proofs.Tried.{own_three}
 use Rattle.combinator.proofs.search.try_third.Goals as goal
 
@@ -8,4 +8,4 @@ consider-requires g c = own_three c.args.ask.now.set c.args.first.now c.args.sec
 
 pub returns-in_ok-consider-clause-three : goal.returns-in_ok-consider-clause-three
 returns-in_ok-consider-clause-three g c = λ joined.
-    subst (AreSettled c.args.ask.now c.consider.new.kept) c.three_of.ensures c.in_ok-consider.ensures.settled
+    subst (AreMatched c.args.ask.now c.consider.new.kept) c.three_of.ensures c.in_ok-consider.ensures.best_by_walk

@@ -11,5 +11,5 @@ returns c =
       | in-Turned+in-Refused-1 w ↦ (let is = w.reply-is in cc)
       | in-Done-1 w ↦ (let is = w.reply-is in cc)
     ] in
-    event_answered c.reply.result string_bytes c.args.net.now c.step.new.self (events.seen c.args.event.now)
+    event_answered c.reply.result string_bytes c.args.net.now c.step.new.self (events.event_value c.args.event.now)
     c.in_ok-reply.reply c.match-reply.reply same c.in_ok-reply.ensures.step c.in_ok-reply.ensures.framed c.reply.ensures

@@ -3,7 +3,7 @@ use Rattle.std.proofs.lemmas.Grind.{common_steps}
 use Rattle.std.proofs.lemmas.List.{nil_from_length}
 use Rattle.std.proofs.lemmas.Result.{err_from_is_err_and}
 use Rattle.std.specs.Io.KnownBytes.{IsAtEnd}
-use Rattle.event_lines.specs.Talking.{value_of}
+use Rattle.event_lines.specs.Session.{value_of}
 use Rattle.event_lines.proofs.Running.{ends_reached, ends_short, ends_unfinished, ends_unread, ends_too_long, passed_on}
 use Rattle.event_lines.proofs.run.listen.Goals as goal
 
@@ -11,7 +11,7 @@ pub returns-then-is_empty-clause-listens : goal.returns-then-is_empty-clause-lis
 returns-then-is_empty-clause-listens g c =
     let brought = c.in-Some.ensures.bytes in
     let none : c.in-Some.bytes.now ≡ [] = nil_from_length c.in-Some.bytes.now (search (rules, c.if-is_empty.ensures)) in
-    ends_reached c.args.hearing (g.S.Source.left c.args.source.now) (g.S.Source.left c.loop-bytes.source) (g.S.Source.left c.read_into.new.source)
+    ends_reached c.args.accepted (g.S.Source.left c.args.source.now) (g.S.Source.left c.loop-bytes.source) (g.S.Source.left c.read_into.new.source)
     (g.K.Sink.held c.args.sink.now) (g.K.Sink.held c.loop-bytes.sink) (g.K.Sink.held c.finish.new.sink)
     c.in-Some.bytes.now _ c.into_net.result c.loop-bytes.invariant.far none brought.0 (brought.1.0 none) c.in_ok-finish.ensures.told c.into_net.ensures
 
@@ -20,7 +20,7 @@ returns-in_err-finish-clause-listens g c =
     let brought = c.in-Some.ensures.bytes in
     let none : c.in-Some.bytes.now ≡ [] = nil_from_length c.in-Some.bytes.now (search (rules, c.if-is_empty.ensures)) in
     let p = err_from_is_err_and c.from_residual.result c.from_residual.ensures.1 in
-    rw (p.1, p.2) (ends_unfinished c.args.hearing (g.S.Source.left c.args.source.now) (g.S.Source.left c.loop-bytes.source) (g.S.Source.left c.read_into.new.source)
+    rw (p.1, p.2) (ends_unfinished c.args.accepted (g.S.Source.left c.args.source.now) (g.S.Source.left c.loop-bytes.source) (g.S.Source.left c.read_into.new.source)
     (g.K.Sink.held c.args.sink.now) (g.K.Sink.held c.loop-bytes.sink) (g.K.Sink.held c.finish.new.sink)
     c.in-Some.bytes.now _ c.in_err-finish.field-0.0 c.loop-bytes.invariant.far none brought.0 (brought.1.0 none) c.in_err-finish.ensures.told)
 
@@ -28,7 +28,7 @@ pub returns-then-count-eq-MAX_INPUT_LEN-clause-listens : goal.returns-then-count
 returns-then-count-eq-MAX_INPUT_LEN-clause-listens g c =
     let brought = c.in-Some.ensures.bytes in
     let some : ¬ (c.in-Some.bytes.now ≡ []) = λ none. (let is = ap length none in absurd (search (rules, c.if-is_empty.ensures, is))) in
-    ends_too_long c.args.hearing (g.S.Source.left c.args.source.now) (g.S.Source.left c.loop-bytes.source) (g.S.Source.left c.read_into.new.source)
+    ends_too_long c.args.accepted (g.S.Source.left c.args.source.now) (g.S.Source.left c.loop-bytes.source) (g.S.Source.left c.read_into.new.source)
     (g.K.Sink.held c.args.sink.now) (g.K.Sink.held c.loop-bytes.sink)
     c.in-Some.bytes.now c.loop-bytes.invariant.far c.if-count-eq-MAX_INPUT_LEN.true some
     (let last = c.wanted_after-wanted.ensures.last c.if-count-eq-MAX_INPUT_LEN.true in grind (arith, common_steps, brought.1.1, last)) brought.0
@@ -37,16 +37,16 @@ pub returns-in_err-exchange-clause-listens : goal.returns-in_err-exchange-clause
 returns-in_err-exchange-clause-listens g c =
     let brought = c.in-Some.ensures.bytes in
     let p = err_from_is_err_and c.from_residual-in_err-exchange.result c.from_residual-in_err-exchange.ensures.1 in
-    rw (p.1, p.2) (ends_short c.args.hearing (g.S.Source.left c.args.source.now) (g.S.Source.left c.loop-bytes.source) (g.S.Source.left c.read_into.new.source)
+    rw (p.1, p.2) (ends_short c.args.accepted (g.S.Source.left c.args.source.now) (g.S.Source.left c.loop-bytes.source) (g.S.Source.left c.read_into.new.source)
     (g.K.Sink.held c.args.sink.now) (g.K.Sink.held c.loop-bytes.sink) (g.K.Sink.held c.exchange.new.sink)
-    (value_of c.loop-bytes.talk) (value_of c.exchange.new.talk) c.in-Some.bytes.now c.in_err-exchange.field-0.0
+    (value_of c.loop-bytes.session) (value_of c.exchange.new.session) c.in-Some.bytes.now c.in_err-exchange.field-0.0
     (IsAtEnd (g.S.Source.left c.read_into.new.source)) c.loop-bytes.invariant.far
     (let fits = c.wanted_after-wanted.ensures.fits (omega (arith, c.loop-bytes.invariant.far.few, c.if-count-eq-MAX_INPUT_LEN.false)) in grind (arith, common_steps, brought.1.1, fits))
     brought.0 c.in_err-exchange.ensures.told)
 
 pub returns-in_default-clause-listens : goal.returns-in_default-clause-listens
 returns-in_default-clause-listens g c =
-    ends_unread c.args.hearing (g.S.Source.left c.args.source.now) (g.S.Source.left c.loop-bytes.source) (g.S.Source.left c.read_into.new.source)
+    ends_unread c.args.accepted (g.S.Source.left c.args.source.now) (g.S.Source.left c.loop-bytes.source) (g.S.Source.left c.read_into.new.source)
     (g.K.Sink.held c.args.sink.now) (g.K.Sink.held c.loop-bytes.sink)
     c.loop-bytes.invariant.far c.in_default.ensures.bytes
 
@@ -55,9 +55,9 @@ loop-bytes-preserved g c =
     let brought = c.in-Some.ensures.bytes in
     let exchanged = c.in_ok-exchange.ensures.told in
     record {
-      far = passed_on c.args.hearing (g.S.Source.left c.args.source.now) (g.S.Source.left c.loop-bytes.source) (g.S.Source.left c.read_into.new.source)
+      far = passed_on c.args.accepted (g.S.Source.left c.args.source.now) (g.S.Source.left c.loop-bytes.source) (g.S.Source.left c.read_into.new.source)
           (g.K.Sink.held c.args.sink.now) (g.K.Sink.held c.loop-bytes.sink) (g.K.Sink.held c.exchange.new.sink)
-          c.in-Some.bytes.now (value_of c.exchange.new.talk) c.loop-bytes.invariant.far brought.0
+          c.in-Some.bytes.now (value_of c.exchange.new.session) c.loop-bytes.invariant.far brought.0
           (let fits = c.wanted_after-wanted.ensures.fits (omega (arith, c.loop-bytes.invariant.far.few, c.if-count-eq-MAX_INPUT_LEN.false)) in grind (arith, common_steps, brought.1.1, fits))
           exchanged.0 exchanged.1.0 exchanged.1.1.0 exchanged.1.1.1;
       source = search rules;

@@ -2,7 +2,7 @@ use Rattle.std.proofs.Common.{None, ◌∙◌, subst}
 use Rattle.std.proofs.lemmas.Result.{err_from_is_err_and}
 use Rattle.policy_expr.specs.Policy.{Rules}
 use Rattle.path_verifier.specs.Header.{header_of}
-use Rattle.path_verifier.specs.Held.{pieces_in}
+use Rattle.path_verifier.specs.PieceSlots.{pieces_in}
 use Rattle.path_verifier.specs.Accepted.{NamesOnce, request_of}
 use Rattle.path_verifier.proofs.Breaches.{path_of_shape}
 use Rattle.path_verifier.proofs.verification.checked_walk.Goals as goal

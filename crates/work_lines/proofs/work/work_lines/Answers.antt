@@ -1,6 +1,6 @@
 use Rattle.std.proofs.Common.{subst, sym}
 use Rattle.work_lines.specs.Report.{Reports}
-use Rattle.event_lines.specs.declared.hearing.Hearing.TheVariants.{Preparing}
+use Rattle.event_lines.specs.declared.accepted.AcceptedLines.TheVariants.{Preparing}
 use Rattle.work_lines.proofs.Departing.{listened_may}
 use Rattle.work_lines.proofs.Worked.{worked}
 use Rattle.work_lines.proofs.work.work_lines.Goals as goal

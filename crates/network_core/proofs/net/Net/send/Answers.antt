@@ -1,16 +1,16 @@
 use Rattle.std.proofs.Common.{refl}
 use Rattle.network_core.specs.Event.{ByAnswer}
-use Rattle.network_core.specs.Step.{sent_by}
+use Rattle.network_core.specs.Step.{shipment_by}
 use Rattle.network_core.proofs.Readied.{not_ready, ready_kept}
 use Rattle.network_core.proofs.net.Net.send.Goals as goal
 
 pub returns-in-Err : goal.returns-in-Err
 returns-in-Err c =
     not_ready (λ p. p) c.args.self.now c.args.self.now
-    (sent_by c.args.self.now (ByAnswer c.args.ask c.args.path) c.args.payload.now) c.in-Err.error refl c.in-Err.ensures
+    (shipment_by c.args.self.now (ByAnswer c.args.ask c.args.path) c.args.payload.now) c.in-Err.error refl c.in-Err.ensures
 
 pub returns-in-Ok : goal.returns-in-Ok
 returns-in-Ok c =
     ready_kept (λ p. p) c.args.self.now c.keep_packet.new.self
-    (sent_by c.args.self.now (ByAnswer c.args.ask c.args.path) c.args.payload.now) c.in-Ok.packet c.keep_packet.result
+    (shipment_by c.args.self.now (ByAnswer c.args.ask c.args.path) c.args.payload.now) c.in-Ok.packet c.keep_packet.result
     c.in-Ok.ensures c.keep_packet.ensures

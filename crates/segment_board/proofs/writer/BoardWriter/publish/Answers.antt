@@ -1,8 +1,8 @@
 use Rattle.std.proofs.Common.{◌≡◌, Bool, [], ◌∷◌, ◌++◌, ap, ◌∙◌, subst}
 use Rattle.std.specs.Prelude.{MatchBool}
-use Rattle.segment_board.specs.declared.shown.BoardOp.TheVariants.{Mark}
-use Rattle.segment_board.specs.History.{Reached}
-use Rattle.segment_board.specs.Desk.{queue_of, edition_of, awaited, operations_of}
+use Rattle.segment_board.specs.declared.board_state.BoardOp.TheVariants.{Mark}
+use Rattle.segment_board.specs.History.{KnownHistory}
+use Rattle.segment_board.specs.WriterState.{queue_of, edition_of, awaited, operations_of}
 use Rattle.segment_board.proofs.InOrder.{written, marked, made_ready, is_ready, after_show, Showed, Kept, showed_view, kept_view, on_ok, on_err}
 use Rattle.segment_board.proofs.writer.BoardWriter.publish.Goals as goal
 
@@ -16,7 +16,7 @@ invariant_of-self g c =
     let next = c.grow.new.self in
     let step : next ≡ record latest { log = latest.log ++ awaited w ∷ [] } =
     subst (λ (b : Bool). MatchBool b (next ≡ record c.again-latest.result { log = c.again-latest.result.log ++ awaited w ∷ [] }) (next ≡ c.again-latest.result)) c.if-not-grow.false c.grow.ensures
-    ∙ ap (λ (r : Reached). record r { log = r.log ++ awaited w ∷ [] }) c.again-latest.ensures.same in
+    ∙ ap (λ (r : KnownHistory). record r { log = r.log ++ awaited w ∷ [] }) c.again-latest.ensures.same in
     made_ready w v head root latest next c.self.invariant c.mark-marked.ensures.desk step (ap operations_of c.if-not-marked.ensures.queue)
 
 pub replace_with-requires : goal.replace_with-requires
@@ -29,8 +29,8 @@ replace_with-requires g c =
     let next = c.grow.new.self in
     let step : next ≡ record latest { log = latest.log ++ awaited w ∷ [] } =
     subst (λ (b : Bool). MatchBool b (next ≡ record c.again-latest.result { log = c.again-latest.result.log ++ awaited w ∷ [] }) (next ≡ c.again-latest.result)) c.if-not-grow.false c.grow.ensures
-    ∙ ap (λ (r : Reached). record r { log = r.log ++ awaited w ∷ [] }) c.again-latest.ensures.same in
-    let queue : queue_of v ≡ queue_of w ++ Mark next ∷ [] = c.if-not-marked.ensures.queue ∙ ap (λ (r : Reached). queue_of w ++ Mark r ∷ []) c.again.ensures.same in
+    ∙ ap (λ (r : KnownHistory). record r { log = r.log ++ awaited w ∷ [] }) c.again-latest.ensures.same in
+    let queue : queue_of v ≡ queue_of w ++ Mark next ∷ [] = c.if-not-marked.ensures.queue ∙ ap (λ (r : KnownHistory). queue_of w ++ Mark r ∷ []) c.again.ensures.same in
     let same = marked (queue_of w) (queue_of v) next queue in
     is_ready w v head root latest next c.self.invariant c.mark-marked.ensures.desk step queue
 
@@ -44,8 +44,8 @@ invariant_of-self-2 g c =
     let next = c.grow.new.self in
     let step : next ≡ record latest { log = latest.log ++ awaited w ∷ [] } =
     subst (λ (b : Bool). MatchBool b (next ≡ record c.again-latest.result { log = c.again-latest.result.log ++ awaited w ∷ [] }) (next ≡ c.again-latest.result)) c.if-not-grow.false c.grow.ensures
-    ∙ ap (λ (r : Reached). record r { log = r.log ++ awaited w ∷ [] }) c.again-latest.ensures.same in
-    let queue : queue_of v ≡ queue_of w ++ Mark next ∷ [] = c.if-not-marked.ensures.queue ∙ ap (λ (r : Reached). queue_of w ++ Mark r ∷ []) c.again.ensures.same in
+    ∙ ap (λ (r : KnownHistory). record r { log = r.log ++ awaited w ∷ [] }) c.again-latest.ensures.same in
+    let queue : queue_of v ≡ queue_of w ++ Mark next ∷ [] = c.if-not-marked.ensures.queue ∙ ap (λ (r : KnownHistory). queue_of w ++ Mark r ∷ []) c.again.ensures.same in
     let same = marked (queue_of w) (queue_of v) next queue in
     let u = c.replace_with.new.dest in
     let o = made_ready w v head root latest next c.self.invariant c.mark-marked.ensures.desk step same in
@@ -62,8 +62,8 @@ returns-clause-done g c =
     let next = c.grow.new.self in
     let step : next ≡ record latest { log = latest.log ++ awaited w ∷ [] } =
     subst (λ (b : Bool). MatchBool b (next ≡ record c.again-latest.result { log = c.again-latest.result.log ++ awaited w ∷ [] }) (next ≡ c.again-latest.result)) c.if-not-grow.false c.grow.ensures
-    ∙ ap (λ (r : Reached). record r { log = r.log ++ awaited w ∷ [] }) c.again-latest.ensures.same in
-    let queue : queue_of v ≡ queue_of w ++ Mark next ∷ [] = c.if-not-marked.ensures.queue ∙ ap (λ (r : Reached). queue_of w ++ Mark r ∷ []) c.again.ensures.same in
+    ∙ ap (λ (r : KnownHistory). record r { log = r.log ++ awaited w ∷ [] }) c.again-latest.ensures.same in
+    let queue : queue_of v ≡ queue_of w ++ Mark next ∷ [] = c.if-not-marked.ensures.queue ∙ ap (λ (r : KnownHistory). queue_of w ++ Mark r ∷ []) c.again.ensures.same in
     let same = marked (queue_of w) (queue_of v) next queue in
     let u = c.replace_with.new.dest in
     rw (← c.self.view_is)
@@ -80,8 +80,8 @@ returns-clause-kept g c =
     let next = c.grow.new.self in
     let step : next ≡ record latest { log = latest.log ++ awaited w ∷ [] } =
     subst (λ (b : Bool). MatchBool b (next ≡ record c.again-latest.result { log = c.again-latest.result.log ++ awaited w ∷ [] }) (next ≡ c.again-latest.result)) c.if-not-grow.false c.grow.ensures
-    ∙ ap (λ (r : Reached). record r { log = r.log ++ awaited w ∷ [] }) c.again-latest.ensures.same in
-    let queue : queue_of v ≡ queue_of w ++ Mark next ∷ [] = c.if-not-marked.ensures.queue ∙ ap (λ (r : Reached). queue_of w ++ Mark r ∷ []) c.again.ensures.same in
+    ∙ ap (λ (r : KnownHistory). record r { log = r.log ++ awaited w ∷ [] }) c.again-latest.ensures.same in
+    let queue : queue_of v ≡ queue_of w ++ Mark next ∷ [] = c.if-not-marked.ensures.queue ∙ ap (λ (r : KnownHistory). queue_of w ++ Mark r ∷ []) c.again.ensures.same in
     let same = marked (queue_of w) (queue_of v) next queue in
     let u = c.replace_with.new.dest in
     rw (← c.self.view_is)

@@ -1,0 +1,26 @@
+use isd_as::IsdAs;
+use path_server::SegmentSet;
+use policy_expr::Policy;
+use std::alloc::Allocator;
+use std::marker::Model;
+
+/// What is asked: paths from one AS to another, made of these segments, under a policy.
+#[derive(Drop)]
+pub(crate) struct PathRequest<'s, 'p, A: Allocator + Clone> {
+    pub(crate) set: &'s SegmentSet,
+    pub(crate) src: IsdAs,
+    pub(crate) dst: IsdAs,
+    pub(crate) policy: &'p Policy<A>,
+}
+
+impl<'s, 'p, A: Allocator + Clone> Model for PathRequest<'s, 'p, A> {
+    ghost use Rattle.std.specs.Coded.{codes};
+    ghost use Rattle.policy_expr.specs.Code.{coded_tree};
+    ghost use Rattle.combinator.specs.Candidate.{Question, question_of};
+
+    ghost Value = { Question };
+
+    ghost coded = { Prim.hlevel (codes, coded_tree) };
+
+    ghost view = { λ a. question_of a.set.now a.src a.dst a.policy.now };
+}

@@ -1,0 +1,204 @@
+//! The pieces of which paths can be made.
+
+ghost use Rattle.std.specs.Prelude.{◌≡◌, ◌<◌, ◌+◌, ℕ, Bool, true, false, length, All, Contains, OnOk, IfOk};
+ghost use Rattle.path_segment.specs.declared.kind.SegKind.TheVariants.{Intra, Core};
+ghost use Rattle.path_server.specs.Lookup.{Selection};
+ghost use Rattle.path_verifier.specs.Piece.{PieceValue, kind_in};
+ghost use Rattle.combinator.specs.Candidate.{IsOf, segments_of};
+ghost use Rattle.combinator.specs.UsablePieces.{piece_of, outer_of, IsCut, IsWhole, AreIn};
+
+use crate::request::PathRequest;
+use crate::usable_piece::UsablePiece;
+use isd_as::IsdAs;
+use path_segment::{SegKind, Segment};
+use std::alloc::{AllocError, Allocator, Global};
+
+/// The pieces of the set of which paths can be made: those of ups that begin in the source, whole
+/// cores in both directions, and those of downs that end in the destination.
+pub(crate) fn usable_pieces_of<'s, 'p, A: Allocator + Clone>(
+    alloc: Global,
+    ask: &PathRequest<'s, 'p, A>,
+) -> Result<Vec<UsablePiece<'s>>, AllocError>
+    ensures own { IfOk result (λ usable_pieces. All (IsOf ask.now.set) usable_pieces.items) }
+    ensures ups { IfOk result (λ usable_pieces. (piece : PieceValue)
+        → IsCut ask.now.set.ups false ask.now.src piece → Contains usable_pieces.items piece) }
+    ensures cores { IfOk result (λ usable_pieces. (piece : PieceValue)
+        → IsWhole ask.now.set.cores piece → Contains usable_pieces.items piece) }
+    ensures downs { IfOk result (λ usable_pieces. (piece : PieceValue)
+        → IsCut ask.now.set.downs true ask.now.dst piece → Contains usable_pieces.items piece) }
+{
+    let set = ask.set;
+    let mut usable_pieces = Vec::new(alloc);
+    add_cuts(&mut usable_pieces, set.ups(), false, ask.src)?;
+    add_cores(&mut usable_pieces, set.cores())?;
+    add_cuts(&mut usable_pieces, set.downs(), true, ask.dst)?;
+    Ok(usable_pieces)
+}
+
+/// Adds the pieces of these intra segments in a direction that have an AS at their outer end.
+fn add_cuts<'s>(
+    usable_pieces: &mut Vec<UsablePiece<'s>>,
+    segments: &'s [Segment],
+    along: bool,
+    outer: IsdAs,
+) -> Result<(), AllocError>
+    ensures more { OnOk result (AreIn usable_pieces.old.items usable_pieces.new.items) }
+    ensures own { OnOk result ((set : Selection)
+        → All (Contains (segments_of set (kind_in Intra along))) segments.entry.now
+        → All (IsOf set) usable_pieces.old.items → All (IsOf set) usable_pieces.new.items) }
+    ensures all { OnOk result ((piece : PieceValue)
+        → IsCut segments.entry.now along outer piece → Contains usable_pieces.new.items piece) }
+{
+    for segment in segments {
+        add_cuts_of(usable_pieces, segment, along, outer)?;
+    }
+    Ok(())
+}
+
+/// Adds the pieces of a segment in a direction that have an AS at their outer end, where it is an
+/// intra segment.
+fn add_cuts_of<'s>(
+    usable_pieces: &mut Vec<UsablePiece<'s>>,
+    segment: &'s Segment,
+    along: bool,
+    outer: IsdAs,
+) -> Result<(), AllocError>
+    ensures more { OnOk result (AreIn usable_pieces.old.items usable_pieces.new.items) }
+    ensures own { OnOk result ((set : Selection)
+        → Contains (segments_of set (kind_in Intra along)) segment.entry.now
+        → All (IsOf set) usable_pieces.old.items → All (IsOf set) usable_pieces.new.items) }
+    ensures all { OnOk result (segment.entry.now.kind ≡ Intra → (from to : ℕ) → from < to
+        → to < length segment.entry.now.entries
+        → outer_of (piece_of segment.entry.now from to along) ≡ outer
+        → Contains usable_pieces.new.items (piece_of segment.entry.now from to along)) }
+{
+    match segment.kind() {
+        SegKind::Core => {}
+        SegKind::Intra => add_pieces_of(usable_pieces, segment, along, outer)?,
+    }
+    Ok(())
+}
+
+/// Adds the pieces of a segment in a direction that have an AS at their outer end.
+fn add_pieces_of<'s>(
+    usable_pieces: &mut Vec<UsablePiece<'s>>,
+    segment: &'s Segment,
+    along: bool,
+    outer: IsdAs,
+) -> Result<(), AllocError>
+    ensures more { OnOk result (AreIn usable_pieces.old.items usable_pieces.new.items) }
+    ensures own { OnOk result ((set : Selection)
+        → Contains (segments_of set (kind_in segment.entry.now.kind along)) segment.entry.now
+        → All (IsOf set) usable_pieces.old.items → All (IsOf set) usable_pieces.new.items) }
+    ensures all { OnOk result ((from to : ℕ) → from < to → to < length segment.entry.now.entries
+        → outer_of (piece_of segment.entry.now from to along) ≡ outer
+        → Contains usable_pieces.new.items (piece_of segment.entry.now from to along)) }
+{
+    for to in 0..segment.entries().len() {
+        add_cuts_to(usable_pieces, segment, to, along, outer)?;
+    }
+    Ok(())
+}
+
+/// Adds those of them up to a place.
+fn add_cuts_to<'s>(
+    usable_pieces: &mut Vec<UsablePiece<'s>>,
+    segment: &'s Segment,
+    to: usize,
+    along: bool,
+    outer: IsdAs,
+) -> Result<(), AllocError>
+    requires { to < length segment.now.entries }
+    ensures more { OnOk result (AreIn usable_pieces.old.items usable_pieces.new.items) }
+    ensures own { OnOk result ((set : Selection)
+        → Contains (segments_of set (kind_in segment.entry.now.kind along)) segment.entry.now
+        → All (IsOf set) usable_pieces.old.items → All (IsOf set) usable_pieces.new.items) }
+    ensures all { OnOk result ((from : ℕ) → from < to
+        → outer_of (piece_of segment.entry.now from to along) ≡ outer
+        → Contains usable_pieces.new.items (piece_of segment.entry.now from to along)) }
+{
+    for from in 0..to {
+        add_cut(
+            usable_pieces,
+            UsablePiece::new(segment, from, to, along),
+            outer,
+        )?;
+    }
+    Ok(())
+}
+
+/// Adds a piece, where it has this AS at its outer end.
+fn add_cut<'s>(
+    usable_pieces: &mut Vec<UsablePiece<'s>>,
+    usable_piece: UsablePiece<'s>,
+    outer: IsdAs,
+) -> Result<(), AllocError>
+    ensures more { OnOk result (AreIn usable_pieces.old.items usable_pieces.new.items) }
+    ensures own { OnOk result ((set : Selection) → IsOf set usable_piece.entry
+        → All (IsOf set) usable_pieces.old.items → All (IsOf set) usable_pieces.new.items) }
+    ensures there { OnOk result (outer_of usable_piece.entry ≡ outer
+        → Contains usable_pieces.new.items usable_piece.entry) }
+{
+    if usable_piece.outer() == outer {
+        usable_pieces.push(usable_piece)?;
+    }
+    Ok(())
+}
+
+/// Adds these core segments, whole and in both directions.
+fn add_cores<'s>(
+    usable_pieces: &mut Vec<UsablePiece<'s>>,
+    segments: &'s [Segment],
+) -> Result<(), AllocError>
+    ensures more { OnOk result (AreIn usable_pieces.old.items usable_pieces.new.items) }
+    ensures own { OnOk result ((set : Selection)
+        → All (Contains set.cores) segments.entry.now
+        → All (IsOf set) usable_pieces.old.items → All (IsOf set) usable_pieces.new.items) }
+    ensures all { OnOk result ((piece : PieceValue) → IsWhole segments.entry.now piece
+        → Contains usable_pieces.new.items piece) }
+{
+    for segment in segments {
+        add_core(usable_pieces, segment)?;
+    }
+    Ok(())
+}
+
+/// Adds a segment, whole and in both directions, where it is a core segment.
+fn add_core<'s>(
+    usable_pieces: &mut Vec<UsablePiece<'s>>,
+    segment: &'s Segment,
+) -> Result<(), AllocError>
+    ensures more { OnOk result (AreIn usable_pieces.old.items usable_pieces.new.items) }
+    ensures own { OnOk result ((set : Selection) → Contains set.cores segment.entry.now
+        → All (IsOf set) usable_pieces.old.items → All (IsOf set) usable_pieces.new.items) }
+    ensures all { OnOk result (segment.entry.now.kind ≡ Core → (to : ℕ) (along : Bool)
+        → to + 1 ≡ length segment.entry.now.entries
+        → Contains usable_pieces.new.items (piece_of segment.entry.now 0 to along)) }
+{
+    match segment.kind() {
+        SegKind::Intra => {}
+        SegKind::Core => {
+            add_whole(usable_pieces, segment, true)?;
+            add_whole(usable_pieces, segment, false)?;
+        }
+    }
+    Ok(())
+}
+
+/// Adds a segment, whole and in a direction.
+fn add_whole<'s>(
+    usable_pieces: &mut Vec<UsablePiece<'s>>,
+    segment: &'s Segment,
+    along: bool,
+) -> Result<(), AllocError>
+    ensures more { OnOk result (AreIn usable_pieces.old.items usable_pieces.new.items) }
+    ensures own { OnOk result ((set : Selection)
+        → Contains (segments_of set (kind_in segment.entry.now.kind along)) segment.entry.now
+        → All (IsOf set) usable_pieces.old.items → All (IsOf set) usable_pieces.new.items) }
+    ensures all { OnOk result ((to : ℕ) → to + 1 ≡ length segment.entry.now.entries
+        → Contains usable_pieces.new.items (piece_of segment.entry.now 0 to along)) }
+{
+    let last = segment.entries().len() - 1;
+    usable_pieces.push(UsablePiece::new(segment, 0, last, along))?;
+    Ok(())
+}

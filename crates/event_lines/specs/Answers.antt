@@ -1,0 +1,87 @@
+-- What lines are answered: the first begins a network, and the later ones are a run of it.
+use Rattle.std.specs.Prelude.{◌≡◌, ℕ, codes, List, [], ◌∷◌, ◌++◌, Option, Some, None, Result, Ok, Err, slice_get}
+use Rattle.std.specs.List.{flat_map}
+use Rattle.scion_topology.specs.declared.fault.TopologyFault.{TopologyFault}
+use Rattle.scion_topology.specs.Fault as topology
+use Rattle.scion_topology.specs.Network.{Network}
+use Rattle.scion_topology.specs.Topology.{network_in}
+use Rattle.network_core.specs.declared.reply.Reply.{Reply}
+use Rattle.network_core.specs.Event.{EventValue}
+use Rattle.network_core.specs.Value.{NetValue, new_net}
+use Rattle.network_core.specs.History.{EventRecord, net_after}
+use Rattle.network_core.specs.Ran.{Ran}
+use Rattle.event_lines.specs.declared.accepted.AcceptedLines.{AcceptedLines}
+use Rattle.event_lines.specs.AcceptedLines.{accepted_as}
+use Rattle.event_lines.specs.Line.{LineValue, Happens, Shows, line_in}
+use Rattle.event_lines.specs.Text.{bad_line, coded, packet_text, reply_text}
+
+-- ---- lines after the first
+
+-- the event that is asked for, if one is
+abbrev pub event_of : Option LineValue → List EventValue
+event_of (Some (Happens event)) = event ∷ []
+event_of (Some (Shows packet)) = []
+event_of None = []
+
+-- the events of these lines, of those that are accepted, in their order
+abbrev pub events_of : AcceptedLines → List (List ℕ) → List EventValue
+events_of accepted lines = flat_map (λ line. event_of (accepted_as accepted (line_in line))) lines
+
+-- what a line is answered in a network, and what happens: an event, which is answered by its reply;
+-- or nothing, where a packet is shown, and where the line asks for nothing
+abbrev pub IsAnswered : NetValue → Option LineValue → List ℕ → List EventRecord → Type 0
+IsAnswered net (Some (Happens event)) text happened = (reply : Reply) × (new : NetValue)
+    × ((happened ≡ record { event = event; reply = reply; net = new } ∷ [])
+    × (text ≡ reply_text new reply))
+IsAnswered net (Some (Shows packet)) text happened =
+    (happened ≡ []) × (text ≡ packet_text (slice_get net.packets packet))
+IsAnswered net None text happened = (happened ≡ []) × (text ≡ bad_line)
+
+-- what these lines are answered in a network, one after the other, and what happens
+abbrev pub AreAnswered : AcceptedLines → NetValue → List (List ℕ) → List (List ℕ) → List EventRecord → Type 0
+AreAnswered accepted net [] texts history = (texts ≡ []) × (history ≡ [])
+AreAnswered accepted net (line ∷ lines) [] history = ⊥
+AreAnswered accepted net (line ∷ lines) (text ∷ texts) history =
+    (happened later : List EventRecord) × ((history ≡ happened ++ later)
+    × (IsAnswered net (accepted_as accepted (line_in line)) text happened
+    × AreAnswered accepted (net_after net happened) lines texts later))
+
+-- the lines are a run of their events over this topology, which leads to this network, and are
+-- answered by its history
+pub record AreRun (accepted : AcceptedLines) (network : Network) (lines texts : List (List ℕ))
+    (net : NetValue) : Type 0 where
+  pub ran : Ran network (events_of accepted lines) net
+  pub answered : AreAnswered accepted (new_net network) lines texts ran.history
+
+-- ---- the first line
+
+-- what it is answered, where it is a topology and where it is none
+abbrev pub begun_text : List ℕ
+begun_text = codes "topology ok"
+
+abbrev pub refused_text : TopologyFault → List ℕ
+refused_text fault = codes "topology no " ++ coded (topology.code_of fault) (topology.name_of fault)
+
+-- ---- all lines
+
+-- where a run stands: before its first line, in a network, or at its end, since its topology is
+-- refused
+pub data Stage : Type 0 where
+  Unbegun : Stage
+  Open : NetValue → Stage
+  Closed : Stage
+
+-- a topology begins a run of the later lines, and its refusal ends the run
+abbrev pub Begins : AcceptedLines → Result Network TopologyFault → List ℕ → List (List ℕ)
+    → List (List ℕ) → Stage → Type 0
+Begins accepted (Ok network) text lines texts stage = (net : NetValue)
+    × ((text ≡ begun_text) × ((stage ≡ Open net) × AreRun accepted network lines texts net))
+Begins accepted (Err fault) text lines texts stage =
+    (text ≡ refused_text fault) × ((stage ≡ Closed) × ((lines ≡ []) × (texts ≡ [])))
+
+-- what these lines are answered, from the first of an input on, and where the run then stands
+abbrev pub RepliesToInput : AcceptedLines → List (List ℕ) → List (List ℕ) → Stage → Type 0
+RepliesToInput accepted [] texts stage = (texts ≡ []) × (stage ≡ Unbegun)
+RepliesToInput accepted (first ∷ lines) [] stage = ⊥
+RepliesToInput accepted (first ∷ lines) (text ∷ texts) stage =
+    Begins accepted (network_in first) text lines texts stage

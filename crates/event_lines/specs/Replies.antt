@@ -1,0 +1,43 @@
+-- What lines are answered one by one (words of no public clause).
+use Rattle.std.specs.Prelude.{◌≡◌, ℕ, List, [], ◌∷◌, Option, Some, None, Result, Ok, Err, slice_get}
+use Rattle.scion_topology.specs.declared.fault.TopologyFault.{TopologyFault}
+use Rattle.scion_topology.specs.Network.{Network}
+use Rattle.scion_topology.specs.Topology.{IsNetwork, network_in}
+use Rattle.network_core.specs.declared.reply.Reply.{Reply}
+use Rattle.network_core.specs.Value.{NetValue, new_net}
+use Rattle.network_core.specs.Step.{Step}
+use Rattle.network_core.specs.Delivery.{IsFramed}
+use Rattle.event_lines.specs.declared.accepted.AcceptedLines.{AcceptedLines}
+use Rattle.event_lines.specs.AcceptedLines.{accepted_as}
+use Rattle.event_lines.specs.Line.{LineValue, Happens, Shows, line_in}
+use Rattle.event_lines.specs.Answers.{Stage, Unbegun, Open, Closed, begun_text, refused_text}
+use Rattle.event_lines.specs.Text.{bad_line, packet_text, reply_text}
+
+-- what a line is answered, and the network after it: an event happens, a packet is shown, or the
+-- line asks for nothing
+abbrev pub Replies : NetValue → Option LineValue → List ℕ → NetValue → Type 0
+Replies old (Some (Happens event)) text new = (reply : Reply)
+    × (Step old event reply new × (IsFramed event reply new × (text ≡ reply_text new reply)))
+Replies old (Some (Shows packet)) text new =
+    (text ≡ packet_text (slice_get old.packets packet)) × (new ≡ old)
+Replies old None text new = (text ≡ bad_line) × (new ≡ old)
+
+-- a topology begins a network at moment 0, and its refusal ends the run
+abbrev pub Opens : Result Network TopologyFault → List ℕ → Stage → Type 0
+Opens (Ok network) text stage =
+    (text ≡ begun_text) × (IsNetwork network × (stage ≡ Open (new_net network)))
+Opens (Err fault) text stage = (text ≡ refused_text fault) × (stage ≡ Closed)
+
+-- what a line is answered by a run that accepts these lines, and where the run then stands
+abbrev pub RepliesTo : AcceptedLines → Stage → List ℕ → List ℕ → Stage → Type 0
+RepliesTo accepted Unbegun line text stage = Opens (network_in line) text stage
+RepliesTo accepted (Open old) line text stage = (new : NetValue)
+    × (Replies old (accepted_as accepted (line_in line)) text new × (stage ≡ Open new))
+RepliesTo accepted Closed line text stage = ⊥
+
+-- what these lines are answered, one after the other, and where the run then stands
+abbrev pub RepliesToAll : AcceptedLines → Stage → List (List ℕ) → List (List ℕ) → Stage → Type 0
+RepliesToAll accepted start [] texts stage = (texts ≡ []) × (stage ≡ start)
+RepliesToAll accepted start (line ∷ lines) [] stage = ⊥
+RepliesToAll accepted start (line ∷ lines) (text ∷ texts) stage = (next : Stage)
+    × (RepliesTo accepted start line text next × RepliesToAll accepted next lines texts stage)

@@ -1,0 +1,153 @@
+-- What private calls of a run answer (words of no public clause).
+use Rattle.std.specs.Prelude.{◌≡◌, ◌⊎◌, ℕ, ◌≤◌, false, List, [], ◌∷◌, ◌++◌, length, take, Option, Some, None, Result, Ok, Err}
+use Rattle.std.specs.Io.KnownBytes.{Appends, Consumes, IsAtEnd, Keeps}
+use Rattle.network_core.specs.Value.{NetValue}
+use Rattle.std.specs.String.{string_bytes}
+use Rattle.event_lines.specs.declared.session.Session.{Session}
+use Rattle.event_lines.specs.declared.fault.RunFault.{RunFault}
+use Rattle.event_lines.specs.declared.fault.RunFault.TheVariants as faults
+use Rattle.event_lines.specs.declared.accepted.AcceptedLines.{AcceptedLines}
+use Rattle.event_lines.specs.Replies.{RepliesTo, RepliesToAll}
+use Rattle.event_lines.specs.Answers.{Stage, Unbegun, Open, Closed}
+use Rattle.event_lines.specs.Run.{AreLines, ended, has_end, line_end}
+
+-- where a run stands whose network is this one, if it has begun
+abbrev pub stage_of : Option NetValue → Stage
+stage_of None = Unbegun
+stage_of (Some net) = Open net
+
+-- the bytes are a line with its end, and what stands behind it
+pub record IsCut (bytes line rest : List ℕ) : Type 0 where
+  pub whole : bytes ≡ line ++ line_end ∷ rest
+  pub one : has_end line ≡ false
+
+-- one line was answered, and the run stands where the value says; the topology was refused; or
+-- memory ran out
+abbrev pub RepliesOrFails : {A : Type 0} → AcceptedLines → (A → Stage) → Result A RunFault → Stage → List ℕ
+    → List ℕ → List ℕ → Type 0
+RepliesOrFails accepted stage (Ok x) old line before after = (text : List ℕ)
+    × (RepliesTo accepted old line text (stage x) × (after ≡ before ++ (text ++ line_end ∷ [])))
+RepliesOrFails accepted stage (Err faults.Topology) old line before after = (text : List ℕ)
+    × (RepliesTo accepted old line text Closed × (after ≡ before ++ (text ++ line_end ∷ [])))
+RepliesOrFails accepted stage (Err faults.Memory) old line before after = after ≡ before
+RepliesOrFails accepted stage (Err fault) old line before after = ⊥
+
+-- a run's network, what it has of a line without its end, and what it has still to write
+pub record SessionValue : Type 0 where
+  pub stage : Stage
+  pub rest : List ℕ
+  pub replies : List ℕ
+
+-- what a run so far shows
+abbrev pub value_of : Session → SessionValue
+value_of session = record {
+  stage = stage_of session.net;
+  rest = session.rest.items;
+  replies = string_bytes session.replies;
+}
+
+-- these lines were answered behind what there was, and this is still to be written
+pub record AnswersLines (accepted : AcceptedLines) (lines : List (List ℕ)) (old : SessionValue) (stage : Stage)
+    (replies : List ℕ) : Type 0 where
+  pub texts : List (List ℕ)
+  pub told : RepliesToAll accepted old.stage lines texts stage
+  pub kept : replies ≡ old.replies ++ ended texts
+
+-- the bytes were read: all of their lines; those up to the topology that was refused; or those
+-- up to where memory ran out
+abbrev pub AnswersBytes : AcceptedLines → Result (Unit {0}) RunFault → List ℕ → SessionValue → SessionValue
+    → Type 0
+AnswersBytes accepted (Ok done) bytes old new = (lines : List (List ℕ))
+    × (AreLines (old.rest ++ bytes) lines new.rest × AnswersLines accepted lines old new.stage new.replies)
+AnswersBytes accepted (Err faults.Topology) bytes old new =
+    (lines later : List (List ℕ)) × (rest : List ℕ)
+    × (AreLines (old.rest ++ bytes) (lines ++ later) rest
+    × AnswersLines accepted lines old Closed new.replies)
+AnswersBytes accepted (Err faults.Memory) bytes old new =
+    (lines later : List (List ℕ)) × (rest : List ℕ)
+    × ((stage : Stage)
+    × (AreLines (old.rest ++ bytes) (lines ++ later) rest
+    × AnswersLines accepted lines old stage new.replies))
+AnswersBytes accepted (Err fault) bytes old new = ⊥
+
+-- what stands behind the last end as a line: none where it is empty and a run has begun
+abbrev pub last_after : Stage → List ℕ → List (List ℕ)
+last_after Unbegun rest = rest ∷ []
+last_after stage [] = []
+last_after stage (b ∷ rest) = (b ∷ rest) ∷ []
+
+-- the same of a run so far
+abbrev pub last_lines : SessionValue → List (List ℕ)
+last_lines session = last_after session.stage session.rest
+
+-- a run has begun, and nothing is left
+pub record IsDone (session : SessionValue) (net : NetValue) : Type 0 where
+  pub begun : session.stage ≡ Open net
+  pub none : last_lines session ≡ []
+
+-- ---- streams
+
+-- a source gave these bytes, none at its end alone; or its read failed
+abbrev pub Brings : Option (List ℕ) → Option (List ℕ) → Option (List ℕ) → ℕ → Type 0
+Brings None before after most = Keeps before after
+Brings (Some bytes) before after most =
+    Consumes before after bytes × ((bytes ≡ [] → IsAtEnd after) × (length bytes ≤ most))
+
+-- what was still to be written was written, or a beginning of it
+abbrev pub Writes : Result (Unit {0}) RunFault → SessionValue → SessionValue → Option (List ℕ)
+    → Option (List ℕ) → Type 0
+Writes (Ok done) old new held holds =
+    Appends held holds old.replies × (new ≡ record old { replies = [] })
+Writes (Err faults.Write) old new held holds = (n : ℕ) × Appends held holds (take n old.replies)
+Writes (Err fault) old new held holds = ⊥
+
+-- these lines were answered behind what there was, and the replies were written
+pub record Passes (accepted : AcceptedLines) (lines : List (List ℕ)) (old : SessionValue) (stage : Stage)
+    (held holds : Option (List ℕ)) : Type 0 where
+  pub texts : List (List ℕ)
+  pub told : RepliesToAll accepted old.stage lines texts stage
+  pub kept : Appends held holds (ended texts)
+
+-- these lines were answered behind what there was, and a beginning of the replies was written
+pub record PassesSome (accepted : AcceptedLines) (lines : List (List ℕ)) (old : SessionValue)
+    (held holds : Option (List ℕ)) : Type 0 where
+  pub texts : List (List ℕ)
+  pub stage : Stage
+  pub told : RepliesToAll accepted old.stage lines texts stage
+  pub most : ℕ
+  pub kept : Appends held holds (take most (ended texts))
+
+-- the bytes were read and the replies written: all; those up to the topology that was refused, or
+-- to where memory ran out; or a beginning of them
+abbrev pub Exchanges : AcceptedLines → Result (Unit {0}) RunFault → List ℕ → SessionValue → SessionValue
+    → Option (List ℕ) → Option (List ℕ) → Type 0
+Exchanges accepted (Ok done) bytes old new held holds = (lines : List (List ℕ))
+    × (AreLines (old.rest ++ bytes) lines new.rest
+    × (Passes accepted lines old new.stage held holds × (new.replies ≡ [])))
+Exchanges accepted (Err faults.Topology) bytes old new held holds =
+    (lines later : List (List ℕ)) × (rest : List ℕ)
+    × (AreLines (old.rest ++ bytes) (lines ++ later) rest
+    × Passes accepted lines old Closed held holds)
+Exchanges accepted (Err faults.Memory) bytes old new held holds =
+    (lines later : List (List ℕ)) × (rest : List ℕ)
+    × ((stage : Stage)
+    × (AreLines (old.rest ++ bytes) (lines ++ later) rest
+    × Passes accepted lines old stage held holds))
+Exchanges accepted (Err faults.Write) bytes old new held holds =
+    (lines later : List (List ℕ)) × (rest : List ℕ)
+    × (AreLines (old.rest ++ bytes) (lines ++ later) rest
+    × PassesSome accepted lines old held holds)
+Exchanges accepted (Err fault) bytes old new held holds = ⊥
+
+-- what is left at the end of the input was answered, if it is a line, and the reply written; the
+-- run then stands in this network
+abbrev pub Finishes : AcceptedLines → Result (Unit {0}) RunFault → SessionValue → Stage → Option (List ℕ)
+    → Option (List ℕ) → Type 0
+Finishes accepted (Ok done) old stage held holds = (net : NetValue)
+    × ((stage ≡ Open net) × Passes accepted (last_lines old) old (Open net) held holds)
+Finishes accepted (Err faults.Topology) old stage held holds =
+    Passes accepted (last_lines old) old Closed held holds
+Finishes accepted (Err faults.Memory) old stage held holds = Keeps held holds
+Finishes accepted (Err faults.Write) old stage held holds =
+    PassesSome accepted (last_lines old) old held holds ⊎ Keeps held holds
+Finishes accepted (Err fault) old stage held holds = ⊥

@@ -1,0 +1,44 @@
+//! Which lines are accepted.
+
+ghost use Rattle.std.specs.Prelude.{◌≡◌};
+ghost use Rattle.network_core.specs.Seen as events;
+ghost use Rattle.event_lines.specs.AcceptedLines.{accepts, prepares};
+ghost use Rattle.event_lines.specs.Seen.{line_value};
+
+use crate::line::Line;
+use network_core::Event;
+
+/// Which lines after the first a run accepts; any other is a bad line.
+#[derive(Clone, Copy, Debug, PartialEq, Eq)]
+pub enum AcceptedLines {
+    /// All lines.
+    All,
+    /// Those alone that prepare a network: none that turns, loses, alters, answers or shows a
+    /// packet.
+    Preparing,
+}
+
+/// Whether an event prepares a network: it neither turns, loses, alters nor answers a packet.
+fn prepares(event: &Event<'_>) -> bool
+    ensures { result ≡ prepares (events.event_value event.now) }
+{
+    !matches!(
+        event,
+        Event::Turn { .. } | Event::Lose { .. } | Event::Alter { .. } | Event::Back { .. }
+    )
+}
+
+impl AcceptedLines {
+    /// Whether it accepts this line.
+    pub(crate) fn accepts(self, line: &Line<'_>) -> bool
+        ensures { result ≡ accepts self (line_value line.now) }
+    {
+        match self {
+            AcceptedLines::All => true,
+            AcceptedLines::Preparing => match line {
+                Line::Happens(event) => prepares(event),
+                Line::Show { .. } => false,
+            },
+        }
+    }
+}

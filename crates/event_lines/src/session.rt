@@ -1,0 +1,187 @@
+//! A session: a network whose events are lines.
+
+ghost use Rattle.std.specs.Prelude.{◌≡◌, ◌++◌, ◌∷◌, [], true, false, if◌then◌else◌, is_ok, Ok, Err};
+ghost use Rattle.std.specs.String.{string_bytes};
+ghost use Rattle.network_core.specs.Value.{NetValue};
+ghost use Rattle.event_lines.specs.Run.{has_end, line_end};
+ghost use Rattle.event_lines.specs.Answers.{Open, Unbegun};
+ghost use Rattle.event_lines.specs.Session.{AnswersBytes, IsDone, RepliesOrFails, last_lines, stage_of, value_of};
+
+use crate::accepted::AcceptedLines;
+use crate::cutting::cut_line;
+use crate::fault::RunFault;
+use crate::happening::answer_line;
+use network_core::Net;
+use refusal::OrMemory;
+use scion_topology::{Topology, TopologyFault};
+use std::alloc::{AllocError, Global};
+
+/// A run so far: its network, once the topology was read; the beginning of a line whose end has not
+/// come; and the replies that are still to be written.
+#[derive(Drop)]
+pub(crate) struct Session {
+    pub(crate) net: Option<Net>,
+    pub(crate) rest: Vec<u8>,
+    pub(crate) replies: String,
+}
+
+/// Adds a reply and its end. If memory runs out, the replies are as they were.
+fn push_reply(replies: &mut String, reply: String) -> Result<(), AllocError>
+    ensures { string_bytes replies.new ≡ (if is_ok result
+        then string_bytes replies.old ++ (string_bytes reply ++ line_end ∷ [])
+        else string_bytes replies.old) }
+{
+    let mut line = reply;
+    line.push_str("\n")?;
+    replies.push_str(&line)
+}
+
+/// Tells a network a line, and adds the reply.
+fn tell(
+    alloc: Global,
+    accepted: AcceptedLines,
+    net: &mut Net,
+    line: &[u8],
+    replies: &mut String,
+) -> Result<(), RunFault>
+    ensures { RepliesOrFails accepted (λ _. Open net.new) result (Open net.old) line.now
+        (string_bytes replies.old) (string_bytes replies.new) }
+{
+    let text = answer_line(alloc, accepted, net, line)?;
+    push_reply(replies, text)?;
+    Ok(())
+}
+
+/// The network of the first line, and adds the reply. [`RunFault::Topology`] if the line is no
+/// topology.
+fn begin(alloc: Global, line: &[u8], replies: &mut String) -> Result<Net, RunFault>
+    ensures { (accepted : AcceptedLines) → RepliesOrFails accepted (λ net. Open net) result Unbegun line.now
+        (string_bytes replies.old) (string_bytes replies.new) }
+{
+    match Topology::from_json(alloc, line) {
+        Ok(topology) => {
+            topology.known();
+            let text = String::from_str(alloc, "topology ok")?;
+            push_reply(replies, text)?;
+            Ok(Net::new(alloc, topology))
+        }
+        Err(OrMemory::Refused(fault)) => {
+            let text = format!(in alloc; "topology no {} {}", fault.code(), fault.name())?;
+            push_reply(replies, text)?;
+            Err(RunFault::Topology)
+        }
+        Err(OrMemory::Memory) => Err(RunFault::Memory),
+    }
+}
+
+/// Answers a line: the first begins the network, and each later one is an event or a question.
+fn answer(
+    alloc: Global,
+    accepted: AcceptedLines,
+    net: &mut Option<Net>,
+    line: &[u8],
+    replies: &mut String,
+) -> Result<(), RunFault>
+    ensures { RepliesOrFails accepted (λ _. stage_of net.new) result (stage_of net.old) line.now
+        (string_bytes replies.old) (string_bytes replies.new) }
+{
+    match net {
+        Some(net) => tell(alloc, accepted, net, line, replies),
+        None => {
+            *net = Some(begin(alloc, line, replies)?);
+            Ok(())
+        }
+    }
+}
+
+impl Session {
+    /// A run that has not begun.
+    pub(crate) fn new(alloc: Global) -> Session
+        ensures { value_of result ≡ record { stage = Unbegun; rest = []; replies = [] } }
+    {
+        Session {
+            net: None,
+            rest: Vec::new(alloc),
+            replies: String::new(alloc),
+        }
+    }
+
+    /// Whether a run has begun and nothing stands behind the last end.
+    pub(crate) fn is_done(&self) -> bool
+        ensures done { result ≡ true → (net : NetValue) × IsDone (value_of self.now) net }
+        ensures more { result ≡ false → last_lines (value_of self.now) ≡ self.now.rest.items ∷ [] }
+    {
+        match &self.net {
+            Some(_) => self.rest.is_empty(),
+            None => false,
+        }
+    }
+
+    /// The network in which the run stands.
+    pub(crate) fn into_net(self) -> Net
+        requires begun { (net : NetValue) × (stage_of self.net ≡ Open net) }
+        ensures { stage_of self.net ≡ Open result }
+    {
+        let Session { net, .. } = self;
+        match net {
+            Some(net) => net,
+            None => unreachable!(),
+        }
+    }
+
+    /// Answers the line that has come, whose end is not among its bytes.
+    pub(crate) fn answer(&mut self, alloc: Global, accepted: AcceptedLines) -> Result<(), RunFault>
+        ensures told { RepliesOrFails accepted (λ _. stage_of self.new.net) result (stage_of self.old.net)
+            self.old.rest.items (string_bytes self.old.replies) (string_bytes self.new.replies) }
+        ensures rest { self.new.rest ≡ self.old.rest }
+    {
+        answer(
+            alloc,
+            accepted,
+            &mut self.net,
+            &self.rest,
+            &mut self.replies,
+        )
+    }
+
+    /// Answers the line of which these bytes are the end. It is read where it lies if all of it is
+    /// among them.
+    fn end_line(
+        &mut self,
+        alloc: Global,
+        accepted: AcceptedLines,
+        end: &[u8],
+    ) -> Result<(), RunFault>
+        ensures told { RepliesOrFails accepted (λ _. stage_of self.new.net) result (stage_of self.old.net)
+            (self.old.rest.items ++ end.now) (string_bytes self.old.replies)
+            (string_bytes self.new.replies) }
+        ensures rest { result ≡ Ok tt → self.new.rest.items ≡ [] }
+    {
+        if self.rest.is_empty() {
+            return answer(alloc, accepted, &mut self.net, end, &mut self.replies);
+        }
+        self.rest.extend_from_slice(end)?;
+        self.answer(alloc, accepted)?;
+        self.rest.clear();
+        Ok(())
+    }
+
+    /// Answers each line that ends among these bytes, and keeps what stands behind the last.
+    pub(crate) fn answer_bytes(
+        &mut self,
+        alloc: Global,
+        accepted: AcceptedLines,
+        bytes: &[u8],
+    ) -> Result<(), RunFault>
+        requires { has_end self.old.rest.items ≡ false }
+        ensures { AnswersBytes accepted result bytes.now (value_of self.old) (value_of self.new) }
+    {
+        let mut left = bytes;
+        while let Some((line, behind)) = cut_line(left) {
+            self.end_line(alloc, accepted, line)?;
+            left = behind;
+        }
+        self.rest.extend_from_slice(left)?;
+        Ok(())
+    }
+}

@@ -1,0 +1,86 @@
+-- A packet that stands on its path at a router of the network, and what a turn makes of it.
+use Rattle.std.specs.Prelude.{◌≡◌, ℕ, ◌+◌, ◌<◌, List, [], ◌++◌, length, Some, Ok, slice_get}
+use Rattle.scion_topology.specs.Network.{Network}
+use Rattle.scion_topology.specs.Topology.{owner_in}
+use Rattle.path_segment.specs.declared.entry.Entry.{Entry}
+use Rattle.path_header.specs.Value.{HeaderValue}
+use Rattle.policy_expr.specs.declared.hop.WalkHop.{WalkHop}
+use Rattle.path_verifier.specs.Piece.{PieceValue, travelled}
+use Rattle.path_verifier.specs.Header.{len_of}
+use Rattle.path_verifier.specs.Walk.{walk_of}
+use Rattle.router_step.specs.declared.arrival.Arrival.{Arrival}
+use Rattle.router_step.specs.declared.arrival.Arrival.TheVariants.{FromHost, Inside, Link}
+use Rattle.forwarding.specs.declared.location.PacketLocation.TheVariants.{AtRouter, Delivered}
+use Rattle.forwarding.specs.Frame.{framed, HasFrame}
+use Rattle.forwarding.specs.Turn.{Packet, turned}
+use Rattle.forwarding.specs.PathPosition.{PathPosition, pieces_at, header_there, header_coming, in_by, out_by}
+use Rattle.forwarding.specs.Journey.{to_come, turns_left}
+use Rattle.forwarding.specs.Turned.{header_behind}
+
+-- the header with which a packet comes to a spot
+abbrev pub header_on : Arrival → PathPosition → HeaderValue
+header_on FromHost spot = header_there spot
+header_on Inside spot = header_there spot
+header_on (Link interface) spot = header_coming spot
+
+-- the packet at a router of the AS of that entry
+abbrev pub at_spot : ℕ → ℕ → List ℕ → PathPosition → Entry → Arrival → ℕ → ℕ → List WalkHop → Packet
+at_spot source destination payload spot entry arrival router came passed = record {
+  bytes = framed source destination (header_on arrival spot) payload;
+  place = AtRouter (record { ia = entry.ia; router = router; arrival = arrival; came = came });
+  passed = passed;
+}
+
+-- at which router a packet stands that came so to a spot: from a host at the path's beginning, at
+-- the owner of its way out; from inside at the owner of its way out; over a link at the owner of
+-- its way in
+abbrev pub IsPlaced : Network → PathPosition → Entry → Arrival → ℕ → ℕ → List WalkHop → Type 0
+IsPlaced n spot entry FromHost router came passed =
+    (spot.past ≡ []) × ((spot.reached ≡ 0) × ((passed ≡ [])
+    × (owner_in n entry.ia (out_by spot.piece entry) ≡ Ok router)))
+IsPlaced n spot entry Inside router came passed =
+    (spot.reached + 1 < len_of spot.piece)
+    × (owner_in n entry.ia (out_by spot.piece entry) ≡ Ok router)
+IsPlaced n spot entry (Link interface) router came passed =
+    (0 < spot.reached) × ((0 < length passed) × ((interface ≡ in_by spot.piece entry)
+    × ((came ≡ interface) × (owner_in n entry.ia interface ≡ Ok router))))
+
+-- the packet stands on its path, `left` turns from its end: the hops that it has passed and those
+-- that lie before it are the walk
+pub record OnPath (n : Network) (source destination : ℕ) (payload : List ℕ)
+    (pieces : List PieceValue) (left : ℕ) (packet : Packet) : Type 0 where
+  pub spot : PathPosition
+  pub entry : Entry
+  pub arrival : Arrival
+  pub router : ℕ
+  pub came : ℕ
+  pub passed : List WalkHop
+  pub is : packet ≡ at_spot source destination payload spot entry arrival router came passed
+  pub frame : HasFrame source destination pieces
+  pub whole : pieces_at spot ≡ pieces
+  pub there : slice_get (travelled spot.piece) spot.reached ≡ Some entry
+  pub placed : IsPlaced n spot entry arrival router came passed
+  pub walk : passed ++ to_come came spot ≡ walk_of pieces
+  pub count : left ≡ turns_left n arrival (to_come came spot)
+
+-- a turn leads to the next place on the path, one turn nearer to its end
+pub record ComesNearer (n : Network) (now source destination : ℕ) (payload : List ℕ)
+    (pieces : List PieceValue) (left : ℕ) (packet : Packet) : Type 0 where
+  pub less : ℕ
+  pub one : left ≡ 1 + less
+  pub stands : OnPath n source destination payload pieces less (turned n now packet)
+
+-- the packet was delivered, with the header behind all pieces, the payload as it was sent, and the
+-- whole walk passed
+abbrev pub arrived_with : ℕ → ℕ → List ℕ → List PieceValue → Packet
+arrived_with source destination payload pieces = record {
+  bytes = framed source destination (header_behind pieces) payload;
+  place = Delivered;
+  passed = walk_of pieces;
+}
+
+-- the last turn delivers it so
+pub record Arrives (n : Network) (now source destination : ℕ) (payload : List ℕ)
+    (pieces : List PieceValue) (left : ℕ) (packet : Packet) : Type 0 where
+  pub one : left ≡ 1
+  pub there : turned n now packet ≡ arrived_with source destination payload pieces

@@ -1,0 +1,77 @@
+-- Where a packet stands on its path, and the header that it has there
+-- (draft-dekater-scion-dataplane, path processing).
+use Rattle.std.specs.Prelude.{ℕ, ◌+◌, ◌-◌, if◌then◌else◌, List, ◌∷◌, ◌++◌, length, map}
+use Rattle.std.specs.List.{flat_map}
+use Rattle.path_segment.specs.declared.entry.Entry.{Entry}
+use Rattle.path_segment.specs.Chain.{beta_of}
+use Rattle.path_header.specs.declared.fields.InfoField.{InfoField}
+use Rattle.path_header.specs.Value.{HeaderValue, lens_from}
+use Rattle.path_verifier.specs.Piece.{PieceValue}
+use Rattle.path_verifier.specs.Header.{info_of, fields_of, len_of, hop_count}
+
+-- a place on a path: the pieces that were travelled, the one on which the packet stands, those to
+-- come, and which of its entries it has reached, counted from 0 in order of travel
+pub record PathPosition : Type 0 where
+  pub past : List PieceValue
+  pub piece : PieceValue
+  pub later : List PieceValue
+  pub reached : ℕ
+
+-- the whole path
+abbrev pub pieces_at : PathPosition → List PieceValue
+pieces_at spot = spot.past ++ spot.piece ∷ spot.later
+
+-- the place in its segment of the entry that is travelled at this place of a piece
+abbrev pub place_of : PieceValue → ℕ → ℕ
+place_of piece i = if piece.along then piece.from + i else piece.to - i
+
+-- the accumulator with which that entry is authenticated
+abbrev pub beta_at : PieceValue → ℕ → ℕ
+beta_at piece i = beta_of piece.segment (place_of piece i)
+
+-- the accumulator with which a packet comes to that entry over a link: in construction direction it
+-- is the entry's, against it one hop further on, from which the router goes back
+abbrev pub beta_before : PieceValue → ℕ → ℕ
+beta_before piece i =
+    beta_of piece.segment (if piece.along then place_of piece i else place_of piece i + 1)
+
+-- the info field of a piece with this accumulator
+abbrev pub info_with : PieceValue → ℕ → InfoField
+info_with piece seg_id = record {
+  construction = piece.along;
+  seg_id = seg_id;
+  timestamp = piece.segment.timestamp;
+}
+
+-- the info field of a piece that was travelled
+abbrev pub info_left : PieceValue → InfoField
+info_left piece = info_with piece (beta_at piece (len_of piece - 1))
+
+-- the header there, with this accumulator for the piece on which the packet stands
+unfoldable pub header_with : PathPosition → ℕ → HeaderValue
+header_with spot seg_id = record {
+  curr_inf = length spot.past;
+  curr_hf = hop_count spot.past + spot.reached;
+  lens = lens_from (map len_of (pieces_at spot));
+  infos = map info_left spot.past ++ info_with spot.piece seg_id ∷ map info_of spot.later;
+  hops = flat_map fields_of (pieces_at spot);
+}
+
+-- the header of a packet that stands there
+abbrev pub header_there : PathPosition → HeaderValue
+header_there spot = header_with spot (beta_at spot.piece spot.reached)
+
+-- the header of a packet that comes there over a link
+abbrev pub header_coming : PathPosition → HeaderValue
+header_coming spot = header_with spot (beta_before spot.piece spot.reached)
+
+-- the next entry of the piece
+abbrev pub advanced : PathPosition → PathPosition
+advanced spot = record spot { reached = spot.reached + 1 }
+
+-- the interfaces by which the travel along a piece comes into the AS of an entry, and leaves it
+abbrev pub in_by : PieceValue → Entry → ℕ
+in_by piece entry = if piece.along then entry.cons_ingress else entry.cons_egress
+
+abbrev pub out_by : PieceValue → Entry → ℕ
+out_by piece entry = if piece.along then entry.cons_egress else entry.cons_ingress

@@ -1,0 +1,206 @@
+ghost use Rattle.std.specs.Prelude.{◌≡◌, ◌<◌, ◌≤◌, length, IfOk, IfErr};
+ghost use Rattle.scion_topology.specs.Topology.{far_end_in};
+ghost use Rattle.forwarding.specs.Turn.{altered, hop_by, lost, put_at, over_link, put, turn_under, turn_of};
+
+use crate::location::{PacketLocation, RouterStop};
+use crate::reply::TurnReply;
+use crate::trace::HopTrace;
+use isd_as::{IfId, IsdAs};
+use policy_expr::WalkHop;
+use router_step::{Arrival, Outcome, Refusal, step};
+use scion_topology::{RouterView, Topology};
+use std::alloc::{AllocError, Global};
+use std::marker::Model;
+
+/// A packet in a network: its bytes, its place, and the first 64 hops that it has passed.
+#[derive(Debug, Drop)]
+pub struct PacketInFlight {
+    bytes: Vec<u8>,
+    place: PacketLocation,
+    passed: HopTrace,
+}
+
+impl Model for PacketInFlight {
+    ghost use Rattle.forwarding.specs.Turn.{Packet};
+
+    ghost Value = { Packet };
+
+    ghost view = { λ t. record { bytes = t.bytes.items; place = t.place; passed = t.passed } };
+}
+
+impl PacketInFlight {
+    /// A packet of these bytes that a host sends, at this router of its AS. It has room for the
+    /// hops that it will pass, and takes no memory.
+    pub fn at_router(bytes: Vec<u8>, ia: IsdAs, router: u8) -> PacketInFlight
+        ensures { result ≡ put_at bytes.items ia router }
+    {
+        PacketInFlight {
+            bytes,
+            place: PacketLocation::AtRouter(RouterStop {
+                ia,
+                router,
+                arrival: Arrival::FromHost,
+                came: IfId::NONE,
+            }),
+            passed: HopTrace::new(),
+        }
+    }
+
+    /// A copy of the packet, with bytes of its own; or memory runs out.
+    pub fn try_clone(&self, alloc: Global) -> Result<PacketInFlight, AllocError>
+        ensures { IfOk result (λ copy. copy ≡ self.now) }
+    {
+        let mut bytes = Vec::with_capacity(alloc, self.bytes.len())?;
+        bytes.extend_from_slice(&self.bytes)?;
+        Ok(PacketInFlight {
+            bytes,
+            place: self.place,
+            passed: self.passed.again(),
+        })
+    }
+
+    /// Its bytes.
+    pub fn bytes(&self) -> &[u8]
+        ensures { result.now ≡ self.now.bytes }
+    {
+        &self.bytes
+    }
+
+    /// Where it is.
+    pub fn place(&self) -> PacketLocation
+        ensures { result ≡ self.now.place }
+    {
+        self.place
+    }
+
+    /// The hops that it has passed, in order, of which the first 64 are kept.
+    pub fn passed(&self) -> &[WalkHop]
+        ensures value { result.now ≡ self.now.passed }
+        ensures few { length result.now ≤ 64 }
+    {
+        self.passed.as_slice()
+    }
+
+    /// One turn at the second `now`: the step of the router at which the packet stands, over its
+    /// own bytes; then it is at the router to which that led, delivered, or refused. A hop is noted
+    /// where the packet leaves an AS. A packet that is at no router of the network stays as it is.
+    ///
+    /// It takes no memory, and costs the router's step and three look-ups.
+    #[tactic(auto, unfolding(crate::specs::Turn::turn_of))]
+    pub fn turn(&mut self, topology: &Topology, now: u32) -> TurnReply
+        ensures reply { result ≡ (turn_of topology.now now self.old).0 }
+        ensures packet { self.new ≡ (turn_of topology.now now self.old).1 }
+    {
+        match self.place {
+            PacketLocation::AtRouter(stop) => match topology.view(stop.ia, stop.router) {
+                Ok(view) => self.turn_under(topology, &view, now),
+                Err(_) => TurnReply::Still,
+            },
+            _ => TurnReply::Still,
+        }
+    }
+
+    /// The same by the view of the router at which the packet stands, which the caller has made
+    /// already: where it is that of the packet's place, this is [`PacketInFlight::turn`].
+    #[tactic(auto, unfolding(crate::specs::Turn::turn_under))]
+    pub fn turn_under(&mut self, topology: &Topology, view: &RouterView<'_>, now: u32) -> TurnReply
+        ensures reply { result ≡ (turn_under topology.now view.now now self.old).0 }
+        ensures packet { self.new ≡ (turn_under topology.now view.now now self.old).1 }
+    {
+        match self.place {
+            PacketLocation::AtRouter(stop) => {
+                let stepped = step(view, now, stop.arrival, &mut self.bytes);
+                self.answer(topology, stop, stepped)
+            }
+            _ => TurnReply::Still,
+        }
+    }
+
+    /// Loses the packet: from now on it has no turn.
+    pub fn lose(&mut self)
+        ensures { self.new ≡ lost self.old }
+    {
+        self.place = PacketLocation::Lost;
+    }
+
+    /// Changes the byte at this place by exclusive or.
+    pub fn alter(&mut self, at: usize, change: u8)
+        requires { at < length self.old.bytes }
+        ensures { self.new ≡ altered self.old at change }
+    {
+        self.bytes[at] ^= change;
+    }
+
+    /// Places the packet as a router's step over its bytes answered, and tells what that was.
+    fn answer(
+        &mut self,
+        topology: &Topology,
+        stop: RouterStop,
+        stepped: Result<Outcome, Refusal>,
+    ) -> TurnReply
+        ensures went { IfOk stepped (λ outcome. (result ≡ TurnReply.Went outcome)
+            × (self.new ≡ put topology.now self.old stop outcome)) }
+        ensures refused { IfErr stepped (λ refusal. (result ≡ TurnReply.Refused refusal)
+            × (self.new ≡ record self.old { place = PacketLocation.Refused stop.ia stop.router refusal })) }
+    {
+        match &stepped {
+            Ok(outcome) => {
+                self.put(topology, stop, *outcome);
+                TurnReply::Went(*outcome)
+            }
+            Err(refusal) => {
+                self.place = PacketLocation::Refused(stop.ia, stop.router, *refusal);
+                TurnReply::Refused(*refusal)
+            }
+        }
+    }
+
+    /// Puts the packet where a router's step leads.
+    fn put(&mut self, topology: &Topology, stop: RouterStop, outcome: Outcome)
+        ensures { self.new ≡ put topology.now self.old stop outcome }
+    {
+        match outcome {
+            Outcome::ToLink(out) => self.cross(topology, stop, out),
+            Outcome::ToRouter(router) => {
+                self.place = PacketLocation::AtRouter(RouterStop {
+                    router,
+                    arrival: Arrival::Inside,
+                    ..stop
+                });
+            }
+            Outcome::Deliver => {
+                self.passed.note(hop_by(stop, IfId::NONE));
+                self.place = PacketLocation::Delivered;
+            }
+        }
+    }
+
+    /// Puts the packet at the owner of the far end of a link.
+    fn cross(&mut self, topology: &Topology, stop: RouterStop, out: IfId)
+        ensures { self.new
+            ≡ over_link topology.now self.old stop out (far_end_in topology.now stop.ia out) }
+    {
+        if let Ok((ia, number)) = topology.far_end(stop.ia, out) {
+            if let Ok(router) = topology.owner(ia, number) {
+                self.passed.note(hop_by(stop, out));
+                self.place = PacketLocation::AtRouter(RouterStop {
+                    ia,
+                    router,
+                    arrival: Arrival::Link(number),
+                    came: number,
+                });
+            }
+        }
+    }
+}
+
+/// The hop of the AS of a stop, left by this interface.
+fn hop_by(stop: RouterStop, out: IfId) -> WalkHop
+    ensures { result ≡ hop_by stop out }
+{
+    WalkHop {
+        ia: stop.ia,
+        ingress: stop.came,
+        egress: out,
+    }
+}

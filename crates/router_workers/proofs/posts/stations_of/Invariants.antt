@@ -1,5 +1,0 @@
-use Rattle.std.proofs.Common.{◌<◌, length}
-use Rattle.router_workers.proofs.posts.stations_of.Given as goal
-
-abbrev pub invariant-loop-before : goal.invariant-loop-before
-invariant-loop-before g l = 0 < length l.roots.items

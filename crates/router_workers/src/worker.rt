@@ -1,0 +1,270 @@
+//! A worker at work: it takes flights from its inbox, gives each its turn, and passes it on.
+
+ghost use Rattle.std.specs.Prelude.{◌≡◌, ◌<◌, ◌%◌, ◌+◌, true, length, IfOk, IfSome, IsOk, Some, None, MatchResult};
+ghost use Rattle.scion_topology.specs.Topology.{info_in};
+ghost use Rattle.network_core.specs.Delivery.{IsAtRouter};
+ghost use Rattle.router_workers.specs.PassPairs.{IsNext, IsPutIn, IsPassedTo};
+
+use crate::carried::{CarriedFlight, FlightEnd, RunFacts};
+use forwarding::PacketLocation;
+use inbox::{Receiver, Sender};
+use isd_as::IsdAs;
+use scion_topology::Topology;
+use std::sync::atomic::{AtomicBool, AtomicUsize, Ordering};
+use std::sync::{OnceLock, Wait};
+use std::thread;
+
+/// What is called round each turn of a run, with the number of the worker, from 0.
+pub trait Gate: Sync {
+    /// Right before a turn.
+    fn enter(&self, worker: usize);
+
+    /// Right after it.
+    fn leave(&self, worker: usize);
+}
+
+/// The gate through which everybody passes.
+#[derive(Clone, Copy, Debug)]
+pub struct OpenGate;
+
+impl Gate for OpenGate {
+    fn enter(&self, _worker: usize) {}
+
+    fn leave(&self, _worker: usize) {}
+}
+
+/// What the workers of a run share.
+#[derive(Drop)]
+pub(crate) struct RunState<'d, J: RunFacts, G> {
+    /// A place for the end of each flight, by its number.
+    pub(crate) ends: &'d [OnceLock<FlightEnd<J>>],
+    /// How many flights have not ended. No promise rests on it: it ends the workers' loops.
+    pub(crate) left: &'d AtomicUsize,
+    /// Whether the workers may begin.
+    pub(crate) begun: &'d AtomicBool,
+    pub(crate) gate: &'d G,
+    pub(crate) topology: &'d Topology,
+    pub(crate) now: u32,
+    /// Whether more flights were given than an inbox has places.
+    pub(crate) crowded: bool,
+    ghost now_is: { now ≡ J.now },
+    ghost crowd: { crowded ≡ true → J.slots < length J.flights },
+}
+
+/// A worker: its number, its inbox, and the ways into all inboxes, by their numbers.
+#[derive(Drop)]
+pub(crate) struct Worker<'a, 'f, J: RunFacts> {
+    pub(crate) number: usize,
+    pub(crate) receiver: Receiver<'a, CarriedFlight<'f, J>>,
+    pub(crate) senders: Vec<Sender<'a, CarriedFlight<'f, J>>>,
+    ghost some: { 0 < length senders.items },
+}
+
+/// The worker that carries a flight while it stands at this router: the place of its AS in the
+/// topology plus the router's number, modulo the number of workers.
+pub fn worker_of(topology: &Topology, ia: IsdAs, router: u8, workers: usize) -> usize
+    requires listed { IsOk (info_in topology.now ia) }
+    requires some { 0 < workers }
+    ensures value { IfOk (info_in topology.now ia) (λ info.
+        result ≡ (info.position + router) % workers) }
+    ensures within { result < workers }
+{
+    match carrier(topology, ia, router, workers) {
+        Some(worker) => worker,
+        None => unreachable!(),
+    }
+}
+
+/// The same, where the topology lists the AS; else nothing. It looks the AS up once.
+fn carrier(topology: &Topology, ia: IsdAs, router: u8, workers: usize) -> Option<usize>
+    requires { 0 < workers }
+    ensures value { MatchResult (info_in topology.now ia)
+        (λ info. result ≡ Some ((info.position + router) % workers)) (λ _. result ≡ None) }
+    ensures within { IfSome result (λ worker. worker < workers) }
+{
+    topology.known();
+    match topology.as_info(ia) {
+        Ok(info) => Some((info.position + router as usize) % workers),
+        Err(_) => None,
+    }
+}
+
+/// Records the end of a flight.
+pub(crate) fn settle<J: RunFacts, G: Gate>(state: &RunState<'_, J, G>, done: FlightEnd<J>) {
+    let number = done.number();
+    if number < state.ends.len() {
+        let _ = state.ends[number].try_set(done);
+    }
+    state.left.fetch_sub(1, Ordering::SeqCst);
+}
+
+/// Passes a flight on to the inbox of `next`, the worker to whose router it has come. Where that is
+/// full, the flight is dropped if more were given than an inbox has places; else it is tried again.
+/// No other inbox is touched.
+pub(crate) fn pass_on<'f, J: RunFacts, R: Wait, G: Gate>(
+    rt: &R,
+    state: &RunState<'_, J, G>,
+    senders: &mut [Sender<'_, CarriedFlight<'f, J>>],
+    next: usize,
+    carried: CarriedFlight<'f, J>,
+)
+    requires under_way { IsAtRouter carried.packet.place }
+    requires within { next < length senders.old }
+    requires next { IsNext state.now.topology.now (length senders.old) carried.packet.place next }
+    ensures { IsPassedTo state.entry.now.crowded carried.entry next senders.old senders.new }
+{
+    push_or_drop(rt, state, &mut senders[next], carried);
+}
+
+/// Puts a flight into an inbox by this way. Where the inbox is full, the flight is dropped if more
+/// were given than an inbox has places; else it is tried again.
+fn push_or_drop<'f, J: RunFacts, R: Wait, G: Gate>(
+    rt: &R,
+    state: &RunState<'_, J, G>,
+    sender: &mut Sender<'_, CarriedFlight<'f, J>>,
+    carried: CarriedFlight<'f, J>,
+)
+    requires { IsAtRouter carried.packet.place }
+    ensures { IsPutIn state.entry.now.crowded carried.entry sender.old sender.new }
+{
+    let mut carried = carried;
+    for _ in rt.forever() {
+        match sender.push(rt, carried) {
+            Ok(()) => return,
+            Err(back) => {
+                if state.crowded {
+                    settle(state, back.dropped());
+                    return;
+                }
+                carried = back;
+            }
+        }
+        thread::yield_now();
+    }
+}
+
+/// The worker to whose router a flight has come.
+fn next_worker(topology: &Topology, place: PacketLocation, workers: usize) -> usize
+    requires { 0 < workers }
+    ensures value { IsNext topology.now workers place result }
+    ensures within { result < workers }
+{
+    match place {
+        PacketLocation::AtRouter(stop) => match carrier(topology, stop.ia, stop.router, workers) {
+            Some(worker) => worker,
+            None => 0,
+        },
+        _ => 0,
+    }
+}
+
+/// Records the end of a flight that has ended, and passes any other on.
+pub(crate) fn send_on<'f, J: RunFacts, R: Wait, G: Gate>(
+    rt: &R,
+    state: &RunState<'_, J, G>,
+    senders: &mut [Sender<'_, CarriedFlight<'f, J>>],
+    carried: CarriedFlight<'f, J>,
+)
+    requires { 0 < length senders.old }
+{
+    match carried.into_end() {
+        Ok(done) => settle(state, done),
+        Err(carried) => {
+            let next = next_worker(state.topology, carried.place(), senders.len());
+            pass_on(rt, state, senders, next, carried);
+        }
+    }
+}
+
+/// Takes flights until all have ended.
+pub(crate) fn work<'f, J: RunFacts, R: Wait, G: Gate>(
+    rt: &R,
+    state: &RunState<'_, J, G>,
+    worker: Worker<'_, 'f, J>,
+) {
+    let Worker {
+        number,
+        mut receiver,
+        mut senders,
+    } = worker;
+    wait_for_beginning(rt, state.begun);
+    for _ in rt.forever() {
+        if state.left.load(Ordering::SeqCst) == 0 {
+            return;
+        }
+        empty(rt, state, number, &mut receiver, &mut senders);
+        thread::yield_now();
+    }
+}
+
+/// Takes flights until the inbox has none. The count of those that are left is not looked at, since
+/// each end of a flight changes it, and each look would wait for that.
+fn empty<'f, J: RunFacts, R: Wait, G: Gate>(
+    rt: &R,
+    state: &RunState<'_, J, G>,
+    number: usize,
+    receiver: &mut Receiver<'_, CarriedFlight<'f, J>>,
+    senders: &mut [Sender<'_, CarriedFlight<'f, J>>],
+)
+    requires { 0 < length senders.old }
+{
+    for _ in rt.forever() {
+        match receiver.pop(rt) {
+            Some(carried) => carry(rt, state, number, senders, carried),
+            None => return,
+        }
+    }
+}
+
+/// Waits until the workers may begin.
+fn wait_for_beginning<R: Wait>(rt: &R, begun: &AtomicBool) {
+    for _ in rt.forever() {
+        if begun.load(Ordering::SeqCst) {
+            return;
+        }
+        thread::yield_now();
+    }
+}
+
+/// Carries a flight that the worker of this number took from its inbox. Where it stands at a router
+/// of this worker it has one turn, and is then settled or passed on, to this worker's own inbox
+/// too; any other is settled or passed on at once.
+fn carry<'f, J: RunFacts, R: Wait, G: Gate>(
+    rt: &R,
+    state: &RunState<'_, J, G>,
+    number: usize,
+    senders: &mut [Sender<'_, CarriedFlight<'f, J>>],
+    carried: CarriedFlight<'f, J>,
+)
+    requires { 0 < length senders.old }
+{
+    match carried.into_end() {
+        Ok(done) => settle(state, done),
+        Err(carried) => {
+            let next = next_worker(state.topology, carried.place(), senders.len());
+            if next != number {
+                pass_on(rt, state, senders, next, carried);
+            } else {
+                let turned = turn(state, number, senders.len(), carried);
+                send_on(rt, state, senders, turned);
+            }
+        }
+    }
+}
+
+/// One turn of a flight, through the gate, by the worker to whose router it has come: that of this
+/// number among all workers.
+fn turn<'f, J: RunFacts, G: Gate>(
+    state: &RunState<'_, J, G>,
+    number: usize,
+    _workers: usize,
+    carried: CarriedFlight<'f, J>,
+) -> CarriedFlight<'f, J>
+    requires under_way { IsAtRouter carried.packet.place }
+    requires own { IsNext state.now.topology.now _workers carried.packet.place number }
+{
+    state.gate.enter(number);
+    let turned = carried.advance(state.now);
+    state.gate.leave(number);
+    turned
+}

@@ -1,0 +1,69 @@
+ghost use Rattle.std.specs.Prelude.{◌≡◌, ◌<◌, true, false, vec_len};
+ghost use Rattle.scion_topology.specs.Topology.{Becomes, set_up, rotated};
+ghost use Rattle.scion_topology.specs.Index.{set_from, keyed_at};
+
+use crate::fault::TopologyFault;
+use crate::keys::Key;
+use crate::network::{AsEntry, Link};
+use crate::topology::Topology;
+use isd_as::{IfId, IsdAs};
+
+impl Topology {
+    /// Cuts the link at an interface, named by either end: [`TopologyFault::UnknownAs`], then
+    /// [`TopologyFault::NoLink`] if the AS has no such interface. A cut link stays cut.
+    pub fn cut_link(&mut self, ia: IsdAs, number: IfId) -> Result<(), TopologyFault>
+        ensures { Becomes (set_up false ia number self.old) self.old self.new result }
+    {
+        self.set_link(ia, number, false)
+    }
+
+    /// Mends the link at an interface, named by either end, with the refusals of
+    /// [`Topology::cut_link`]. A whole link stays whole.
+    pub fn mend_link(&mut self, ia: IsdAs, number: IfId) -> Result<(), TopologyFault>
+        ensures { Becomes (set_up true ia number self.old) self.old self.new result }
+    {
+        self.set_link(ia, number, true)
+    }
+
+    /// Takes another key of an AS into use; the one that was in use is the one before, and the
+    /// older one is gone. [`TopologyFault::UnknownAs`], then [`TopologyFault::BadField`] if the
+    /// key has no byte or more than 64.
+    pub fn rotate_key(&mut self, ia: IsdAs, key: &[u8]) -> Result<(), TopologyFault>
+        ensures { Becomes (rotated ia key.now self.old) self.old self.new result }
+    {
+        let (_, index) = self.indexed(ia)?;
+        let place = index.position;
+        let key = Key::new(key)?;
+        put_key(&mut self.ases, place, key);
+        Ok(())
+    }
+
+    /// Sets the link at an interface up or down.
+    #[tactic(auto, unfolding(crate::specs::Topology::set_up))]
+    fn set_link(&mut self, ia: IsdAs, number: IfId, up: bool) -> Result<(), TopologyFault>
+        ensures { Becomes (set_up up ia number self.old) self.old self.new result }
+    {
+        let place = self.place(ia, number)?;
+        let link = self.links[place];
+        put_up(&mut self.links, place, up);
+        self.indexes.mark(link.a.ia, link.a.number, up);
+        self.indexes.mark(link.b.ia, link.b.number, up);
+        Ok(())
+    }
+}
+
+/// Takes another key of the AS at a place into use.
+fn put_key(ases: &mut Vec<AsEntry>, place: usize, key: Key)
+    requires { place < vec_len ases.old }
+    ensures { ases.new.items ≡ keyed_at place key ases.old.items }
+{
+    ases[place].keys.renew(key);
+}
+
+/// Sets the link at a place up or down.
+fn put_up(links: &mut Vec<Link>, place: usize, up: bool)
+    requires { place < vec_len links.old }
+    ensures { links.new.items ≡ set_from 0 place up links.old.items }
+{
+    links[place].up = up;
+}

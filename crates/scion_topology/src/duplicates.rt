@@ -1,0 +1,115 @@
+//! Which ASes are listed twice, and which interfaces stand at two links. Both are found by putting
+//! numbers in order, or pair by pair where there is no memory for that.
+
+ghost use Rattle.std.specs.Prelude.{◌≡◌, ◌<◌, ◌^◌, ◌++◌, IfOk, OnOk, All, map};
+ghost use Rattle.std.specs.List.{flat_map};
+ghost use Rattle.scion_topology.specs.Causes.{lists_twice, stands, joins_twice};
+ghost use Rattle.scion_topology.specs.Doubled.{HasBits, number_of, numbers_of};
+
+use crate::as_lookup::is_listed;
+use crate::network::{AsEntry, End, Link};
+use crate::validation::has_end;
+use doubles::has_double;
+use std::alloc::{AllocError, Global};
+
+/// Whether an AS is listed twice.
+#[tactic(auto, using(crate::proofs::Twice::lists_twice_is))]
+pub(crate) fn lists_twice(alloc: Global, ases: &[AsEntry]) -> bool
+    ensures { result ≡ lists_twice ases.now }
+{
+    match as_numbers(alloc, ases) {
+        Ok(mut numbers) => has_double(&mut numbers),
+        Err(AllocError) => lists_one_of_pairs(ases),
+    }
+}
+
+/// The numbers of ASes.
+fn as_numbers(alloc: Global, ases: &[AsEntry]) -> Result<Vec<u128>, AllocError>
+    ensures { IfOk result (λ numbers. numbers.items ≡ map (λ one. one.ia) ases.now) }
+{
+    let mut numbers = Vec::with_capacity(alloc, ases.len())?;
+    for one in ases {
+        numbers.push(u128::from(one.ia.number()))?;
+    }
+    Ok(numbers)
+}
+
+/// Whether an AS is listed twice, pair by pair.
+#[tactic(auto, unfolding(crate::specs::Causes::lists_twice))]
+fn lists_one_of_pairs(ases: &[AsEntry]) -> bool
+    ensures { result ≡ lists_twice ases.now }
+{
+    let mut rest = ases;
+    while let Some((one, others)) = rest.split_first() {
+        if is_listed(others, one.ia) {
+            return true;
+        }
+        rest = others;
+    }
+    false
+}
+
+/// Whether an interface stands at the ends of two links.
+pub(crate) fn joins_twice(alloc: Global, links: &[Link]) -> bool
+    ensures { result ≡ joins_twice links.now }
+{
+    match interface_numbers(alloc, links) {
+        Ok(mut numbers) => has_double(&mut numbers),
+        Err(AllocError) => joins_one_of_pairs(links),
+    }
+}
+
+/// The numbers of the interfaces at the ends of links.
+fn interface_numbers(alloc: Global, links: &[Link]) -> Result<Vec<u128>, AllocError>
+    ensures numbers { IfOk result (λ numbers. numbers.items ≡ flat_map numbers_of links.now) }
+    ensures bits { OnOk result (All HasBits links.now) }
+{
+    let mut numbers = Vec::with_capacity(alloc, 2 * links.len())?;
+    for link in links {
+        push_numbers(&mut numbers, link)?;
+    }
+    Ok(numbers)
+}
+
+/// Adds the numbers of the interfaces at the ends of a link, one where they are the same.
+fn push_numbers(numbers: &mut Vec<u128>, link: &Link) -> Result<(), AllocError>
+    ensures numbers { OnOk result (numbers.new.items ≡ numbers.old.items ++ numbers_of link.now) }
+    ensures bits { HasBits link.now }
+{
+    let (a, b) = (number_of(&link.a), number_of(&link.b));
+    numbers.push(a)?;
+    if a != b {
+        numbers.push(b)?;
+    }
+    Ok(())
+}
+
+/// An interface as a number: that of its AS, and then its own.
+fn number_of(end: &End) -> u128
+    ensures value { result ≡ number_of end.now }
+    ensures bits { end.now.number < 2 ^ 16 }
+{
+    u128::from(end.ia.number()) * (1 << 16) + u128::from(end.number.number())
+}
+
+/// Whether a link of the list ends at the interface of this end.
+fn stands(links: &[Link], end: &End) -> bool
+    ensures { result ≡ stands links.now end.now }
+{
+    links.iter().any(|link| has_end(link, end.ia, end.number))
+}
+
+/// Whether an interface stands at the ends of two links, pair by pair.
+#[tactic(auto, unfolding(crate::specs::Causes::joins_twice))]
+fn joins_one_of_pairs(links: &[Link]) -> bool
+    ensures { result ≡ joins_twice links.now }
+{
+    let mut rest = links;
+    while let Some((link, others)) = rest.split_first() {
+        if stands(others, &link.a) || stands(others, &link.b) {
+            return true;
+        }
+        rest = others;
+    }
+    false
+}

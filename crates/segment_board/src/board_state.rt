@@ -1,0 +1,121 @@
+//! What lies on the board: a store, and the front of the history whose newest list made it.
+
+ghost use Rattle.std.specs.Prelude.{◌≡◌};
+
+use crate::history::HistoryPrefix;
+use atomic_table::{Join, Split};
+use crossbeam_utils::rule::{Outcome, Protocol};
+use left_right::Absorb;
+use left_right::reader::Reader;
+use left_right::writer::Writer;
+use path_server::{PathStore, StoreOp};
+use std::alloc::{AllocError, Global};
+use std::marker::Model;
+
+/// A store, and the front of the history that it belongs to.
+#[derive(Drop)]
+pub(crate) struct BoardState {
+    pub(crate) alloc: Global,
+    pub(crate) store: PathStore,
+    pub(crate) front: HistoryPrefix,
+}
+
+impl Model for BoardState {
+    ghost use Rattle.segment_board.specs.BoardState.{BoardValue};
+
+    ghost Value = { BoardValue };
+
+    ghost view = { λ s. record { store = s.store; front = s.front } };
+}
+
+/// What the two copies on a board take in.
+#[derive(Drop)]
+pub(crate) enum BoardOp {
+    /// An operation of the store.
+    Apply(StoreOp),
+    /// The front at the end of what is published at once.
+    Mark(HistoryPrefix),
+}
+
+impl Absorb<BoardOp> for BoardState {
+    type State = BoardState;
+
+    ghost use Rattle.segment_board.specs.BoardState.{taken};
+
+    ghost state = { λ s. s };
+
+    ghost applied = { taken };
+
+    fn absorb_first(&mut self, operation: &BoardOp, _other: &BoardState) -> Result<(), AllocError> {
+        match operation {
+            BoardOp::Apply(op) => self.store.apply(self.alloc, op),
+            BoardOp::Mark(front) => {
+                self.front = front.again();
+                Ok(())
+            }
+        }
+    }
+}
+
+/// The rule of the board: the store that lies there is the one that the published operations make,
+/// and they begin with what each thread saw there, at the same edition or at an earlier one. Five
+/// kinds of step keep it: publishing, entering, telling, learning, and giving a reader its place.
+pub(crate) struct Published;
+
+impl Protocol<BoardState, Option<HistoryPrefix>> for Published {
+    ghost use Rattle.std.specs.Prelude.{None};
+    ghost use Rattle.segment_board.specs.Rule.{Keeps};
+
+    ghost holds = { Keeps };
+
+    ghost first = { None };
+}
+
+/// What publishing tells the writer: it has seen all that is published.
+pub(crate) struct Publishes;
+
+impl Outcome<BoardState, Option<HistoryPrefix>> for Publishes {
+    ghost use Rattle.std.specs.Prelude.{◌≡◌, Some};
+
+    ghost then = { λ v x y w. w ≡ Some y.front };
+}
+
+/// What entering tells a reader: it has seen all that is published, which goes on from what it had
+/// seen.
+pub(crate) struct Enters;
+
+impl Outcome<BoardState, Option<HistoryPrefix>> for Enters {
+    ghost use Rattle.std.specs.Prelude.{◌≡◌, Some};
+    ghost use Rattle.segment_board.specs.BoardState.{IsTied};
+    ghost use Rattle.segment_board.specs.Rule.{Fits};
+
+    ghost then = { λ v x y w. (w ≡ Some x.front) × IsTied x × Fits x v };
+}
+
+/// The writer of the two copies.
+pub(crate) type StoreWriter = Writer<BoardState, BoardOp, Option<HistoryPrefix>, Published>;
+
+/// A reader's place at the two copies.
+pub(crate) type StoreReader = Reader<BoardState, Option<HistoryPrefix>, Published>;
+
+/// The writer tells which board it is, and knows it still.
+pub(crate) struct Tells;
+
+impl Split<Option<HistoryPrefix>> for Tells {
+    ghost use Rattle.segment_board.specs.Rule.{begun_as};
+
+    ghost left = { λ v. v };
+
+    ghost right = { begun_as };
+}
+
+/// A reader learns which board it is at.
+pub(crate) struct Learns;
+
+impl Join<Option<HistoryPrefix>> for Learns {
+    ghost use Rattle.std.specs.Prelude.{None};
+
+    ghost both = { λ v w. w };
+
+    ghost spent = { None };
+}
