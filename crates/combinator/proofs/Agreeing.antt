@@ -8,7 +8,7 @@ use Rattle.std.specs.declared.cmp.Ordering.TheVariants.{Less, Equal, Greater}
 use Rattle.std.proofs.lemmas.List.Elements.{recursion_from_All}
 use Rattle.path_header.specs.Value.{HeaderValue}
 use Rattle.combinator.specs.Candidate.{Question, PathValue, AreSpelled}
-use Rattle.combinator.specs.Order.{shown, bytes_cmp, shown_cmp, path_cmp, HaveOneWalk}
+use Rattle.combinator.specs.Order.{header_and_walk, bytes_cmp, shown_cmp, path_cmp, HaveOneWalk}
 use Rattle.combinator.specs.Answer.{IsBest, IsAnswer}
 use Rattle.combinator.specs.Placed.{Tied, InOrder, Met}
 use Rattle.combinator.proofs.Tied.{agree}
@@ -20,7 +20,7 @@ neither Equal one other e first second = e
 neither Greater one other e first second = absurd (second (bytes_total.antisymm other one ∙ ap ordering_reverse e))
 
 -- two paths that stand for one walk show the same
-pub best_is_one : (question : Question) → AreSpelled question → (one other : PathValue) → IsBest question one → IsBest question other → HaveOneWalk one other → shown one ≡ shown other
+pub best_is_one : (question : Question) → AreSpelled question → (one other : PathValue) → IsBest question one → IsBest question other → HaveOneWalk one other → header_and_walk one ≡ header_and_walk other
 best_is_one question spelled one other first second same =
     let longer = first.latest other second.candidate (sym same) in
     let shorter = second.latest one first.candidate same in
@@ -51,7 +51,7 @@ met question spelled limit paths path answer best = elim (answer.whole path best
       inr (
         out.full,
         recursion_from_All (λ one. path_cmp one path ≡ Less) paths
-            (λ k d within. subst (λ (s : HeaderValue × _). shown_cmp (shown (get_or paths k d)) s ≡ Less) same (out.behind k d within)),
+            (λ k d within. subst (λ (s : HeaderValue × _). shown_cmp (header_and_walk (get_or paths k d)) s ≡ Less) same (out.behind k d within)),
       ))
 ]
 
@@ -60,7 +60,7 @@ all_met question spelled limit paths others one other =
     recursion_from_All (Met path_cmp limit others) paths (λ k d within. met question spelled limit others (get_or paths k d) other (one.best k d within))
 
 shown_alike : (question : Question) → AreSpelled question → (paths others : List PathValue) → AllZip (λ one other. path_cmp one other ≡ Equal) paths others
-    → AllByRecursion (IsBest question) paths → AllByRecursion (IsBest question) others → map shown paths ≡ map shown others
+    → AllByRecursion (IsBest question) paths → AllByRecursion (IsBest question) others → map header_and_walk paths ≡ map header_and_walk others
 shown_alike question spelled [] [] tied best also = refl
 shown_alike question spelled [] (other ∷ others) tied best also = absurd tied
 shown_alike question spelled (path ∷ paths) [] tied best also = absurd tied
@@ -69,7 +69,7 @@ shown_alike question spelled (path ∷ paths) (other ∷ others) tied best also 
     let later = shown_alike question spelled paths others tied.1 best.1 also.1 in
     cc
 
-pub answers_agree : (question : Question) (limit : ℕ) (paths others : List PathValue) → AreSpelled question → IsAnswer question limit paths → IsAnswer question limit others → map shown paths ≡ map shown others
+pub answers_agree : (question : Question) (limit : ℕ) (paths others : List PathValue) → AreSpelled question → IsAnswer question limit paths → IsAnswer question limit others → map header_and_walk paths ≡ map header_and_walk others
 answers_agree question limit paths others spelled one other =
     shown_alike question spelled paths others
     (agree path_cmp path_total paths others limit (in_order paths one.ordered) (in_order others other.ordered) one.few other.few

@@ -6,7 +6,7 @@ use Rattle.std.proofs.lemmas.Option.{same_Some, slice_get_within, slice_get-get_
 use Rattle.path_server.specs.Lookup.{Selection}
 use Rattle.policy_expr.specs.Options.{WeighedRules}
 use Rattle.combinator.specs.Candidate.{Question, PathValue, HasNone}
-use Rattle.combinator.specs.Answer.{IsAnswer, asked, GoesBefore, AnswersWith}
+use Rattle.combinator.specs.Answer.{IsAnswer, question_under, GoesBefore, AnswersWith}
 use Rattle.combinator.specs.Choice.{IsUsedBefore, LeaveNone, IsChosen}
 
 -- an answer without a path, where it may have some, says that there is none
@@ -25,14 +25,14 @@ module _ (set : Selection) (src dst : ℕ) (options : List WeighedRules) (limit 
     | inr upto ↦ (let same : j ≡ place = omega arith in inr (same, same_Some option other (sym here ∙ ap (slice_get options) (sym same) ∙ at)))
   ]
 
-  none_more : HasNone (asked set src dst option) → LeaveNone set src dst options place → LeaveNone set src dst options (place + 1)
+  none_more : HasNone (question_under set src dst option) → LeaveNone set src dst options place → LeaveNone set src dst options (place + 1)
   none_more none before j other within at = elim (earlier_or_here j other within at) [
     | inl less ↦ before j other less at
-    | inr same ↦ subst (λ (o : WeighedRules). HasNone (asked set src dst o)) same.1 none
+    | inr same ↦ subst (λ (o : WeighedRules). HasNone (question_under set src dst o)) same.1 none
   ]
 
   used_still : (used weight : ℕ) (paths : List PathValue) (is : IsUsedBefore set src dst options limit place used weight paths)
-      → (GoesBefore place option used is.option → HasNone (asked set src dst option)) → IsUsedBefore set src dst options limit (place + 1) used weight paths
+      → (GoesBefore place option used is.option → HasNone (question_under set src dst option)) → IsUsedBefore set src dst options limit (place + 1) used weight paths
   used_still used weight paths is none = record {
     option = is.option;
     there = is.there;
@@ -42,7 +42,7 @@ module _ (set : Selection) (src dst : ℕ) (options : List WeighedRules) (limit 
     answer = is.answer;
     first = λ j other within at goes. elim (earlier_or_here j other within at) [
       | inl less ↦ is.first j other less at goes
-      | inr same ↦ subst (λ (o : WeighedRules). HasNone (asked set src dst o)) same.1
+      | inr same ↦ subst (λ (o : WeighedRules). HasNone (question_under set src dst o)) same.1
           (none (subst (λ (o : WeighedRules). GoesBefore place o used is.option) (sym same.1) (subst (λ (i : ℕ). GoesBefore i other used is.option) same.0 goes)))
     ];
   }
@@ -56,14 +56,14 @@ module _ (set : Selection) (src dst : ℕ) (options : List WeighedRules) (limit 
       elim goes [ inl heavier ↦ (omega arith) | inr behind ↦ (let late = behind.1 in omega arith) ]))
 
   -- an option that leaves no path changes nothing
-  pub left_none : (used : Option ℕ) (weight : ℕ) (paths : List PathValue) → HasNone (asked set src dst option) → IsChosen set src dst options limit place used weight paths
+  pub left_none : (used : Option ℕ) (weight : ℕ) (paths : List PathValue) → HasNone (question_under set src dst option) → IsChosen set src dst options limit place used weight paths
       → IsChosen set src dst options limit (place + 1) used weight paths
   left_none None weight paths none is = (is.0, none_more none is.1)
   left_none (Some used) weight paths none is = used_still used weight paths is (λ _. none)
 
   -- a heavier option that leaves a path is used
   pub now_used : (used : Option ℕ) (weight : ℕ) (paths found : List PathValue) → ((u : ℕ) → used ≡ Some u → weight < option.weight) → 0 < length found
-      → IsAnswer (asked set src dst option) limit found → IsChosen set src dst options limit place used weight paths
+      → IsAnswer (question_under set src dst option) limit found → IsChosen set src dst options limit place used weight paths
       → IsChosen set src dst options limit (place + 1) (Some place) option.weight found
   now_used None weight paths found heavier some answer is = record {
     option = option;
@@ -126,17 +126,17 @@ module _ (set : Selection) (src dst : ℕ) (options : List WeighedRules) (limit 
   passed None kept weight w paths is some at light chosen = absurd (let none : is_some kept ≡ false = ap is_some is in let both = sym some ∙ none in cc)
   passed (Some used) kept weight w paths is some at light chosen = passed_over set src dst options limit place option here used weight paths (lighter w weight at light) chosen
 
-  pub left : (used : Option ℕ) (weight : ℕ) (paths found : List PathValue) → 0 < limit → found ≡ [] → IsAnswer (asked set src dst seen) limit found
+  pub left : (used : Option ℕ) (weight : ℕ) (paths found : List PathValue) → 0 < limit → found ≡ [] → IsAnswer (question_under set src dst seen) limit found
       → IsChosen set src dst options limit place used weight paths → IsChosen set src dst options limit (place + 1) used weight paths
   left used weight paths found some empty answer chosen =
       left_none set src dst options limit place option here used weight paths
-      (subst (λ (o : WeighedRules). HasNone (asked set src dst o)) same (none_there (asked set src dst seen) limit found some empty answer)) chosen
+      (subst (λ (o : WeighedRules). HasNone (question_under set src dst o)) same (none_there (question_under set src dst seen) limit found some empty answer)) chosen
 
   pub taken_up : (used : Option ℕ) (weight : ℕ) (paths found : List PathValue) → ((u : ℕ) → used ≡ Some u → weight < seen.weight) → (found ≡ [] → ⊥)
-      → IsAnswer (asked set src dst seen) limit found → IsChosen set src dst options limit place used weight paths
+      → IsAnswer (question_under set src dst seen) limit found → IsChosen set src dst options limit place used weight paths
       → IsChosen set src dst options limit (place + 1) (Some place) seen.weight found
   taken_up used weight paths found heavier some answer chosen =
       let as_seen : seen.weight ≡ option.weight = ap (λ (o : WeighedRules). o.weight) same in
       subst (λ (w : ℕ). IsChosen set src dst options limit (place + 1) (Some place) w found) (sym as_seen)
       (now_used set src dst options limit place option here used weight paths found (λ u is. (let more = heavier u is in omega arith)) (not_empty found some)
-      (subst (λ (o : WeighedRules). IsAnswer (asked set src dst o) limit found) same answer) chosen)
+      (subst (λ (o : WeighedRules). IsAnswer (question_under set src dst o) limit found) same answer) chosen)

@@ -13,7 +13,7 @@ use Rattle.path_verifier.specs.declared.kind.PieceKind.TheVariants.{Up, Core, Do
 use Rattle.path_verifier.specs.Piece.{PieceValue, kind_of, entries_of}
 use Rattle.path_verifier.specs.Accepted.{AreLive, MakesPath}
 use Rattle.combinator.specs.Candidate.{question_of, PathValue, segments_of, IsOf, IsCandidate, HasNone}
-use Rattle.combinator.specs.Answer.{IsBest, IsLeftOut, IsAnswer, AnswersWith, asked}
+use Rattle.combinator.specs.Answer.{IsBest, IsLeftOut, IsAnswer, AnswersWith, question_under}
 use Rattle.combinator.specs.Lasting.{IsSameSet, AreAllLive}
 
 pub turned_set : (set other : Selection) → IsSameSet set other → IsSameSet other set
@@ -101,7 +101,7 @@ module _ (set other : Selection) (src dst : ℕ) (same : IsSameSet set other) (h
       → AnswersWith set src dst options limit used paths → AnswersWith other src dst options limit used paths
   options_too options limit None paths is = (
     is.0,
-    All-weaker (λ option. HasNone (asked set src dst option)) (λ option. HasNone (asked other src dst option))
+    All-weaker (λ option. HasNone (question_under set src dst option)) (λ option. HasNone (question_under other src dst option))
         (λ option none. none_too set other src dst option.rules same here there none) options is.1,
   )
   options_too options limit (Some used) paths is = record {

@@ -6,8 +6,8 @@ use Rattle.std.proofs.lemmas.Option.{same_Some, slice_get_within, get_or_from_sl
 use Rattle.path_server.specs.Lookup.{Selection}
 use Rattle.policy_expr.specs.Options.{WeighedRules}
 use Rattle.combinator.specs.Candidate.{PathValue, HasNone, AreSpelled}
-use Rattle.combinator.specs.Order.{shown}
-use Rattle.combinator.specs.Answer.{IsAnswer, asked, GoesBefore, IsUsed, AnswersWith}
+use Rattle.combinator.specs.Order.{header_and_walk}
+use Rattle.combinator.specs.Answer.{IsAnswer, question_under, GoesBefore, IsUsed, AnswersWith}
 use Rattle.combinator.proofs.Agreeing.{answers_agree}
 
 -- of two options one goes before the other, or they are one
@@ -27,7 +27,7 @@ which i one j other = elim (cases_lt other.weight one.weight) [
 ]
 
 module _ (set : Selection) (src dst : ℕ) (options : List WeighedRules) (limit : ℕ) where
-  some_path : (used : ℕ) (paths : List PathValue) (is : IsUsed set src dst options limit used paths) → HasNone (asked set src dst is.option) → ⊥
+  some_path : (used : ℕ) (paths : List PathValue) (is : IsUsed set src dst options limit used paths) → HasNone (question_under set src dst is.option) → ⊥
   some_path used [] is none = absurd (let some = is.some in omega arith)
   some_path used (path ∷ paths) is none = none path (is.answer.best 0 path is.some).candidate
 
@@ -44,18 +44,18 @@ module _ (set : Selection) (src dst : ℕ) (options : List WeighedRules) (limit 
     ]
   ]
 
-  there_none : (i : ℕ) (paths : List PathValue) → IsUsed set src dst options limit i paths → All (λ option. HasNone (asked set src dst option)) options → ⊥
+  there_none : (i : ℕ) (paths : List PathValue) → IsUsed set src dst options limit i paths → All (λ option. HasNone (question_under set src dst option)) options → ⊥
   there_none i paths is none =
-      some_path i paths is (subst (λ (option : WeighedRules). HasNone (asked set src dst option)) (get_or_from_slice_get options i is.option is.option is.there)
+      some_path i paths is (subst (λ (option : WeighedRules). HasNone (question_under set src dst option)) (get_or_from_slice_get options i is.option is.option is.there)
       (none i is.option (slice_get_within options i is.option is.there)))
 
-  pub options_agree : (used also : Option ℕ) (paths others : List PathValue) → ((option : WeighedRules) → AreSpelled (asked set src dst option)) → AnswersWith set src dst options limit used paths → AnswersWith set src dst options limit also others
-      → (used ≡ also) × (map shown paths ≡ map shown others)
-  options_agree None None paths others spelled one other = (refl, ap (map shown) (one.0 ∙ sym other.0))
+  pub options_agree : (used also : Option ℕ) (paths others : List PathValue) → ((option : WeighedRules) → AreSpelled (question_under set src dst option)) → AnswersWith set src dst options limit used paths → AnswersWith set src dst options limit also others
+      → (used ≡ also) × (map header_and_walk paths ≡ map header_and_walk others)
+  options_agree None None paths others spelled one other = (refl, ap (map header_and_walk) (one.0 ∙ sym other.0))
   options_agree None (Some j) paths others spelled one other = absurd (there_none j others other one.1)
   options_agree (Some i) None paths others spelled one other = absurd (there_none i paths one other.1)
   options_agree (Some i) (Some j) paths others spelled one other =
       let same = same_used i j paths others one other in
       let option : one.option ≡ other.option = same_Some one.option other.option (sym one.there ∙ ap (slice_get options) same ∙ other.there) in
-      let answer : IsAnswer (asked set src dst one.option) limit others = subst (λ (o : WeighedRules). IsAnswer (asked set src dst o) limit others) (sym option) other.answer in
-      (ap Some same, answers_agree (asked set src dst one.option) limit paths others (spelled one.option) one.answer answer)
+      let answer : IsAnswer (question_under set src dst one.option) limit others = subst (λ (o : WeighedRules). IsAnswer (question_under set src dst o) limit others) (sym option) other.answer in
+      (ap Some same, answers_agree (question_under set src dst one.option) limit paths others (spelled one.option) one.answer answer)

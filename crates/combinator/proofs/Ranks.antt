@@ -13,7 +13,7 @@ use Rattle.path_header.proofs.WholeHeader.{spelled_once}
 use Rattle.policy_expr.specs.declared.hop.WalkHop.{WalkHop}
 use Rattle.path_verifier.specs.Walk.{walk_of}
 use Rattle.combinator.specs.Candidate.{PathValue}
-use Rattle.combinator.specs.Order.{shown, hop_cmp, walk_cmp, bytes_cmp, shown_cmp, path_cmp, HaveOneWalk}
+use Rattle.combinator.specs.Order.{header_and_walk, hop_cmp, walk_cmp, bytes_cmp, shown_cmp, path_cmp, HaveOneWalk}
 use Rattle.combinator.specs.BestByWalk.{by_walk}
 
 pub hop_total : IsTotalOrder hop_cmp
@@ -32,7 +32,7 @@ shown_total =
     (then_total (on_total (λ (s : HeaderValue × List WalkHop). s.0) bytes_total) (on_total (λ (s : HeaderValue × List WalkHop). s.1) (lists_total hop_total)))
 
 pub path_total : IsTotalOrder path_cmp
-path_total = on_total shown shown_total
+path_total = on_total header_and_walk shown_total
 
 pub walks_total : IsTotalOrder by_walk
 walks_total = on_total (λ (path : PathValue). walk_of path.pieces) (lists_total hop_total)
@@ -80,17 +80,17 @@ same_header one other first second e =
     (spelled_once one other (spelling one) [] first also).0
 
 -- paths in the grammar that stand at one place of the order show the same
-pub same_shown : (one other : PathValue) → Spells (spelling one.header) one.header → Spells (spelling other.header) other.header → path_cmp one other ≡ Equal → shown one ≡ shown other
+pub same_shown : (one other : PathValue) → Spells (spelling one.header) one.header → Spells (spelling other.header) other.header → path_cmp one other ≡ Equal → header_and_walk one ≡ header_and_walk other
 unfolding shown_cmp
 same_shown one other first second e =
-    let parts = then_equal (nat_cmp (length one.header.hops) (length other.header.hops)) (ordering_then (bytes_cmp one.header other.header) (walk_cmp (shown one).1 (shown other).1)) e in
-    let more = then_equal (bytes_cmp one.header other.header) (walk_cmp (shown one).1 (shown other).1) parts.1 in
+    let parts = then_equal (nat_cmp (length one.header.hops) (length other.header.hops)) (ordering_then (bytes_cmp one.header other.header) (walk_cmp (header_and_walk one).1 (header_and_walk other).1)) e in
+    let more = then_equal (bytes_cmp one.header other.header) (walk_cmp (header_and_walk one).1 (header_and_walk other).1) parts.1 in
     let header = same_header one.header other.header first second more.0 in
-    let walk = same_walk (shown one).1 (shown other).1 more.1 in
+    let walk = same_walk (header_and_walk one).1 (header_and_walk other).1 more.1 in
     let pair : HeaderValue → List WalkHop → HeaderValue × List WalkHop = λ h w. (h, w) in
-    ap (λ (h : HeaderValue). pair h (shown one).1) header ∙ ap (pair other.header) walk
+    ap (λ (h : HeaderValue). pair h (header_and_walk one).1) header ∙ ap (pair other.header) walk
 
 -- and paths that show the same stand there
-pub tied_shown : (one other : PathValue) → shown one ≡ shown other → path_cmp one other ≡ Equal
+pub tied_shown : (one other : PathValue) → header_and_walk one ≡ header_and_walk other → path_cmp one other ≡ Equal
 tied_shown one other same =
-    subst (λ (s : HeaderValue × List WalkHop). shown_cmp (shown one) s ≡ Equal) same (tied_itself shown_total (shown one))
+    subst (λ (s : HeaderValue × List WalkHop). shown_cmp (header_and_walk one) s ≡ Equal) same (tied_itself shown_total (header_and_walk one))

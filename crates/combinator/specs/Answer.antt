@@ -44,8 +44,8 @@ pub record AnswerValue : Type 0 where
 -- ---- policy options
 
 -- what is asked under one of the options
-abbrev pub asked : Selection → ℕ → ℕ → WeighedRules → Question
-asked set src dst option = question_of set src dst option.rules
+abbrev pub question_under : Selection → ℕ → ℕ → WeighedRules → Question
+question_under set src dst option = question_of set src dst option.rules
 
 -- an option goes before another: it is heavier, or as heavy and listed before
 abbrev pub GoesBefore : ℕ → WeighedRules → ℕ → WeighedRules → Type 0
@@ -58,15 +58,15 @@ pub record IsUsed (set : Selection) (src dst : ℕ) (options : List WeighedRules
   pub option : WeighedRules
   pub there : slice_get options used ≡ Some option
   pub some : 0 < length paths
-  pub answer : IsAnswer (asked set src dst option) limit paths
+  pub answer : IsAnswer (question_under set src dst option) limit paths
   pub first : (j : ℕ) (other : WeighedRules) → slice_get options j ≡ Some other
-      → GoesBefore j other used option → HasNone (asked set src dst other)
+      → GoesBefore j other used option → HasNone (question_under set src dst other)
 
 -- the answer under several options: that of the one that is used, or no path where no option leaves
 -- one
 abbrev pub AnswersWith : Selection → ℕ → ℕ → List WeighedRules → ℕ → Option ℕ → List PathValue
     → Type 0
 AnswersWith set src dst options limit None paths =
-    (paths ≡ []) × All (λ option. HasNone (asked set src dst option)) options
+    (paths ≡ []) × All (λ option. HasNone (question_under set src dst option)) options
 AnswersWith set src dst options limit (Some used) paths =
     IsUsed set src dst options limit used paths

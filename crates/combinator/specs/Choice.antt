@@ -3,7 +3,7 @@ use Rattle.std.specs.Prelude.{◌≡◌, ℕ, ◌<◌, List, [], length, Option,
 use Rattle.path_server.specs.Lookup.{Selection}
 use Rattle.policy_expr.specs.Options.{WeighedRules}
 use Rattle.combinator.specs.Candidate.{PathValue, HasNone}
-use Rattle.combinator.specs.Answer.{IsAnswer, asked, GoesBefore}
+use Rattle.combinator.specs.Answer.{IsAnswer, question_under, GoesBefore}
 
 -- what is answered under several options: the one that is used and its weight, and the paths
 pub record ChosenValue : Type 0 where
@@ -18,12 +18,12 @@ pub record IsUsedBefore (set : Selection) (src dst : ℕ) (options : List Weighe
   pub before : used < place
   pub weighs : weight ≡ option.weight
   pub some : 0 < length paths
-  pub answer : IsAnswer (asked set src dst option) limit paths
-  pub first : (j : ℕ) (other : WeighedRules) → j < place → slice_get options j ≡ Some other → GoesBefore j other used option → HasNone (asked set src dst other)
+  pub answer : IsAnswer (question_under set src dst option) limit paths
+  pub first : (j : ℕ) (other : WeighedRules) → j < place → slice_get options j ≡ Some other → GoesBefore j other used option → HasNone (question_under set src dst other)
 
 -- no option before a place leaves a path
 abbrev pub LeaveNone : Selection → ℕ → ℕ → List WeighedRules → ℕ → Type 0
-LeaveNone set src dst options place = (j : ℕ) (other : WeighedRules) → j < place → slice_get options j ≡ Some other → HasNone (asked set src dst other)
+LeaveNone set src dst options place = (j : ℕ) (other : WeighedRules) → j < place → slice_get options j ≡ Some other → HasNone (question_under set src dst other)
 
 abbrev pub IsChosen : Selection → ℕ → ℕ → List WeighedRules → ℕ → ℕ → Option ℕ → ℕ → List PathValue → Type 0
 IsChosen set src dst options limit place None weight paths = (paths ≡ []) × LeaveNone set src dst options place

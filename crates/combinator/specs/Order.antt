@@ -12,8 +12,8 @@ use Rattle.path_verifier.specs.Walk.{walk_of}
 use Rattle.combinator.specs.Candidate.{PathValue}
 
 -- what a path shows: its header and its walk
-abbrev pub shown : PathValue → HeaderValue × List WalkHop
-shown path = (path.header, walk_of path.pieces)
+abbrev pub header_and_walk : PathValue → HeaderValue × List WalkHop
+header_and_walk path = (path.header, walk_of path.pieces)
 
 -- hops by AS, then by the way in, then by the way out
 abbrev pub hop_cmp : WalkHop → WalkHop → Ordering
@@ -36,7 +36,7 @@ shown_cmp one other =
 
 -- paths by what they show
 abbrev pub path_cmp : PathValue → PathValue → Ordering
-path_cmp one other = shown_cmp (shown one) (shown other)
+path_cmp one other = shown_cmp (header_and_walk one) (header_and_walk other)
 
 -- no hop of the pieces expires before this half second
 abbrev pub LastTo : ℕ → List PieceValue → Type 0

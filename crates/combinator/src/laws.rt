@@ -5,8 +5,8 @@ ghost use Rattle.path_server.specs.Lookup.{Selection};
 ghost use Rattle.policy_expr.specs.Policy.{Rules};
 ghost use Rattle.policy_expr.specs.Options.{WeighedRules};
 ghost use Rattle.combinator.specs.Candidate.{AreSpelled, Question, question_of, PathValue};
-ghost use Rattle.combinator.specs.Order.{shown};
-ghost use Rattle.combinator.specs.Answer.{IsAnswer, AnswersWith, asked};
+ghost use Rattle.combinator.specs.Order.{header_and_walk};
+ghost use Rattle.combinator.specs.Answer.{IsAnswer, AnswersWith, question_under};
 ghost use Rattle.combinator.specs.Lasting.{IsSameSet, AreAllLive};
 
 /// Two answers to one question have the same headers and walks, in one order; and under several
@@ -16,13 +16,13 @@ pub fn answers_agree()
     ensures paths { (question : Question) (limit : ℕ) (paths others : List PathValue)
         → AreSpelled question
         → IsAnswer question limit paths → IsAnswer question limit others
-        → map shown paths ≡ map shown others }
+        → map header_and_walk paths ≡ map header_and_walk others }
     ensures options { (set : Selection) (src dst : ℕ) (options : List WeighedRules) (limit : ℕ)
         (used also : Option ℕ) (paths others : List PathValue)
-        → ((option : WeighedRules) → AreSpelled (asked set src dst option))
+        → ((option : WeighedRules) → AreSpelled (question_under set src dst option))
         → AnswersWith set src dst options limit used paths
         → AnswersWith set src dst options limit also others
-        → (used ≡ also) × (map shown paths ≡ map shown others) }
+        → (used ≡ also) × (map header_and_walk paths ≡ map header_and_walk others) }
 {}
 
 /// Where two sets have the same segments, all live at the moments of both, what answers a question

@@ -4,7 +4,7 @@ ghost use Rattle.path_verifier.specs.Walk.{walk_of};
 use crate::choice::Choice;
 use crate::ranked::RankedPath;
 use path_header::Header;
-use path_verifier::{OwnedPiece, lend_all, own_all};
+use path_verifier::{OwnedPiece, lend_all, to_owned_pieces};
 use policy_expr::WalkHop;
 use std::alloc::{AllocError, Allocator, Global};
 use std::marker::Model;
@@ -60,7 +60,7 @@ impl Path {
         ensures { IfOk result (λ own. own ≡ self.now) }
     {
         Ok(Path {
-            pieces: own_all(alloc, &lend_all(&self.pieces))?,
+            pieces: to_owned_pieces(alloc, &lend_all(&self.pieces))?,
             header: self.header.clone()?,
             walk: Vec::from_slice(alloc, &self.walk)?,
         })
@@ -173,7 +173,7 @@ fn own_path<A: Allocator + Clone>(
     let path = found.path();
     path.known();
     Ok(Path {
-        pieces: own_all(alloc, path.pieces())?,
+        pieces: to_owned_pieces(alloc, path.pieces())?,
         header: path.header().clone()?,
         walk: Vec::from_slice(alloc, path.walk())?,
     })

@@ -177,7 +177,7 @@ module _ (n : Network) (network : IsNetwork n) where
             ia = far.ia;
             router = far.router;
             arrival = Link far.number;
-            came = far.number;
+            came_in_by = far.number;
           };
           there = refl;
           view = view_for n there.0 far.ia far.router;
@@ -278,7 +278,7 @@ starts : (n : Network) (source destination ia router : ℕ) (header : HeaderValu
 starts n source destination ia router header payload there is fits =
     let view = ok_there (view_in n ia router) there in
     record {
-      stop = record { ia = ia; router = router; arrival = FromHost; came = 0 };
+      stop = record { ia = ia; router = router; arrival = FromHost; came_in_by = 0 };
       there = refl;
       view = view.0;
       seen = view.1;

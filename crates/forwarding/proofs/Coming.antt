@@ -39,17 +39,17 @@ entered_same w hop [] = refl
 entered_same w hop (next ∷ later) = refl
 
 -- on one piece
-pub cross : (came : ℕ) (spot : PathPosition) (entry next : Entry)
+pub cross : (came_in_by : ℕ) (spot : PathPosition) (entry next : Entry)
     → slice_get (travelled spot.piece) spot.reached ≡ Some entry
     → slice_get (travelled spot.piece) (spot.reached + 1) ≡ Some next
-    → to_come came spot ≡ record {
+    → to_come came_in_by spot ≡ record {
       ia = entry.ia;
-      ingress = came;
+      ingress = came_in_by;
       egress =
           out_by spot.piece entry;
     } ∷ to_come (in_by spot.piece next) (advanced spot)
 unfolding hop_of
-cross came spot entry next here there =
+cross came_in_by spot entry next here there =
     let w = way_beyond spot.later in
     let back = walk_beyond spot.later in
     let hop = hop_of spot.piece.along entry in
@@ -59,29 +59,29 @@ cross came spot entry next here there =
     let two = hops_from spot.piece (spot.reached + 1) next there in
     let front : drop spot.reached (hops_of spot.piece) ≡ hop ∷ second ∷ rest = one
     ∙ ap (λ (xs : List WalkHop). hop ∷ xs) two in
-    ap (λ (xs : List WalkHop). entered_by came (left_by w xs) ++ back) front
+    ap (λ (xs : List WalkHop). entered_by came_in_by (left_by w xs) ++ back) front
     ∙ ap (λ (xs : List WalkHop). record {
       ia = entry.ia;
-      ingress = came;
+      ingress = came_in_by;
       egress =
           out_by spot.piece entry;
     } ∷ (xs ++ back)) (sym (entered_same w second rest))
     ∙ ap (λ (xs : List WalkHop). record {
       ia = entry.ia;
-      ingress = came;
+      ingress = came_in_by;
       egress =
           out_by spot.piece entry;
     } ∷ (entered_by (in_by spot.piece next) (left_by w xs) ++ back))
     (sym two)
 
 -- onto the next piece
-pub beyond : (came : ℕ) (past later : List PieceValue) (piece next : PieceValue) (i : ℕ)
+pub beyond : (came_in_by : ℕ) (past later : List PieceValue) (piece next : PieceValue) (i : ℕ)
     (entry first second : Entry) → slice_get (travelled piece) i ≡ Some entry → i + 1 ≡ len_of piece
     → slice_get (travelled next) 0 ≡ Some first → slice_get (travelled next) 1 ≡ Some second
     → entry.ia ≡ first.ia
-    → to_come came (at_end past piece next later i) ≡ to_come came (at_start past piece next later)
+    → to_come came_in_by (at_end past piece next later i) ≡ to_come came_in_by (at_start past piece next later)
 unfolding hop_of
-beyond came past later piece next i entry first second here over there further same =
+beyond came_in_by past later piece next i entry first second here over there further same =
     let hop = hop_of piece.along entry in
     let one : drop i (hops_of piece) ≡ hop ∷ [] = hops_from piece i entry here
     ∙ ap (λ (xs : List WalkHop). hop ∷ xs) (none_behind piece i over) in
@@ -95,28 +95,28 @@ beyond came past later piece next i entry first second here over there further s
     ∙ ap (λ (xs : List WalkHop). f ∷ xs) second_hop in
     let w = way_beyond later in
     let back = walk_beyond later in
-    ap (λ (xs : List WalkHop). entered_by came (left_by (first_out (hops_of next)) xs) ++
+    ap (λ (xs : List WalkHop). entered_by came_in_by (left_by (first_out (hops_of next)) xs) ++
     (left_by w (drop 1 (hops_of next)) ++ back)) one
-    ∙ ap (λ (xs : List WalkHop). entered_by came (left_by (first_out xs) (hop ∷ [])) ++
+    ∙ ap (λ (xs : List WalkHop). entered_by came_in_by (left_by (first_out xs) (hop ∷ [])) ++
     (left_by w (drop 1 xs) ++ back)) whole
-    ∙ ap (λ ia. record { ia = ia; ingress = came; egress = f.egress } ∷
+    ∙ ap (λ ia. record { ia = ia; ingress = came_in_by; egress = f.egress } ∷
     (left_by w (g ∷ more) ++ back)) same
-    ∙ sym (ap (λ (xs : List WalkHop). entered_by came (left_by w xs) ++ back) whole)
+    ∙ sym (ap (λ (xs : List WalkHop). entered_by came_in_by (left_by w xs) ++ back) whole)
 
 -- at the end of the path
-pub finish : (came : ℕ) (spot : PathPosition) (entry : Entry)
+pub finish : (came_in_by : ℕ) (spot : PathPosition) (entry : Entry)
     → slice_get (travelled spot.piece) spot.reached ≡ Some entry
     → spot.reached + 1 ≡ len_of spot.piece → spot.later ≡ []
-    → to_come came spot ≡ record { ia = entry.ia; ingress = came; egress = 0 } ∷ []
+    → to_come came_in_by spot ≡ record { ia = entry.ia; ingress = came_in_by; egress = 0 } ∷ []
 unfolding hop_of
-finish came spot entry here over none =
+finish came_in_by spot entry here over none =
     let hop = hop_of spot.piece.along entry in
     let one : drop spot.reached (hops_of spot.piece) ≡ hop ∷ [] =
     hops_from spot.piece spot.reached entry here
     ∙ ap (λ (xs : List WalkHop). hop ∷ xs) (none_behind spot.piece spot.reached over) in
-    ap (λ (ps : List PieceValue). entered_by came
+    ap (λ (ps : List PieceValue). entered_by came_in_by
     (left_by (way_beyond ps) (drop spot.reached (hops_of spot.piece))) ++ walk_beyond ps) none
-    ∙ ap (λ (xs : List WalkHop). entered_by came (left_by 0 xs) ++ []) one
+    ∙ ap (λ (xs : List WalkHop). entered_by came_in_by (left_by 0 xs) ++ []) one
 
 -- ---- the whole walk
 

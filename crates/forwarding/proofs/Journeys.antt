@@ -40,8 +40,8 @@ pub turns_before : (n : Network) (source destination : ℕ) (payload : List ℕ)
     (pieces : List PieceValue) (left : ℕ) (packet : Packet)
     → OnPath n source destination payload pieces left packet → 0 < left
 turns_before n source destination payload pieces left packet s =
-    let some = some_left n s.arrival (to_come s.came s.spot)
-    (some_to_come s.came s.spot s.entry s.there) in
+    let some = some_left n s.arrival (to_come s.came_in_by s.spot)
+    (some_to_come s.came_in_by s.spot s.entry s.there) in
     let count = s.count in
     omega arith
 

@@ -37,10 +37,10 @@ module _ (n m : Network)
   left_same Inside hops = ap (λ k. 1 + k) (over_same (drop 1 hops))
   left_same (Link interface) hops = over_same hops
 
-  placed_same : (spot : PathPosition) (entry : Entry) (arrival : Arrival) (router came : ℕ)
-      (passed : List WalkHop) → IsPlaced n spot entry arrival router came passed
-      → IsPlaced m spot entry arrival router came passed
-  placed_same spot entry FromHost router came passed placed = (
+  placed_same : (spot : PathPosition) (entry : Entry) (arrival : Arrival) (router came_in_by : ℕ)
+      (passed : List WalkHop) → IsPlaced n spot entry arrival router came_in_by passed
+      → IsPlaced m spot entry arrival router came_in_by passed
+  placed_same spot entry FromHost router came_in_by passed placed = (
     placed.0,
     (
       placed.1.0,
@@ -50,9 +50,9 @@ module _ (n m : Network)
       ),
     ),
   )
-  placed_same spot entry Inside router came passed placed =
+  placed_same spot entry Inside router came_in_by passed placed =
       (placed.0, same entry.ia (out_by spot.piece entry) ∙ placed.1)
-  placed_same spot entry (Link interface) router came passed placed = (
+  placed_same spot entry (Link interface) router came_in_by passed placed = (
     placed.0,
     (
       placed.1.0,
@@ -74,15 +74,15 @@ module _ (n m : Network)
     entry = s.entry;
     arrival = s.arrival;
     router = s.router;
-    came = s.came;
+    came_in_by = s.came_in_by;
     passed = s.passed;
     is = s.is;
     frame = s.frame;
     whole = s.whole;
     there = s.there;
-    placed = placed_same s.spot s.entry s.arrival s.router s.came s.passed s.placed;
+    placed = placed_same s.spot s.entry s.arrival s.router s.came_in_by s.passed s.placed;
     walk = s.walk;
-    count = s.count ∙ sym (left_same s.arrival (to_come s.came s.spot));
+    count = s.count ∙ sym (left_same s.arrival (to_come s.came_in_by s.spot));
   }
 
 pub stands_linked : (n m : Network) (up : Bool) (ia number source destination : ℕ)

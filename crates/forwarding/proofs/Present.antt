@@ -66,7 +66,7 @@ module _ (n : Network) (network : IsNetwork n) (stop : RouterStop) (view : View)
       → owner_in n ia number ≡ owner → IsPresent n packet
       → IsPresent n (at_owner packet stop out ia number owner)
   at_far_end packet out ia number (Ok router) owned before = λ next at. (
-      let here : RouterStop = record { ia = ia; router = router; arrival = Link number; came = number } in
+      let here : RouterStop = record { ia = ia; router = router; arrival = Link number; came_in_by = number } in
       let same : here ≡ next = cc in
       subst (λ (s : RouterStop). IsOk (view_in n s.ia s.router)) same
       (owners_are_there n ia number router network owned))

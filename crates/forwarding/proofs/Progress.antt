@@ -55,7 +55,7 @@ pub onward : (n : Network) (now source destination : ℕ) (payload : List ℕ)
     → slice_get (travelled spot.piece) spot.reached ≡ Some entry
     → slice_get (travelled spot.piece) (spot.reached + 1) ≡ Some next
     → spot.reached + 1 < len_of spot.piece → pieces_at spot ≡ pieces → length (walk_of pieces) ≤ 64
-    → passed ++ to_come stop.came spot ≡ walk_of pieces
+    → passed ++ to_come stop.came_in_by spot ≡ walk_of pieces
     → (goes.near.router ≡ view.router
     → left ≡ 1 + turns_over n (to_come (in_by spot.piece next) (advanced spot)))
     → (goes.near.router ≢ view.router
@@ -65,9 +65,9 @@ onward n now source destination payload pieces left packet stop passed view spot
     steps here frame there further more whole few walk at_once later =
     let ahead = to_come (in_by spot.piece next) (advanced spot) in
     let hop : WalkHop =
-    record { ia = entry.ia; ingress = stop.came; egress = out_by spot.piece entry } in
-    let split : to_come stop.came spot ≡ hop ∷ ahead =
-    cross stop.came spot entry next there further in
+    record { ia = entry.ia; ingress = stop.came_in_by; egress = out_by spot.piece entry } in
+    let split : to_come stop.came_in_by spot ≡ hop ∷ ahead =
+    cross stop.came_in_by spot entry next there further in
     let all : passed ++ hop ∷ ahead ≡ walk_of pieces =
     ap (λ (w : List WalkHop). passed ++ w) (sym split) ∙ walk in
     let notes = noted_is passed hop (short passed hop ahead (walk_of pieces) all few) in
@@ -80,7 +80,7 @@ onward n now source destination payload pieces left packet stop passed view spot
           entry = next;
           arrival = Link (in_by spot.piece next);
           router = goes.far.router;
-          came = in_by spot.piece next;
+          came_in_by = in_by spot.piece next;
           passed = passed ++ hop ∷ [];
           is =
               steps ∙ over n source destination payload stop passed view spot entry next goes here
@@ -105,7 +105,7 @@ onward n now source destination payload pieces left packet stop passed view spot
           entry = entry;
           arrival = Inside;
           router = goes.near.router;
-          came = stop.came;
+          came_in_by = stop.came_in_by;
           passed = passed;
           is = steps
               ∙ inside n source destination payload stop passed view spot entry next goes here

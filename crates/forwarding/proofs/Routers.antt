@@ -71,14 +71,14 @@ known_kinds n one ia router interface has_switched far kind out there is joins =
 
 -- the way from an entry to the next is open to a packet that came over a link on the same piece
 pub opens_over : (n : Network) (one : AsEntry) (router : ℕ) (piece : PieceValue)
-    (before entry next : Entry) (came : IsLinked n piece before entry)
+    (before entry next : Entry) (came_in_by : IsLinked n piece before entry)
     (goes : IsLinked n piece entry next)
     → Opens (view_for n one entry.ia router) (Link (in_by piece entry)) false piece entry goes.near
-opens_over n one router piece before entry next came goes = record {
+opens_over n one router piece before entry next came_in_by goes = record {
   known = shown_in n entry.ia (out_by piece entry) goes.near goes.near_there;
-  kinds = known_kinds n one entry.ia router (in_by piece entry) false came.far
+  kinds = known_kinds n one entry.ia router (in_by piece entry) false came_in_by.far
       (behind (kind_of piece)) goes.near.kind
-      (shown_in n entry.ia (in_by piece entry) came.far came.far_there) came.far_kind
+      (shown_in n entry.ia (in_by piece entry) came_in_by.far came_in_by.far_there) came_in_by.far_kind
       (ap (are_joined false (behind (kind_of piece))) goes.near_kind ∙ on_one (kind_of piece));
   up = goes.up;
 }
@@ -108,18 +108,18 @@ opens_first n one router piece entry next goes =
 
 -- and to one that came over a link of the piece before
 pub opens_beyond : (n : Network) (one : AsEntry) (router : ℕ) (piece next_piece : PieceValue)
-    (before entry first second : Entry) (came : IsLinked n piece before entry)
+    (before entry first second : Entry) (came_in_by : IsLinked n piece before entry)
     (goes : IsLinked n next_piece first second)
     → entry.ia ≡ first.ia → MayFollow (kind_of piece) (kind_of next_piece)
     → Opens (view_for n one entry.ia router)
     (Link (in_by piece entry)) true next_piece first goes.near
-opens_beyond n one router piece next_piece before entry first second came goes same follows =
+opens_beyond n one router piece next_piece before entry first second came_in_by goes same follows =
     record {
       known = ap (λ ia. interface_in (table_of ia n.links) (out_by next_piece first)) same
           ∙ shown_in n first.ia (out_by next_piece first) goes.near goes.near_there;
-      kinds = known_kinds n one entry.ia router (in_by piece entry) true came.far
+      kinds = known_kinds n one entry.ia router (in_by piece entry) true came_in_by.far
           (behind (kind_of piece)) goes.near.kind
-          (shown_in n entry.ia (in_by piece entry) came.far came.far_there) came.far_kind
+          (shown_in n entry.ia (in_by piece entry) came_in_by.far came_in_by.far_there) came_in_by.far_kind
           (ap (are_joined true (behind (kind_of piece))) goes.near_kind ∙ follows);
       up = goes.up;
     }
@@ -127,13 +127,13 @@ opens_beyond n one router piece next_piece before entry first second came goes s
 -- ---- arrivals
 
 pub comes_over : (n : Network) (one : AsEntry) (router source : ℕ) (spot : PathPosition)
-    (before entry : Entry) (came : IsLinked n spot.piece before entry) → came.far.router ≡ router
+    (before entry : Entry) (came_in_by : IsLinked n spot.piece before entry) → came_in_by.far.router ≡ router
     → source ≢ entry.ia
     → Comes (view_for n one entry.ia router) (Link (in_by spot.piece entry)) source spot entry
-comes_over n one router source spot before entry came owned other = record {
+comes_over n one router source spot before entry came_in_by owned other = record {
   start = refl;
   way = and_from _ _
-      (rw (shown_in n entry.ia (in_by spot.piece entry) came.far came.far_there) (eq-eqb _ _ owned))
+      (rw (shown_in n entry.ia (in_by spot.piece entry) came_in_by.far came_in_by.far_there) (eq-eqb _ _ owned))
       (eq-eqb (in_by spot.piece entry) (in_by spot.piece entry) refl);
   from = rw (ne_eqb source entry.ia other) refl;
 }

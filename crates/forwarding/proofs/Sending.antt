@@ -74,7 +74,7 @@ starts n source destination moment router payload (piece ∷ later) path frame o
       entry = entry;
       arrival = FromHost;
       router = router;
-      came = 0;
+      came_in_by = 0;
       passed = [];
       is =
           ap (λ (h : HeaderValue). put_at (framed source destination h payload) source router)

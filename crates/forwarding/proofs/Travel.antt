@@ -52,21 +52,21 @@ module _ (n : Network) (now source destination : ℕ) (payload : List ℕ) (piec
       (subst (λ (ps : List PieceValue). IsHeader (header_of ps)) (sym whole) frame.is_header)
       (subst (λ (ps : List PieceValue). Fits (header_of ps)) (sym whole) frame.fits) arrival later
 
-  pub from_inside : (left : ℕ) (spot : PathPosition) (entry : Entry) (router came : ℕ)
+  pub from_inside : (left : ℕ) (spot : PathPosition) (entry : Entry) (router came_in_by : ℕ)
       (passed : List WalkHop) → IsSpot spot entry → pieces_at spot ≡ pieces
-      → IsPlaced n spot entry Inside router came passed
-      → passed ++ to_come came spot ≡ walk_of pieces
-      → left ≡ 1 + turns_over n (drop 1 (to_come came spot))
+      → IsPlaced n spot entry Inside router came_in_by passed
+      → passed ++ to_come came_in_by spot ≡ walk_of pieces
+      → left ≡ 1 + turns_over n (drop 1 (to_come came_in_by spot))
       → ComesNearer n now source destination payload pieces left
-      (at_spot source destination payload spot entry Inside router came passed)
-  from_inside left spot entry router came passed good whole placed walk count =
+      (at_spot source destination payload spot entry Inside router came_in_by passed)
+  from_inside left spot entry router came_in_by passed good whole placed walk count =
       let open_piece = route.opens spot.past spot.later spot.piece whole in
       let accepted = open_piece.hops spot.reached entry good.there in
       let found = entry_at spot.piece (spot.reached + 1) entry placed.0 in
       let next = found.0 in
       let goes = open_piece.links spot.reached entry next good.there found.1 in
       let ahead = to_come (in_by spot.piece next) (advanced spot) in
-      let split = cross came spot entry next good.there found.1 in
+      let split = cross came_in_by spot entry next good.there found.1 in
       let all = ap (λ (w : List WalkHop). passed ++ w) (sym split) ∙ walk in
       let other =
       route.not_there passed ahead _ all
@@ -77,7 +77,7 @@ module _ (n : Network) (now source destination : ℕ) (payload : List ℕ) (piec
       (is_known n entry.ia accepted.one accepted.named) in
       let steps =
       turns_on n now source destination payload frame.source_fits frame.destination_fits spot
-      entry next Inside router came passed accepted goes good below
+      entry next Inside router came_in_by passed accepted goes good below
       (spelled Inside spot entry good whole (λ m same. absurd cc))
       (route.live spot.past spot.later spot.piece spot.reached entry whole good.there) other
       placed.0
@@ -87,21 +87,21 @@ module _ (n : Network) (now source destination : ℕ) (payload : List ℕ) (piec
       same_owner goes.near.router router
       (owner_in n entry.ia (out_by spot.piece entry)) goes.near_owner placed.1 in
       onward n now source destination payload pieces left
-      (at_spot source destination payload spot entry Inside router came passed)
-      (stop_at entry.ia router Inside came) passed
+      (at_spot source destination payload spot entry Inside router came_in_by passed)
+      (stop_at entry.ia router Inside came_in_by) passed
       (view_for n accepted.one entry.ia router) spot entry next goes steps refl frame good.there
       found.1 placed.0 whole route.few walk
       (λ same. count ∙ ap (λ (w : List WalkHop). 1 + turns_over n (drop 1 w)) split)
       (λ differs. absurd (differs owner))
 
-  pub from_host : (left : ℕ) (spot : PathPosition) (entry : Entry) (router came : ℕ) (passed : List WalkHop)
+  pub from_host : (left : ℕ) (spot : PathPosition) (entry : Entry) (router came_in_by : ℕ) (passed : List WalkHop)
       → IsSpot spot entry → pieces_at spot ≡ pieces
-      → IsPlaced n spot entry FromHost router came passed
-      → passed ++ to_come came spot ≡ walk_of pieces
-      → left ≡ 1 + turns_over n (drop 1 (to_come came spot))
+      → IsPlaced n spot entry FromHost router came_in_by passed
+      → passed ++ to_come came_in_by spot ≡ walk_of pieces
+      → left ≡ 1 + turns_over n (drop 1 (to_come came_in_by spot))
       → ComesNearer n now source destination payload pieces left
-      (at_spot source destination payload spot entry FromHost router came passed)
-  from_host left spot entry router came passed good whole placed walk count =
+      (at_spot source destination payload spot entry FromHost router came_in_by passed)
+  from_host left spot entry router came_in_by passed good whole placed walk count =
       let open_piece = route.opens spot.past spot.later spot.piece whole in
       let accepted = open_piece.hops spot.reached entry good.there in
       let long = long_of spot.piece good.ranged in
@@ -111,9 +111,9 @@ module _ (n : Network) (now source destination : ℕ) (payload : List ℕ) (piec
       let next = found.0 in
       let goes = open_piece.links spot.reached entry next good.there found.1 in
       let hop : WalkHop =
-      record { ia = entry.ia; ingress = came; egress = out_by spot.piece entry } in
+      record { ia = entry.ia; ingress = came_in_by; egress = out_by spot.piece entry } in
       let ahead = to_come (in_by spot.piece next) (advanced spot) in
-      let split = cross came spot entry next good.there found.1 in
+      let split = cross came_in_by spot entry next good.there found.1 in
       let all = ap (λ (w : List WalkHop). passed ++ w) (sym split) ∙ walk in
       let other =
       route.not_there passed ahead hop all
@@ -130,7 +130,7 @@ module _ (n : Network) (now source destination : ℕ) (payload : List ℕ) (piec
       (is_known n entry.ia accepted.one accepted.named) in
       let steps =
       turns_on n now source destination payload frame.source_fits frame.destination_fits spot
-      entry next FromHost router came passed accepted goes good below
+      entry next FromHost router came_in_by passed accepted goes good below
       (spelled FromHost spot entry good whole (λ m same. absurd cc))
       (route.live spot.past spot.later spot.piece spot.reached entry whole good.there) other
       more
@@ -140,8 +140,8 @@ module _ (n : Network) (now source destination : ℕ) (payload : List ℕ) (piec
       same_owner goes.near.router router
       (owner_in n entry.ia (out_by spot.piece entry)) goes.near_owner owned in
       onward n now source destination payload pieces left
-      (at_spot source destination payload spot entry FromHost router came passed)
-      (stop_at entry.ia router FromHost came) passed
+      (at_spot source destination payload spot entry FromHost router came_in_by passed)
+      (stop_at entry.ia router FromHost came_in_by) passed
       (view_for n accepted.one entry.ia router) spot entry next goes steps refl frame good.there
       found.1 more whole route.few walk
       (λ same. count ∙ ap (λ (w : List WalkHop). 1 + turns_over n (drop 1 w)) split)
@@ -150,11 +150,11 @@ module _ (n : Network) (now source destination : ℕ) (payload : List ℕ) (piec
   -- ---- over a link
 
   -- what of an arrival over a link is known of the entry at which it stands
-  pub came_over : (spot : PathPosition) (entry : Entry) (interface router came : ℕ) (passed : List WalkHop)
+  pub came_over : (spot : PathPosition) (entry : Entry) (interface router came_in_by : ℕ) (passed : List WalkHop)
       → IsSpot spot entry → pieces_at spot ≡ pieces
-      → IsPlaced n spot entry (Link interface) router came passed
+      → IsPlaced n spot entry (Link interface) router came_in_by passed
       → (before : Entry) × IsLinked n spot.piece before entry
-  came_over spot entry interface router came passed good whole placed =
+  came_over spot entry interface router came_in_by passed good whole placed =
       let open_piece = route.opens spot.past spot.later spot.piece whole in
       let inside : spot.reached < len_of spot.piece = within_piece spot entry good in
       let first = placed.0 in
@@ -418,22 +418,22 @@ module _ (n : Network) (now source destination : ℕ) (payload : List ℕ) (piec
       ]
 
   -- however it came
-  at_any : (left : ℕ) (spot : PathPosition) (entry : Entry) (arrival : Arrival) (router came : ℕ)
+  at_any : (left : ℕ) (spot : PathPosition) (entry : Entry) (arrival : Arrival) (router came_in_by : ℕ)
       (passed : List WalkHop) → IsSpot spot entry → pieces_at spot ≡ pieces
-      → IsPlaced n spot entry arrival router came passed
-      → passed ++ to_come came spot ≡ walk_of pieces
-      → left ≡ turns_left n arrival (to_come came spot)
+      → IsPlaced n spot entry arrival router came_in_by passed
+      → passed ++ to_come came_in_by spot ≡ walk_of pieces
+      → left ≡ turns_left n arrival (to_come came_in_by spot)
       → ComesNearer n now source destination payload pieces left
-      (at_spot source destination payload spot entry arrival router came passed)
+      (at_spot source destination payload spot entry arrival router came_in_by passed)
       ⊎ Arrives n now source destination payload pieces left
-      (at_spot source destination payload spot entry arrival router came passed)
-  at_any left spot entry FromHost router came passed good whole placed walk count =
-      inl (from_host left spot entry router came passed good whole placed walk count)
-  at_any left spot entry Inside router came passed good whole placed walk count =
-      inl (from_inside left spot entry router came passed good whole placed walk count)
-  at_any left spot entry (Link interface) router came passed good whole placed walk count =
+      (at_spot source destination payload spot entry arrival router came_in_by passed)
+  at_any left spot entry FromHost router came_in_by passed good whole placed walk count =
+      inl (from_host left spot entry router came_in_by passed good whole placed walk count)
+  at_any left spot entry Inside router came_in_by passed good whole placed walk count =
+      inl (from_inside left spot entry router came_in_by passed good whole placed walk count)
+  at_any left spot entry (Link interface) router came_in_by passed good whole placed walk count =
       let in_is : interface ≡ in_by spot.piece entry = placed.1.1.0 in
-      let came_is : came ≡ in_by spot.piece entry = placed.1.1.1.0 ∙ in_is in
+      let came_is : came_in_by ≡ in_by spot.piece entry = placed.1.1.1.0 ∙ in_is in
       let placed_there : IsPlaced n spot entry (Link (in_by spot.piece entry)) router
       (in_by spot.piece entry) passed = (
         placed.0,
@@ -443,9 +443,9 @@ module _ (n : Network) (now source destination : ℕ) (payload : List ℕ) (piec
         ),
       ) in
       subst (λ m. ComesNearer n now source destination payload pieces left
-      (at_spot source destination payload spot entry (Link m) router came passed)
+      (at_spot source destination payload spot entry (Link m) router came_in_by passed)
       ⊎ Arrives n now source destination payload pieces left
-      (at_spot source destination payload spot entry (Link m) router came passed)) (sym in_is)
+      (at_spot source destination payload spot entry (Link m) router came_in_by passed)) (sym in_is)
       (subst (λ c. ComesNearer n now source destination payload pieces left
       (at_spot source destination payload spot entry
       (Link (in_by spot.piece entry)) router c passed)
@@ -474,5 +474,5 @@ module _ (n : Network) (now source destination : ℕ) (payload : List ℕ) (piec
   turn_leads_on left packet s =
       subst (λ (u : Packet). ComesNearer n now source destination payload pieces left u
       ⊎ Arrives n now source destination payload pieces left u) (sym s.is)
-      (at_any left s.spot s.entry s.arrival s.router s.came s.passed
+      (at_any left s.spot s.entry s.arrival s.router s.came_in_by s.passed
       (good_spot s.spot s.entry s.whole s.there) s.whole s.placed s.walk s.count)

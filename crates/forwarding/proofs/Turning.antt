@@ -47,22 +47,22 @@ placed n source destination payload stop passed done =
 
 -- a way into an AS, at this router of it
 abbrev pub stop_at : ℕ → ℕ → Arrival → ℕ → RouterStop
-stop_at ia router arrival came =
-    record { ia = ia; router = router; arrival = arrival; came = came }
+stop_at ia router arrival came_in_by =
+    record { ia = ia; router = router; arrival = arrival; came_in_by = came_in_by }
 
 -- over a link to the next entry
 abbrev pub crossed : ℕ → ℕ → List ℕ → PathPosition → Entry → Entry → ℕ → ℕ → List WalkHop → Packet
-crossed source destination payload spot entry next router came passed =
+crossed source destination payload spot entry next router came_in_by passed =
     at_spot source destination payload (advanced spot) next (Link (in_by spot.piece next)) router
     (in_by spot.piece next)
-    (noted passed (record { ia = entry.ia; ingress = came; egress = out_by spot.piece entry }))
+    (noted passed (record { ia = entry.ia; ingress = came_in_by; egress = out_by spot.piece entry }))
 
 -- what a step answers puts the packet over the link, or at the router that owns it
 pub over : (n : Network) (source destination : ℕ) (payload : List ℕ) (stop : RouterStop)
     (passed : List WalkHop) (view : View) (spot : PathPosition) (entry next : Entry)
     (goes : IsLinked n spot.piece entry next) → stop.ia ≡ entry.ia → goes.near.router ≡ view.router
     → placed n source destination payload stop passed (onward_by view goes.near spot entry)
-    ≡ crossed source destination payload spot entry next goes.far.router stop.came passed
+    ≡ crossed source destination payload spot entry next goes.far.router stop.came_in_by passed
 over n source destination payload stop passed view spot entry next goes here same =
     let leads : far_end_in n stop.ia (out_by spot.piece entry) ≡ Ok
     (next.ia, in_by spot.piece next) =
@@ -71,18 +71,18 @@ over n source destination payload stop passed view spot entry next goes here sam
     (ap (λ ia. at_spot source destination payload (advanced spot) next
     (Link (in_by spot.piece next))
     goes.far.router (in_by spot.piece next)
-    (noted passed (record { ia = ia; ingress = stop.came; egress = out_by spot.piece entry })))
+    (noted passed (record { ia = ia; ingress = stop.came_in_by; egress = out_by spot.piece entry })))
     here)
 
 pub inside : (n : Network) (source destination : ℕ) (payload : List ℕ) (stop : RouterStop)
     (passed : List WalkHop) (view : View) (spot : PathPosition) (entry next : Entry)
     (goes : IsLinked n spot.piece entry next) → stop.ia ≡ entry.ia → goes.near.router ≢ view.router
     → placed n source destination payload stop passed (onward_by view goes.near spot entry)
-    ≡ at_spot source destination payload spot entry Inside goes.near.router stop.came passed
+    ≡ at_spot source destination payload spot entry Inside goes.near.router stop.came_in_by passed
 inside n source destination payload stop passed view spot entry next goes here other =
     rw (ne_eqb goes.near.router view.router other)
     (ap (λ ia. carried source destination payload (header_there spot)
-    (stop_at ia goes.near.router Inside stop.came) passed) here)
+    (stop_at ia goes.near.router Inside stop.came_in_by) passed) here)
 
 -- a turn is the router's step
 turn_is : (n : Network) (now source destination : ℕ) (payload : List ℕ) (header : HeaderValue)
@@ -106,7 +106,7 @@ turn_is n now source destination payload header stop passed one done named below
 module _ (n : Network) (now source destination : ℕ) (payload : List ℕ) (from : source < 2 ^ 64)
     (for : destination < 2 ^ 64) where
   -- on one piece
-  pub turns_on : (spot : PathPosition) (entry next : Entry) (arrival : Arrival) (router came : ℕ)
+  pub turns_on : (spot : PathPosition) (entry next : Entry) (arrival : Arrival) (router came_in_by : ℕ)
       (passed : List WalkHop) → (accepted : IsAuthenticHop n spot.piece spot.reached entry)
       (goes : IsLinked n spot.piece entry next) → IsSpot spot entry → router < accepted.one.routers
       → Spells (spelling (header_on arrival spot)) (header_on arrival spot)
@@ -114,36 +114,36 @@ module _ (n : Network) (now source destination : ℕ) (payload : List ℕ) (from
       → destination ≢ entry.ia → spot.reached + 1 < len_of spot.piece
       → Comes (view_for n accepted.one entry.ia router) arrival source spot entry
       → Opens (view_for n accepted.one entry.ia router) arrival false spot.piece entry goes.near
-      → turned n now (at_spot source destination payload spot entry arrival router came passed)
-      ≡ placed n source destination payload (stop_at entry.ia router arrival came) passed
+      → turned n now (at_spot source destination payload spot entry arrival router came_in_by passed)
+      ≡ placed n source destination payload (stop_at entry.ia router arrival came_in_by) passed
       (onward_by (view_for n accepted.one entry.ia router) goes.near spot entry)
-  turns_on spot entry next arrival router came passed accepted goes is below spells live other more
+  turns_on spot entry next arrival router came_in_by passed accepted goes is below spells live other more
       comes opens =
       turn_is n now source destination payload (header_on arrival spot)
-      (stop_at entry.ia router arrival came) passed accepted.one _ accepted.named below from for
+      (stop_at entry.ia router arrival came_in_by) passed accepted.one _ accepted.named below from for
       spells
       (goes_on (view_for n accepted.one entry.ia router) now arrival source destination spot entry
       goes.near is comes
       (own n now router spot.piece spot.reached entry accepted live) other more opens)
 
   -- at the end of the path
-  pub turns_last : (spot : PathPosition) (entry : Entry) (arrival : Arrival) (router came : ℕ)
+  pub turns_last : (spot : PathPosition) (entry : Entry) (arrival : Arrival) (router came_in_by : ℕ)
       (passed : List WalkHop) → (accepted : IsAuthenticHop n spot.piece spot.reached entry)
       → IsSpot spot entry → router < accepted.one.routers
       → Spells (spelling (header_on arrival spot)) (header_on arrival spot)
       → IsLive spot.piece.segment.timestamp entry.exp_time now
       → destination ≡ entry.ia → spot.reached + 1 ≡ len_of spot.piece → spot.later ≡ []
       → Comes (view_for n accepted.one entry.ia router) arrival source spot entry
-      → turned n now (at_spot source destination payload spot entry arrival router came passed)
+      → turned n now (at_spot source destination payload spot entry arrival router came_in_by passed)
       ≡ record {
         bytes = framed source destination (header_there spot) payload;
         place = Delivered;
-        passed = noted passed (record { ia = entry.ia; ingress = came; egress = 0 });
+        passed = noted passed (record { ia = entry.ia; ingress = came_in_by; egress = 0 });
       }
-  turns_last spot entry arrival router came passed accepted is below spells live here at_end none
+  turns_last spot entry arrival router came_in_by passed accepted is below spells live here at_end none
       comes =
       turn_is n now source destination payload (header_on arrival spot)
-      (stop_at entry.ia router arrival came) passed accepted.one _ accepted.named below from for
+      (stop_at entry.ia router arrival came_in_by) passed accepted.one _ accepted.named below from for
       spells
       (arrives (view_for n accepted.one entry.ia router) now arrival source destination spot entry
       is
@@ -151,7 +151,7 @@ module _ (n : Network) (now source destination : ℕ) (payload : List ℕ) (from
 
   -- onto the next piece
   pub turns_beyond : (past later : List PieceValue) (piece next_piece : PieceValue) (i : ℕ)
-      (entry first second : Entry) (interface router came : ℕ) (passed : List WalkHop)
+      (entry first second : Entry) (interface router came_in_by : ℕ) (passed : List WalkHop)
       → (accepted : IsAuthenticHop n piece i entry) (first_accepted : IsAuthenticHop n next_piece 0 first)
       (goes : IsLinked n next_piece first second)
       → IsSpot (at_end past piece next_piece later i) entry → router < accepted.one.routers
@@ -168,16 +168,16 @@ module _ (n : Network) (now source destination : ℕ) (payload : List ℕ) (from
       (Link interface) true next_piece first goes.near
       → turned n now
       (at_spot source destination payload (at_end past piece next_piece later i) entry
-      (Link interface) router came passed)
-      ≡ placed n source destination payload (stop_at entry.ia router (Link interface) came) passed
+      (Link interface) router came_in_by passed)
+      ≡ placed n source destination payload (stop_at entry.ia router (Link interface) came_in_by) passed
       (onward_by (view_for n accepted.one entry.ia router) goes.near
       (at_start past piece next_piece later) first)
-  turns_beyond past later piece next_piece i entry first second interface router came passed
+  turns_beyond past later piece next_piece i entry first second interface router came_in_by passed
       accepted first_accepted goes is below spells live live_first other at_the_end range there
       own_first comes opens =
       turn_is n now source destination payload
       (header_on (Link interface) (at_end past piece next_piece later i))
-      (stop_at entry.ia router (Link interface) came) passed accepted.one _ accepted.named below
+      (stop_at entry.ia router (Link interface) came_in_by) passed accepted.one _ accepted.named below
       from for
       spells
       (switches

@@ -52,16 +52,16 @@ pub record IsRoute (n : Network) (now source destination : ℕ)
 
 -- ---- small facts
 
-pub some_front : (came w : ℕ) (hop : WalkHop) (xs back : List WalkHop)
-    → 0 < length (entered_by came (left_by w (hop ∷ xs)) ++ back)
-some_front came w hop [] back = omega arith
-some_front came w hop (x ∷ xs) back = omega arith
+pub some_front : (came_in_by w : ℕ) (hop : WalkHop) (xs back : List WalkHop)
+    → 0 < length (entered_by came_in_by (left_by w (hop ∷ xs)) ++ back)
+some_front came_in_by w hop [] back = omega arith
+some_front came_in_by w hop (x ∷ xs) back = omega arith
 
-pub some_to_come : (came : ℕ) (spot : PathPosition) (entry : Entry)
-    → slice_get (travelled spot.piece) spot.reached ≡ Some entry → 0 < length (to_come came spot)
-some_to_come came spot entry there =
+pub some_to_come : (came_in_by : ℕ) (spot : PathPosition) (entry : Entry)
+    → slice_get (travelled spot.piece) spot.reached ≡ Some entry → 0 < length (to_come came_in_by spot)
+some_to_come came_in_by spot entry there =
     rw (hops_from spot.piece spot.reached entry there)
-    (some_front came (way_beyond spot.later) _ (drop (spot.reached + 1) (hops_of spot.piece))
+    (some_front came_in_by (way_beyond spot.later) _ (drop (spot.reached + 1) (hops_of spot.piece))
     (walk_beyond spot.later))
 
 pub over_more : (n : Network) (hop : WalkHop) (rest : List WalkHop) → 0 < length rest

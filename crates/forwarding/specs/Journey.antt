@@ -28,8 +28,8 @@ walk_beyond (piece ∷ later) =
 
 -- the walk from a spot on, for a packet that came into its AS by this interface
 abbrev pub to_come : ℕ → PathPosition → List WalkHop
-to_come came spot =
-    entered_by came (left_by (way_beyond spot.later) (drop spot.reached (hops_of spot.piece)))
+to_come came_in_by spot =
+    entered_by came_in_by (left_by (way_beyond spot.later) (drop spot.reached (hops_of spot.piece)))
     ++ walk_beyond spot.later
 
 -- one router owns both

@@ -25,9 +25,9 @@ header_on (Link interface) spot = header_coming spot
 
 -- the packet at a router of the AS of that entry
 abbrev pub at_spot : ℕ → ℕ → List ℕ → PathPosition → Entry → Arrival → ℕ → ℕ → List WalkHop → Packet
-at_spot source destination payload spot entry arrival router came passed = record {
+at_spot source destination payload spot entry arrival router came_in_by passed = record {
   bytes = framed source destination (header_on arrival spot) payload;
-  place = AtRouter (record { ia = entry.ia; router = router; arrival = arrival; came = came });
+  place = AtRouter (record { ia = entry.ia; router = router; arrival = arrival; came_in_by = came_in_by });
   passed = passed;
 }
 
@@ -35,15 +35,15 @@ at_spot source destination payload spot entry arrival router came passed = recor
 -- the owner of its way out; from inside at the owner of its way out; over a link at the owner of
 -- its way in
 abbrev pub IsPlaced : Network → PathPosition → Entry → Arrival → ℕ → ℕ → List WalkHop → Type 0
-IsPlaced n spot entry FromHost router came passed =
+IsPlaced n spot entry FromHost router came_in_by passed =
     (spot.past ≡ []) × ((spot.reached ≡ 0) × ((passed ≡ [])
     × (owner_in n entry.ia (out_by spot.piece entry) ≡ Ok router)))
-IsPlaced n spot entry Inside router came passed =
+IsPlaced n spot entry Inside router came_in_by passed =
     (spot.reached + 1 < len_of spot.piece)
     × (owner_in n entry.ia (out_by spot.piece entry) ≡ Ok router)
-IsPlaced n spot entry (Link interface) router came passed =
+IsPlaced n spot entry (Link interface) router came_in_by passed =
     (0 < spot.reached) × ((0 < length passed) × ((interface ≡ in_by spot.piece entry)
-    × ((came ≡ interface) × (owner_in n entry.ia interface ≡ Ok router))))
+    × ((came_in_by ≡ interface) × (owner_in n entry.ia interface ≡ Ok router))))
 
 -- the packet stands on its path, `left` turns from its end: the hops that it has passed and those
 -- that lie before it are the walk
@@ -53,15 +53,15 @@ pub record OnPath (n : Network) (source destination : ℕ) (payload : List ℕ)
   pub entry : Entry
   pub arrival : Arrival
   pub router : ℕ
-  pub came : ℕ
+  pub came_in_by : ℕ
   pub passed : List WalkHop
-  pub is : packet ≡ at_spot source destination payload spot entry arrival router came passed
+  pub is : packet ≡ at_spot source destination payload spot entry arrival router came_in_by passed
   pub frame : HasFrame source destination pieces
   pub whole : pieces_at spot ≡ pieces
   pub there : slice_get (travelled spot.piece) spot.reached ≡ Some entry
-  pub placed : IsPlaced n spot entry arrival router came passed
-  pub walk : passed ++ to_come came spot ≡ walk_of pieces
-  pub count : left ≡ turns_left n arrival (to_come came spot)
+  pub placed : IsPlaced n spot entry arrival router came_in_by passed
+  pub walk : passed ++ to_come came_in_by spot ≡ walk_of pieces
+  pub count : left ≡ turns_left n arrival (to_come came_in_by spot)
 
 -- a turn leads to the next place on the path, one turn nearer to its end
 pub record ComesNearer (n : Network) (now source destination : ℕ) (payload : List ℕ)

@@ -27,7 +27,7 @@ pub record Packet : Type 0 where
 abbrev pub put_at : List ℕ → ℕ → ℕ → Packet
 put_at bytes ia router = record {
   bytes = bytes;
-  place = AtRouter (record { ia = ia; router = router; arrival = FromHost; came = 0 });
+  place = AtRouter (record { ia = ia; router = router; arrival = FromHost; came_in_by = 0 });
   passed = [];
 }
 
@@ -37,12 +37,12 @@ noted passed hop = if nat_lt (length passed) 64 then passed ++ hop ∷ [] else p
 
 -- the hop of the AS in which the packet stands, left by this interface
 abbrev pub hop_by : RouterStop → ℕ → WalkHop
-hop_by stop out = record { ia = stop.ia; ingress = stop.came; egress = out }
+hop_by stop out = record { ia = stop.ia; ingress = stop.came_in_by; egress = out }
 
 -- at the router that owns the far end of a link; where there is none, nothing is done
 abbrev pub at_owner : Packet → RouterStop → ℕ → ℕ → ℕ → Result ℕ TopologyFault → Packet
 at_owner packet stop out ia number (Ok router) = record packet {
-  place = AtRouter (record { ia = ia; router = router; arrival = Link number; came = number });
+  place = AtRouter (record { ia = ia; router = router; arrival = Link number; came_in_by = number });
   passed = noted packet.passed (hop_by stop out);
 }
 at_owner packet stop out ia number (Err fault) = packet

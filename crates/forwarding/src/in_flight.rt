@@ -40,7 +40,7 @@ impl PacketInFlight {
                 ia,
                 router,
                 arrival: Arrival::FromHost,
-                came: IfId::NONE,
+                came_in_by: IfId::NONE,
             }),
             passed: HopTrace::new(),
         }
@@ -187,7 +187,7 @@ impl PacketInFlight {
                     ia,
                     router,
                     arrival: Arrival::Link(number),
-                    came: number,
+                    came_in_by: number,
                 });
             }
         }
@@ -200,7 +200,7 @@ fn hop_by(stop: RouterStop, out: IfId) -> WalkHop
 {
     WalkHop {
         ia: stop.ia,
-        ingress: stop.came,
+        ingress: stop.came_in_by,
         egress: out,
     }
 }

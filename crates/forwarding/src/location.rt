@@ -11,7 +11,7 @@ pub struct RouterStop {
     /// How the packet came to the router.
     pub arrival: Arrival,
     /// The interface by which the packet came into the AS, or 0 where it was sent there.
-    pub came: IfId,
+    pub came_in_by: IfId,
 }
 
 /// Where a packet is.

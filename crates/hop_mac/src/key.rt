@@ -46,8 +46,8 @@ impl Clone for MacKey {
     fn clone(&self) -> Result<MacKey, AllocError> {
         Ok(MacKey {
             block: self.block,
-            inner: copy_of(&self.inner),
-            outer: copy_of(&self.outer),
+            inner: clone_hasher(&self.inner),
+            outer: clone_hasher(&self.outer),
         })
     }
 }
@@ -74,9 +74,9 @@ impl MacKey {
     pub fn mac(&self, text: &[u8]) -> [u8; 32]
         ensures { result ≡ hmac_under self.now text.now }
     {
-        let mut inner = copy_of(&self.inner);
+        let mut inner = clone_hasher(&self.inner);
         inner.update(text);
-        let mut outer = copy_of(&self.outer);
+        let mut outer = clone_hasher(&self.outer);
         outer.update(inner.finalize().as_slice());
         outer.finalize()
     }
@@ -106,7 +106,7 @@ fn first_six(code: &[u8; 32]) -> [u8; 6]
 }
 
 /// The same hash state once more, which takes no memory.
-fn copy_of(hasher: &Sha256) -> Sha256
+fn clone_hasher(hasher: &Sha256) -> Sha256
     ensures { result ≡ hasher.now }
 {
     match hasher.clone() {

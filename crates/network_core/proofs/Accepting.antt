@@ -12,7 +12,7 @@ use Rattle.path_verifier.specs.declared.kind.PieceKind.TheVariants.{Up, Core, Do
 use Rattle.path_verifier.specs.Piece.{PieceValue, kind_of}
 use Rattle.path_verifier.specs.Accepted.{request_of, IsAccepted}
 use Rattle.combinator.specs.Candidate.{PathValue, segments_of, IsOf}
-use Rattle.combinator.specs.Answer.{IsBest, asked, AnswersWith}
+use Rattle.combinator.specs.Answer.{IsBest, question_under, AnswersWith}
 use Rattle.forwarding.specs.Turned.{no_rules}
 use Rattle.network_core.specs.Value.{KeptAnswer, way_on, asked_at, NetValue}
 use Rattle.network_core.specs.Step.{rules_used, IsAnswerTo}
@@ -21,7 +21,7 @@ use Rattle.network_core.proofs.Issuing.{all_filter}
 -- ---- one path
 
 best_accepted : (segments : List Chain) (src dst moment : ℕ) (option : WeighedRules)
-    (path : PathValue) → IsBest (asked (segments_for segments src dst moment) src dst option) path
+    (path : PathValue) → IsBest (question_under (segments_for segments src dst moment) src dst option) path
     → IsAccepted (request_of path.pieces path.header src dst moment option.rules)
 unfolding segments_for
 best_accepted segments src dst moment option path best = best.candidate.accepted
@@ -38,7 +38,7 @@ found_all P segments src dst moment Down all = all_filter P (ends_in dst moment)
 
 best_stored : (P : Chain → Type 0) (segments : List Chain) (src dst moment : ℕ)
     (option : WeighedRules) (path : PathValue) → All P segments
-    → IsBest (asked (segments_for segments src dst moment) src dst option) path
+    → IsBest (question_under (segments_for segments src dst moment) src dst option) path
     → All (λ piece. P piece.segment) path.pieces
 best_stored P segments src dst moment option path all best =
     let set = segments_for segments src dst moment in
@@ -67,7 +67,7 @@ all_accepted segments src dst moment options limit None paths rules is are =
     subst (All P) (sym is.0) (All-nil P)
 all_accepted segments src dst moment options limit (Some used) paths rules is are =
     let same = used_rules options used is.option rules is.there are in
-    All-weaker (IsBest (asked (segments_for segments src dst moment) src dst is.option)) _
+    All-weaker (IsBest (question_under (segments_for segments src dst moment) src dst is.option)) _
     (λ path best. subst (λ r. IsAccepted (request_of path.pieces path.header src dst moment r)) same
     (best_accepted segments src dst moment is.option path best)) paths is.answer.best
 
@@ -80,7 +80,7 @@ all_stored P segments src dst moment options limit None paths all is =
     let Q = λ (path : PathValue). All (λ (piece : PieceValue). P piece.segment) path.pieces in
     subst (All Q) (sym is.0) (All-nil Q)
 all_stored P segments src dst moment options limit (Some used) paths all is =
-    All-weaker (IsBest (asked (segments_for segments src dst moment) src dst is.option)) _
+    All-weaker (IsBest (question_under (segments_for segments src dst moment) src dst is.option)) _
     (λ path best. best_stored P segments src dst moment is.option path all best) paths is.answer.best
 
 -- ---- what is kept

@@ -51,7 +51,7 @@ pub standing_some : (net : NetValue) (sent : Shipment) (left : ℕ) (packet : Pa
     → Stands net sent left packet → 0 < left
 standing_some net sent left packet s =
     subst (λ k. 0 < k) (sym s.count)
-    (left_some net.network s.arrival (to_come s.came s.spot) (some_to_come s.came s.spot s.entry s.there))
+    (left_some net.network s.arrival (to_come s.came_in_by s.spot) (some_to_come s.came_in_by s.spot s.entry s.there))
 
 -- and stands so after any event that leaves it as it is
 stands_on : (old new : NetValue) (event : EventValue) (reply : Reply) (sent : Shipment) (left : ℕ)

@@ -137,8 +137,8 @@ forwarded net p total done sent c = elim c.state [
         there = c.there;
         holds = c.holds;
         unrefused = λ ia router refusal e. (let both = sym place ∙ e in cc);
-        rest = to_come stands.came stands.spot;
-        so_far = ap (λ (q : Packet). q.passed ++ to_come stands.came stands.spot) stands.is ∙ stands.walk;
+        rest = to_come stands.came_in_by stands.spot;
+        so_far = ap (λ (q : Packet). q.passed ++ to_come stands.came_in_by stands.spot) stands.is ∙ stands.walk;
         exact = (λ delivered. absurd (let both = sym place ∙ delivered in cc), λ enough. absurd (omega arith));
         waits = λ early. (_, place);
         whole = λ delivered. absurd (let both = sym place ∙ delivered in cc);

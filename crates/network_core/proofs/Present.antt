@@ -25,7 +25,7 @@ Stands n one = IsPresent n one.packet
 lasting : Outlasts IsNetwork Stands
 lasting = record {
   departed = λ n sent router network owned stop at. (
-      let here : RouterStop = record { ia = sent.way.source; router = router; arrival = FromHost; came = 0 } in
+      let here : RouterStop = record { ia = sent.way.source; router = router; arrival = FromHost; came_in_by = 0 } in
       let same : here ≡ stop = cc in
       subst (λ (s : RouterStop). IsOk (view_in n s.ia s.router)) same
       (owners_are_there n sent.way.source (first_out (walk_of sent.way.pieces)) router network owned));

@@ -38,8 +38,8 @@ pub record LetsGoOn (p : ℕ) (sent : Shipment) (old : NetValue) (event : EventV
 
 abbrev pub AllLetGoOn : ℕ → Shipment → NetValue → List EventRecord → Type 0
 AllLetGoOn p sent net [] = Unit {0}
-AllLetGoOn p sent net (moment ∷ later) =
-    LetsGoOn p sent net moment.event moment.reply × AllLetGoOn p sent moment.net later
+AllLetGoOn p sent net (one ∷ later) =
+    LetsGoOn p sent net one.event one.reply × AllLetGoOn p sent one.net later
 
 -- how many of these events are turns of the packet
 abbrev pub is_turn_of : ℕ → EventValue → Bool
@@ -48,7 +48,7 @@ is_turn_of p event = false
 
 abbrev pub turns_of : ℕ → List EventRecord → ℕ
 turns_of p [] = 0
-turns_of p (moment ∷ later) = (if is_turn_of p moment.event then 1 else 0) + turns_of p later
+turns_of p (one ∷ later) = (if is_turn_of p one.event then 1 else 0) + turns_of p later
 
 -- the packet, with `total` turns to its walk's end, of which `done` were had: no router has refused
 -- it; the hops that it has passed are the beginning of its walk; it is delivered exactly once it
@@ -86,9 +86,9 @@ pub record LeavesUndisturbed (p : ℕ) (sent : Shipment) (old : NetValue) (event
 
 abbrev pub AllLeaveUndisturbed : ℕ → Shipment → NetValue → List EventRecord → Type 0
 AllLeaveUndisturbed p sent net [] = Unit {0}
-AllLeaveUndisturbed p sent net (moment ∷ later) =
-    LeavesUndisturbed p sent net moment.event moment.reply
-    × AllLeaveUndisturbed p sent moment.net later
+AllLeaveUndisturbed p sent net (one ∷ later) =
+    LeavesUndisturbed p sent net one.event one.reply
+    × AllLeaveUndisturbed p sent one.net later
 
 -- the network has the AS from which this was sent, and there the interface by which it leaves
 abbrev pub MayDepart : Network → Shipment → Type 0
@@ -112,7 +112,7 @@ IsFramed event reply net = (route : RouteValue) (payload : List ℕ) → event �
     → HasSentFrame reply net
 
 abbrev pub AllFramed : List EventRecord → Type 0
-AllFramed history = All (λ moment. IsFramed moment.event moment.reply moment.net) history
+AllFramed history = All (λ one. IsFramed one.event one.reply one.net) history
 
 -- a router has refused the packet; the packet is at a router
 abbrev pub IsRefusedAt : PacketLocation → Type 0

@@ -23,13 +23,13 @@ pub record EventRecord : Type 0 where
 -- each event is a step from the network that the one before left
 abbrev pub IsHistory : NetValue → List EventRecord → Type 0
 IsHistory start [] = Unit {0}
-IsHistory start (moment ∷ later) =
-    Step start moment.event moment.reply moment.net × IsHistory moment.net later
+IsHistory start (one ∷ later) =
+    Step start one.event one.reply one.net × IsHistory one.net later
 
 -- the network after all of these events
 abbrev pub net_after : NetValue → List EventRecord → NetValue
 net_after start [] = start
-net_after start (moment ∷ later) = net_after moment.net later
+net_after start (one ∷ later) = net_after one.net later
 
 -- the network that event number k finds, counted from 0: that after the k events before
 abbrev pub net_at : NetValue → List EventRecord → ℕ → NetValue
@@ -59,7 +59,7 @@ doer event = 0
 -- the key that the AS of event number k has in use then
 abbrev pub key_then : NetValue → List EventRecord → ℕ → List ℕ
 key_then start history k = option_map_or
-    (λ (moment : EventRecord). key_in (net_at start history k).network (doer moment.event))
+    (λ (one : EventRecord). key_in (net_at start history k).network (doer one.event))
     (slice_get history k) []
 
 -- the segment was issued by events of this history: an Originate of number `first`, any number of

@@ -31,5 +31,5 @@ pub record IsRun (network : Network) (history : List EventRecord) : Type 0 where
 pub record Ran (network : Network) (events : List EventValue) (net : NetValue) : Type 0 where
   pub history : List EventRecord
   pub run : IsRun network history
-  pub of : map (λ moment. moment.event) history ≡ events
+  pub of : map (λ one. one.event) history ≡ events
   pub ends : net_after (new_net network) history ≡ net

@@ -19,7 +19,7 @@ use crate::packet::{Packet, Sent};
 use crate::reply::Reply;
 use forwarding::{PacketInFlight, PacketLocation, frame};
 use path_header::Header;
-use path_verifier::{lend_all, own_all, verify};
+use path_verifier::{lend_all, to_owned_pieces, verify};
 use policy_expr::Policy;
 use refusal::OrMemory;
 use router_step::{destination_in, read_header, source_in};
@@ -200,10 +200,10 @@ fn packet_of(
     let sent = Sent {
         source: way.source,
         destination: way.destination,
-        pieces: own_all(alloc, way.pieces)?,
+        pieces: to_owned_pieces(alloc, way.pieces)?,
         header: way.header.clone()?,
         policy: way.policy.clone_in(alloc)?,
-        payload: copied(alloc, payload)?,
+        payload: clone_bytes(alloc, payload)?,
     };
     Ok(Packet {
         sent,
@@ -212,7 +212,7 @@ fn packet_of(
 }
 
 /// The same bytes; or memory runs out.
-fn copied(alloc: Global, bytes: &[u8]) -> Result<Vec<u8>, AllocError>
+fn clone_bytes(alloc: Global, bytes: &[u8]) -> Result<Vec<u8>, AllocError>
     ensures { IfOk result (λ own. own.items ≡ bytes.now) }
 {
     let mut own = Vec::with_capacity(alloc, bytes.len())?;

@@ -11,20 +11,20 @@ use Rattle.path_header.specs.declared.fields.InfoField.{InfoField}
 use Rattle.path_header.specs.Value.{HeaderValue, IsHeader, header_len}
 use Rattle.path_header.specs.Spelling.{meta_of, meta_word, info_spelling, hop_spelling, spelling, InfoFits, Fits, Spells}
 use Rattle.path_header.specs.Reading.{header_at}
-use Rattle.path_header.specs.Shown.{is_read, has_header, read_or_none, shown}
+use Rattle.path_header.specs.Shown.{is_read, has_header, read_or_none, header_at_front}
 use Rattle.path_header.proofs.OneField.{length-info_spelling}
 use Rattle.path_header.proofs.WholeHeader.{header_again, length-spelling}
 
 -- these bytes begin with this header, and this follows
 pub record Shows (bytes : List ℕ) (v : HeaderValue) (rest : List ℕ) : Type 0 where
   pub has : has_header bytes ≡ true
-  pub value : shown bytes ≡ v
-  pub rest_is : drop (header_len (shown bytes)) bytes ≡ rest
+  pub value : header_at_front bytes ≡ v
+  pub rest_is : drop (header_len (header_at_front bytes)) bytes ≡ rest
 
 shows : (v : HeaderValue) (bytes rest : List ℕ) → IsHeader v → Fits v → bytes ≡ spelling v ++ rest → Shows bytes v rest
 shows v bytes rest is fits e =
     let read : header_at bytes ≡ Ok v = ap (λ (t : List ℕ). header_at t) e ∙ header_again v rest is fits in
-    let value : shown bytes ≡ v = ap (λ r. read_or_none r) read in
+    let value : header_at_front bytes ≡ v = ap (λ r. read_or_none r) read in
     let behind : drop (header_len v) bytes ≡ rest = ap (λ (t : List ℕ). drop (header_len v) t) e ∙ drop_at (spelling v) rest (header_len v) (length-spelling v is fits) in
     record { has = ap (λ r. is_read r) read; value = value; rest_is = ap (λ (w : HeaderValue). drop (header_len w) bytes) value ∙ behind }
 

@@ -12,7 +12,7 @@ use Rattle.path_header.specs.Value.{HeaderValue, info_count, hop_count}
 use Rattle.refusal.specs.Refusal.{◌>>=◌}
 use Rattle.path_header.specs.Spelling.{meta_of}
 use Rattle.path_header.specs.Reading.{word_at, reserved_bits, meta_from, announced, meta_at, info_from, info_at, hop_from, hop_at, fields_at, header_at}
-use Rattle.path_header.specs.Shown.{is_read, has_header, read_or_none, shown}
+use Rattle.path_header.specs.Shown.{is_read, has_header, read_or_none, header_at_front}
 use Rattle.refusal.proofs.Steps.{bind_ok, ok_is}
 use Rattle.path_header.proofs.Answered.{AreBytes, passed, passed_last}
 use Rattle.path_header.proofs.MetaField.{announced_takes}
@@ -24,11 +24,11 @@ is_the_read : (r : Result HeaderValue HeaderFault) → is_read r ≡ true → r 
 is_the_read (Ok v) e = refl
 is_the_read (Err f) e = absurd cc
 
-pub read_is : (bytes : List ℕ) → has_header bytes ≡ true → header_at bytes ≡ Ok (shown bytes)
+pub read_is : (bytes : List ℕ) → has_header bytes ≡ true → header_at bytes ≡ Ok (header_at_front bytes)
 read_is bytes e = is_the_read (header_at bytes) e
 
-pub begins : (bytes : List ℕ) → AreBytes bytes → has_header bytes ≡ true → BeginsWith bytes (shown bytes)
-begins bytes fits e = header_takes bytes (shown bytes) fits (read_is bytes e)
+pub begins : (bytes : List ℕ) → AreBytes bytes → has_header bytes ≡ true → BeginsWith bytes (header_at_front bytes)
+begins bytes fits e = header_takes bytes (header_at_front bytes) fits (read_is bytes e)
 
 -- ---- its parts, as they are read
 
@@ -96,21 +96,21 @@ hop_is bytes x e =
 
 -- ---- what is shown
 
-pub meta_shown : (bytes : List ℕ) → has_header bytes ≡ true → meta_from (word_at bytes) ≡ meta_of (shown bytes)
-meta_shown bytes e = (parts bytes (shown bytes) (read_is bytes e)).meta
+pub meta_shown : (bytes : List ℕ) → has_header bytes ≡ true → meta_from (word_at bytes) ≡ meta_of (header_at_front bytes)
+meta_shown bytes e = (parts bytes (header_at_front bytes) (read_is bytes e)).meta
 
-pub info_shown : (bytes : List ℕ) (i : ℕ) → has_header bytes ≡ true → i < length (shown bytes).infos
-    → slice_get (shown bytes).infos i ≡ Some (info_from (drop (4 + 8 * i) bytes))
+pub info_shown : (bytes : List ℕ) (i : ℕ) → has_header bytes ≡ true → i < length (header_at_front bytes).infos
+    → slice_get (header_at_front bytes).infos i ≡ Some (info_from (drop (4 + 8 * i) bytes))
 info_shown bytes i e lt =
-    let v = shown bytes in
+    let v = header_at_front bytes in
     let found = field_at info_at 8 (info_count v.lens) i (drop 4 bytes) v.infos lt (parts bytes v (read_is bytes e)).infos in
     let place : drop (8 * i) (drop 4 bytes) ≡ drop (4 + 8 * i) bytes = drop-drop (8 * i) 4 bytes in
     found.2 ∙ ap (λ (x : InfoField). Some x) (info_is (drop (8 * i) (drop 4 bytes)) found.0 found.1 ∙ ap (λ (t : List ℕ). info_from t) place)
 
-pub hop_shown : (bytes : List ℕ) (i : ℕ) → has_header bytes ≡ true → i < length (shown bytes).hops
-    → slice_get (shown bytes).hops i ≡ Some (hop_from (drop (4 + 8 * info_count (shown bytes).lens + 12 * i) bytes))
+pub hop_shown : (bytes : List ℕ) (i : ℕ) → has_header bytes ≡ true → i < length (header_at_front bytes).hops
+    → slice_get (header_at_front bytes).hops i ≡ Some (hop_from (drop (4 + 8 * info_count (header_at_front bytes).lens + 12 * i) bytes))
 hop_shown bytes i e lt =
-    let v = shown bytes in
+    let v = header_at_front bytes in
     let before = 4 + 8 * info_count v.lens in
     let found = field_at hop_at 12 (hop_count v.lens) i (drop before bytes) v.hops lt (parts bytes v (read_is bytes e)).hops in
     let place : drop (12 * i) (drop before bytes) ≡ drop (before + 12 * i) bytes = drop-drop (12 * i) before bytes in

@@ -24,5 +24,5 @@ read_or_none (Ok v) = v
 read_or_none (Err fault) = record { curr_inf = 0; curr_hf = 0; lens = lens_from []; infos = []; hops = [] }
 
 -- the header with which these bytes begin, where they begin with one
-abbrev pub shown : List ℕ → HeaderValue
-shown bytes = read_or_none (header_at bytes)
+abbrev pub header_at_front : List ℕ → HeaderValue
+header_at_front bytes = read_or_none (header_at bytes)

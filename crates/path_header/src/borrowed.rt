@@ -1,7 +1,7 @@
 ghost use Rattle.std.specs.Prelude.{◌≡◌, ◌≤◌, true, length, take};
 ghost use Rattle.path_header.specs.Value.{IsHeader, header_len};
 ghost use Rattle.path_header.specs.Spelling.{Spells};
-ghost use Rattle.path_header.specs.Shown.{has_header, shown};
+ghost use Rattle.path_header.specs.Shown.{has_header, header_at_front};
 
 use crate::checking::check;
 use crate::fault::HeaderFault;
@@ -14,9 +14,9 @@ use crate::writing::put;
 /// Does nothing, and tells its caller what is known of bytes that begin with a header.
 fn begins(bytes: &[u8])
     requires { has_header bytes.now ≡ true }
-    ensures header { IsHeader (shown bytes.now) }
-    ensures long { header_len (shown bytes.now) ≤ length bytes.now }
-    ensures spelled { Spells (take (header_len (shown bytes.now)) bytes.now) (shown bytes.now) }
+    ensures header { IsHeader (header_at_front bytes.now) }
+    ensures long { header_len (header_at_front bytes.now) ≤ length bytes.now }
+    ensures spelled { Spells (take (header_len (header_at_front bytes.now)) bytes.now) (header_at_front bytes.now) }
 {}
 
 /// A path header in borrowed bytes, which spell it in front: it is read and changed where it

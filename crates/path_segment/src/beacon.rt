@@ -3,7 +3,7 @@ ghost use Rattle.path_segment.specs.Chain.{chain_of, with_last, beta_of};
 ghost use Rattle.refusal.specs.Refusal.{Answers, unless};
 ghost use Rattle.path_segment.specs.Rules.{AreOfBeacon, IsBeacon, first_fault, next_fault, last_fault, beacon_of, segment_of};
 
-use crate::chain::{are_same, beta_after_all, copied, with_one_more};
+use crate::chain::{are_same, beta_after_all, clone_entries, with_one_more};
 use crate::entry::Entry;
 use crate::fault::SegmentError;
 use crate::kind::SegKind;
@@ -125,7 +125,7 @@ impl Beacon {
     pub fn try_clone(&self, alloc: Global) -> Result<Beacon, AllocError>
         ensures { IfOk result (λ b. b ≡ self.now) }
     {
-        let entries = copied(alloc, &self.entries)?;
+        let entries = clone_entries(alloc, &self.entries)?;
         Ok(Beacon {
             kind: self.kind,
             timestamp: self.timestamp,

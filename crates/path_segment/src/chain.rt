@@ -41,7 +41,7 @@ pub(crate) fn are_live(timestamp: u32, entries: &[Entry], now: u32) -> bool
 }
 
 /// The same entries once more.
-pub(crate) fn copied(alloc: Global, entries: &[Entry]) -> Result<Vec<Entry>, AllocError>
+pub(crate) fn clone_entries(alloc: Global, entries: &[Entry]) -> Result<Vec<Entry>, AllocError>
     ensures { IfOk result (λ copy. copy.items ≡ entries.now) }
 {
     let mut copy = Vec::with_capacity(alloc, entries.len())?;

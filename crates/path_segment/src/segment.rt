@@ -3,7 +3,7 @@ ghost use Rattle.path_segment.specs.Chain.{chain_of, beta_of, between, first_as,
 ghost use Rattle.path_segment.specs.Rules.{AreOfSegment, IsSegment, segment_of};
 ghost use Rattle.path_segment.specs.Tests.{is_live, is_same};
 
-use crate::chain::{are_live, are_same, beta_after_all, copied, least_expiry_of};
+use crate::chain::{are_live, are_same, beta_after_all, clone_entries, least_expiry_of};
 use crate::entry::Entry;
 use crate::fault::SegmentFault;
 use crate::kind::SegKind;
@@ -72,7 +72,7 @@ impl Segment {
     pub fn try_clone(&self, alloc: Global) -> Result<Segment, AllocError>
         ensures { IfOk result (λ s. s ≡ self.now) }
     {
-        let entries = copied(alloc, &self.entries)?;
+        let entries = clone_entries(alloc, &self.entries)?;
         Ok(Segment {
             kind: self.kind,
             timestamp: self.timestamp,

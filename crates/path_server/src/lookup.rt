@@ -14,7 +14,10 @@ use path_segment::{SegKind, Segment};
 use std::alloc::{AllocError, Global};
 
 /// The same segments once more.
-pub(crate) fn copied(alloc: Global, segments: &[Segment]) -> Result<Vec<Segment>, AllocError>
+pub(crate) fn clone_segments(
+    alloc: Global,
+    segments: &[Segment],
+) -> Result<Vec<Segment>, AllocError>
     ensures { IfOk result (λ copies. copies.items ≡ segments.now) }
 {
     let mut copies = Vec::with_capacity(alloc, segments.len())?;
@@ -25,7 +28,7 @@ pub(crate) fn copied(alloc: Global, segments: &[Segment]) -> Result<Vec<Segment>
 }
 
 /// Copies of the segments at these places.
-fn copied_at(
+fn clone_segments_at(
     alloc: Global,
     segments: &[Segment],
     places: &[usize],
@@ -59,7 +62,7 @@ pub(crate) fn ending_in(
     let mut places = Vec::with_capacity(alloc, same_ends.len())?;
     add_live(&mut places, segments, same_ends, now)?;
     put_in_order(&mut places);
-    copied_at(alloc, segments, &places)
+    clone_segments_at(alloc, segments, &places)
 }
 
 /// The numbers of the ASes of a side of a path: its own, and those in which its segments begin.
@@ -99,7 +102,7 @@ pub(crate) fn core_segments_between(
         add_joining(&mut places, segments, index, *one, far, now)?;
     }
     put_in_order(&mut places);
-    copied_at(alloc, segments, &places)
+    clone_segments_at(alloc, segments, &places)
 }
 
 /// Adds the places of the live core segments between an AS and others, either way round.

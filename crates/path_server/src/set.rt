@@ -1,6 +1,6 @@
 ghost use Rattle.std.specs.Prelude.{◌≡◌, IfOk};
 
-use crate::lookup::copied;
+use crate::lookup::clone_segments;
 use path_segment::Segment;
 use std::alloc::{AllocError, Global};
 use std::marker::Model;
@@ -64,9 +64,9 @@ impl SegmentSet {
         ensures { IfOk result (λ set. set ≡ self.now) }
     {
         Ok(SegmentSet {
-            ups: copied(alloc, &self.ups)?,
-            cores: copied(alloc, &self.cores)?,
-            downs: copied(alloc, &self.downs)?,
+            ups: clone_segments(alloc, &self.ups)?,
+            cores: clone_segments(alloc, &self.cores)?,
+            downs: clone_segments(alloc, &self.downs)?,
             moment: self.moment,
         })
     }

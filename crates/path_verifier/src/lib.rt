@@ -20,7 +20,7 @@ mod walk;
 
 pub use fault::VerifyFault;
 pub use kind::PieceKind;
-pub use owned::{OwnedPiece, lend_all, own_all};
+pub use owned::{OwnedPiece, lend_all, to_owned_pieces};
 pub use path::VerifiedPath;
 pub use piece::Piece;
 pub use pieces::Pieces;

@@ -54,7 +54,7 @@ impl OwnedPiece {
 }
 
 /// Copies of the pieces of a path, each with a segment of its own; or memory runs out.
-pub fn own_all(alloc: Global, pieces: &Pieces<'_>) -> Result<Vec<OwnedPiece>, AllocError>
+pub fn to_owned_pieces(alloc: Global, pieces: &Pieces<'_>) -> Result<Vec<OwnedPiece>, AllocError>
     ensures { IfOk result (λ own. own.items ≡ pieces.now) }
 {
     match &pieces.held {

@@ -77,7 +77,7 @@ impl<A: Allocator + Clone> Acl<A> {
     pub fn clone_in<B: Allocator + Clone>(&self, alloc: B) -> Result<Acl<B>, AllocError>
         ensures { IfOk result (λ acl. acl ≡ self.now) }
     {
-        let entries = copied(alloc, &self.entries)?;
+        let entries = clone_entries(alloc, &self.entries)?;
         Ok(Acl { entries })
     }
 
@@ -103,7 +103,10 @@ impl<A: Allocator + Clone> Acl<A> {
 }
 
 /// The same entries once more.
-fn copied<A: Allocator>(alloc: A, entries: &[AclEntry]) -> Result<Vec<AclEntry, A>, AllocError>
+fn clone_entries<A: Allocator>(
+    alloc: A,
+    entries: &[AclEntry],
+) -> Result<Vec<AclEntry, A>, AllocError>
     ensures { IfOk result (λ copy. copy.items ≡ entries.now) }
 {
     let mut copy = Vec::with_capacity(alloc, entries.len())?;

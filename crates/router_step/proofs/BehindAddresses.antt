@@ -4,7 +4,7 @@ use Rattle.std.proofs.lemmas.List.{take-append-drop, drop-drop, length-drop}
 use Rattle.scion_topology.specs.View.{View}
 use Rattle.path_header.specs.Value.{HeaderValue, header_len}
 use Rattle.path_header.specs.Spelling.{Spells, spelling}
-use Rattle.path_header.specs.Shown.{shown}
+use Rattle.path_header.specs.Shown.{header_at_front}
 use Rattle.path_header.proofs.WholeHeader.{spelled_is_long}
 use Rattle.router_step.specs.declared.outcome.Outcome.{Outcome}
 use Rattle.router_step.specs.declared.fault.Refusal.{Refusal}
@@ -16,17 +16,17 @@ use Rattle.router_step.proofs.Frames.{has_header, read_in, spells_spelling, turn
 
 -- a step over these bytes, in front of which there is a header before and after
 pub record StepsBytes (step : HeaderValue → Result (Outcome × HeaderValue) Refusal) (old new : List ℕ) (result : Result Outcome Refusal) : Type 0 where
-  pub exact : IsStepped (step (shown old)) (shown old) (shown new) result
+  pub exact : IsStepped (step (header_at_front old)) (header_at_front old) (header_at_front new) result
   pub refused : OnErr result (new ≡ old)
-  pub lens : (shown new).lens ≡ (shown old).lens
-  pub rest : drop (header_len (shown new)) new ≡ drop (header_len (shown old)) old
-  pub before : Spells (take (header_len (shown old)) old) (shown old)
-  pub after : Spells (take (header_len (shown new)) new) (shown new)
-  pub long : header_len (shown old) ≤ length old
+  pub lens : (header_at_front new).lens ≡ (header_at_front old).lens
+  pub rest : drop (header_len (header_at_front new)) new ≡ drop (header_len (header_at_front old)) old
+  pub before : Spells (take (header_len (header_at_front old)) old) (header_at_front old)
+  pub after : Spells (take (header_len (header_at_front new)) new) (header_at_front new)
+  pub long : header_len (header_at_front old) ≤ length old
 
 -- the header that is read behind the addresses
 abbrev pub IsRead : List ℕ → Type 0
-IsRead packet = header_in packet ≡ Ok (shown (drop 16 packet), header_len (shown (drop 16 packet)))
+IsRead packet = header_in packet ≡ Ok (header_at_front (drop 16 packet), header_len (header_at_front (drop 16 packet)))
 
 abbrev step_on : View → ℕ → Arrival → List ℕ → HeaderValue → Result (Outcome × HeaderValue) Refusal
 step_on view now arrival packet = step_of view now arrival (source_of packet) (destination_of packet)
@@ -63,7 +63,7 @@ pub packet_stepped : (view : View) (now : ℕ) (arrival : Arrival) (packet addre
     → IsPacketStepped (packet_step view now arrival packet) packet (addresses ++ new) result
 unfolding packet_step
 packet_stepped view now arrival packet addresses new (Ok outcome) read front s =
-    rw (read, s.exact) (ap (λ (t : List ℕ). Ok (outcome, t)) (sym (made packet addresses new (header_len (shown (drop 16 packet))) (shown new) front s.rest s.after)))
+    rw (read, s.exact) (ap (λ (t : List ℕ). Ok (outcome, t)) (sym (made packet addresses new (header_len (header_at_front (drop 16 packet))) (header_at_front new) front s.rest s.after)))
 packet_stepped view now arrival packet addresses new (Err e) read front s =
     (rw (read, s.exact.0) refl, unchanged packet addresses new front s.refused)
 
@@ -72,8 +72,8 @@ pub frame_turned : (view : View) (now : ℕ) (arrival : Arrival) (packet address
     → StepsBytes (step_on view now arrival packet) (drop 16 packet) new result
     → StepsFrame (step_on view now arrival packet header) addresses text rest (front ++ new) result
 frame_turned view now arrival packet addresses text rest front new header (Ok outcome) f read long at_front s =
-    let v = shown (drop 16 packet) in
-    let w = shown new in
+    let v = header_at_front (drop 16 packet) in
+    let w = header_at_front new in
     let both : (v, header_len v) ≡ (header, header_len header) = same_value _ _ (sym read ∙ read_in packet addresses text rest header f) in
     let again = spells_spelling (take (header_len w) new) w s.after in
     let same_len : header_len w ≡ header_len v = ap (λ l. header_len (record v { lens = l })) s.lens in
@@ -83,7 +83,7 @@ frame_turned view now arrival packet addresses text rest front new header (Ok ou
     f (ap (λ (read : HeaderValue × ℕ). read.0) both) refl (within packet (header_len v) long s.long) s.before
     s.exact s.lens again (spelled_is_long w (spelling w) again) written
 frame_turned view now arrival packet addresses text rest front new header (Err e) f read long at_front s =
-    let v = shown (drop 16 packet) in
+    let v = header_at_front (drop 16 packet) in
     let both : (v, header_len v) ≡ (header, header_len header) = same_value _ _ (sym read ∙ read_in packet addresses text rest header f) in
     let same : v ≡ header = ap (λ (read : HeaderValue × ℕ). read.0) both in
     let refused : step_on view now arrival packet header ≡ Err e = ap (step_on view now arrival packet) (sym same) ∙ s.exact.0 in
@@ -93,4 +93,4 @@ frame_turned view now arrival packet addresses text rest front new header (Err e
 pub has_header_behind : (step : HeaderValue → Result (Outcome × HeaderValue) Refusal) (packet new : List ℕ) (result : Result Outcome Refusal)
     → 16 ≤ length packet → StepsBytes step (drop 16 packet) new result → HasHeader packet
 has_header_behind step packet new result long s =
-    has_header packet (header_len (shown (drop 16 packet))) (shown (drop 16 packet)) (within packet (header_len (shown (drop 16 packet))) long s.long) s.before
+    has_header packet (header_len (header_at_front (drop 16 packet))) (header_at_front (drop 16 packet)) (within packet (header_len (header_at_front (drop 16 packet))) long s.long) s.before

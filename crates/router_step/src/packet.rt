@@ -3,7 +3,7 @@
 ghost use Rattle.std.specs.Prelude.{◌≡◌, ℕ, ◌+◌, ◌≤◌, true, List, ◌++◌, length, take, drop, OnOk, OnErr, IfOk, MatchResult};
 ghost use Rattle.path_header.specs.Value.{HeaderValue, header_len};
 ghost use Rattle.path_header.specs.Spelling.{Spells};
-ghost use Rattle.path_header.specs.Shown.{has_header, shown};
+ghost use Rattle.path_header.specs.Shown.{has_header, header_at_front};
 ghost use Rattle.refusal.specs.Refusal.{Gives};
 ghost use Rattle.router_step.specs.Step.{step_of, IsStepped};
 ghost use Rattle.router_step.specs.Packet.{destination_of, source_of, header_in, packet_step, IsPacketStepped, IsFrame, HasHeader, StepsFrame};
@@ -86,18 +86,18 @@ fn step_behind(
     bytes: &mut [u8],
 ) -> Result<Outcome, Refusal>
     requires { has_header bytes.old ≡ true }
-    ensures exact { let step = step_of view.now now arrival source destination (shown bytes.old)
-        in IsStepped step (shown bytes.old) (shown bytes.new) result }
+    ensures exact { let step = step_of view.now now arrival source destination (header_at_front bytes.old)
+        in IsStepped step (header_at_front bytes.old) (header_at_front bytes.new) result }
     ensures refused { OnErr result (bytes.new ≡ bytes.old) }
-    ensures lens { (shown bytes.new).lens ≡ (shown bytes.old).lens }
-    ensures rest { let header = shown bytes.new
-        in drop (header_len header) bytes.new ≡ drop (header_len (shown bytes.old)) bytes.old }
+    ensures lens { (header_at_front bytes.new).lens ≡ (header_at_front bytes.old).lens }
+    ensures rest { let header = header_at_front bytes.new
+        in drop (header_len header) bytes.new ≡ drop (header_len (header_at_front bytes.old)) bytes.old }
     // There was a header, and there is one.
-    ensures before { let header = shown bytes.old
+    ensures before { let header = header_at_front bytes.old
         in Spells (take (header_len header) bytes.old) header }
-    ensures after { let header = shown bytes.new
+    ensures after { let header = header_at_front bytes.new
         in Spells (take (header_len header) bytes.new) header }
-    ensures long { header_len (shown bytes.old) ≤ length bytes.old }
+    ensures long { header_len (header_at_front bytes.old) ≤ length bytes.old }
 {
     let mut header = HeaderMut::checked(bytes);
     header.known();
@@ -109,7 +109,7 @@ fn step_behind(
 /// Checks that a path header stands behind a packet's addresses: [`Refusal::BadHeader`] with the
 /// reason why there is none.
 fn check_header(packet: &[u8]) -> Result<(), Refusal>
-    ensures exact { let header = shown (drop 16 packet.now)
+    ensures exact { let header = header_at_front (drop 16 packet.now)
         in Gives (λ _. (header, header_len header)) result (header_in packet.now) }
     ensures long { OnOk result (16 ≤ length packet.now) }
     ensures begins { OnOk result (has_header (drop 16 packet.now) ≡ true) }

@@ -18,24 +18,24 @@ use Rattle.forwarding.proofs.Sending.{starts}
 use Rattle.forwarding.proofs.Made.{sound_is_let_through}
 use Rattle.forwarding.proofs.Journeys.{stands_after, delivered_after}
 use Rattle.network_core.specs.Delivery.{IsRefusedAt, IsAtRouter}
-use Rattle.router_workers.specs.Flight.{Sending, IsFlight, put_with, departed, grounded}
+use Rattle.router_workers.specs.Flight.{SentPacket, IsFlight, put_with, departed, grounded}
 use Rattle.router_workers.specs.Delivery.{IsForwarded, IsSoundIn}
 
 -- ---- where a flight departs
 
-pub record Departs (n : Network) (sent : Sending) (start : Packet) : Type 0 where
+pub record Departs (n : Network) (sent : SentPacket) (start : Packet) : Type 0 where
   pub router : ℕ
   pub owned : owner_in n sent.source (first_out (walk_of sent.pieces)) ≡ Ok router
   pub is : start
       ≡ put_at (framed sent.source sent.destination sent.header sent.payload) sent.source router
 
-departs_with : (n : Network) (sent : Sending) (start : Packet) (owner : Result ℕ TopologyFault)
+departs_with : (n : Network) (sent : SentPacket) (start : Packet) (owner : Result ℕ TopologyFault)
     → owner_in n sent.source (first_out (walk_of sent.pieces)) ≡ owner
     → put_with sent owner ≡ Ok start → Departs n sent start
 departs_with n sent start (Ok router) is put = record { router = router; owned = is; is = cc }
 departs_with n sent start (Err fault) is put = absurd cc
 
-pub departs : (n : Network) (sent : Sending) (start : Packet) → departed n sent ≡ Ok start
+pub departs : (n : Network) (sent : SentPacket) (start : Packet) → departed n sent ≡ Ok start
     → Departs n sent start
 departs n sent start put = departs_with n sent start
     (owner_in n sent.source (first_out (walk_of sent.pieces))) refl put
@@ -48,7 +48,7 @@ began n start first (now ∷ later) none is = absurd (omega (arith, none))
 
 -- ---- after its turns
 
-before : (n : Network) (sent : Sending) (total done : ℕ) (packet : Packet) → done < total
+before : (n : Network) (sent : SentPacket) (total done : ℕ) (packet : Packet) → done < total
     → total ≤ 2 * hop_count sent.pieces → OnPath n sent.source sent.destination sent.payload sent.pieces (total - done)
     packet → IsForwarded sent total done packet
 before n sent total done packet early few stands =
@@ -56,8 +56,8 @@ before n sent total done packet early few stands =
     let at : IsAtRouter packet.place = subst IsAtRouter (sym place) tt in
     record {
       unrefused = λ refused. absurd (subst (λ p. IsRefusedAt p) place refused);
-      rest = to_come stands.came stands.spot;
-      so_far = ap (λ (q : Packet). q.passed ++ to_come stands.came stands.spot) stands.is
+      rest = to_come stands.came_in_by stands.spot;
+      so_far = ap (λ (q : Packet). q.passed ++ to_come stands.came_in_by stands.spot) stands.is
           ∙ stands.walk;
       exact = (
         λ delivered. absurd (let both = sym place ∙ delivered in cc),
@@ -68,7 +68,7 @@ before n sent total done packet early few stands =
       whole = λ delivered. absurd (let both = sym place ∙ delivered in cc);
     }
 
-behind : (sent : Sending) (total done : ℕ) (packet : Packet) → total ≤ done
+behind : (sent : SentPacket) (total done : ℕ) (packet : Packet) → total ≤ done
     → packet ≡ arrived_with sent.source sent.destination sent.payload sent.pieces
     → IsForwarded sent total done packet
 behind sent total done packet enough there =
@@ -83,7 +83,7 @@ behind sent total done packet enough there =
       whole = λ delivered. there;
     }
 
-pub delivered : (n : Network) (sent : Sending) (start : Packet) (moments : List ℕ)
+pub delivered : (n : Network) (sent : SentPacket) (start : Packet) (moments : List ℕ)
     → IsFlight (grounded n sent start) → IsSoundIn n sent
     → All (λ now. AreLive now sent.pieces) moments
     → IsForwarded sent (turns_for n (walk_of sent.pieces)) (length moments)

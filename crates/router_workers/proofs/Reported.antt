@@ -12,7 +12,7 @@ use Rattle.forwarding.specs.Journey.{turns_for}
 use Rattle.router_workers.specs.declared.end.End.{End}
 use Rattle.router_workers.specs.declared.end.End.TheVariants as ends
 use Rattle.network_core.specs.Delivery.{IsRefusedAt, IsAtRouter}
-use Rattle.router_workers.specs.Flight.{Sending, FlightValue, IsFlight, grounded}
+use Rattle.router_workers.specs.Flight.{SentPacket, FlightValue, IsFlight, grounded}
 use Rattle.router_workers.specs.Delivery.{IsForwarded, IsSoundIn, IsSoundEnd}
 use Rattle.router_workers.specs.Run.{repeated, place_after, IsEnd, IsReport}
 use Rattle.router_workers.proofs.Delivered.{delivered}
@@ -53,7 +53,7 @@ refused_at : (place other : PacketLocation) (ia router : ℕ) (refusal : _)
     → place ≡ places.Refused ia router refusal → IsRefusedAt place
 refused_at place other ia router refusal is = subst IsRefusedAt (sym is) tt
 
-module _ (n : Network) (sent : Sending) (start : Packet) (now : ℕ)
+module _ (n : Network) (sent : SentPacket) (start : Packet) (now : ℕ)
     (flight : IsFlight (grounded n sent start)) (sound : IsSoundIn n sent)
     (live : AreLive now sent.pieces) where
   abbrev total : ℕ
@@ -87,7 +87,7 @@ module _ (n : Network) (sent : Sending) (start : Packet) (now : ℕ)
   ]
 
 pub sound_reported : (flights : List FlightValue) (now slots i : ℕ) (ends : List End) (n : Network)
-    (sent : Sending) (start : Packet) (end : End) → IsReport flights now slots ends
+    (sent : SentPacket) (start : Packet) (end : End) → IsReport flights now slots ends
     → slice_get flights i ≡ Some (grounded n sent start) → slice_get ends i ≡ Some end
     → IsFlight (grounded n sent start) → IsSoundIn n sent → AreLive now sent.pieces
     → IsSoundEnd (turns_for n (walk_of sent.pieces)) end

@@ -8,7 +8,7 @@ use Rattle.forwarding.specs.declared.location.PacketLocation.TheVariants as plac
 use Rattle.forwarding.specs.Turn.{Packet}
 use Rattle.forwarding.specs.OnPath.{arrived_with}
 use Rattle.network_core.specs.Delivery.{IsRefusedAt, IsAtRouter, AreSound}
-use Rattle.router_workers.specs.Flight.{Sending}
+use Rattle.router_workers.specs.Flight.{SentPacket}
 use Rattle.router_workers.specs.declared.end.End.{End}
 use Rattle.router_workers.specs.declared.end.End.TheVariants as ends
 
@@ -17,7 +17,7 @@ use Rattle.router_workers.specs.declared.end.End.TheVariants as ends
 -- exactly once it has had its turns, and stands at a router before; two turns for each of its hop
 -- fields are enough; and it is delivered with its whole walk passed, the header behind all pieces
 -- and the payload as it was sent
-pub record IsForwarded (sent : Sending) (total done : ℕ) (packet : Packet) : Type 0 where
+pub record IsForwarded (sent : SentPacket) (total done : ℕ) (packet : Packet) : Type 0 where
   pub unrefused : ¬ (IsRefusedAt packet.place)
   pub rest : List WalkHop
   pub so_far : packet.passed ++ rest ≡ walk_of sent.pieces
@@ -29,7 +29,7 @@ pub record IsForwarded (sent : Sending) (total done : ℕ) (packet : Packet) : T
 
 -- each piece of its path is of a segment that the network has made under some keys, which are
 -- accepted, over links that are up
-abbrev pub IsSoundIn : Network → Sending → Type 0
+abbrev pub IsSoundIn : Network → SentPacket → Type 0
 IsSoundIn n sent = AreSound n sent.pieces
 
 -- the end of a flight with `total` turns to its walk's end, none of them had before: delivered

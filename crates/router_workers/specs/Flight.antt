@@ -19,7 +19,7 @@ use Rattle.forwarding.specs.Journey.{first_out}
 use Rattle.network_core.specs.Value.{Shipment}
 
 -- what is sent: a path with its ends and its header, and a payload
-pub record Sending : Type 0 where
+pub record SentPacket : Type 0 where
   pub source : ℕ
   pub destination : ℕ
   pub pieces : List PieceValue
@@ -27,8 +27,8 @@ pub record Sending : Type 0 where
   pub payload : List ℕ
 
 -- what was accepted for sending, without the policy
-abbrev pub sending_of : Shipment → Sending
-sending_of sent = record {
+abbrev pub sent_packet_of : Shipment → SentPacket
+sent_packet_of sent = record {
   source = sent.way.source;
   destination = sent.way.destination;
   pieces = sent.way.pieces;
@@ -39,21 +39,21 @@ sending_of sent = record {
 -- the network, what was sent, the turns that were had, and the packet after them
 pub record FlightValue : Type 0 where
   pub fabric : Network
-  pub sent : Sending
+  pub sent : SentPacket
   pub turns : ℕ
   pub packet : Packet
 
 -- what is sent as it departs: at the router that owns the way out of its walk's first AS
-abbrev pub put_with : Sending → Result ℕ TopologyFault → Result Packet TopologyFault
+abbrev pub put_with : SentPacket → Result ℕ TopologyFault → Result Packet TopologyFault
 put_with sent (Ok router) = Ok
     (put_at (framed sent.source sent.destination sent.header sent.payload) sent.source router)
 put_with sent (Err fault) = Err fault
 
-abbrev pub departed : Network → Sending → Result Packet TopologyFault
+abbrev pub departed : Network → SentPacket → Result Packet TopologyFault
 departed n sent = put_with sent (owner_in n sent.source (first_out (walk_of sent.pieces)))
 
 -- a flight that has had no turn
-abbrev pub grounded : Network → Sending → Packet → FlightValue
+abbrev pub grounded : Network → SentPacket → Packet → FlightValue
 grounded n sent start = record { fabric = n; sent = sent; turns = 0; packet = start }
 
 -- the flight after one turn more, at this second

@@ -276,8 +276,8 @@ shown_at n ia number link network found =
     let shown = interface_in-table_of ia number n.links link (network_apart n network) is.named in
     let side = sides link ia number is.ends in
     elim (cases_Bool (is_end link.a ia number)) [
-      | inl here ↦ (let seen : interface_of ia link ≡ _ = ap (λ (y : ℕ). interface_of y link) (sym (side.at_a here).0) ∙ seen_at_a link in rw (shown, seen) refl)
-      | inr other ↦ (let seen : interface_of ia link ≡ _ = ap (λ (y : ℕ). interface_of y link) (sym (side.at_b other).0) ∙ seen_at_b link is.apart in rw (shown, seen) refl)
+      | inl here ↦ (let value_of_index : interface_of ia link ≡ _ = ap (λ (y : ℕ). interface_of y link) (sym (side.at_a here).0) ∙ seen_at_a link in rw (shown, value_of_index) refl)
+      | inr other ↦ (let value_of_index : interface_of ia link ≡ _ = ap (λ (y : ℕ). interface_of y link) (sym (side.at_b other).0) ∙ seen_at_b link is.apart in rw (shown, value_of_index) refl)
     ]
 
 pub near_is_shown : (n : Network) (ia number x m : ℕ) → IsNetwork n → far_end_in n ia number ≡ Ok (x, m) → IsSome (interface_in (table_of ia n.links) number)

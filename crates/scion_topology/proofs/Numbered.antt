@@ -16,8 +16,8 @@ find_none p (x ∷ xs) none = let parts = or_parts (p x) (list_any p xs) none in
 pub no_zero : (n : Network) (ia number : ℕ) (entry : IfEntry) → IsNetwork n → interface_at n ia number ≡ Ok entry → number ≢ 0
 no_zero n ia number entry network found zero =
     let step = bind_ok (known n ia) _ entry found in
-    let seen = IsSeen-known n ia step.0 network step.1 in
+    let value_of_index = IsSeen-known n ia step.0 network step.1 in
     let some : interface_in (table_of ia n.links) number ≡ Some entry = ok_or_ok _ faults.NoLink entry step.2 in
-    let none = find_none (λ (e : IfEntry). eqb e.number 0) (table_of ia n.links) seen.numbered in
+    let none = find_none (λ (e : IfEntry). eqb e.number 0) (table_of ia n.links) value_of_index.numbered in
     let clash : None ≡ Some entry = rw (← none, ← zero) some in
     absurd cc

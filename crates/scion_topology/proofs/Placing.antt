@@ -6,10 +6,10 @@ use Rattle.std.proofs.lemmas.Bool.{cases_eq, eq-eqb, ne_eqb}
 use Rattle.scion_topology.specs.declared.index.AsIndex.{AsIndex}
 use Rattle.scion_topology.specs.declared.network.AsEntry.{AsEntry}
 use Rattle.scion_topology.specs.Placed.{AreOwn}
-use Rattle.scion_topology.specs.Index.{IndexValue, seen, with_first_index, index_at, index_from}
+use Rattle.scion_topology.specs.Index.{IndexValue, value_of_index, with_first_index, index_at, index_from}
 
 abbrev pub had : List AsIndex → (ℕ → Option ℕ) → ℕ → Option IndexValue
-had list place x = option_map seen (option_and_then (slice_get list) (place x))
+had list place x = option_map value_of_index (option_and_then (slice_get list) (place x))
 
 -- what stands at the place of an AS
 pub stands_there : (o : Option AsIndex) (x : ℕ) → option_map (λ index. index.ia) o ≡ Some x → (index : AsIndex) × (o ≡ Some index) × (index.ia ≡ x)
@@ -54,7 +54,7 @@ own_changed list place k index after are here same = record {
       ]);
 }
 
-pub value_changed : (f : IndexValue → IndexValue) (list : List AsIndex) (place : ℕ → Option ℕ) (k ia : ℕ) (index after : AsIndex) → AreOwn list place → place ia ≡ Some k → slice_get list k ≡ Some index → seen after ≡ f (seen index)
+pub value_changed : (f : IndexValue → IndexValue) (list : List AsIndex) (place : ℕ → Option ℕ) (k ia : ℕ) (index after : AsIndex) → AreOwn list place → place ia ≡ Some k → slice_get list k ≡ Some index → value_of_index after ≡ f (value_of_index index)
     → (x : ℕ) → had (slice_set list k after) place x ≡ cond (eqb x ia) (option_map f (had list place x)) (had list place x)
 value_changed f list place k ia index after are placed here is x = elim (cases_eq x ia) [
   | inl same ↦ (
@@ -64,9 +64,9 @@ value_changed f list place k ia index after are placed here is x = elim (cases_e
   | inr apart ↦ rw (ne_eqb x ia apart) (go apart (place x) refl)
 ]
   where
-    go : x ≢ ia → (o : Option ℕ) → place x ≡ o → option_map seen (option_and_then (slice_get (slice_set list k after)) o) ≡ option_map seen (option_and_then (slice_get list) o)
+    go : x ≢ ia → (o : Option ℕ) → place x ≡ o → option_map value_of_index (option_and_then (slice_get (slice_set list k after)) o) ≡ option_map value_of_index (option_and_then (slice_get list) o)
     go apart None e = refl
-    go apart (Some j) e = ap (option_map seen) (set_other list j k after (λ same. (
+    go apart (Some j) e = ap (option_map value_of_index) (set_other list j k after (λ same. (
         let own = stands_there (slice_get list j) x (are.found x j e) in
         let ours = stands_there (slice_get list k) ia (are.found ia k placed) in
         let both : slice_get list k ≡ Some own.0 = rw (← same) own.1 in
@@ -120,7 +120,7 @@ own_grown list place more index are none has = record {
 }
 
 pub value_grown : (list : List AsIndex) (place more : ℕ → Option ℕ) (index : AsIndex) → AreOwn list place → place index.ia ≡ None → HasMore place more index.ia (length list)
-    → (x : ℕ) → had (list ++ index ∷ []) more x ≡ with_first_index (eqb index.ia x) (seen index) (had list place x)
+    → (x : ℕ) → had (list ++ index ∷ []) more x ≡ with_first_index (eqb index.ia x) (value_of_index index) (had list place x)
 value_grown list place more index are none has x = elim (cases_eq x index.ia) [
   | inl same ↦ (
       let now : more x ≡ Some (length list) = has x ∙ rw (eq-eqb x index.ia same) refl in
@@ -131,7 +131,7 @@ value_grown list place more index are none has x = elim (cases_eq x index.ia) [
       rw (as_before, ne_eqb index.ia x (λ e. apart (sym e))) (go (place x) refl))
 ]
   where
-    go : (o : Option ℕ) → place x ≡ o → option_map seen (option_and_then (slice_get (list ++ index ∷ [])) o) ≡ with_first_index false (seen index) (option_map seen (option_and_then (slice_get list) o))
+    go : (o : Option ℕ) → place x ≡ o → option_map value_of_index (option_and_then (slice_get (list ++ index ∷ [])) o) ≡ with_first_index false (value_of_index index) (option_map value_of_index (option_and_then (slice_get list) o))
     go None e = refl
     go (Some k) e =
         let was = stands_there (slice_get list k) x (are.found x k e) in
@@ -180,7 +180,7 @@ kept list place ia new are some x = elim (cases_eq ia x) [
   | inr apart ↦ rw (ne_eqb ia x apart) (as_was new (had list place x))
 ]
   where
-    go : (o : Option ℕ) → place x ≡ o → is_some (place x) ≡ true → option_map seen (option_and_then (slice_get list) o) ≡ with_first_index (eqb ia x) new (option_map seen (option_and_then (slice_get list) o))
+    go : (o : Option ℕ) → place x ≡ o → is_some (place x) ≡ true → option_map value_of_index (option_and_then (slice_get list) o) ≡ with_first_index (eqb ia x) new (option_map value_of_index (option_and_then (slice_get list) o))
     go None e some_there = absurd (let not_some : is_some (place x) ≡ false = rw e refl in cc)
     go (Some k) e some_there =
         let was = stands_there (slice_get list k) x (are.found x k e) in

@@ -24,8 +24,8 @@ pub record IndexValue : Type 0 where
   pub table : List IfEntry
   pub places : List ℕ
 
-abbrev pub seen : AsIndex → IndexValue
-seen index =
+abbrev pub value_of_index : AsIndex → IndexValue
+value_of_index index =
     record { position = index.position; table = index.table; places = index.places.items }
 
 -- the place of the index of an AS
@@ -35,7 +35,7 @@ spot_of indexes ia = get nat_cmp indexes.places ia
 -- what the indexes have of an AS
 abbrev pub index_of : Indexes → ℕ → Option IndexValue
 index_of indexes ia =
-    option_map seen (option_and_then (slice_get indexes.list.items) (spot_of indexes ia))
+    option_map value_of_index (option_and_then (slice_get indexes.list.items) (spot_of indexes ia))
 
 -- the index of an AS where it had one, and else this one where it is that AS's
 abbrev pub with_first_index : Bool → IndexValue → Option IndexValue → Option IndexValue

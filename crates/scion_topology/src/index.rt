@@ -1,7 +1,7 @@
 ghost use Rattle.std.specs.Prelude.{◌≡◌, ◌<◌, [], OnOk, vec_len};
 ghost use Rattle.scion_topology.specs.Network.{end_as_interface, kind_at_a, kind_at_b};
 ghost use Rattle.scion_topology.specs.Placed.{IsChanged};
-ghost use Rattle.scion_topology.specs.Index.{seen, added, marked, place_beside};
+ghost use Rattle.scion_topology.specs.Index.{value_of_index, added, marked, place_beside};
 
 use crate::entry::{IfEntry, LinkKind};
 use crate::network::{End, Link, LinkClass};
@@ -23,7 +23,7 @@ impl AsIndex {
     /// The index of an AS at this place of the list, with no interface yet.
     pub(crate) fn new(alloc: Global, ia: IsdAs, position: usize) -> AsIndex
         ensures ia { result.ia ≡ ia }
-        ensures value { seen result ≡ record { position = position; table = []; places = [] } }
+        ensures value { value_of_index result ≡ record { position = position; table = []; places = [] } }
     {
         AsIndex {
             ia,
@@ -36,7 +36,7 @@ impl AsIndex {
     /// Adds an interface and the place of its link.
     pub(crate) fn add(&mut self, entry: IfEntry, place: usize) -> Result<(), AllocError>
         ensures ia { self.new.ia ≡ self.old.ia }
-        ensures value { OnOk result (seen self.new ≡ added entry place (seen self.old)) }
+        ensures value { OnOk result (value_of_index self.new ≡ added entry place (value_of_index self.old)) }
     {
         self.table.push(entry)?;
         self.places.push(place)?;
@@ -54,7 +54,7 @@ impl AsIndex {
     /// Sets the interface of this number up or down, where there is one.
     pub(crate) fn mark(&mut self, number: IfId, up: bool)
         ensures ia { self.new.ia ≡ self.old.ia }
-        ensures value { seen self.new ≡ marked number up (seen self.old) }
+        ensures value { value_of_index self.new ≡ marked number up (value_of_index self.old) }
     {
         self.table.mark(number, up);
     }
@@ -114,7 +114,7 @@ pub(crate) fn add_at(
     place: usize,
 ) -> Result<(), AllocError>
     requires { at < vec_len list.old }
-    ensures { IsChanged (λ old new. OnOk result (seen new ≡ added entry place (seen old)))
+    ensures { IsChanged (λ old new. OnOk result (value_of_index new ≡ added entry place (value_of_index old)))
         at list.old.items list.new.items }
 {
     list[at].add(entry, place)
@@ -123,7 +123,7 @@ pub(crate) fn add_at(
 /// Sets the interface of this number up or down in the index at a place.
 pub(crate) fn mark_at(list: &mut Vec<AsIndex>, at: usize, number: IfId, up: bool)
     requires { at < vec_len list.old }
-    ensures { IsChanged (λ old new. seen new ≡ marked number up (seen old))
+    ensures { IsChanged (λ old new. value_of_index new ≡ marked number up (value_of_index old))
         at list.old.items list.new.items }
 {
     list[at].mark(number, up);

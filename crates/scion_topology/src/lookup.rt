@@ -22,7 +22,7 @@ pub struct Indexes {
 }
 
 impl Indexes {
-    ghost use Rattle.scion_topology.specs.Index.{seen, index_at, index_of, index_from, spot_of, added_where, marked_where, with_link, with_links, with_first_index};
+    ghost use Rattle.scion_topology.specs.Index.{value_of_index, index_at, index_of, index_from, spot_of, added_where, marked_where, with_link, with_links, with_first_index};
 
     /// The index of each AS of a list, with no links yet. An AS that stands twice has that of its
     /// first place.
@@ -74,7 +74,7 @@ impl Indexes {
     /// The index of an AS.
     #[inline]
     pub(crate) fn get(&self, ia: IsdAs) -> Option<&AsIndex>
-        ensures { option_map seen (option_copied result) ≡ index_of self.now ia }
+        ensures { option_map value_of_index (option_copied result) ≡ index_of self.now ia }
     {
         match self.place(ia) {
             Some(place) => Some(&self.list[place]),

@@ -2,7 +2,7 @@ ghost use Rattle.std.specs.Prelude.{◌≡◌, ◌<◌, Some, None, IfOk, MatchR
 ghost use Rattle.scion_topology.specs.Network.{as_named};
 ghost use Rattle.refusal.specs.Refusal.{Gives};
 ghost use Rattle.scion_topology.specs.Topology.{IsNetwork, known, known_link, info_in, interface_at, far_end_in, owner_in, view_in};
-ghost use Rattle.scion_topology.specs.Index.{seen, index_in, place_in};
+ghost use Rattle.scion_topology.specs.Index.{value_of_index, index_in, place_in};
 
 use crate::entry::IfEntry;
 use crate::fault::TopologyFault;
@@ -120,7 +120,7 @@ impl Topology {
     /// An AS and what was prepared for it.
     #[inline]
     pub(crate) fn indexed(&self, ia: IsdAs) -> Result<(&AsEntry, &AsIndex), TopologyFault>
-        ensures { Gives (λ x. (x.0.now, seen x.1.now)) result (index_in self.now ia) }
+        ensures { Gives (λ x. (x.0.now, value_of_index x.1.now)) result (index_in self.now ia) }
     {
         let Some(index) = self.indexes.get(ia) else {
             return Err(TopologyFault::UnknownAs);

@@ -20,5 +20,5 @@ returns c =
     ∙ ap (λ old. old ++ filter (passes_at (is_live c.args.now) segments) c.range-same_ends.result.now) c.in_ok-places.ensures.items
     ∙ ap (filter (passes_at (is_live c.args.now) segments)) part in
     let rises = subst IsStrictlyIncreasing (sym c.deref.ensures.value) c.put_in_order.ensures.rises in
-    IfOk-weaker c.copied_at.result _ _ (λ found is. is ∙ ending_is_kept segments index c.deref.result.now c.requires c.args.ia c.args.now (omega (arith, c.number-last.ensures)) rises
-    (λ i. ap (λ places. is_in places i) c.deref.ensures.value ∙ c.put_in_order.ensures.same i ∙ ap (λ places. is_in places i) live)) c.copied_at.ensures
+    IfOk-weaker c.clone_segments_at.result _ _ (λ found is. is ∙ ending_is_kept segments index c.deref.result.now c.requires c.args.ia c.args.now (omega (arith, c.number-last.ensures)) rises
+    (λ i. ap (λ places. is_in places i) c.deref.ensures.value ∙ c.put_in_order.ensures.same i ∙ ap (λ places. is_in places i) live)) c.clone_segments_at.ensures

@@ -7,7 +7,7 @@ use Rattle.std.proofs.lemmas.Bool.{lt-ltb}
 use Rattle.std.proofs.lemmas.Option.{slice_get-get_or}
 use Rattle.scion_topology.specs.declared.network.AsEntry.{AsEntry}
 use Rattle.scion_topology.specs.Network.{Network}
-use Rattle.scion_topology.specs.Index.{seen}
+use Rattle.scion_topology.specs.Index.{value_of_index}
 use Rattle.scion_topology.proofs.Indexes.{index_in-some, unlisted}
 use Rattle.scion_topology.proofs.listed.AsLookup.named.Goals as goal
 
@@ -20,7 +20,7 @@ pub returns-in-Some : goal.returns-in-Some
 returns-in-Some c =
     let n : Network = record { ases = c.self.inside.ases.now; links = [] } in
     let known = rw c.in-Ok.is at c.self.invariant in
-    let finds = index_in-some n c.args.ia (seen c.in-Some.index.now) (sym (known c.args.ia) ∙ sym c.in-Some.ensures) in
+    let finds = index_in-some n c.args.ia (value_of_index c.in-Some.index.now) (sym (known c.args.ia) ∙ sym c.in-Some.ensures) in
     let h = c.get-in-Some.ensures.lookup in
     rw (← c.self.view_is) (got n.ases c.in-Some.index.now.position c.get-in-Some.result h.0 h.1 finds.within ∙ finds.stands)
 

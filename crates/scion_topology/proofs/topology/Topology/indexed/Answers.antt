@@ -1,6 +1,6 @@
 -- The index has the index of each AS that is listed.
 use Rattle.std.proofs.Common.{◌∙◌, sym, arith}
-use Rattle.scion_topology.specs.Index.{seen}
+use Rattle.scion_topology.specs.Index.{value_of_index}
 use Rattle.scion_topology.specs.Network.{Network}
 use Rattle.scion_topology.proofs.Indexes.{index_in-none, index_in-some}
 use Rattle.scion_topology.proofs.topology.Topology.indexed.Goals as goal
@@ -13,10 +13,10 @@ returns-in_default c =
 pub index-requires : goal.index-requires
 index-requires c =
     let n : Network = record { ases = c.self.inside.ases.items; links = c.self.inside.links.items } in
-    let within = (index_in-some n c.args.ia (seen c.in-Some.index.now) (sym (c.self.invariant.1 c.args.ia) ∙ sym c.in-Some.ensures)).within in
+    let within = (index_in-some n c.args.ia (value_of_index c.in-Some.index.now) (sym (c.self.invariant.1 c.args.ia) ∙ sym c.in-Some.ensures)).within in
     omega (arith, within, c.self.inside.ases.ok)
 
 pub returns : goal.returns
 returns c =
     let n : Network = record { ases = c.self.inside.ases.items; links = c.self.inside.links.items } in
-    rw (← c.self.view_is) ((index_in-some n c.args.ia (seen c.in-Some.index.now) (sym (c.self.invariant.1 c.args.ia) ∙ sym c.in-Some.ensures)).gives c.index.result.now c.index.ensures)
+    rw (← c.self.view_is) ((index_in-some n c.args.ia (value_of_index c.in-Some.index.now) (sym (c.self.invariant.1 c.args.ia) ∙ sym c.in-Some.ensures)).gives c.index.result.now c.index.ensures)

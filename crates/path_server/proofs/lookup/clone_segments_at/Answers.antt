@@ -4,8 +4,8 @@ use Rattle.std.proofs.lemmas.Bool.{ltb-false, ltb-true}
 use Rattle.std.specs.Prelude.{take, option_to_list, ◌++◌}
 use Rattle.path_server.specs.Index.{segments_at}
 use Rattle.path_server.proofs.Places.{segments_at_more}
-use Rattle.path_server.proofs.lookup.copied_at.Goals as goal
-use Rattle.path_server.proofs.lookup.copied_at.Goals.{in-Some+in_ok-try_clone+in_ok-push, in_default}
+use Rattle.path_server.proofs.lookup.clone_segments_at.Goals as goal
+use Rattle.path_server.proofs.lookup.clone_segments_at.Goals.{in-Some+in_ok-try_clone+in_ok-push, in_default}
 
 pub loop-place-preserved : goal.loop-place-preserved
 loop-place-preserved c =
