@@ -18,6 +18,7 @@ use Rattle.path_segment.specs.declared.kind.SegKind.{SegKind}
 use Rattle.path_segment.specs.Chain.{Chain, chain_of, with_last, beta_of}
 use Rattle.path_segment.specs.Rules.{beacon_fault, next_fault, last_fault}
 use Rattle.path_segment.proofs.Chained.{beta_of-with_last}
+use Rattle.path_segment.proofs.Plain.{segment_in_words}
 use Rattle.path_segment.proofs.Next.{next_is, last_is, IsFree-beacon_fault}
 use Rattle.beaconing.specs.declared.fault.BeaconFault.{BeaconFault}
 use Rattle.beaconing.specs.declared.fault.BeaconFault.TheVariants.{TooLong, Loop, NotCore, NoInterface, LinkDown, WrongKind, NotHere}
@@ -255,6 +256,6 @@ ended n keys b ia one s network under named found =
     let e = added_by one b ingress 0 in
     let is : with_last b e ≡ s = ap (λ (o : AsEntry). with_last b (added_by o b ingress 0)) (sym same) ∙ ok_is _ s s3.2 in
     rw (← is) (record {
-      rules = sym (last_is b.entries e under.rules) ∙ rules_of_last b.entries e comes.some refl new;
+      rules = (segment_in_words (b.entries ++ (e ∷ []))).0 (sym (last_is b.entries e under.rules) ∙ rules_of_last b.entries e comes.some refl new);
       made = made_added n keys b ia ingress 0 one network under named comes;
     })

@@ -16,7 +16,7 @@ use Rattle.path_segment.specs.declared.entry.Entry.{Entry}
 use Rattle.path_segment.specs.declared.kind.SegKind.{SegKind}
 use Rattle.path_segment.specs.declared.kind.SegKind.TheVariants.{Core, Intra}
 use Rattle.path_segment.specs.Chain.{Chain, with_last, beta_of}
-use Rattle.path_segment.specs.Rules.{IsBeacon, IsSegment}
+use Rattle.path_segment.specs.Rules.{AreOfSegment, IsBeacon}
 use Rattle.beaconing.specs.declared.fault.BeaconFault.{BeaconFault}
 use Rattle.beaconing.specs.Entry.{goes_on, key_in}
 use Rattle.beaconing.specs.Calls.{last_of, come_to, extended}
@@ -68,7 +68,7 @@ pub record IsUnderWay (n : Network) (keys : List (List ℕ)) (beacon : Chain) : 
 
 -- a segment that the network has made under these keys
 pub record IsIssued (n : Network) (keys : List (List ℕ)) (segment : Chain) : Type 0 where
-  pub rules : IsSegment segment
+  pub rules : AreOfSegment segment.entries
   pub made : IsMade n keys segment
 
 -- the keys that the ASes of a chain's entries have in use

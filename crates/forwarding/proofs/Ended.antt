@@ -7,7 +7,7 @@ use Rattle.scion_topology.specs.Topology.{view_in}
 use Rattle.forwarding.specs.declared.location.RouterStop.{RouterStop}
 use Rattle.forwarding.specs.declared.location.PacketLocation.{PacketLocation}
 use Rattle.forwarding.specs.declared.location.PacketLocation.TheVariants.{AtRouter, Delivered, Refused, Lost}
-use Rattle.forwarding.specs.Turn.{Packet, still, by_view, by_place, turn_under, turn_of}
+use Rattle.forwarding.specs.Turn.{Packet, still, at_place, by_view, by_place, turn_under, turn_of}
 
 at_none : (n : Network) (now : ℕ) (packet : Packet) (place : PacketLocation)
     → ((stop : RouterStop) → place ≢ AtRouter stop) → by_place n now packet place ≡ still packet
@@ -24,7 +24,8 @@ ended_stays n now packet none = at_none n now packet packet.place none
 pub turn_by_view : (n : Network) (now : ℕ) (packet : Packet) (stop : RouterStop) (view : View)
     → packet.place ≡ AtRouter stop → view_in n stop.ia stop.router ≡ Ok view
     → turn_under n view now packet ≡ turn_of n now packet
-unfolding turn_of
+unfolding turn_of turn_under
 turn_by_view n now packet stop view there is =
-    sym (ap (by_place n now packet) there
-    ∙ ap (λ (v : Result View TopologyFault). by_view n now packet v) is)
+    ap (at_place n view now packet) there
+    ∙ sym (ap (by_place n now packet) there
+    ∙ ap (λ (v : Result View TopologyFault). by_view n now packet stop v) is)

@@ -24,7 +24,7 @@ use Rattle.forwarding.specs.declared.location.RouterStop.{RouterStop}
 use Rattle.forwarding.specs.declared.location.PacketLocation.TheVariants.{AtRouter, Delivered}
 use Rattle.path_header.specs.Spelling.{Spells, spelling}
 use Rattle.forwarding.specs.Frame.{framed}
-use Rattle.forwarding.specs.Turn.{Packet, noted, put, stepped, turn_under, by_view, turn_of, turned}
+use Rattle.forwarding.specs.Turn.{Packet, noted, put, stepped, by_view, turn_of, turned}
 use Rattle.forwarding.specs.OnPath.{header_on, at_spot}
 use Rattle.forwarding.proofs.Framed.{frame_goes}
 use Rattle.forwarding.proofs.AtSpot.{IsSpot, Comes, IsOwn}
@@ -93,12 +93,12 @@ turn_is : (n : Network) (now source destination : ℕ) (payload : List ℕ) (hea
     ≡ Ok done
     → turned n now (carried source destination payload header stop passed)
     ≡ placed n source destination payload stop passed done
-unfolding turn_of turn_under
+unfolding turn_of
 turn_is n now source destination payload header stop passed one done named below from for spells
     step =
     let packet = carried source destination payload header stop passed in
     let view = view_for n one stop.ia stop.router in
-    ap (λ (v : Result View TopologyFault). (by_view n now packet v).1)
+    ap (λ (v : Result View TopologyFault). (by_view n now packet stop v).1)
     (view_is n stop.ia stop.router one named below)
     ∙ ap (λ (r : Result (Outcome × List ℕ) Refusal). (stepped n packet stop r).1)
     (frame_goes view now stop.arrival source destination header payload done from for spells step)

@@ -73,7 +73,23 @@ stepped n packet stop (Err refusal) =
 abbrev pub still : Packet → TurnReply × Packet
 still packet = (replies.Still, packet)
 
--- the turn of the router of this view, where the packet stands at a router
+-- the turn of the router of this stop, by the view that the network has of it; if it has none,
+-- nothing is done
+abbrev pub by_view : Network → ℕ → Packet → RouterStop → Result View TopologyFault
+    → TurnReply × Packet
+by_view n now packet stop (Ok view) =
+    stepped n packet stop (packet_step view now stop.arrival packet.bytes)
+by_view n now packet stop (Err fault) = still packet
+
+abbrev pub by_place : Network → ℕ → Packet → PacketLocation → TurnReply × Packet
+by_place n now packet (AtRouter stop) = by_view n now packet stop (view_in n stop.ia stop.router)
+by_place n now packet place = still packet
+
+-- one turn: the reply and the packet after it; a packet that is at no router stays as it is
+unfoldable pub turn_of : Network → ℕ → Packet → TurnReply × Packet
+turn_of n now packet = by_place n now packet packet.place
+
+-- the same by a view that is given
 abbrev pub at_place : Network → View → ℕ → Packet → PacketLocation → TurnReply × Packet
 at_place n view now packet (AtRouter stop) =
     stepped n packet stop (packet_step view now stop.arrival packet.bytes)
@@ -81,20 +97,6 @@ at_place n view now packet place = still packet
 
 unfoldable pub turn_under : Network → View → ℕ → Packet → TurnReply × Packet
 turn_under n view now packet = at_place n view now packet packet.place
-
--- the same by the view that the network has of the packet's place; where it has none, nothing is
--- done
-abbrev pub by_view : Network → ℕ → Packet → Result View TopologyFault → TurnReply × Packet
-by_view n now packet (Ok view) = turn_under n view now packet
-by_view n now packet (Err fault) = still packet
-
-abbrev pub by_place : Network → ℕ → Packet → PacketLocation → TurnReply × Packet
-by_place n now packet (AtRouter stop) = by_view n now packet (view_in n stop.ia stop.router)
-by_place n now packet place = still packet
-
--- one turn: the reply and the packet after it; a packet that is at no router stays as it is
-unfoldable pub turn_of : Network → ℕ → Packet → TurnReply × Packet
-turn_of n now packet = by_place n now packet packet.place
 
 -- the packet after a turn
 abbrev pub turned : Network → ℕ → Packet → Packet

@@ -1,6 +1,8 @@
 ghost use Rattle.std.specs.Prelude.{◌≡◌, ◌<◌, ◌≤◌, length, IfOk, IfErr};
 ghost use Rattle.scion_topology.specs.Topology.{far_end_in};
+ghost use Rattle.router_step.specs.Packet.{packet_step};
 ghost use Rattle.forwarding.specs.Turn.{altered, hop_by, lost, put_at, over_link, put, turn_under, turn_of};
+ghost use Rattle.forwarding.specs.Turn as turns;
 
 use crate::location::{PacketLocation, RouterStop};
 use crate::reply::TurnReply;
@@ -93,7 +95,7 @@ impl PacketInFlight {
     {
         match self.place {
             PacketLocation::AtRouter(stop) => match topology.view(stop.ia, stop.router) {
-                Ok(view) => self.turn_under(topology, &view, now),
+                Ok(view) => self.step_at(topology, stop, &view, now),
                 Err(_) => TurnReply::Still,
             },
             _ => TurnReply::Still,
@@ -108,10 +110,7 @@ impl PacketInFlight {
         ensures packet { self.new ≡ (turn_under topology.now view.now now self.old).1 }
     {
         match self.place {
-            PacketLocation::AtRouter(stop) => {
-                let stepped = step(view, now, stop.arrival, &mut self.bytes);
-                self.answer(topology, stop, stepped)
-            }
+            PacketLocation::AtRouter(stop) => self.step_at(topology, stop, view, now),
             _ => TurnReply::Still,
         }
     }
@@ -129,6 +128,23 @@ impl PacketInFlight {
         ensures { self.new ≡ altered self.old at change }
     {
         self.bytes[at] ^= change;
+    }
+
+    /// The step of the router of this stop, by its view.
+    fn step_at(
+        &mut self,
+        topology: &Topology,
+        stop: RouterStop,
+        view: &RouterView<'_>,
+        now: u32,
+    ) -> TurnReply
+        ensures reply { result ≡ (turns.stepped topology.now self.old stop
+            (packet_step view.now now stop.arrival self.old.bytes)).0 }
+        ensures packet { self.new ≡ (turns.stepped topology.now self.old stop
+            (packet_step view.now now stop.arrival self.old.bytes)).1 }
+    {
+        let stepped = step(view, now, stop.arrival, &mut self.bytes);
+        self.answer(topology, stop, stepped)
     }
 
     /// Places the packet as a router's step over its bytes answered, and tells what that was.

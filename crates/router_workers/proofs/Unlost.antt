@@ -11,7 +11,7 @@ use Rattle.router_step.specs.Packet.{packet_step}
 use Rattle.forwarding.specs.declared.location.RouterStop.{RouterStop}
 use Rattle.forwarding.specs.declared.location.PacketLocation.{PacketLocation}
 use Rattle.forwarding.specs.declared.location.PacketLocation.TheVariants.{AtRouter, Delivered, Refused, Lost}
-use Rattle.forwarding.specs.Turn.{Packet, at_owner, over_link, put, stepped, at_place, turn_under, by_view, by_place, turn_of, turned, after}
+use Rattle.forwarding.specs.Turn.{Packet, at_owner, over_link, put, stepped, by_view, by_place, turn_of, turned, after}
 use Rattle.router_workers.specs.Flight.{FlightValue, IsFlight}
 use Rattle.router_workers.proofs.Delivered.{departs}
 
@@ -44,24 +44,17 @@ stepped_unlost n packet stop (Ok done) is =
     put_unlost n (record packet { bytes = done.1 }) stop done.0 is
 stepped_unlost n packet stop (Err refusal) is = tt
 
-at_unlost : (n : Network) (view : View) (now : ℕ) (packet : Packet) (place : PacketLocation)
-    → IsUnlost packet.place → IsUnlost (at_place n view now packet place).1.place
-at_unlost n view now packet (AtRouter stop) is =
+view_unlost : (n : Network) (now : ℕ) (packet : Packet) (stop : RouterStop)
+    (view : Result View TopologyFault) → IsUnlost packet.place
+    → IsUnlost (by_view n now packet stop view).1.place
+view_unlost n now packet stop (Ok view) is =
     stepped_unlost n packet stop (packet_step view now stop.arrival packet.bytes) is
-at_unlost n view now packet Delivered is = is
-at_unlost n view now packet (Refused ia router refusal) is = is
-at_unlost n view now packet Lost is = is
-
-view_unlost : (n : Network) (now : ℕ) (packet : Packet) (view : Result View TopologyFault)
-    → IsUnlost packet.place → IsUnlost (by_view n now packet view).1.place
-unfolding turn_under
-view_unlost n now packet (Ok view) is = at_unlost n view now packet packet.place is
-view_unlost n now packet (Err fault) is = is
+view_unlost n now packet stop (Err fault) is = is
 
 place_unlost : (n : Network) (now : ℕ) (packet : Packet) (place : PacketLocation)
     → IsUnlost packet.place → IsUnlost (by_place n now packet place).1.place
 place_unlost n now packet (AtRouter stop) is =
-    view_unlost n now packet (view_in n stop.ia stop.router) is
+    view_unlost n now packet stop (view_in n stop.ia stop.router) is
 place_unlost n now packet Delivered is = is
 place_unlost n now packet (Refused ia router refusal) is = is
 place_unlost n now packet Lost is = is
