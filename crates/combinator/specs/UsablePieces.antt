@@ -13,7 +13,8 @@ outer_of piece = if piece.along then ends_in piece else begins_in piece
 
 -- the piece is one of these intra segments, travelled in this direction, with this AS at its outer
 -- end
-pub record IsCut (segments : List Chain) (along : Bool) (outer : ℕ) (piece : PieceValue) : Type 0 where
+pub record IsCut (segments : List Chain) (along : Bool) (outer : ℕ)
+    (piece : PieceValue) : Type 0 where
   pub there : Contains segments piece.segment
   pub range : HasRange piece
   pub kind : piece.segment.kind ≡ kinds.Intra

@@ -42,12 +42,14 @@ pub(crate) fn best_by_walk<'s, 'p, A: Allocator + Clone>(
     ensures sound { IfOk result (All (IsCandidate ask.now)) }
     ensures one { IfOk result (λ kept. (first : PieceValue) → Contains usable_pieces.now first
         → begins_in first ≡ ask.now.src → AreMatched ask.now kept (first ∷ [])) }
-    ensures two { IfOk result (λ kept. (first second : PieceValue) → Contains usable_pieces.now first
+    ensures two { IfOk result (λ kept. (first second : PieceValue)
+        → Contains usable_pieces.now first
         → begins_in first ≡ ask.now.src → Contains usable_pieces.now second
         → begins_in second ≡ ends_in first
         → AreMatched ask.now kept (first ∷ second ∷ [])) }
     ensures three { IfOk result (λ kept. (first second third : PieceValue)
-        → Contains usable_pieces.now first → begins_in first ≡ ask.now.src → Contains usable_pieces.now second
+        → Contains usable_pieces.now first → begins_in first ≡ ask.now.src
+        → Contains usable_pieces.now second
         → begins_in second ≡ ends_in first → Contains usable_pieces.now third
         → begins_in third ≡ ends_in second
         → AreMatched ask.now kept (first ∷ second ∷ third ∷ [])) }

@@ -56,7 +56,10 @@ work_app = with_rule (with_rule (new_app (codes "work")) (number_rule 4294967295
 abbrev pub program_app : App
 program_app =
     with_subcommand (with_subcommand (with_subcommand
-    (on_top (λ shape. record shape { no_binary_name = true; has_version = true }) (new_app (codes "scionet")))
+    (on_top (λ shape. record shape {
+      no_binary_name = true;
+      has_version = true;
+    }) (new_app (codes "scionet")))
     step_app.top) run_app.top) work_app.top
 
 -- none of the command's arguments is one of its subcommands too

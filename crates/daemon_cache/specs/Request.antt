@@ -22,7 +22,8 @@ request_of src dst texts limit = record { src = src; dst = dst; texts = texts; l
 
 -- these paths of this set of segments answer the request, under the options that its texts are read
 -- as
-pub record IsAnswerTo (request : RequestValue) (set : Selection) (answer : AnswerValue) : Type 0 where
+pub record IsAnswerTo (request : RequestValue) (set : Selection)
+    (answer : AnswerValue) : Type 0 where
   pub options : List WeighedRules
   pub read : options_at request.texts ≡ Ok options
   pub answers : AnswersWith set request.src request.dst options request.limit answer.used answer.paths
@@ -38,5 +39,7 @@ lawful_at request = do
 -- request is lawful; or the request is refused. After a refusal the reader has seen what it had
 abbrev pub GivesNoAnswer : OrMemory AskFault → RequestValue → Informed → Informed → Type 0
 GivesNoAnswer Memory request before after = lawful_at request ≡ Ok tt
-GivesNoAnswer (Refused fault.NoEntry) request before after = (lawful_at request ≡ Ok tt) × (after ≡ before)
-GivesNoAnswer (Refused refusal) request before after = (lawful_at request ≡ Err refusal) × (after ≡ before)
+GivesNoAnswer (Refused fault.NoEntry) request before after =
+    (lawful_at request ≡ Ok tt) × (after ≡ before)
+GivesNoAnswer (Refused refusal) request before after =
+    (lawful_at request ≡ Err refusal) × (after ≡ before)

@@ -38,7 +38,8 @@ IsAnswered net (Some (Shows packet)) text happened =
 IsAnswered net None text happened = (happened ≡ []) × (text ≡ bad_line)
 
 -- what these lines are answered in a network, one after the other, and what happens
-abbrev pub AreAnswered : AcceptedLines → NetValue → List (List ℕ) → List (List ℕ) → List EventRecord → Type 0
+abbrev pub AreAnswered : AcceptedLines → NetValue → List (List ℕ) → List (List ℕ) → List EventRecord
+    → Type 0
 AreAnswered accepted net [] texts history = (texts ≡ []) × (history ≡ [])
 AreAnswered accepted net (line ∷ lines) [] history = ⊥
 AreAnswered accepted net (line ∷ lines) (text ∷ texts) history =

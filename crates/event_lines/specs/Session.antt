@@ -23,7 +23,8 @@ pub record IsCut (bytes line rest : List ℕ) : Type 0 where
 
 -- one line was answered, and the run stands where the value says; the topology was refused; or
 -- memory ran out
-abbrev pub RepliesOrFails : {A : Type 0} → AcceptedLines → (A → Stage) → Result A RunFault → Stage → List ℕ
+abbrev pub RepliesOrFails : {A : Type 0} → AcceptedLines → (A → Stage) → Result A RunFault → Stage
+    → List ℕ
     → List ℕ → List ℕ → Type 0
 RepliesOrFails accepted stage (Ok x) old line before after = (text : List ℕ)
     × (RepliesTo accepted old line text (stage x) × (after ≡ before ++ (text ++ line_end ∷ [])))
@@ -47,7 +48,8 @@ value_of session = record {
 }
 
 -- these lines were answered behind what there was, and this is still to be written
-pub record AnswersLines (accepted : AcceptedLines) (lines : List (List ℕ)) (old : SessionValue) (stage : Stage)
+pub record AnswersLines (accepted : AcceptedLines) (lines : List (List ℕ)) (old : SessionValue)
+    (stage : Stage)
     (replies : List ℕ) : Type 0 where
   pub texts : List (List ℕ)
   pub told : RepliesToAll accepted old.stage lines texts stage
@@ -55,10 +57,12 @@ pub record AnswersLines (accepted : AcceptedLines) (lines : List (List ℕ)) (ol
 
 -- the bytes were read: all of their lines; those up to the topology that was refused; or those
 -- up to where memory ran out
-abbrev pub AnswersBytes : AcceptedLines → Result (Unit {0}) RunFault → List ℕ → SessionValue → SessionValue
+abbrev pub AnswersBytes : AcceptedLines → Result (Unit {0}) RunFault → List ℕ → SessionValue
+    → SessionValue
     → Type 0
 AnswersBytes accepted (Ok done) bytes old new = (lines : List (List ℕ))
-    × (AreLines (old.rest ++ bytes) lines new.rest × AnswersLines accepted lines old new.stage new.replies)
+    × (AreLines (old.rest ++ bytes) lines new.rest
+    × AnswersLines accepted lines old new.stage new.replies)
 AnswersBytes accepted (Err faults.Topology) bytes old new =
     (lines later : List (List ℕ)) × (rest : List ℕ)
     × (AreLines (old.rest ++ bytes) (lines ++ later) rest
@@ -102,7 +106,8 @@ Writes (Err faults.Write) old new held holds = (n : ℕ) × Appends held holds (
 Writes (Err fault) old new held holds = ⊥
 
 -- these lines were answered behind what there was, and the replies were written
-pub record Passes (accepted : AcceptedLines) (lines : List (List ℕ)) (old : SessionValue) (stage : Stage)
+pub record Passes (accepted : AcceptedLines) (lines : List (List ℕ)) (old : SessionValue)
+    (stage : Stage)
     (held holds : Option (List ℕ)) : Type 0 where
   pub texts : List (List ℕ)
   pub told : RepliesToAll accepted old.stage lines texts stage
@@ -119,7 +124,8 @@ pub record PassesSome (accepted : AcceptedLines) (lines : List (List ℕ)) (old 
 
 -- the bytes were read and the replies written: all; those up to the topology that was refused, or
 -- to where memory ran out; or a beginning of them
-abbrev pub Exchanges : AcceptedLines → Result (Unit {0}) RunFault → List ℕ → SessionValue → SessionValue
+abbrev pub Exchanges : AcceptedLines → Result (Unit {0}) RunFault → List ℕ → SessionValue
+    → SessionValue
     → Option (List ℕ) → Option (List ℕ) → Type 0
 Exchanges accepted (Ok done) bytes old new held holds = (lines : List (List ℕ))
     × (AreLines (old.rest ++ bytes) lines new.rest
@@ -141,7 +147,8 @@ Exchanges accepted (Err fault) bytes old new held holds = ⊥
 
 -- what is left at the end of the input was answered, if it is a line, and the reply written; the
 -- run then stands in this network
-abbrev pub Finishes : AcceptedLines → Result (Unit {0}) RunFault → SessionValue → Stage → Option (List ℕ)
+abbrev pub Finishes : AcceptedLines → Result (Unit {0}) RunFault → SessionValue → Stage
+    → Option (List ℕ)
     → Option (List ℕ) → Type 0
 Finishes accepted (Ok done) old stage held holds = (net : NetValue)
     × ((stage ≡ Open net) × Passes accepted (last_lines old) old (Open net) held holds)

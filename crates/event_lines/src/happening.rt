@@ -50,7 +50,8 @@ fn answer_accepted(
     net: &mut Net,
     line: &Line<'_>,
 ) -> Result<String, AllocError>
-    ensures { IfOk result (λ text. Replies net.old (accepted_as accepted (Some (line_value line.now)))
+    ensures { IfOk result (λ text.
+        Replies net.old (accepted_as accepted (Some (line_value line.now)))
         (string_bytes text) net.new) }
 {
     if accepted.accepts(line) {

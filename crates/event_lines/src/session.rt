@@ -55,7 +55,8 @@ fn tell(
 /// The network of the first line, and adds the reply. [`RunFault::Topology`] if the line is no
 /// topology.
 fn begin(alloc: Global, line: &[u8], replies: &mut String) -> Result<Net, RunFault>
-    ensures { (accepted : AcceptedLines) → RepliesOrFails accepted (λ net. Open net) result Unbegun line.now
+    ensures { (accepted : AcceptedLines)
+        → RepliesOrFails accepted (λ net. Open net) result Unbegun line.now
         (string_bytes replies.old) (string_bytes replies.new) }
 {
     match Topology::from_json(alloc, line) {
@@ -131,7 +132,8 @@ impl Session {
 
     /// Answers the line that has come, whose end is not among its bytes.
     pub(crate) fn answer(&mut self, alloc: Global, accepted: AcceptedLines) -> Result<(), RunFault>
-        ensures told { RepliesOrFails accepted (λ _. stage_of self.new.net) result (stage_of self.old.net)
+        ensures told { RepliesOrFails accepted (λ _. stage_of self.new.net) result
+            (stage_of self.old.net)
             self.old.rest.items (string_bytes self.old.replies) (string_bytes self.new.replies) }
         ensures rest { self.new.rest ≡ self.old.rest }
     {
@@ -152,7 +154,8 @@ impl Session {
         accepted: AcceptedLines,
         end: &[u8],
     ) -> Result<(), RunFault>
-        ensures told { RepliesOrFails accepted (λ _. stage_of self.new.net) result (stage_of self.old.net)
+        ensures told { RepliesOrFails accepted (λ _. stage_of self.new.net) result
+            (stage_of self.old.net)
             (self.old.rest.items ++ end.now) (string_bytes self.old.replies)
             (string_bytes self.new.replies) }
         ensures rest { result ≡ Ok tt → self.new.rest.items ≡ [] }

@@ -27,7 +27,12 @@ header_on (Link interface) spot = header_coming spot
 abbrev pub at_spot : ℕ → ℕ → List ℕ → PathPosition → Entry → Arrival → ℕ → ℕ → List WalkHop → Packet
 at_spot source destination payload spot entry arrival router came_in_by passed = record {
   bytes = framed source destination (header_on arrival spot) payload;
-  place = AtRouter (record { ia = entry.ia; router = router; arrival = arrival; came_in_by = came_in_by });
+  place = AtRouter (record {
+    ia = entry.ia;
+    router = router;
+    arrival = arrival;
+    came_in_by = came_in_by;
+  });
   passed = passed;
 }
 

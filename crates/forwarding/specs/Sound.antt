@@ -12,7 +12,8 @@ use Rattle.beaconing.specs.Issued.{IsIssued}
 
 -- between these places the ASes of a chain's entries accept the keys under which they were made,
 -- and the links from entry to entry are up
-pub record KeysAndLinksHold (n : Network) (keys : List (List ℕ)) (chain : Chain) (from to : ℕ) : Type 0 where
+pub record KeysAndLinksHold (n : Network) (keys : List (List ℕ)) (chain : Chain)
+    (from to : ℕ) : Type 0 where
   pub keys_held : (i : ℕ) (entry : Entry) (key : List ℕ) (one : AsEntry) → from ≤ i → i ≤ to
       → slice_get chain.entries i ≡ Some entry → slice_get keys i ≡ Some key
       → as_named n.ases entry.ia ≡ Some one → Contains one.keys key
@@ -28,7 +29,8 @@ KeyIsInUse n keys chain from to ia = (i : ℕ) (entry : Entry) (key : List ℕ) 
 
 -- the piece is of a segment that the network has made under these keys, which are accepted now,
 -- over links that are up now
-pub record IsIssuedAndAccepted (n : Network) (keys : List (List ℕ)) (piece : PieceValue) : Type 0 where
+pub record IsIssuedAndAccepted (n : Network) (keys : List (List ℕ))
+    (piece : PieceValue) : Type 0 where
   pub network : IsNetwork n
   pub range : HasRange piece
   pub issued : IsIssued n keys piece.segment

@@ -157,7 +157,8 @@ impl PacketInFlight {
         ensures went { IfOk stepped (λ outcome. (result ≡ TurnReply.Went outcome)
             × (self.new ≡ put topology.now self.old stop outcome)) }
         ensures refused { IfErr stepped (λ refusal. (result ≡ TurnReply.Refused refusal)
-            × (self.new ≡ record self.old { place = PacketLocation.Refused stop.ia stop.router refusal })) }
+            × (self.new
+            ≡ record self.old { place = PacketLocation.Refused stop.ia stop.router refusal })) }
     {
         match &stepped {
             Ok(outcome) => {

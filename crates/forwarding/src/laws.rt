@@ -166,7 +166,8 @@ pub fn sound_pieces_are_open()
 /// which that AS made its entry was in use until then.
 pub fn sound_pieces_outlast_changes()
     ensures mended { (n m : Network) (ia number : ℕ) (keys : List (List ℕ)) (piece : PieceValue)
-        → set_up true ia number n ≡ Ok m → IsIssuedAndAccepted n keys piece → IsIssuedAndAccepted m keys piece }
+        → set_up true ia number n ≡ Ok m → IsIssuedAndAccepted n keys piece
+        → IsIssuedAndAccepted m keys piece }
     ensures cut { (n m : Network) (ia number : ℕ) (keys : List (List ℕ)) (piece : PieceValue)
         → set_up false ia number n ≡ Ok m
         → AvoidsLink piece.segment piece.from piece.to ia number
@@ -257,6 +258,7 @@ pub fn delivered_packets_are_answered()
         → least < 2 * moment → (fault : VerifyFault)
         → IsRefused (request_of (turned_pieces pieces) header dst src moment rules) fault
         ↔ (fault ≡ VerifyFault.Expired) }
-    ensures sound { (n : Network) (keys : List (List ℕ)) (piece : PieceValue) → IsIssuedAndAccepted n keys piece
+    ensures sound { (n : Network) (keys : List (List ℕ)) (piece : PieceValue)
+        → IsIssuedAndAccepted n keys piece
         → IsIssuedAndAccepted n keys (turned_piece piece) }
 {}

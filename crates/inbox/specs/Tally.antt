@@ -24,7 +24,8 @@ module _ {T : Type 0} where
 
   -- no share is of a whole that was halved more than n times
   abbrev pub AreWithin : ℕ → List (Tally T) → Type 0
-  AreWithin n views = (port : ℕ) (v : Tally T) → get_elem? views port ≡ some v → v.share.halvings ≤ n
+  AreWithin n views =
+      (port : ℕ) (v : Tally T) → get_elem? views port ≡ some v → v.share.halvings ≤ n
 
   -- a pass without a piece has put in and taken out nothing
   abbrev pub IdleIsEmpty : List (Tally T) → Type 0

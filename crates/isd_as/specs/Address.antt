@@ -83,7 +83,9 @@ pub record Spells (text : List ℕ) (address : ℕ) : Type 0 where
 -- of lower-case hexadecimal digits without leading zeros
 abbrev pub canonical_as : ℕ → List ℕ
 canonical_as n = if nat_lt n (2 ^ 32) then decimal n
-    else digits 16 false (n / 2 ^ 32) ++ (colon ∷ (digits 16 false (n / 2 ^ 16 % 2 ^ 16) ++ (colon ∷ digits 16 false (n % 2 ^ 16))))
+    else digits 16 false (n / 2 ^ 32)
+    ++ (colon ∷ (digits 16 false (n / 2 ^ 16 % 2 ^ 16)
+    ++ (colon ∷ digits 16 false (n % 2 ^ 16))))
 
 -- how an address is printed: its ISD in decimal, '-' and its AS number
 abbrev pub canonical : ℕ → List ℕ

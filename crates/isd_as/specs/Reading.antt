@@ -21,7 +21,8 @@ all_digits radix text = list_all (λ b. nat_lt (digit_value b) radix) text
 -- limit
 unfoldable pub number_at : ℕ → ℕ → AddrFault → List ℕ → Result ℕ AddrFault
 number_at radix limit too_large text = if nat_lt 0 (length text) && all_digits radix text
-    then (if nat_lt (digits_value radix text) limit then Ok (digits_value radix text) else Err too_large)
+    then (if nat_lt (digits_value radix text) limit then Ok (digits_value radix text)
+    else Err too_large)
     else Err fault.BadDigit
 
 -- the number of an ISD
@@ -48,7 +49,8 @@ groups_at text = do
 
 -- the number of an AS
 unfoldable pub as_number_at : List ℕ → Result ℕ AddrFault
-as_number_at text = if list_any (λ b. b == colon) text then groups_at text else number_at 10 (2 ^ 32) fault.AsRange text
+as_number_at text = if list_any (λ b. b == colon) text then groups_at text
+    else number_at 10 (2 ^ 32) fault.AsRange text
 
 -- the number of an address
 unfoldable pub address_at : List ℕ → Result ℕ AddrFault

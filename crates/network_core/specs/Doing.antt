@@ -72,13 +72,17 @@ abbrev pub Readies : {X : Type 0} → (X → PacketValue) → NetValue → Shipm
 Readies view net sent (Ok packet) =
     IsAccepted (asked_at net.moment sent.way)
     × ((departs net sent
-    ≡ Ok (replies.Sent (length net.packets), record net { packets = net.packets ++ view packet ∷ [] }))
+    ≡ Ok (
+      replies.Sent (length net.packets),
+      record net { packets = net.packets ++ view packet ∷ [] },
+    ))
     × HasFrame (view packet).sent.way.source (view packet).sent.way.destination
     (view packet).sent.way.pieces)
 Readies view net sent (Err Memory) =
     IsAccepted (asked_at net.moment sent.way) × IsOk (departs net sent)
 Readies view net sent (Err (Refused fault)) =
-    ((first : VerifyFault) × (IsRefused (asked_at net.moment sent.way) first × (fault ≡ Path first)))
+    ((first : VerifyFault) × (IsRefused (asked_at net.moment sent.way) first
+    × (fault ≡ Path first)))
     ⊎ (IsAccepted (asked_at net.moment sent.way) × (departs net sent ≡ Err fault))
 
 -- the same where there may be nothing to be sent

@@ -40,7 +40,8 @@ pub fn answers_are_accepted()
 /// turns are 2, and for each AS between the ends 1 where its two interfaces have one owner and 2
 /// where not (`turns_for`), which are at most two for each hop field.
 pub fn sent_packets_are_delivered()
-    ensures let_through { (p k : ℕ) (old new : NetValue) (sent : Shipment) (later : List EventRecord)
+    ensures let_through { (p k : ℕ) (old new : NetValue) (sent : Shipment)
+        (later : List EventRecord)
         → Sends (Ok sent) old (Reply.Sent p) new
         → HasFrame sent.way.source sent.way.destination sent.way.pieces
         → IsHistory new later → AllLetGoOn p sent new later
@@ -48,7 +49,8 @@ pub fn sent_packets_are_delivered()
         (turns_for old.network (walk_of sent.way.pieces)) (turns_of p (take k later)) sent }
     // The network lets a path through that is live, if its pieces are sound and stay so: where no
     // event that is done cuts a link of the path or changes a key of its ASes.
-    ensures undisturbed { (p k : ℕ) (old new : NetValue) (sent : Shipment) (later : List EventRecord)
+    ensures undisturbed { (p k : ℕ) (old new : NetValue) (sent : Shipment)
+        (later : List EventRecord)
         → Sends (Ok sent) old (Reply.Sent p) new
         → HasFrame sent.way.source sent.way.destination sent.way.pieces
         → IsNetwork new.network → AreSound new.network sent.way.pieces

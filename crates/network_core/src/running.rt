@@ -34,7 +34,8 @@ pub fn run(alloc: Global, topology: Topology, events: &[Event<'_>]) -> Result<Ne
     ensures ran { IfOk result (λ net. Ran topology (map event_value events.now) net) }
     ensures stopped { IfErr result (λ s. (event : EventValue)
         × ((slice_get (map event_value events.now) s.done ≡ Some event)
-        × (TakesMemory s.net event × Ran topology (take s.done (map event_value events.now)) s.net))) }
+        × (TakesMemory s.net event
+        × Ran topology (take s.done (map event_value events.now)) s.net))) }
 {
     topology.known();
     let mut net = Net::new(alloc, topology);

@@ -67,7 +67,8 @@ impl Net {
         packet: u32,
         payload: &[u8],
     ) -> Result<Reply, EventError>
-        ensures { DoesSend (shipment_by self.old (BackOf packet) payload.now) self.old self.new result }
+        ensures { DoesSend (shipment_by self.old (BackOf packet) payload.now)
+            self.old self.new result }
     {
         match self.ready_back(alloc, packet, payload) {
             Ok(packet) => self.keep_packet(packet),

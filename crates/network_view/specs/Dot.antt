@@ -13,11 +13,13 @@ use Rattle.scion_topology.specs.Network.{Network}
 
 -- the name of a router in the picture: its AS and its number
 unfoldable pub router_name : ℕ → ℕ → List ℕ
-router_name ia router = codes "\"" ++ (canonical ia ++ (codes " " ++ (decimal router ++ codes "\"")))
+router_name ia router =
+    codes "\"" ++ (canonical ia ++ (codes " " ++ (decimal router ++ codes "\"")))
 
 -- a router, with its number
 unfoldable pub router_text : ℕ → ℕ → List ℕ
-router_text ia router = router_name ia router ++ (codes " [label=" ++ (decimal router ++ codes "]; "))
+router_text ia router =
+    router_name ia router ++ (codes " [label=" ++ (decimal router ++ codes "]; "))
 
 -- the routers of an AS, by their number
 unfoldable pub routers_text : ℕ → ℕ → List ℕ
@@ -36,13 +38,15 @@ core_text false = codes "\"; style=rounded; "
 -- the box of an ISD, which is the same for each of its ASes
 unfoldable pub isd_text : ℕ → List ℕ
 isd_text isd =
-    codes "subgraph cluster_" ++ (decimal isd ++ (codes " { label=\"ISD " ++ (decimal isd ++ codes "\"; ")))
+    codes "subgraph cluster_"
+    ++ (decimal isd ++ (codes " { label=\"ISD " ++ (decimal isd ++ codes "\"; ")))
 
 -- an AS: a box with its routers, in the box of its ISD
 unfoldable pub as_text : AsEntry → List ℕ
 as_text one =
     isd_text (isd_of one.ia) ++ (codes "subgraph " ++ (box_name one.ia ++ (codes " { label=\""
-    ++ (canonical one.ia ++ (core_text one.core ++ (routers_text one.ia one.routers ++ codes "} }\n"))))))
+    ++ (canonical one.ia ++ (core_text one.core
+    ++ (routers_text one.ia one.routers ++ codes "} }\n"))))))
 
 -- ---- links
 

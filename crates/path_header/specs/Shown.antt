@@ -21,7 +21,8 @@ has_header bytes = is_read (header_at bytes)
 -- the header that was read, and one without fields where none was
 abbrev pub read_or_none : Result HeaderValue HeaderFault → HeaderValue
 read_or_none (Ok v) = v
-read_or_none (Err fault) = record { curr_inf = 0; curr_hf = 0; lens = lens_from []; infos = []; hops = [] }
+read_or_none (Err fault) =
+    record { curr_inf = 0; curr_hf = 0; lens = lens_from []; infos = []; hops = [] }
 
 -- the header with which these bytes begin, where they begin with one
 abbrev pub header_at_front : List ℕ → HeaderValue

@@ -16,7 +16,8 @@ fn begins(bytes: &[u8])
     requires { has_header bytes.now ≡ true }
     ensures header { IsHeader (header_at_front bytes.now) }
     ensures long { header_len (header_at_front bytes.now) ≤ length bytes.now }
-    ensures spelled { Spells (take (header_len (header_at_front bytes.now)) bytes.now) (header_at_front bytes.now) }
+    ensures spelled { Spells (take (header_len (header_at_front bytes.now)) bytes.now)
+        (header_at_front bytes.now) }
 {}
 
 /// A path header in borrowed bytes, which spell it in front: it is read and changed where it

@@ -52,7 +52,8 @@ segment_fault entries =
 
 -- the first rule that a beacon of this one entry would break
 unfoldable pub first_fault : Entry → Option SegmentFault
-first_fault entry = if has_way_in entry || not (has_way_out entry) then Some faults.BadEnds else None
+first_fault entry =
+    if has_way_in entry || not (has_way_out entry) then Some faults.BadEnds else None
 
 -- the first rule that a beacon would break with this entry more
 unfoldable pub next_fault : List Entry → Entry → Option SegmentFault

@@ -26,6 +26,7 @@ FailsToTake (Refused fault) wanted = wanted ≡ Err fault
 
 -- what registering this segment answers: whether it is new, or an error, with the segment handed
 -- back
-abbrev pub Registers : Chain → Result Bool (Chain × OrMemory StoreFault) → Result Bool StoreFault → Type 0
+abbrev pub Registers : Chain → Result Bool (Chain × OrMemory StoreFault) → Result Bool StoreFault
+    → Type 0
 Registers segment (Ok is_new) wanted = wanted ≡ Ok is_new
 Registers segment (Err error) wanted = (error.0 ≡ segment) × FailsToTake error.1 wanted

@@ -38,11 +38,13 @@ order_at segments place = rank_at segments place * 2 ^ 64 + place
 
 -- the ends of the segment at a place lie from low to high, both included
 abbrev pub lies_between : List Chain → ℕ → ℕ → ℕ → Bool
-lies_between segments low high place = nat_le low (rank_at segments place) && nat_le (rank_at segments place) high
+lies_between segments low high place =
+    nat_le low (rank_at segments place) && nat_le (rank_at segments place) high
 
 -- a list of numbers has each place once: any test counts as many of both
 abbrev pub HasEachPlace : List Chain → List ℕ → Type 0
-HasEachPlace segments index = (test : ℕ → Bool) → count_by test index ≡ count_by test (range_with_len 0 (length segments))
+HasEachPlace segments index =
+    (test : ℕ → Bool) → count_by test index ≡ count_by test (range_with_len 0 (length segments))
 
 -- the segment's addresses are of 64 bits
 abbrev pub HasAddresses : Chain → Type 0
@@ -65,7 +67,8 @@ passes_at test segments place = option_map_or test (slice_get segments place) fa
 
 -- the places of an index whose segments are live, with ends from low to high
 abbrev pub live_places : List Chain → List ℕ → ℕ → ℕ → ℕ → List ℕ
-live_places segments index now low high = filter (passes_at (is_live now) segments) (filter (lies_between segments low high) index)
+live_places segments index now low high =
+    filter (passes_at (is_live now) segments) (filter (lies_between segments low high) index)
 
 -- those of the live core segments from one AS to another, and then those of the way back
 abbrev pub either_way : List Chain → List ℕ → ℕ → ℕ → ℕ → List ℕ

@@ -52,8 +52,10 @@ abbrev pub IsReached : ℕ → List Chain → ℕ → Type 0
 IsReached ia segments other = (other ≡ ia) ⊎ Any (λ segment. first_as segment ≡ other) segments
 
 -- a segment of the list is a live core segment from the near side to the far side, either way round
-pub record LeadsBetween (segments : List Chain) (near far : ℕ → Type 0) (now : ℕ) (segment : Chain) : Type 0 where
+pub record LeadsBetween (segments : List Chain) (near far : ℕ → Type 0) (now : ℕ)
+    (segment : Chain) : Type 0 where
   pub there : Contains segments segment
   pub kind : segment.kind ≡ Core
   pub live : AreLive segment now
-  pub ends : (near (first_as segment) × far (last_as segment)) ⊎ (near (last_as segment) × far (first_as segment))
+  pub ends : (near (first_as segment) × far (last_as segment))
+      ⊎ (near (last_as segment) × far (first_as segment))

@@ -23,8 +23,10 @@ answer_to segments segment now =
 abbrev pub IsAnswer : List Chain → Chain → ℕ → Result Bool StoreFault → Type 0
 IsAnswer segments segment now (Err Expired) = ¬ (AreLive segment now)
 IsAnswer segments segment now (Ok false) = AreLive segment now × Contains segments segment
-IsAnswer segments segment now (Err Full) = AreLive segment now × ¬ (Contains segments segment) × (32 ≤ count_by (is_alike segment) segments)
-IsAnswer segments segment now (Ok true) = AreLive segment now × ¬ (Contains segments segment) × (count_by (is_alike segment) segments < 32)
+IsAnswer segments segment now (Err Full) = AreLive segment now × ¬ (Contains segments segment)
+    × (32 ≤ count_by (is_alike segment) segments)
+IsAnswer segments segment now (Ok true) = AreLive segment now × ¬ (Contains segments segment)
+    × (count_by (is_alike segment) segments < 32)
 
 -- the list with this segment at its end, where the answer is that it is new
 abbrev pub with_new : Result Bool StoreFault → List Chain → Chain → List Chain

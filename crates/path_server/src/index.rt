@@ -16,7 +16,8 @@ pub(crate) fn range<'a>(
     high: Ends,
 ) -> &'a [usize]
     requires { IsIndex segments.now index.now }
-    ensures { result.now ≡ filter (lies_between segments.now (number_of low) (number_of high)) index.now }
+    ensures { result.now
+        ≡ filter (lies_between segments.now (number_of low) (number_of high)) index.now }
 {
     let (_, rest) = index.split_at(start_of(segments, index, low));
     &rest[..end_near(segments, rest, high)]
@@ -26,8 +27,10 @@ pub(crate) fn range<'a>(
 fn start_of(segments: &[Segment], index: &[usize], ends: Ends) -> usize
     requires { IsIndex segments.now index.now }
     ensures within { result ≤ length index.now }
-    ensures below { AllWithin (λ place. rank_at segments.now place < number_of ends) index.now 0 result }
-    ensures rest { AllWithin (λ place. number_of ends ≤ rank_at segments.now place) index.now result (length index.now) }
+    ensures below { AllWithin (λ place. rank_at segments.now place < number_of ends)
+        index.now 0 result }
+    ensures rest { AllWithin (λ place. number_of ends ≤ rank_at segments.now place)
+        index.now result (length index.now) }
 {
     index.partition_point(|place| is_below(segments, *place, ends))
 }
@@ -36,8 +39,10 @@ fn start_of(segments: &[Segment], index: &[usize], ends: Ends) -> usize
 pub(crate) fn end_of(segments: &[Segment], index: &[usize], ends: Ends) -> usize
     requires { IsNonDecreasingBy (order_at segments.now) index.now }
     ensures within { result ≤ length index.now }
-    ensures below { AllWithin (λ place. rank_at segments.now place ≤ number_of ends) index.now 0 result }
-    ensures rest { AllWithin (λ place. number_of ends < rank_at segments.now place) index.now result (length index.now) }
+    ensures below { AllWithin (λ place. rank_at segments.now place ≤ number_of ends)
+        index.now 0 result }
+    ensures rest { AllWithin (λ place. number_of ends < rank_at segments.now place)
+        index.now result (length index.now) }
 {
     index.partition_point(|place| !is_above(segments, *place, ends))
 }
@@ -46,8 +51,10 @@ pub(crate) fn end_of(segments: &[Segment], index: &[usize], ends: Ends) -> usize
 fn end_near(segments: &[Segment], index: &[usize], ends: Ends) -> usize
     requires { IsNonDecreasingBy (order_at segments.now) index.now }
     ensures within { result ≤ length index.now }
-    ensures below { AllWithin (λ place. rank_at segments.now place ≤ number_of ends) index.now 0 result }
-    ensures rest { AllWithin (λ place. number_of ends < rank_at segments.now place) index.now result (length index.now) }
+    ensures below { AllWithin (λ place. rank_at segments.now place ≤ number_of ends)
+        index.now 0 result }
+    ensures rest { AllWithin (λ place. number_of ends < rank_at segments.now place)
+        index.now result (length index.now) }
 {
     match index.first() {
         Some(place) if is_above(segments, *place, ends) => 0,

@@ -71,7 +71,8 @@ pub(crate) fn ases_reached(
     ia: IsdAs,
     segments: &[Segment],
 ) -> Result<Vec<u64>, AllocError>
-    ensures { IfOk result (λ ases. (other : ℕ) → is_in ases.items other ≡ is_reached ia segments.now other) }
+    ensures { IfOk result (λ ases. (other : ℕ) → is_in ases.items other
+        ≡ is_reached ia segments.now other) }
 {
     let mut ases = Vec::with_capacity(alloc, segments.len() + 1)?;
     ases.push(ia.number())?;

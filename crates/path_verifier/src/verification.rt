@@ -80,7 +80,8 @@ pub fn accept<'s, 'p, A: Allocator + Clone>(
     policy: &'p Policy<A>,
 ) -> Result<VerifiedPath<'s, 'p, A>, VerifyFault>
     // What is given may be sent, and shows what was asked.
-    ensures found { let request = request_of pieces.now (header_of pieces.now) src dst now policy.entry.now in
+    ensures found { let request = request_of pieces.now (header_of pieces.now) src dst now
+        policy.entry.now in
         IfOk result (λ path. (path ≡ request) × IsAccepted request) }
     // What may be sent is given.
     ensures only { IsAccepted

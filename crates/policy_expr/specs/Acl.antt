@@ -52,7 +52,10 @@ says_nothing (Both m n) = false
 
 -- the entry of a sign and a predicate, bare where that is of wildcards alone
 abbrev pub entry_of : Bool → HopPred → AclEntry
-entry_of allows pred = record { allows = allows; pred = if (pred.ia == 0) && says_nothing pred.interfaces then None else Some pred }
+entry_of allows pred = record {
+  allows = allows;
+  pred = if (pred.ia == 0) && says_nothing pred.interfaces then None else Some pred;
+}
 
 -- the entry of a sign and what stands behind it: a predicate, or nothing
 abbrev pub signed_at : Bool → List ℕ → Result AclEntry PolicyFault
@@ -86,7 +89,8 @@ default_fault (last ∷ others) =
 
 -- the first rule that a list of entries would break: at most 256, and then those of its default
 unfoldable pub acl_fault : List AclEntry → Option PolicyFault
-acl_fault entries = if nat_lt 256 (length entries) then Some faults.TooLarge else default_fault (reverse entries)
+acl_fault entries =
+    if nat_lt 256 (length entries) then Some faults.TooLarge else default_fault (reverse entries)
 
 -- what is never false of an access control list: at most 256 entries, of which the last has no
 -- predicate and each other has one

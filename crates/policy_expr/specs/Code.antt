@@ -44,7 +44,8 @@ tree_code (once_or_more a) = gcons (gnum 2) (tree_code a)
 abbrev hop_from : Gv → Tree
 hop_from gnil = hop (record { ia = 0; interfaces = Any })
 hop_from (gnum n) = hop (record { ia = 0; interfaces = Any })
-hop_from (gcons ia interfaces) = hop (record { ia = number_from ia; interfaces = interfaces_from interfaces })
+hop_from (gcons ia interfaces) =
+    hop (record { ia = number_from ia; interfaces = interfaces_from interfaces })
 
 abbrev pub tree_from : Gv → Tree
 tree_from gnil = hop_from gnil
@@ -54,12 +55,17 @@ tree_from (gcons (gnum kind) a) = unary kind (tree_from a)
 tree_from (gcons (gcons kind a) b) = binary (number_from kind) (tree_from a) (tree_from b)
 
 pub tree_back : (t : Tree) → tree_from (tree_code t) ≡ t
-tree_back (hop pred) = ap (λ (i : Interfaces). hop (record { ia = pred.ia; interfaces = i })) (interfaces_back pred.interfaces)
-tree_back (followed a b) = ap (λ (x : Tree). followed x (tree_from (tree_code b))) (tree_back a) ∙ ap (λ (x : Tree). followed a x) (tree_back b)
-tree_back (either a b) = ap (λ (x : Tree). either x (tree_from (tree_code b))) (tree_back a) ∙ ap (λ (x : Tree). either a x) (tree_back b)
+tree_back (hop pred) =
+    ap (λ (i : Interfaces). hop (record { ia = pred.ia; interfaces = i }))
+    (interfaces_back pred.interfaces)
+tree_back (followed a b) = ap (λ (x : Tree). followed x (tree_from (tree_code b))) (tree_back a)
+    ∙ ap (λ (x : Tree). followed a x) (tree_back b)
+tree_back (either a b) = ap (λ (x : Tree). either x (tree_from (tree_code b))) (tree_back a)
+    ∙ ap (λ (x : Tree). either a x) (tree_back b)
 tree_back (optional a) = ap (λ (x : Tree). optional x) (tree_back a)
 tree_back (repeated a) = ap (λ (x : Tree). repeated x) (tree_back a)
 tree_back (once_or_more a) = ap (λ (x : Tree). once_or_more x) (tree_back a)
 
 abbrev pub coded_tree : Coded Tree
-coded_tree = record { code = tree_code; inj = λ x y e. sym (tree_back x) ∙ ap tree_from e ∙ tree_back y }
+coded_tree =
+    record { code = tree_code; inj = λ x y e. sym (tree_back x) ∙ ap tree_from e ∙ tree_back y }

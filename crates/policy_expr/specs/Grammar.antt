@@ -16,15 +16,23 @@ pub data Part : Type 0 where
 -- the tokens spell the tree as such a part, with at most `depth` parentheses open at once
 pub data Spells : ℕ → Part → List Token → Tree → Type 0 where
   predicate : (depth : ℕ) (p : HopPred) → Spells depth item (signs.Hop p ∷ []) (hop p)
-  in_parentheses : (depth : ℕ) (ts : List Token) (t : Tree) → Spells depth following ts t → Spells (depth + 1) item (signs.Open ∷ (ts ++ signs.Close ∷ [])) t
-  with_optional : (depth : ℕ) (ts : List Token) (t : Tree) → Spells depth item ts t → Spells depth item (ts ++ signs.Optional ∷ []) (optional t)
-  with_repeated : (depth : ℕ) (ts : List Token) (t : Tree) → Spells depth item ts t → Spells depth item (ts ++ signs.Repeated ∷ []) (repeated t)
-  with_once_or_more : (depth : ℕ) (ts : List Token) (t : Tree) → Spells depth item ts t → Spells depth item (ts ++ signs.OnceOrMore ∷ []) (once_or_more t)
-  one_alternative : (depth : ℕ) (ts : List Token) (t : Tree) → Spells depth item ts t → Spells depth alternatives ts t
-  one_more : (depth : ℕ) (ts us : List Token) (a b : Tree) → Spells depth alternatives ts a → Spells depth item us b
+  in_parentheses : (depth : ℕ) (ts : List Token) (t : Tree) → Spells depth following ts t
+      → Spells (depth + 1) item (signs.Open ∷ (ts ++ signs.Close ∷ [])) t
+  with_optional : (depth : ℕ) (ts : List Token) (t : Tree) → Spells depth item ts t
+      → Spells depth item (ts ++ signs.Optional ∷ []) (optional t)
+  with_repeated : (depth : ℕ) (ts : List Token) (t : Tree) → Spells depth item ts t
+      → Spells depth item (ts ++ signs.Repeated ∷ []) (repeated t)
+  with_once_or_more : (depth : ℕ) (ts : List Token) (t : Tree) → Spells depth item ts t
+      → Spells depth item (ts ++ signs.OnceOrMore ∷ []) (once_or_more t)
+  one_alternative : (depth : ℕ) (ts : List Token) (t : Tree) → Spells depth item ts t
+      → Spells depth alternatives ts t
+  one_more : (depth : ℕ) (ts us : List Token) (a b : Tree) → Spells depth alternatives ts a
+      → Spells depth item us b
       → Spells depth alternatives (ts ++ (signs.Or ∷ us)) (either a b)
-  one_part : (depth : ℕ) (ts : List Token) (t : Tree) → Spells depth alternatives ts t → Spells depth following ts t
-  behind : (depth : ℕ) (ts us : List Token) (a b : Tree) → Spells depth following ts a → Spells depth alternatives us b
+  one_part : (depth : ℕ) (ts : List Token) (t : Tree) → Spells depth alternatives ts t
+      → Spells depth following ts t
+  behind : (depth : ℕ) (ts us : List Token) (a b : Tree) → Spells depth following ts a
+      → Spells depth alternatives us b
       → Spells depth following (ts ++ us) (followed a b)
 
 -- the text spells the tree, with at most 32 parentheses open at once

@@ -29,13 +29,17 @@ two_interfaces ingress egress = if (ingress == 0) && (egress == 0) then Any else
 -- the text of interfaces: one decimal number of 16 bits, or two with a ',' between them
 pub data SpellsInterfaces : List ℕ → Interfaces → Type 0 where
   one : (text : List ℕ) (n : ℕ) → SpellsIsd text n → SpellsInterfaces text (one_interface n)
-  two : (front back : List ℕ) (m n : ℕ) → SpellsIsd front m → SpellsIsd back n → SpellsInterfaces (front ++ (comma ∷ back)) (two_interfaces m n)
+  two : (front back : List ℕ) (m n : ℕ) → SpellsIsd front m → SpellsIsd back n
+      → SpellsInterfaces (front ++ (comma ∷ back)) (two_interfaces m n)
 
 -- the text of a predicate: an ISD alone, an address, or an address, '#' and interfaces
 pub data SpellsPredicate : List ℕ → HopPred → Type 0 where
-  isd_alone : (text : List ℕ) (n : ℕ) → SpellsIsd text n → SpellsPredicate text (record { ia = address_of n 0; interfaces = Any })
-  address : (text : List ℕ) (n : ℕ) → Spells text n → SpellsPredicate text (record { ia = n; interfaces = Any })
-  with_interfaces : (front back : List ℕ) (n : ℕ) (ways : Interfaces) → Spells front n → SpellsInterfaces back ways
+  isd_alone : (text : List ℕ) (n : ℕ) → SpellsIsd text n
+      → SpellsPredicate text (record { ia = address_of n 0; interfaces = Any })
+  address : (text : List ℕ) (n : ℕ) → Spells text n
+      → SpellsPredicate text (record { ia = n; interfaces = Any })
+  with_interfaces : (front back : List ℕ) (n : ℕ) (ways : Interfaces) → Spells front n
+      → SpellsInterfaces back ways
       → SpellsPredicate (front ++ (hash ∷ back)) (record { ia = n; interfaces = ways })
 
 -- an interface: decimal digits up to 65535, as of an ISD
@@ -55,9 +59,10 @@ interfaces_at text = if list_any (λ b. b == comma) text
 
 -- the address of a text: with a '-' it is whole, else an ISD alone
 unfoldable pub ia_at : List ℕ → Result ℕ PolicyFault
-ia_at text = or_else faults.BadPredicate (if list_any (λ b. b == dash) text then address_at text else (do
-  isd ← isd_at text
-  Ok (address_of isd 0)))
+ia_at text =
+    or_else faults.BadPredicate (if list_any (λ b. b == dash) text then address_at text else (do
+      isd ← isd_at text
+      Ok (address_of isd 0)))
 
 -- the predicate of a text, or BadPredicate: with a '#' an address and interfaces
 unfoldable pub predicate_at : List ℕ → Result HopPred PolicyFault

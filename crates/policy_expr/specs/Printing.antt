@@ -33,8 +33,10 @@ in_parentheses wanted text = if wanted then codes "(" ++ (text ++ codes ")") els
 -- where the tree binds less tight
 abbrev pub printed_as : ℕ → Tree → List ℕ
 printed_as least (hop pred) = predicate_text pred
-printed_as least (followed a b) = in_parentheses (nat_lt 0 least) (printed_as 0 a ++ (codes " " ++ printed_as 1 b))
-printed_as least (either a b) = in_parentheses (nat_lt 1 least) (printed_as 1 a ++ (codes "|" ++ printed_as 2 b))
+printed_as least (followed a b) =
+    in_parentheses (nat_lt 0 least) (printed_as 0 a ++ (codes " " ++ printed_as 1 b))
+printed_as least (either a b) =
+    in_parentheses (nat_lt 1 least) (printed_as 1 a ++ (codes "|" ++ printed_as 2 b))
 printed_as least (optional a) = printed_as 2 a ++ codes "?"
 printed_as least (repeated a) = printed_as 2 a ++ codes "*"
 printed_as least (once_or_more a) = printed_as 2 a ++ codes "+"

@@ -35,24 +35,32 @@ next_level level None = level
 next_level level (Some item) = record { before = Some (whole level item); choices = None }
 
 abbrev pub next_choice : Level → Tree → Level
-next_choice level item = record { before = level.before; choices = Some (joined either level.choices item) }
+next_choice level item =
+    record { before = level.before; choices = Some (joined either level.choices item) }
 
 -- what the rest of the tokens gives, behind a level for each parenthesis that is open, the last one
 -- first, the level now, and the item at its end, or none where one must come
 abbrev pub read_rest : List Level → Level → Option Tree → List Token → Result Tree PolicyFault
-read_rest levels level item (signs.Hop p ∷ ts) = read_rest levels (next_level level item) (Some (hop p)) ts
+read_rest levels level item (signs.Hop p ∷ ts) =
+    read_rest levels (next_level level item) (Some (hop p)) ts
 read_rest levels level item (signs.Open ∷ ts) =
-    if nat_lt (length levels) 32 then read_rest (next_level level item ∷ levels) new_level None ts else Err faults.TooDeep
+    if nat_lt (length levels) 32 then read_rest (next_level level item ∷ levels) new_level None ts
+    else Err faults.TooDeep
 read_rest levels level None [] = Err faults.UnexpectedEnd
 read_rest levels level None (t ∷ ts) = Err faults.BadPredicate
 read_rest [] level (Some item) [] = Ok (whole level item)
 read_rest (outer ∷ levels) level (Some item) [] = Err faults.Unbalanced
-read_rest levels level (Some item) (signs.Optional ∷ ts) = read_rest levels level (Some (optional item)) ts
-read_rest levels level (Some item) (signs.OnceOrMore ∷ ts) = read_rest levels level (Some (once_or_more item)) ts
-read_rest levels level (Some item) (signs.Repeated ∷ ts) = read_rest levels level (Some (repeated item)) ts
-read_rest levels level (Some item) (signs.Or ∷ ts) = read_rest levels (next_choice level item) None ts
+read_rest levels level (Some item) (signs.Optional ∷ ts) =
+    read_rest levels level (Some (optional item)) ts
+read_rest levels level (Some item) (signs.OnceOrMore ∷ ts) =
+    read_rest levels level (Some (once_or_more item)) ts
+read_rest levels level (Some item) (signs.Repeated ∷ ts) =
+    read_rest levels level (Some (repeated item)) ts
+read_rest levels level (Some item) (signs.Or ∷ ts) =
+    read_rest levels (next_choice level item) None ts
 read_rest [] level (Some item) (signs.Close ∷ ts) = Err faults.Unbalanced
-read_rest (outer ∷ levels) level (Some item) (signs.Close ∷ ts) = read_rest levels outer (Some (whole level item)) ts
+read_rest (outer ∷ levels) level (Some item) (signs.Close ∷ ts) =
+    read_rest levels outer (Some (whole level item)) ts
 read_rest levels level (Some item) (signs.Other ∷ ts) = Err faults.BadPredicate
 
 -- the tree of a text, however large
@@ -82,10 +90,12 @@ abbrev pub fault_at : ℕ → Bool → List Token → Option PolicyFault
 fault_at depth false [] = Some faults.UnexpectedEnd
 fault_at depth true [] = if depth == 0 then None else Some faults.Unbalanced
 fault_at depth item (signs.Hop p ∷ ts) = fault_at depth true ts
-fault_at depth item (signs.Open ∷ ts) = if nat_lt depth 32 then fault_at (depth + 1) false ts else Some faults.TooDeep
+fault_at depth item (signs.Open ∷ ts) =
+    if nat_lt depth 32 then fault_at (depth + 1) false ts else Some faults.TooDeep
 fault_at depth false (t ∷ ts) = Some faults.BadPredicate
 fault_at depth true (signs.Or ∷ ts) = fault_at depth false ts
-fault_at depth true (signs.Close ∷ ts) = if depth == 0 then Some faults.Unbalanced else fault_at (depth - 1) true ts
+fault_at depth true (signs.Close ∷ ts) =
+    if depth == 0 then Some faults.Unbalanced else fault_at (depth - 1) true ts
 fault_at depth true (signs.Other ∷ ts) = Some faults.BadPredicate
 fault_at depth true (t ∷ ts) = fault_at depth true ts
 

@@ -56,6 +56,8 @@ pub record Links (old new : List Line) (last first : ℕ) : Type 0 where
 
 -- the ends of a part and then another
 pub record IsThen (front back ends : Ends) : Type 0 where
-  pub first : (k : ℕ) → Has ends.first k ↔ (Has front.first k ⊎ ((front.has_empty ≡ true) × Has back.first k))
-  pub last : (k : ℕ) → Has ends.last k ↔ (Has back.last k ⊎ ((back.has_empty ≡ true) × Has front.last k))
+  pub first : (k : ℕ) → Has ends.first k ↔ (Has front.first k
+      ⊎ ((front.has_empty ≡ true) × Has back.first k))
+  pub last : (k : ℕ) → Has ends.last k
+      ↔ (Has back.last k ⊎ ((back.has_empty ≡ true) × Has front.last k))
   pub empty : ends.has_empty ≡ (front.has_empty && back.has_empty)

@@ -10,7 +10,8 @@ use Rattle.policy_expr.specs.Predicate.{predicate_at}
 
 -- a digit, a letter from a to f of either case, '-', ':', '#' or ','
 abbrev pub is_mark : ℕ → Bool
-is_mark b = (nat_le 48 b && nat_le b 57) || ((nat_le 97 b && nat_le b 102) || ((nat_le 65 b && nat_le b 70)
+is_mark b =
+    (nat_le 48 b && nat_le b 57) || ((nat_le 97 b && nat_le b 102) || ((nat_le 65 b && nat_le b 70)
     || ((b == 45) || ((b == 58) || ((b == 35) || (b == 44))))))
 
 -- the text goes on with a mark

@@ -11,7 +11,8 @@ use Rattle.policy_expr.specs.Reading as reading
 use Rattle.policy_expr.specs.Reading.{read_rest}
 
 abbrev pub level_of : {A : _} → Level A → reading.Level
-level_of level = record { before = option_map tree_of level.before; choices = option_map tree_of level.choices }
+level_of level =
+    record { before = option_map tree_of level.before; choices = option_map tree_of level.choices }
 
 -- the last one first
 abbrev pub levels_of : {A : _} → List (Level A) → List reading.Level
@@ -19,10 +20,12 @@ levels_of levels = map level_of (reverse levels)
 
 -- what the rest of the tokens gives
 abbrev pub gives : {A : _} → Reader A → List Token → Result Tree PolicyFault
-gives reader rest = read_rest (levels_of reader.levels.items) (level_of reader.level) (option_map tree_of reader.item) rest
+gives reader rest =
+    read_rest (levels_of reader.levels.items) (level_of reader.level) (option_map tree_of reader.item) rest
 
 -- whatever the rest of the tokens, what they give is given behind the step
-abbrev pub GoesOn : {A : _} → (List Token → Result Tree PolicyFault) → Result (Reader A) (OrMemory PolicyFault) → Type 0
+abbrev pub GoesOn : {A : _} → (List Token → Result Tree PolicyFault)
+    → Result (Reader A) (OrMemory PolicyFault) → Type 0
 GoesOn given (Ok next) = (rest : List Token) → given rest ≡ gives next rest
 GoesOn given (Err Memory) = Unit {0}
 GoesOn given (Err (Refused fault)) = (rest : List Token) → given rest ≡ Err fault

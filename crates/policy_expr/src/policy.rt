@@ -61,7 +61,8 @@ impl<A: Allocator + Clone> Policy<A> {
     #[tactic(auto, unfolding(crate::specs::Policy::policy_at))]
     pub fn parse(alloc: A, text: &PolicyText<'_>) -> Result<Policy<A>, PolicyError>
         ensures { Answers (λ p. p) result
-            (policy_at (option_map (λ t. t.now) text.now.acl) (option_map (λ t. t.now) text.now.sequence)) }
+            (policy_at (option_map (λ t. t.now) text.now.acl)
+            (option_map (λ t. t.now) text.now.sequence)) }
     {
         check_policy(text)?;
         let acl = read_acl(alloc.clone()?, text.acl)?;
@@ -112,7 +113,8 @@ impl<A: Allocator + Clone> Policy<A> {
 #[tactic(auto, unfolding(crate::specs::Policy::policy_at))]
 pub(crate) fn check_policy(text: &PolicyText<'_>) -> Result<(), PolicyFault>
     ensures { Judges result
-        (policy_at (option_map (λ t. t.now) text.now.acl) (option_map (λ t. t.now) text.now.sequence)) }
+        (policy_at (option_map (λ t. t.now) text.now.acl)
+            (option_map (λ t. t.now) text.now.sequence)) }
 {
     check_list(text.acl)?;
     check_sequence(unblank(text.sequence))

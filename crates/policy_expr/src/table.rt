@@ -53,7 +53,8 @@ impl<A: Allocator> Table<A> {
     /// each predicate at most once. Takes no memory.
     pub(crate) fn matches(&self, walk: &[WalkHop]) -> bool
         requires first { (k : ℕ) → Has self.now.ends.first k → k < length self.now.lines.items }
-        requires next { (j k : ℕ) → MayFollow self.now.lines.items j k → k < length self.now.lines.items }
+        requires next { (j k : ℕ) → MayFollow self.now.lines.items j k
+            → k < length self.now.lines.items }
         ensures { IsTrue result ↔ Accepts self.now.lines.items self.now.ends walk.now }
     {
         let Some((end, before)) = walk.split_last() else {
@@ -70,7 +71,8 @@ impl<A: Allocator> Table<A> {
     fn wanted_behind(&self, wanted: PredSet, hop: &WalkHop) -> PredSet
         requires { (k : ℕ) → Has wanted k → k < vec_len self.now.lines }
         ensures { (j : ℕ) → Has result j
-            ↔ ((k : ℕ) × Has wanted k × MeetsAt self.now.lines.items k hop.now × MayFollow self.now.lines.items k j) }
+            ↔ ((k : ℕ) × Has wanted k × MeetsAt self.now.lines.items k hop.now
+            × MayFollow self.now.lines.items k j) }
     {
         let mut next = PredSet::none();
         let mut rest = wanted.members();
@@ -87,7 +89,8 @@ impl<A: Allocator> Table<A> {
     fn with_followers(&self, number: usize, hop: &WalkHop, next: PredSet) -> PredSet
         requires { number < vec_len self.now.lines }
         ensures { (j : ℕ) → Has result j ↔ (Has next j
-            ⊎ (MeetsAt self.now.lines.items number hop.now × MayFollow self.now.lines.items number j)) }
+            ⊎ (MeetsAt self.now.lines.items number hop.now
+            × MayFollow self.now.lines.items number j)) }
     {
         let line = &self.lines[number];
         if line.pred.matches(hop) {

@@ -10,7 +10,8 @@ use Rattle.router_step.specs.Place.{info_of, hop_of, way_out, arrived}
 use Rattle.router_step.specs.Checks.{indices_fit, way_in_fits, is_live, is_mac_right, source_fits, kinds_fit}
 
 -- the checks up to the source's hold; `here` is the header after the arrival
-pub record IsAdmitted (view : View) (now : ℕ) (arrival : Arrival) (source : ℕ) (header here : HeaderValue) : Type 0 where
+pub record IsAdmitted (view : View) (now : ℕ) (arrival : Arrival) (source : ℕ)
+    (header here : HeaderValue) : Type 0 where
   pub here_is : arrived arrival header ≡ here
   pub indices : indices_fit arrival header ≡ true
   pub way_in : way_in_fits view arrival (info_of header) (hop_of header) ≡ true
@@ -20,7 +21,8 @@ pub record IsAdmitted (view : View) (now : ℕ) (arrival : Arrival) (source : �
 
 -- the packet may leave by its hop's way out: the interface is there, the links may be joined, and
 -- the link is up
-pub record MayLeave (view : View) (arrival : Arrival) (has_switched : Bool) (header : HeaderValue) (out : IfEntry) : Type 0 where
+pub record MayLeave (view : View) (arrival : Arrival) (has_switched : Bool) (header : HeaderValue)
+    (out : IfEntry) : Type 0 where
   pub known : entry_of view (way_out (info_of header) (hop_of header)) ≡ Some out
   pub kinds : kinds_fit view arrival has_switched out.kind ≡ true
   pub up : out.up ≡ true

@@ -42,7 +42,8 @@ packet_step view now arrival packet = do
   Ok (stepped.0, take 16 packet ++ (spelling stepped.1 ++ drop (16 + front.1) packet))
 
 -- the same over a packet of these addresses, this path header and this rest
-abbrev pub frame_step : View → ℕ → Arrival → List ℕ → List ℕ → HeaderValue → List ℕ → Result (Outcome × List ℕ) Refusal
+abbrev pub frame_step : View → ℕ → Arrival → List ℕ → List ℕ → HeaderValue → List ℕ
+    → Result (Outcome × List ℕ) Refusal
 frame_step view now arrival packet addresses header rest = do
   stepped ← step_of view now arrival (source_of packet) (destination_of packet) header
   Ok (stepped.0, addresses ++ (spelling stepped.1 ++ rest))
@@ -61,7 +62,8 @@ pub record IsFrame (packet addresses text rest : List ℕ) (header : HeaderValue
 
 -- the packet has a path header
 abbrev pub HasHeader : List ℕ → Type 0
-HasHeader packet = (addresses : List ℕ) × ((text : List ℕ) × ((rest : List ℕ) × ((header : HeaderValue)
+HasHeader packet =
+    (addresses : List ℕ) × ((text : List ℕ) × ((rest : List ℕ) × ((header : HeaderValue)
     × IsFrame packet addresses text rest header)))
 
 -- a step over a packet of these parts: the new packet has in place of the header's text another one
@@ -70,5 +72,7 @@ abbrev pub StepsFrame : Result (Outcome × HeaderValue) Refusal → List ℕ →
     → Result Outcome Refusal → Type 0
 StepsFrame (Ok stepped) addresses text rest new result =
     (result ≡ Ok stepped.0)
-    × ((other : List ℕ) × ((length other ≡ length text) × IsFrame new addresses other rest stepped.1))
-StepsFrame (Err e) addresses text rest new result = (result ≡ Err e) × (new ≡ addresses ++ (text ++ rest))
+    × ((other : List ℕ) × ((length other ≡ length text)
+    × IsFrame new addresses other rest stepped.1))
+StepsFrame (Err e) addresses text rest new result =
+    (result ≡ Err e) × (new ≡ addresses ++ (text ++ rest))

@@ -86,12 +86,14 @@ fn step_behind(
     bytes: &mut [u8],
 ) -> Result<Outcome, Refusal>
     requires { has_header bytes.old ≡ true }
-    ensures exact { let step = step_of view.now now arrival source destination (header_at_front bytes.old)
+    ensures exact { let step = step_of view.now now arrival source destination
+        (header_at_front bytes.old)
         in IsStepped step (header_at_front bytes.old) (header_at_front bytes.new) result }
     ensures refused { OnErr result (bytes.new ≡ bytes.old) }
     ensures lens { (header_at_front bytes.new).lens ≡ (header_at_front bytes.old).lens }
     ensures rest { let header = header_at_front bytes.new
-        in drop (header_len header) bytes.new ≡ drop (header_len (header_at_front bytes.old)) bytes.old }
+        in drop (header_len header) bytes.new
+        ≡ drop (header_len (header_at_front bytes.old)) bytes.old }
     // There was a header, and there is one.
     ensures before { let header = header_at_front bytes.old
         in Spells (take (header_len header) bytes.old) header }

@@ -10,7 +10,8 @@ use Rattle.router_workers.specs.declared.pass_pairs.PassPair.{PassPair}
 
 -- the passes are of the inboxes, in their order
 abbrev pub ArePassPairs : {T : Type 0} → List Opened → List (PassPair T) → Type 0
-ArePassPairs inboxes pairs = (i : ℕ) (inbox : Opened) (pair : PassPair _) → slice_get inboxes i ≡ Some inbox
+ArePassPairs inboxes pairs =
+    (i : ℕ) (inbox : Opened) (pair : PassPair _) → slice_get inboxes i ≡ Some inbox
     → slice_get pairs i ≡ Some pair
     → (pair.sender.inbox ≡ inbox.inbox) × (pair.receiver.inbox ≡ inbox.inbox)
 

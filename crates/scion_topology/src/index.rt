@@ -23,7 +23,8 @@ impl AsIndex {
     /// The index of an AS at this place of the list, with no interface yet.
     pub(crate) fn new(alloc: Global, ia: IsdAs, position: usize) -> AsIndex
         ensures ia { result.ia ≡ ia }
-        ensures value { value_of_index result ≡ record { position = position; table = []; places = [] } }
+        ensures value { value_of_index result
+            ≡ record { position = position; table = []; places = [] } }
     {
         AsIndex {
             ia,
@@ -36,7 +37,8 @@ impl AsIndex {
     /// Adds an interface and the place of its link.
     pub(crate) fn add(&mut self, entry: IfEntry, place: usize) -> Result<(), AllocError>
         ensures ia { self.new.ia ≡ self.old.ia }
-        ensures value { OnOk result (value_of_index self.new ≡ added entry place (value_of_index self.old)) }
+        ensures value { OnOk result (value_of_index self.new
+            ≡ added entry place (value_of_index self.old)) }
     {
         self.table.push(entry)?;
         self.places.push(place)?;
@@ -114,7 +116,8 @@ pub(crate) fn add_at(
     place: usize,
 ) -> Result<(), AllocError>
     requires { at < vec_len list.old }
-    ensures { IsChanged (λ old new. OnOk result (value_of_index new ≡ added entry place (value_of_index old)))
+    ensures { IsChanged (λ old new. OnOk result (value_of_index new
+        ≡ added entry place (value_of_index old)))
         at list.old.items list.new.items }
 {
     list[at].add(entry, place)

@@ -25,7 +25,8 @@ pub record Turn : Type 0 where
   pub arrival : Arrival
 
 -- the turn of these parts, if they make a view
-unfoldable pub turn_with : ℕ → ℕ → List ℕ → Option (List ℕ) → ℕ → Arrival → List IfEntry → Option Turn
+unfoldable pub turn_with : ℕ → ℕ → List ℕ → Option (List ℕ) → ℕ → Arrival → List IfEntry
+    → Option Turn
 turn_with ia router key previous moment arrival table = do
   view ← only (view_of ia router key previous table)
   Some (record { view = view; moment = moment; arrival = arrival })
