@@ -114,7 +114,7 @@ impl<A: Allocator + Clone> Policy<A> {
 pub(crate) fn check_policy(text: &PolicyText<'_>) -> Result<(), PolicyFault>
     ensures { Judges result
         (policy_at (option_map (λ t. t.now) text.now.acl)
-            (option_map (λ t. t.now) text.now.sequence)) }
+        (option_map (λ t. t.now) text.now.sequence)) }
 {
     check_list(text.acl)?;
     check_sequence(unblank(text.sequence))
