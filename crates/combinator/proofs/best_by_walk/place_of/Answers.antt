@@ -3,7 +3,7 @@ use Rattle.combinator.specs.BestByWalk.{by_walk}
 use Rattle.combinator.proofs.Ranks.{walks_total}
 use Rattle.combinator.proofs.Keeping.{one_walk}
 use Rattle.combinator.proofs.Searched.{less_upto, greater_from}
-use Rattle.combinator.proofs.kept.place_of.Goals as goal
+use Rattle.combinator.proofs.best_by_walk.place_of.Goals as goal
 
 pub loop-low-preserved-in-Less : goal.loop-low-preserved-in-Less
 loop-low-preserved-in-Less g c = record {

@@ -1,7 +1,7 @@
 use Rattle.std.proofs.Common.{ap, ◌∙◌, arith}
 use Rattle.std.specs.List.{range_with_len}
 use Rattle.path_server.proofs.Ranks.{numbered_is}
-use Rattle.path_server.proofs.index.number.Goals as goal
+use Rattle.path_server.proofs.index.number_places.Goals as goal
 
 pub returns : goal.returns
 returns c =

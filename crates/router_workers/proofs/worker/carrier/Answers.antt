@@ -1,6 +1,6 @@
 use Rattle.std.proofs.Common.{sym, ◌∙◌, arith}
 use Rattle.router_workers.proofs.Numbered.{position_small}
-use Rattle.router_workers.proofs.station.carrier.Goals as goal
+use Rattle.router_workers.proofs.worker.carrier.Goals as goal
 
 pub overflow_add-result : goal.overflow_add-result
 overflow_add-result c =

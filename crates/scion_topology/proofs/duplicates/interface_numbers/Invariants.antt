@@ -2,7 +2,7 @@
 use Rattle.std.proofs.Common.{◌≡◌, take}
 use Rattle.std.specs.List.{flat_map, AllWithin}
 use Rattle.scion_topology.specs.Doubled.{HasBits, numbers_of}
-use Rattle.scion_topology.proofs.doubled.interface_numbers.Given as goal
+use Rattle.scion_topology.proofs.duplicates.interface_numbers.Given as goal
 
 abbrev pub invariant-loop-link : goal.invariant-loop-link
 invariant-loop-link l = record {

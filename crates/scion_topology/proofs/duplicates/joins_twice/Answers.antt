@@ -1,7 +1,7 @@
 use Rattle.std.proofs.Common.{ap, ◌∙◌}
 use Rattle.doubles.specs.Doubles.{has_double}
 use Rattle.scion_topology.proofs.Twice.{joins_twice_is}
-use Rattle.scion_topology.proofs.doubled.joins_twice.Goals as goal
+use Rattle.scion_topology.proofs.duplicates.joins_twice.Goals as goal
 
 pub returns-in-Ok : goal.returns-in-Ok
 returns-in-Ok c =

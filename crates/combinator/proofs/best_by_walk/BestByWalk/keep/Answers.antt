@@ -1,6 +1,6 @@
 use Rattle.std.proofs.Common.{◌≡◌, false, true, inl, inr}
 use Rattle.combinator.proofs.Keeping.{order_replaced, goes_replaced, met_replaced, order_inserted_at, goes_inserted, met_inserted}
-use Rattle.combinator.proofs.kept.BestByWalk.keep.Goals as goal
+use Rattle.combinator.proofs.best_by_walk.BestByWalk.keep.Goals as goal
 
 pub invariant_of-self : goal.invariant_of-self
 invariant_of-self g c =

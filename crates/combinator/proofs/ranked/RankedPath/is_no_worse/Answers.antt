@@ -1,7 +1,7 @@
 use Rattle.std.proofs.Common.{◌≡◌, inl, inr, refl, arith}
 use Rattle.combinator.specs.Candidate.{path_with}
 use Rattle.combinator.proofs.Lasting.{later_is_better, fewer_bytes, seen, turned_cmp}
-use Rattle.combinator.proofs.found.RankedPath.is_no_worse.Goals as goal
+use Rattle.combinator.proofs.ranked.RankedPath.is_no_worse.Goals as goal
 
 pub returns-then-one-other-clause-it : goal.returns-then-one-other-clause-it
 returns-then-one-other-clause-it g c = λ _.

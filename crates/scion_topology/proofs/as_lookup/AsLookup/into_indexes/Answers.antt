@@ -2,7 +2,7 @@
 use Rattle.std.proofs.Common.{◌∙◌, ap, option_map}
 use Rattle.scion_topology.specs.Index.{with_links}
 use Rattle.scion_topology.proofs.Filling.{filled}
-use Rattle.scion_topology.proofs.listed.AsLookup.into_indexes.Goals as goal
+use Rattle.scion_topology.proofs.as_lookup.AsLookup.into_indexes.Goals as goal
 
 pub returns : goal.returns
 returns c = λ ia.

@@ -1,5 +1,5 @@
 use Rattle.std.proofs.Common.{◌≡◌, length}
-use Rattle.router_workers.proofs.pairs.ends_of.Given as goal
+use Rattle.router_workers.proofs.pass_pairs.ends_of.Given as goal
 
 abbrev pub invariant-loop-pair : goal.invariant-loop-pair
 invariant-loop-pair g l = (length l.first_senders.items ≡ length l.yielded)

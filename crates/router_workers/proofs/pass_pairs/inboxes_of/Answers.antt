@@ -1,7 +1,7 @@
 use Rattle.std.proofs.Common.{sym, ◌∙◌, arith}
 use Rattle.std.proofs.lemmas.List.{length_push}
 use Rattle.router_workers.proofs.Posted.{pushed, one_more}
-use Rattle.router_workers.proofs.pairs.inboxes_of.Goals as goal
+use Rattle.router_workers.proofs.pass_pairs.inboxes_of.Goals as goal
 
 pub loop-at-preserved : goal.loop-at-preserved
 loop-at-preserved g c =

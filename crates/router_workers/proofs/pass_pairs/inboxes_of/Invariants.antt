@@ -1,6 +1,6 @@
 use Rattle.std.proofs.Common.{◌≡◌, length}
 use Rattle.router_workers.specs.PassPairs.{ArePassPairs}
-use Rattle.router_workers.proofs.pairs.inboxes_of.Given as goal
+use Rattle.router_workers.proofs.pass_pairs.inboxes_of.Given as goal
 
 abbrev pub invariant-loop-at : goal.invariant-loop-at
 invariant-loop-at g l = (length l.inboxes.items ≡ l.at)
