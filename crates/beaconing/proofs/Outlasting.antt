@@ -11,7 +11,7 @@ use Rattle.scion_topology.specs.declared.network.Link.{Link}
 use Rattle.scion_topology.specs.Keys.{key_of, renewed}
 use Rattle.scion_topology.specs.Network.{Network, as_named, has_end, interface_of, with_first, table_of, interface_in}
 use Rattle.scion_topology.specs.Causes.{is_core}
-use Rattle.scion_topology.specs.Topology.{known, joined, interface_at, with_up, with_key, set_up, rotated}
+use Rattle.scion_topology.specs.Topology.{known, known_link, interface_at, with_up, with_key, set_up, rotated}
 use Rattle.refusal.proofs.Steps.{bind_ok, ok_is, ok_or_ok}
 use Rattle.path_segment.specs.declared.entry.Entry.{Entry}
 use Rattle.path_segment.specs.declared.kind.SegKind.{SegKind}
@@ -188,7 +188,7 @@ issued_still n m stays keys s issued = record { rules = issued.rules; made = mad
 Outlasts-set_up : (up : Bool) (ia number : ℕ) (n m : Network) → set_up up ia number n ≡ Ok m → Outlasts n m
 unfolding set_up
 Outlasts-set_up up ia number n m change =
-    let step = bind_ok (joined n ia number) _ m change in
+    let step = bind_ok (known_link n ia number) _ m change in
     let is = ok_is (record n { links = with_up up ia number n.links }) m step.2 in
     rw (← is) (record {
       ases = itself n.ases;

@@ -14,11 +14,11 @@ use Rattle.scion_topology.specs.declared.network.LinkClass.TheVariants as classe
 use Rattle.scion_topology.specs.Network.{Network, as_named, is_end, has_end, link_named, kind_at_a, kind_at_b, interface_of, with_first, table_of, interface_in}
 use Rattle.scion_topology.specs.Network as net
 use Rattle.scion_topology.specs.Causes.{is_core, is_ill_classed, is_ill_joined}
-use Rattle.scion_topology.specs.Topology.{IsNetwork, known, joined, interface_at, far_end, far_end_in}
+use Rattle.scion_topology.specs.Topology.{IsNetwork, known, known_link, interface_at, far_end, far_end_in}
 use Rattle.refusal.proofs.Steps.{bind_ok, ok_is, ok_or_ok}
 use Rattle.scion_topology.proofs.Judging.{IsFree-IsNetwork}
 use Rattle.scion_topology.proofs.Places.{network_apart}
-use Rattle.scion_topology.proofs.Ends.{IsJoined-joined, interface_in-table_of}
+use Rattle.scion_topology.proofs.Ends.{IsJoined-known_link, interface_in-table_of}
 use Rattle.path_segment.specs.declared.entry.Entry.{Entry}
 use Rattle.path_segment.specs.declared.kind.SegKind.{SegKind}
 use Rattle.path_segment.specs.declared.kind.SegKind.TheVariants.{Core, Intra}
@@ -87,12 +87,12 @@ unfolding far_end_in
 leads_on n kind entry next x m network way found at_x at_m =
     let ia = entry.ia in
     let number = entry.cons_egress in
-    let at = bind_ok (joined n ia number) _ (x, m) found in
+    let at = bind_ok (known_link n ia number) _ (x, m) found in
     let link = at.0 in
     let pair = ok_is ((far_end link ia number).ia, (far_end link ia number).number) (x, m) at.2 in
     let x-is : (far_end link ia number).ia ≡ x = ap (λ (p : ℕ × ℕ). p.0) pair in
     let m-is : (far_end link ia number).number ≡ m = ap (λ (p : ℕ × ℕ). p.1) pair in
-    let is = IsJoined-joined n ia number link network at.1 in
+    let is = IsJoined-known_link n ia number link network at.1 in
     let free = IsFree-IsNetwork n network in
     let step = bind_ok (known n ia) _ way.out way.there in
     let shown : interface_in (table_of ia n.links) number ≡ Some way.out = ok_or_ok _ faults.NoLink way.out step.2 in

@@ -13,7 +13,7 @@ use Rattle.scion_topology.specs.declared.network.AsEntry.{AsEntry}
 use Rattle.scion_topology.specs.declared.network.End.{End}
 use Rattle.scion_topology.specs.View.{View, entry_of}
 use Rattle.scion_topology.specs.Network.{Network, as_named, table_of, interface_in}
-use Rattle.scion_topology.specs.Topology.{IsNetwork, known, joined, interface_at, far_end_in, owner_in, view_in}
+use Rattle.scion_topology.specs.Topology.{IsNetwork, known, known_link, interface_at, far_end_in, owner_in, view_in}
 use Rattle.scion_topology.specs.Ends.{IsAt, IsShown, at_a, at_b}
 use Rattle.scion_topology.proofs.Ends.{owner_below}
 use Rattle.scion_topology.proofs.Shown.{is_end_of, shows_both_ends}
@@ -225,7 +225,7 @@ pub owner_is_there : (n : Network) (ia number router : ℕ) → IsNetwork n
     → (one : AsEntry) × (view_in n ia router ≡ Ok (view_for n one ia router))
 unfolding owner_in
 owner_is_there n ia number router network owned =
-    let at = bind_ok (joined n ia number) _ router owned in
+    let at = bind_ok (known_link n ia number) _ router owned in
     let here = bind_ok (known n ia) _ at.0 at.1 in
     let named = ok_or_ok (as_named n.ases ia) faults.UnknownAs here.0 here.1 in (
       here.0,
