@@ -1,4 +1,4 @@
--- A job from turn to turn.
+-- A carried flight from turn to turn.
 use Rattle.std.proofs.Common.{◌≡◌, ℕ, suc, ◌+◌, List, sym, ap, ◌∙◌, subst, arith, inl, inr}
 use Rattle.std.proofs.lemmas.Bool.{cases_lt}
 use Rattle.forwarding.specs.Turn.{Packet, turned}
