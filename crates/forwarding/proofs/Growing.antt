@@ -104,7 +104,7 @@ up_behind : (n : Network) (beacon : Chain) (ia : ℕ) (after : Chain) → IsNetw
     → Grows n beacon ia after → (last : Entry) → last_of beacon ≡ Some last
     → IsUp n last.ia last.cons_egress true
 up_behind n beacon ia after network grows last there =
-    let over = comes_over n beacon ia grows.entry.cons_ingress network grows.came_in_by in
+    let over = comes_over n beacon ia grows.entry.cons_ingress network grows.came in
     let same = same_Some over.last last (sym over.is_last ∙ there) in
     subst (λ (e : Entry). IsUp n e.ia e.cons_egress true) same over.up
 
