@@ -3,6 +3,6 @@ pub mod Unlost
 pub mod Numbered
 pub mod Posted
 pub mod Flying
-pub mod Carried
+pub mod TurnByTurn
 pub mod Reported
 pub mod Reports

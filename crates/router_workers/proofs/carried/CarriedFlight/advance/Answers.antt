@@ -1,7 +1,7 @@
 use Rattle.std.proofs.Common.{sym, subst, arith}
 use Rattle.network_core.specs.Delivery.{IsAtRouter}
 use Rattle.router_workers.specs.Flight.{FlightValue}
-use Rattle.router_workers.proofs.Carried.{went_on}
+use Rattle.router_workers.proofs.TurnByTurn.{went_on}
 use Rattle.router_workers.proofs.carried.CarriedFlight.advance.Goals as goal
 
 pub invariant_of-result : goal.invariant_of-result
