@@ -136,6 +136,9 @@ typedef struct {
  * stays as it was where the status is not SCION_WRITTEN. docs/library.md has both forms. */
 scion_text scion_paths(const uint8_t *request, size_t request_len, uint8_t *room, size_t room_len);
 
+/* Answers in the same way whether a path that the request gives may be sent. */
+scion_text scion_verify(const uint8_t *request, size_t request_len, uint8_t *room, size_t room_len);
+
 #ifdef __cplusplus
 }
 #endif

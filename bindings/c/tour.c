@@ -190,33 +190,54 @@ static void headers(void) {
     same("no mac", mac, wanted, 6);
 }
 
-/* The path over three ASes in a row, into a room and into one that is too small by a byte. */
+typedef scion_text call(const uint8_t *request, size_t request_len, uint8_t *room,
+                        size_t room_len);
+
+/* What a request is answered: into a room that is too small by a byte, and into one that is not. */
+static void answers(const char *what, call *asked, const char *request, const char *wanted) {
+    uint8_t room[512] = {0}, zeros[512] = {0};
+    size_t len = strlen(wanted);
+    scion_text given = asked((const uint8_t *)request, strlen(request), room, len - 1);
+    expect(what, (scion_answer){given.status, (uint16_t)given.len}, SCION_ROOM_TOO_SMALL, len);
+    same(what, room, zeros, sizeof room);
+    given = asked((const uint8_t *)request, strlen(request), room, sizeof room);
+    expect(what, (scion_answer){given.status, (uint16_t)given.len}, SCION_WRITTEN, len);
+    same(what, room, (const uint8_t *)wanted, len);
+    same(what, room + len, zeros, sizeof room - len);
+}
+
+/* The path over three ASes in a row. Its segment expires at half second 45200. */
 static void paths(void) {
     const char *request =
-        "{\"do\":\"ask\",\"src\":\"1-ff00:0:112\",\"dst\":\"1-ff00:0:110\",\"limit\":4,\"now\":1000,"
+        "{\"src\":\"1-ff00:0:112\",\"dst\":\"1-ff00:0:110\",\"limit\":4,\"now\":1000,"
         "\"segments\":[{\"beta0\":4660,\"entries\":["
         "{\"egress\":1,\"exp\":63,\"ia\":\"1-ff00:0:110\",\"ingress\":0,\"mac\":\"aef522c41890\"},"
         "{\"egress\":2,\"exp\":63,\"ia\":\"1-ff00:0:111\",\"ingress\":1,\"mac\":\"39b948f8a321\"},"
         "{\"egress\":0,\"exp\":63,\"ia\":\"1-ff00:0:112\",\"ingress\":1,\"mac\":\"ad8a52e6ab61\"}],"
         "\"kind\":\"intra\",\"timestamp\":1000}]}";
     const char *wanted =
-        "{\"paths\":[{\"header\":\"0000300000008578000003e8003f00010000ad8a52e6ab61"
-        "003f0001000239b948f8a321003f00000001aef522c41890\",\"pieces\":["
+        "{\"paths\":[{\"expiry\":45200,"
+        "\"header\":\"0000300000008578000003e8003f00010000ad8a52e6ab61"
+        "003f0001000239b948f8a321003f00000001aef522c41890\",\"kind\":\"U\",\"pieces\":["
         "{\"along\":false,\"from\":0,\"segment\":0,\"to\":2}],"
         "\"walk\":\"1-ff00:0:112#0,1 1-ff00:0:111#2,1 1-ff00:0:110#1,0\"}]}";
-    const char *bad = "{\"code\":150,\"name\":\"BadRequest\"}";
-    uint8_t room[512] = {0}, zeros[512] = {0};
-    size_t len = strlen(wanted);
-    scion_text given = scion_paths((const uint8_t *)request, strlen(request), room, len - 1);
-    expect("room", (scion_answer){given.status, (uint16_t)given.len}, SCION_ROOM_TOO_SMALL, len);
-    same("room", room, zeros, sizeof room);
-    given = scion_paths((const uint8_t *)request, strlen(request), room, sizeof room);
-    expect("path", (scion_answer){given.status, (uint16_t)given.len}, SCION_WRITTEN, len);
-    same("path", room, (const uint8_t *)wanted, len);
-    same("behind", room + len, zeros, sizeof room - len);
-    given = scion_paths(empty, 0, room, sizeof room);
-    expect("bad", (scion_answer){given.status, (uint16_t)given.len}, SCION_WRITTEN, strlen(bad));
-    same("bad", room, (const uint8_t *)bad, strlen(bad));
+    answers("path", scion_paths, request, wanted);
+    answers("no request", scion_paths, "", "{\"code\":150,\"name\":\"BadRequest\"}");
+}
+
+/* A path of a segment with two entries, which expires at half second 43400, at this second. */
+#define VERIFY(now) \
+    "{\"src\":\"1-ff00:0:111\",\"dst\":\"1-ff00:0:110\",\"now\":" now "," \
+    "\"header\":\"000020000000b39600000064" OWN_HOP OTHER NEXT_HOP "a1a2a3a4a5a6\"," \
+    "\"pieces\":[{\"segment\":0,\"from\":0,\"to\":1,\"along\":false}]," \
+    "\"segments\":[{\"beta0\":4660,\"kind\":\"intra\",\"timestamp\":100,\"entries\":[" \
+    "{\"ia\":\"1-ff00:0:110\",\"ingress\":0,\"egress\":1,\"exp\":63,\"mac\":\"a1a2a3a4a5a6\"}," \
+    "{\"ia\":\"1-ff00:0:111\",\"ingress\":2,\"egress\":0,\"exp\":63,\"mac\":\"" OTHER "\"}]}]}"
+
+static void verdicts(void) {
+    answers("verified", scion_verify, VERIFY("100"),
+            "{\"expiry\":43400,\"kind\":\"U\",\"walk\":\"1-ff00:0:111#0,2 1-ff00:0:110#1,0\"}");
+    answers("late", scion_verify, VERIFY("21701"), "{\"code\":79,\"name\":\"Expired\"}");
 }
 
 int main(void) {
@@ -226,6 +247,7 @@ int main(void) {
     many();
     headers();
     paths();
+    verdicts();
     printf("%u answers, %u wrong\n", count, wrong);
     return wrong != 0;
 }

@@ -167,8 +167,9 @@ class Library:
             call = getattr(self._calls, name)
             call.argtypes, call.restype = types, _Answer
         if hasattr(self._calls, "scion_paths"):
-            paths, slice_of = self._calls.scion_paths, [ctypes.c_char_p, ctypes.c_size_t]
-            paths.argtypes, paths.restype = [*slice_of, *slice_of], _Text
+            slice_of = [ctypes.c_char_p, ctypes.c_size_t]
+            for call in (self._calls.scion_paths, self._calls.scion_verify):
+                call.argtypes, call.restype = [*slice_of, *slice_of], _Text
 
     def step(self, router, now, packet):
         """One step of a router over a packet, at the second `now`."""
@@ -212,11 +213,19 @@ class Library:
         """The answer to a request for paths (docs/library.md), as an object of JSON.
 
         The shared object is to be linked of both libraries."""
-        text = json.dumps({"do": "ask", **request}).encode()
+        return self._asked(self._calls.scion_paths, request)
+
+    def verify(self, **request):
+        """Whether the path of a request may be sent (docs/library.md), as an object of JSON."""
+        return self._asked(self._calls.scion_verify, request)
+
+    @staticmethod
+    def _asked(call, request):
+        text = json.dumps(request).encode()
         length, status = 4096, 1
         while status == 1:
             room = _room(bytes(length))
-            given = self._calls.scion_paths(text, len(text), room, length)
+            given = call(text, len(text), room, length)
             status, length = given.status, given.len
         if status:
             raise MemoryError

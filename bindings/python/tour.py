@@ -108,25 +108,27 @@ class Tour:
         nobody = Router(AT_111, b"", [PARENT])
         self.refuses("no router", Code.BAD_FIELD, library.step_all, nobody, 100, [])
 
-
-    def segment(self, kind, beta0, hops):
+    def segment(self, kind, beta0, hops, exp=63):
         """A segment that begins at second 1000 with this accumulator: for each AS its address, key,
         way in and way out."""
         entries, beta = [], beta0
         for ia, key, ingress, egress in hops:
-            mac = self.library.hop_mac(key, beta, 1000, 63, ingress, egress)
-            names = {"ia": ia, "ingress": ingress, "egress": egress, "exp": 63, "mac": mac.hex()}
+            mac = self.library.hop_mac(key, beta, 1000, exp, ingress, egress)
+            names = {"ia": ia, "ingress": ingress, "egress": egress, "exp": exp, "mac": mac.hex()}
             entries.append(names)
             beta ^= int.from_bytes(mac[:2], "big")
         return {"kind": kind, "timestamp": 1000, "beta0": beta0, "entries": entries}
 
-    def path(self, what, src, dst, segments, meta, pieces, walk):
-        """The one path between two ASes, whose header begins with this meta field."""
-        asked = {"src": src, "dst": dst, "limit": 8, "now": 1000, "segments": segments}
-        paths = self.library.paths(**asked)["paths"]
-        found = [(it["header"][:8], it["pieces"], it["walk"]) for it in paths]
-        self.expect(what, found, [(meta, pieces, walk)])
-        return bytes.fromhex(paths[0]["header"])
+    def path(self, what, src, dst, segments, meta, wanted):
+        """The one path between two ASes, whose header begins with this meta field. The verifier
+        says the same of it."""
+        asked = {"src": src, "dst": dst, "now": 1000, "segments": segments}
+        [path] = self.library.paths(limit=8, **asked)["paths"]
+        header, pieces = path.pop("header"), path["pieces"]
+        self.expect(what, (header[:8], path), (meta, wanted))
+        verdict = self.library.verify(header=header, pieces=pieces, **asked)
+        self.expect(f"{what}, verified", {**verdict, "pieces": pieces}, wanted)
+        return bytes.fromhex(header)
 
     def turns_along(self, what, packet, turns):
         """Turns of routers over a packet, each with what it is answered."""
@@ -146,7 +148,8 @@ class Tour:
         self.expect("row", macs, ["aef522c41890", "39b948f8a321", "ad8a52e6ab61"])
         walk = "1-ff00:0:112#0,1 1-ff00:0:111#2,1 1-ff00:0:110#1,0"
         pieces = [{"segment": 0, "from": 0, "to": 2, "along": False}]
-        given = self.path("row", ias[2], ias[0], [segment], "00003000", pieces, walk)
+        wanted = {"expiry": 45200, "kind": "U", "pieces": pieces, "walk": walk}
+        given = self.path("row", ias[2], ias[0], [segment], "00003000", wanted)
         first, last = 0x0001FF0000000112, 0x0001FF0000000110
         packet = last.to_bytes(8, "big") + first.to_bytes(8, "big") + given + b"hi"
         middle = [Interface(1, Kind.PARENT), Interface(2, Kind.CHILD)]
@@ -163,11 +166,12 @@ class Tour:
         self.turns_along("row", packet, turns)
 
     def pair(self):
-        """Two ISDs, each a core AS, its child and the child of that."""
+        """Two ISDs, each a core AS, its child and the child of that. The core segment expires first,
+        675 half seconds after it begins."""
         one, other = [[f"{isd}-ff00:0:{isd}1{it}" for it in range(3)] for isd in (1, 2)]
         ways = [(0, 1), (1, 2), (1, 0)]
         up = self.segment("intra", 1, [(ia, b"k", *way) for ia, way in zip(one, ways)])
-        core = self.segment("core", 2, [(one[0], b"k", 0, 2), (other[0], b"k", 1, 0)])
+        core = self.segment("core", 2, [(one[0], b"k", 0, 2), (other[0], b"k", 1, 0)], exp=0)
         ways = [(0, 2), (1, 2), (1, 0)]
         down = self.segment("intra", 3, [(ia, b"k", *way) for ia, way in zip(other, ways)])
         pieces = [
@@ -179,7 +183,8 @@ class Tour:
             "1-ff00:0:112#0,1 1-ff00:0:111#2,1 1-ff00:0:110#1,2 "
             "2-ff00:0:210#1,2 2-ff00:0:211#1,2 2-ff00:0:212#1,0"
         )
-        self.path("pair", one[2], other[2], [down, core, up], "00003083", pieces, walk)
+        wanted = {"expiry": 2675, "kind": "UCD", "pieces": pieces, "walk": walk}
+        self.path("pair", one[2], other[2], [down, core, up], "00003083", wanted)
 
     def fork(self):
         """A core AS, its child, and two children of that, by which a path goes without the core."""
@@ -192,8 +197,10 @@ class Tour:
             {"segment": 1, "from": 1, "to": 2, "along": True},
         ]
         walk = "1-ff00:0:112#0,1 1-ff00:0:111#2,3 1-ff00:0:113#1,0"
-        self.path("fork", ias[2], ias[3], segments, "00002080", pieces, walk)
+        wanted = {"expiry": 45200, "kind": "UD", "pieces": pieces, "walk": walk}
+        self.path("fork", ias[2], ias[3], segments, "00002080", wanted)
         asked = {"src": ias[2], "dst": ias[3], "limit": 8, "now": 1000, "segments": segments}
+        short = {**segments[0], "entries": segments[0]["entries"][:1]}
         rows = [
             ("no path", {"now": 22601}, {"paths": []}),
             ("denied", {"acl": ["- 1-ff00:0:111", "+"]}, {"paths": []}),
@@ -201,9 +208,43 @@ class Tour:
             ("no limit", {"limit": 0}, {"code": 137, "name": "BadLimit"}),
             ("no policy", {"sequence": "("}, {"code": 60, "name": "UnexpectedEnd"}),
             ("no segment", {"segments": [{}]}, {"code": 150, "name": "BadRequest"}),
+            ("short segment", {"segments": [short]}, {"code": 30, "name": "TooShort"}),
         ]
         for what, change, wanted in rows:
             self.expect(what, self.library.paths(**{**asked, **change}), wanted)
+
+    def verdicts(self):
+        """The path of one piece, and what it is refused by with one change."""
+        far, near = "1-ff00:0:110", "1-ff00:0:111"
+        first = {"ia": far, "ingress": 0, "egress": 1, "exp": 63, "mac": "a1a2a3a4a5a6"}
+        last = {"ia": near, "ingress": 2, "egress": 0, "exp": 63, "mac": OTHER}
+        segment = {"kind": "intra", "timestamp": 100, "beta0": 4660, "entries": [first, last]}
+        up = {"segment": 0, "from": 0, "to": 1, "along": False}
+        header = f"000020000000b39600000064{OWN_HOP}{OTHER}{NEXT_HOP}a1a2a3a4a5a6"
+        asked = {"src": near, "dst": far, "now": 100, "segments": [segment]}
+        asked |= {"pieces": [up], "header": header}
+        walk = f"{near}#0,2 {far}#1,0"
+        wanted = {"expiry": 43400, "kind": "U", "walk": walk}
+        self.expect("verified", self.library.verify(**asked), wanted)
+        rows = [
+            ({"pieces": []}, 70, "PieceCount"),
+            ({"pieces": [up] * 4}, 70, "PieceCount"),
+            ({"pieces": [{**up, "to": 2}]}, 71, "Range"),
+            ({"pieces": [up, up]}, 72, "Kinds"),
+            ({"dst": "1-ff00:0:112"}, 76, "Destination"),
+            ({"now": 21701}, 79, "Expired"),
+            ({"header": header.replace("b396", "1234")}, 80, "HeaderDiffers"),
+            ({"acl": [f"- {far}", "+"]}, 81, "AclDenied"),
+            ({"sequence": "0"}, 82, "SequenceMismatch"),
+            ({"sequence": "1 |"}, 60, "UnexpectedEnd"),
+            ({"header": header[:-2]}, 20, "Short"),
+            ({"segments": [{**segment, "entries": [first]}]}, 30, "TooShort"),
+            ({"pieces": [{**up, "segment": 1}]}, 150, "BadRequest"),
+            ({"options": []}, 150, "BadRequest"),
+        ]
+        for change, code, name in rows:
+            given = self.library.verify(**{**asked, **change})
+            self.expect(name, given, {"code": code, "name": name})
 
 
 def main():
@@ -214,6 +255,7 @@ def main():
     tour.row()
     tour.pair()
     tour.fork()
+    tour.verdicts()
     print(f"{tour.count} answers, {tour.wrong} wrong")
     return 1 if tour.wrong else 0
 

@@ -147,6 +147,8 @@ unsafe extern "C" {
         mac: *mut u8,
     ) -> Answer;
     fn scion_paths(request: *const u8, request_len: usize, room: *mut u8, room_len: usize) -> Text;
+    fn scion_verify(request: *const u8, request_len: usize, room: *mut u8, room_len: usize)
+    -> Text;
 }
 
 impl Router {
@@ -220,10 +222,21 @@ pub fn hop_mac(
 /// The answer to a request for paths, both as JSON; `None` where memory ran out. Who calls it links
 /// `libscion_ffi_paths.a` and the kit's `liblibc_c.a` too.
 pub fn paths(request: &[u8]) -> Option<Vec<u8>> {
+    answered(scion_paths, request)
+}
+
+/// Whether the path of a request may be sent, in the same way.
+pub fn verify(request: &[u8]) -> Option<Vec<u8>> {
+    answered(scion_verify, request)
+}
+
+type Call = unsafe extern "C" fn(*const u8, usize, *mut u8, usize) -> Text;
+
+fn answered(call: Call, request: &[u8]) -> Option<Vec<u8>> {
     let mut room = vec![0; 4096];
     loop {
         let (bytes, len) = (request.as_ptr(), request.len());
-        let given = unsafe { scion_paths(bytes, len, room.as_mut_ptr(), room.len()) };
+        let given = unsafe { call(bytes, len, room.as_mut_ptr(), room.len()) };
         match given.status {
             0 => {
                 room.truncate(given.len);

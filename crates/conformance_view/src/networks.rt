@@ -1,62 +1,148 @@
 use isd_as::{IfId, IsdAs};
-use network_view::network_dot;
-use scion_topology::{AsEntry, End, Keys, Link, LinkClass};
+use network_view::{Router, network_dot};
+use policy_expr::WalkHop;
+use scion_topology::Topology;
+use std::alloc::Global;
+use std::process::Abort;
 use std::test::Fail;
 
-/// Two core ASes of two ISDs, one with two routers, and a child of the other, whose link is cut.
-const PICTURE: &str = "\
-graph network {
+/// A core AS, its child, and the child of that.
+const ROW: &str =
+    r#"{"ases":[{"ia":"1-ff00:0:110","core":true,"exp":63,"key":"6130","routers":1},{"ia":"1-ff00:0:111","core":false,"exp":63,"key":"6131","routers":1},{"ia":"1-ff00:0:112","core":false,"exp":63,"key":"6132","routers":1}],"links":[{"kind":"child","a":{"ia":"1-ff00:0:110","if":1,"router":0},"b":{"ia":"1-ff00:0:111","if":1,"router":0}},{"kind":"child","a":{"ia":"1-ff00:0:111","if":2,"router":0},"b":{"ia":"1-ff00:0:112","if":1,"router":0}}]}"#;
+
+/// Two ISDs, each with a core AS, its child and the child of that, in which each AS has two
+/// routers.
+const PAIR: &str =
+    r#"{"ases":[{"ia":"1-ff00:0:110","core":true,"exp":63,"key":"6b","routers":2},{"ia":"1-ff00:0:111","core":false,"exp":63,"key":"6b","routers":2},{"ia":"1-ff00:0:112","core":false,"exp":63,"key":"6b","routers":2},{"ia":"2-ff00:0:210","core":true,"exp":63,"key":"6b","routers":2},{"ia":"2-ff00:0:211","core":false,"exp":63,"key":"6b","routers":2},{"ia":"2-ff00:0:212","core":false,"exp":63,"key":"6b","routers":2}],"links":[{"kind":"child","a":{"ia":"1-ff00:0:110","if":1,"router":0},"b":{"ia":"1-ff00:0:111","if":1,"router":0}},{"kind":"child","a":{"ia":"1-ff00:0:111","if":2,"router":1},"b":{"ia":"1-ff00:0:112","if":1,"router":0}},{"kind":"core","a":{"ia":"1-ff00:0:110","if":2,"router":1},"b":{"ia":"2-ff00:0:210","if":1,"router":0}},{"kind":"child","a":{"ia":"2-ff00:0:210","if":2,"router":1},"b":{"ia":"2-ff00:0:211","if":1,"router":0}},{"kind":"child","a":{"ia":"2-ff00:0:211","if":2,"router":1},"b":{"ia":"2-ff00:0:212","if":1,"router":0}}]}"#;
+
+/// A core AS, its child with two routers, and two children of that.
+const FORK: &str =
+    r#"{"ases":[{"ia":"1-ff00:0:110","core":true,"exp":63,"key":"6b","routers":1},{"ia":"1-ff00:0:111","core":false,"exp":63,"key":"6b","routers":2},{"ia":"1-ff00:0:112","core":false,"exp":63,"key":"6b","routers":1},{"ia":"1-ff00:0:113","core":false,"exp":63,"key":"6b","routers":1}],"links":[{"kind":"child","a":{"ia":"1-ff00:0:110","if":1,"router":0},"b":{"ia":"1-ff00:0:111","if":1,"router":0}},{"kind":"child","a":{"ia":"1-ff00:0:111","if":2,"router":0},"b":{"ia":"1-ff00:0:112","if":1,"router":0}},{"kind":"child","a":{"ia":"1-ff00:0:111","if":3,"router":1},"b":{"ia":"1-ff00:0:113","if":1,"router":0}}]}"#;
+
+const ROW_DRAWN: &str = r#"graph network {
 labelloc=b; labeljust=l; ranksep=1; edge [labeldistance=1.5, fontsize=11];
-subgraph cluster_1 { label=\"ISD 1\"; subgraph \"cluster_1-ff00:0:110\" { label=\"1-ff00:0:110 core\"; style=bold; \"1-ff00:0:110 0\" [label=0]; } }
-subgraph cluster_1 { label=\"ISD 1\"; subgraph \"cluster_1-ff00:0:111\" { label=\"1-ff00:0:111\"; style=rounded; \"1-ff00:0:111 0\" [label=0]; } }
-subgraph cluster_2 { label=\"ISD 2\"; subgraph \"cluster_2-ff00:0:210\" { label=\"2-ff00:0:210 core\"; style=bold; \"2-ff00:0:210 0\" [label=0]; \"2-ff00:0:210 1\" [label=1]; } }
-\"1-ff00:0:110 0\" -- \"1-ff00:0:111 0\" [taillabel=1, headlabel=7, dir=forward, style=dashed];
-\"1-ff00:0:110 0\" -- \"2-ff00:0:210 1\" [taillabel=2, headlabel=3, penwidth=3];
+subgraph cluster_1 { label="ISD 1"; subgraph "cluster_1-ff00:0:110" { label="1-ff00:0:110 core"; style=bold; "1-ff00:0:110 0" [label=0]; } }
+subgraph cluster_1 { label="ISD 1"; subgraph "cluster_1-ff00:0:111" { label="1-ff00:0:111"; style=rounded; "1-ff00:0:111 0" [label=0]; } }
+subgraph cluster_1 { label="ISD 1"; subgraph "cluster_1-ff00:0:112" { label="1-ff00:0:112"; style=rounded; "1-ff00:0:112 0" [label=0]; } }
+"1-ff00:0:110 0" -- "1-ff00:0:111 0" [taillabel=1, headlabel=1, dir=forward];
+"1-ff00:0:111 0" -- "1-ff00:0:112 0" [taillabel=2, headlabel=1, dir=forward];
 }
-";
+"#;
 
-/// An AS with this number of routers.
-fn listed(ia: &str, core: bool, routers: u8) -> Result<AsEntry, Fail> {
-    Ok(AsEntry {
+const PAIR_DRAWN: &str = r#"graph network {
+labelloc=b; labeljust=l; ranksep=1; edge [labeldistance=1.5, fontsize=11];
+subgraph cluster_1 { label="ISD 1"; subgraph "cluster_1-ff00:0:110" { label="1-ff00:0:110 core"; style=bold; "1-ff00:0:110 0" [label=0]; "1-ff00:0:110 1" [label=1]; } }
+subgraph cluster_1 { label="ISD 1"; subgraph "cluster_1-ff00:0:111" { label="1-ff00:0:111"; style=rounded; "1-ff00:0:111 0" [label=0]; "1-ff00:0:111 1" [label=1]; } }
+subgraph cluster_1 { label="ISD 1"; subgraph "cluster_1-ff00:0:112" { label="1-ff00:0:112"; style=rounded; "1-ff00:0:112 0" [label=0]; "1-ff00:0:112 1" [label=1]; } }
+subgraph cluster_2 { label="ISD 2"; subgraph "cluster_2-ff00:0:210" { label="2-ff00:0:210 core"; style=bold; "2-ff00:0:210 0" [label=0]; "2-ff00:0:210 1" [label=1]; } }
+subgraph cluster_2 { label="ISD 2"; subgraph "cluster_2-ff00:0:211" { label="2-ff00:0:211"; style=rounded; "2-ff00:0:211 0" [label=0]; "2-ff00:0:211 1" [label=1]; } }
+subgraph cluster_2 { label="ISD 2"; subgraph "cluster_2-ff00:0:212" { label="2-ff00:0:212"; style=rounded; "2-ff00:0:212 0" [label=0]; "2-ff00:0:212 1" [label=1]; } }
+"1-ff00:0:110 0" -- "1-ff00:0:111 0" [taillabel=1, headlabel=1, dir=forward];
+"1-ff00:0:111 1" -- "1-ff00:0:112 0" [taillabel=2, headlabel=1, dir=forward];
+"1-ff00:0:110 1" -- "2-ff00:0:210 0" [taillabel=2, headlabel=1, penwidth=3];
+"2-ff00:0:210 1" -- "2-ff00:0:211 0" [taillabel=2, headlabel=1, dir=forward];
+"2-ff00:0:211 1" -- "2-ff00:0:212 0" [taillabel=2, headlabel=1, dir=forward];
+}
+"#;
+
+const FORK_DRAWN: &str = r#"graph network {
+labelloc=b; labeljust=l; ranksep=1; edge [labeldistance=1.5, fontsize=11];
+subgraph cluster_1 { label="ISD 1"; subgraph "cluster_1-ff00:0:110" { label="1-ff00:0:110 core"; style=bold; "1-ff00:0:110 0" [label=0]; } }
+subgraph cluster_1 { label="ISD 1"; subgraph "cluster_1-ff00:0:111" { label="1-ff00:0:111"; style=rounded; "1-ff00:0:111 0" [label=0]; "1-ff00:0:111 1" [label=1]; } }
+subgraph cluster_1 { label="ISD 1"; subgraph "cluster_1-ff00:0:112" { label="1-ff00:0:112"; style=rounded; "1-ff00:0:112 0" [label=0]; } }
+subgraph cluster_1 { label="ISD 1"; subgraph "cluster_1-ff00:0:113" { label="1-ff00:0:113"; style=rounded; "1-ff00:0:113 0" [label=0]; } }
+"1-ff00:0:110 0" -- "1-ff00:0:111 0" [taillabel=1, headlabel=1, dir=forward];
+"1-ff00:0:111 0" -- "1-ff00:0:112 0" [taillabel=2, headlabel=1, dir=forward];
+"1-ff00:0:111 1" -- "1-ff00:0:113 0" [taillabel=3, headlabel=1, dir=forward];
+}
+"#;
+
+/// The row with its upper link cut, and a packet that has come up over the lower one.
+const CUT_DRAWN: &str = r#"graph network {
+labelloc=b; labeljust=l; ranksep=1; edge [labeldistance=1.5, fontsize=11];
+subgraph cluster_1 { label="ISD 1"; subgraph "cluster_1-ff00:0:110" { label="1-ff00:0:110 core"; style=bold; "1-ff00:0:110 0" [label=0]; } }
+subgraph cluster_1 { label="ISD 1"; subgraph "cluster_1-ff00:0:111" { label="1-ff00:0:111"; style=rounded; "1-ff00:0:111 0" [label=0, style=filled, fillcolor=red]; } }
+subgraph cluster_1 { label="ISD 1"; subgraph "cluster_1-ff00:0:112" { label="1-ff00:0:112"; style=rounded; "1-ff00:0:112 0" [label=0]; } }
+"1-ff00:0:110 0" -- "1-ff00:0:111 0" [taillabel=1, headlabel=1, dir=forward, style=dashed];
+"1-ff00:0:111 0" -- "1-ff00:0:112 0" [taillabel=2, headlabel=1, dir=forward, color=red, penwidth=5];
+}
+"#;
+
+/// The pair, and a packet from the end of the first ISD that has come into the second one.
+const ACROSS_DRAWN: &str = r#"graph network {
+labelloc=b; labeljust=l; ranksep=1; edge [labeldistance=1.5, fontsize=11];
+subgraph cluster_1 { label="ISD 1"; subgraph "cluster_1-ff00:0:110" { label="1-ff00:0:110 core"; style=bold; "1-ff00:0:110 0" [label=0]; "1-ff00:0:110 1" [label=1]; } }
+subgraph cluster_1 { label="ISD 1"; subgraph "cluster_1-ff00:0:111" { label="1-ff00:0:111"; style=rounded; "1-ff00:0:111 0" [label=0]; "1-ff00:0:111 1" [label=1]; } }
+subgraph cluster_1 { label="ISD 1"; subgraph "cluster_1-ff00:0:112" { label="1-ff00:0:112"; style=rounded; "1-ff00:0:112 0" [label=0]; "1-ff00:0:112 1" [label=1]; } }
+subgraph cluster_2 { label="ISD 2"; subgraph "cluster_2-ff00:0:210" { label="2-ff00:0:210 core"; style=bold; "2-ff00:0:210 0" [label=0, style=filled, fillcolor=red]; "2-ff00:0:210 1" [label=1]; } }
+subgraph cluster_2 { label="ISD 2"; subgraph "cluster_2-ff00:0:211" { label="2-ff00:0:211"; style=rounded; "2-ff00:0:211 0" [label=0]; "2-ff00:0:211 1" [label=1]; } }
+subgraph cluster_2 { label="ISD 2"; subgraph "cluster_2-ff00:0:212" { label="2-ff00:0:212"; style=rounded; "2-ff00:0:212 0" [label=0]; "2-ff00:0:212 1" [label=1]; } }
+"1-ff00:0:110 0" -- "1-ff00:0:111 0" [taillabel=1, headlabel=1, dir=forward, color=red, penwidth=5];
+"1-ff00:0:111 1" -- "1-ff00:0:112 0" [taillabel=2, headlabel=1, dir=forward, color=red, penwidth=5];
+"1-ff00:0:110 1" -- "2-ff00:0:210 0" [taillabel=2, headlabel=1, penwidth=3, color=red, penwidth=5];
+"2-ff00:0:210 1" -- "2-ff00:0:211 0" [taillabel=2, headlabel=1, dir=forward];
+"2-ff00:0:211 1" -- "2-ff00:0:212 0" [taillabel=2, headlabel=1, dir=forward];
+}
+"#;
+
+/// A hop.
+fn hop(ia: &str, ingress: u16, egress: u16) -> Result<WalkHop, Fail> {
+    Ok(WalkHop {
         ia: IsdAs::parse(ia)?,
-        core,
-        exp_time: 63,
-        keys: Keys::new(b"k", None)?,
-        routers,
+        ingress: IfId(ingress),
+        egress: IfId(egress),
     })
 }
 
-/// An end of a link.
-fn end(ia: &str, number: u16, router: u8) -> Result<End, Fail> {
-    Ok(End {
-        ia: IsdAs::parse(ia)?,
-        number: IfId(number),
-        router,
-    })
-}
-
-/// The picture of a network with both kinds of links, in which one is cut.
-#[test]
-fn picture(rt: HostRuntime) -> Result<(), Fail> {
-    let ases = [
-        listed("1-ff00:0:110", true, 1)?,
-        listed("1-ff00:0:111", false, 1)?,
-        listed("2-ff00:0:210", true, 2)?,
-    ];
-    let links = [
-        Link {
-            class: LinkClass::Child,
-            a: end("1-ff00:0:110", 1, 0)?,
-            b: end("1-ff00:0:111", 7, 0)?,
-            up: false,
-        },
-        Link {
-            class: LinkClass::Core,
-            a: end("1-ff00:0:110", 2, 0)?,
-            b: end("2-ff00:0:210", 3, 1)?,
-            up: true,
-        },
-    ];
-    assert_eq!(&rt; network_dot(rt.alloc(), &ases, &links)?.as_str(), PICTURE);
+/// Asserts that this is the picture of a network, with a packet that has passed these hops and is
+/// at this router.
+fn expect_picture(
+    rt: &impl Abort,
+    alloc: Global,
+    topology: &Topology,
+    passed: &[WalkHop],
+    at: Option<Router>,
+    picture: &str,
+) -> Result<(), Fail> {
+    let text = network_dot(alloc, topology.ases(), topology.links(), passed, at)?;
+    assert_eq!(rt; text.as_str(), picture);
     Ok(())
+}
+
+/// The pictures of three networks, with no packet.
+#[test]
+fn networks(rt: HostRuntime) -> Result<(), Fail> {
+    let rows = [(ROW, ROW_DRAWN), (PAIR, PAIR_DRAWN), (FORK, FORK_DRAWN)];
+    for (json, picture) in rows {
+        let topology = Topology::from_json(rt.alloc(), json.as_bytes())?;
+        expect_picture(&rt, rt.alloc(), &topology, &[], None, picture)?;
+    }
+    Ok(())
+}
+
+/// A link that is cut, one that a packet has passed, and the router at which the packet is.
+#[test]
+fn cut_link(rt: HostRuntime) -> Result<(), Fail> {
+    let mut topology = Topology::from_json(rt.alloc(), ROW.as_bytes())?;
+    let ia = IsdAs::parse("1-ff00:0:111")?;
+    topology.cut_link(ia, IfId(1))?;
+    let passed = [hop("1-ff00:0:112", 0, 1)?];
+    let at = Router { ia, number: 0 };
+    expect_picture(&rt, rt.alloc(), &topology, &passed, Some(at), CUT_DRAWN)
+}
+
+/// A core link that a packet has passed, behind two links to parents.
+#[test]
+fn core_link(rt: HostRuntime) -> Result<(), Fail> {
+    let topology = Topology::from_json(rt.alloc(), PAIR.as_bytes())?;
+    let passed = [
+        hop("1-ff00:0:112", 0, 1)?,
+        hop("1-ff00:0:111", 2, 1)?,
+        hop("1-ff00:0:110", 1, 2)?,
+    ];
+    let at = Router {
+        ia: IsdAs::parse("2-ff00:0:210")?,
+        number: 0,
+    };
+    expect_picture(&rt, rt.alloc(), &topology, &passed, Some(at), ACROSS_DRAWN)
 }

@@ -16,6 +16,37 @@ const WRONG: &str =
 const CUT: &str =
     "0001ff00000001100001ff0000000111000020000000b39600000064003f00020000b1b2b3b4b5b6003f00000001a1a2a3a4a5";
 
+/// What is shown of the right packet where a host gives it to its router at second 100.
+const SHOWN: &str = "0001ff0000000110 destination 1-ff00:0:110\n\
+     0001ff0000000111 source 1-ff00:0:111\n\
+     00 at info field 0, hop field 0\n\
+     002000 segments of 2, 0 and 0 hop fields\n\
+     0000 info 0 construction direction 0\n\
+     b396 info 0 accumulator 45974\n\
+     00000064 info 0 made at second 100\n\
+     00 hop 0 flags 0\n\
+     3f hop 0 live up to second 21700\n\
+     0002 hop 0 construction ingress 2\n\
+     0000 hop 0 construction egress 0\n\
+     110e4c1d3dad hop 0 authenticator\n\
+     00 hop 1 flags 0\n\
+     3f hop 1 live up to second 21700\n\
+     0000 hop 1 construction ingress 0\n\
+     0001 hop 1 construction egress 1\n\
+     a1a2a3a4a5a6 hop 1 authenticator\n\
+     1 header: a packet of 52 bytes: ok\n\
+     2 indices: at info field 0, hop field 0 of segment 0; segments of 2, 0 and 0 hop fields; from a host: ok\n\
+     3 way in: from a host; the way in is interface 0 of no router, this is router 0: ok\n\
+     4 live: expires at 21700, now 100: ok\n\
+     5 authenticator: packet 110e4c1d3dad, right under the key in use: 110e4c1d3dad: ok\n\
+     6 source: 1-ff00:0:111 from a host; this is 1-ff00:0:111: ok\n\
+     7 destination: 1-ff00:0:110; this is 1-ff00:0:111, at hop 1 of 2: ok\n\
+     10 way out: interface 2 of router 0: ok\n\
+     11 link kinds: from a host to parent: ok\n\
+     12 owner: router 0, this is router 0: ok\n\
+     13 link: up: ok\n\
+     link 2 0001ff00000001100001ff0000000111010020000000b39600000064003f00020000110e4c1d3dad003f00000001a1a2a3a4a5a6";
+
 /// The turn of router 0 of 1-ff00:0:111, at this second and with this key before `6b`, over a
 /// packet of a host.
 fn texts<'a, 'm>(
@@ -45,6 +76,17 @@ fn expect_end(
     let command = StepCommand::from_texts(alloc, texts)?.ok_or("a turn")?;
     let lines = packet_lines(alloc, &command, packet.as_bytes())?;
     assert!(rt; lines.as_str().ends_with(end), "{}", lines.as_str());
+    Ok(())
+}
+
+/// Each field, each check up to the last, and the line of the turn.
+#[test]
+fn shown(rt: HostRuntime) -> Result<(), Fail> {
+    let alloc = rt.alloc();
+    let own = ["2,parent,0,up"];
+    let command = StepCommand::from_texts(alloc, texts("100", None, &own))?.ok_or("a turn")?;
+    let lines = packet_lines(alloc, &command, RIGHT.as_bytes())?;
+    assert_eq!(&rt; lines.as_str(), SHOWN);
     Ok(())
 }
 

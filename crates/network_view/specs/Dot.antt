@@ -1,5 +1,5 @@
 -- A network as a picture in the language DOT of graphviz.
-use Rattle.std.specs.Prelude.{ℕ, zero, suc, codes, Bool, true, false, List, [], ◌++◌, flat_map}
+use Rattle.std.specs.Prelude.{ℕ, zero, suc, codes, Bool, true, false, List, [], ◌++◌, flat_map, Option}
 use Rattle.std.specs.Fmt.{decimal}
 use Rattle.isd_as.specs.Address.{canonical, isd_of}
 use Rattle.scion_topology.specs.declared.network.AsEntry.{AsEntry}
@@ -8,23 +8,30 @@ use Rattle.scion_topology.specs.declared.network.Link.{Link}
 use Rattle.scion_topology.specs.declared.network.LinkClass.{LinkClass}
 use Rattle.scion_topology.specs.declared.network.LinkClass.TheVariants.{Core, Child}
 use Rattle.scion_topology.specs.Network.{Network}
+use Rattle.policy_expr.specs.declared.hop.WalkHop.{WalkHop}
+use Rattle.network_view.specs.declared.marks.Router.{Router}
+use Rattle.network_view.specs.Marks.{is_at, was_passed}
 
 -- ---- ASes
 
 -- the name of a router in the picture: its AS and its number
 unfoldable pub router_name : ℕ → ℕ → List ℕ
-router_name ia router =
-    codes "\"" ++ (canonical ia ++ (codes " " ++ (decimal router ++ codes "\"")))
+router_name ia router = codes "\"" ++ (canonical ia ++ (codes " " ++ (decimal router ++ codes "\"")))
 
--- a router, with its number
-unfoldable pub router_text : ℕ → ℕ → List ℕ
-router_text ia router =
-    router_name ia router ++ (codes " [label=" ++ (decimal router ++ codes "]; "))
+-- how a router looks: the one at which the packet is has a colour
+unfoldable pub marked_text : Bool → List ℕ
+marked_text true = codes ", style=filled, fillcolor=red]; "
+marked_text false = codes "]; "
+
+-- a router, with its number, where the packet is at this one
+unfoldable pub router_text : Option Router → ℕ → ℕ → List ℕ
+router_text at ia router =
+    router_name ia router ++ (codes " [label=" ++ (decimal router ++ marked_text (is_at at ia router)))
 
 -- the routers of an AS, by their number
-unfoldable pub routers_text : ℕ → ℕ → List ℕ
-routers_text ia zero = []
-routers_text ia (suc router) = routers_text ia router ++ router_text ia router
+unfoldable pub routers_text : Option Router → ℕ → ℕ → List ℕ
+routers_text at ia zero = []
+routers_text at ia (suc router) = routers_text at ia router ++ router_text at ia router
 
 -- the name of the box of an AS
 unfoldable pub box_name : ℕ → List ℕ
@@ -38,15 +45,14 @@ core_text false = codes "\"; style=rounded; "
 -- the box of an ISD, which is the same for each of its ASes
 unfoldable pub isd_text : ℕ → List ℕ
 isd_text isd =
-    codes "subgraph cluster_"
-    ++ (decimal isd ++ (codes " { label=\"ISD " ++ (decimal isd ++ codes "\"; ")))
+    codes "subgraph cluster_" ++ (decimal isd ++ (codes " { label=\"ISD " ++ (decimal isd ++ codes "\"; ")))
 
 -- an AS: a box with its routers, in the box of its ISD
-unfoldable pub as_text : AsEntry → List ℕ
-as_text one =
+unfoldable pub as_text : Option Router → AsEntry → List ℕ
+as_text at one =
     isd_text (isd_of one.ia) ++ (codes "subgraph " ++ (box_name one.ia ++ (codes " { label=\""
-    ++ (canonical one.ia ++ (core_text one.core
-    ++ (routers_text one.ia one.routers ++ codes "} }\n"))))))
+    ++ (canonical one.ia ++ (core_text one.core ++ (routers_text at one.ia one.routers
+    ++ codes "} }\n"))))))
 
 -- ---- links
 
@@ -58,6 +64,11 @@ end_name end = router_name end.ia end.router
 unfoldable pub class_text : LinkClass → List ℕ
 class_text Core = codes "penwidth=3"
 class_text Child = codes "dir=forward"
+
+-- a link that the packet has passed has a colour and the thickest line
+unfoldable pub passed_text : Bool → List ℕ
+passed_text true = codes ", color=red, penwidth=5"
+passed_text false = []
 
 -- a link that is cut is dashed
 unfoldable pub state_text : Bool → List ℕ
@@ -71,10 +82,10 @@ interfaces_text link =
     ++ (decimal link.b.number ++ codes ", ")))
 
 -- a link: a line between the routers that own its interfaces
-unfoldable pub link_text : Link → List ℕ
-link_text link =
+unfoldable pub link_text : List WalkHop → Link → List ℕ
+link_text passed link =
     end_name link.a ++ (codes " -- " ++ (end_name link.b ++ (interfaces_text link
-    ++ (class_text link.class ++ state_text link.up))))
+    ++ (class_text link.class ++ (passed_text (was_passed passed link) ++ state_text link.up)))))
 
 -- ---- the network
 
@@ -82,8 +93,9 @@ link_text link =
 abbrev pub layout : List ℕ
 layout = codes "graph network {\nlabelloc=b; labeljust=l; ranksep=1; edge [labeldistance=1.5, fontsize=11];\n"
 
--- each AS in a box and each link on a line, in the order in which the network lists them
-unfoldable pub dot_of : Network → List ℕ
-dot_of network =
-    layout ++ (flat_map as_text network.ases
-    ++ (flat_map link_text network.links ++ codes "}\n"))
+-- each AS in a box and each link on a line, in the order in which the network lists them, with a
+-- packet that has passed these hops and is at this router, if at one
+unfoldable pub dot_of : Network → List WalkHop → Option Router → List ℕ
+dot_of network passed at =
+    layout ++ (flat_map (as_text at) network.ases
+    ++ (flat_map (link_text passed) network.links ++ codes "}\n"))

@@ -1,8 +1,10 @@
 ghost use Rattle.std.specs.Prelude.{◌≡◌, IfOk, flat_map};
 ghost use Rattle.std.specs.String.{string_bytes};
-ghost use Rattle.network_view.specs.Dot.{as_text, box_name, class_text, core_text, dot_of, end_name, interfaces_text, isd_text, link_text, router_name, router_text, routers_text, state_text};
+ghost use Rattle.network_view.specs.Dot.{as_text, box_name, class_text, core_text, dot_of, end_name, interfaces_text, isd_text, link_text, marked_text, passed_text, router_name, router_text, routers_text, state_text};
 
+use crate::marks::{Router, is_at, was_passed};
 use isd_as::{Isd, IsdAs};
+use policy_expr::WalkHop;
 use scion_topology::{AsEntry, End, Link, LinkClass};
 use std::alloc::{AllocError, Global};
 
@@ -20,23 +22,46 @@ fn router_name(alloc: Global, ia: IsdAs, router: u8) -> Result<String, AllocErro
     format!(in alloc; "\"{ia} {router}\"")
 }
 
+/// How a router looks.
+#[tactic(auto, unfolding(crate::specs::Dot::marked_text))]
+fn marked_text(marked: bool) -> &'static str
+    ensures { result.now ≡ marked_text marked }
+{
+    if marked {
+        ", style=filled, fillcolor=red]; "
+    } else {
+        "]; "
+    }
+}
+
 /// A router, with its number.
 #[tactic(auto, unfolding(crate::specs::Dot::router_text))]
-fn router_text(alloc: Global, ia: IsdAs, router: u8) -> Result<String, AllocError>
-    ensures { IfOk result (λ text. string_bytes text ≡ router_text ia router) }
+fn router_text(
+    alloc: Global,
+    at: Option<Router>,
+    ia: IsdAs,
+    router: u8,
+) -> Result<String, AllocError>
+    ensures { IfOk result (λ text. string_bytes text ≡ router_text at ia router) }
 {
     let name = router_name(alloc, ia, router)?;
-    format!(in alloc; "{} [label={router}]; ", name.as_str())
+    let look = marked_text(is_at(at, ia, router));
+    format!(in alloc; "{} [label={router}{look}", name.as_str())
 }
 
 /// The routers of an AS, by their number.
 #[tactic(auto, unfolding(crate::specs::Dot::routers_text))]
-fn routers_text(alloc: Global, ia: IsdAs, routers: u8) -> Result<String, AllocError>
-    ensures { IfOk result (λ text. string_bytes text ≡ routers_text ia routers) }
+fn routers_text(
+    alloc: Global,
+    at: Option<Router>,
+    ia: IsdAs,
+    routers: u8,
+) -> Result<String, AllocError>
+    ensures { IfOk result (λ text. string_bytes text ≡ routers_text at ia routers) }
 {
     let mut text = String::new(alloc);
     for router in 0..routers {
-        text.push_str(router_text(alloc, ia, router)?.as_str())?;
+        text.push_str(router_text(alloc, at, ia, router)?.as_str())?;
     }
     Ok(text)
 }
@@ -71,13 +96,13 @@ fn isd_text(alloc: Global, isd: Isd) -> Result<String, AllocError>
 
 /// An AS: a box with its routers, in the box of its ISD.
 #[tactic(auto, unfolding(crate::specs::Dot::as_text))]
-fn as_text(alloc: Global, one: &AsEntry) -> Result<String, AllocError>
-    ensures { IfOk result (λ text. string_bytes text ≡ as_text one.now) }
+fn as_text(alloc: Global, at: Option<Router>, one: &AsEntry) -> Result<String, AllocError>
+    ensures { IfOk result (λ text. string_bytes text ≡ as_text at one.now) }
 {
     let isd = isd_text(alloc, one.ia.isd())?;
     let name = box_name(alloc, one.ia)?;
     let core = core_text(one.core);
-    let routers = routers_text(alloc, one.ia, one.routers)?;
+    let routers = routers_text(alloc, at, one.ia, one.routers)?;
     format!(in alloc;
         "{}subgraph {} {{ label=\"{}{core}{}}} }}\n",
         isd.as_str(),
@@ -105,6 +130,18 @@ fn class_text(class: LinkClass) -> &'static str
     }
 }
 
+/// Whether the packet has passed a link.
+#[tactic(auto, unfolding(crate::specs::Dot::passed_text))]
+fn passed_text(passed: bool) -> &'static str
+    ensures { result.now ≡ passed_text passed }
+{
+    if passed {
+        ", color=red, penwidth=5"
+    } else {
+        ""
+    }
+}
+
 /// Whether a link is cut.
 #[tactic(auto, unfolding(crate::specs::Dot::state_text))]
 fn state_text(up: bool) -> &'static str
@@ -126,16 +163,17 @@ fn interfaces_text(alloc: Global, link: &Link) -> Result<String, AllocError>
 
 /// A link: a line between the routers that own its interfaces.
 #[tactic(auto, unfolding(crate::specs::Dot::link_text))]
-fn link_text(alloc: Global, link: &Link) -> Result<String, AllocError>
-    ensures { IfOk result (λ text. string_bytes text ≡ link_text link.now) }
+fn link_text(alloc: Global, passed: &[WalkHop], link: &Link) -> Result<String, AllocError>
+    ensures { IfOk result (λ text. string_bytes text ≡ link_text passed.now link.now) }
 {
     let a = end_name(alloc, &link.a)?;
     let b = end_name(alloc, &link.b)?;
     let interfaces = interfaces_text(alloc, link)?;
     let class = class_text(link.class);
+    let mark = passed_text(was_passed(passed, link));
     let state = state_text(link.up);
     format!(in alloc;
-        "{} -- {}{}{class}{state}",
+        "{} -- {}{}{class}{mark}{state}",
         a.as_str(),
         b.as_str(),
         interfaces.as_str()
@@ -143,37 +181,44 @@ fn link_text(alloc: Global, link: &Link) -> Result<String, AllocError>
 }
 
 /// The boxes of these ASes.
-fn boxes(alloc: Global, ases: &[AsEntry]) -> Result<String, AllocError>
-    ensures { IfOk result (λ text. string_bytes text ≡ flat_map as_text ases.now) }
+fn boxes(alloc: Global, at: Option<Router>, ases: &[AsEntry]) -> Result<String, AllocError>
+    ensures { IfOk result (λ text. string_bytes text ≡ flat_map (as_text at) ases.now) }
 {
     let mut text = String::new(alloc);
     for one in ases {
-        text.push_str(as_text(alloc, one)?.as_str())?;
+        text.push_str(as_text(alloc, at, one)?.as_str())?;
     }
     Ok(text)
 }
 
 /// The lines of these links.
-fn lines(alloc: Global, links: &[Link]) -> Result<String, AllocError>
-    ensures { IfOk result (λ text. string_bytes text ≡ flat_map link_text links.now) }
+fn lines(alloc: Global, passed: &[WalkHop], links: &[Link]) -> Result<String, AllocError>
+    ensures { IfOk result (λ text. string_bytes text ≡ flat_map (link_text passed.now) links.now) }
 {
     let mut text = String::new(alloc);
     for link in links {
-        text.push_str(link_text(alloc, link)?.as_str())?;
+        text.push_str(link_text(alloc, passed, link)?.as_str())?;
     }
     Ok(text)
 }
 
 /// The picture of the network of these ASes and links: a box for each AS and a line for each link,
-/// in their order.
+/// in their order. The links by which a packet has left these hops are drawn as passed, and the
+/// router at which it is, if it is at one, is marked.
 ///
-/// `AllocError` if memory runs out.
+/// `AllocError` if memory runs out. It takes time for each pair of a link and a hop.
 #[tactic(auto, unfolding(crate::specs::Dot::dot_of))]
-pub fn network_dot(alloc: Global, ases: &[AsEntry], links: &[Link]) -> Result<String, AllocError>
+pub fn network_dot(
+    alloc: Global,
+    ases: &[AsEntry],
+    links: &[Link],
+    passed: &[WalkHop],
+    at: Option<Router>,
+) -> Result<String, AllocError>
     ensures { IfOk result (λ text. string_bytes text
-        ≡ dot_of (record { ases = ases.now; links = links.now })) }
+        ≡ dot_of (record { ases = ases.now; links = links.now }) passed.now at) }
 {
-    let boxes = boxes(alloc, ases)?;
-    let lines = lines(alloc, links)?;
+    let boxes = boxes(alloc, at, ases)?;
+    let lines = lines(alloc, passed, links)?;
     format!(in alloc; "{LAYOUT}{}{}}}\n", boxes.as_str(), lines.as_str())
 }

@@ -10,9 +10,12 @@ use crate::sides::{
     destination_sides, header_sides, indices_sides, kinds_sides, link_sides, live_sides, mac_sides,
     owner_sides, source_sides, switch_sides, way_in_sides, way_out_sides,
 };
-use crate::situation::{Situation, way_out};
+use crate::situation::Situation;
 use path_header::{HopField, InfoField};
-use router_step::{Arrival, Refusal, destination_in, read_header, source_in};
+use router_step::checks::{
+    destination_fits, is_live, is_mac_right, is_over_link, kinds_fit, source_fits, way_in_fits,
+};
+use router_step::{Arrival, Refusal, destination_in, read_header, source_in, way_out};
 use scion_topology::RouterView;
 use std::alloc::{AllocError, Global};
 
@@ -27,7 +30,7 @@ fn add_place(alloc: Global, at: &Situation<'_>, checks: &mut Vec<Check>) -> Resu
     let holds = at.has_right_indices();
     checks.push(Check::tested(sides, holds, Refusal::IndexMismatch))?;
     let sides = way_in_sides(alloc, at, &info, &hop)?;
-    let holds = at.came_in_right(&info, &hop);
+    let holds = way_in_fits(&at.view, &at.arrival, &info, &hop);
     checks.push(Check::tested(sides, holds, Refusal::WrongIngress))?;
     Ok(())
 }
@@ -47,9 +50,9 @@ fn add_pass(
         ++ pass_checks four five at.entry.now.view at.entry.now.now info.now hop.now) }
 {
     let sides = live_sides(alloc, four, at.now, info, hop)?;
-    checks.push(Check::tested(sides, at.is_live(info, hop), Refusal::Expired))?;
+    checks.push(Check::tested(sides, is_live(at.now, info, hop), Refusal::Expired))?;
     let sides = mac_sides(alloc, five, at, info, hop)?;
-    checks.push(Check::tested(sides, at.is_mac_right(info, hop), Refusal::BadMac))?;
+    checks.push(Check::tested(sides, is_mac_right(&at.view, info, hop), Refusal::BadMac))?;
     Ok(())
 }
 
@@ -59,9 +62,10 @@ fn add_end(alloc: Global, at: &Situation<'_>, checks: &mut Vec<Check>) -> Result
     ensures { OnOk result (checks.new.items ≡ checks.old.items ++ end_checks at.entry.now) }
 {
     let sides = source_sides(alloc, at)?;
-    checks.push(Check::tested(sides, at.has_right_source(), Refusal::SourceAs))?;
+    let holds = source_fits(&at.view, &at.arrival, at.source);
+    checks.push(Check::tested(sides, holds, Refusal::SourceAs))?;
     let sides = destination_sides(alloc, at)?;
-    let holds = at.has_right_destination();
+    let holds = destination_fits(&at.view, at.destination, at.is_last());
     checks.push(Check::tested(sides, holds, Refusal::DestinationAs))?;
     Ok(())
 }
@@ -76,7 +80,7 @@ fn add_switch(alloc: Global, at: &Situation<'_>, checks: &mut Vec<Check>) -> Res
         return Ok(());
     }
     let sides = switch_sides(alloc, at)?;
-    let holds = at.came_over_link();
+    let holds = is_over_link(&at.arrival);
     checks.push(Check::tested(sides, holds, Refusal::SwitchInside))?;
     let info = at.info_to_leave(true);
     let hop = at.hop_to_leave(true);
@@ -106,7 +110,7 @@ fn add_leave(
     let verdict = Ok(());
     checks.push(Check { sides, verdict })?;
     let sides = kinds_sides(alloc, at, switched, out.kind)?;
-    let holds = at.has_right_kinds(switched, out.kind);
+    let holds = kinds_fit(&at.view, &at.arrival, switched, out.kind);
     checks.push(Check::tested(sides, holds, Refusal::LinkKinds))?;
     let sides = owner_sides(alloc, at, out)?;
     checks.push(Check { sides, verdict })?;

@@ -325,9 +325,11 @@ fn behind_text(alloc: Global, packet: &[u8]) -> Result<String, AllocError>
     )
 }
 
-/// All fields of a packet.
+/// The fields of a packet, each on a line with its bytes in hexadecimal: addresses, meta, info and
+/// hop fields and payload; of a packet without addresses or without a path header as far as it has
+/// them. `AllocError` if memory runs out.
 #[tactic(auto, unfolding(crate::specs::Fields::fields_text))]
-pub(crate) fn fields_text(alloc: Global, packet: &[u8]) -> Result<String, AllocError>
+pub fn fields_text(alloc: Global, packet: &[u8]) -> Result<String, AllocError>
     ensures { IfOk result (λ text. string_bytes text ≡ fields_text packet.now) }
 {
     if packet.len() < ADDRESSES_LEN {

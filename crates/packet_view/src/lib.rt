@@ -14,4 +14,5 @@ mod lines;
 mod sides;
 mod situation;
 
+pub use fields::fields_text;
 pub use lines::packet_lines;

@@ -7,10 +7,10 @@ ghost use Rattle.hex.specs.Hex.{encode_lower};
 ghost use Rattle.packet_view.specs.Sides.{arrival_text, before_text, destination_sides, header_sides, indices_sides, kind_text, kinds_sides, link_sides, live_sides, mac_sides, mac_under, origin_text, owner_sides, owner_text, position_text, right_text, source_sides, switch_sides, way_in_sides, way_out_sides};
 
 use crate::fields::{last_live, lens_text, place_text};
-use crate::situation::{Situation, way_in, way_out};
+use crate::situation::Situation;
 use hop_mac::hop_mac;
 use path_header::{HopField, InfoField};
-use router_step::Arrival;
+use router_step::{Arrival, way_in, way_out};
 use scion_topology::{IfEntry, LinkKind};
 use std::alloc::{AllocError, Global};
 

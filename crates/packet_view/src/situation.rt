@@ -1,17 +1,17 @@
-//! A packet at a router, and the tests that the router makes of it, as its definitions say them.
+//! A packet at a router, and what the router asks of it.
 
 ghost use Rattle.std.specs.Prelude.{◌≡◌, ◌+◌, ◌<◌, ◌≤◌, false, length};
 ghost use Rattle.scion_topology.specs.Keys.{key_in_use};
 ghost use Rattle.path_header.specs.Value.{segment_at};
-ghost use Rattle.router_step.specs.Place.{hop_of, info_of, is_over_link, moved_on, seg_id_on_arrival, way_in, way_out};
-ghost use Rattle.router_step.specs.Checks.{are_joined, destination_fits, ends_segment, has_no_single, indices_fit, is_last, is_live, is_mac_right, is_owned, is_start_right, kinds_fit, source_fits, way_in_fits};
+ghost use Rattle.router_step.specs.Place.{hop_of, info_of, moved_on};
+ghost use Rattle.router_step.specs.Checks.{ends_segment, indices_fit, is_last};
 ghost use Rattle.router_step.specs.Done.{on_arrival};
 
-use hop_mac::{hop_is_live, next_beta};
-use isd_as::{IfId, IsdAs};
-use path_header::{Header, HopField, InfoField, SegLens};
-use router_step::Arrival;
-use scion_topology::{LinkKind, RouterView};
+use isd_as::IsdAs;
+use path_header::{Header, HopField, InfoField};
+use router_step::checks::{has_no_single, is_start_right};
+use router_step::{Arrival, seg_id_on_arrival};
+use scion_topology::RouterView;
 use std::marker::Model;
 
 /// A packet at a router: what the router knows of its AS, the second at which it works, how the
@@ -39,51 +39,6 @@ impl<'a> Model for Situation<'a> {
       destination = a.destination;
       header = a.header;
     } };
-}
-
-/// The interface by which a packet that travels this segment comes into the hop's AS.
-pub(crate) fn way_in(info: &InfoField, hop: &HopField) -> IfId
-    ensures { result ≡ way_in info.now hop.now }
-{
-    if info.construction {
-        hop.cons_ingress
-    } else {
-        hop.cons_egress
-    }
-}
-
-/// The interface by which it leaves.
-pub(crate) fn way_out(info: &InfoField, hop: &HopField) -> IfId
-    ensures { result ≡ way_out info.now hop.now }
-{
-    if info.construction {
-        hop.cons_egress
-    } else {
-        hop.cons_ingress
-    }
-}
-
-/// Whether no segment has a single hop field.
-fn has_no_single(lens: SegLens) -> bool
-    ensures { result ≡ has_no_single lens }
-{
-    lens.first != 1 && lens.second != 1 && lens.third != 1
-}
-
-/// Whether a path may go from a link of one kind to one of the other, with a switch to another
-/// segment between them or without.
-fn are_joined(switched: bool, from: LinkKind, to: LinkKind) -> bool
-    ensures { result ≡ are_joined switched from to }
-{
-    match (switched, from, to) {
-        (false, LinkKind::Core, LinkKind::Core)
-        | (false, LinkKind::Child, LinkKind::Parent)
-        | (false, LinkKind::Parent, LinkKind::Child)
-        | (true, LinkKind::Child, LinkKind::Core)
-        | (true, LinkKind::Core, LinkKind::Child)
-        | (true, LinkKind::Child, LinkKind::Child) => true,
-        _ => false,
-    }
 }
 
 impl Situation<'_> {
@@ -117,18 +72,8 @@ impl Situation<'_> {
         ensures { result ≡ info_of (on_arrival self.entry.now) }
     {
         let mut info = self.info();
-        info.seg_id = self.seg_id_on_arrival(&info, &self.hop());
+        info.seg_id = seg_id_on_arrival(&self.arrival, &info, &self.hop());
         info
-    }
-
-    /// The accumulator on arrival.
-    fn seg_id_on_arrival(&self, info: &InfoField, hop: &HopField) -> u16
-        ensures { result ≡ seg_id_on_arrival self.entry.now.arrival info.now hop.now }
-    {
-        match self.arrival {
-            Arrival::Link(_) if !info.construction => next_beta(info.seg_id, &hop.mac),
-            _ => info.seg_id,
-        }
     }
 
     /// The segment of the hop field at which the packet stands.
@@ -154,80 +99,7 @@ impl Situation<'_> {
     {
         self.header.curr_inf() == self.segment()
             && has_no_single(self.header.seg_lens())
-            && self.starts_right(self.header.curr_hf())
-    }
-
-    /// Whether a packet may start at this hop field, where a host sends it.
-    fn starts_right(&self, hop: usize) -> bool
-        ensures { result ≡ is_start_right self.entry.now.arrival hop }
-    {
-        match self.arrival {
-            Arrival::FromHost => hop == 0,
-            Arrival::Inside | Arrival::Link(_) => true,
-        }
-    }
-
-    /// Whether the packet came over a link.
-    pub(crate) fn came_over_link(&self) -> bool
-        ensures { result ≡ is_over_link self.entry.now.arrival }
-    {
-        match self.arrival {
-            Arrival::FromHost | Arrival::Inside => false,
-            Arrival::Link(_) => true,
-        }
-    }
-
-    /// Whether the interface belongs to the router.
-    fn owns(&self, interface: IfId) -> bool
-        ensures { result ≡ is_owned self.entry.now.view interface }
-    {
-        match self.view.entry(interface) {
-            Some(entry) => entry.router == self.view.router(),
-            None => false,
-        }
-    }
-
-    /// Whether a packet that came over a link came in where it may.
-    pub(crate) fn came_in_right(&self, info: &InfoField, hop: &HopField) -> bool
-        ensures { result ≡ way_in_fits self.entry.now.view self.entry.now.arrival info.now hop.now }
-    {
-        match self.arrival {
-            Arrival::FromHost | Arrival::Inside => true,
-            Arrival::Link(interface) => self.owns(interface) && interface == way_in(info, hop),
-        }
-    }
-
-    /// Whether the hop is live.
-    pub(crate) fn is_live(&self, info: &InfoField, hop: &HopField) -> bool
-        ensures { result ≡ is_live self.entry.now.now info.now hop.now }
-    {
-        hop_is_live(info.timestamp, hop.exp_time, self.now)
-    }
-
-    /// Whether the hop's authenticator is right under the accumulator of its segment.
-    pub(crate) fn is_mac_right(&self, info: &InfoField, hop: &HopField) -> bool
-        ensures { result ≡ is_mac_right self.entry.now.view info.now hop.now }
-    {
-        self.view.authenticates(
-            &hop.mac,
-            info.seg_id,
-            info.timestamp,
-            hop.exp_time,
-            hop.cons_ingress,
-            hop.cons_egress,
-        )
-    }
-
-    /// Whether the source fits how the packet came.
-    pub(crate) fn has_right_source(&self) -> bool
-        ensures { result
-            ≡ source_fits self.entry.now.view self.entry.now.arrival self.entry.now.source }
-    {
-        match self.arrival {
-            Arrival::FromHost => self.source == self.view.ia(),
-            Arrival::Inside => true,
-            Arrival::Link(_) => self.source != self.view.ia(),
-        }
+            && is_start_right(&self.arrival, self.header.curr_hf())
     }
 
     /// Whether the packet stands at the path's last hop.
@@ -271,28 +143,6 @@ impl Situation<'_> {
             self.header.hop(self.header.curr_hf() + 1)
         } else {
             self.hop()
-        }
-    }
-
-    /// Whether the packet is for this AS exactly where its path ends here.
-    pub(crate) fn has_right_destination(&self) -> bool
-        ensures { result
-            ≡ destination_fits self.entry.now.view self.entry.now.destination
-            (is_last self.entry.now.header) }
-    {
-        (self.destination == self.view.ia()) == self.is_last()
-    }
-
-    /// Whether the links by which the packet comes in and goes out may be joined.
-    pub(crate) fn has_right_kinds(&self, switched: bool, out: LinkKind) -> bool
-        ensures { result ≡ kinds_fit self.entry.now.view self.entry.now.arrival switched out }
-    {
-        match self.arrival {
-            Arrival::FromHost | Arrival::Inside => true,
-            Arrival::Link(interface) => match self.view.entry(interface) {
-                Some(entry) => are_joined(switched, entry.kind, out),
-                None => false,
-            },
         }
     }
 }

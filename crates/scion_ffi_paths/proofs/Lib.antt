@@ -1,0 +1,4 @@
+pub mod Items
+pub mod Letters
+pub mod Moments
+pub mod Ranges

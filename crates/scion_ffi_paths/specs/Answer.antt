@@ -1,24 +1,24 @@
--- What a request is answered.
-use Rattle.std.specs.Prelude.{◌≡◌, ℕ, ◌&&◌, nat_le, List, [], Option, Some, None, Result, Ok, Err}
+-- What a request for paths is answered.
+use Rattle.std.specs.Prelude.{◌≡◌, ℕ, ◌&&◌, nat_le, List, [], Option, Result, Ok, Err}
 use Rattle.std.specs.List.{fold}
 use Rattle.refusal.specs.Refusal.{◌>>=◌, check, refused_as}
 use Rattle.path_segment.specs.Chain.{Chain}
 use Rattle.path_server.specs.Store.{registered}
 use Rattle.path_server.specs.Lookup.{Selection, segments_for}
-use Rattle.policy_expr.specs.Options.{WeighedRules}
+use Rattle.policy_expr.specs.Options.{WeighedRules, options_at}
 use Rattle.combinator.specs.Answer.{AnswerValue, AnswersWith}
 use Rattle.combinator.specs.Fault.{ends_at}
 use Rattle.scion_ffi_paths.specs.declared.fault.RequestFault.{RequestFault}
-use Rattle.scion_ffi_paths.specs.declared.fault.RequestFault.TheVariants.{BadRequest, BadLimit, Policy, Ends}
-use Rattle.scion_ffi_paths.specs.Asked.{PathsAsked}
+use Rattle.scion_ffi_paths.specs.declared.fault.RequestFault.TheVariants.{BadLimit, Policy, Ends}
+use Rattle.scion_ffi_paths.specs.Asked.{Asked, PathsAsked, paths_asked_in}
 use Rattle.scion_ffi_paths.specs.Text.{fault_text, paths_text}
 
 -- the options under which paths are looked for, or the first cause why none are
 unfoldable pub options_asked : PathsAsked → Result (List WeighedRules) RequestFault
-options_asked asked = do
-  _ ← check (nat_le 1 asked.limit && nat_le asked.limit 64) BadLimit
-  options ← refused_as Policy asked.options
-  _ ← refused_as Ends (ends_at asked.src asked.dst)
+options_asked request = do
+  _ ← check (nat_le 1 request.limit && nat_le request.limit 64) BadLimit
+  options ← refused_as Policy (options_at request.asked.options)
+  _ ← refused_as Ends (ends_at request.asked.src request.asked.dst)
   Ok options
 
 -- a store in which each of these segments was registered, in their order
@@ -27,22 +27,27 @@ stored moment store segments =
     fold (λ known segment. registered known segment moment) store segments
 
 -- what a look-up in it gives
-abbrev pub selection_of : PathsAsked → Selection
+abbrev pub selection_of : Asked → Selection
 selection_of asked =
     segments_for (stored asked.moment [] asked.segments) asked.src asked.dst asked.moment
 
 -- these paths answer it under these options
 abbrev pub AreAnswer : PathsAsked → List WeighedRules → AnswerValue → Type 0
-AreAnswer asked options answer =
-    AnswersWith (selection_of asked) asked.src asked.dst options asked.limit answer.used answer.paths
+AreAnswer request options answer =
+    AnswersWith (selection_of request.asked) request.asked.src request.asked.dst options
+    request.limit answer.used answer.paths
 
 -- the text has the paths that answer, or the refusal
 abbrev pub AnswersUnder : PathsAsked → Result (List WeighedRules) RequestFault → List ℕ → Type 0
-AnswersUnder asked (Ok options) text =
-    (answer : AnswerValue) × (AreAnswer asked options answer
-    × (text ≡ paths_text asked.segments answer.paths))
-AnswersUnder asked (Err fault) text = text ≡ fault_text fault
+AnswersUnder request (Ok options) text =
+    (answer : AnswerValue) × (AreAnswer request options answer
+    × (text ≡ paths_text request.asked.segments answer.paths))
+AnswersUnder request (Err fault) text = text ≡ fault_text fault
 
-abbrev pub AnswersPaths : Option PathsAsked → List ℕ → Type 0
-AnswersPaths None text = text ≡ fault_text BadRequest
-AnswersPaths (Some asked) text = AnswersUnder asked (options_asked asked) text
+abbrev pub AnswersRequest : Result PathsAsked RequestFault → List ℕ → Type 0
+AnswersRequest (Ok request) text = AnswersUnder request (options_asked request) text
+AnswersRequest (Err fault) text = text ≡ fault_text fault
+
+-- the text answers what these bytes ask for
+abbrev pub AnswersPaths : List ℕ → List ℕ → Type 0
+AnswersPaths bytes text = AnswersRequest (paths_asked_in bytes) text

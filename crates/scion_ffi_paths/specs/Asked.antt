@@ -1,50 +1,69 @@
--- What a request asks for: an object of JSON with the members of a line `ask` but its word, and
--- beside them `now` and the list `segments`, each in the form in which segments are printed.
-use Rattle.std.specs.Prelude.{ℕ, codes, List, Option, Some, None, Result}
-use Rattle.refusal.specs.Optional.{◌>>=◌, only}
-use Rattle.serde_json.specs.Data.{Data}
-use Rattle.json_fields.specs.Fields.{document_in, list_at, items_at}
+-- What a request asks for: an object of JSON with members of a line `ask`, and beside them `now`
+-- and the list `segments`, each in the form in which segments are printed.
+use Rattle.std.specs.Prelude.{ℕ, codes, List, [], ◌∷◌, Option, Some, None, Result, Ok, Err}
+use Rattle.refusal.specs.Refusal.{◌>>=◌, refused_as}
+use Rattle.serde_json.specs.Data.{Data, Items, no_items, item}
+use Rattle.json_fields.specs.Fields.{document_in, list_at}
 use Rattle.path_segment.specs.Chain.{Chain}
 use Rattle.path_segment.specs.Reading.{chain_at, judged}
-use Rattle.policy_expr.specs.declared.option_fault.OptionFault.{OptionFault}
-use Rattle.policy_expr.specs.Options.{WeighedRules, options_at}
+use Rattle.policy_expr.specs.Options.{OptionTexts}
 use Rattle.event_lines.specs.Line.{ia_at, long_at, options_in}
+use Rattle.scion_ffi_paths.specs.declared.fault.RequestFault.{RequestFault}
+use Rattle.scion_ffi_paths.specs.declared.fault.RequestFault.TheVariants.{BadRequest}
+use Rattle.scion_ffi_paths.specs.Fault.{of_segment}
 
--- the ends, the policy options or why there are none, the most paths, the second at which they are
--- to be live, and the segments that are known
-pub record PathsAsked : Type 0 where
+-- what was found; where nothing was, the request has another form
+abbrev pub formed : {A : Type 0} → Option A → Result A RequestFault
+formed None = Err BadRequest
+formed (Some found) = Ok found
+
+-- a segment, or why there is none
+abbrev pub segment_at : Data → Result Chain RequestFault
+segment_at d = refused_as of_segment (judged (chain_at d))
+
+-- each item of a list, or the first refusal
+abbrev pub each_item : {A F : Type 0} → (Data → Result A F) → Items → Result (List A) F
+each_item one no_items = Ok []
+each_item one (item d later) = do
+  x ← one d
+  xs ← each_item one later
+  Ok (x ∷ xs)
+
+-- what every request says: the ends, the texts of its policy options, the second that is asked for,
+-- and the segments that are known
+pub record Asked : Type 0 where
   pub src : ℕ
   pub dst : ℕ
-  pub options : Result (List WeighedRules) OptionFault
-  pub limit : ℕ
+  pub options : List OptionTexts
   pub moment : ℕ
   pub segments : List Chain
 
--- a segment, if it keeps the rules
-abbrev pub segment_at : Data → Option Chain
-segment_at d = only (judged (chain_at d))
-
--- what an object asks for
-unfoldable pub asked_at : Data → Option PathsAsked
+-- what an object says of these
+unfoldable pub asked_at : Data → Result Asked RequestFault
 asked_at d = do
-  texts ← options_in d
-  src ← ia_at (codes "src") d
-  dst ← ia_at (codes "dst") d
-  limit ← long_at (codes "limit") d
-  moment ← long_at (codes "now") d
-  items ← list_at (codes "segments") d
-  segments ← items_at segment_at items
-  Some (record {
+  options ← formed (options_in d)
+  src ← formed (ia_at (codes "src") d)
+  dst ← formed (ia_at (codes "dst") d)
+  moment ← formed (long_at (codes "now") d)
+  items ← formed (list_at (codes "segments") d)
+  segments ← each_item segment_at items
+  Ok (record {
     src = src;
     dst = dst;
-    options = options_at texts;
-    limit = limit;
+    options = options;
     moment = moment;
     segments = segments;
   })
 
--- what the bytes of a request ask for
-unfoldable pub asked_in : List ℕ → Option PathsAsked
-asked_in bytes = do
-  d ← document_in bytes
-  asked_at d
+-- a request for paths: the most paths beside them
+pub record PathsAsked : Type 0 where
+  pub asked : Asked
+  pub limit : ℕ
+
+-- what the bytes of a request for paths ask for
+unfoldable pub paths_asked_in : List ℕ → Result PathsAsked RequestFault
+paths_asked_in bytes = do
+  d ← formed (document_in bytes)
+  asked ← asked_at d
+  limit ← formed (long_at (codes "limit") d)
+  Ok (record { asked = asked; limit = limit })

@@ -1,19 +1,32 @@
 -- The refusals of requests, as answers report them.
 use Rattle.std.specs.Prelude.{ℕ, codes, List}
+use Rattle.path_segment.specs.declared.fault.SegmentFault.{SegmentFault}
+use Rattle.path_segment.specs.declared.fault.SegmentFault.TheVariants.{NotJson}
+use Rattle.path_segment.specs.Fault as segments
+use Rattle.path_header.specs.Fault as headers
+use Rattle.path_verifier.specs.Fault as paths
 use Rattle.policy_expr.specs.Options as options
 use Rattle.combinator.specs.Fault as ends
 use Rattle.scion_ffi_paths.specs.declared.fault.RequestFault.{RequestFault}
-use Rattle.scion_ffi_paths.specs.declared.fault.RequestFault.TheVariants.{BadRequest, BadLimit, Policy, Ends}
+use Rattle.scion_ffi_paths.specs.declared.fault.RequestFault.TheVariants.{BadRequest, Segment, BadLimit, Policy, Ends, Header, Path}
 
 -- the number and the name of a refusal
 abbrev pub code_and_name : RequestFault → ℕ × List ℕ
 code_and_name BadRequest = (150, codes "BadRequest")
+code_and_name (Segment fault) = segments.code_and_name fault
 code_and_name BadLimit = (137, codes "BadLimit")
 code_and_name (Policy fault) = options.code_and_name fault
 code_and_name (Ends fault) = ends.code_and_name fault
+code_and_name (Header fault) = headers.code_and_name fault
+code_and_name (Path fault) = paths.code_and_name fault
 
 abbrev pub code_of : RequestFault → ℕ
 code_of refusal = (code_and_name refusal).0
 
 abbrev pub name_of : RequestFault → List ℕ
 name_of refusal = (code_and_name refusal).1
+
+-- of a segment that is refused: where it has another form, so does the request
+abbrev pub of_segment : SegmentFault → RequestFault
+of_segment NotJson = BadRequest
+of_segment broken = Segment broken

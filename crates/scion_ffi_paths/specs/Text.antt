@@ -1,16 +1,19 @@
 -- The text of an answer: JSON without blanks, the names in ascending order.
-use Rattle.std.specs.Prelude.{ℕ, ◌+◌, codes, List, [], ◌∷◌, ◌++◌, Bool, true, false, if◌then◌else◌}
+use Rattle.std.specs.Prelude.{ℕ, ◌+◌, codes, List, [], ◌∷◌, ◌++◌, flat_map, Bool, true, false, if◌then◌else◌}
 use Rattle.std.specs.List.{join_by}
 use Rattle.std.specs.Fmt.{decimal}
 use Rattle.hex.specs.Hex.{encode_lower}
 use Rattle.path_header.specs.Spelling.{spelling}
 use Rattle.path_segment.specs.Chain.{Chain}
 use Rattle.path_segment.specs.Tests.{is_same}
-use Rattle.path_verifier.specs.Piece.{PieceValue}
+use Rattle.path_verifier.specs.declared.kind.PieceKind.{PieceKind}
+use Rattle.path_verifier.specs.declared.kind.PieceKind.TheVariants.{Up, Core, Down}
+use Rattle.path_verifier.specs.Piece.{PieceValue, kind_of}
 use Rattle.path_verifier.specs.Walk.{walk_of}
 use Rattle.combinator.specs.Candidate.{PathValue}
 use Rattle.event_lines.specs.Text.{hops_text}
 use Rattle.scion_ffi_paths.specs.declared.fault.RequestFault.{RequestFault}
+use Rattle.scion_ffi_paths.specs.Expiry.{path_expiry}
 use Rattle.scion_ffi_paths.specs.Fault.{code_of, name_of}
 
 -- the place in a list of the first segment that is this one
@@ -31,17 +34,37 @@ piece_text segments piece =
     ++ (codes ",\"segment\":" ++ (decimal (place_of piece.segment segments)
     ++ (codes ",\"to\":" ++ (decimal piece.to ++ codes "}")))))))
 
--- a path: its header in hexadecimal, its pieces in order of travel, and its walk
+-- the letter of a kind of pieces
+abbrev pub letter : PieceKind → List ℕ
+letter Up = codes "U"
+letter Core = codes "C"
+letter Down = codes "D"
+
+-- the letters of the kinds of pieces
+abbrev pub kinds_text : List PieceValue → List ℕ
+kinds_text pieces = flat_map (λ piece. letter (kind_of piece)) pieces
+
+-- a path: the half second at which it expires, its header in hexadecimal, the letters of its
+-- pieces and these themselves in order of travel, and its walk
 unfoldable pub path_text : List Chain → PathValue → List ℕ
 path_text segments path =
-    codes "{\"header\":\"" ++ (encode_lower (spelling path.header)
+    codes "{\"expiry\":" ++ (decimal (path_expiry path.pieces)
+    ++ (codes ",\"header\":\"" ++ (encode_lower (spelling path.header)
+    ++ (codes "\",\"kind\":\"" ++ (kinds_text path.pieces
     ++ (codes "\",\"pieces\":[" ++ (join_by (piece_text segments) (codes ",") path.pieces
-    ++ (codes "],\"walk\":\"" ++ (hops_text (walk_of path.pieces) ++ codes "\"}")))))
+    ++ (codes "],\"walk\":\"" ++ (hops_text (walk_of path.pieces) ++ codes "\"}")))))))))
 
 -- the paths that are answered, best first
 unfoldable pub paths_text : List Chain → List PathValue → List ℕ
 paths_text segments paths =
     codes "{\"paths\":[" ++ (join_by (path_text segments) (codes ",") paths ++ codes "]}")
+
+-- a path that may be sent
+unfoldable pub accepted_text : List PieceValue → List ℕ
+accepted_text pieces =
+    codes "{\"expiry\":" ++ (decimal (path_expiry pieces)
+    ++ (codes ",\"kind\":\"" ++ (kinds_text pieces
+    ++ (codes "\",\"walk\":\"" ++ (hops_text (walk_of pieces) ++ codes "\"}")))))
 
 -- a refusal, by its number and its name
 unfoldable pub fault_text : RequestFault → List ℕ

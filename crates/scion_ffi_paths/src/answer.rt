@@ -5,8 +5,8 @@ ghost use Rattle.refusal.specs.Refusal.{Reads};
 ghost use Rattle.combinator.specs.Fault.{ends_at};
 ghost use Rattle.scion_ffi_paths.specs.Answer.{options_asked, selection_of, stored};
 
-use crate::fault::RequestFault;
-use crate::request::Request;
+use crate::fault::{RequestError, RequestFault};
+use crate::request::{PathsRequest, Request};
 use combinator::CombineFault;
 use event_lines::lend_all;
 use path_segment::Segment;
@@ -22,16 +22,16 @@ const MAX_LIMIT: u32 = 64;
 #[tactic(auto, unfolding(crate::specs::Answer::options_asked))]
 pub(crate) fn options(
     alloc: Global,
-    request: &Request,
-) -> Result<Vec<PolicyOption<Global>>, OrMemory<RequestFault>>
+    request: &PathsRequest,
+) -> Result<Vec<PolicyOption<Global>>, RequestError>
     ensures read { Reads (λ options. options.items) result (options_asked request.now) }
     ensures some { OnOk result (0 < request.now.limit) }
-    ensures ends { OnOk result (ends_at request.now.src request.now.dst ≡ Ok tt) }
+    ensures ends { OnOk result (ends_at request.now.asked.src request.now.asked.dst ≡ Ok tt) }
 {
     if request.limit == 0 || request.limit > MAX_LIMIT {
         return Err(OrMemory::Refused(RequestFault::BadLimit));
     }
-    let texts = lend_all(alloc, &request.options)?;
+    let texts = lend_all(alloc, &request.asked.options)?;
     let options = match PolicyOption::parse_all(alloc, &texts) {
         Ok(options) => options,
         Err(OrMemory::Memory) => return Err(OrMemory::Memory),
@@ -39,7 +39,7 @@ pub(crate) fn options(
             return Err(OrMemory::Refused(RequestFault::Policy(fault)));
         }
     };
-    if request.src == request.dst {
+    if request.asked.src == request.asked.dst {
         return Err(OrMemory::Refused(RequestFault::Ends(CombineFault::SameAs)));
     }
     Ok(options)

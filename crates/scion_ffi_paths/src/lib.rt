@@ -5,13 +5,17 @@
 #![tactic(auto)]
 
 mod answer;
+mod expiry;
 mod fault;
 mod paths;
 mod request;
 mod room;
 mod segment;
+mod stretch;
 mod text;
+mod verdict;
 
 pub use fault::RequestFault;
 pub use paths::scion_paths;
 pub use room::ScionText;
+pub use verdict::scion_verify;

@@ -1,37 +1,33 @@
 //! The segments of a request.
 
-ghost use Rattle.std.specs.Prelude.{◌≡◌, IfOk, option_map};
 ghost use Rattle.serde_json.specs.View.{view, items_view};
-ghost use Rattle.json_fields.specs.Fields.{items_at};
-ghost use Rattle.scion_ffi_paths.specs.Asked.{segment_at};
+ghost use Rattle.refusal.specs.Refusal.{Reads};
+ghost use Rattle.scion_ffi_paths.specs.Asked.{each_item, segment_at};
 
+use crate::fault::{RequestError, RequestFault};
 use path_segment::Segment;
 use refusal::OrMemory;
 use serde_json::Value;
-use std::alloc::{AllocError, Global};
+use std::alloc::Global;
 
-/// The segments of a list, if each is one.
-pub(crate) fn segments(alloc: Global, values: &[Value]) -> Result<Option<Vec<Segment>>, AllocError>
-    ensures { IfOk result (λ o. option_map (λ v. v.items) o
-        ≡ items_at segment_at (items_view values.now)) }
+/// The segments of a list, or why the first that is none is refused.
+pub(crate) fn segments(alloc: Global, values: &[Value]) -> Result<Vec<Segment>, RequestError>
+    ensures { Reads (λ v. v.items) result (each_item segment_at (items_view values.now)) }
 {
     let mut segments = Vec::new(alloc);
     for value in values {
-        let Some(segment) = segment_of(alloc, value)? else {
-            return Ok(None);
-        };
-        segments.push(segment)?;
+        segments.push(segment(alloc, value)?)?;
     }
-    Ok(Some(segments))
+    Ok(segments)
 }
 
-/// The segment of a JSON value, if it is one.
-fn segment_of(alloc: Global, value: &Value) -> Result<Option<Segment>, AllocError>
-    ensures { IfOk result (λ o. o ≡ segment_at (view value.now)) }
+/// The segment of a JSON value, or why it is refused.
+fn segment(alloc: Global, value: &Value) -> Result<Segment, RequestError>
+    ensures { Reads (λ s. s) result (segment_at (view value.now)) }
 {
     match Segment::from_value(alloc, value) {
-        Ok(segment) => Ok(Some(segment)),
-        Err(OrMemory::Refused(_)) => Ok(None),
-        Err(OrMemory::Memory) => Err(AllocError),
+        Ok(segment) => Ok(segment),
+        Err(OrMemory::Memory) => Err(OrMemory::Memory),
+        Err(OrMemory::Refused(fault)) => { Err(OrMemory::Refused(RequestFault::of_segment(fault))) }
     }
 }

@@ -1,18 +1,21 @@
 //! The text of an answer.
 
-ghost use Rattle.std.specs.Prelude.{◌≡◌, ◌++◌, codes, IfOk, OnOk};
+ghost use Rattle.std.specs.Prelude.{◌≡◌, ◌++◌, codes, All, IfOk, OnOk};
 ghost use Rattle.std.specs.List.{join_by};
 ghost use Rattle.std.specs.String.{string_bytes};
 ghost use Rattle.hex.specs.Hex.{encode_lower};
 ghost use Rattle.path_header.specs.Spelling.{spelling};
 ghost use Rattle.event_lines.specs.Text.{hops_text};
-ghost use Rattle.scion_ffi_paths.specs.Text.{fault_text, path_text, paths_text, piece_text, place_of, truth_text};
+ghost use Rattle.path_verifier.specs.Piece.{HasRange};
+ghost use Rattle.scion_ffi_paths.specs.Text.{accepted_text, fault_text, kinds_text, letter, path_text, paths_text, piece_text, place_of, truth_text};
 
+use crate::expiry::{path_expiry, verified_expiry};
 use crate::fault::RequestFault;
 use combinator::{OwnedPiece, Path};
 use event_lines::hops_text;
 use path_header::{Header, encode};
 use path_segment::Segment;
+use path_verifier::{PieceKind, Pieces, VerifiedPath, lend_all};
 use std::alloc::{AllocError, Global};
 
 /// The most bytes that a header has.
@@ -93,17 +96,47 @@ fn header(alloc: Global, header: &Header) -> Result<String, AllocError>
     }
 }
 
+/// The letter of a kind of pieces.
+fn letter(kind: PieceKind) -> &'static str
+    ensures { result.now ≡ letter kind }
+{
+    match kind {
+        PieceKind::Up => "U",
+        PieceKind::Core => "C",
+        PieceKind::Down => "D",
+    }
+}
+
+/// The letters of the kinds of pieces.
+fn kinds(alloc: Global, pieces: &Pieces<'_>) -> Result<String, AllocError>
+    ensures { IfOk result (λ text. string_bytes text ≡ kinds_text pieces.now) }
+{
+    let mut text = String::new(alloc);
+    for place in 0..pieces.len() {
+        let Some(piece) = pieces.get(place) else {
+            unreachable!()
+        };
+        text.push_str(letter(piece.kind()))?;
+    }
+    Ok(text)
+}
+
 /// A path.
 #[tactic(auto, unfolding(crate::specs::Text::path_text))]
 fn path(alloc: Global, segments: &[Segment], path: &Path) -> Result<String, AllocError>
+    requires { All HasRange path.now.pieces }
     ensures { IfOk result (λ text. string_bytes text ≡ path_text segments.now path.now) }
 {
+    let expiry = path_expiry(path.pieces());
     let header = header(alloc, path.header())?;
+    let kinds = kinds(alloc, &lend_all(path.pieces()))?;
     let pieces = pieces(alloc, segments, path.pieces())?;
     let walk = hops_text(alloc, path.walk())?;
     format!(in alloc;
-        "{{\"header\":\"{}\",\"pieces\":[{}],\"walk\":\"{}\"}}",
+        "{{\"expiry\":{},\"header\":\"{}\",\"kind\":\"{}\",\"pieces\":[{}],\"walk\":\"{}\"}}",
+        expiry,
         header.as_str(),
+        kinds.as_str(),
         pieces.as_str(),
         walk.as_str()
     )
@@ -116,6 +149,7 @@ fn push_paths(
     segments: &[Segment],
     paths: &[Path],
 ) -> Result<(), AllocError>
+    requires { All (λ path. All HasRange path.pieces) paths.now }
     ensures { OnOk result (string_bytes text.new ≡ string_bytes text.old
         ++ join_by (path_text segments.now) (codes ",") paths.now) }
 {
@@ -137,12 +171,31 @@ pub(crate) fn paths(
     segments: &[Segment],
     paths: &[Path],
 ) -> Result<String, AllocError>
+    requires { All (λ path. All HasRange path.pieces) paths.now }
     ensures { IfOk result (λ text. string_bytes text ≡ paths_text segments.now paths.now) }
 {
     let mut text = String::from_str(alloc, "{\"paths\":[")?;
     push_paths(alloc, &mut text, segments, paths)?;
     text.push_str("]}")?;
     Ok(text)
+}
+
+/// A path that may be sent.
+#[tactic(auto, unfolding(crate::specs::Text::accepted_text))]
+pub(crate) fn accepted(
+    alloc: Global,
+    path: &VerifiedPath<'_, '_, Global>,
+) -> Result<String, AllocError>
+    ensures { IfOk result (λ text. string_bytes text ≡ accepted_text path.entry.now.pieces) }
+{
+    let kinds = kinds(alloc, path.pieces())?;
+    let walk = hops_text(alloc, path.walk())?;
+    format!(in alloc;
+        "{{\"expiry\":{},\"kind\":\"{}\",\"walk\":\"{}\"}}",
+        verified_expiry(path),
+        kinds.as_str(),
+        walk.as_str()
+    )
 }
 
 /// A refusal.

@@ -1,14 +1,20 @@
-//! `scionet_view`: shows a packet as a router sees it, field by field and check by check.
+//! `scionet_view`: shows a packet as a router sees it, field by field and check by check; a network
+//! as a picture; and the path of a packet in it.
 //!
-//! The words, the packet, the faults and the status are those of `scionet`: 0 when it was shown, 2
-//! when the words are refused or ask for help, and 1 after any other fault, whose text goes to
-//! standard error.
+//! The packet, the lines of a network, the faults and the status are those of `scionet`: 0 when it
+//! was shown, 2 when the words are refused or ask for help, and 1 after any other fault, whose text
+//! goes to standard error.
 #![tactic(auto)]
 
+mod network;
+mod path;
+mod reached;
 mod words;
 
 use commands::{CommandFault, Status, WordsFault, end};
+use network::network_picture;
 use packet_view::packet_lines;
+use path::packet_path;
 use std::alloc::Global;
 use std::env;
 use std::process::ExitCode;
@@ -44,6 +50,14 @@ fn show<'a, S: Source, K: Sink>(
             let mut lines = packet_lines(alloc, &command, &packet)?;
             lines.push_str("\n")?;
             write_all(sink, lines.as_bytes())?;
+        }
+        View::Network { packet } => {
+            let text = network_picture(alloc, source, packet)?;
+            write_all(sink, text.as_bytes())?;
+        }
+        View::Path { packet } => {
+            let text = packet_path(alloc, source, packet)?;
+            write_all(sink, text.as_bytes())?;
         }
     }
     Ok(())

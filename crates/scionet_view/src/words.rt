@@ -5,7 +5,7 @@ use clap::error::ErrorKind;
 use clap::{Arg, ArgAction, ArgMatches, Command, Error};
 use commands::WordsFault;
 use std::alloc::{AllocError, Global};
-use step_line::{StepArgs, StepCommand};
+use step_line::{StepArgs, StepCommand, number};
 
 /// What `--version` prints behind the program's name: its version, and the toolchain that proved
 /// it.
@@ -22,11 +22,57 @@ Example: at second 100, a packet of a host leaves 1-ff00:0:111 over interface 2,
 110e4c1d3dad003f00000001a1a2a3a4a5a6 |
   scionet_view packet --ia 1-ff00:0:111 --router 0 --key 6b --now 100 --from host 2,parent,0,up";
 
+/// What stands at the end of the long help of `network`.
+static NETWORK_HELP: &str = "\
+Standard input has the lines of 'scionet run'. The picture is that of the network after the last of \
+them, in the language DOT: 'dot -Tsvg' of graphviz draws it. With --packet the links that this \
+packet has passed are red, and so is the router at which it is or which refused it; 'no 130 \
+NoPacket' is printed where there is no such packet.
+
+Example: a network of one AS
+  printf '%s\\n' \\
+    '{\"ases\":[{\"ia\":\"1-ff00:0:110\",\"core\":true,\"exp\":63,\"key\":\"6b\",\"routers\":1}],\
+\"links\":[]}' | scionet_view network | dot -Tsvg > network.svg";
+
+/// What stands at the end of the long help of `path`.
+static PATH_HELP: &str = "\
+Standard input has the lines of 'scionet run'. Of the packet, as it is after the last of them, each \
+piece of its path is on a line, 'piece N up|core|down from IA to IA'; then its walk, hop by hop, each \
+as 'IA#IN,OUT'; the last second at which all of its hops are live; and its fields as 'packet' \
+prints them. 'no 130 NoPacket' is printed where there is no such packet.
+
+Example: a packet from an AS to its parent
+  printf '%s\\n' \\
+    '{\"ases\":[{\"ia\":\"1-ff00:0:110\",\"core\":true,\"exp\":63,\"key\":\"6b\",\"routers\":1},\
+{\"ia\":\"1-ff00:0:111\",\"core\":false,\"exp\":63,\"key\":\"6c\",\"routers\":1}],\
+\"links\":[{\"kind\":\"child\",\"a\":{\"ia\":\"1-ff00:0:110\",\"if\":1,\"router\":0},\
+\"b\":{\"ia\":\"1-ff00:0:111\",\"if\":2,\"router\":0}}]}' \\
+    '{\"do\":\"tick\",\"now\":1000}' \\
+    '{\"do\":\"originate\",\"ia\":\"1-ff00:0:110\",\"egress\":1,\"beta0\":4660}' \\
+    '{\"do\":\"terminate\",\"beacon\":0,\"ia\":\"1-ff00:0:111\"}' \\
+    '{\"do\":\"ask\",\"src\":\"1-ff00:0:111\",\"dst\":\"1-ff00:0:110\",\"limit\":1}' \\
+    '{\"do\":\"send\",\"ask\":0,\"path\":0,\"payload\":\"6869\"}' |
+  scionet_view path --packet 0
+which begins with
+  piece 0 up from 1-ff00:0:111 to 1-ff00:0:110
+  walk 1-ff00:0:111#0,2 1-ff00:0:110#1,0
+  live up to second 22600";
+
 /// What the words of the command line ask to see.
 #[derive(Drop)]
 pub(crate) enum View {
     /// `packet`: the packet on standard input, at the router whose turn this is.
     Packet(StepCommand),
+    /// `network`: the network that the lines on standard input lead to.
+    Network {
+        /// The number of the packet that is marked, if one is.
+        packet: Option<u32>,
+    },
+    /// `path`: the path of a packet of that network.
+    Path {
+        /// The number of the packet.
+        packet: u32,
+    },
 }
 
 /// An option that has a value.
@@ -37,11 +83,15 @@ fn option<'a>(alloc: Global, name: &'a str, value: &'a str, help: &'a str) -> Ar
         .help(help)
 }
 
-/// An option whose value is a number from 0 to `most`, and must be given.
-fn number<'a>(alloc: Global, most: u32, name: &'a str, value: &'a str, help: &'a str) -> Arg<'a> {
-    option(alloc, name, value, help)
-        .required(true)
-        .value_parser(ValueParser::Signed(0, i64::from(most)))
+/// An option whose value is a number from 0 to `most`.
+fn number_option<'a>(
+    alloc: Global,
+    most: u32,
+    name: &'a str,
+    value: &'a str,
+    help: &'a str,
+) -> Arg<'a> {
+    option(alloc, name, value, help).value_parser(ValueParser::Signed(0, i64::from(most)))
 }
 
 /// The interfaces of the AS.
@@ -60,7 +110,7 @@ fn packet_command<'a>(alloc: Global) -> Result<Command<'a>, AllocError> {
         "IA",
         "The address of the router's AS, as 1-ff00:0:111",
     );
-    let router = number(
+    let router = number_option(
         alloc,
         63,
         "router",
@@ -79,7 +129,7 @@ fn packet_command<'a>(alloc: Global) -> Result<Command<'a>, AllocError> {
         "HEX",
         "The AS's key before that one, which it accepts too",
     );
-    let now = number(
+    let now = number_option(
         alloc,
         u32::MAX,
         "now",
@@ -96,12 +146,42 @@ fn packet_command<'a>(alloc: Global) -> Result<Command<'a>, AllocError> {
         .about("Shows a packet field by field, and what a router checks of it")
         .after_long_help(PACKET_HELP)
         .arg(ia.required(true))?
-        .arg(router)?
+        .arg(router.required(true))?
         .arg(key.required(true))?
         .arg(previous)?
-        .arg(now)?
+        .arg(now.required(true))?
         .arg(from.required(true))?
         .arg(interface_argument(alloc))
+}
+
+/// The command `network`.
+fn network_command<'a>(alloc: Global) -> Result<Command<'a>, AllocError> {
+    let packet = number_option(
+        alloc,
+        u32::MAX,
+        "packet",
+        "N",
+        "The number of a packet, from 0, whose way so far is marked",
+    );
+    Command::new(alloc, "network")
+        .about("Draws the network that the lines on standard input lead to")
+        .after_long_help(NETWORK_HELP)
+        .arg(packet)
+}
+
+/// The command `path`.
+fn path_command<'a>(alloc: Global) -> Result<Command<'a>, AllocError> {
+    let packet = number_option(
+        alloc,
+        u32::MAX,
+        "packet",
+        "N",
+        "The number of the packet, from 0",
+    );
+    Command::new(alloc, "path")
+        .about("Shows the path of a packet of that network, and the packet field by field")
+        .after_long_help(PATH_HELP)
+        .arg(packet.required(true))
 }
 
 /// The whole command line.
@@ -111,7 +191,9 @@ fn program<'a>(alloc: Global) -> Result<Command<'a>, AllocError> {
         .no_binary_name(true)
         .version(VERSION)
         .about("Shows what a SCION network does")
-        .subcommand(packet_command(alloc)?)
+        .subcommand(packet_command(alloc)?)?
+        .subcommand(network_command(alloc)?)?
+        .subcommand(path_command(alloc)?)
 }
 
 /// The fault of words that `clap` accepts and that ask for nothing.
@@ -152,22 +234,56 @@ fn turn(alloc: Global, matches: &ArgMatches<'_>) -> Result<Option<StepCommand>, 
     StepCommand::from_texts(alloc, texts)
 }
 
+/// The number of a packet that a text writes.
+fn packet_number(text: &str) -> Option<u32> {
+    let number = number(text, 0, u64::from(u32::MAX))?;
+    Some(number as u32)
+}
+
+/// What the matches of `network` ask to see, where their number can be read.
+fn network(matches: &ArgMatches<'_>) -> Option<View> {
+    let packet = match matches.get_str("packet") {
+        Some(text) => Some(packet_number(text)?),
+        None => None,
+    };
+    Some(View::Network { packet })
+}
+
+/// What the matches of `path` ask to see, where their number can be read.
+fn path(matches: &ArgMatches<'_>) -> Option<View> {
+    let packet = packet_number(matches.get_str("packet")?)?;
+    Some(View::Path { packet })
+}
+
+/// What the matches ask to see, where they ask for anything.
+fn view_asked(alloc: Global, matches: &ArgMatches<'_>) -> Result<Option<View>, AllocError> {
+    let Some((name, given)) = matches.subcommand() else {
+        return Ok(None);
+    };
+    if name == "network" {
+        return Ok(network(given));
+    }
+    if name == "path" {
+        return Ok(path(given));
+    }
+    match turn(alloc, given)? {
+        Some(command) => Ok(Some(View::Packet(command))),
+        None => Ok(None),
+    }
+}
+
 /// What the words behind the program's name ask to see.
 ///
 /// [`WordsFault::Usage`] if `clap` refuses them or they ask for help, with its text, and where
-/// they describe no turn, with the text `scionet_view: usage`; [`WordsFault::Memory`] for want of
-/// memory.
+/// they describe no turn or a number can't be read, with the text `scionet_view: usage`;
+/// [`WordsFault::Memory`] if memory runs out.
 pub(crate) fn asked<'a>(alloc: Global, words: &'a [&'a str]) -> Result<View, WordsFault> {
     let matches = match program(alloc)?.try_get_matches_from(words) {
         Ok(matches) => matches,
         Err(error) => return Err(explained(alloc, &error)?),
     };
-    let command = match matches.subcommand() {
-        Some((_, given)) => turn(alloc, given)?,
-        None => None,
-    };
-    match command {
-        Some(command) => Ok(View::Packet(command)),
+    match view_asked(alloc, &matches)? {
+        Some(view) => Ok(view),
         None => Err(usage(alloc)?),
     }
 }

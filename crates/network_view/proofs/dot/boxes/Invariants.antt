@@ -6,4 +6,4 @@ use Rattle.network_view.specs.Dot.{as_text}
 use Rattle.network_view.proofs.dot.boxes.Given as goal
 
 abbrev pub invariant-loop-one : goal.invariant-loop-one
-invariant-loop-one l = string_bytes l.text ≡ flat_map as_text (take l.one-index l.ases)
+invariant-loop-one l = string_bytes l.text ≡ flat_map (as_text l.at) (take l.one-index l.ases)

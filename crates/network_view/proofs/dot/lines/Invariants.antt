@@ -6,4 +6,4 @@ use Rattle.network_view.specs.Dot.{link_text}
 use Rattle.network_view.proofs.dot.lines.Given as goal
 
 abbrev pub invariant-loop-link : goal.invariant-loop-link
-invariant-loop-link l = string_bytes l.text ≡ flat_map link_text (take l.link-index l.links)
+invariant-loop-link l = string_bytes l.text ≡ flat_map (link_text l.passed) (take l.link-index l.links)

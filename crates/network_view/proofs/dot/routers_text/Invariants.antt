@@ -5,4 +5,4 @@ use Rattle.network_view.specs.Dot.{routers_text}
 use Rattle.network_view.proofs.dot.routers_text.Given as goal
 
 abbrev pub invariant-loop-router : goal.invariant-loop-router
-invariant-loop-router l = string_bytes l.text ≡ routers_text l.ia l.router
+invariant-loop-router l = string_bytes l.text ≡ routers_text l.at l.ia l.router

@@ -1,0 +1,50 @@
+-- What a request to verify a path gives, and what is asked of the verifier then.
+use Rattle.std.specs.Prelude.{ℕ, codes, List, [], ◌∷◌, length, nat_le, Result, Ok, Err}
+use Rattle.refusal.specs.Refusal.{◌>>=◌, check, refused_as}
+use Rattle.json_fields.specs.Fields.{document_in, list_at, items_at}
+use Rattle.path_header.specs.Reading.{read_at}
+use Rattle.policy_expr.specs.declared.option_fault.OptionFault.TheVariants.{Unread}
+use Rattle.policy_expr.specs.Options.{OptionTexts}
+use Rattle.policy_expr.specs.Policy.{Rules, policy_at}
+use Rattle.path_verifier.specs.declared.fault.VerifyFault.TheVariants.{PieceCount}
+use Rattle.path_verifier.specs.Piece.{PieceValue}
+use Rattle.path_verifier.specs.Accepted.{Request, request_of}
+use Rattle.event_lines.specs.Line.{bytes_at}
+use Rattle.scion_ffi_paths.specs.declared.fault.RequestFault.{RequestFault}
+use Rattle.scion_ffi_paths.specs.declared.fault.RequestFault.TheVariants.{BadRequest, Policy, Header, Path}
+use Rattle.scion_ffi_paths.specs.Asked.{Asked, asked_at, formed}
+use Rattle.scion_ffi_paths.specs.Stretch.{piece_at}
+
+-- beside what every request says: the pieces in order of travel, and bytes with the header in front
+pub record Given : Type 0 where
+  pub asked : Asked
+  pub pieces : List PieceValue
+  pub header : List ℕ
+
+abbrev pub given_of : Asked → List PieceValue → List ℕ → Given
+given_of asked pieces header = record { asked = asked; pieces = pieces; header = header }
+
+-- what the bytes of a request give
+unfoldable pub given_in : List ℕ → Result Given RequestFault
+given_in bytes = do
+  d ← formed (document_in bytes)
+  asked ← asked_at d
+  items ← formed (list_at (codes "pieces") d)
+  pieces ← formed (items_at (piece_at asked.segments) items)
+  header ← formed (bytes_at (codes "header") d)
+  Ok (given_of asked pieces header)
+
+-- the policy: of options there is one, and its weight plays no part
+abbrev pub policy_asked : List OptionTexts → Result Rules RequestFault
+policy_asked [] = Err BadRequest
+policy_asked (texts ∷ []) =
+    refused_as (λ fault. Policy (Unread fault)) (policy_at texts.acl texts.sequence)
+policy_asked (texts ∷ other ∷ later) = Err BadRequest
+
+-- what is asked of the verifier, or the first cause why nothing is: it takes at most three pieces
+unfoldable pub request_at : Given → Result Request RequestFault
+request_at given = do
+  rules ← policy_asked given.asked.options
+  read ← refused_as Header (read_at given.header)
+  few ← check (nat_le (length given.pieces) 3) (Path PieceCount)
+  Ok (request_of given.pieces read.0 given.asked.src given.asked.dst given.asked.moment rules)

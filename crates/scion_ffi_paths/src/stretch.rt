@@ -1,0 +1,70 @@
+//! The pieces of a request to verify a path.
+
+ghost use Rattle.std.specs.Prelude.{◌≡◌, ◌≤◌, length, option_map, IfErr, IfOk, IsOk};
+ghost use Rattle.serde_json.specs.View.{view, items_view};
+ghost use Rattle.json_fields.specs.Fields.{items_at};
+ghost use Rattle.path_verifier.specs.declared.fault.VerifyFault.TheVariants.{PieceCount};
+ghost use Rattle.scion_ffi_paths.specs.Stretch.{piece_at};
+
+use event_lines::fields::long;
+use json_fields::truth;
+use path_segment::Segment;
+use path_verifier::{Piece, Pieces, VerifyFault};
+use serde_json::Value;
+use std::alloc::{AllocError, Global};
+
+/// A piece of one of these segments, if the value is one.
+#[tactic(auto, unfolding(crate::specs::Stretch::piece_at))]
+fn piece<'s>(segments: &'s [Segment], value: &Value) -> Option<Piece<'s>>
+    ensures { result ≡ piece_at segments.now (view value.now) }
+{
+    let place = long(value, "segment")?;
+    let segment = segments.get(place as usize)?;
+    let from = long(value, "from")? as usize;
+    let to = long(value, "to")? as usize;
+    let along = truth(value, "along")?;
+    Some(Piece {
+        segment,
+        from,
+        to,
+        along,
+    })
+}
+
+/// The pieces of a list, if each is one.
+pub(crate) fn pieces<'s>(
+    alloc: Global,
+    segments: &'s [Segment],
+    values: &[Value],
+) -> Result<Option<Vec<Piece<'s>>>, AllocError>
+    ensures { IfOk result (λ o. option_map (λ v. v.items) o
+        ≡ items_at (piece_at segments.now) (items_view values.now)) }
+{
+    let mut pieces = Vec::new(alloc);
+    for value in values {
+        let Some(piece) = piece(segments, value) else {
+            return Ok(None);
+        };
+        pieces.push(piece)?;
+    }
+    Ok(Some(pieces))
+}
+
+/// The pieces of a path, unless there are more than three.
+pub(crate) fn joined<'s>(list: &[Piece<'s>]) -> Result<Pieces<'s>, VerifyFault>
+    ensures value { IfOk result (λ pieces. pieces ≡ list.now) }
+    ensures few { IsOk result → length list.now ≤ 3 }
+    ensures only { length list.now ≤ 3 → IsOk result }
+    ensures fault { IfErr result (λ fault. fault ≡ PieceCount) }
+{
+    let mut pieces = Pieces::new();
+    for piece in list {
+        pieces.push(Piece {
+            segment: piece.segment,
+            from: piece.from,
+            to: piece.to,
+            along: piece.along,
+        })?;
+    }
+    Ok(pieces)
+}

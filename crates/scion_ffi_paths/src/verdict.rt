@@ -1,0 +1,123 @@
+//! Requests to verify a path.
+
+ghost use Rattle.std.specs.Prelude.{◌≡◌, IfOk, option_map};
+ghost use Rattle.std.specs.String.{string_bytes};
+ghost use Rattle.serde_json.specs.View.{view};
+ghost use Rattle.refusal.specs.Refusal.{Gives, Reads};
+ghost use Rattle.event_lines.specs.Line.{bytes_at};
+ghost use Rattle.path_header.specs.Reading.{read_at};
+ghost use Rattle.scion_ffi_paths.specs.Given.{given_of, policy_asked, request_at};
+ghost use Rattle.scion_ffi_paths.specs.Room.{IsAnswered};
+ghost use Rattle.scion_ffi_paths.specs.Told.{Tells};
+ghost use Rattle.scion_ffi_paths.specs.Verdict.{AnswersVerdict, AnswersVerify};
+
+use crate::fault::{RequestError, RequestFault};
+use crate::request::Request;
+use crate::room::{ScionText, put};
+use crate::stretch::{joined, pieces};
+use crate::text;
+use event_lines::{OwnedOptionText, lend_all};
+use hex::FromHexError;
+use json_fields::{document, list, text as text_at};
+use path_header::{Header, decode};
+use path_verifier::{Piece, VerifyFault, verify};
+use policy_expr::{OptionFault, Policy};
+use refusal::OrMemory;
+use serde_json::Value;
+use std::alloc::{AllocError, Global};
+
+/// The bytes that a member has in hexadecimal.
+#[tactic(auto, unfolding(event_lines::specs::Line::bytes_at))]
+fn bytes(alloc: Global, value: &Value, name: &str) -> Result<Option<Vec<u8>>, AllocError>
+    ensures { IfOk result (λ o. option_map (λ v. v.items) o ≡ bytes_at name.now (view value.now)) }
+{
+    let Some(text) = text_at(value, name) else {
+        return Ok(None);
+    };
+    match hex::decode(alloc, text.as_bytes()) {
+        Ok(bytes) => Ok(Some(bytes)),
+        Err(FromHexError::OutOfMemory) => Err(AllocError),
+        Err(_) => Ok(None),
+    }
+}
+
+/// The policy of the one option.
+fn policy(alloc: Global, options: &[OwnedOptionText]) -> Result<Policy<Global>, RequestError>
+    ensures { Reads (λ p. p) result (policy_asked options.now) }
+{
+    let texts = lend_all(alloc, options)?;
+    let [text] = texts.as_slice() else {
+        return Err(OrMemory::Refused(RequestFault::BadRequest));
+    };
+    match Policy::parse(alloc, &text.text) {
+        Ok(policy) => Ok(policy),
+        Err(OrMemory::Memory) => Err(OrMemory::Memory),
+        Err(OrMemory::Refused(fault)) => Err(OrMemory::Refused(RequestFault::Policy(
+            OptionFault::Unread(fault),
+        ))),
+    }
+}
+
+/// What is answered on a path of these pieces, whose header stands at the front of the bytes.
+#[tactic(auto, unfolding(crate::specs::Given::request_at))]
+fn judged(
+    alloc: Global,
+    request: &Request,
+    list: &[Piece<'_>],
+    bytes: &[u8],
+) -> Result<String, RequestError>
+    ensures { Tells
+        (AnswersVerdict (request_at (given_of request.now list.now bytes.now))) result }
+{
+    let policy = policy(alloc, &request.options)?;
+    let header = match decode(bytes) {
+        Ok((header, _)) => header,
+        Err(fault) => return Err(OrMemory::Refused(RequestFault::Header(fault))),
+    };
+    let pieces = match joined(list) {
+        Ok(pieces) => pieces,
+        Err(fault) => return Err(OrMemory::Refused(RequestFault::Path(fault))),
+    };
+    let (src, dst, now) = (request.src, request.dst, request.moment);
+    match verify(&pieces, &header, src, dst, now, &policy) {
+        Ok(path) => Ok(text::accepted(alloc, &path)?),
+        Err(fault) => Err(OrMemory::Refused(RequestFault::Path(fault))),
+    }
+}
+
+/// What the bytes of a request are answered.
+#[tactic(auto, unfolding(crate::specs::Given::given_in))]
+fn verdict(alloc: Global, bytes: &[u8]) -> Result<String, RequestError>
+    ensures { Tells (AnswersVerify bytes.now) result }
+{
+    let value = document(alloc, bytes)?.ok_or(RequestFault::BadRequest)?;
+    let request = Request::of(alloc, &value)?;
+    let values = list(&value, "pieces").ok_or(RequestFault::BadRequest)?;
+    let pieces = pieces(alloc, &request.segments, values)?.ok_or(RequestFault::BadRequest)?;
+    let header = self::bytes(alloc, &value, "header")?.ok_or(RequestFault::BadRequest)?;
+    judged(alloc, &request, &pieces, &header)
+}
+
+/// The text that a request is answered, which may be a refusal.
+fn text_of(alloc: Global, bytes: &[u8]) -> Result<String, AllocError>
+    ensures { IfOk result (λ text. AnswersVerify bytes.now (string_bytes text)) }
+{
+    match verdict(alloc, bytes) {
+        Ok(text) => Ok(text),
+        Err(OrMemory::Refused(fault)) => text::refusal(alloc, fault),
+        Err(OrMemory::Memory) => Err(AllocError),
+    }
+}
+
+/// Writes into the room whether a path may be sent: when it expires, its kind and its walk; or the
+/// first cause why not, by a number and a name.
+///
+/// A request is an object of JSON with the members of a request for paths but its limit, and beside
+/// them `pieces` and `header`. The verdict is that of [`path_verifier::verify`] at `now`.
+#[unsafe(no_mangle)]
+pub extern "C" fn scion_verify(alloc: Global, request: &[u8], room: &mut [u8]) -> ScionText
+    ensures { IsAnswered (AnswersVerify request.now) room.old room.new result }
+{
+    let text = text_of(alloc, request).ok();
+    put(&text, room)
+}

@@ -1,0 +1,44 @@
+-- A path that was accepted at some second is accepted at second 0 too: a hop has no earliest moment.
+use Rattle.std.proofs.Common.{◌≡◌, ℕ, arith, ◌∙◌, ap, sym, subst, List}
+use Rattle.path_header.specs.Value.{HeaderValue}
+use Rattle.policy_expr.specs.Policy.{Rules}
+use Rattle.path_verifier.specs.Piece.{PieceValue}
+use Rattle.path_verifier.specs.Accepted.{IsAccepted, AreLive, request_of}
+use Rattle.network_core.specs.Value.{Way, asked_at}
+
+live_at_once : (pieces : List PieceValue) → AreLive 0 pieces
+live_at_once pieces = λ k piece within. λ j entry inside. omega arith
+
+accepted_at : (way : Way) (moment : ℕ) → IsAccepted (asked_at moment way) → IsAccepted (asked_at 0 way)
+accepted_at way moment accepted = record {
+  path = record {
+    some = accepted.path.some;
+    ranges = accepted.path.ranges;
+    kinds = accepted.path.kinds;
+    cuts = accepted.path.cuts;
+    meet = accepted.path.meet;
+    source = accepted.path.source;
+    destination = accepted.path.destination;
+    few = accepted.path.few;
+    once = accepted.path.once;
+    live = live_at_once way.pieces;
+  };
+  header = accepted.header;
+  hops = accepted.hops;
+  word = accepted.word;
+}
+
+accepted_at_once : (way : Way) → (moment : ℕ) × IsAccepted (asked_at moment way) → IsAccepted (asked_at 0 way)
+accepted_at_once way accepted = accepted_at way accepted.0 accepted.1
+
+-- the same for a request of equal parts
+pub request_accepted : (way : Way) (pieces : List PieceValue) (header : HeaderValue) (src dst : ℕ) (given : Rules)
+    → pieces ≡ way.pieces → header ≡ way.header → src ≡ way.source → dst ≡ way.destination → given ≡ way.rules
+    → (moment : ℕ) × IsAccepted (asked_at moment way) → IsAccepted (request_of pieces header src dst 0 given)
+request_accepted way pieces header src dst given same_pieces same_header same_src same_dst same_rules accepted =
+    let same = ap (λ (p : List PieceValue). request_of p header src dst 0 given) same_pieces
+    ∙ ap (λ (h : HeaderValue). request_of way.pieces h src dst 0 given) same_header
+    ∙ ap (λ (s : ℕ). request_of way.pieces way.header s dst 0 given) same_src
+    ∙ ap (λ (d : ℕ). request_of way.pieces way.header way.source d 0 given) same_dst
+    ∙ ap (λ (r : Rules). request_of way.pieces way.header way.source way.destination 0 r) same_rules in
+    subst IsAccepted (sym same) (accepted_at_once way accepted)

@@ -1,0 +1,40 @@
+-- What `scionet_view path` prints: the path of a packet, and the packet's fields.
+use Rattle.std.specs.Prelude.{ℕ, ◌/◌, codes, List, [], ◌++◌, length, Option, Some, None, slice_get}
+use Rattle.std.specs.Fmt.{decimal}
+use Rattle.isd_as.specs.Address.{canonical}
+use Rattle.path_verifier.specs.declared.kind.PieceKind.{PieceKind}
+use Rattle.path_verifier.specs.declared.kind.PieceKind.TheVariants.{Up, Core, Down}
+use Rattle.path_verifier.specs.Piece.{PieceValue, kind_of, begins_in, ends_in}
+use Rattle.path_verifier.specs.Walk.{walk_of}
+use Rattle.event_lines.specs.Text.{hops_text}
+use Rattle.packet_view.specs.Fields.{each_below, fields_text}
+
+-- what a piece is
+unfoldable pub kind_text : PieceKind → List ℕ
+kind_text Up = codes "up"
+kind_text Core = codes "core"
+kind_text Down = codes "down"
+
+-- a piece of this number: its kind, and the ASes in which it begins and ends
+unfoldable pub piece_text : ℕ → PieceValue → List ℕ
+piece_text number piece =
+    codes "piece " ++ (decimal number ++ (codes " " ++ (kind_text (kind_of piece)
+    ++ (codes " from " ++ (canonical (begins_in piece) ++ (codes " to "
+    ++ (canonical (ends_in piece) ++ codes "\n")))))))
+
+-- the same, if there is one
+abbrev pub piece_line : ℕ → Option PieceValue → List ℕ
+piece_line number None = []
+piece_line number (Some piece) = piece_text number piece
+
+-- the pieces below this number
+unfoldable pub pieces_text : List PieceValue → ℕ → List ℕ
+pieces_text pieces count = each_below (λ number. piece_line number (slice_get pieces number)) count
+
+-- pieces, their walk, and the last second at which all hops are live, the first of which expires at
+-- this half second; and then the fields of a packet
+unfoldable pub path_text : List PieceValue → ℕ → List ℕ → List ℕ
+path_text pieces least packet =
+    pieces_text pieces (length pieces) ++ (codes "walk " ++ (hops_text (walk_of pieces)
+    ++ (codes "\nlive up to second " ++ (decimal (least / 2) ++ (codes "\n"
+    ++ fields_text packet)))))

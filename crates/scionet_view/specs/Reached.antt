@@ -1,0 +1,17 @@
+-- What is shown of the network that the lines of a source lead to.
+use Rattle.std.specs.Prelude.{◌⊎◌, ◌≡◌, ℕ, List, Option, None, Result, Ok, Err, String}
+use Rattle.std.specs.String.{string_bytes}
+use Rattle.network_core.specs.Value.{NetValue}
+use Rattle.event_lines.specs.declared.fault.RunFault.{RunFault}
+use Rattle.event_lines.specs.declared.fault.RunFault.TheVariants.{Memory}
+use Rattle.event_lines.specs.declared.accepted.AcceptedLines.TheVariants.{All}
+use Rattle.event_lines.specs.Run.{Listens}
+
+-- the text tells so of the network to which the lines lead of a source that had these bytes left
+-- before and has those after; or the lines led to none; or memory ran out
+abbrev pub Shows : {A : Type 0} → (NetValue → List ℕ → Type 0) → Result (String A) RunFault
+    → Option (List ℕ) → Option (List ℕ) → Type 0
+Shows tells (Ok text) before after = (net : NetValue)
+    × (Listens All (Ok net) before after None None × tells net (string_bytes text))
+Shows tells (Err fault) before after =
+    Listens All (Err fault) before after None None ⊎ (fault ≡ Memory)

@@ -1,0 +1,86 @@
+//! The network that lines lead to, as a picture.
+
+ghost use Rattle.std.specs.Prelude.{◌≡◌, ◌||◌, IfOk, option_map};
+ghost use Rattle.std.specs.String.{string_bytes};
+ghost use Rattle.event_lines.specs.Run.{is_read_fault};
+ghost use Rattle.scionet_view.specs.Reached.{Shows};
+ghost use Rattle.scionet_view.specs.Network.{marked, no_packet, picture_of, router_at};
+
+use crate::reached::reached;
+use event_lines::RunFault;
+use forwarding::PacketLocation;
+use network_core::{Net, Packet};
+use network_view::{Router, network_dot};
+use scion_topology::Topology;
+use std::alloc::{AllocError, Global};
+use streams::Source;
+
+/// That there is no packet of a number, as lines are told of it.
+pub(crate) fn no_packet(alloc: Global) -> Result<String, AllocError>
+    ensures { IfOk result (λ text. string_bytes text ≡ no_packet) }
+{
+    String::from_str(alloc, "no 130 NoPacket\n")
+}
+
+/// The router at which a packet is, or which refused it.
+fn router_at(place: &PacketLocation) -> Option<Router>
+    ensures { result ≡ router_at place.now }
+{
+    match *place {
+        PacketLocation::AtRouter(stop) => Some(Router {
+            ia: stop.ia,
+            number: stop.router,
+        }),
+        PacketLocation::Refused(ia, number, _) => Some(Router { ia, number }),
+        PacketLocation::Delivered | PacketLocation::Lost => None,
+    }
+}
+
+/// The picture of a network with this packet marked, or that it is not there.
+fn marked(alloc: Global, topology: &Topology, packet: Option<&Packet>) -> Result<String, AllocError>
+    ensures { IfOk result (λ text. string_bytes text
+        ≡ marked topology.now (option_map (λ p. p.now) packet.entry)) }
+{
+    match packet {
+        None => no_packet(alloc),
+        Some(packet) => {
+            let at = router_at(&packet.place());
+            network_dot(
+                alloc,
+                topology.ases(),
+                topology.links(),
+                packet.passed(),
+                at,
+            )
+        }
+    }
+}
+
+/// The picture of a network, with the packet of this number marked where one is asked for.
+fn picture(alloc: Global, net: &Net, number: Option<u32>) -> Result<String, AllocError>
+    ensures { IfOk result (λ text. string_bytes text ≡ picture_of net.now number) }
+{
+    let topology = net.topology();
+    match number {
+        None => network_dot(alloc, topology.ases(), topology.links(), &[], None),
+        Some(number) => marked(alloc, topology, net.packet(number as usize)),
+    }
+}
+
+/// The picture of the network that the lines of a source lead to, with the packet of this number
+/// marked where one is asked for; the line `no 130 NoPacket` if there is no such packet.
+///
+/// The faults are those of [`listen`](event_lines::listen), of which [`RunFault::Write`] does not
+/// come; [`RunFault::Memory`] also if memory runs out for the picture.
+pub(crate) fn network_picture<S: Source>(
+    alloc: Global,
+    source: &mut S,
+    number: Option<u32>,
+) -> Result<String, RunFault>
+    ensures shows { Shows (λ net text. text ≡ picture_of net number) result
+        (S.left source.old) (S.left source.new) }
+    ensures flag { S.failed source.new ≡ (S.failed source.old || is_read_fault result) }
+{
+    let net = reached(alloc, source)?;
+    Ok(picture(alloc, &net, number)?)
+}

@@ -1,0 +1,139 @@
+//! The path of a packet of the network that lines lead to, as text.
+
+ghost use Rattle.std.specs.Prelude.{◌≡◌, ◌||◌, IfOk, IfSome, length, option_map};
+ghost use Rattle.std.specs.String.{string_bytes};
+ghost use Rattle.path_verifier.specs.Piece.{HasRange};
+ghost use Rattle.network_core.specs.Value.{asked_at};
+ghost use Rattle.event_lines.specs.Run.{is_read_fault};
+ghost use Rattle.scionet_view.specs.Path.{kind_text, path_text, piece_line, piece_text, pieces_text};
+
+use crate::network::no_packet;
+use crate::reached::reached;
+use event_lines::{RunFault, hops_text};
+use network_core::{Packet, Sent};
+use packet_view::fields_text;
+use path_verifier::{Piece, PieceKind, VerifiedPath, lend_all, verify};
+use std::alloc::{AllocError, Global};
+use streams::Source;
+
+/// What a piece is.
+#[tactic(auto, unfolding(crate::specs::Path::kind_text))]
+fn kind_text(kind: PieceKind) -> &'static str
+    ensures { result.now ≡ kind_text kind }
+{
+    match kind {
+        PieceKind::Up => "up",
+        PieceKind::Core => "core",
+        PieceKind::Down => "down",
+    }
+}
+
+/// A piece of this number: its kind, and the ASes in which it begins and ends.
+#[tactic(auto, unfolding(crate::specs::Path::piece_text))]
+fn piece_text(alloc: Global, number: usize, piece: &Piece<'_>) -> Result<String, AllocError>
+    requires { HasRange piece.now }
+    ensures { IfOk result (λ text. string_bytes text ≡ piece_text number piece.now) }
+{
+    let kind = kind_text(piece.kind());
+    let from = piece.begins_in();
+    let to = piece.ends_in();
+    format!(in alloc; "piece {number} {kind} from {from} to {to}\n")
+}
+
+/// The same, if there is one.
+fn piece_line(alloc: Global, number: usize, piece: Option<&Piece<'_>>) -> Result<String, AllocError>
+    requires { IfSome (option_map (λ p. p.now) piece) HasRange }
+    ensures { IfOk result (λ text. string_bytes text
+        ≡ piece_line number (option_map (λ p. p.now) piece.entry)) }
+{
+    match piece {
+        Some(piece) => piece_text(alloc, number, piece),
+        None => Ok(String::new(alloc)),
+    }
+}
+
+/// The pieces of a path.
+#[tactic(auto, unfolding(crate::specs::Path::pieces_text, packet_view::specs::Fields::each_below))]
+fn pieces_text(alloc: Global, path: &VerifiedPath<'_, '_, Global>) -> Result<String, AllocError>
+    ensures { IfOk result (λ text. string_bytes text
+        ≡ pieces_text path.entry.now.pieces (length path.entry.now.pieces)) }
+{
+    path.known();
+    let pieces = path.pieces();
+    let mut text = String::new(alloc);
+    for number in 0..pieces.len() {
+        text.push_str(piece_line(alloc, number, pieces.get(number))?.as_str())?;
+    }
+    Ok(text)
+}
+
+/// The pieces of a path, its walk, and the last second at which all of its hops are live, the first
+/// of which expires at this half second; and then the fields of a packet of these bytes.
+#[tactic(auto, unfolding(crate::specs::Path::path_text))]
+fn path_text(
+    alloc: Global,
+    path: &VerifiedPath<'_, '_, Global>,
+    least: u64,
+    packet: &[u8],
+) -> Result<String, AllocError>
+    ensures { IfOk result (λ text. string_bytes text
+        ≡ path_text path.entry.now.pieces least packet.now) }
+{
+    let pieces = pieces_text(alloc, path)?;
+    let walk = hops_text(alloc, path.walk())?;
+    let last = least / 2;
+    let fields = fields_text(alloc, packet)?;
+    format!(in alloc;
+        "{}walk {}\nlive up to second {last}\n{}",
+        pieces.as_str(),
+        walk.as_str(),
+        fields.as_str()
+    )
+}
+
+/// The path on which something was sent.
+fn path_of(sent: &Sent) -> VerifiedPath<'_, '_, Global>
+    ensures { result ≡ asked_at 0 sent.now.way }
+{
+    sent.known();
+    let pieces = lend_all(sent.pieces());
+    // It was accepted at some second, so at second 0 too: a hop has no earliest moment.
+    let verified = verify(
+        &pieces,
+        sent.header(),
+        sent.source(),
+        sent.destination(),
+        0,
+        sent.policy(),
+    );
+    match verified {
+        Ok(path) => path,
+        Err(_) => unreachable!(),
+    }
+}
+
+/// The path of a packet and then its fields, or that it is not there.
+fn packet_text(alloc: Global, packet: Option<&Packet>) -> Result<String, AllocError> {
+    let Some(packet) = packet else {
+        return no_packet(alloc);
+    };
+    let path = path_of(packet.sent());
+    path_text(alloc, &path, path.expiry(), packet.bytes())
+}
+
+/// The path of the packet of this number, in the network that the lines of a source lead to: its
+/// pieces, its walk, the last second at which all of its hops are live, and the fields of the
+/// packet as it is then; the line `no 130 NoPacket` if there is no such packet.
+///
+/// The faults are those of [`listen`](event_lines::listen), of which [`RunFault::Write`] does not
+/// come; [`RunFault::Memory`] also if memory runs out for the text.
+pub(crate) fn packet_path<S: Source>(
+    alloc: Global,
+    source: &mut S,
+    number: u32,
+) -> Result<String, RunFault>
+    ensures { S.failed source.new ≡ (S.failed source.old || is_read_fault result) }
+{
+    let net = reached(alloc, source)?;
+    Ok(packet_text(alloc, net.packet(number as usize))?)
+}

@@ -1,0 +1,26 @@
+//! The network that lines lead to.
+
+ghost use Rattle.std.specs.Prelude.{◌≡◌, ◌||◌, None};
+ghost use Rattle.event_lines.specs.declared.accepted.AcceptedLines.TheVariants.{All};
+ghost use Rattle.event_lines.specs.Run.{Listens, is_read_fault};
+
+use event_lines::{AcceptedLines, RunFault, listen};
+use network_core::Net;
+use std::alloc::Global;
+use std::io;
+use streams::{Source, Writer};
+
+/// The network that the lines of a source lead to, whose answers are kept nowhere.
+///
+/// The faults are those of [`listen`], of which [`RunFault::Write`] does not come.
+pub(crate) fn reached<S: Source>(alloc: Global, source: &mut S) -> Result<Net, RunFault>
+    ensures listens { Listens All result (S.left source.old) (S.left source.new) None None }
+    ensures flag { S.failed source.new ≡ (S.failed source.old || is_read_fault result) }
+{
+    listen(
+        alloc,
+        AcceptedLines::All,
+        source,
+        &mut Writer::new(io::sink()),
+    )
+}
