@@ -1,13 +1,11 @@
--- What `scionet_view path` prints: the path of a packet, and the packet's fields.
-use Rattle.std.specs.Prelude.{ℕ, ◌/◌, codes, List, [], ◌++◌, length, Option, Some, None, slice_get}
+-- How `scionet_view path` prints the pieces of a path.
+use Rattle.std.specs.Prelude.{ℕ, codes, List, [], ◌++◌, Option, Some, None, slice_get}
 use Rattle.std.specs.Fmt.{decimal}
 use Rattle.isd_as.specs.Address.{canonical}
 use Rattle.path_verifier.specs.declared.kind.PieceKind.{PieceKind}
 use Rattle.path_verifier.specs.declared.kind.PieceKind.TheVariants.{Up, Core, Down}
 use Rattle.path_verifier.specs.Piece.{PieceValue, kind_of, begins_in, ends_in}
-use Rattle.path_verifier.specs.Walk.{walk_of}
-use Rattle.event_lines.specs.Text.{hops_text}
-use Rattle.packet_view.specs.Fields.{each_below, fields_text}
+use Rattle.packet_view.specs.Fields.{each_below}
 
 -- what a piece is
 unfoldable pub kind_text : PieceKind → List ℕ
@@ -30,11 +28,3 @@ piece_line number (Some piece) = piece_text number piece
 -- the pieces below this number
 unfoldable pub pieces_text : List PieceValue → ℕ → List ℕ
 pieces_text pieces count = each_below (λ number. piece_line number (slice_get pieces number)) count
-
--- pieces, their walk, and the last second at which all hops are live, the first of which expires at
--- this half second; and then the fields of a packet
-unfoldable pub path_text : List PieceValue → ℕ → List ℕ → List ℕ
-path_text pieces least packet =
-    pieces_text pieces (length pieces) ++ (codes "walk " ++ (hops_text (walk_of pieces)
-    ++ (codes "\nlive up to second " ++ (decimal (least / 2) ++ (codes "\n"
-    ++ fields_text packet)))))

