@@ -1,6 +1,5 @@
-//! Flights there and back: over two core ASes and their children, eight hop fields and ten turns
-//! each; or over eight core ASes in a row, whose eight turns fall evenly to one, two, four or eight
-//! workers.
+//! Flights over two core ASes and their children, there and back: eight hop fields, and ten turns
+//! each.
 
 ghost use Rattle.std.specs.Prelude.{◌≡◌, ◌<◌, ◌≤◌, All, IfOk};
 
@@ -17,44 +16,8 @@ use worked::pair;
 /// How many flights a run carries, each second one of them back.
 const FLIGHTS: u32 = 1000;
 
-/// Eight core ASes in a row, with one router each.
-static ROW: &str = r#"{"ases":[
-{"ia":"1-1","core":true,"exp":63,"key":"6b","routers":1},
-{"ia":"1-2","core":true,"exp":63,"key":"6b","routers":1},
-{"ia":"1-3","core":true,"exp":63,"key":"6b","routers":1},
-{"ia":"1-4","core":true,"exp":63,"key":"6b","routers":1},
-{"ia":"1-5","core":true,"exp":63,"key":"6b","routers":1},
-{"ia":"1-6","core":true,"exp":63,"key":"6b","routers":1},
-{"ia":"1-7","core":true,"exp":63,"key":"6b","routers":1},
-{"ia":"1-8","core":true,"exp":63,"key":"6b","routers":1}],"links":[
-{"kind":"core","a":{"ia":"1-1","if":2,"router":0},"b":{"ia":"1-2","if":1,"router":0}},
-{"kind":"core","a":{"ia":"1-2","if":2,"router":0},"b":{"ia":"1-3","if":1,"router":0}},
-{"kind":"core","a":{"ia":"1-3","if":2,"router":0},"b":{"ia":"1-4","if":1,"router":0}},
-{"kind":"core","a":{"ia":"1-4","if":2,"router":0},"b":{"ia":"1-5","if":1,"router":0}},
-{"kind":"core","a":{"ia":"1-5","if":2,"router":0},"b":{"ia":"1-6","if":1,"router":0}},
-{"kind":"core","a":{"ia":"1-6","if":2,"router":0},"b":{"ia":"1-7","if":1,"router":0}},
-{"kind":"core","a":{"ia":"1-7","if":2,"router":0},"b":{"ia":"1-8","if":1,"router":0}}]}"#;
-
-/// The lines behind that topology, up to a packet from one end to the other and one back.
-static ROW_LINES: &str = r#"
-{"do":"tick","now":1000}
-{"do":"originate","ia":"1-1","egress":2,"beta0":1}
-{"do":"extend","beacon":0,"ia":"1-2","egress":2}
-{"do":"extend","beacon":1,"ia":"1-3","egress":2}
-{"do":"extend","beacon":2,"ia":"1-4","egress":2}
-{"do":"extend","beacon":3,"ia":"1-5","egress":2}
-{"do":"extend","beacon":4,"ia":"1-6","egress":2}
-{"do":"extend","beacon":5,"ia":"1-7","egress":2}
-{"do":"terminate","beacon":6,"ia":"1-8"}
-{"do":"ask","src":"1-1","dst":"1-8","limit":1}
-{"do":"send","ask":0,"path":0,"payload":""}
-{"do":"ask","src":"1-8","dst":"1-1","limit":1}
-{"do":"send","ask":1,"path":0,"payload":""}
-"#;
-
-/// The lines behind the topology of the worked pair of children, up to a packet from one to the
-/// other and one back.
-static PAIR_LINES: &str = r#"
+/// The lines behind the topology, up to a packet from one end to the other and one back.
+static LINES: &str = r#"
 {"do":"tick","now":1000}
 {"do":"originate","ia":"1-ff00:0:110","egress":1,"beta0":1}
 {"do":"extend","beacon":0,"ia":"1-ff00:0:111","egress":2}
@@ -70,33 +33,9 @@ static PAIR_LINES: &str = r#"
 {"do":"send","ask":1,"path":0,"payload":""}
 "#;
 
-/// Over which ASes the flights go.
-#[derive(Clone, Copy)]
-pub(crate) enum Way {
-    /// Up from a child, over two core ASes, and down to another child.
-    Pair,
-    /// Over eight core ASes in a row.
-    Row,
-}
-
-/// The lines of a network up to both packets.
-fn text(alloc: Global, way: Way) -> Result<String> {
-    Ok(match way {
-        Way::Pair => format!(in alloc; "{}{PAIR_LINES}", pair())?,
-        Way::Row => {
-            let mut text = String::new(alloc);
-            for line in ROW.lines() {
-                text.push_str(line)?;
-            }
-            text.push_str(ROW_LINES)?;
-            text
-        }
-    })
-}
-
 /// The network in which both packets were sent.
-fn network(alloc: Global, way: Way) -> Result<Net> {
-    let text = text(alloc, way)?;
+fn network(alloc: Global) -> Result<Net> {
+    let text = format!(in alloc; "{}{LINES}", pair())?;
     let mut source = Reader::new(text.as_bytes());
     let mut sink = Writer::new(Vec::new(alloc));
     Ok(listen(alloc, AcceptedLines::Preparing, &mut source, &mut sink)?)
@@ -133,11 +72,10 @@ fn worth(end: End) -> u64 {
 pub(crate) fn flights<R: Threads + Wait + Sync>(
     rt: &R,
     alloc: Global,
-    way: Way,
     workers: usize,
     count: u32,
 ) -> Result<u64> {
-    let net = network(alloc, way)?;
+    let net = network(alloc)?;
     let there = net.packet(0).context("the packet was not sent")?;
     let back = net.packet(1).context("no packet was sent back")?;
     let flights = flights_of(alloc, &net, there, back)?;

@@ -21,7 +21,6 @@ mod stores;
 
 use anyhow::{Context, Result, anyhow};
 use daemons::Asking;
-use flights::Way;
 use input::Input;
 use isd_as::{AsNumber, IfId, Isd, IsdAs};
 use lines::About;
@@ -138,14 +137,10 @@ fn work<R: Threads + Wait + Sync + io::Input>(
         "request-lines" => lines::lines(alloc, About::Requests, count),
         "sent-64" => carried::carried(alloc, 0, count),
         "carried-64" => carried::carried(alloc, network::SECOND_END, count),
-        "flights-1" => flights::flights(rt, alloc, Way::Pair, 1, count),
-        "flights-2" => flights::flights(rt, alloc, Way::Pair, 2, count),
-        "flights-4" => flights::flights(rt, alloc, Way::Pair, 4, count),
-        "flights-8" => flights::flights(rt, alloc, Way::Pair, 8, count),
-        "even-flights-1" => flights::flights(rt, alloc, Way::Row, 1, count),
-        "even-flights-2" => flights::flights(rt, alloc, Way::Row, 2, count),
-        "even-flights-4" => flights::flights(rt, alloc, Way::Row, 4, count),
-        "even-flights-8" => flights::flights(rt, alloc, Way::Row, 8, count),
+        "flights-1" => flights::flights(rt, alloc, 1, count),
+        "flights-2" => flights::flights(rt, alloc, 2, count),
+        "flights-4" => flights::flights(rt, alloc, 4, count),
+        "flights-8" => flights::flights(rt, alloc, 8, count),
         "board-1" => boards::look_ups(rt, alloc, 1, count),
         "board-8" => boards::look_ups(rt, alloc, 8, count),
         "daemon-hits-1" => daemons::asks(rt, alloc, Asking::Same, 1, count),
