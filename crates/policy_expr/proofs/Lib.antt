@@ -21,3 +21,4 @@ pub mod Weights
 pub mod Sequences
 pub mod Weighed
 pub mod Fewest
+pub mod Signed

@@ -81,7 +81,7 @@ predicate_spelled text pred e = elim (cases_Bool (has_sign hash text)) [
 
 -- ---- what is spelled is read
 
-plain_isd : (text : List ℕ) (n : ℕ) → SpellsIsd text n → AllByRecursion IsPlain text
+pub plain_isd : (text : List ℕ) (n : ℕ) → SpellsIsd text n → AllByRecursion IsPlain text
 plain_isd text n s = plain_digits 10 text (omega arith) s.written.numeral.1
 
 plain_as : (text : List ℕ) (n : ℕ) → SpellsAs text n → AllByRecursion IsPlain text
@@ -94,7 +94,7 @@ plain_as text n s = elim s [
       (plain_digits 16 groups.first (omega arith) groups.high_written.written.numeral.1) ((refl, refl, refl), low)))
 ]
 
-plain_address : (text : List ℕ) (n : ℕ) → Spells text n → AllByRecursion IsPlain text
+pub plain_address : (text : List ℕ) (n : ℕ) → Spells text n → AllByRecursion IsPlain text
 plain_address text n s =
     subst (AllByRecursion IsPlain) (sym s.parts)
     (all_append IsPlain s.front (dash ∷ s.back) (plain_isd s.front s.isd s.isd_spelled) ((refl, refl, refl), plain_as s.back s.as_number s.as_spelled))

@@ -45,7 +45,7 @@ pub all_append : (P : ℕ → Type 0) (xs ys : List ℕ) → AllByRecursion P xs
 all_append P [] ys a b = b
 all_append P (x ∷ xs) ys a b = (a.0, all_append P xs ys a.1 b)
 
-marks_of_plain : (text : List ℕ) → AllByRecursion IsPlain text → AllByRecursion IsMark text
+pub marks_of_plain : (text : List ℕ) → AllByRecursion IsPlain text → AllByRecursion IsMark text
 marks_of_plain [] all = tt
 marks_of_plain (b ∷ text) all = (all.0.0, marks_of_plain text all.1)
 

@@ -7,6 +7,7 @@ pub mod Grammar
 pub mod Reading
 pub mod Printing
 pub mod Acl
+pub mod Entries
 pub mod Policy
 pub mod Views
 pub mod Sets

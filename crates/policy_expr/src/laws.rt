@@ -1,9 +1,11 @@
-//! Laws of the texts of sequences: each is the contract of a function that does nothing.
+//! Laws of the texts of sequences and lists: each is the contract of a function that does nothing.
 
 ghost use Rattle.std.specs.Prelude.{◌≡◌, ◌↔◌, ◌≤◌, ℕ, List, None, Ok};
+ghost use Rattle.std.specs.List.{AllZip};
 ghost use Rattle.policy_expr.specs.declared.hop.HopPred.{HopPred};
 ghost use Rattle.policy_expr.specs.declared.acl.AclEntry.{AclEntry};
-ghost use Rattle.policy_expr.specs.Acl.{IsAcl, acl_fault};
+ghost use Rattle.policy_expr.specs.Acl.{IsAcl, acl_at, acl_fault, entry_at};
+ghost use Rattle.policy_expr.specs.Entries.{SpellsEntry};
 ghost use Rattle.policy_expr.specs.Predicate.{predicate_at};
 ghost use Rattle.policy_expr.specs.Language.{Tree};
 ghost use Rattle.policy_expr.specs.Grammar.{SpellsSequence};
@@ -42,4 +44,13 @@ pub fn read_is_kept()
 /// The rules of a list find no fault exactly where it is one in plain facts.
 pub fn lists_are_plain()
     ensures { (entries : List AclEntry) → (acl_fault entries ≡ None) ↔ IsAcl entries }
+{}
+
+/// A text is read as an entry exactly if it spells the entry. Texts are read as a list exactly if
+/// each spells its entry, the entries are at most 256, and the last alone has no predicate.
+pub fn entries_are_spelled()
+    ensures entry { (text : List ℕ) (entry : AclEntry) → (entry_at text ≡ Ok entry)
+        ↔ SpellsEntry text entry }
+    ensures list { (texts : List (List ℕ)) (entries : List AclEntry) → (acl_at texts ≡ Ok entries)
+        ↔ (AllZip SpellsEntry texts entries × IsAcl entries) }
 {}
