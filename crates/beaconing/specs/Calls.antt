@@ -1,5 +1,5 @@
--- What the calls of beaconing give, or the first cause why not (draft-dekater-scion-controlplane,
--- path construction).
+-- What the calls of beaconing return: a beacon or a segment, or the first refusal in the order
+-- given here (draft-dekater-scion-controlplane, path construction).
 use Rattle.std.specs.Prelude.{ℕ, ◌-◌, Bool, ◌==◌, not, nat_lt, [], ◌∷◌, length, slice_get, Option, Result, Ok}
 use Rattle.std.specs.List.{list_any}
 use Rattle.std.specs.Option.{ok_or}
@@ -12,7 +12,7 @@ use Rattle.beaconing.specs.declared.fault.BeaconFault.TheVariants.{TooLong, Loop
 use Rattle.refusal.specs.Refusal.{◌>>=◌, check, or_else}
 use Rattle.beaconing.specs.Entry.{entry_by, added_by, kind_over, goes_on}
 
--- the beacon of a core AS over one of its links: NotCore, NoInterface, LinkDown
+-- the beacon that a core AS begins over one of its links: NotCore, NoInterface, LinkDown
 unfoldable pub originated : Network → ℕ → ℕ → ℕ → ℕ → Result Chain BeaconFault
 originated n ia egress timestamp beta0 = do
   one ← ok_or (as_named n.ases ia) NotCore
@@ -21,11 +21,12 @@ originated n ia egress timestamp beta0 = do
   _ ← check out.up LinkDown
   Ok (chain_of (kind_over out.kind) timestamp beta0 (entry_by one timestamp beta0 0 egress ∷ []))
 
--- the entry that was added last
+-- the last entry of a beacon
 abbrev pub last_of : Chain → Option Entry
 last_of beacon = slice_get beacon.entries (length beacon.entries - 1)
 
--- the interface by which the beacon comes to this AS from its last entry: NotHere, LinkDown
+-- the interface by which the beacon arrives in this AS from the AS of its last entry: NotHere,
+-- LinkDown
 unfoldable pub come_to : Network → Chain → ℕ → Result ℕ BeaconFault
 come_to n beacon ia = do
   last ← ok_or (last_of beacon) NotHere
@@ -35,12 +36,12 @@ come_to n beacon ia = do
   _ ← check into.up LinkDown
   Ok end.1
 
--- the beacon has no entry of this AS yet
+-- whether the beacon has no entry of this AS
 unfoldable pub is_new : Chain → ℕ → Bool
 is_new beacon ia = not (list_any (λ entry. entry.ia == ia) beacon.entries)
 
--- the beacon, passed on by an AS over one of its links: NotHere, LinkDown of the way in, Loop,
--- TooLong, NoInterface, WrongKind, LinkDown of the way out
+-- the beacon after an AS has passed it on over one of its links: NotHere, LinkDown for the way in,
+-- Loop, TooLong, NoInterface, WrongKind, LinkDown for the way out
 unfoldable pub extended : Network → Chain → ℕ → ℕ → Result Chain BeaconFault
 extended n beacon ia egress = do
   one ← ok_or (as_named n.ases ia) NotHere
@@ -52,7 +53,7 @@ extended n beacon ia egress = do
   _ ← check out.up LinkDown
   Ok (with_last beacon (added_by one beacon ingress egress))
 
--- the segment that ends in this AS: NotHere, LinkDown, Loop
+-- the segment that a beacon becomes if it ends in this AS: NotHere, LinkDown, Loop
 unfoldable pub terminated : Network → Chain → ℕ → Result Chain BeaconFault
 terminated n beacon ia = do
   one ← ok_or (as_named n.ases ia) NotHere

@@ -11,16 +11,16 @@ use Rattle.path_segment.specs.declared.kind.SegKind.{SegKind}
 use Rattle.path_segment.specs.Chain.{Chain, beta_of}
 use Rattle.path_segment.specs.declared.kind.SegKind.TheVariants.{Core, Intra}
 
--- the key under which an AS makes its authenticators: the first that it accepts
+-- the key under which an AS makes its authenticators: the first of its accepted keys
 abbrev pub key_of : AsEntry → List ℕ
 key_of one = unwrap_or (slice_get one.keys 0) []
 
--- the key that the AS of this address has in use, none where the network lacks it
+-- the key in use of the AS of this address, or no bytes if the network has no such AS
 abbrev pub key_in : Network → ℕ → List ℕ
 key_in n ia = option_map_or key_of (as_named n.ases ia) []
 
--- the entry of an AS between two of its interfaces, authenticated under its key and this
--- accumulator
+-- the entry of an AS between two of its interfaces, with its authenticator under the AS's key and
+-- this accumulator
 abbrev pub entry_by : AsEntry → ℕ → ℕ → ℕ → ℕ → Entry
 entry_by one timestamp beta ingress egress = record {
   ia = one.ia;
@@ -30,7 +30,7 @@ entry_by one timestamp beta ingress egress = record {
   mac = authenticator (key_of one) beta timestamp one.exp_time ingress egress;
 }
 
--- the entry that an AS adds to a beacon, under the accumulator of the entries before
+-- the entry that an AS adds to a beacon, under the accumulator after all earlier entries
 abbrev pub added_by : AsEntry → Chain → ℕ → ℕ → Entry
 added_by one beacon ingress egress =
     entry_by one beacon.timestamp (beta_of beacon (length beacon.entries)) ingress egress
@@ -40,7 +40,8 @@ abbrev pub kind_over : LinkKind → SegKind
 kind_over links.Core = Core
 kind_over link = Intra
 
--- whether a beacon goes on over such a link: one between core ASes to a core AS, another to a child
+-- whether a beacon may be sent on over such a link: a core beacon to a core AS, an intra beacon to
+-- a child
 abbrev pub goes_on : SegKind → LinkKind → Bool
 goes_on Core links.Core = true
 goes_on Intra links.Child = true

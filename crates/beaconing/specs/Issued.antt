@@ -1,5 +1,5 @@
--- What a network's links and keys make: a beacon under way and a segment
--- (draft-dekater-scion-controlplane, path construction).
+-- Beacons and segments as a network makes them: their entries follow its links and carry its keys'
+-- authenticators (draft-dekater-scion-controlplane, path construction).
 use Rattle.std.specs.Prelude.{◌≡◌, ◌⊎◌, ℕ, ◌+◌, true, List, [], ◌∷◌, length, map, slice_get, Some, Result, Ok, Any}
 use Rattle.refusal.specs.Refusal.{◌>>=◌}
 use Rattle.hop_mac.specs.Hop.{authenticator}
@@ -21,29 +21,29 @@ use Rattle.beaconing.specs.declared.fault.BeaconFault.{BeaconFault}
 use Rattle.beaconing.specs.Entry.{goes_on, key_in}
 use Rattle.beaconing.specs.Calls.{last_of, come_to, extended}
 
--- an entry of one of the network's ASes, with the AS's expiry, authenticated under this key and
--- accumulator
+-- the entry is of an AS of the network, has the AS's expiry, and is authenticated under this key
+-- and accumulator
 pub record IsEntryOf (n : Network) (timestamp beta : ℕ) (key : List ℕ) (entry : Entry) : Type 0 where
   pub one : AsEntry
   pub named : as_named n.ases entry.ia ≡ Some one
   pub lifetime : entry.exp_time ≡ one.exp_time
   pub mac : entry.mac ≡ authenticator key beta timestamp entry.exp_time entry.cons_ingress entry.cons_egress
 
--- one end is the way out of an entry, and the other the way in of the next
+-- `near` is the entry's way out, and `far` is the way in of the next entry
 abbrev pub AreWays : Entry → Entry → End → End → Type 0
 AreWays entry next near far =
     (near.ia ≡ entry.ia) × (near.number ≡ entry.cons_egress)
     × (far.ia ≡ next.ia) × (far.number ≡ next.cons_ingress)
 
--- the link leads from an entry to the next: a core link either way, a child link from the parent to
--- the child
+-- the link leads from an entry to the next: a core link in either direction, a child link from
+-- parent to child
 abbrev pub LeadsOn : SegKind → Entry → Entry → Link → Type 0
 LeadsOn Core entry next link =
     (link.class ≡ classes.Core) × (AreWays entry next link.a link.b ⊎ AreWays entry next link.b link.a)
 LeadsOn Intra entry next link = (link.class ≡ classes.Child) × AreWays entry next link.a link.b
 
--- entries as the network makes them, each under the key at its place: the first is of a core AS,
--- and a link leads from each to the next
+-- the network makes these entries, each under the key at its place: the first is of a core AS, and
+-- a link leads from each entry to the next
 pub record IsMade (n : Network) (keys : List (List ℕ)) (chain : Chain) : Type 0 where
   pub keyed : length keys ≡ length chain.entries
   pub core : (first : Entry) → slice_get chain.entries 0 ≡ Some first → is_core n.ases first.ia ≡ true
@@ -54,42 +54,42 @@ pub record IsMade (n : Network) (keys : List (List ℕ)) (chain : Chain) : Type 
       → slice_get chain.entries i ≡ Some entry → slice_get chain.entries (i + 1) ≡ Some next
       → Any (LeadsOn chain.kind entry next) n.links
 
--- the entry's way out is an interface of the network over which a beacon of this kind goes on
+-- the entry's way out is an interface over which a beacon of this kind may be sent on
 pub record HasWayOut (n : Network) (kind : SegKind) (entry : Entry) : Type 0 where
   pub out : IfEntry
   pub there : interface_at n entry.ia entry.cons_egress ≡ Ok out
   pub on : goes_on kind out.kind ≡ true
 
--- a beacon that the network has made under these keys, and that may go on
+-- a beacon that the network made under these keys and that may be sent on
 pub record IsUnderWay (n : Network) (keys : List (List ℕ)) (beacon : Chain) : Type 0 where
   pub rules : IsBeacon beacon
   pub made : IsMade n keys beacon
   pub out : (last : Entry) → last_of beacon ≡ Some last → HasWayOut n beacon.kind last
 
--- a segment that the network has made under these keys
+-- a segment that the network made under these keys
 pub record IsIssued (n : Network) (keys : List (List ℕ)) (segment : Chain) : Type 0 where
   pub rules : AreOfSegment segment.entries
   pub made : IsMade n keys segment
 
--- the keys that the ASes of a chain's entries have in use
+-- the keys in use of the ASes of a chain's entries
 abbrev pub keys_in : Network → Chain → List (List ℕ)
 keys_in n chain = map (λ entry. key_in n entry.ia) chain.entries
 
--- the beacon, passed on by these ASes over these interfaces, one after another
+-- the beacon after these ASes have passed it on over these interfaces, one after another
 abbrev pub passed_on : Network → Chain → List (ℕ × ℕ) → Result Chain BeaconFault
 passed_on n beacon [] = Ok beacon
 passed_on n beacon (hop ∷ hops) = do
   next ← extended n beacon hop.0 hop.1
   passed_on n next hops
 
--- a beacon comes to this AS by this interface, over a link that is up
+-- the beacon arrives in this AS by this interface, over a link that is up
 pub record ComesOver (n : Network) (beacon : Chain) (ia ingress : ℕ) : Type 0 where
   pub last : Entry
   pub is_last : last_of beacon ≡ Some last
   pub leads : far_end_in n last.ia last.cons_egress ≡ Ok (ia, ingress)
   pub up : IsUp n last.ia last.cons_egress true
 
--- a chain has one entry more than the beacon before, that of this AS, to which the beacon came
+-- the chain has one more entry than the beacon before: that of this AS, in which the beacon arrived
 pub record Grows (n : Network) (before : Chain) (ia : ℕ) (after : Chain) : Type 0 where
   pub entry : Entry
   pub of : entry.ia ≡ ia

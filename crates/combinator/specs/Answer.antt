@@ -1,4 +1,4 @@
--- The answer to a question: which paths it has, and in which order.
+-- The answer to a question: which paths it lists, and in which order.
 use Rattle.std.specs.Prelude.{◌≡◌, ◌≢◌, ◌⊎◌, ℕ, ◌<◌, ◌≤◌, List, [], length, All, AllPairs, Any, Option, Some, None, slice_get}
 use Rattle.std.specs.declared.cmp.Ordering.TheVariants.{Less}
 use Rattle.path_server.specs.Lookup.{Selection}
@@ -6,8 +6,8 @@ use Rattle.policy_expr.specs.Options.{WeighedRules}
 use Rattle.combinator.specs.Candidate.{Question, question_of, PathValue, IsCandidate, HasNone}
 use Rattle.combinator.specs.Order.{bytes_cmp, path_cmp, LastAsLong, HaveOneWalk}
 
--- the path stands for its walk: of the candidates of this walk none expires later, and of those
--- that expire as late none has lesser header bytes
+-- the path is the best for its walk: among the candidates of the same walk none expires later, and
+-- none that expires at the same time has smaller header bytes
 pub record IsBest (question : Question) (path : PathValue) : Type 0 where
   pub candidate : IsCandidate question path
   pub latest : (other : PathValue) → IsCandidate question other → HaveOneWalk other path
@@ -15,8 +15,8 @@ pub record IsBest (question : Question) (path : PathValue) : Type 0 where
   pub least : (other : PathValue) → IsCandidate question other → HaveOneWalk other path
       → LastAsLong other.pieces path.pieces → bytes_cmp other.header path.header ≢ Less
 
--- the path is left out: the answer has as many as it may, and all stand before the one that stands
--- for its walk
+-- the path is left out because the answer is full: it has as many paths as the limit, and all of
+-- them come before the best path of this walk
 pub record IsLeftOut (question : Question) (limit : ℕ) (paths : List PathValue) (path : PathValue)
     : Type 0 where
   pub full : length paths ≡ limit
@@ -25,9 +25,9 @@ pub record IsLeftOut (question : Question) (limit : ℕ) (paths : List PathValue
   pub same : HaveOneWalk best path
   pub behind : All (λ one. path_cmp one best ≡ Less) paths
 
--- each path of the answer stands for its walk, no two have one walk, they stand in their order,
--- they are no more than the limit, and a candidate's walk is in the answer unless as many as the
--- limit stand before it
+-- each path of the answer is the best for its walk; no two have the same walk; they are in order,
+-- and no more than the limit. Each candidate's walk is in the answer, unless the answer is full
+-- before it
 pub record IsAnswer (question : Question) (limit : ℕ) (paths : List PathValue) : Type 0 where
   pub best : All (IsBest question) paths
   pub once : AllPairs (λ one other. ¬ (HaveOneWalk one other)) paths
@@ -36,23 +36,24 @@ pub record IsAnswer (question : Question) (limit : ℕ) (paths : List PathValue)
   pub whole : (path : PathValue) → IsCandidate question path
       → Any (λ one. HaveOneWalk one path) paths ⊎ IsLeftOut question limit paths path
 
--- what is answered: which policy option was used, and the paths
+-- an answer: the policy option that was used, and the paths
 pub record AnswerValue : Type 0 where
   pub used : Option ℕ
   pub paths : List PathValue
 
 -- ---- policy options
 
--- what is asked under one of the options
+-- the question under one of the policy options
 abbrev pub question_under : Selection → ℕ → ℕ → WeighedRules → Question
 question_under set src dst option = question_of set src dst option.rules
 
--- an option goes before another: it is heavier, or as heavy and listed before
+-- an option comes before another: its weight is larger, or it is equal and the option is listed
+-- first
 abbrev pub GoesBefore : ℕ → WeighedRules → ℕ → WeighedRules → Type 0
 GoesBefore i option j other =
     (other.weight < option.weight) ⊎ ((other.weight ≡ option.weight) × (i < j))
 
--- this option is used: it leaves a path, and none that goes before it does
+-- this option is used: it leaves a path, and every option before it leaves none
 pub record IsUsed (set : Selection) (src dst : ℕ) (options : List WeighedRules) (limit : ℕ)
     (used : ℕ) (paths : List PathValue) : Type 0 where
   pub option : WeighedRules
@@ -62,8 +63,7 @@ pub record IsUsed (set : Selection) (src dst : ℕ) (options : List WeighedRules
   pub first : (j : ℕ) (other : WeighedRules) → slice_get options j ≡ Some other
       → GoesBefore j other used option → HasNone (question_under set src dst other)
 
--- the answer under several options: that of the one that is used, or no path where no option leaves
--- one
+-- the answer under several options: that of the used option, or no path if no option leaves one
 abbrev pub AnswersWith : Selection → ℕ → ℕ → List WeighedRules → ℕ → Option ℕ → List PathValue
     → Type 0
 AnswersWith set src dst options limit None paths =

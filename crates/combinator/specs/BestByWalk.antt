@@ -1,4 +1,4 @@
--- How the best path of each walk is kept (words of private functions' contracts).
+-- How the best path of each walk is found (words of private functions' contracts).
 use Rattle.std.specs.Prelude.{◌≢◌, List, All, Any}
 use Rattle.std.specs.declared.cmp.Ordering.{Ordering}
 use Rattle.std.specs.declared.cmp.Ordering.TheVariants.{Less}
@@ -9,28 +9,28 @@ use Rattle.path_verifier.specs.Walk.{walk_of}
 use Rattle.combinator.specs.Candidate.{Question, PathValue, path_with, IsCandidate}
 use Rattle.combinator.specs.Order.{walk_cmp, bytes_cmp, LastAsLong, HaveOneWalk}
 
--- paths by their walks
+-- the order of paths by their walks
 abbrev pub by_walk : PathValue → PathValue → Ordering
 by_walk one other = walk_cmp (walk_of one.pieces) (walk_of other.pieces)
 
--- the first path expires no earlier than the other, and where it expires no later its header's
+-- the first path is no worse: it expires no earlier, and if it expires at the same time, its header
 -- bytes are no greater
 pub record IsNoWorse (one other : PathValue) : Type 0 where
   pub latest : LastAsLong one.pieces other.pieces
   pub least : LastAsLong other.pieces one.pieces → bytes_cmp other.header one.header ≢ Less
 
--- a path of the list has this one's walk and is no worse
+-- a path of the list has the same walk as this one and is no worse
 abbrev pub IsMet : List PathValue → PathValue → Type 0
 IsMet paths path = Any (λ one. HaveOneWalk one path × IsNoWorse one path) paths
 
--- what is kept after more was found: candidates alone, and for each walk something as good as
--- before
+-- the new list is no worse: its paths are candidates if those of the old list were, and for each
+-- walk it has a path as good as before
 pub record IsNoWorseThan (question : Question) (old new : List PathValue) : Type 0 where
   pub sound : All (IsCandidate question) old → All (IsCandidate question) new
   pub met : (path : PathValue) → IsMet old path → IsMet new path
 
--- whatever candidate has these pieces, its header is one of the grammar, and one of its walk is
--- there that is no worse
+-- each candidate of these pieces has a header of the grammar, and the list has a path of the same
+-- walk that is no worse
 unfoldable pub AreMatched : Question → List PathValue → List PieceValue → Type 0
 AreMatched question paths pieces = (header : HeaderValue)
     → IsCandidate question (path_with pieces header)

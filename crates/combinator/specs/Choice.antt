@@ -1,17 +1,17 @@
--- Which of the options up to a place is used (words of private functions' contracts).
+-- Which of the options before a place is used (words of private functions' contracts).
 use Rattle.std.specs.Prelude.{◌≡◌, ℕ, ◌<◌, List, [], length, Option, Some, None, slice_get}
 use Rattle.path_server.specs.Lookup.{Selection}
 use Rattle.policy_expr.specs.Options.{WeighedRules}
 use Rattle.combinator.specs.Candidate.{PathValue, HasNone}
 use Rattle.combinator.specs.Answer.{IsAnswer, question_under, GoesBefore}
 
--- what is answered under several options: the one that is used and its weight, and the paths
+-- the choice among options: the used option and its weight, and its paths
 pub record ChosenValue : Type 0 where
   pub used : Option ℕ
   pub weight : ℕ
   pub paths : List PathValue
 
--- of the options before a place this one is used
+-- this option is used among the options before a place
 pub record IsUsedBefore (set : Selection) (src dst : ℕ) (options : List WeighedRules)
     (limit place used weight : ℕ) (paths : List PathValue) : Type 0 where
   pub option : WeighedRules
@@ -23,7 +23,7 @@ pub record IsUsedBefore (set : Selection) (src dst : ℕ) (options : List Weighe
   pub first : (j : ℕ) (other : WeighedRules) → j < place → slice_get options j ≡ Some other
       → GoesBefore j other used option → HasNone (question_under set src dst other)
 
--- no option before a place leaves a path
+-- no option before a place leaves a path; and the choice among these options
 abbrev pub LeaveNone : Selection → ℕ → ℕ → List WeighedRules → ℕ → Type 0
 LeaveNone set src dst options place = (j : ℕ) (other : WeighedRules) → j < place
     → slice_get options j ≡ Some other → HasNone (question_under set src dst other)

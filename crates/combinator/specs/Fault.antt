@@ -14,6 +14,6 @@ code_of refusal = (code_and_name refusal).0
 abbrev pub name_of : CombineFault → List ℕ
 name_of refusal = (code_and_name refusal).1
 
--- the ends of a request are two ASes, or it is refused
+-- the ends of a request are two different ASes, or it is refused as SameAs
 abbrev pub ends_at : ℕ → ℕ → Result (Unit {0}) CombineFault
 ends_at src dst = check (not (src == dst)) SameAs

@@ -3,7 +3,7 @@ use Rattle.std.specs.Prelude.{◌↔◌, ℕ, List, All, Contains}
 use Rattle.path_segment.specs.Chain.{Chain, AreLive}
 use Rattle.path_server.specs.Lookup.{Selection}
 
--- the lists have the same segments
+-- the lists have the same segments, in any order
 abbrev pub HaveSame : List Chain → List Chain → Type 0
 HaveSame segments others = (segment : Chain) → Contains segments segment ↔ Contains others segment
 

@@ -1,4 +1,4 @@
--- In which order paths are answered, and which path stands for a walk.
+-- The order of the paths in an answer, and the order of paths with the same walk.
 use Rattle.std.specs.Prelude.{◌≡◌, ℕ, ◌≤◌, List, length, All}
 use Rattle.std.specs.declared.cmp.Ordering.{Ordering}
 use Rattle.std.specs.Ordering.{nat_cmp, ordering_then}
@@ -11,30 +11,29 @@ use Rattle.path_verifier.specs.Piece.{PieceValue, entries_of}
 use Rattle.path_verifier.specs.Walk.{walk_of}
 use Rattle.combinator.specs.Candidate.{PathValue}
 
--- what a path shows: its header and its walk
+-- the parts of a path by which it is ordered: its header and its walk
 abbrev pub header_and_walk : PathValue → HeaderValue × List WalkHop
 header_and_walk path = (path.header, walk_of path.pieces)
 
--- hops by AS, then by the way in, then by the way out
+-- the order of hops: by AS, then by way in, then by way out
 abbrev pub hop_cmp : WalkHop → WalkHop → Ordering
 hop_cmp one other =
     ordering_then (nat_cmp one.ia other.ia) (ordering_then (nat_cmp one.ingress other.ingress) (nat_cmp one.egress other.egress))
 
--- walks hop by hop
+-- the order of walks, hop by hop
 abbrev pub walk_cmp : List WalkHop → List WalkHop → Ordering
 walk_cmp = slice_cmp hop_cmp
 
--- headers by their bytes
+-- the order of headers, by their bytes
 unfoldable pub bytes_cmp : HeaderValue → HeaderValue → Ordering
 bytes_cmp one other = slice_cmp nat_cmp (spelling one) (spelling other)
 
--- headers with walks: by the number of hop fields, then by the bytes of the headers, then by the
--- walks
+-- the order of headers with walks: by number of hop fields, then by header bytes, then by walk
 unfoldable pub shown_cmp : HeaderValue × List WalkHop → HeaderValue × List WalkHop → Ordering
 shown_cmp one other =
     ordering_then (nat_cmp (length one.0.hops) (length other.0.hops)) (ordering_then (bytes_cmp one.0 other.0) (walk_cmp one.1 other.1))
 
--- paths by what they show
+-- the order of paths in an answer
 abbrev pub path_cmp : PathValue → PathValue → Ordering
 path_cmp one other = shown_cmp (header_and_walk one) (header_and_walk other)
 
@@ -42,10 +41,10 @@ path_cmp one other = shown_cmp (header_and_walk one) (header_and_walk other)
 abbrev pub LastTo : ℕ → List PieceValue → Type 0
 LastTo half pieces = All (λ piece. All (λ entry. half ≤ expiry_of piece.segment.timestamp entry.exp_time) (entries_of piece)) pieces
 
--- the first pieces expire no earlier than the others
+-- the pieces expire no earlier than the others
 abbrev pub LastAsLong : List PieceValue → List PieceValue → Type 0
 LastAsLong pieces others = (half : ℕ) → LastTo half others → LastTo half pieces
 
--- both paths have one walk
+-- both paths have the same walk
 abbrev pub HaveOneWalk : PathValue → PathValue → Type 0
 HaveOneWalk one other = walk_of one.pieces ≡ walk_of other.pieces

@@ -1,4 +1,4 @@
--- Pieces of which paths are made, as they are listed (words of private functions' contracts).
+-- The pieces that may occur in paths, as they are listed (words of private functions' contracts).
 use Rattle.std.specs.Prelude.{◌≡◌, ℕ, ◌+◌, Bool, if◌then◌else◌, List, length, Contains}
 use Rattle.path_segment.specs.declared.kind.SegKind.TheVariants as kinds
 use Rattle.path_segment.specs.Chain.{Chain}
@@ -7,12 +7,11 @@ use Rattle.path_verifier.specs.Piece.{PieceValue, HasRange, begins_in, ends_in}
 abbrev pub piece_of : Chain → ℕ → ℕ → Bool → PieceValue
 piece_of segment from to along = record { segment = segment; from = from; to = to; along = along }
 
--- the end of a piece that is not towards the beginning of its segment
+-- the end of a piece that is farther from the first AS of its segment
 abbrev pub outer_of : PieceValue → ℕ
 outer_of piece = if piece.along then ends_in piece else begins_in piece
 
--- the piece is one of these intra segments, travelled in this direction, with this AS at its outer
--- end
+-- the piece is of one of these intra segments, in this direction, with this AS at its outer end
 pub record IsCut (segments : List Chain) (along : Bool) (outer : ℕ)
     (piece : PieceValue) : Type 0 where
   pub there : Contains segments piece.segment
@@ -28,6 +27,6 @@ pub record IsWhole (segments : List Chain) (piece : PieceValue) : Type 0 where
   pub first : piece.from ≡ 0
   pub last : piece.to + 1 ≡ length piece.segment.entries
 
--- all that is in one list is in the other
+-- every piece of the first list is in the second
 abbrev pub AreIn : List PieceValue → List PieceValue → Type 0
 AreIn pieces others = (piece : PieceValue) → Contains pieces piece → Contains others piece

@@ -1,4 +1,4 @@
--- A packet of these parts as bytes (draft-dekater-scion-dataplane).
+-- The bytes of a packet from its parts (draft-dekater-scion-dataplane).
 use Rattle.std.specs.Prelude.{ℕ, ◌^◌, ◌<◌, List, ◌++◌}
 use Rattle.std.specs.Int.{w64, to_be_bytes}
 use Rattle.path_header.specs.Value.{HeaderValue, IsHeader}
@@ -6,7 +6,7 @@ use Rattle.path_header.specs.Spelling.{Fits, spelling}
 use Rattle.path_verifier.specs.Piece.{PieceValue}
 use Rattle.path_verifier.specs.Header.{header_of}
 
--- the addresses in front of a packet
+-- the addresses at the front of a packet, the destination first
 abbrev pub addresses : ℕ → ℕ → List ℕ
 addresses source destination = to_be_bytes w64 destination ++ to_be_bytes w64 source
 
@@ -15,7 +15,7 @@ unfoldable pub framed : ℕ → ℕ → HeaderValue → List ℕ → List ℕ
 framed source destination header payload =
     addresses source destination ++ (spelling header ++ payload)
 
--- both addresses, and the numbers in the header of these pieces, have a place for their bits
+-- both addresses and the numbers in the header of these pieces fit into their bits
 pub record HasFrame (source destination : ℕ) (pieces : List PieceValue) : Type 0 where
   pub source_fits : source < 2 ^ 64
   pub destination_fits : destination < 2 ^ 64

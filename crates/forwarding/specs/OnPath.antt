@@ -1,4 +1,4 @@
--- A packet that stands on its path at a router of the network, and what a turn makes of it.
+-- A packet on its path at a router of the network, and the result of a turn.
 use Rattle.std.specs.Prelude.{◌≡◌, ℕ, ◌+◌, ◌<◌, List, [], ◌++◌, length, Some, Ok, slice_get}
 use Rattle.scion_topology.specs.Network.{Network}
 use Rattle.scion_topology.specs.Topology.{owner_in}
@@ -17,13 +17,13 @@ use Rattle.forwarding.specs.PathPosition.{PathPosition, pieces_at, header_there,
 use Rattle.forwarding.specs.Journey.{to_come, turns_left}
 use Rattle.forwarding.specs.Turned.{header_behind}
 
--- the header with which a packet comes to a spot
+-- the header with which a packet arrives at a place on its path
 abbrev pub header_on : Arrival → PathPosition → HeaderValue
 header_on FromHost spot = header_there spot
 header_on Inside spot = header_there spot
 header_on (Link interface) spot = header_coming spot
 
--- the packet at a router of the AS of that entry
+-- a packet at a router of this entry's AS
 abbrev pub at_spot : ℕ → ℕ → List ℕ → PathPosition → Entry → Arrival → ℕ → ℕ → List WalkHop → Packet
 at_spot source destination payload spot entry arrival router came_in_by passed = record {
   bytes = framed source destination (header_on arrival spot) payload;
@@ -36,9 +36,9 @@ at_spot source destination payload spot entry arrival router came_in_by passed =
   passed = passed;
 }
 
--- at which router a packet stands that came so to a spot: from a host at the path's beginning, at
--- the owner of its way out; from inside at the owner of its way out; over a link at the owner of
--- its way in
+-- the router that has the packet fits how it arrived. From a host: at the beginning of the path, at
+-- the owner of the way out. From inside: at the owner of the way out. Over a link: at the owner of
+-- the way in.
 abbrev pub IsPlaced : Network → PathPosition → Entry → Arrival → ℕ → ℕ → List WalkHop → Type 0
 IsPlaced n spot entry FromHost router came_in_by passed =
     (spot.past ≡ []) × ((spot.reached ≡ 0) × ((passed ≡ [])
@@ -50,8 +50,8 @@ IsPlaced n spot entry (Link interface) router came_in_by passed =
     (0 < spot.reached) × ((0 < length passed) × ((interface ≡ in_by spot.piece entry)
     × ((came_in_by ≡ interface) × (owner_in n entry.ia interface ≡ Ok router))))
 
--- the packet stands on its path, `left` turns from its end: the hops that it has passed and those
--- that lie before it are the walk
+-- the packet is on its path, `left` turns before its end: the hops that it has passed and the hops
+-- to come are the walk
 pub record OnPath (n : Network) (source destination : ℕ) (payload : List ℕ)
     (pieces : List PieceValue) (left : ℕ) (packet : Packet) : Type 0 where
   pub spot : PathPosition
@@ -68,15 +68,15 @@ pub record OnPath (n : Network) (source destination : ℕ) (payload : List ℕ)
   pub walk : passed ++ to_come came_in_by spot ≡ walk_of pieces
   pub count : left ≡ turns_left n arrival (to_come came_in_by spot)
 
--- a turn leads to the next place on the path, one turn nearer to its end
+-- a turn moves the packet on along its path, one turn nearer to the end
 pub record ComesNearer (n : Network) (now source destination : ℕ) (payload : List ℕ)
     (pieces : List PieceValue) (left : ℕ) (packet : Packet) : Type 0 where
   pub less : ℕ
   pub one : left ≡ 1 + less
   pub stands : OnPath n source destination payload pieces less (turned n now packet)
 
--- the packet was delivered, with the header behind all pieces, the payload as it was sent, and the
--- whole walk passed
+-- the packet after its delivery: with the header at the end of all pieces, the payload as it was
+-- sent, and the whole walk passed
 abbrev pub arrived_with : ℕ → ℕ → List ℕ → List PieceValue → Packet
 arrived_with source destination payload pieces = record {
   bytes = framed source destination (header_behind pieces) payload;
@@ -84,7 +84,7 @@ arrived_with source destination payload pieces = record {
   passed = walk_of pieces;
 }
 
--- the last turn delivers it so
+-- the last turn delivers the packet
 pub record Arrives (n : Network) (now source destination : ℕ) (payload : List ℕ)
     (pieces : List PieceValue) (left : ℕ) (packet : Packet) : Type 0 where
   pub one : left ≡ 1

@@ -1,4 +1,5 @@
--- Pieces that a network has made and lets through, and the changes that are none of theirs.
+-- Pieces that a network has issued and forwards packets on, and the changes that do not affect
+-- them.
 use Rattle.std.specs.Prelude.{◌≡◌, ◌≢◌, ℕ, ◌+◌, ◌≤◌, true, List, Contains, Some, slice_get}
 use Rattle.scion_topology.specs.declared.network.AsEntry.{AsEntry}
 use Rattle.scion_topology.specs.Network.{Network, as_named}
@@ -10,8 +11,8 @@ use Rattle.path_verifier.specs.Piece.{PieceValue, HasRange}
 use Rattle.beaconing.specs.Entry.{key_in}
 use Rattle.beaconing.specs.Issued.{IsIssued}
 
--- between these places the ASes of a chain's entries accept the keys under which they were made,
--- and the links from entry to entry are up
+-- from `from` to `to`, the AS of each entry still accepts the key of the entry, and each link from
+-- an entry to the next is up
 pub record KeysAndLinksHold (n : Network) (keys : List (List ℕ)) (chain : Chain)
     (from to : ℕ) : Type 0 where
   pub keys_held : (i : ℕ) (entry : Entry) (key : List ℕ) (one : AsEntry) → from ≤ i → i ≤ to
@@ -21,14 +22,14 @@ pub record KeysAndLinksHold (n : Network) (keys : List (List ℕ)) (chain : Chai
       → slice_get chain.entries i ≡ Some entry → slice_get chain.entries (i + 1) ≡ Some next
       → IsUp n entry.ia entry.cons_egress true
 
--- between these places each entry of this AS was made under the key that the AS has in use
+-- from `from` to `to`, each entry of this AS was made under the key that the AS has in use
 abbrev pub KeyIsInUse : Network → List (List ℕ) → Chain → ℕ → ℕ → ℕ → Type 0
 KeyIsInUse n keys chain from to ia = (i : ℕ) (entry : Entry) (key : List ℕ) → from ≤ i → i ≤ to
     → slice_get chain.entries i ≡ Some entry → slice_get keys i ≡ Some key → entry.ia ≡ ia
     → key ≡ key_in n ia
 
--- the piece is of a segment that the network has made under these keys, which are accepted now,
--- over links that are up now
+-- the piece is of a segment that the network issued under these keys; the keys of the piece are
+-- accepted now, and its links are up
 pub record IsIssuedAndAccepted (n : Network) (keys : List (List ℕ))
     (piece : PieceValue) : Type 0 where
   pub network : IsNetwork n
@@ -36,12 +37,12 @@ pub record IsIssuedAndAccepted (n : Network) (keys : List (List ℕ))
   pub issued : IsIssued n keys piece.segment
   pub holds : KeysAndLinksHold n keys piece.segment piece.from piece.to
 
--- between these places no entry is of this AS
+-- from `from` to `to`, no entry is of this AS
 abbrev pub AvoidsAs : Chain → ℕ → ℕ → ℕ → Type 0
 AvoidsAs chain from to ia = (i : ℕ) (entry : Entry) → from ≤ i → i ≤ to
     → slice_get chain.entries i ≡ Some entry → ia ≢ entry.ia
 
--- between these places no link from an entry to the next ends at this interface
+-- from `from` to `to`, no link from an entry to the next ends at this interface
 abbrev pub AvoidsLink : Chain → ℕ → ℕ → ℕ → ℕ → Type 0
 AvoidsLink chain from to ia number = (i : ℕ) (entry next : Entry) → from ≤ i → i + 1 ≤ to
     → slice_get chain.entries i ≡ Some entry → slice_get chain.entries (i + 1) ≡ Some next

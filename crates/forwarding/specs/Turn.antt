@@ -1,5 +1,5 @@
--- One turn of a packet in a network: the router at which it stands makes its step over the packet's
--- bytes, and the packet is placed where that leads (draft-dekater-scion-dataplane).
+-- One turn of a packet in a network: the router that has the packet makes its step on the packet's
+-- bytes, and the outcome says where the packet goes (draft-dekater-scion-dataplane).
 use Rattle.std.specs.Prelude.{◌≢◌, ℕ, List, [], ◌∷◌, ◌++◌, length, nat_lt, if◌then◌else◌, bit_xor, slice_index, slice_set, Result, Ok, Err}
 use Rattle.scion_topology.specs.declared.fault.TopologyFault.{TopologyFault}
 use Rattle.scion_topology.specs.View.{View}
@@ -23,7 +23,7 @@ pub record Packet : Type 0 where
   pub place : PacketLocation
   pub passed : List WalkHop
 
--- a packet of these bytes that a host sends, put at this router of its AS
+-- a packet of these bytes that a host sends, at this router of the host's AS
 abbrev pub put_at : List ℕ → ℕ → ℕ → Packet
 put_at bytes ia router = record {
   bytes = bytes;
@@ -31,15 +31,15 @@ put_at bytes ia router = record {
   passed = [];
 }
 
--- the hops with one more, of which a packet keeps the first 64
+-- the passed hops with this one added; a packet keeps at most 64
 abbrev pub noted : List WalkHop → WalkHop → List WalkHop
 noted passed hop = if nat_lt (length passed) 64 then passed ++ hop ∷ [] else passed
 
--- the hop of the AS in which the packet stands, left by this interface
+-- the hop of the AS in which the packet is, left by this interface
 abbrev pub hop_by : RouterStop → ℕ → WalkHop
 hop_by stop out = record { ia = stop.ia; ingress = stop.came_in_by; egress = out }
 
--- at the router that owns the far end of a link; where there is none, nothing is done
+-- the packet at the router that owns the far end of a link; if there is none, the packet as it was
 abbrev pub at_owner : Packet → RouterStop → ℕ → ℕ → ℕ → Result ℕ TopologyFault → Packet
 at_owner packet stop out ia number (Ok router) = record packet {
   place = AtRouter (record { ia = ia; router = router; arrival = Link number; came_in_by = number });
@@ -52,7 +52,7 @@ over_link n packet stop out (Ok end) =
     at_owner packet stop out end.0 end.1 (owner_in n end.0 end.1)
 over_link n packet stop out (Err fault) = packet
 
--- where a router's outcome puts the packet
+-- the packet after a router's outcome
 abbrev pub put : Network → Packet → RouterStop → Outcome → Packet
 put n packet stop (ToLink out) = over_link n packet stop out (far_end_in n stop.ia out)
 put n packet stop (ToRouter router) =
@@ -60,8 +60,8 @@ put n packet stop (ToRouter router) =
 put n packet stop Deliver =
     record packet { place = Delivered; passed = noted packet.passed (hop_by stop 0) }
 
--- what a router's step makes of the packet: new bytes and a new place, or the refusal; and the
--- reply of the turn
+-- the reply of a turn and the packet after it: a step that succeeds gives new bytes and a new
+-- place, and a refusal only a new place
 abbrev pub stepped : Network → Packet → RouterStop → Result (Outcome × List ℕ) Refusal
     → TurnReply × Packet
 stepped n packet stop (Ok done) =
@@ -69,12 +69,12 @@ stepped n packet stop (Ok done) =
 stepped n packet stop (Err refusal) =
     (replies.Refused refusal, record packet { place = Refused stop.ia stop.router refusal })
 
--- nothing is done
+-- the reply and the packet if no router makes a step: the packet is as it was
 abbrev pub still : Packet → TurnReply × Packet
 still packet = (replies.Still, packet)
 
--- the turn of the router of this stop, by the view that the network has of it; if it has none,
--- nothing is done
+-- the turn of the router that has the packet, with the network's view of it; if there is no such
+-- router, no step is made
 abbrev pub by_view : Network → ℕ → Packet → RouterStop → Result View TopologyFault
     → TurnReply × Packet
 by_view n now packet stop (Ok view) =
@@ -85,11 +85,11 @@ abbrev pub by_place : Network → ℕ → Packet → PacketLocation → TurnRepl
 by_place n now packet (AtRouter stop) = by_view n now packet stop (view_in n stop.ia stop.router)
 by_place n now packet place = still packet
 
--- one turn: the reply and the packet after it; a packet that is at no router stays as it is
+-- one turn: the reply, and the packet after it; a packet that is at no router stays as it is
 unfoldable pub turn_of : Network → ℕ → Packet → TurnReply × Packet
 turn_of n now packet = by_place n now packet packet.place
 
--- the same by a view that is given
+-- `turn_of` with a given view in place of the network's
 abbrev pub at_place : Network → View → ℕ → Packet → PacketLocation → TurnReply × Packet
 at_place n view now packet (AtRouter stop) =
     stepped n packet stop (packet_step view now stop.arrival packet.bytes)
@@ -102,7 +102,7 @@ turn_under n view now packet = at_place n view now packet packet.place
 abbrev pub turned : Network → ℕ → Packet → Packet
 turned n now packet = (turn_of n now packet).1
 
--- the packet after a turn at each of these moments
+-- the packet after a turn at each of these seconds
 abbrev pub after : Network → Packet → List ℕ → Packet
 after n packet [] = packet
 after n packet (now ∷ later) = after n (turned n now packet) later
@@ -111,11 +111,11 @@ after n packet (now ∷ later) = after n (turned n now packet) later
 abbrev pub IsAtNoRouter : Packet → Type 0
 IsAtNoRouter packet = (stop : RouterStop) → packet.place ≢ AtRouter stop
 
--- a packet that was lost on its way
+-- the packet after it was lost on its way
 abbrev pub lost : Packet → Packet
 lost packet = record packet { place = Lost }
 
--- a packet with this byte changed by exclusive or
+-- the packet with this byte changed by exclusive or
 abbrev pub altered : Packet → ℕ → ℕ → Packet
 altered packet at change = record packet {
   bytes = slice_set packet.bytes at (bit_xor (slice_index packet.bytes at) change);

@@ -3,14 +3,14 @@ use Rattle.std.specs.Prelude.{ℕ, ◌+◌, ◌*◌, List, [], ◌∷◌, ◌++�
 use Rattle.std.specs.Int.{w16, w32, to_be_bytes}
 use Rattle.hop_mac.specs.Hmac.{hmac_under, padded}
 
--- what a hop's authenticator is computed over: 2 zero bytes, the accumulator, the segment's
--- timestamp, a zero byte, the hop's expiry, its two interfaces, 2 zero bytes
+-- the input of a hop's authenticator: 2 zero bytes, the accumulator, the segment's timestamp, a
+-- zero byte, the hop's expiry, its two interfaces, 2 zero bytes
 abbrev pub input_of : ℕ → ℕ → ℕ → ℕ → ℕ → List ℕ
 input_of beta timestamp exp_time cons_ingress cons_egress =
     0 ∷ 0 ∷ [] ++ to_be_bytes w16 beta ++ to_be_bytes w32 timestamp ++ 0 ∷ exp_time ∷ []
     ++ to_be_bytes w16 cons_ingress ++ to_be_bytes w16 cons_egress ++ 0 ∷ 0 ∷ []
 
--- the authenticator of a hop under a padded key
+-- the authenticator of a hop under a padded key: the first 6 bytes of the HMAC
 abbrev pub authenticator_under : List ℕ → ℕ → ℕ → ℕ → ℕ → ℕ → List ℕ
 authenticator_under block beta timestamp exp_time cons_ingress cons_egress =
     take 6 (hmac_under block (input_of beta timestamp exp_time cons_ingress cons_egress))
@@ -19,6 +19,7 @@ authenticator_under block beta timestamp exp_time cons_ingress cons_egress =
 abbrev pub authenticator : List ℕ → ℕ → ℕ → ℕ → ℕ → ℕ → List ℕ
 authenticator key = authenticator_under (padded key)
 
--- the accumulator after a hop: this one exclusive or the first two bytes of the hop's authenticator
+-- the accumulator after a hop: the one before it, exclusive or the first two bytes of the hop's
+-- authenticator
 abbrev pub beta_after : ℕ → List ℕ → ℕ
 beta_after beta mac = bit_xor beta (slice_index mac 0 * 256 + slice_index mac 1)

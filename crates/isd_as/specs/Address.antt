@@ -1,6 +1,6 @@
 -- Addresses of autonomous systems as text (draft-dekater-scion-controlplane, the text form of
--- ISD-AS numbers). The relations say which texts stand for a number: leading zeros and letters of
--- either case are fine. `canonical` is the one text of them that is printed.
+-- ISD-AS numbers). The relations say which texts mean a number: leading zeros and letters of either
+-- case are allowed. `canonical` is the one text among them that is printed.
 use Rattle.std.specs.Prelude.{◌≡◌, ℕ, ◌+◌, ◌*◌, ◌/◌, ◌%◌, ◌^◌, ◌<◌, ◌≤◌, ◌⊎◌, false, nat_lt, if◌then◌else◌, List, ◌∷◌, ◌++◌, length}
 use Rattle.std.specs.Fmt.{decimal, digits}
 use Rattle.std.specs.Str.Parse.{IsNumeral, digits_value}
@@ -17,7 +17,7 @@ as_number_of address = address % 2 ^ 48
 abbrev pub address_of : ℕ → ℕ → ℕ
 address_of isd as_number = isd * 2 ^ 48 + as_number
 
--- the ISD or the AS number is the wildcard 0
+-- the ISD or the AS number of the address is the wildcard 0
 abbrev pub IsWildcard : ℕ → Type 0
 IsWildcard address = (isd_of address ≡ 0) ⊎ (as_number_of address ≡ 0)
 
@@ -29,17 +29,17 @@ dash = 45
 abbrev pub colon : ℕ
 colon = 58
 
--- the text is one or more digits of the radix, and the number is theirs
+-- the text is one or more digits of the radix, and their value is the number
 pub record Writes (radix : ℕ) (text : List ℕ) (n : ℕ) : Type 0 where
   pub numeral : IsNumeral radix text
   pub value : digits_value radix text ≡ n
 
--- the text is 1 to 4 hexadecimal digits, and the number is theirs
+-- the text is 1 to 4 hexadecimal digits, and their value is the number
 pub record WritesGroup (text : List ℕ) (n : ℕ) : Type 0 where
   pub written : Writes 16 text n
   pub short : length text ≤ 4
 
--- the text is three groups joined by ':', and the number has 16 bits from each, the highest first
+-- the text is three groups joined by ':'; each group gives 16 bits of the number, the highest first
 pub record SpellsGroups (text : List ℕ) (n : ℕ) : Type 0 where
   pub high : ℕ
   pub middle : ℕ
@@ -53,22 +53,21 @@ pub record SpellsGroups (text : List ℕ) (n : ℕ) : Type 0 where
   pub middle_written : WritesGroup second middle
   pub low_written : WritesGroup third low
 
--- the text of an ISD: a decimal number of 16 bits
+-- the text is a decimal number of 16 bits: the ISD
 pub record SpellsIsd (text : List ℕ) (n : ℕ) : Type 0 where
   pub written : Writes 10 text n
   pub small : n < 2 ^ 16
 
--- a decimal number of 32 bits
+-- the text is a decimal number of 32 bits
 pub record SpellsDecimal (text : List ℕ) (n : ℕ) : Type 0 where
   pub written : Writes 10 text n
   pub small : n < 2 ^ 32
 
--- the text of an AS number: a decimal number of 32 bits, or three groups
+-- the text is an AS number: a decimal number of 32 bits, or three groups
 abbrev pub SpellsAs : List ℕ → ℕ → Type 0
 SpellsAs text n = SpellsDecimal text n ⊎ SpellsGroups text n
 
--- the text of an address: an ISD, '-' and an AS number, the high 16 and the low 48 bits of the
--- address
+-- the text is an address: an ISD (its high 16 bits), '-' and an AS number (its low 48 bits)
 pub record Spells (text : List ℕ) (address : ℕ) : Type 0 where
   pub isd : ℕ
   pub as_number : ℕ
@@ -79,14 +78,14 @@ pub record Spells (text : List ℕ) (address : ℕ) : Type 0 where
   pub isd_spelled : SpellsIsd front isd
   pub as_spelled : SpellsAs back as_number
 
--- how an AS number is printed: in decimal up to 4294967295, and above in three groups
--- of lower-case hexadecimal digits without leading zeros
+-- the printed text of an AS number: decimal up to 4294967295, and above that three groups of
+-- lower-case hexadecimal digits without leading zeros
 abbrev pub canonical_as : ℕ → List ℕ
 canonical_as n = if nat_lt n (2 ^ 32) then decimal n
     else digits 16 false (n / 2 ^ 32)
     ++ (colon ∷ (digits 16 false (n / 2 ^ 16 % 2 ^ 16)
     ++ (colon ∷ digits 16 false (n % 2 ^ 16))))
 
--- how an address is printed: its ISD in decimal, '-' and its AS number
+-- the printed text of an address: its ISD in decimal, '-' and its AS number
 abbrev pub canonical : ℕ → List ℕ
 canonical address = decimal (isd_of address) ++ (dash ∷ canonical_as (as_number_of address))

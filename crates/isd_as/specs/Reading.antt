@@ -1,6 +1,6 @@
--- What reading an address answers: its number, or the first refusal in this order. Without a '-' it
--- is NoDash. Then the ISD: BadDigit before IsdRange. Then the AS number: without a ':' BadDigit
--- before AsRange, and with one BadGroups before BadDigit.
+-- What reading an address answers: its number, or the first refusal in this order. A text without
+-- '-' is NoDash. Then comes the ISD: BadDigit before IsdRange. Then comes the AS number: BadDigit
+-- before AsRange if it has no ':', and BadGroups before BadDigit if it has one.
 use Rattle.std.specs.Prelude.{ℕ, ◌+◌, ◌*◌, ◌^◌, Bool, ◌&&◌, nat_lt, ◌==◌, if◌then◌else◌, List, length, Result, Ok, Err}
 use Rattle.std.specs.Char.{digit_value}
 use Rattle.std.specs.List.{list_all, list_any}
@@ -17,7 +17,7 @@ use Rattle.isd_as.specs.Address.{address_of, dash, colon}
 abbrev pub all_digits : ℕ → List ℕ → Bool
 all_digits radix text = list_all (λ b. nat_lt (digit_value b) radix) text
 
--- the number of a text of digits: BadDigit comes before the refusal of one that is not below the
+-- the value of a text of digits: BadDigit is checked first, and then whether the value is below the
 -- limit
 unfoldable pub number_at : ℕ → ℕ → AddrFault → List ℕ → Result ℕ AddrFault
 number_at radix limit too_large text = if nat_lt 0 (length text) && all_digits radix text
@@ -25,7 +25,7 @@ number_at radix limit too_large text = if nat_lt 0 (length text) && all_digits r
     else Err too_large)
     else Err fault.BadDigit
 
--- the number of an ISD
+-- the number of an ISD, a decimal number of 16 bits
 unfoldable pub isd_at : List ℕ → Result ℕ AddrFault
 isd_at text = number_at 10 (2 ^ 16) fault.IsdRange text
 
@@ -33,8 +33,8 @@ isd_at text = number_at 10 (2 ^ 16) fault.IsdRange text
 abbrev pub is_group : List ℕ → Bool
 is_group text = nat_lt 0 (length (chars text)) && nat_lt (length (chars text)) 5
 
--- the number of three groups: how many they are and their lengths come before their digits, which
--- then always fit
+-- the number of three groups: their count and their lengths are checked before their digits; four
+-- digits always fit into 16 bits
 unfoldable pub groups_at : List ℕ → Result ℕ AddrFault
 groups_at text = do
   first ← ok_or (cut_at colon text) fault.BadGroups
@@ -47,12 +47,12 @@ groups_at text = do
         Ok (high * 2 ^ 32 + middle * 2 ^ 16 + low))
       else Err fault.BadGroups)
 
--- the number of an AS
+-- the number of an AS, as three groups if the text has a ':' and else in decimal
 unfoldable pub as_number_at : List ℕ → Result ℕ AddrFault
 as_number_at text = if list_any (λ b. b == colon) text then groups_at text
     else number_at 10 (2 ^ 32) fault.AsRange text
 
--- the number of an address
+-- the number of an address: NoDash first, then the refusals of its ISD, then those of its AS number
 unfoldable pub address_at : List ℕ → Result ℕ AddrFault
 address_at text = do
   parts ← ok_or (cut_at dash text) fault.NoDash

@@ -1,4 +1,4 @@
--- What is asked of the events that follow a packet, and what is then true of it
+-- Conditions on the events after a packet was sent, and what they guarantee for the packet
 -- (draft-dekater-scion-dataplane).
 use Rattle.std.specs.Prelude.{◌≡◌, ◌≢◌, ◌↔◌, ℕ, ◌+◌, ◌<◌, ◌≤◌, ◌==◌, Bool, true, false, if◌then◌else◌, List, [], ◌∷◌, ◌++◌, Some, IsOk, slice_get, All}
 use Rattle.policy_expr.specs.declared.hop.WalkHop.{WalkHop}
@@ -22,13 +22,13 @@ use Rattle.network_core.specs.Event.{EventValue, RouteValue, Send, Turn, Lose, A
 use Rattle.network_core.specs.Value.{Shipment, PacketValue, NetValue}
 use Rattle.network_core.specs.History.{EventRecord}
 
--- the event was done
+-- whether the event was done
 abbrev pub is_done : Reply → Bool
 is_done (replies.Refused fault) = false
 is_done reply = true
 
--- the event, if it was done, neither loses the packet nor alters it, and a turn of the packet finds
--- that the network lets its path through
+-- if the event was done, it neither loses nor alters the packet; and if it is a turn of the packet,
+-- the network forwards packets on its path then
 pub record LetsGoOn (p : ℕ) (sent : Shipment) (old : NetValue) (event : EventValue) (reply : Reply)
     : Type 0 where
   pub unlost : event ≡ Lose p → is_done reply ≡ true → ⊥
@@ -41,7 +41,7 @@ AllLetGoOn p sent net [] = Unit {0}
 AllLetGoOn p sent net (one ∷ later) =
     LetsGoOn p sent net one.event one.reply × AllLetGoOn p sent one.net later
 
--- how many of these events are turns of the packet
+-- the number of turns of the packet among these events
 abbrev pub is_turn_of : ℕ → EventValue → Bool
 is_turn_of p (Turn other) = other == p
 is_turn_of p event = false
@@ -50,10 +50,10 @@ abbrev pub turns_of : ℕ → List EventRecord → ℕ
 turns_of p [] = 0
 turns_of p (one ∷ later) = (if is_turn_of p one.event then 1 else 0) + turns_of p later
 
--- the packet, with `total` turns to its walk's end, of which `done` were had: no router has refused
--- it; the hops that it has passed are the beginning of its walk; it is delivered exactly once it
--- has had its turns, and stands at a router before; and it is delivered with its whole walk passed,
--- the header behind all pieces and the payload as it was sent
+-- the state of a packet whose walk takes `total` turns and that has had `done` of them. No router
+-- has refused it, and the hops that it has passed are the beginning of its walk. It is delivered if
+-- and only if it has had all its turns, and is at a router before. When it is delivered it has
+-- passed its whole walk, with the header at the end of all pieces and the payload as it was sent.
 pub record IsForwarded (net : NetValue) (p total done : ℕ) (sent : Shipment) : Type 0 where
   pub packet : PacketValue
   pub there : slice_get net.packets p ≡ Some packet
@@ -67,13 +67,13 @@ pub record IsForwarded (net : NetValue) (p total done : ℕ) (sent : Shipment) :
   pub whole : packet.packet.place ≡ places.Delivered → packet.packet
       ≡ arrived_with sent.way.source sent.way.destination sent.payload sent.way.pieces
 
--- each piece is of a segment that the network has made under some keys, which are accepted now,
--- over links that are up now
+-- each piece is of a segment that the network issued under some keys; its keys are accepted now,
+-- and its links are up
 abbrev pub AreSound : Network → List PieceValue → Type 0
 AreSound n pieces = All (λ piece. (keys : List (List ℕ)) × IsIssuedAndAccepted n keys piece) pieces
 
--- the event, if it was done, neither loses the packet nor alters it, cuts no link of its path and
--- changes no key of its ASes, and a turn of the packet comes while its path is live
+-- if the event was done, it neither loses nor alters the packet, cuts no link of its path, and
+-- changes no key of the path's ASes; and if it is a turn of the packet, its path is live then
 pub record LeavesUndisturbed (p : ℕ) (sent : Shipment) (old : NetValue) (event : EventValue)
     (reply : Reply) : Type 0 where
   pub unlost : event ≡ Lose p → is_done reply ≡ true → ⊥
@@ -90,23 +90,24 @@ AllLeaveUndisturbed p sent net (one ∷ later) =
     LeavesUndisturbed p sent net one.event one.reply
     × AllLeaveUndisturbed p sent one.net later
 
--- the network has the AS from which this was sent, and there the interface by which it leaves
+-- the network has the AS from which this was sent, and the interface by which the path leaves that
+-- AS
 abbrev pub MayDepart : Network → Shipment → Type 0
 MayDepart n sent = IsOk (owner_in n sent.way.source (first_out (walk_of sent.way.pieces)))
 
--- so it is for each packet of a network
+-- `MayDepart` for each packet of a network
 abbrev pub AllMayDepart : NetValue → Type 0
 AllMayDepart net = (i : ℕ) (one : PacketValue) → slice_get net.packets i ≡ Some one
     → MayDepart net.network one.sent
 
--- of the packet that a reply tells as sent, both addresses and the numbers of the header have a
--- place for their bits
+-- if the reply says that a packet was sent, both its addresses and the numbers of its header fit
+-- into their bits
 abbrev pub HasSentFrame : Reply → NetValue → Type 0
 HasSentFrame reply net = (p : ℕ) (one : PacketValue) → reply ≡ replies.Sent p
     → slice_get net.packets p ≡ Some one
     → HasFrame one.sent.way.source one.sent.way.destination one.sent.way.pieces
 
--- so it is of what the event sent, and of what each event sent
+-- `HasSentFrame` for the event if it is a Send, and for each event of a history
 abbrev pub IsFramed : EventValue → Reply → NetValue → Type 0
 IsFramed event reply net = (route : RouteValue) (payload : List ℕ) → event ≡ Send route payload
     → HasSentFrame reply net
@@ -114,7 +115,7 @@ IsFramed event reply net = (route : RouteValue) (payload : List ℕ) → event �
 abbrev pub AllFramed : List EventRecord → Type 0
 AllFramed history = All (λ one. IsFramed one.event one.reply one.net) history
 
--- a router has refused the packet; the packet is at a router
+-- the place of a packet that a router has refused, and of one that is at a router
 abbrev pub IsRefusedAt : PacketLocation → Type 0
 IsRefusedAt (places.Refused ia router refusal) = Unit {0}
 IsRefusedAt place = ⊥

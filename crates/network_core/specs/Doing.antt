@@ -1,4 +1,4 @@
--- What private calls answer that do one event (words of no public clause).
+-- Contracts of the private calls that do one event (words of no public clause).
 use Rattle.std.specs.Prelude.{◌≡◌, ◌⊎◌, List, ◌∷◌, ◌++◌, [], length, slice_get, ℕ, Some, Result, Ok, Err, IsOk}
 use Rattle.refusal.specs.declared.fault.OrMemory.{OrMemory}
 use Rattle.refusal.specs.declared.fault.OrMemory.TheVariants.{Memory, Refused}
@@ -15,34 +15,34 @@ use Rattle.network_core.specs.Delivery.{HasSentFrame, IsFramed}
 use Rattle.path_verifier.specs.declared.fault.VerifyFault.{VerifyFault}
 use Rattle.path_verifier.specs.Accepted.{IsAccepted, IsRefused}
 
--- what was to be made was made, or its refusal or running out of memory is told and nothing is
--- changed
+-- the call did what was to be made, or returns its refusal or that memory ran out, and changed
+-- nothing
 abbrev pub Does : Made → Type 0 → NetValue → NetValue → Result Reply (OrMemory EventFault) → Type 0
 Does made takes old new (Ok reply) = made ≡ Ok (reply, new)
 Does made takes old new (Err (Refused fault)) = (made ≡ Err fault) × (new ≡ old)
 Does made takes old new (Err Memory) = takes × (new ≡ old)
 
--- the error of a lower call as the event's
+-- the error of a lower call, as that of the event
 abbrev pub error_as : {F : Type 0} → (F → EventFault) → OrMemory F → OrMemory EventFault
 error_as of_fault Memory = Memory
 error_as of_fault (Refused fault) = Refused (of_fault fault)
 
--- one event was done so, what it sent having its frame; or its refusal or running out of memory is
--- told
+-- the event was done, and what it sent has a frame; or the call returns the refusal or that memory
+-- ran out, and changed nothing
 abbrev pub DoesEvent : NetValue → EventValue → NetValue → Result Reply (OrMemory EventFault)
     → Type 0
 DoesEvent old event new (Ok reply) = Step old event reply new × IsFramed event reply new
 DoesEvent old event new (Err (Refused fault)) = Step old event (replies.Refused fault) new
 DoesEvent old event new (Err Memory) = TakesMemory old event × (new ≡ old)
 
--- what was to be sent departed and has its frame, or its refusal or running out of memory is told
+-- the shipment was sent and has a frame; or the call returns the refusal or that memory ran out
 abbrev pub DoesSend : Result Shipment EventFault → NetValue → NetValue
     → Result Reply (OrMemory EventFault) → Type 0
 DoesSend sent old new (Ok reply) = Sends sent old reply new × HasSentFrame reply new
 DoesSend sent old new (Err (Refused fault)) = Sends sent old (replies.Refused fault) new
 DoesSend sent old new (Err Memory) = Departs old sent × (new ≡ old)
 
--- what was asked was answered, or its refusal or running out of memory is told
+-- the request was answered; or the call returns the refusal or that memory ran out
 abbrev pub DoesAsk : Result (List WeighedRules) EventFault → ℕ → ℕ → ℕ → NetValue → NetValue
     → Result Reply (OrMemory EventFault) → Type 0
 DoesAsk options src dst limit old new (Ok reply) = Asks options src dst limit old reply new
@@ -50,14 +50,14 @@ DoesAsk options src dst limit old new (Err (Refused fault)) =
     Asks options src dst limit old (replies.Refused fault) new
 DoesAsk options src dst limit old new (Err Memory) = IsOk options × (new ≡ old)
 
--- an answer is ready to be kept, or memory ran out
+-- the call returns an answer to the request that is ready to be kept, or memory ran out
 abbrev pub AnswersTo : {X : Type 0} → (X → KeptAnswer) → NetValue → ℕ → ℕ → List WeighedRules → ℕ
     → Result X (OrMemory EventFault) → Type 0
 AnswersTo view net src dst options limit (Ok x) = IsAnswerTo net src dst options limit (view x)
 AnswersTo view net src dst options limit (Err Memory) = Unit {0}
 AnswersTo view net src dst options limit (Err (Refused fault)) = ⊥
 
--- an answer was taken in, behind the others, or memory ran out
+-- the call added the answer at the end of the list, or memory ran out
 abbrev pub KeepsAnswer : KeptAnswer → NetValue → NetValue → Result Reply (OrMemory EventFault)
     → Type 0
 KeepsAnswer one old new (Ok reply) =
@@ -66,7 +66,7 @@ KeepsAnswer one old new (Ok reply) =
 KeepsAnswer one old new (Err Memory) = new ≡ old
 KeepsAnswer one old new (Err (Refused fault)) = ⊥
 
--- a packet is ready that would depart so, or its refusal or running out of memory is told
+-- the call returns the packet of the shipment, ready to be sent, or its refusal, or memory ran out
 abbrev pub Readies : {X : Type 0} → (X → PacketValue) → NetValue → Shipment
     → Result X (OrMemory EventFault) → Type 0
 Readies view net sent (Ok packet) =
@@ -85,20 +85,20 @@ Readies view net sent (Err (Refused fault)) =
     × (fault ≡ Path first)))
     ⊎ (IsAccepted (asked_at net.moment sent.way) × (departs net sent ≡ Err fault))
 
--- the same where there may be nothing to be sent
+-- `Readies` for a shipment that may itself be refused
 abbrev pub ReadiesFrom : {X : Type 0} → (X → PacketValue) → NetValue
     → Result Shipment EventFault → Result X (OrMemory EventFault) → Type 0
 ReadiesFrom view net (Ok sent) answer = Readies view net sent answer
 ReadiesFrom view net (Err fault) answer = answer ≡ Err (Refused fault)
 
--- what was judged, or its refusal
+-- the call returns what was judged, or the refusal; it takes no memory
 abbrev pub Judges : {X Y : Type 0} → (X → Y) → Result X (OrMemory EventFault)
     → Result Y EventFault → Type 0
 Judges view (Ok x) wanted = wanted ≡ Ok (view x)
 Judges view (Err (Refused fault)) wanted = wanted ≡ Err fault
 Judges view (Err Memory) wanted = ⊥
 
--- a packet was taken in, behind the others, or memory ran out
+-- the call added the packet at the end of the list, or memory ran out
 abbrev pub Keeps : PacketValue → NetValue → NetValue → Result Reply (OrMemory EventFault) → Type 0
 Keeps packet old new (Ok reply) =
     (reply ≡ replies.Sent (length old.packets))
@@ -106,7 +106,7 @@ Keeps packet old new (Ok reply) =
 Keeps packet old new (Err Memory) = new ≡ old
 Keeps packet old new (Err (Refused fault)) = ⊥
 
--- the place in the list of a packet that is in flight, or why there is none
+-- the call returns the place of a packet that is in flight, or why there is none
 abbrev pub Flies : NetValue → ℕ → Result ℕ (OrMemory EventFault) → Type 0
 Flies net number (Ok place) = (place ≡ number) × ((one : PacketValue)
     × ((slice_get net.packets number ≡ Some one) × (flying_at net number ≡ Ok one)))

@@ -1,18 +1,19 @@
--- What may happen in a network.
+-- The events of a network.
 use Rattle.std.specs.Prelude.{ℕ, List, Result}
 use Rattle.policy_expr.specs.declared.option_fault.OptionFault.{OptionFault}
 use Rattle.policy_expr.specs.Options.{WeighedRules}
 use Rattle.network_core.specs.Value.{Way}
 
--- by which way a packet is sent: a path of an answer, by the numbers of both; one that is given; or
--- the way back of a packet that was delivered, by its number
+-- the route of a packet that is sent: a path of an answer, by the numbers of both; a given path; or
+-- the way back of a delivered packet, by its number
 pub data RouteValue : Type 0 where
   ByAnswer : ℕ → ℕ → RouteValue
   ByWay : Way → RouteValue
   BackOf : ℕ → RouteValue
 
--- an event, with addresses, interfaces and numbers of beacons, answers and packets as numbers, keys
--- and payloads as their bytes, and policy options as they are read, or the refusal of their texts
+-- an event. Addresses, interfaces, and the numbers of beacons, answers and packets are numbers;
+-- keys and payloads are bytes. Policy options are those that their texts give, or the refusal of
+-- the texts.
 pub data EventValue : Type 0 where
   Tick : ℕ → EventValue
   Originate : ℕ → ℕ → ℕ → EventValue

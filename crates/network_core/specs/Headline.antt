@@ -1,5 +1,6 @@
--- The headline: what is asked of a packet that a history sends, and what is then true of it, by the
--- numbers of the events (draft-dekater-scion-dataplane; draft-dekater-scion-controlplane).
+-- The headline: conditions on the history in which a packet is sent, by the numbers of its events,
+-- and what they guarantee for the packet (draft-dekater-scion-dataplane;
+-- draft-dekater-scion-controlplane).
 use Rattle.std.specs.Prelude.{◌≡◌, ℕ, ◌+◌, ◌*◌, ◌<◌, ◌≤◌, true, List, length, slice_get, All, Any, take, drop, Some, Ok}
 use Rattle.path_verifier.specs.Piece.{PieceValue}
 use Rattle.path_verifier.specs.Walk.{walk_of}
@@ -19,20 +20,20 @@ use Rattle.network_core.specs.Step.{shipment_by, Step}
 use Rattle.network_core.specs.History.{EventRecord, net_at, Occurs, IssuedIn}
 use Rattle.network_core.specs.Delivery.{is_done, turns_of, IsForwarded}
 
--- event number k is this one, and was done
+-- event number `k` is this one and was done
 pub record IsDone (history : List EventRecord) (k : ℕ) (event : EventValue) : Type 0 where
   pub reply : Reply
   pub occurs : Occurs history k event reply
   pub done : is_done reply ≡ true
 
--- each piece is of a segment that was issued by events from number `begin` on and before number
--- `sent`
+-- each piece is of a segment that was issued by events of the history, from number `begin` on and
+-- before number `sent`
 abbrev pub AreIssuedFrom : NetValue → List EventRecord → ℕ → ℕ → List PieceValue → Type 0
 AreIssuedFrom start history begin sent pieces =
     All (λ piece. (first last : ℕ) × ((begin ≤ first) × ((last < sent)
     × IssuedIn start history first last piece.segment))) pieces
 
--- and the first of all these events has number `begin`
+-- `AreIssuedFrom`, and `begin` is the number of the first of all these events
 pub record HaveBeginning (start : NetValue) (history : List EventRecord) (sent : ℕ)
     (pieces : List PieceValue) : Type 0 where
   pub begin : ℕ
@@ -40,8 +41,8 @@ pub record HaveBeginning (start : NetValue) (history : List EventRecord) (sent :
   pub earliest : Any (λ piece. (last : ℕ) × ((last < sent)
       × IssuedIn start history begin last piece.segment)) pieces
 
--- the pieces are issued from number `begin` on; and from there on no AS of their travelled entries
--- has taken another key twice, and no link between two of them was cut
+-- the pieces were issued by events from number `begin` on. Since then no AS of their travelled
+-- entries has changed its key twice, and no link between two of these entries was cut.
 pub record Kept (start : NetValue) (history : List EventRecord) (sent : ℕ) (pieces : List PieceValue)
     : Type 0 where
   pub begin : ℕ
@@ -52,7 +53,7 @@ pub record Kept (start : NetValue) (history : List EventRecord) (sent : ℕ) (pi
   pub links : (k ia number : ℕ) → begin ≤ k → IsDone history k (CutLink ia number)
       → All (λ piece. AvoidsLink piece.segment piece.from piece.to ia number) pieces
 
--- and nobody alters the packet, nothing loses it, and each of its turns comes at a second not past
+-- `Kept`, and nobody alters the packet, nothing loses it, and each of its turns comes no later than
 -- the expiry of its path
 pub record Undisturbed (start : NetValue) (history : List EventRecord) (sent p : ℕ)
     (pieces : List PieceValue) : Type 0 where
@@ -63,13 +64,13 @@ pub record Undisturbed (start : NetValue) (history : List EventRecord) (sent p :
   pub least : IsExpiry pieces expiry
   pub in_time : (k : ℕ) → IsDone history k (Turn p) → 2 * (net_at start history k).moment ≤ expiry
 
--- the turns of a packet in the first k events that come after number sent
+-- the number of turns of the packet among the first `k` events, after event number `sent`
 abbrev pub turns_since : List EventRecord → ℕ → ℕ → ℕ → ℕ
 turns_since history sent p k = turns_of p (drop (sent + 1) (take k history))
 
--- what answers a delivered packet is sent by the way back: from its destination to its source, with
--- its pieces in reversed order and direction; this way is accepted at each second up to the expiry
--- of the path, and the event is refused as Expired after it
+-- a reply to the delivered packet goes the way back: from its destination to its source, over its
+-- pieces in reverse order and direction. The verifier accepts this way at each second up to the
+-- expiry of the path; after that the event is refused as Expired.
 pub record IsAnswerable (net : NetValue) (p : ℕ) (sent : Shipment) (payload : List ℕ)
     : Type 0 where
   pub back : Shipment
@@ -83,10 +84,10 @@ pub record IsAnswerable (net : NetValue) (p : ℕ) (sent : Shipment) (payload : 
       → (reply : Reply) (new : NetValue) → Step net (Send (BackOf p) payload) reply new
       → (reply ≡ Refused (Path Expired)) × (new ≡ net)
 
--- what event number `number` sent: its path was accepted; and after each later number of events,
--- where the packet was undisturbed up to there, it is forwarded, it is delivered once it has had
--- two turns for each hop field, and a delivered one may be answered with up to 1,024 bytes; and one
--- that is delivered stays as it is, whatever happens then
+-- the guarantees for the packet that event number `number` sent. Its path was accepted. After `k`
+-- events, if the packet was undisturbed so far, it is forwarded as `IsForwarded` says; it is
+-- delivered once it has had two turns for each hop field; and a delivered packet can be answered
+-- with up to 1,024 bytes. A delivered packet stays as it is, whatever happens then.
 pub record Headline (start : NetValue) (history : List EventRecord) (number p : ℕ) (sent : Shipment)
     : Type 0 where
   pub accepted : IsAccepted (asked_at (net_at start history number).moment sent.way)

@@ -9,9 +9,9 @@ use Rattle.network_core.specs.Step.{shipment_by}
 use Rattle.network_core.specs.History.{EventRecord, IsHistory, net_after, net_at, Occurs, AreIssued, AreAsked}
 use Rattle.network_core.specs.Headline.{HaveBeginning, Headline}
 
--- a history from a new network of this topology; every segment that is stored on the way was issued
--- by events of it, and every answer was given by one; what a Send of it sent is delivered where it
--- is undisturbed; and what was sent by an answer was issued before
+-- a history from a new network of this topology. Every segment that is ever stored was issued by
+-- its events, and every answer was given by one of them. Every packet that a Send sent has the
+-- guarantees of `Headline`, and one sent by an answer is on segments issued before.
 pub record IsRun (network : Network) (history : List EventRecord) : Type 0 where
   pub is : IsHistory (new_net network) history
   pub issued : AreIssued (new_net network) history
@@ -27,7 +27,7 @@ pub record IsRun (network : Network) (history : List EventRecord) : Type 0 where
       × ((shipment_by (net_at (new_net network) history number) (ByAnswer ask path) payload ≡ Ok sent)
       × HaveBeginning (new_net network) history number sent.way.pieces)
 
--- a run of these events leads to this network
+-- a run of these events ends with this network
 pub record Ran (network : Network) (events : List EventValue) (net : NetValue) : Type 0 where
   pub history : List EventRecord
   pub run : IsRun network history

@@ -1,4 +1,4 @@
--- Events as the definitions see them.
+-- The values of events.
 use Rattle.network_core.specs.declared.event.Event.{Event}
 use Rattle.network_core.specs.declared.event.Event.TheVariants as events
 use Rattle.network_core.specs.declared.event.Given.{Given}
@@ -6,7 +6,7 @@ use Rattle.policy_expr.specs.Options.{options_at}
 use Rattle.network_core.specs.Value.{Way}
 use Rattle.network_core.specs.Event.{ByAnswer, ByWay, BackOf, EventValue, Tick, Originate, Extend, Terminate, Sweep, Ask, Send, Turn, Lose, Alter, CutLink, MendLink, RotateKey}
 
--- the value of a way that is given
+-- the value of a given path
 abbrev pub way_of : Given → Way
 way_of given = record {
   source = given.source;

@@ -1,5 +1,6 @@
--- One event: what it is answered, and the network after it (draft-dekater-scion-controlplane,
--- beaconing and registration of path segments; draft-dekater-scion-dataplane).
+-- One event: its reply, and the network after it (draft-dekater-scion-controlplane, beaconing and
+-- registration of path segments; draft-dekater-scion-dataplane). The refusals are named in their
+-- order.
 use Rattle.std.specs.Prelude.{◌≡◌, ◌⊎◌, ℕ, true, false, nat_lt, nat_le, ◌&&◌, List, [], ◌∷◌, ◌++◌, length, slice_get, slice_set, Option, Some, None, Result, Ok, Err, IsOk}
 use Rattle.std.specs.Option.{ok_or, option_map_or}
 use Rattle.refusal.specs.Refusal.{◌>>=◌, check, refused_as, or_else}
@@ -35,50 +36,50 @@ use Rattle.network_core.specs.declared.reply.Reply.TheVariants.{Done, Begun, Reg
 use Rattle.network_core.specs.Event.{RouteValue, ByAnswer, ByWay, BackOf, EventValue, Tick, Originate, Extend, Terminate, Sweep, Ask, Send, Turn, Lose, Alter, CutLink, MendLink, RotateKey}
 use Rattle.network_core.specs.Value.{Way, KeptAnswer, way_on, asked_at, Shipment, PacketValue, NetValue}
 
--- what an event that is done makes of a network
+-- the result of an event: its reply and the network after it, or its refusal
 abbrev pub Made : Type 0
 Made = Result (Reply × NetValue) EventFault
 
--- the moment goes on: TimeBack
+-- the network's time goes on to `to`: TimeBack if that is earlier
 abbrev pub ticked : NetValue → ℕ → Made
 ticked net to = do
   _ ← check (nat_le net.moment to) faults.TimeBack
   Ok (Done, record net { moment = to })
 
--- one beacon more, of at most a million: TooMany
+-- the network with one more beacon: TooMany if it has a million already
 abbrev pub with_beacon : NetValue → Chain → Made
 with_beacon net beacon = do
   _ ← check (nat_lt (length net.beacons) 1_000_000) faults.TooMany
   Ok (Begun (length net.beacons), record net { beacons = net.beacons ++ beacon ∷ [] })
 
--- a beacon of this number: NoBeacon
+-- the beacon of this number: NoBeacon
 abbrev pub beacon_at : NetValue → ℕ → Result Chain EventFault
 beacon_at net beacon = ok_or (slice_get net.beacons beacon) faults.NoBeacon
 
--- what an AS begins, with the moment as its timestamp
+-- the beacon that an AS begins, with the current second as its timestamp
 abbrev pub begun : NetValue → ℕ → ℕ → ℕ → Result Chain EventFault
 begun net ia egress beta0 =
     refused_as faults.Beacon (originated net.network ia egress net.moment beta0)
 
--- what an AS makes of a beacon by passing it on
+-- the beacon after an AS has passed it on
 abbrev pub passed_on : NetValue → ℕ → ℕ → ℕ → Result Chain EventFault
 passed_on net beacon ia egress = do
   old ← beacon_at net beacon
   refused_as faults.Beacon (extended net.network old ia egress)
 
--- what an AS makes of a beacon by ending it
+-- the segment that a beacon becomes if it ends in an AS
 abbrev pub ended : NetValue → ℕ → ℕ → Result Chain EventFault
 ended net beacon ia = do
   old ← beacon_at net beacon
   refused_as faults.Beacon (terminated net.network old ia)
 
--- a segment is registered at the moment
+-- the network after a segment was registered at the current second
 abbrev pub with_segment : NetValue → Chain → Made
 with_segment net segment = do
   is_new ← refused_as faults.Store (answer_to net.segments segment net.moment)
   Ok (Registered is_new, record net { segments = registered net.segments segment net.moment })
 
--- a beacon more, begun or passed on, and a segment more
+-- Originate and Extend: one more beacon; Terminate: one more segment
 abbrev pub originates : NetValue → ℕ → ℕ → ℕ → Made
 originates net ia egress beta0 = begun net ia egress beta0 >>= with_beacon net
 
@@ -88,14 +89,14 @@ extends net beacon ia egress = passed_on net beacon ia egress >>= with_beacon ne
 abbrev pub terminates : NetValue → ℕ → ℕ → Made
 terminates net beacon ia = ended net beacon ia >>= with_segment net
 
--- the store without the segments that are not live at the moment
+-- the network without the stored segments that are not live at the current second
 abbrev pub cleared : NetValue → Made
 cleared net = Ok (
   Swept (expired_count net.segments net.moment),
   record net { segments = swept net.segments net.moment },
 )
 
--- another topology, where the change of it is done
+-- the network with a changed topology, or the refusal of the change
 abbrev pub with_network : NetValue → Result Network TopologyFault → Made
 with_network net changed = do
   network ← refused_as faults.Topology changed
@@ -103,8 +104,8 @@ with_network net changed = do
 
 -- ---- asking for paths
 
--- the options under which paths are asked for, at most `limit` of them: BadLimit; the refusal of
--- the options' texts; that of one AS at both ends; TooMany
+-- the options of a request for at most `limit` paths: BadLimit, then the refusal of the options'
+-- texts, then SameAs, then TooMany
 abbrev pub options_asked : NetValue → ℕ → ℕ → Result (List WeighedRules) OptionFault → ℕ
     → Result (List WeighedRules) EventFault
 options_asked net src dst read limit = do
@@ -114,14 +115,14 @@ options_asked net src dst read limit = do
   _ ← check (nat_lt (length net.answers) 1_000_000) faults.TooMany
   Ok options
 
--- the policy of the option that is used; where none is, the one that allows every walk
+-- the policy of the used option, or the policy that allows every path if none was used
 abbrev pub rules_used : List WeighedRules → Option ℕ → Rules
 rules_used options None = no_rules
 rules_used options (Some used) =
     option_map_or (λ (option : WeighedRules). option.rules) (slice_get options used) no_rules
 
--- what is kept is what the network's segments answer at the moment, with the policy of the option
--- that is used
+-- the kept answer is what the network's segments answer at the current second, with the policy of
+-- the used option
 pub record IsAnswerTo (net : NetValue) (src dst : ℕ) (options : List WeighedRules) (limit : ℕ)
     (one : KeptAnswer) : Type 0 where
   pub source : one.source ≡ src
@@ -130,7 +131,7 @@ pub record IsAnswerTo (net : NetValue) (src dst : ℕ) (options : List WeighedRu
       one.answer.used one.answer.paths
   pub rules : one.rules ≡ rules_used options one.answer.used
 
--- an answer more, and it is told by its number
+-- the network with one more answer, and a reply with its number
 pub record GivesAnswer (options : List WeighedRules) (src dst limit : ℕ) (old : NetValue)
     (reply : Reply) (new : NetValue) : Type 0 where
   pub one : KeptAnswer
@@ -138,7 +139,7 @@ pub record GivesAnswer (options : List WeighedRules) (src dst limit : ℕ) (old 
   pub told : reply ≡ Answered (length old.answers)
   pub kept : new ≡ record old { answers = old.answers ++ one ∷ [] }
 
--- the request is answered, or refused
+-- the request is answered, or refused without a change
 abbrev pub Asks : Result (List WeighedRules) EventFault → ℕ → ℕ → ℕ → NetValue → Reply → NetValue
     → Type 0
 Asks (Ok options) src dst limit old reply new =
@@ -147,11 +148,11 @@ Asks (Err fault) src dst limit old reply new = (reply ≡ Refused fault) × (new
 
 -- ---- packets on their way
 
--- a packet of this number: NoPacket
+-- the packet of this number: NoPacket
 abbrev pub packet_at : NetValue → ℕ → Result PacketValue EventFault
 packet_at net number = ok_or (slice_get net.packets number) faults.NoPacket
 
--- the packet is at a router: NotInFlight
+-- the packet is at a router: else NotInFlight
 abbrev pub is_in_flight : PacketLocation → Result (Unit {0}) EventFault
 is_in_flight (places.AtRouter stop) = Ok tt
 is_in_flight place = Err faults.NotInFlight
@@ -162,12 +163,12 @@ flying_at net number = do
   _ ← is_in_flight one.packet.place
   Ok one
 
--- the network with this packet of this number changed
+-- the network with the packet of this number replaced
 abbrev pub with_packet : NetValue → ℕ → PacketValue → Packet → NetValue
 with_packet net number one packet =
     record net { packets = slice_set net.packets number (record one { packet = packet }) }
 
--- a turn of a packet at the moment
+-- the network after a turn of a packet at the current second
 abbrev pub turns : NetValue → ℕ → Made
 turns net number = do
   one ← flying_at net number
@@ -176,13 +177,13 @@ turns net number = do
     with_packet net number one (turn_of net.network net.moment one.packet).1,
   )
 
--- a packet is lost
+-- the network after a packet was lost
 abbrev pub loses : NetValue → ℕ → Made
 loses net number = do
   one ← flying_at net number
   Ok (Done, with_packet net number one (lost one.packet))
 
--- a byte of a packet is changed by exclusive or: BadOffset
+-- the network after a byte of a packet was changed by exclusive or: BadOffset
 abbrev pub alters : NetValue → ℕ → ℕ → ℕ → Made
 alters net number at change = do
   one ← flying_at net number
@@ -191,15 +192,15 @@ alters net number at change = do
 
 -- ---- sending
 
--- the header of a packet that was delivered, reversed: NotDelivered
+-- the reversed header of a delivered packet: else NotDelivered
 abbrev pub header_back : Packet → PacketLocation → Result HeaderValue EventFault
 header_back packet places.Delivered = do
   read ← or_else faults.NotDelivered (header_in packet.bytes)
   Ok (reversed read.0)
 header_back packet place = Err faults.NotDelivered
 
--- the way back of a delivered packet: source and destination exchanged, as its bytes have them,
--- with this header, the pieces of what was sent in reversed order and direction, and no policy
+-- the way back of a delivered packet: its source and destination, as its bytes give them,
+-- exchanged; this header; the pieces of its path in reverse order and direction; and no policy
 abbrev pub way_back : PacketValue → HeaderValue → Way
 way_back one header = record {
   source = destination_of one.packet.bytes;
@@ -209,7 +210,7 @@ way_back one header = record {
   rules = no_rules;
 }
 
--- the way of a route: NoAnswer, where there is no such answer or it has no such path; NoPacket,
+-- the way of a route: NoAnswer if there is no such answer or it has no such path; NoPacket,
 -- NotDelivered
 abbrev pub way_by : NetValue → RouteValue → Result Way EventFault
 way_by net (ByAnswer ask path) = do
@@ -222,7 +223,7 @@ way_by net (BackOf number) = do
   header ← header_back one.packet one.packet.place
   Ok (way_back one header)
 
--- what is sent, of at most 1,024 bytes: PayloadTooLong
+-- the shipment of a way and a payload: PayloadTooLong above 1,024 bytes
 abbrev pub shipment_of : Way → List ℕ → Result Shipment EventFault
 shipment_of way payload = do
   _ ← check (nat_le (length payload) 1024) faults.PayloadTooLong
@@ -233,7 +234,7 @@ shipment_by net route payload = do
   way ← way_by net route
   shipment_of way payload
 
--- the packet of it, at this router of its source
+-- the packet of a shipment, at this router of its source
 abbrev pub packet_of : Shipment → ℕ → PacketValue
 packet_of sent router = record {
   sent = sent;
@@ -241,8 +242,8 @@ packet_of sent router = record {
       sent.way.source router;
 }
 
--- a path that may be sent departs: the packet stands at the router that owns the way out of the
--- walk's first hop, and there are at most a million packets
+-- the network with the packet of this shipment, at the router that owns the first way out of its
+-- walk: the refusal of the topology, then TooMany if there are a million packets already
 abbrev pub departs : NetValue → Shipment → Made
 departs net sent = do
   router ← refused_as faults.Topology
@@ -252,12 +253,13 @@ departs net sent = do
 
 -- ---- each event
 
--- an event is answered so and leads to this network; one that is refused changes nothing
+-- an event that is done gives its reply and its network; an event that is refused changes nothing
 abbrev pub Leads : Made → NetValue → Reply → NetValue → Type 0
 Leads (Ok made) old reply new = (reply ≡ made.0) × (new ≡ made.1)
 Leads (Err fault) old reply new = (reply ≡ Refused fault) × (new ≡ old)
 
--- a path that the verifier accepts at the moment departs, and another is refused by its fault
+-- if the verifier accepts the path at the current second, the event is answered as `departs` says;
+-- else it is refused by the verifier's fault
 abbrev pub Sends : Result Shipment EventFault → NetValue → Reply → NetValue → Type 0
 Sends (Ok sent) old reply new =
     (IsAccepted (asked_at old.moment sent.way) × Leads (departs old sent) old reply new)
@@ -265,7 +267,7 @@ Sends (Ok sent) old reply new =
     × ((reply ≡ Refused (faults.Path fault)) × (new ≡ old))))
 Sends (Err fault) old reply new = (reply ≡ Refused fault) × (new ≡ old)
 
--- one event
+-- one event, from the network before it to its reply and the network after it
 abbrev pub Step : NetValue → EventValue → Reply → NetValue → Type 0
 Step old (Tick to) reply new = Leads (ticked old to) old reply new
 Step old (Originate ia egress beta0) reply new =
@@ -286,12 +288,13 @@ Step old (MendLink ia interface) reply new =
 Step old (RotateKey ia key) reply new =
     Leads (with_network old (rotated ia key old.network)) old reply new
 
--- a path that the verifier accepts departs
+-- the verifier accepts the path, and the packet departs
 abbrev pub Departs : NetValue → Result Shipment EventFault → Type 0
 Departs net (Ok sent) = IsAccepted (asked_at net.moment sent.way) × IsOk (departs net sent)
 Departs net (Err fault) = ⊥
 
--- running out of memory is possible: the event makes a beacon, a segment, an answer or a packet
+-- when memory may run out: the event is not refused, and makes a beacon, a segment, an answer or a
+-- packet
 abbrev pub TakesMemory : NetValue → EventValue → Type 0
 TakesMemory net (Tick to) = ⊥
 TakesMemory net (Originate ia egress beta0) = IsOk (begun net ia egress beta0)

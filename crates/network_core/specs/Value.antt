@@ -10,7 +10,7 @@ use Rattle.combinator.specs.Candidate.{PathValue}
 use Rattle.combinator.specs.Answer.{AnswerValue}
 use Rattle.forwarding.specs.Turn.{Packet}
 
--- a path with its ends, and the policy under which it is sent
+-- a way of a packet: a path with its ends, and the policy under which it is sent
 pub record Way : Type 0 where
   pub source : ℕ
   pub destination : ℕ
@@ -18,30 +18,29 @@ pub record Way : Type 0 where
   pub header : HeaderValue
   pub rules : Rules
 
--- what the verifier is asked of it at a second
+-- the verifier's request for a way at a second
 abbrev pub asked_at : ℕ → Way → Request
 asked_at moment way =
     request_of way.pieces way.header way.source way.destination moment way.rules
 
--- what was accepted for sending
+-- a shipment: the way and the payload that were accepted for sending
 pub record Shipment : Type 0 where
   pub way : Way
   pub payload : List ℕ
 
--- a packet: what was sent, and the packet on its way
+-- a packet of the network: its shipment, and the packet on its way
 pub record PacketValue : Type 0 where
   pub sent : Shipment
   pub packet : Packet
 
--- an answer that is kept: the ends of the request, what was answered, and the policy of the option
--- that is used
+-- a kept answer: the ends of the request, the answer, and the policy of the used option
 pub record KeptAnswer : Type 0 where
   pub source : ℕ
   pub destination : ℕ
   pub answer : AnswerValue
   pub rules : Rules
 
--- the way of one of its paths
+-- the way of one path of an answer
 abbrev pub way_on : KeptAnswer → PathValue → Way
 way_on answered path = record {
   source = answered.source;
@@ -51,8 +50,8 @@ way_on answered path = record {
   rules = answered.rules;
 }
 
--- the topology, the moment in seconds, the beacons by number, the segments of the store in order of
--- registration, and the answers and the packets by number
+-- a network: its topology, the current second, the beacons by number, the stored segments in the
+-- order of registration, and the answers and the packets by number
 pub record NetValue : Type 0 where
   pub network : Network
   pub moment : ℕ
@@ -61,7 +60,7 @@ pub record NetValue : Type 0 where
   pub answers : List KeptAnswer
   pub packets : List PacketValue
 
--- a network at moment 0 with nothing in it
+-- the network of this topology at second 0, with nothing in it
 abbrev pub new_net : Network → NetValue
 new_net network = record {
   network = network;

@@ -1,4 +1,4 @@
--- Building a path header from its fields, with the first refusal that is met: the lengths of
+-- Building a path header from its fields, or the first refusal: the rules for segment lengths of
 -- draft-dekater-scion-dataplane, the SCION path type.
 use Rattle.std.specs.Prelude.{List, length, Bool, ◌==◌, ◌&&◌, ◌||◌, nat_lt, if◌then◌else◌, Result, Ok, Err}
 use Rattle.refusal.specs.Refusal.{◌>>=◌}
@@ -13,22 +13,23 @@ use Rattle.path_header.specs.Value.{HeaderValue, info_count, hop_count}
 abbrev pub has_gap : SegLens → Bool
 has_gap l = (l.first == 0) || ((l.second == 0) && nat_lt 0 l.third)
 
--- a length has more than six bits
+-- a length does not fit into six bits
 abbrev pub is_wide : SegLens → Bool
 is_wide l = nat_lt 63 l.first || (nat_lt 63 l.second || nat_lt 63 l.third)
 
--- the lengths, if they are those of a path
+-- the lengths if they are those of a path, and the first refusal otherwise
 abbrev pub checked_lens : SegLens → Result SegLens HeaderFault
 checked_lens l =
     if has_gap l || is_wide l then Err faults.SegLens
     else if nat_lt 64 (hop_count l) then Err faults.TooManyHops
     else Ok l
 
--- these lengths and fields, the packet standing at the first ones
+-- the header of these lengths and fields, with the packet at the first info and hop field
 abbrev pub first_header : SegLens → List InfoField → List HopField → HeaderValue
 first_header l infos hops = record { curr_inf = 0; curr_hf = 0; lens = l; infos = infos; hops = hops }
 
--- the header of these lengths and fields, if they are one
+-- the header of these lengths and fields: the lengths are checked first, and then the numbers of
+-- fields
 abbrev pub new_header : SegLens → List InfoField → List HopField → Result HeaderValue HeaderFault
 new_header l infos hops = do
   lens ← checked_lens l

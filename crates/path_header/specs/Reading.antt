@@ -1,4 +1,4 @@
--- Reading a path header from left to right, with the first refusal that is met: the bytes of
+-- Reading a path header from left to right, up to the first refusal: the layout of
 -- draft-dekater-scion-dataplane, the SCION path type.
 use Rattle.std.specs.Prelude.{ℕ, zero, suc, ◌+◌, ◌*◌, ◌/◌, ◌%◌, ◌^◌, List, [], ◌∷◌, length, drop, slice_index, nat_lt, ◌==◌, ◌&&◌, ◌||◌, bit_and, if◌then◌else◌, Result, Ok, Err}
 use Rattle.std.specs.Int.{w16, w32, from_be_bytes}
@@ -11,32 +11,32 @@ use Rattle.path_header.specs.declared.fields.HopField.{HopField}
 use Rattle.path_header.specs.Value.{HeaderValue, info_count, hop_count, len_for, header_len}
 use Rattle.path_header.specs.Building.{checked_lens}
 
--- the number of the first four bytes
+-- the number in the first four bytes, big-endian
 abbrev pub word_at : List ℕ → ℕ
 word_at bytes = from_be_bytes w32 (slice_index bytes 0 ∷ slice_index bytes 1 ∷ slice_index bytes 2 ∷ slice_index bytes 3 ∷ [])
 
--- the six bits of the meta field that have no meaning
+-- the six reserved bits of the meta field
 abbrev pub reserved_bits : ℕ → ℕ
 reserved_bits n = n / 2 ^ 18 % 64
 
--- what the meta field says as a number
+-- the meta field as its number of 32 bits encodes it
 abbrev pub meta_from : ℕ → Meta
 meta_from n = record { curr_inf = n / 2 ^ 30; curr_hf = n / 2 ^ 24 % 64; lens = record { first = n / 2 ^ 12 % 64; second = n / 2 ^ 6 % 64; third = n % 64 } }
 
--- this meta field, if its lengths are those of a path and the bytes hold all fields
+-- the meta field if its lengths are those of a path and the bytes are long enough for all fields
 abbrev pub announced : List ℕ → Meta → Result Meta HeaderFault
 announced bytes m = do
   lens ← checked_lens m.lens
   if nat_lt (length bytes) (len_for lens) then Err Short else Ok m
 
--- the meta field, if no reserved bit is set
+-- the meta field at the front: Short, then Reserved, then the refusals of `announced`
 unfoldable pub meta_at : List ℕ → Result Meta HeaderFault
 meta_at bytes =
     if nat_lt (length bytes) 4 then Err Short
     else if nat_lt 0 (reserved_bits (word_at bytes)) then Err Reserved
     else announced bytes (meta_from (word_at bytes))
 
--- what the info field at the front says
+-- the values in the info field at the front, without checks
 abbrev pub info_from : List ℕ → InfoField
 info_from bytes = record {
   construction = slice_index bytes 0 == 1;
@@ -44,14 +44,15 @@ info_from bytes = record {
   timestamp = from_be_bytes w32 (slice_index bytes 4 ∷ slice_index bytes 5 ∷ slice_index bytes 6 ∷ slice_index bytes 7 ∷ []);
 }
 
--- the info field at the front, if no flag but C and no reserved bit is set
+-- the info field at the front: PeerFlag if the flag P is set, Reserved if any bit but the flag C is
+-- set in its first two bytes
 unfoldable pub info_at : List ℕ → Result InfoField HeaderFault
 info_at bytes =
     if nat_lt 0 (bit_and (slice_index bytes 0) 2) then Err PeerFlag
     else if nat_lt 1 (slice_index bytes 0) || nat_lt 0 (slice_index bytes 1) then Err Reserved
     else Ok (info_from bytes)
 
--- what the hop field at the front says
+-- the values in the hop field at the front, without checks
 abbrev pub hop_from : List ℕ → HopField
 hop_from bytes = record {
   exp_time = slice_index bytes 1;
@@ -60,14 +61,14 @@ hop_from bytes = record {
   mac = slice_index bytes 6 ∷ slice_index bytes 7 ∷ slice_index bytes 8 ∷ slice_index bytes 9 ∷ slice_index bytes 10 ∷ slice_index bytes 11 ∷ [];
 }
 
--- the hop field at the front, if no flag and no reserved bit is set
+-- the hop field at the front: AlertFlag if a router alert is set, Reserved if another bit is
 unfoldable pub hop_at : List ℕ → Result HopField HeaderFault
 hop_at bytes =
     if nat_lt 0 (bit_and (slice_index bytes 0) 3) then Err AlertFlag
     else if nat_lt 0 (slice_index bytes 0) then Err Reserved
     else Ok (hop_from bytes)
 
--- a number of fields of this width, one after the other
+-- this many fields of this width, one after another
 unfoldable pub fields_at : {A : Type 0} → (List ℕ → Result A HeaderFault) → ℕ → ℕ → List ℕ → Result (List A) HeaderFault
 fields_at one width zero bytes = Ok []
 fields_at one width (suc n) bytes = do
@@ -75,7 +76,8 @@ fields_at one width (suc n) bytes = do
   xs ← fields_at one width n (drop width bytes)
   Ok (x ∷ xs)
 
--- the header at the front: the meta field, the info fields, the hop fields, and then the indices
+-- the header at the front: the meta field, the info fields, the hop fields, and last the check of
+-- both indices
 unfoldable pub header_at : List ℕ → Result HeaderValue HeaderFault
 header_at bytes = do
   m ← meta_at bytes
@@ -85,7 +87,7 @@ header_at bytes = do
       then Ok (record { curr_inf = m.curr_inf; curr_hf = m.curr_hf; lens = m.lens; infos = infos; hops = hops })
       else Err BadIndex
 
--- the header at the front, and its length
+-- the header at the front, and its length in bytes
 abbrev pub read_at : List ℕ → Result (HeaderValue × ℕ) HeaderFault
 read_at bytes = do
   v ← header_at bytes

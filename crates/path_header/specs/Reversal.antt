@@ -1,22 +1,22 @@
--- The way back: draft-dekater-scion-dataplane, reversal of a SCION path.
+-- The reversed path of a reply: draft-dekater-scion-dataplane, reversal of a SCION path.
 use Rattle.std.specs.Prelude.{ℕ, ◌-◌, not, List, [], ◌∷◌, length, map, reverse, filter, nat_lt}
 use Rattle.path_header.specs.declared.lens.SegLens.{SegLens}
 use Rattle.path_header.specs.declared.fields.InfoField.{InfoField}
 use Rattle.path_header.specs.Value.{HeaderValue, lens_from}
 
--- the lengths of the segments that there are, those that are not zero
+-- the lengths that are not zero, one for each segment
 abbrev pub path_lens : SegLens → List ℕ
 path_lens l = filter (λ n. nat_lt 0 n) (l.first ∷ l.second ∷ l.third ∷ [])
 
--- the same segments, the last one first
+-- the lengths with the segments in reverse order
 abbrev pub reversed_lens : SegLens → SegLens
 reversed_lens l = lens_from (reverse (path_lens l))
 
--- the same segment, travelled the other way
+-- the info field of the same segment, travelled the other way
 abbrev pub turned : InfoField → InfoField
 turned x = record x { construction = not x.construction }
 
--- the header of the way back: all fields from the last to the first, and the packet where it stood
+-- the header of the way back: all fields in reverse order, with the packet at the same hop field
 abbrev pub reversed : HeaderValue → HeaderValue
 reversed v = record {
   curr_inf = length v.infos - 1 - v.curr_inf;

@@ -1,29 +1,29 @@
--- A header as the bytes show it that spell it, and what a test for one answers.
+-- The header with which bytes begin, and the tests for one.
 use Rattle.std.specs.Prelude.{ℕ, Bool, true, false, List, [], Result, Ok, Err}
 use Rattle.path_header.specs.declared.fault.HeaderFault.{HeaderFault}
 use Rattle.path_header.specs.Value.{HeaderValue, lens_from}
 use Rattle.path_header.specs.Reading.{header_at}
 
--- whether there is a value, or the refusal
+-- the same result without its value
 abbrev pub judged : {A F : Type 0} → Result A F → Result (Unit {0}) F
 judged (Ok x) = Ok tt
 judged (Err fault) = Err fault
 
--- there is a value
+-- whether there is a value
 abbrev pub is_read : {A F : Type 0} → Result A F → Bool
 is_read (Ok x) = true
 is_read (Err fault) = false
 
--- these bytes begin with a header
+-- whether the bytes begin with a header
 abbrev pub has_header : List ℕ → Bool
 has_header bytes = is_read (header_at bytes)
 
--- the header that was read, and one without fields where none was
+-- the header that was read, or a header without fields if none was
 abbrev pub read_or_none : Result HeaderValue HeaderFault → HeaderValue
 read_or_none (Ok v) = v
 read_or_none (Err fault) =
     record { curr_inf = 0; curr_hf = 0; lens = lens_from []; infos = []; hops = [] }
 
--- the header with which these bytes begin, where they begin with one
+-- the header with which these bytes begin, or a header without fields if they begin with none
 abbrev pub header_at_front : List ℕ → HeaderValue
 header_at_front bytes = read_or_none (header_at bytes)

@@ -1,4 +1,4 @@
--- The one spelling of each path header: draft-dekater-scion-dataplane, the SCION path type.
+-- The one encoding of each path header: draft-dekater-scion-dataplane, the SCION path type.
 use Rattle.std.specs.Prelude.{◌≡◌, ℕ, ◌+◌, ◌*◌, ◌^◌, ◌<◌, List, ◌∷◌, ◌++◌, length, slice_index, if◌then◌else◌}
 use Rattle.std.specs.Int.{w16, w32, to_be_bytes}
 use Rattle.std.specs.List.{flat_map, AllByRecursion}
@@ -7,11 +7,12 @@ use Rattle.path_header.specs.declared.fields.InfoField.{InfoField}
 use Rattle.path_header.specs.declared.fields.HopField.{HopField}
 use Rattle.path_header.specs.Value.{HeaderValue, IsHeader}
 
--- what the meta field says: where the packet stands, and the lengths
+-- the meta field of a header: both indices and the lengths
 abbrev pub meta_of : HeaderValue → Meta
 meta_of v = record { curr_inf = v.curr_inf; curr_hf = v.curr_hf; lens = v.lens }
 
--- the meta field as a number of 32 bits: 2 and 6 bits of indices, 6 of zero, three lengths of 6
+-- the meta field as a number of 32 bits: indices of 2 and 6 bits, 6 zero bits, three lengths of 6
+-- bits
 abbrev pub meta_word : Meta → ℕ
 meta_word m = m.curr_inf * 2 ^ 30 + m.curr_hf * 2 ^ 24 + m.lens.first * 2 ^ 12 + m.lens.second * 2 ^ 6 + m.lens.third
 
@@ -27,12 +28,12 @@ hop_spelling x = 0 ∷ x.exp_time ∷ (to_be_bytes w16 x.cons_ingress ++ (to_be_
 abbrev pub spelling : HeaderValue → List ℕ
 spelling v = to_be_bytes w32 (meta_word (meta_of v)) ++ (flat_map info_spelling v.infos ++ flat_map hop_spelling v.hops)
 
--- the numbers of an info field have a place for their bits
+-- the numbers of an info field fit into their bits
 pub record InfoFits (x : InfoField) : Type 0 where
   pub seg_id : x.seg_id < 2 ^ 16
   pub timestamp : x.timestamp < 2 ^ 32
 
--- the numbers of a hop field have a place for their bits, and the authenticator is six bytes
+-- the numbers of a hop field fit into their bits, and the authenticator has six bytes
 pub record HopFits (x : HopField) : Type 0 where
   pub exp_time : x.exp_time < 256
   pub cons_ingress : x.cons_ingress < 2 ^ 16
@@ -40,12 +41,12 @@ pub record HopFits (x : HopField) : Type 0 where
   pub mac_len : length x.mac ≡ 6
   pub mac : (i : ℕ) → slice_index x.mac i < 256
 
--- all fields have a place for their bits
+-- the numbers of all fields fit into their bits
 pub record Fits (v : HeaderValue) : Type 0 where
   pub infos : AllByRecursion InfoFits v.infos
   pub hops : AllByRecursion HopFits v.hops
 
--- the grammar: these bytes, all of them, are the spelling of this header
+-- the grammar: the bytes are the encoding of this header, and nothing follows
 pub record Spells (bytes : List ℕ) (v : HeaderValue) : Type 0 where
   pub is_header : IsHeader v
   pub fits : Fits v

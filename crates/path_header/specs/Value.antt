@@ -4,7 +4,7 @@ use Rattle.path_header.specs.declared.lens.SegLens.{SegLens}
 use Rattle.path_header.specs.declared.fields.InfoField.{InfoField}
 use Rattle.path_header.specs.declared.fields.HopField.{HopField}
 
--- the number of segments, which is that of the info fields: the lengths that are not zero
+-- the number of segments, and so of info fields: the number of lengths that are not zero
 abbrev pub info_count : SegLens → ℕ
 info_count l = min 1 l.first + min 1 l.second + min 1 l.third
 
@@ -12,7 +12,8 @@ info_count l = min 1 l.first + min 1 l.second + min 1 l.third
 abbrev pub hop_count : SegLens → ℕ
 hop_count l = l.first + l.second + l.third
 
--- lengths of six bits of one to three segments, with at most 64 hop fields together
+-- the lengths are those of one to three segments: each fits into six bits, no empty one comes
+-- before another, and the hop fields are at most 64
 pub record AreLens (l : SegLens) : Type 0 where
   pub some : 0 < l.first
   pub no_gap : l.second ≡ 0 → l.third ≡ 0
@@ -21,15 +22,17 @@ pub record AreLens (l : SegLens) : Type 0 where
   pub third_fits : l.third < 64
   pub few : hop_count l ≤ 64
 
--- the length in bytes of a header of such segments: the meta field, each info and each hop field
+-- the length in bytes of a header with these lengths: the meta field, each info field and each hop
+-- field
 abbrev pub len_for : SegLens → ℕ
 len_for l = 4 + 8 * info_count l + 12 * hop_count l
 
--- these up to three lengths, and zero where there is none
+-- up to three lengths from a list, and zero for each that is missing
 abbrev pub lens_from : List ℕ → SegLens
 lens_from ns = record { first = slice_index ns 0; second = slice_index ns 1; third = slice_index ns 2 }
 
--- a path header: the current info and hop field by index, the lengths, and all fields in order
+-- a path header: the indices of the current info and hop field, the lengths, and all fields in
+-- order
 pub record HeaderValue : Type 0 where
   pub curr_inf : ℕ
   pub curr_hf : ℕ
@@ -37,7 +40,7 @@ pub record HeaderValue : Type 0 where
   pub infos : List InfoField
   pub hops : List HopField
 
--- the fields are as many as the lengths say, and both indices point to one of them
+-- the numbers of fields are those that the lengths give, and both indices point to a field
 pub record IsHeader (v : HeaderValue) : Type 0 where
   pub lens : AreLens v.lens
   pub infos : length v.infos ≡ info_count v.lens
@@ -49,18 +52,18 @@ pub record IsHeader (v : HeaderValue) : Type 0 where
 abbrev pub header_len : HeaderValue → ℕ
 header_len v = len_for v.lens
 
--- the number of hop fields of the segments before this one
+-- the number of hop fields in the segments before this one
 abbrev pub hops_before : SegLens → ℕ → ℕ
 hops_before l zero = 0
 hops_before l (suc zero) = l.first
 hops_before l (suc (suc zero)) = l.first + l.second
 hops_before l (suc (suc (suc n))) = hop_count l
 
--- the hop field is one of this segment
+-- the hop field belongs to this segment
 pub record IsInSegment (l : SegLens) (hop segment : ℕ) : Type 0 where
   pub starts : hops_before l segment ≤ hop
   pub ends : hop < hops_before l (suc segment)
 
--- the segment in which a hop field stands
+-- the segment to which a hop field belongs
 abbrev pub segment_at : SegLens → ℕ → ℕ
 segment_at l hop = if nat_lt hop l.first then 0 else if nat_lt hop (l.first + l.second) then 1 else 2

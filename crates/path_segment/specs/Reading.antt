@@ -1,5 +1,5 @@
 -- Reading a segment from JSON: an object with the named members and any others, in any order. A
--- whole number is one that is written as such.
+-- whole number is written without fraction and exponent.
 use Rattle.std.specs.Prelude.{ℕ, if◌then◌else◌, codes, List, Option, Some, None, Result, Err}
 use Rattle.std.specs.Result.{result_ok}
 use Rattle.std.specs.Str.{bytes_eq}
@@ -16,26 +16,26 @@ use Rattle.path_segment.specs.declared.kind.SegKind.TheVariants.{Core, Intra}
 use Rattle.path_segment.specs.Chain.{Chain}
 use Rattle.path_segment.specs.Rules.{segment_of}
 
--- an address, wildcards included
+-- the address in a member; a wildcard is allowed
 unfoldable pub address_in : List ℕ → Data → Option ℕ
 address_in name d = do
   text ← text_at name d
   result_ok (address_at text)
 
--- an authenticator: 12 hexadecimal digits of either case
+-- the authenticator in a member: 12 hexadecimal digits of either case
 unfoldable pub mac_at : List ℕ → Data → Option (List ℕ)
 mac_at name d = do
   text ← text_at name d
   result_ok (decode_sized text 6)
 
--- a kind
+-- the kind in a member: "core" or "intra"
 unfoldable pub kind_at : List ℕ → Data → Option SegKind
 kind_at name d = do
   text ← text_at name d
   if bytes_eq text (codes "core") then Some Core
       else if bytes_eq text (codes "intra") then Some Intra else None
 
--- an entry
+-- the entry of an object, or nothing if a member is missing or out of range
 unfoldable pub entry_at : Data → Option Entry
 entry_at d = do
   ia ← address_in (codes "ia") d
@@ -51,7 +51,7 @@ entry_at d = do
     mac = mac;
   })
 
--- what an object of this form describes, whether it keeps the rules or not
+-- the chain of an object in this form; the rules of segments are not checked yet
 unfoldable pub chain_at : Data → Option Chain
 chain_at d = do
   kind ← kind_at (codes "kind") d
@@ -61,7 +61,7 @@ chain_at d = do
   entries ← items_at entry_at items
   Some (record { kind = kind; timestamp = timestamp; beta0 = beta0; entries = entries })
 
--- the segment, or the refusal: NotJson where the form is another, then that of the rules
+-- the segment: NotJson if the form is wrong, else the first rule that the chain breaks
 abbrev pub judged : Option Chain → Result Chain SegmentFault
 judged None = Err faults.NotJson
 judged (Some chain) = segment_of chain

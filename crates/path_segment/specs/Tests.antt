@@ -1,4 +1,4 @@
--- Liveness and sameness of beacons and segments as tests.
+-- Tests whether chains are live and whether two of them are equal.
 use Rattle.std.specs.Prelude.{ℕ, ◌==◌, ◌&&◌, Bool, true, false, List}
 use Rattle.std.specs.Cmp.Lexicographic.{pointwise}
 use Rattle.std.specs.List.{list_all}
@@ -9,27 +9,27 @@ use Rattle.path_segment.specs.declared.kind.SegKind.{SegKind}
 use Rattle.path_segment.specs.declared.kind.SegKind.TheVariants.{Core, Intra}
 use Rattle.path_segment.specs.Chain.{Chain}
 
--- every hop is live at this second
+-- `AreLive` as a Boolean: every hop is live at this second
 unfoldable pub is_live : ℕ → Chain → Bool
 is_live now chain = list_all (λ entry. is_live_at chain.timestamp entry.exp_time now) chain.entries
 
--- the kinds are the same
+-- the kinds are equal
 abbrev pub same_kind : SegKind → SegKind → Bool
 same_kind Core Core = true
 same_kind Intra Intra = true
 same_kind one other = false
 
--- the entries are the same in each part
+-- the entries are equal in each part
 abbrev pub same_entry : Entry → Entry → Bool
 same_entry a b =
     (a.ia == b.ia) && ((a.cons_ingress == b.cons_ingress) && ((a.cons_egress == b.cons_egress)
     && ((a.exp_time == b.exp_time) && bytes_eq a.mac b.mac)))
 
--- the lists have the same entries in the same order
+-- the lists have equal entries in the same order
 abbrev pub same_entries : List Entry → List Entry → Bool
 same_entries = pointwise same_entry
 
--- the chains are the same in each part
+-- the chains are equal in each part
 unfoldable pub is_same : Chain → Chain → Bool
 is_same a b =
     same_kind a.kind b.kind && ((a.timestamp == b.timestamp) && ((a.beta0 == b.beta0)

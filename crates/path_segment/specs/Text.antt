@@ -15,7 +15,8 @@ abbrev pub kind_name : SegKind → List ℕ
 kind_name Core = codes "core"
 kind_name Intra = codes "intra"
 
--- an entry: the address in its canonical text, the authenticator in lower-case hexadecimal
+-- the JSON object of an entry: the address in its canonical text, the authenticator in lower-case
+-- hexadecimal
 unfoldable pub entry_data : Entry → Data
 entry_data entry = object (
     member (codes "egress") (number (unsigned entry.cons_egress)) (
@@ -24,7 +25,7 @@ entry_data entry = object (
     member (codes "ingress") (number (unsigned entry.cons_ingress)) (
     member (codes "mac") (string (encode_lower entry.mac)) no_members)))))
 
--- a segment
+-- the JSON object of a segment
 unfoldable pub segment_data : Chain → Data
 segment_data chain = object (
     member (codes "beta0") (number (unsigned chain.beta0)) (
@@ -32,6 +33,6 @@ segment_data chain = object (
     member (codes "kind") (string (kind_name chain.kind)) (
     member (codes "timestamp") (number (unsigned chain.timestamp)) no_members))))
 
--- the text of a segment, without blanks
+-- the text of a segment, without white space
 abbrev pub segment_text : Chain → List ℕ
 segment_text chain = compact_text (segment_data chain)

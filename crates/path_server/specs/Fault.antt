@@ -1,5 +1,4 @@
--- The refusals of a path store, as lines of text report them, and what registering a segment
--- answers.
+-- The refusals of a path store, as lines of text report them, and the errors of registering.
 use Rattle.std.specs.Prelude.{◌≡◌, ℕ, Bool, true, List, codes, Result, Ok, Err}
 use Rattle.refusal.specs.declared.fault.OrMemory.{OrMemory}
 use Rattle.refusal.specs.declared.fault.OrMemory.TheVariants.{Memory, Refused}
@@ -18,14 +17,13 @@ code_of refusal = (code_and_name refusal).0
 abbrev pub name_of : StoreFault → List ℕ
 name_of refusal = (code_and_name refusal).1
 
--- an error that fits what was to come: the refusal, or running out of memory where a new segment
--- was to be taken in
+-- the error fits the wanted answer: its refusal, or running out of memory if a new segment was to
+-- be stored
 abbrev pub FailsToTake : OrMemory StoreFault → Result Bool StoreFault → Type 0
 FailsToTake Memory wanted = wanted ≡ Ok true
 FailsToTake (Refused fault) wanted = wanted ≡ Err fault
 
--- what registering this segment answers: whether it is new, or an error, with the segment handed
--- back
+-- what registering a segment returns: whether it is new, or an error together with the segment
 abbrev pub Registers : Chain → Result Bool (Chain × OrMemory StoreFault) → Result Bool StoreFault
     → Type 0
 Registers segment (Ok is_new) wanted = wanted ≡ Ok is_new

@@ -1,4 +1,4 @@
--- Looking segments up for a source and a destination (draft-dekater-scion-controlplane, path
+-- Looking up the segments for a source and a destination (draft-dekater-scion-controlplane, path
 -- lookup).
 use Rattle.std.specs.Prelude.{◌≡◌, ◌⊎◌, ℕ, ◌==◌, ◌&&◌, ◌||◌, Bool, List, filter, Any, Contains}
 use Rattle.std.specs.List.{list_any}
@@ -6,7 +6,7 @@ use Rattle.path_segment.specs.declared.kind.SegKind.TheVariants.{Core, Intra}
 use Rattle.path_segment.specs.Chain.{Chain, AreLive, first_as, last_as}
 use Rattle.path_segment.specs.Tests.{is_live, same_kind}
 
--- the segments of a look-up, and the second for which they were looked up
+-- the segments that a lookup found, and the second for which it was made
 pub record Selection : Type 0 where
   pub ups : List Chain
   pub cores : List Chain
@@ -17,18 +17,18 @@ pub record Selection : Type 0 where
 unfoldable pub ends_in : ℕ → ℕ → Chain → Bool
 ends_in ia now segment = same_kind segment.kind Intra && (is_live now segment && (last_as segment == ia))
 
--- the AS is this one, or one in which one of these segments begins
+-- whether the AS is `ia` or one of these segments begins in it
 unfoldable pub is_reached : ℕ → List Chain → ℕ → Bool
 is_reached ia segments other = (other == ia) || list_any (λ segment. first_as segment == other) segments
 
--- a live core segment with one end among the ASes that are reached on the near side, and the other
--- among those on the far side
+-- a live core segment with one end on the near side and the other end on the far side, in either
+-- direction
 unfoldable pub joins : (ℕ → Bool) → (ℕ → Bool) → ℕ → Chain → Bool
 joins near far now segment =
     same_kind segment.kind Core && (is_live now segment
     && ((near (first_as segment) && far (last_as segment)) || (near (last_as segment) && far (first_as segment))))
 
--- the live segments for a source and a destination, each list in order of registration
+-- the live segments for a source and a destination, each list in the order of registration
 unfoldable pub segments_for : List Chain → ℕ → ℕ → ℕ → Selection
 segments_for segments src dst now =
     let ups = filter (ends_in src now) segments in
@@ -40,18 +40,19 @@ segments_for segments src dst now =
       moment = now;
     }
 
--- the same in plain facts: a segment of the list is a live intra segment to this AS
+-- `ends_in` without tests: a segment of the list that is intra, live, and ends in this AS
 pub record LeadsTo (segments : List Chain) (ia now : ℕ) (segment : Chain) : Type 0 where
   pub there : Contains segments segment
   pub kind : segment.kind ≡ Intra
   pub live : AreLive segment now
   pub last : last_as segment ≡ ia
 
--- the AS is this one, or one in which one of these segments begins
+-- `is_reached` as a type: the AS is `ia`, or one of these segments begins in it
 abbrev pub IsReached : ℕ → List Chain → ℕ → Type 0
 IsReached ia segments other = (other ≡ ia) ⊎ Any (λ segment. first_as segment ≡ other) segments
 
--- a segment of the list is a live core segment from the near side to the far side, either way round
+-- `joins` without tests: a live core segment of the list between the near side and the far side, in
+-- either direction
 pub record LeadsBetween (segments : List Chain) (near far : ℕ → Type 0) (now : ℕ)
     (segment : Chain) : Type 0 where
   pub there : Contains segments segment

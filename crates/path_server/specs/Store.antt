@@ -1,4 +1,4 @@
--- A path store, as a list of segments in order of registration (draft-dekater-scion-controlplane,
+-- A path store: a list of segments in the order of registration (draft-dekater-scion-controlplane,
 -- registration of path segments).
 use Rattle.std.specs.Prelude.{◌≡◌, ℕ, ◌<◌, ◌≤◌, Bool, true, false, not, nat_le, if◌then◌else◌, List, [], ◌∷◌, ◌++◌, filter, count_by, fold, Contains, Result, Ok, Err}
 use Rattle.std.specs.List.{list_any}
@@ -10,8 +10,8 @@ use Rattle.path_server.specs.declared.op.StoreOp.TheVariants.{Register, Sweep}
 use Rattle.path_segment.specs.Tests.{is_live, is_same}
 use Rattle.path_server.specs.Segment.{is_alike}
 
--- what registering a segment answers at this second: whether it is new, or the first cause why it
--- is refused
+-- what registering a segment at this second answers: whether it is new, or the first refusal:
+-- Expired, then Full
 unfoldable pub answer_to : List Chain → Chain → ℕ → Result Bool StoreFault
 answer_to segments segment now =
     if not (is_live now segment) then Err Expired
@@ -19,7 +19,7 @@ answer_to segments segment now =
     else if nat_le 32 (count_by (is_alike segment) segments) then Err Full
     else Ok true
 
--- the same in plain facts: no two of the answers hold at once
+-- `answer_to` without tests: which facts each answer means; no two of them hold at once
 abbrev pub IsAnswer : List Chain → Chain → ℕ → Result Bool StoreFault → Type 0
 IsAnswer segments segment now (Err Expired) = ¬ (AreLive segment now)
 IsAnswer segments segment now (Ok false) = AreLive segment now × Contains segments segment
@@ -28,24 +28,24 @@ IsAnswer segments segment now (Err Full) = AreLive segment now × ¬ (Contains s
 IsAnswer segments segment now (Ok true) = AreLive segment now × ¬ (Contains segments segment)
     × (count_by (is_alike segment) segments < 32)
 
--- the list with this segment at its end, where the answer is that it is new
+-- the list with this segment at its end if it is new, and else the list as it was
 abbrev pub with_new : Result Bool StoreFault → List Chain → Chain → List Chain
 with_new (Ok true) segments segment = segments ++ segment ∷ []
 with_new answer segments segment = segments
 
--- the list after a segment was registered at this second
+-- the list after this segment was registered at this second
 unfoldable pub registered : List Chain → Chain → ℕ → List Chain
 registered segments segment now = with_new (answer_to segments segment now) segments segment
 
--- the list after all that is not live at this second was taken out
+-- the list without the segments that are not live at this second
 unfoldable pub swept : List Chain → ℕ → List Chain
 swept segments now = filter (is_live now) segments
 
--- how many those are
+-- the number of segments that are not live at this second
 unfoldable pub expired_count : List Chain → ℕ → ℕ
 expired_count segments now = count_by (λ segment. not (is_live now segment)) segments
 
--- what is done to a store, and at which second
+-- an operation on a store, with the second at which it happens
 abbrev pub Operation : Type 0
 Operation = StoreOp
 
@@ -54,11 +54,11 @@ abbrev pub after : List Chain → Operation → List Chain
 after segments (Register segment now) = registered segments segment now
 after segments (Sweep now) = swept segments now
 
--- the operation takes a new segment in
+-- the operation stores a new segment
 abbrev pub TakesIn : Operation → List Chain → Type 0
 TakesIn (Register segment now) segments = answer_to segments segment now ≡ Ok true
 TakesIn (Sweep now) segments = ⊥
 
--- the store that these operations make, one after another
+-- the store after these operations, one after another, from an empty one
 abbrev pub store_of : List Operation → List Chain
 store_of operations = fold after [] operations

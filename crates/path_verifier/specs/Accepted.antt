@@ -1,6 +1,6 @@
--- Which paths may be sent, in plain facts (draft-dekater-scion-dataplane, segment combinations,
--- without peering), and by which fault any other is refused: the first rule that it breaks, in the
--- order of the faults' numbers.
+-- Which paths may be sent (draft-dekater-scion-dataplane, segment combinations, without peering).
+-- Any other path is refused by the fault of the first rule that it breaks, in the order of the
+-- faults' numbers.
 use Rattle.std.specs.Prelude.{◌≡◌, ◌⊎◌, ℕ, ◌+◌, ◌<◌, ◌≤◌, List, [], ◌∷◌, length, map, All, Any, Some, slice_get}
 use Rattle.hop_mac.specs.Lifetime.{expiry_of, IsLive}
 use Rattle.path_header.specs.Value.{HeaderValue}
@@ -19,21 +19,21 @@ use Rattle.path_verifier.specs.Header.{hop_count, header_of}
 abbrev pub IsCore : PieceValue → Type 0
 IsCore piece = kind_of piece ≡ Core
 
--- a piece of the second kind may come right behind one of the first
+-- a piece of the kind `next` may follow one of the kind `one`
 abbrev pub MayAdjoin : PieceKind → PieceKind → Type 0
 MayAdjoin Up Core = Unit {0}
 MayAdjoin Up Down = Unit {0}
 MayAdjoin Core Down = Unit {0}
 MayAdjoin one next = ⊥
 
--- each piece may come right behind the one before it
+-- each piece may follow the piece before it
 abbrev pub DoAdjoin : List PieceKind → Type 0
 DoAdjoin [] = Unit {0}
 DoAdjoin (kind ∷ []) = Unit {0}
 DoAdjoin (kind ∷ next ∷ later) = MayAdjoin kind next × DoAdjoin (next ∷ later)
 
--- where there is a core piece it is whole, and each other piece begins where its segment does;
--- where there is none all pieces do, or none does
+-- with a core piece: that piece is whole, and every other piece begins at the first entry of its
+-- segment; without one: all pieces begin at the first entry, or none does
 pub record AreCutWell (pieces : List PieceValue) : Type 0 where
   pub with_core : Any IsCore pieces → All (λ piece. (piece.from ≡ 0) × (IsCore piece → piece.to + 1 ≡ length piece.segment.entries)) pieces
   pub without : ¬ (Any IsCore pieces) → All (λ piece. piece.from ≡ 0) pieces ⊎ All (λ piece. 0 < piece.from) pieces
@@ -55,7 +55,7 @@ DoEndIn dst [] = ⊥
 DoEndIn dst (piece ∷ []) = ends_in piece ≡ dst
 DoEndIn dst (piece ∷ next ∷ later) = DoEndIn dst (next ∷ later)
 
--- no AS stands in two hops
+-- no two hops are of one AS
 abbrev pub NamesOnce : List WalkHop → Type 0
 NamesOnce walk = (j k : ℕ) (one other : WalkHop) → slice_get walk j ≡ Some one → slice_get walk k ≡ Some other → one.ia ≡ other.ia → j ≡ k
 
@@ -63,12 +63,13 @@ NamesOnce walk = (j k : ℕ) (one other : WalkHop) → slice_get walk j ≡ Some
 abbrev pub AreLive : ℕ → List PieceValue → Type 0
 AreLive now pieces = All (λ piece. All (λ entry. IsLive piece.segment.timestamp entry.exp_time now) (entries_of piece)) pieces
 
--- the half second at which the first hop of the pieces expires: one expires then, and none before
+-- `least` is the earliest expiry of the pieces' hops, in half seconds: one hop expires then, and
+-- none before
 pub record IsExpiry (pieces : List PieceValue) (least : ℕ) : Type 0 where
   pub reached : Any (λ piece. Any (λ entry. least ≡ expiry_of piece.segment.timestamp entry.exp_time) (entries_of piece)) pieces
   pub lower : All (λ piece. All (λ entry. least ≤ expiry_of piece.segment.timestamp entry.exp_time) (entries_of piece)) pieces
 
--- the pieces are a path from one AS to another, and live at this second
+-- the pieces are a path from `src` to `dst` that is live at this second
 pub record MakesPath (pieces : List PieceValue) (src dst now : ℕ) : Type 0 where
   pub some : 0 < length pieces
   pub ranges : All HasRange pieces
@@ -81,7 +82,8 @@ pub record MakesPath (pieces : List PieceValue) (src dst now : ℕ) : Type 0 whe
   pub once : NamesOnce (walk_of pieces)
   pub live : AreLive now pieces
 
--- pieces with a header, and what is asked of them: the ends, the second and the policy
+-- a request to the verifier: the pieces and the header, and the ends, the second and the policy to
+-- check them against
 pub record Request : Type 0 where
   pub pieces : List PieceValue
   pub header : HeaderValue
@@ -94,14 +96,14 @@ abbrev pub request_of : List PieceValue → HeaderValue → ℕ → ℕ → ℕ 
 request_of pieces header src dst moment rules =
     record { pieces = pieces; header = header; src = src; dst = dst; moment = moment; rules = rules }
 
--- the path may be sent: it is one, the header is that of the pieces, and the policy allows the walk
+-- the path may be sent: the pieces are a path, the header is theirs, and the policy allows the walk
 pub record IsAccepted (request : Request) : Type 0 where
   pub path : MakesPath request.pieces request.src request.dst request.moment
   pub header : request.header ≡ header_of request.pieces
   pub hops : AllowsHops request.rules.acl (walk_of request.pieces)
   pub word : HasWord request.rules.sequence (walk_of request.pieces)
 
--- the rule of which this fault is the breach
+-- the rule whose breach this fault reports
 abbrev pub Keeps : Request → VerifyFault → Type 0
 Keeps request PieceCount = 0 < length request.pieces
 Keeps request Range = All HasRange request.pieces
@@ -117,12 +119,14 @@ Keeps request HeaderDiffers = request.header ≡ header_of request.pieces
 Keeps request (AclDenied denied) = AllowsHops request.rules.acl (walk_of request.pieces)
 Keeps request SequenceMismatch = HasWord request.rules.sequence (walk_of request.pieces)
 
--- the path breaks it, that of the access control list by the hop and the entry that the fault names
+-- the path breaks the fault's rule; AclDenied also names the denied hop and the entry that denies
+-- it
 abbrev pub Breaks : Request → VerifyFault → Type 0
 Breaks request (AclDenied denied) = DeniesHop request.rules.acl (walk_of request.pieces) denied
 Breaks request fault = ¬ Keeps request fault
 
--- the path is refused by this fault: it breaks its rule, and keeps each of a lower number
+-- the path is refused by this fault: it breaks the fault's rule, and keeps every rule of a lower
+-- number
 pub record IsRefused (request : Request) (fault : VerifyFault) : Type 0 where
   pub broken : Breaks request fault
   pub before : (earlier : VerifyFault) → code_of earlier < code_of fault → Keeps request earlier

@@ -14,8 +14,8 @@ use Rattle.path_verifier.specs.Piece.{PieceValue, travelled, first_place}
 abbrev pub field_of : Entry → HopField
 field_of entry = record { exp_time = entry.exp_time; cons_ingress = entry.cons_ingress; cons_egress = entry.cons_egress; mac = entry.mac }
 
--- the info field of a piece: the direction, the accumulator at the entry that is travelled first,
--- the segment's timestamp
+-- the info field of a piece: the direction, the accumulator at the first entry travelled, and the
+-- segment's timestamp
 abbrev pub info_of : PieceValue → InfoField
 info_of piece = record { construction = piece.along; seg_id = beta_of piece.segment (first_place piece); timestamp = piece.segment.timestamp }
 
@@ -23,18 +23,18 @@ info_of piece = record { construction = piece.along; seg_id = beta_of piece.segm
 unfoldable pub fields_of : PieceValue → List HopField
 fields_of piece = map field_of (travelled piece)
 
--- how many they are
+-- the number of hop fields of a piece
 abbrev pub len_of : PieceValue → ℕ
 len_of piece = length (travelled piece)
 
--- how many hop fields these pieces have together
+-- the number of hop fields of all pieces together
 abbrev pub hop_count : List PieceValue → ℕ
 hop_count pieces = sum_by len_of pieces
 
--- the header of these pieces, the packet standing at its first info and hop field
+-- the header of these pieces, with the packet at the first info and hop field
 unfoldable pub header_of : List PieceValue → HeaderValue
 header_of pieces = first_header (lens_from (map len_of pieces)) (map info_of pieces) (flat_map fields_of pieces)
 
--- each length has a place for its bits
+-- each length fits into six bits
 abbrev pub HaveSixBits : SegLens → Type 0
 HaveSixBits lens = (lens.first < 64) × (lens.second < 64) × (lens.third < 64)

@@ -1,10 +1,10 @@
--- How pieces are kept.
+-- The storage of a path's pieces.
 use Rattle.std.specs.Prelude.{List, [], ◌∷◌}
 use Rattle.path_verifier.specs.declared.pieces.PieceSlots.{PieceSlots}
 use Rattle.path_verifier.specs.declared.pieces.PieceSlots.TheVariants.{Zero, One, Two, Three}
 use Rattle.path_verifier.specs.Piece.{PieceValue}
 
--- the pieces that are kept
+-- the stored pieces, in order of travel
 abbrev pub pieces_in : PieceSlots → List PieceValue
 pieces_in Zero = []
 pieces_in (One first) = first ∷ []

@@ -1,13 +1,14 @@
--- The walk of a path: the ASes that it passes, each with its way in and its way out
--- (draft-dekater-scion-dataplane, path construction). No index and no byte occurs in it.
+-- The walk of a path: its ASes, each with the interface by which the path enters and the one by
+-- which it leaves (draft-dekater-scion-dataplane, path construction). It has no indices and no
+-- bytes.
 use Rattle.std.specs.Prelude.{ℕ, Bool, if◌then◌else◌, List, [], ◌∷◌, ◌++◌, map}
 use Rattle.std.specs.List.{fold}
 use Rattle.path_segment.specs.declared.entry.Entry.{Entry}
 use Rattle.policy_expr.specs.declared.hop.WalkHop.{WalkHop}
 use Rattle.path_verifier.specs.Piece.{PieceValue, travelled}
 
--- the hop of an entry: in construction direction it goes in by ConsIngress and out by ConsEgress,
--- else the other way round
+-- the hop of an entry: in construction direction it is entered by ConsIngress and left by
+-- ConsEgress, against it the other way round
 unfoldable pub hop_of : Bool → Entry → WalkHop
 hop_of along entry = record {
   ia = entry.ia;
@@ -19,32 +20,32 @@ hop_of along entry = record {
 unfoldable pub hops_of : PieceValue → List WalkHop
 hops_of piece = map (hop_of piece.along) (travelled piece)
 
--- these hops with this way into the first
+-- these hops, with the first entered by this interface
 abbrev pub entered_by : ℕ → List WalkHop → List WalkHop
 entered_by way [] = []
 entered_by way (hop ∷ later) = record hop { ingress = way } ∷ later
 
--- these hops with this way out of the last
+-- these hops, with the last left by this interface
 abbrev pub left_by : ℕ → List WalkHop → List WalkHop
 left_by way [] = []
 left_by way (hop ∷ []) = record hop { egress = way } ∷ []
 left_by way (hop ∷ next ∷ later) = hop ∷ left_by way (next ∷ later)
 
--- a walk that goes on from its last AS by this hop, of which only the way out is new
+-- a walk that continues in its last AS: the way out of `hop` becomes the walk's last way out
 abbrev pub met : List WalkHop → WalkHop → List WalkHop
 met [] hop = hop ∷ []
 met (first ∷ later) hop = left_by hop.egress (first ∷ later)
 
--- a walk that goes on with these hops: the AS in which both meet stands once, with the way in of
--- the walk and the way out of the hops
+-- a walk that continues with these hops: the AS in which they meet becomes one hop, with the way in
+-- of the walk and the way out of the first hop
 abbrev pub joined : List WalkHop → List WalkHop → List WalkHop
 joined walk [] = walk
 joined walk (hop ∷ later) = met walk hop ++ later
 
--- the hops of all pieces, one piece after another
+-- the hops of all pieces, joined where the pieces meet
 abbrev pub joined_hops : List PieceValue → List WalkHop
 joined_hops pieces = fold joined [] (map hops_of pieces)
 
--- the walk of these pieces, with 0 as the way into the first AS and as the way out of the last
+-- the walk of these pieces; its first way in and its last way out are 0
 unfoldable pub walk_of : List PieceValue → List WalkHop
 walk_of pieces = left_by 0 (entered_by 0 (joined_hops pieces))

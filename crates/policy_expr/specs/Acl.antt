@@ -1,4 +1,4 @@
--- Access control lists (path policy language): the first entry that matches a hop decides it.
+-- Access control lists (path policy language): the first entry that matches a hop decides about it.
 use Rattle.std.specs.Prelude.{◌≡◌, ℕ, ◌<◌, ◌≤◌, ◌++◌, IsSome, Bool, true, false, not, ◌&&◌, ◌==◌, nat_lt, if◌then◌else◌, List, [], ◌∷◌, length, reverse, Option, Some, None, is_none, slice_get, Result, Ok, Err}
 use Rattle.std.specs.List.{list_any}
 use Rattle.policy_expr.specs.declared.fault.PolicyFault.{PolicyFault}
@@ -14,7 +14,7 @@ use Rattle.refusal.specs.Refusal.{◌>>=◌, each, unless}
 use Rattle.policy_expr.specs.Predicate.{predicate_at}
 use Rattle.separators.specs.Blanks.{after_blanks, trimmed}
 
--- the entry matches the hop, as a bare one matches each
+-- the entry matches the hop; an entry without a predicate matches every hop
 abbrev pub MatchesBy : Option HopPred → WalkHop → Type 0
 MatchesBy None hop = Unit {0}
 MatchesBy (Some pred) hop = Matches pred hop
@@ -25,11 +25,11 @@ pub record Decides (entries : List AclEntry) (hop : WalkHop) (place : ℕ) (entr
   pub matches : MatchesBy entry.pred hop
   pub first : (earlier : ℕ) (other : AclEntry) → earlier < place → slice_get entries earlier ≡ Some other → MatchesBy other.pred hop → ⊥
 
--- the first entry that matches the hop is `+`
+-- the first entry that matches the hop allows it
 abbrev pub Allowed : List AclEntry → WalkHop → Type 0
 Allowed entries hop = (place : ℕ) × (entry : AclEntry) × Decides entries hop place entry × (entry.allows ≡ true)
 
--- it is `-`, and stands at this place
+-- the entry at this place is the first that matches the hop, and it denies the hop
 abbrev pub DeniedAt : List AclEntry → WalkHop → ℕ → Type 0
 DeniedAt entries hop place = (entry : AclEntry) × Decides entries hop place entry × (entry.allows ≡ false)
 
@@ -37,27 +37,27 @@ DeniedAt entries hop place = (entry : AclEntry) × Decides entries hop place ent
 abbrev pub AllowsWalk : List AclEntry → List WalkHop → Type 0
 AllowsWalk entries walk = (k : ℕ) (hop : WalkHop) → slice_get walk k ≡ Some hop → Allowed entries hop
 
--- the first hop of the walk that is denied, and the entry that decides it
+-- the first denied hop of the walk, and the place of the entry that denies it
 pub record IsDenial (entries : List AclEntry) (walk : List WalkHop) (denied : Denied) : Type 0 where
   pub hop : WalkHop
   pub there : slice_get walk denied.hop ≡ Some hop
   pub by : DeniedAt entries hop denied.entry
   pub before : (k : ℕ) (other : WalkHop) → k < denied.hop → slice_get walk k ≡ Some other → Allowed entries other
 
--- a predicate of wildcards alone says nothing of a hop
+-- whether interfaces are wildcards alone, and so match every hop
 abbrev pub says_nothing : Interfaces → Bool
 says_nothing Any = true
 says_nothing (Either n) = false
 says_nothing (Both m n) = false
 
--- the entry of a sign and a predicate, bare where that is of wildcards alone
+-- the entry of a sign and a predicate; a predicate of wildcards alone is dropped
 abbrev pub entry_of : Bool → HopPred → AclEntry
 entry_of allows pred = record {
   allows = allows;
   pred = if (pred.ia == 0) && says_nothing pred.interfaces then None else Some pred;
 }
 
--- the entry of a sign and what stands behind it: a predicate, or nothing
+-- the entry of a sign and of the text after it: a predicate, or nothing
 abbrev pub signed_at : Bool → List ℕ → Result AclEntry PolicyFault
 signed_at allows [] = Ok (record { allows = allows; pred = None })
 signed_at allows (b ∷ rest) = do
@@ -71,7 +71,7 @@ trimmed_at (sign ∷ rest) =
     else if sign == 45 then signed_at false (after_blanks rest)
     else Err faults.BadPredicate
 
--- the entry of a text: '+' or '-' and a predicate or nothing, with blanks anywhere round them
+-- the entry of a text: '+' or '-', and then a predicate or nothing; blanks around both are ignored
 unfoldable pub entry_at : List ℕ → Result AclEntry PolicyFault
 entry_at text = trimmed_at (trimmed text)
 
@@ -79,7 +79,8 @@ entry_at text = trimmed_at (trimmed text)
 abbrev pub is_bare : AclEntry → Bool
 is_bare entry = is_none entry.pred
 
--- the first rule that entries, the last one first, would break: the last is bare, no other is
+-- the first rule that entries in reverse order break: the last entry has no predicate, and every
+-- other has one
 abbrev pub default_fault : List AclEntry → Option PolicyFault
 default_fault [] = Some faults.NoDefault
 default_fault (last ∷ others) =
@@ -87,13 +88,14 @@ default_fault (last ∷ others) =
     else if list_any is_bare others then Some faults.AfterDefault
     else None
 
--- the first rule that a list of entries would break: at most 256, and then those of its default
+-- the first rule that a list of entries breaks: at most 256 entries, and then those of
+-- `default_fault`
 unfoldable pub acl_fault : List AclEntry → Option PolicyFault
 acl_fault entries =
     if nat_lt 256 (length entries) then Some faults.TooLarge else default_fault (reverse entries)
 
--- what is never false of an access control list: at most 256 entries, of which the last has no
--- predicate and each other has one
+-- the rules of an access control list: at most 256 entries; the last has no predicate, and every
+-- other has one
 pub record IsAcl (entries : List AclEntry) : Type 0 where
   pub few : length entries ≤ 256
   pub front : List AclEntry
@@ -102,7 +104,7 @@ pub record IsAcl (entries : List AclEntry) : Type 0 where
   pub bare : last.pred ≡ None
   pub others : (k : ℕ) (entry : AclEntry) → slice_get front k ≡ Some entry → IsSome entry.pred
 
--- the access control list of texts
+-- the access control list of these texts: the first refusal of an entry, and then `acl_fault`
 abbrev pub acl_at : List (List ℕ) → Result (List AclEntry) PolicyFault
 acl_at texts = do
   entries ← each entry_at texts

@@ -1,4 +1,4 @@
--- Codes of trees and policies, by which proofs tell them apart.
+-- Encodings of trees and policies, by which proofs tell them apart.
 use Rattle.std.specs.Prelude.{◌≡◌, ℕ, ◌==◌, if◌then◌else◌, refl}
 use Rattle.std.proofs.Common.{sym, ◌∙◌, ap}
 use base.Stored.{Coded, Gv, gnil, gnum, gcons}
@@ -26,7 +26,7 @@ interfaces_back Any = refl
 interfaces_back (Either n) = refl
 interfaces_back (Both m n) = refl
 
--- a node of one item, and one of two
+-- a node of one item, and a node of two
 abbrev unary : ℕ → Tree → Tree
 unary kind a = if kind == 0 then optional a else if kind == 1 then repeated a else once_or_more a
 

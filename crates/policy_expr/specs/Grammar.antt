@@ -1,5 +1,5 @@
--- The grammar of sequences over tokens (path policy language): which tokens spell which tree.
--- Postfix signs bind tightest, then `|`, then following, and the last two to the left.
+-- The grammar of sequences (path policy language): which tokens are a spelling of which tree.
+-- Postfix signs bind tightest, then `|`, then following; `|` and following associate to the left.
 use Rattle.std.specs.Prelude.{ℕ, ◌+◌, List, [], ◌∷◌, ◌++◌}
 use Rattle.policy_expr.specs.declared.hop.HopPred.{HopPred}
 use Rattle.policy_expr.specs.declared.token.Token.{Token}
@@ -7,13 +7,13 @@ use Rattle.policy_expr.specs.declared.token.Token.TheVariants as signs
 use Rattle.policy_expr.specs.Tokens.{tokens}
 use Rattle.policy_expr.specs.Language.{Tree, hop, followed, either, optional, repeated, once_or_more}
 
--- how tight a part binds
+-- the parts of the grammar, by how tightly they bind
 pub data Part : Type 0 where
   following : Part
   alternatives : Part
   item : Part
 
--- the tokens spell the tree as such a part, with at most `depth` parentheses open at once
+-- the tokens spell the tree as this part, with at most `depth` parentheses open at once
 pub data Spells : ℕ → Part → List Token → Tree → Type 0 where
   predicate : (depth : ℕ) (p : HopPred) → Spells depth item (signs.Hop p ∷ []) (hop p)
   in_parentheses : (depth : ℕ) (ts : List Token) (t : Tree) → Spells depth following ts t

@@ -1,5 +1,4 @@
--- Hop predicates (path policy language): which hops of a walk an `ISD-AS#IN,OUT` means. 0 stands
--- for any number.
+-- Hop predicates (path policy language): which hops an `ISD-AS#IN,OUT` matches. 0 is the wildcard.
 use Rattle.std.specs.Prelude.{◌≡◌, ◌⊎◌, ℕ}
 use Rattle.isd_as.specs.Address.{isd_of, as_number_of}
 use Rattle.policy_expr.specs.declared.hop.HopPred.{HopPred}
@@ -7,11 +6,11 @@ use Rattle.policy_expr.specs.declared.hop.Interfaces.{Interfaces}
 use Rattle.policy_expr.specs.declared.hop.Interfaces.TheVariants.{Any, Either, Both}
 use Rattle.policy_expr.specs.declared.hop.WalkHop.{WalkHop}
 
--- a number is the wanted one, or any is wanted
+-- the number is the wanted one, or the wildcard is wanted
 abbrev pub Fits : ℕ → ℕ → Type 0
 Fits wanted number = (wanted ≡ 0) ⊎ (wanted ≡ number)
 
--- the hop has these interfaces: one number means the way in or the way out
+-- the hop has these interfaces; a single number may be its way in or its way out
 abbrev pub FitsInterfaces : Interfaces → WalkHop → Type 0
 FitsInterfaces Any hop = Unit {0}
 FitsInterfaces (Either wanted) hop = Fits wanted hop.ingress ⊎ Fits wanted hop.egress

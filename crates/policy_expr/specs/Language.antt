@@ -1,5 +1,5 @@
--- The language of a sequence (path policy language): the words of hops that it allows, a word being
--- a list of hops.
+-- The language of a sequence (path policy language): which walks it allows. A word is a list of
+-- hops.
 use Rattle.std.specs.Prelude.{◌≡◌, ◌⊎◌, ◌<◌, List, [], ◌∷◌, ◌++◌, length}
 use Rattle.std.specs.List.{AllByRecursion}
 use Rattle.policy_expr.specs.declared.hop.HopPred.{HopPred}
@@ -25,14 +25,14 @@ tree_of (Optional' p a) = optional (tree_of a)
 tree_of (Repeated' p a) = repeated (tree_of a)
 tree_of (OnceOrMore' p a) = once_or_more (tree_of a)
 
--- some words one after another
+-- these words, one after another, as one word
 abbrev pub joined : List (List WalkHop) → List WalkHop
 joined [] = []
 joined (word ∷ words) = word ++ joined words
 
--- a predicate has the words of one hop that it matches, following the words that some split cuts
--- into one of each, and `*` and `+` the words that are some of the item one after another, for `+`
--- at least one
+-- the words of a sequence. A predicate has the words of one hop that it matches. `followed` has the
+-- words that can be cut into a word of each part. `*` and `+` have any number of words of their
+-- item in a row, `+` at least one.
 abbrev pub Lang : Tree → List WalkHop → Type 0
 Lang (hop pred) word = (h : WalkHop) × (word ≡ h ∷ []) × Matches pred h
 Lang (followed a b) word = (front : List WalkHop) × (back : List WalkHop) × (word ≡ front ++ back) × Lang a front × Lang b back

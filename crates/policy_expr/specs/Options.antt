@@ -17,24 +17,25 @@ code_of refusal = (code_and_name refusal).0
 abbrev pub name_of : OptionFault → List ℕ
 name_of refusal = (code_and_name refusal).1
 
--- what an option shows: its policy and its weight
+-- the value of an option: its policy and its weight
 pub record WeighedRules : Type 0 where
   pub rules : Rules
   pub weight : ℕ
 
--- the texts of an option's policy, and its weight
+-- an option as texts: those of its policy, and its weight
 pub record OptionTexts : Type 0 where
   pub acl : Option (List (List ℕ))
   pub sequence : Option (List ℕ)
   pub weight : ℕ
 
--- what the texts of an option are read as
+-- the option of these texts, or the refusal of its policy
 unfoldable pub option_at : OptionTexts → Result WeighedRules OptionFault
 option_at texts = do
   rules ← refused_as Unread (policy_at texts.acl texts.sequence)
   Ok (record { rules = rules; weight = texts.weight })
 
--- the options of these texts: that there are 1 to 16 is asked first
+-- the options of these texts: OptionCount unless there are 1 to 16, and then the first refusal of a
+-- text
 unfoldable pub options_at : List OptionTexts → Result (List WeighedRules) OptionFault
 options_at texts = do
   few ← check (nat_le 1 (length texts) && nat_le (length texts) 16) OptionCount

@@ -1,5 +1,6 @@
 -- Reading a hop predicate (path policy language): `ISD`, `ISD-AS`, `ISD-AS#IF` or `ISD-AS#IN,OUT`.
--- The relation says which texts stand for a predicate, and `predicate_at` is what reading answers.
+-- `SpellsPredicate` says which texts are a spelling of a predicate, and `predicate_at` what reading
+-- answers.
 use Rattle.std.specs.Prelude.{ℕ, ◌==◌, ◌&&◌, if◌then◌else◌, List, ◌∷◌, ◌++◌, Result, Ok}
 use Rattle.std.specs.List.{list_any, before_first, after_first}
 use Rattle.refusal.specs.Refusal.{◌>>=◌, or_else}
@@ -11,22 +12,22 @@ use Rattle.policy_expr.specs.declared.hop.HopPred.{HopPred}
 use Rattle.policy_expr.specs.declared.hop.Interfaces.{Interfaces}
 use Rattle.policy_expr.specs.declared.hop.Interfaces.TheVariants.{Any, Either, Both}
 
--- the sign before the interfaces, '#', and the one between them, ','
+-- the sign before the interfaces, '#', and the sign between two interfaces, ','
 abbrev pub hash : ℕ
 hash = 35
 
 abbrev pub comma : ℕ
 comma = 44
 
--- one interface, where 0 says nothing
+-- one interface; 0 is the wildcard
 abbrev pub one_interface : ℕ → Interfaces
 one_interface n = if n == 0 then Any else Either n
 
--- two interfaces, where 0 and 0 say nothing
+-- two interfaces; 0 and 0 are the wildcard
 abbrev pub two_interfaces : ℕ → ℕ → Interfaces
 two_interfaces ingress egress = if (ingress == 0) && (egress == 0) then Any else Both ingress egress
 
--- the text of interfaces: one decimal number of 16 bits, or two with a ',' between them
+-- the text of interfaces: one decimal number of 16 bits, or two with ',' between them
 pub data SpellsInterfaces : List ℕ → Interfaces → Type 0 where
   one : (text : List ℕ) (n : ℕ) → SpellsIsd text n → SpellsInterfaces text (one_interface n)
   two : (front back : List ℕ) (m n : ℕ) → SpellsIsd front m → SpellsIsd back n
@@ -42,11 +43,11 @@ pub data SpellsPredicate : List ℕ → HopPred → Type 0 where
       → SpellsInterfaces back ways
       → SpellsPredicate (front ++ (hash ∷ back)) (record { ia = n; interfaces = ways })
 
--- an interface: decimal digits up to 65535, as of an ISD
+-- the number of an interface, read as that of an ISD: decimal digits up to 65535
 abbrev pub interface_at : List ℕ → Result ℕ PolicyFault
 interface_at text = or_else faults.BadPredicate (isd_at text)
 
--- the interfaces of a text: with a ',' two, else one
+-- the interfaces of a text: two if it has a ',', else one
 unfoldable pub interfaces_at : List ℕ → Result Interfaces PolicyFault
 interfaces_at text = if list_any (λ b. b == comma) text
     then (do
@@ -57,14 +58,15 @@ interfaces_at text = if list_any (λ b. b == comma) text
       n ← interface_at text
       Ok (one_interface n))
 
--- the address of a text: with a '-' it is whole, else an ISD alone
+-- the address of a text: ISD and AS if it has a '-', else an ISD alone
 unfoldable pub ia_at : List ℕ → Result ℕ PolicyFault
 ia_at text =
     or_else faults.BadPredicate (if list_any (λ b. b == dash) text then address_at text else (do
       isd ← isd_at text
       Ok (address_of isd 0)))
 
--- the predicate of a text, or BadPredicate: with a '#' an address and interfaces
+-- the predicate of a text, or BadPredicate: an address and interfaces if it has a '#', else an
+-- address
 unfoldable pub predicate_at : List ℕ → Result HopPred PolicyFault
 predicate_at text = if list_any (λ b. b == hash) text
     then (do

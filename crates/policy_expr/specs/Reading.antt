@@ -1,5 +1,5 @@
 -- What reading a sequence answers: its tree, or the first refusal from left to right. Postfix signs
--- bind tightest, then `|`, then following, and the last two to the left.
+-- bind tightest, then `|`, then following; `|` and following associate to the left.
 use Rattle.std.specs.Prelude.{◌≡◌, ℕ, ◌+◌, ◌-◌, ◌≤◌, ◌==◌, nat_lt, Bool, true, false, if◌then◌else◌, List, [], ◌∷◌, length, Option, Some, None, unwrap_or, Result, Ok, Err}
 use Rattle.refusal.specs.declared.fault.OrMemory.{OrMemory}
 use Rattle.refusal.specs.declared.fault.OrMemory.TheVariants.{Memory, Refused}
@@ -12,8 +12,8 @@ use Rattle.policy_expr.specs.Tokens.{tokens}
 use Rattle.policy_expr.specs.Grammar.{SpellsSequence}
 use Rattle.policy_expr.specs.Language.{Tree, hop, followed, either, optional, repeated, once_or_more}
 
--- what stands before an item since the last open parenthesis: what the item will follow, and
--- behind that the alternatives to which it will be one more
+-- what was read since the last open parenthesis: the part that the next item follows, and after it
+-- the alternatives to which the item is added
 pub record Level : Type 0 where
   pub before : Option Tree
   pub choices : Option Tree
@@ -25,11 +25,12 @@ abbrev pub joined : (Tree → Tree → Tree) → Option Tree → Tree → Tree
 joined join None item = item
 joined join (Some before) item = join before item
 
--- all that was read since the last open parenthesis, with this item at its end
+-- the tree of all that was read since the last open parenthesis, with this item at its end
 abbrev pub whole : Level → Tree → Tree
 whole level item = joined followed level.before (joined either level.choices item)
 
--- the level at which the next item stands, behind an item or where one must come, and behind a `|`
+-- the level for the next item: if there is an item already, the next one follows it; after a `|` it
+-- is one more alternative
 abbrev pub next_level : Level → Option Tree → Level
 next_level level None = level
 next_level level (Some item) = record { before = Some (whole level item); choices = None }
@@ -38,8 +39,9 @@ abbrev pub next_choice : Level → Tree → Level
 next_choice level item =
     record { before = level.before; choices = Some (joined either level.choices item) }
 
--- what the rest of the tokens gives, behind a level for each parenthesis that is open, the last one
--- first, the level now, and the item at its end, or none where one must come
+-- the result of reading the remaining tokens. `levels` has a level for each open parenthesis, the
+-- innermost first; `level` is the current one. `item` is the item at its end, or none if an item
+-- has to come.
 abbrev pub read_rest : List Level → Level → Option Tree → List Token → Result Tree PolicyFault
 read_rest levels level item (signs.Hop p ∷ ts) =
     read_rest levels (next_level level item) (Some (hop p)) ts
@@ -63,11 +65,11 @@ read_rest (outer ∷ levels) level (Some item) (signs.Close ∷ ts) =
     read_rest levels outer (Some (whole level item)) ts
 read_rest levels level (Some item) (signs.Other ∷ ts) = Err faults.BadPredicate
 
--- the tree of a text, however large
+-- the tree of a text, of any size
 abbrev pub tree_at : List ℕ → Result Tree PolicyFault
 tree_at text = read_rest [] new_level None (tokens text)
 
--- how many nodes a tree has
+-- the number of nodes of a tree
 abbrev pub node_count : Tree → ℕ
 node_count (hop pred) = 1
 node_count (followed a b) = node_count a + node_count b + 1
@@ -76,7 +78,7 @@ node_count (optional a) = node_count a + 1
 node_count (repeated a) = node_count a + 1
 node_count (once_or_more a) = node_count a + 1
 
--- the sequence of a text, of at most 256 nodes
+-- the sequence of a text; more than 256 nodes are TooLarge
 abbrev pub sequence_at : List ℕ → Result Tree PolicyFault
 sequence_at text = do
   tree ← tree_at text
@@ -84,8 +86,8 @@ sequence_at text = do
 
 -- ---- which refusal comes first, and what calls answer
 
--- the first fault of these tokens, where `open` parentheses are open and an item stands before
--- them or not
+-- the first fault of these tokens, with `depth` parentheses open; the Boolean says whether an item
+-- stands right before them
 abbrev pub fault_at : ℕ → Bool → List Token → Option PolicyFault
 fault_at depth false [] = Some faults.UnexpectedEnd
 fault_at depth true [] = if depth == 0 then None else Some faults.Unbalanced
@@ -99,8 +101,8 @@ fault_at depth true (signs.Close ∷ ts) =
 fault_at depth true (signs.Other ∷ ts) = Some faults.BadPredicate
 fault_at depth true (t ∷ ts) = fault_at depth true ts
 
--- the error of a text: its first fault, and TooLarge where it has none; running out of memory only
--- where it spells a sequence
+-- the error of a text: its first fault, or TooLarge if it has none. Memory can run out only if the
+-- text spells a sequence of at most 256 nodes.
 abbrev pub IsRefusal : List ℕ → OrMemory PolicyFault → Type 0
 IsRefusal text Memory = (tree : Tree) × SpellsSequence text tree × (node_count tree ≤ 256)
 IsRefusal text (Refused fault) = fault ≡ unwrap_or (fault_at 0 false (tokens text)) faults.TooLarge

@@ -1,5 +1,5 @@
--- Sequences as tables: the predicates of a sequence, numbered from left to right, and which of them
--- may come first, last and one behind the other.
+-- Sequences as tables: the predicates of a sequence are numbered from left to right. The table says
+-- which may come first, which last, and which right behind which.
 use Rattle.std.specs.Prelude.{◌≡◌, ◌⊎◌, ◌↔◌, ℕ, ◌+◌, ◌*◌, ◌<◌, ◌≤◌, true, ◌&&◌, List, [], ◌∷◌, length, Some, slice_get}
 use Rattle.policy_expr.specs.declared.hop.WalkHop.{WalkHop}
 use Rattle.policy_expr.specs.declared.ends.Ends.{Ends}
@@ -9,7 +9,7 @@ use Rattle.policy_expr.specs.Sets.{Has}
 use Rattle.policy_expr.specs.Language.{Tree, Lang}
 use Rattle.policy_expr.specs.Reading.{node_count}
 
--- predicate k may stand right behind predicate j
+-- predicate `k` may come right behind predicate `j`
 abbrev pub MayFollow : List Line → ℕ → ℕ → Type 0
 MayFollow lines j k = (line : Line) × (slice_get lines j ≡ Some line) × Has line.next k
 
@@ -17,7 +17,7 @@ MayFollow lines j k = (line : Line) × (slice_get lines j ≡ Some line) × Has 
 abbrev pub MeetsAt : List Line → ℕ → WalkHop → Type 0
 MeetsAt lines k h = (line : Line) × (slice_get lines k ≡ Some line) × Matches line.pred h
 
--- behind predicate k these hops end a word
+-- if predicate `k` matched the hop before, these hops complete a word
 abbrev pub After : List Line → Ends → ℕ → List WalkHop → Type 0
 After lines ends k [] = Has ends.last k
 After lines ends k (h ∷ w) =
@@ -28,12 +28,13 @@ abbrev pub Accepts : List Line → Ends → List WalkHop → Type 0
 Accepts lines ends [] = ends.has_empty ≡ true
 Accepts lines ends (h ∷ w) = (k : ℕ) × Has ends.first k × MeetsAt lines k h × After lines ends k w
 
--- predicate k came with the new lines
+-- predicate `k` is in a new line
 abbrev pub IsNew : List Line → List Line → ℕ → Type 0
 IsNew old new k = (length old ≤ k) × (k < length new)
 
--- lines were added at the end for a tree, no more than so many nodes have predicates: what stood
--- before is as it was, the new predicates go on among themselves, and their words are the tree's
+-- new lines were added at the end for a tree: twice their number is at most one more than the
+-- tree's nodes. The old lines are as they were, the new predicates are followed by new ones only,
+-- and their words are those of the tree.
 pub record Adds (tree : Tree) (old new : List Line) (ends : Ends) : Type 0 where
   pub more : length old ≤ length new
   pub few : 2 * length new ≤ 2 * length old + node_count tree + 1
@@ -44,17 +45,17 @@ pub record Adds (tree : Tree) (old new : List Line) (ends : Ends) : Type 0 where
   pub last : (k : ℕ) → Has ends.last k → IsNew old new k
   pub words : (w : List WalkHop) → Accepts new ends w ↔ Lang tree w
 
--- the table is that of the tree
+-- the table has the lines of this tree alone
 abbrev pub IsTableOf : Tree → List Line → Ends → Type 0
 IsTableOf tree lines ends = Adds tree [] lines ends
 
--- each of the one predicates may be followed by each of the others too
+-- each predicate of the set `last` may now also be followed by each of the set `first`
 pub record Links (old new : List Line) (last first : ℕ) : Type 0 where
   pub count : length new ≡ length old
   pub meets : (k : ℕ) (h : WalkHop) → MeetsAt new k h ↔ MeetsAt old k h
   pub next : (j k : ℕ) → MayFollow new j k ↔ (MayFollow old j k ⊎ (Has last j × Has first k))
 
--- the ends of a part and then another
+-- the ends of one part followed by another
 pub record IsThen (front back ends : Ends) : Type 0 where
   pub first : (k : ℕ) → Has ends.first k ↔ (Has front.first k
       ⊎ ((front.has_empty ≡ true) × Has back.first k))

@@ -1,4 +1,4 @@
--- What the code keeps of a reading under way.
+-- The values of a reader's data while it reads.
 use Rattle.std.specs.Prelude.{◌≡◌, List, map, reverse, option_map, Result, Ok, Err}
 use Rattle.refusal.specs.declared.fault.OrMemory.{OrMemory}
 use Rattle.refusal.specs.declared.fault.OrMemory.TheVariants.{Memory, Refused}
@@ -14,16 +14,17 @@ abbrev pub level_of : {A : _} → Level A → reading.Level
 level_of level =
     record { before = option_map tree_of level.before; choices = option_map tree_of level.choices }
 
--- the last one first
+-- the levels that a reader keeps with the innermost last, as values with the innermost first
 abbrev pub levels_of : {A : _} → List (Level A) → List reading.Level
 levels_of levels = map level_of (reverse levels)
 
--- what the rest of the tokens gives
+-- the result of reading the remaining tokens from this state
 abbrev pub gives : {A : _} → Reader A → List Token → Result Tree PolicyFault
 gives reader rest =
     read_rest (levels_of reader.levels.items) (level_of reader.level) (option_map tree_of reader.item) rest
 
--- whatever the rest of the tokens, what they give is given behind the step
+-- the step of a reader is right: for all remaining tokens, the result is the same before and after
+-- it
 abbrev pub GoesOn : {A : _} → (List Token → Result Tree PolicyFault)
     → Result (Reader A) (OrMemory PolicyFault) → Type 0
 GoesOn given (Ok next) = (rest : List Token) → given rest ≡ gives next rest

@@ -1,4 +1,4 @@
--- The tests that a router makes (draft-dekater-scion-dataplane).
+-- The checks of a router (draft-dekater-scion-dataplane); the numbers are those of the steps.
 use Rattle.std.specs.Prelude.{ℕ, ◌+◌, Bool, true, false, not, ◌&&◌, ◌==◌, length}
 use Rattle.std.specs.Option.{option_map_or}
 use Rattle.std.specs.Bool.{beq}
@@ -18,24 +18,25 @@ use Rattle.router_step.specs.Place.{way_in}
 abbrev pub has_no_single : SegLens → Bool
 has_no_single lens = not (lens.first == 1) && (not (lens.second == 1) && not (lens.third == 1))
 
--- a packet that a host sends stands at the first hop field
+-- a packet that comes from a host is at the first hop field
 abbrev pub is_start_right : Arrival → ℕ → Bool
 is_start_right FromHost hop = hop == 0
 is_start_right arrival hop = true
 
--- step 2: the current info field is that of the current hop field, no segment has a single hop
--- field, and a host's packet stands at the first
+-- step 2: the current hop field belongs to the current info field's segment, no segment has a
+-- single hop field, and a packet from a host is at the first hop field
 abbrev pub indices_fit : Arrival → HeaderValue → Bool
 indices_fit arrival header =
     (header.curr_inf == segment_at header.lens header.curr_hf)
     && (has_no_single header.lens && is_start_right arrival header.curr_hf)
 
--- the interface belongs to this router
+-- this router owns the interface
 abbrev pub is_owned : View → ℕ → Bool
 is_owned view interface =
     option_map_or (λ entry. entry.router == view.router) (entry_of view interface) false
 
--- step 3: a packet that came over a link came by an interface of this router, the hop's way in
+-- step 3: a packet that came over a link came by an interface of this router, and that is the hop's
+-- way in
 abbrev pub way_in_fits : View → Arrival → InfoField → HopField → Bool
 way_in_fits view (Link interface) info hop =
     is_owned view interface && (interface == way_in info hop)
@@ -50,29 +51,30 @@ abbrev pub is_mac_right : View → InfoField → HopField → Bool
 is_mac_right view info hop =
     is_authentic view hop.mac info.seg_id info.timestamp hop.exp_time hop.cons_ingress hop.cons_egress
 
--- step 6: a packet that a host sends is from this AS, and one that came over a link is not
+-- step 6: a packet from a host has this AS as its source, and one that came over a link has another
 abbrev pub source_fits : View → Arrival → ℕ → Bool
 source_fits view FromHost source = source == view.ia
 source_fits view Inside source = true
 source_fits view (Link interface) source = not (source == view.ia)
 
--- the packet stands at the path's last hop
+-- the packet is at the last hop of its path
 abbrev pub is_last : HeaderValue → Bool
 is_last header = header.curr_hf + 1 == length header.hops
 
--- step 7: the packet is for this AS exactly where it stands at the path's last hop
+-- step 7: the packet is for this AS if and only if it is at the last hop of its path
 abbrev pub destination_fits : View → ℕ → Bool → Bool
 destination_fits view destination last = beq (destination == view.ia) last
 
--- step 9: the packet stands at the last hop of its segment, since the next is in another one
+-- step 9: the packet is at the last hop of its segment, that is, the next hop is in another segment
 abbrev pub ends_segment : HeaderValue → Bool
 ends_segment header = not (segment_at header.lens (header.curr_hf + 1) == header.curr_inf)
 
--- the packet stands where its path goes on, on another segment
+-- the packet is at the last hop of a segment, and its path goes on in the next one
 abbrev pub changes_segment : HeaderValue → Bool
 changes_segment header = not (is_last header) && ends_segment header
 
--- the kinds of the links in and out, on one segment and with a switch between two
+-- whether a path may come in by a link of one kind and leave by one of another, within one segment
+-- (`false`) and from one segment to the next (`true`)
 abbrev pub are_joined : Bool → LinkKind → LinkKind → Bool
 are_joined false Core Core = true
 are_joined false Child Parent = true
@@ -82,7 +84,7 @@ are_joined true Core Child = true
 are_joined true Child Child = true
 are_joined switched from to = false
 
--- step 11: the links by which a packet comes in and goes out are a pair of kinds that may be joined
+-- step 11: the links by which a packet comes in and leaves may be joined
 abbrev pub kinds_fit : View → Arrival → Bool → LinkKind → Bool
 kinds_fit view (Link interface) switched out =
     option_map_or (λ entry. are_joined switched entry.kind out) (entry_of view interface) false

@@ -1,4 +1,4 @@
--- Where the checks of a step hold, in words that whoever sends a packet can use.
+-- When the checks of a step succeed, in words for the proofs about packets that are sent.
 use Rattle.std.specs.Prelude.{◌≡◌, ℕ, Bool, true, not, ◌==◌, if◌then◌else◌, Some}
 use Rattle.scion_topology.specs.declared.entry.IfEntry.{IfEntry}
 use Rattle.scion_topology.specs.View.{View, entry_of}
@@ -9,7 +9,7 @@ use Rattle.router_step.specs.declared.outcome.Outcome.TheVariants.{ToLink, ToRou
 use Rattle.router_step.specs.Place.{info_of, hop_of, way_out, arrived}
 use Rattle.router_step.specs.Checks.{indices_fit, way_in_fits, is_live, is_mac_right, source_fits, kinds_fit}
 
--- the checks up to the source's hold; `here` is the header after the arrival
+-- the packet passes steps 2 to 6; `here` is the header after the arrival
 pub record IsAdmitted (view : View) (now : ℕ) (arrival : Arrival) (source : ℕ)
     (header here : HeaderValue) : Type 0 where
   pub here_is : arrived arrival header ≡ here
@@ -19,15 +19,15 @@ pub record IsAdmitted (view : View) (now : ℕ) (arrival : Arrival) (source : �
   pub mac : is_mac_right view (info_of here) (hop_of header) ≡ true
   pub from : source_fits view arrival source ≡ true
 
--- the packet may leave by its hop's way out: the interface is there, the links may be joined, and
--- the link is up
+-- the packet may leave by the way out of its hop: the interface exists, the links may be joined,
+-- and the link is up
 pub record MayLeave (view : View) (arrival : Arrival) (has_switched : Bool) (header : HeaderValue)
     (out : IfEntry) : Type 0 where
   pub known : entry_of view (way_out (info_of header) (hop_of header)) ≡ Some out
   pub kinds : kinds_fit view arrival has_switched out.kind ≡ true
   pub up : out.up ≡ true
 
--- where a packet goes that may leave: over the link, or to the router that owns it
+-- the outcome for a packet that may leave: over the link, or to the router that owns the interface
 abbrev pub goes : View → IfEntry → HeaderValue → Outcome
 goes view out header =
     if not (out.router == view.router) then ToRouter out.router

@@ -15,15 +15,15 @@ use Rattle.router_step.specs.declared.fault.Refusal.{Refusal}
 use Rattle.router_step.specs.declared.fault.Refusal.TheVariants.{BadHeader}
 use Rattle.router_step.specs.Step.{step_of}
 
--- the address of the AS for which the packet is
+-- the address of the packet's destination AS
 abbrev pub destination_of : List ℕ → ℕ
 destination_of packet = from_be_bytes w64 (take 8 packet)
 
--- the address of the AS that sent it
+-- the address of the packet's source AS
 abbrev pub source_of : List ℕ → ℕ
 source_of packet = from_be_bytes w64 (take 8 (drop 8 packet))
 
--- a header's refusal as that of the packet
+-- the refusal of a header as the refusal of its packet
 abbrev pub as_bad_header : Result (HeaderValue × ℕ) HeaderFault → Result (HeaderValue × ℕ) Refusal
 as_bad_header (Ok read) = Ok read
 as_bad_header (Err fault) = Err (BadHeader fault)
@@ -33,28 +33,29 @@ abbrev pub header_in : List ℕ → Result (HeaderValue × ℕ) Refusal
 header_in packet =
     if nat_lt (length packet) 16 then Err (BadHeader Short) else as_bad_header (read_at (drop 16 packet))
 
--- all steps: the first refusal, or the outcome and the new packet, in which the header's bytes
--- alone are others
+-- all steps on a packet's bytes: the first refusal, or the outcome and the new packet; only the
+-- bytes of the header change
 unfoldable pub packet_step : View → ℕ → Arrival → List ℕ → Result (Outcome × List ℕ) Refusal
 packet_step view now arrival packet = do
   front ← header_in packet  -- 1
   stepped ← step_of view now arrival (source_of packet) (destination_of packet) front.0  -- 2 to 13
   Ok (stepped.0, take 16 packet ++ (spelling stepped.1 ++ drop (16 + front.1) packet))
 
--- the same over a packet of these addresses, this path header and this rest
+-- `packet_step` for a packet given in parts: its addresses, its path header and the rest
 abbrev pub frame_step : View → ℕ → Arrival → List ℕ → List ℕ → HeaderValue → List ℕ
     → Result (Outcome × List ℕ) Refusal
 frame_step view now arrival packet addresses header rest = do
   stepped ← step_of view now arrival (source_of packet) (destination_of packet) header
   Ok (stepped.0, addresses ++ (spelling stepped.1 ++ rest))
 
--- the step was done: the outcome and the new packet, or the refusal and the packet as it was
+-- the step succeeds with the outcome and the new packet, or is refused and leaves the packet as it
+-- was
 abbrev pub IsPacketStepped : Result (Outcome × List ℕ) Refusal → List ℕ → List ℕ
     → Result Outcome Refusal → Type 0
 IsPacketStepped step old new (Ok outcome) = step ≡ Ok (outcome, new)
 IsPacketStepped step old new (Err e) = (step ≡ Err e) × (new ≡ old)
 
--- a packet in its parts: both addresses, a text that spells this path header, and what follows
+-- a packet in parts: both addresses, the bytes of its path header, and the rest
 pub record IsFrame (packet addresses text rest : List ℕ) (header : HeaderValue) : Type 0 where
   pub whole : packet ≡ addresses ++ (text ++ rest)
   pub two : length addresses ≡ 16
@@ -66,8 +67,8 @@ HasHeader packet =
     (addresses : List ℕ) × ((text : List ℕ) × ((rest : List ℕ) × ((header : HeaderValue)
     × IsFrame packet addresses text rest header)))
 
--- a step over a packet of these parts: the new packet has in place of the header's text another one
--- of the same length, which spells the new header, or after a refusal the same
+-- a step on a packet in these parts: the header's bytes are replaced by those of the new header, of
+-- the same length; after a refusal the packet is as it was
 abbrev pub StepsFrame : Result (Outcome × HeaderValue) Refusal → List ℕ → List ℕ → List ℕ → List ℕ
     → Result Outcome Refusal → Type 0
 StepsFrame (Ok stepped) addresses text rest new result =

@@ -1,4 +1,4 @@
--- Where a packet stands on its path, and how a step changes that (draft-dekater-scion-dataplane).
+-- The place of a packet on its path, and how a step changes it (draft-dekater-scion-dataplane).
 use Rattle.std.specs.Prelude.{ℕ, ◌+◌, Bool, true, false, not, ◌&&◌, if◌then◌else◌, [], slice_index_or, slice_set}
 use Rattle.hop_mac.specs.Hop.{beta_after}
 use Rattle.path_header.specs.declared.fields.InfoField.{InfoField}
@@ -14,20 +14,20 @@ abbrev pub info_at : HeaderValue → ℕ → InfoField
 info_at header index = slice_index_or header.infos index
     (record { construction = false; seg_id = 0; timestamp = 0 })
 
--- the info field at which the packet stands
+-- the current info field
 abbrev pub info_of : HeaderValue → InfoField
 info_of header = info_at header header.curr_inf
 
--- the hop field at which the packet stands
+-- the current hop field
 abbrev pub hop_of : HeaderValue → HopField
 hop_of header = slice_index_or header.hops header.curr_hf
     (record { exp_time = 0; cons_ingress = 0; cons_egress = 0; mac = [] })
 
--- the interface by which a packet that travels this segment comes into the hop's AS
+-- the interface by which a packet on this segment enters the hop's AS
 abbrev pub way_in : InfoField → HopField → ℕ
 way_in info hop = if info.construction then hop.cons_ingress else hop.cons_egress
 
--- the interface by which it leaves
+-- the interface by which it leaves the AS
 abbrev pub way_out : InfoField → HopField → ℕ
 way_out info hop = if info.construction then hop.cons_egress else hop.cons_ingress
 
@@ -43,18 +43,19 @@ abbrev pub is_over_link : Arrival → Bool
 is_over_link (Link interface) = true
 is_over_link arrival = false
 
--- the accumulator on arrival: over a link and against construction direction that of one hop back
+-- the accumulator on arrival: over a link and against construction direction, this hop's
+-- authenticator is taken out by exclusive or; else unchanged
 abbrev pub seg_id_on_arrival : Arrival → InfoField → HopField → ℕ
 seg_id_on_arrival arrival info hop =
     if is_over_link arrival && not info.construction then beta_after info.seg_id hop.mac
     else info.seg_id
 
--- the header after its arrival: the change of step 5
+-- the header after the arrival: the change of step 5
 abbrev pub arrived : Arrival → HeaderValue → HeaderValue
 arrived arrival header =
     with_seg_id header (seg_id_on_arrival arrival (info_of header) (hop_of header))
 
--- the header after a switch to the next segment, if there is one here: the change of step 9
+-- the header after step 9: both indices go on by one if there is a switch to the next segment
 abbrev pub moved_on : Bool → HeaderValue → HeaderValue
 moved_on switched header =
     record header {
@@ -62,13 +63,13 @@ moved_on switched header =
       curr_hf = header.curr_hf + (if switched then 1 else 0);
     }
 
--- the accumulator on leaving over a link: in construction direction that of the next hop
+-- the accumulator on leaving over a link: in construction direction, this hop's authenticator is
+-- put in by exclusive or; else unchanged
 abbrev pub seg_id_on_leaving : InfoField → HopField → ℕ
 seg_id_on_leaving info hop =
     if info.construction then beta_after info.seg_id hop.mac else info.seg_id
 
--- the header after the packet went where it goes, over a link at the next hop: the changes of
--- step 13
+-- the header after step 13: over a link the packet goes on to the next hop; else nothing changes
 abbrev pub gone : Outcome → HeaderValue → HeaderValue
 gone (ToLink interface) header =
     record (with_seg_id header (seg_id_on_leaving (info_of header) (hop_of header))) {

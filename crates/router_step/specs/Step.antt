@@ -1,6 +1,5 @@
--- One step of a router over the value of the path header: the checks and changes in their order,
--- numbered 2 to 13; the first, that there is a header, is the packet's
--- (draft-dekater-scion-dataplane).
+-- One step of a router on the value of a path header: the checks and changes 2 to 13, in this order
+-- (draft-dekater-scion-dataplane). Check 1, that the packet has a header, is in `Packet`.
 use Rattle.std.specs.Prelude.{◌≡◌, ℕ, Bool, true, false, not, ◌==◌, if◌then◌else◌, Result, Ok, Err}
 use Rattle.std.specs.Option.{ok_or}
 use Rattle.refusal.specs.Refusal.{◌>>=◌, check}
@@ -16,13 +15,13 @@ use Rattle.router_step.specs.declared.fault.Refusal.TheVariants as refusal
 use Rattle.router_step.specs.Place.{info_of, hop_of, is_over_link, way_out, arrived, moved_on, gone}
 use Rattle.router_step.specs.Checks.{indices_fit, way_in_fits, is_live, is_mac_right, source_fits, is_last, destination_fits, ends_segment, kinds_fit}
 
--- steps 4 and 5 on the info and hop field at which the packet stands
+-- steps 4 and 5 for this info and hop field
 unfoldable pub passes : View → ℕ → InfoField → HopField → Result (Unit {0}) Refusal
 passes view now info hop = do
   _ ← check (is_live now info hop) refusal.Expired  -- 4
   check (is_mac_right view info hop) refusal.BadMac  -- 5
 
--- steps 2 to 5, and the header with the accumulator that step 5 sets
+-- steps 2 to 5: the first refusal, or the header after the arrival
 unfoldable pub admitted : View → ℕ → Arrival → HeaderValue → Result HeaderValue Refusal
 admitted view now arrival header = do
   _ ← check (indices_fit arrival header) refusal.IndexMismatch  -- 2
@@ -30,15 +29,15 @@ admitted view now arrival header = do
   _ ← passes view now (info_of (arrived arrival header)) (hop_of header)  -- 4, 5
   Ok (arrived arrival header)
 
--- steps 6 and 7, and whether the packet stands at the path's last hop
+-- steps 6 and 7: the first refusal, or whether the packet is at the last hop of its path
 unfoldable pub ended : View → Arrival → ℕ → ℕ → HeaderValue → Result Bool Refusal
 ended view arrival source destination header = do
   _ ← check (source_fits view arrival source) refusal.SourceAs  -- 6
   _ ← check (destination_fits view destination (is_last header)) refusal.DestinationAs  -- 7
   Ok (is_last header)
 
--- step 9: whether there is a switch to the next segment, which only a packet that came over a link
--- may make, and only to a hop that passes steps 4 and 5
+-- step 9: whether there is a switch to the next segment. Only a packet that came over a link may
+-- switch, and the next hop has to pass steps 4 and 5.
 unfoldable pub switched : View → ℕ → Arrival → HeaderValue → Result Bool Refusal
 switched view now arrival header =
     if ends_segment header then (do
@@ -47,7 +46,7 @@ switched view now arrival header =
       Ok true)
     else Ok false
 
--- steps 10 to 13, as far as they choose the outcome
+-- steps 10 to 13: the first refusal, or the outcome
 unfoldable pub left : View → Arrival → Bool → InfoField → HopField → Result Outcome Refusal
 left view arrival has_switched info hop = do
   out ← ok_or (entry_of view (way_out info hop)) refusal.UnknownEgress  -- 10
@@ -56,7 +55,7 @@ left view arrival has_switched info hop = do
     _ ← check out.up refusal.LinkDown  -- 13
     Ok (ToLink (way_out info hop)))
 
--- all steps from 2 on: the first refusal, or the outcome and the new header
+-- steps 2 to 13: the first refusal, or the outcome and the new header
 unfoldable pub step_of : View → ℕ → Arrival → ℕ → ℕ → HeaderValue
     → Result (Outcome × HeaderValue) Refusal
 step_of view now arrival source destination header = do
@@ -68,7 +67,8 @@ step_of view now arrival source destination header = do
         (info_of (moved_on has_switched here)) (hop_of (moved_on has_switched here))  -- 10 to 13
     Ok (outcome, gone outcome (moved_on has_switched here)))
 
--- the step was done: the outcome and the new header, or the refusal and the header as it was
+-- the step succeeds with the outcome and the new header, or is refused and leaves the header as it
+-- was
 abbrev pub IsStepped : Result (Outcome × HeaderValue) Refusal → HeaderValue → HeaderValue
     → Result Outcome Refusal → Type 0
 IsStepped step old new (Ok outcome) = step ≡ Ok (outcome, new)

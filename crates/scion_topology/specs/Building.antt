@@ -1,4 +1,4 @@
--- Making a router's view of its parts, with the first refusal.
+-- Building a router's view from its parts, or the first refusal.
 use Rattle.std.specs.Prelude.{ℕ, ◌==◌, ◌||◌, not, Bool, false, if◌then◌else◌, List, [], ◌∷◌, Option, Result, Ok, Err}
 use Rattle.std.specs.List.{list_any, list_all}
 use Rattle.scion_topology.specs.declared.entry.IfEntry.{IfEntry}
@@ -8,11 +8,11 @@ use Rattle.scion_topology.specs.Keys.{is_key, accepted}
 use Rattle.scion_topology.specs.Network.{is_wildcard}
 use Rattle.scion_topology.specs.View.{View}
 
--- an interface of this number is in the table
+-- an interface of the table has this number
 abbrev pub is_named : ℕ → List IfEntry → Bool
 is_named number table = list_any (λ entry. entry.number == number) table
 
--- a key has no byte or more than 64, the address is a wildcard, or an interface has number 0
+-- a key is empty or has more than 64 bytes, the address is a wildcard, or an interface has number 0
 abbrev pub has_bad_field : ℕ → List (List ℕ) → List IfEntry → Bool
 has_bad_field ia keys table =
     not (list_all is_key keys) || (is_wildcard ia || is_named 0 table)
@@ -22,7 +22,8 @@ unfoldable pub names_twice : List IfEntry → Bool
 names_twice [] = false
 names_twice (entry ∷ rest) = is_named entry.number rest || names_twice rest
 
--- the view of these parts: a router of an AS, its key in use and the one before, its interfaces
+-- the view of a router of an AS, from its key in use, the key before it and its interfaces:
+-- BadField, then DuplicateIf
 unfoldable pub view_of : ℕ → ℕ → List ℕ → Option (List ℕ) → List IfEntry → Result View TopologyFault
 view_of ia router key previous table =
     if has_bad_field ia (accepted key previous) table then Err faults.BadField

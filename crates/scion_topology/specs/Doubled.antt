@@ -1,13 +1,13 @@
--- Interfaces as numbers, by which those that stand twice are found (words of no public clause).
+-- Interfaces as numbers, by which an interface at two links is found (words of no public clause).
 use Rattle.std.specs.Prelude.{ℕ, ◌+◌, ◌*◌, ◌^◌, ◌<◌, ◌==◌, if◌then◌else◌, List, [], ◌∷◌}
 use Rattle.scion_topology.specs.declared.network.End.{End}
 use Rattle.scion_topology.specs.declared.network.Link.{Link}
 
--- an interface as a number: that of its AS, and then its own
+-- an interface as a number: its AS's address, and then its own number
 abbrev pub number_of : End → ℕ
 number_of end = end.ia * 2 ^ 16 + end.number
 
--- the numbers of the interfaces at the ends of a link, one where they are the same
+-- the numbers of the interfaces at both ends of a link, or one number if they are equal
 abbrev pub numbers_of : Link → List ℕ
 numbers_of link =
     if number_of link.a == number_of link.b then number_of link.a ∷ []

@@ -1,5 +1,5 @@
--- What a topology keeps beside its lists so that it finds things fast. No clause of a public call
--- speaks of it.
+-- The index that a topology keeps beside its lists to find ASes and links fast. No clause of a
+-- public call cites it.
 use Rattle.std.specs.Prelude.{ℕ, zero, suc, ◌+◌, ◌==◌, Bool, if◌then◌else◌, List, [], ◌∷◌, ◌++◌, Option, Some, None, Result, Ok, is_some, option_map, position, slice_get}
 use Rattle.std.specs.List.{position_or_len}
 use Rattle.std.specs.Option.{ok_or, option_and_then}
@@ -18,7 +18,7 @@ use Rattle.scion_topology.specs.Network.{Network, has_end, interface_of, table_o
 use Rattle.scion_topology.specs.Table.{place_in_table, marked_table}
 use Rattle.scion_topology.specs.Topology.{known}
 
--- where an AS stands in the list, its interfaces, and where the link of each stands
+-- the index of an AS: its place in the list, its interfaces, and the places of their links
 pub record IndexValue : Type 0 where
   pub position : ℕ
   pub table : List IfEntry
@@ -28,21 +28,21 @@ abbrev pub value_of_index : AsIndex → IndexValue
 value_of_index index =
     record { position = index.position; table = index.table; places = index.places.items }
 
--- the place of the index of an AS
+-- the place of an AS's index
 abbrev pub spot_of : Indexes → ℕ → Option ℕ
 spot_of indexes ia = get nat_cmp indexes.places ia
 
--- what the indexes have of an AS
+-- the index of an AS
 abbrev pub index_of : Indexes → ℕ → Option IndexValue
 index_of indexes ia =
     option_map value_of_index (option_and_then (slice_get indexes.list.items) (spot_of indexes ia))
 
--- the index of an AS where it had one, and else this one where it is that AS's
+-- the index that an AS already had, or else `new` if this is its AS
 abbrev pub with_first_index : Bool → IndexValue → Option IndexValue → Option IndexValue
 with_first_index here new (Some old) = Some old
 with_first_index here new None = if here then Some new else None
 
--- the places, counted from base, of the links that end in an AS
+-- the places of the links that end in an AS, counted from `base`
 abbrev pub places_of : ℕ → ℕ → List Link → List ℕ
 places_of base ia [] = []
 places_of base ia (link ∷ links) =
@@ -53,18 +53,18 @@ abbrev pub index_at : ℕ → ℕ → List Link → IndexValue
 index_at position ia links =
     record { position = position; table = table_of ia links; places = places_of 0 ia links }
 
--- the index of an AS of a list whose places are counted from base
+-- the index of an AS in a list whose places are counted from `base`
 abbrev pub index_from : ℕ → List AsEntry → List Link → ℕ → Option IndexValue
 index_from base [] links ia = None
 index_from base (one ∷ rest) links ia =
     if one.ia == ia then Some (index_at base ia links) else index_from (base + 1) rest links ia
 
--- what stands beside the interface of this number
+-- the entry of `places` at the same position as the interface of this number
 abbrev pub place_beside : ℕ → List IfEntry → List ℕ → Option ℕ
 place_beside number table places =
     option_and_then (slice_get places) (place_in_table table number)
 
--- an AS and its index
+-- an AS together with its index
 abbrev pub index_in : Network → ℕ → Result (AsEntry × IndexValue) TopologyFault
 index_in n ia = do
   one ← known n ia
@@ -77,7 +77,7 @@ place_in n ia number =
 
 -- ---- links that are added
 
--- the index with an interface more, and the place of its link
+-- the index with one more interface, and with the place of its link
 abbrev pub added : IfEntry → ℕ → IndexValue → IndexValue
 added entry place index = record {
   position = index.position;
@@ -85,11 +85,11 @@ added entry place index = record {
   places = index.places ++ place ∷ [];
 }
 
--- the same, where it is this AS's
+-- `added` if this is the interface's AS, and else the index as it was
 abbrev pub added_where : Bool → IfEntry → ℕ → Option IndexValue → Option IndexValue
 added_where here entry place index = if here then option_map (added entry place) index else index
 
--- the index of an AS with the links from this place on
+-- the index of an AS with these links added, whose places begin at `base`
 abbrev pub with_links : ℕ → ℕ → List Link → IndexValue → IndexValue
 with_links base ia links index = record {
   position = index.position;
@@ -102,21 +102,21 @@ with_link place ia link index = with_links place ia (link ∷ []) index
 
 -- ---- a link that goes up or down
 
--- the index with the interface of this number up, or down
+-- the index with the link of this interface up or down
 abbrev pub marked : ℕ → Bool → IndexValue → IndexValue
 marked number up index = record index { table = marked_table number up index.table }
 
--- the same, where it is this AS's
+-- `marked` if this is the interface's AS, and else the index as it was
 abbrev pub marked_where : Bool → ℕ → Bool → Option IndexValue → Option IndexValue
 marked_where here number up index = if here then option_map (marked number up) index else index
 
--- the links with the one at this place, counted from base, up, or down
+-- the links with the link at this place up or down; places are counted from `base`
 abbrev pub set_from : ℕ → ℕ → Bool → List Link → List Link
 set_from base place up [] = []
 set_from base place up (link ∷ links) =
     (if base == place then record link { up = up } else link) ∷ set_from (base + 1) place up links
 
--- the ASes with this key in use for the one at this place
+-- the ASes with this key in use for the AS at this place
 abbrev pub keyed_at : ℕ → List ℕ → List AsEntry → List AsEntry
 keyed_at place key [] = []
 keyed_at zero key (one ∷ rest) = record one { keys = renewed key one.keys } ∷ rest

@@ -1,4 +1,5 @@
--- The keys of an AS: those whose authenticators it accepts, the one in use first.
+-- The keys of an AS: the key in use and at most the one before it; authenticators under either are
+-- accepted.
 use Rattle.std.specs.Prelude.{ℕ, ◌≤◌, ◌&&◌, nat_le, Bool, if◌then◌else◌, List, [], ◌∷◌, All, length, slice_get, Option, Some, None, Result, Ok, Err}
 use Rattle.std.specs.List.{list_all}
 use Rattle.std.specs.Option.{unwrap_or}
@@ -9,7 +10,7 @@ use Rattle.scion_topology.specs.declared.fault.TopologyFault.TheVariants as faul
 abbrev pub IsKey : List ℕ → Type 0
 IsKey key = (1 ≤ length key) × (length key ≤ 64)
 
--- what an AS accepts: the key in use, which is the first, and at most the one before it
+-- the keys that an AS accepts: the key in use comes first, and at most the one before it follows
 pub record AreKeys (keys : List (List ℕ)) : Type 0 where
   pub some : 1 ≤ length keys
   pub few : length keys ≤ 2
@@ -19,29 +20,29 @@ pub record AreKeys (keys : List (List ℕ)) : Type 0 where
 abbrev pub key_in_use : List (List ℕ) → List ℕ
 key_in_use keys = unwrap_or (slice_get keys 0) []
 
--- the tests of both
+-- `IsKey` and `AreKeys` as Booleans
 abbrev pub is_key : List ℕ → Bool
 is_key key = nat_le 1 (length key) && nat_le (length key) 64
 
 abbrev pub are_keys : List (List ℕ) → Bool
 are_keys keys = nat_le 1 (length keys) && (nat_le (length keys) 2 && list_all is_key keys)
 
--- the key of these bytes
+-- the key of these bytes, or BadField
 unfoldable pub key_of : List ℕ → Result (List ℕ) TopologyFault
 key_of bytes = if is_key bytes then Ok bytes else Err faults.BadField
 
--- the key in use, and the one before it where there is one
+-- the key in use, and the one before it if there is one
 abbrev pub accepted : List ℕ → Option (List ℕ) → List (List ℕ)
 accepted key None = key ∷ []
 accepted key (Some previous) = key ∷ previous ∷ []
 
--- the keys of an AS with this one in use, and this one before it
+-- the accepted keys from the key in use and the one before it, or BadField
 unfoldable pub keys_of : List ℕ → Option (List ℕ) → Result (List (List ℕ)) TopologyFault
 keys_of key previous =
     if list_all is_key (accepted key previous) then Ok (accepted key previous)
     else Err faults.BadField
 
--- the keys after another one was taken into use: the one that was in use is the one before
+-- the keys after another key was taken into use: the key that was in use is now the one before
 abbrev pub renewed : List ℕ → List (List ℕ) → List (List ℕ)
 renewed key [] = key ∷ []
 renewed key (current ∷ older) = key ∷ current ∷ []

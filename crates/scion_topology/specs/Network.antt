@@ -10,35 +10,35 @@ use Rattle.scion_topology.specs.declared.network.Link.{Link}
 use Rattle.scion_topology.specs.declared.network.LinkClass.{LinkClass}
 use Rattle.scion_topology.specs.declared.network.LinkClass.TheVariants.{Core, Child}
 
--- the ASes and the links, each in the order of the text that they were read from
+-- a network: its ASes and its links, each in the order of the text from which they were read
 pub record Network : Type 0 where
   pub ases : List AsEntry
   pub links : List Link
 
--- the ISD or the AS number of this address is the wildcard 0, and neither is
+-- whether the ISD or the AS number of this address is the wildcard 0, and that neither is
 abbrev pub is_wildcard : ℕ → Bool
 is_wildcard ia = (isd_of ia == 0) || (as_number_of ia == 0)
 
 abbrev pub IsPlain : ℕ → Type 0
 IsPlain ia = (isd_of ia ≢ 0) × (as_number_of ia ≢ 0)
 
--- the AS of this address
+-- the first AS of this address
 abbrev pub as_named : List AsEntry → ℕ → Option AsEntry
 as_named ases ia = find (λ one. one.ia == ia) ases
 
--- the end is this interface of this AS
+-- the end is at this interface of this AS
 abbrev pub is_end : End → ℕ → ℕ → Bool
 is_end end ia number = (end.ia == ia) && (end.number == number)
 
--- the link ends at this interface of this AS
+-- the link has an end at this interface of this AS
 abbrev pub has_end : Link → ℕ → ℕ → Bool
 has_end link ia number = is_end link.a ia number || is_end link.b ia number
 
--- the link that ends there
+-- the first link with an end at this interface of this AS
 abbrev pub link_named : List Link → ℕ → ℕ → Option Link
 link_named links ia number = find (λ link. has_end link ia number) links
 
--- what the far AS is to the AS at end a, and to the AS at end b
+-- the kind of a link as seen from the AS at end a, and from the AS at end b
 abbrev pub kind_at_a : LinkClass → LinkKind
 kind_at_a Core = kinds.Core
 kind_at_a Child = kinds.Child
@@ -47,12 +47,12 @@ abbrev pub kind_at_b : LinkClass → LinkKind
 kind_at_b Core = kinds.Core
 kind_at_b Child = kinds.Parent
 
--- an end of a link as an interface of its AS
+-- the end of a link as an interface of its AS
 abbrev pub end_as_interface : End → LinkKind → Bool → IfEntry
 end_as_interface end kind up =
     record { number = end.number; kind = kind; router = end.router; up = up }
 
--- the interface by which the link ends in this AS
+-- the interface by which the link ends in this AS, or nothing if it has no end there
 abbrev pub interface_of : ℕ → Link → Option IfEntry
 interface_of ia link =
     if link.a.ia == ia then Some (end_as_interface link.a (kind_at_a link.class) link.up)
@@ -68,7 +68,7 @@ abbrev pub table_of : ℕ → List Link → List IfEntry
 table_of ia [] = []
 table_of ia (link ∷ links) = with_first (interface_of ia link) (table_of ia links)
 
--- what an AS at one end of a link is to the other, if the other is this to it
+-- the kind of a link as seen from its other end
 abbrev pub mirrored : LinkKind → LinkKind
 mirrored kinds.Core = kinds.Core
 mirrored kinds.Parent = kinds.Child

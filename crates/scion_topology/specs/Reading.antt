@@ -17,14 +17,14 @@ use Rattle.scion_topology.specs.declared.network.LinkClass.TheVariants.{Core, Ch
 use Rattle.scion_topology.specs.Keys.{key_of}
 use Rattle.scion_topology.specs.Network.{is_wildcard}
 
--- an address without a wildcard
+-- the address in a member, without a wildcard
 unfoldable pub address_in : List ℕ → Data → Option ℕ
 address_in name d = do
   text ← text_at name d
   ia ← result_ok (address_at text)
   if is_wildcard ia then None else Some ia
 
--- a key: 2 to 128 hexadecimal digits, an even number of them
+-- the key in a member: 2 to 128 hexadecimal digits, an even number of them
 unfoldable pub key_at : List ℕ → Data → Option (List ℕ)
 key_at name d = do
   text ← text_at name d
@@ -33,7 +33,7 @@ key_at name d = do
       else None
   result_ok (key_of bytes)
 
--- an AS, with one key
+-- the AS of an object, with its one key in use
 unfoldable pub as_at : Data → Option AsEntry
 as_at d = do
   ia ← address_in (codes "ia") d
@@ -43,14 +43,14 @@ as_at d = do
   routers ← whole_at 1 64 (codes "routers") d
   Some (record { ia = ia; core = core; exp_time = exp_time; keys = key ∷ []; routers = routers })
 
--- what a link joins
+-- the class in a member: "core" or "child"
 unfoldable pub class_at : List ℕ → Data → Option LinkClass
 class_at name d = do
   text ← text_at name d
   if bytes_eq text (codes "core") then Some Core
       else if bytes_eq text (codes "child") then Some Child else None
 
--- an end of a link
+-- the end of a link in a member
 unfoldable pub end_at : List ℕ → Data → Option End
 end_at name d = do
   v ← get name d
@@ -59,7 +59,7 @@ end_at name d = do
   router ← whole_at 0 63 (codes "router") v
   Some (record { ia = ia; number = number; router = router })
 
--- a link, which is up
+-- the link of an object; a link that is read is up
 unfoldable pub link_at : Data → Option Link
 link_at d = do
   class ← class_at (codes "kind") d

@@ -9,25 +9,26 @@ use Rattle.scion_topology.specs.declared.network.LinkClass.TheVariants.{Core, Ch
 use Rattle.scion_topology.specs.Keys.{AreKeys}
 use Rattle.scion_topology.specs.Network.{Network, IsPlain}
 
--- an AS: no wildcard in its address, 1 to 64 routers, and keys that it accepts
+-- the rules of an AS: no wildcard in its address, 1 to 64 routers, and one or two keys
 pub record IsAs (one : AsEntry) : Type 0 where
   pub plain : IsPlain one.ia
   pub some_router : 1 ≤ one.routers
   pub few_routers : one.routers ≤ 64
   pub keys : AreKeys one.keys
 
--- an end of a link in an AS: the number of an interface, and a router that the AS has
+-- the rules of an end of a link in an AS: its interface has a number, and the AS has its router
 pub record IsEnd (end : End) (one : AsEntry) : Type 0 where
   pub of : end.ia ≡ one.ia
   pub numbered : end.number ≢ 0
   pub router : end.router < one.routers
 
--- a core link joins two core ASes; a child link a parent and a child of one ISD that is no core AS
+-- a core link joins two core ASes; a child link joins a parent and a child of the same ISD, and the
+-- child is no core AS
 abbrev pub Joins : LinkClass → AsEntry → AsEntry → Type 0
 Joins Core one other = (one.core ≡ true) × (other.core ≡ true)
 Joins Child parent child = (isd_of parent.ia ≡ isd_of child.ia) × (child.core ≡ false)
 
--- a link joins two of the ASes, and no AS to itself
+-- the rules of a link: it joins two different ASes of the list, as its class allows
 pub record IsLink (ases : List AsEntry) (link : Link) : Type 0 where
   pub one : AsEntry
   pub other : AsEntry
@@ -38,18 +39,18 @@ pub record IsLink (ases : List AsEntry) (link : Link) : Type 0 where
   pub apart : link.a.ia ≢ link.b.ia
   pub joins : Joins link.class one other
 
--- the ends of all links
+-- both ends of all links
 abbrev pub ends_of : List Link → List End
 ends_of [] = []
 ends_of (link ∷ links) = link.a ∷ link.b ∷ ends_of links
 
--- two ends are not one interface of an AS
+-- the two ends are different interfaces
 abbrev pub AreTwo : End → End → Type 0
 AreTwo one other = ¬ ((one.ia ≡ other.ia) × (one.number ≡ other.number))
 
--- what is true of every topology that was read, however it was changed since: 1 to 1,024 ASes and
--- at most 4,096 links; each AS is right and stands once; each link is right; each interface of an
--- AS is at one end
+-- the rules of a network, which hold from its reading on and after each change: 1 to 1,024 ASes and
+-- at most 4,096 links; each AS and each link keeps its rules; no two ASes have one address; each
+-- interface is at one end
 pub record IsNetwork (n : Network) : Type 0 where
   pub some_as : 1 ≤ length n.ases
   pub few_ases : length n.ases ≤ 1024
@@ -59,6 +60,6 @@ pub record IsNetwork (n : Network) : Type 0 where
   pub links : All (IsLink n.ases) n.links
   pub interfaces : AllPairs AreTwo (ends_of n.links)
 
--- the interfaces at both ends of a link have a number
+-- the interfaces at both ends of a link have numbers other than 0
 abbrev pub IsNumbered : Link → Type 0
 IsNumbered link = (link.a.number ≢ 0) × (link.b.number ≢ 0)

@@ -1,5 +1,4 @@
--- The keys and the interfaces that a view was lent or given. No clause of a public call speaks of
--- it.
+-- The keys and interfaces of a view, borrowed or owned. No clause of a public call cites it.
 use Rattle.std.specs.Prelude.{ℕ, List}
 use Rattle.scion_topology.specs.declared.entry.IfEntry.{IfEntry}
 use Rattle.scion_topology.specs.declared.view.Source.{Source}

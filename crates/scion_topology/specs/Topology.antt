@@ -1,4 +1,4 @@
--- Topologies: the network of a text, what is asked of it, and how it is changed.
+-- Topologies: reading a network from a text, its queries, and its changes.
 use Rattle.std.specs.Prelude.{◌≡◌, ℕ, ◌==◌, nat_lt, Bool, if◌then◌else◌, codes, List, [], ◌∷◌, Option, Some, None, Result, Ok, Err}
 use Rattle.std.specs.List.{position_or_len}
 use Rattle.std.specs.Option.{ok_or}
@@ -21,7 +21,7 @@ use Rattle.scion_topology.specs.Reading.{as_at, link_at}
 
 -- ---- reading
 
--- the network of a value: each field, and then each cause over the whole
+-- the network of a JSON value: BadField for its form, and then the first fault of `cause_of`
 unfoldable pub network_of : Data → Result Network TopologyFault
 network_of d = do
   as_items ← ok_or (list_at (codes "ases") d) faults.BadField
@@ -30,7 +30,7 @@ network_of d = do
   links ← ok_or (items_at link_at link_items) faults.BadField
   unless (cause_of ases links) (record { ases = ases; links = links })
 
--- the network of a text
+-- the network of a text: NotJson, or as of its value
 abbrev pub of_value : Option Data → Result Network TopologyFault
 of_value (Some d) = network_of d
 of_value None = Err faults.NotJson
@@ -40,15 +40,15 @@ network_in bytes = of_value (document_in bytes)
 
 -- ---- asking
 
--- the AS of this address
+-- the AS of this address, or UnknownAs
 abbrev pub known : Network → ℕ → Result AsEntry TopologyFault
 known n ia = ok_or (as_named n.ases ia) faults.UnknownAs
 
--- the link at this interface of this AS
+-- the link at this interface of this AS: UnknownAs, then NoLink
 abbrev pub known_link : Network → ℕ → ℕ → Result Link TopologyFault
 known_link n ia number = known n ia >>= λ _. ok_or (link_named n.links ia number) faults.NoLink
 
--- an AS's place in the list, and what the list says of it
+-- the place of an AS in the list, and its values there
 unfoldable pub info_in : Network → ℕ → Result AsInfo TopologyFault
 info_in n ia = do
   one ← known n ia
@@ -59,19 +59,19 @@ info_in n ia = do
     routers = one.routers;
   })
 
--- an interface of an AS
+-- the interface of this number of an AS: UnknownAs, then NoLink
 abbrev pub interface_at : Network → ℕ → ℕ → Result IfEntry TopologyFault
 interface_at n ia number =
     known n ia >>= λ _. ok_or (interface_in (table_of ia n.links) number) faults.NoLink
 
--- the end of a link at this interface, and the other end
+-- the end of a link at this interface, and its other end
 abbrev pub near_end : Link → ℕ → ℕ → End
 near_end link ia number = if is_end link.a ia number then link.a else link.b
 
 abbrev pub far_end : Link → ℕ → ℕ → End
 far_end link ia number = if is_end link.a ia number then link.b else link.a
 
--- the AS and the interface at the far end
+-- the AS and the interface at the far end of the link
 unfoldable pub far_end_in : Network → ℕ → ℕ → Result (ℕ × ℕ) TopologyFault
 far_end_in n ia number = do
   link ← known_link n ia number
@@ -83,7 +83,7 @@ owner_in n ia number = do
   link ← known_link n ia number
   Ok (near_end link ia number).router
 
--- the view of a router
+-- the view of a router: UnknownAs, then NoRouter
 unfoldable pub view_in : Network → ℕ → ℕ → Result View TopologyFault
 view_in n ia router = do
   one ← known n ia
@@ -93,34 +93,34 @@ view_in n ia router = do
 
 -- ---- changing
 
--- the links with the one at this interface up, or down
+-- the links with the link at this interface up or down
 abbrev pub with_up : Bool → ℕ → ℕ → List Link → List Link
 with_up up ia number [] = []
 with_up up ia number (link ∷ links) =
     if has_end link ia number then record link { up = up } ∷ links
     else link ∷ with_up up ia number links
 
--- the ASes with this key in use for the one of this address
+-- the ASes with this key in use for the AS of this address
 abbrev pub with_key : ℕ → List ℕ → List AsEntry → List AsEntry
 with_key ia key [] = []
 with_key ia key (one ∷ rest) =
     if one.ia == ia then record one { keys = renewed key one.keys } ∷ rest
     else one ∷ with_key ia key rest
 
--- the network with that link up, or down
+-- the network with the link at this interface up or down
 unfoldable pub set_up : Bool → ℕ → ℕ → Network → Result Network TopologyFault
 set_up up ia number n = do
   link ← known_link n ia number
   Ok (record n { links = with_up up ia number n.links })
 
--- the network with another key in use for an AS
+-- the network with another key in use for an AS: UnknownAs, then BadField for the key
 unfoldable pub rotated : ℕ → List ℕ → Network → Result Network TopologyFault
 rotated ia key n = do
   one ← known n ia
   new ← key_of key
   Ok (record n { ases = with_key ia new n.ases })
 
--- a change that was done left what it says, and one that was refused left all as it was
+-- a change is done and gives the new network, or is refused and leaves the network as it was
 abbrev pub Becomes : Result Network TopologyFault → Network → Network
     → Result (Unit {0}) TopologyFault → Type 0
 Becomes change old new (Ok x) = change ≡ Ok new

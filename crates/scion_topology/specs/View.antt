@@ -1,4 +1,4 @@
--- What a router knows of its AS: address, keys and interfaces (draft-dekater-scion-dataplane).
+-- A router's view of its AS: address, keys and interfaces (draft-dekater-scion-dataplane).
 use Rattle.std.specs.Prelude.{◌≡◌, ◌≢◌, ℕ, Bool, List, All, AllPairs, Any, Option}
 use Rattle.std.specs.List.{list_any}
 use Rattle.std.specs.Str.{bytes_eq}
@@ -7,15 +7,16 @@ use Rattle.scion_topology.specs.declared.entry.IfEntry.{IfEntry}
 use Rattle.scion_topology.specs.Keys.{AreKeys}
 use Rattle.scion_topology.specs.Network.{IsPlain, interface_in}
 
--- the address of a router's AS, the router's number, the keys that the AS accepts as its own, and
--- its interfaces
+-- the view of a router: the address of its AS, its number, the keys that the AS accepts, and the
+-- interfaces of the AS
 pub record View : Type 0 where
   pub ia : ℕ
   pub router : ℕ
   pub keys : List (List ℕ)
   pub table : List IfEntry
 
--- no wildcard in the address, at least one key, and each interface named once, none of them 0
+-- the rules of a view: no wildcard in its address, one or two keys, and each interface once, with a
+-- number other than 0
 pub record IsRight (view : View) : Type 0 where
   pub plain : IsPlain view.ia
   pub keys : AreKeys view.keys
@@ -26,12 +27,12 @@ pub record IsRight (view : View) : Type 0 where
 abbrev pub entry_of : View → ℕ → Option IfEntry
 entry_of view number = interface_in view.table number
 
--- the bytes are the authenticator of a hop of these values under one of the accepted keys
+-- the bytes are the authenticator of a hop with these values under one of the accepted keys
 abbrev pub IsAuthentic : View → List ℕ → ℕ → ℕ → ℕ → ℕ → ℕ → Type 0
 IsAuthentic view mac beta timestamp exp_time cons_ingress cons_egress =
     Any (λ key. mac ≡ authenticator key beta timestamp exp_time cons_ingress cons_egress) view.keys
 
--- the test of `IsAuthentic`
+-- `IsAuthentic` as a Boolean
 abbrev pub is_authentic : View → List ℕ → ℕ → ℕ → ℕ → ℕ → ℕ → Bool
 is_authentic view mac beta timestamp exp_time cons_ingress cons_egress =
     list_any (λ key.
