@@ -12,12 +12,12 @@ use refusal::OrMemory;
 use scion_topology::Topology;
 use std::alloc::Global;
 
-/// The beacon that a core AS begins over one of its links: `timestamp` is in seconds, and `beta0`
-/// the accumulator with which its entry is authenticated. The kind is that of the link.
+/// The beacon that a core AS begins over one of its links, whose kind gives the beacon's.
+/// `timestamp` is in seconds; `beta0` is the accumulator under which the entry is authenticated.
 ///
-/// The first of these refusals: [`BeaconFault::NotCore`] if the topology has no such core AS,
-/// [`BeaconFault::NoInterface`] if the AS has no such interface, [`BeaconFault::LinkDown`] where
-/// its link is down.
+/// The first of these refusals is returned: [`BeaconFault::NotCore`] if the topology has no such
+/// core AS, [`BeaconFault::NoInterface`] if the AS has no such interface, [`BeaconFault::LinkDown`]
+/// if its link is down.
 pub fn originate(
     alloc: Global,
     topology: &Topology,
@@ -38,14 +38,13 @@ pub fn originate(
     }
 }
 
-/// The beacon, passed on by the AS to which it comes, over one of its links.
+/// The beacon after the AS in which it arrived has passed it on over one of its links.
 ///
-/// The first of these refusals: [`BeaconFault::NotHere`] if the last way out does not lead to
-/// this AS, [`BeaconFault::LinkDown`] if that link is down, [`BeaconFault::Loop`] if the AS
-/// stands in the beacon already, [`BeaconFault::TooLong`] if the beacon has 62 entries,
-/// [`BeaconFault::NoInterface`] if the AS has no such interface, [`BeaconFault::WrongKind`]
-/// where the link is no core link, or none to a child, as the beacon's kind asks, and
-/// [`BeaconFault::LinkDown`] if it is down.
+/// The first of these refusals is returned: [`BeaconFault::NotHere`] if the last way out does not
+/// lead to this AS; [`BeaconFault::LinkDown`] if that link is down; [`BeaconFault::Loop`] if the
+/// beacon already has an entry of this AS; [`BeaconFault::TooLong`] if it has 62 entries;
+/// [`BeaconFault::NoInterface`] if the AS has no such interface; [`BeaconFault::WrongKind`] if a
+/// beacon of this kind does not go over that link; [`BeaconFault::LinkDown`] if that link is down.
 pub fn extend(
     alloc: Global,
     topology: &Topology,
@@ -63,11 +62,11 @@ pub fn extend(
     }
 }
 
-/// The segment that ends in the AS to which the beacon comes.
+/// The segment that a beacon becomes if it ends in the AS in which it arrived.
 ///
-/// The first of these refusals: [`BeaconFault::NotHere`] if the last way out does not lead to
-/// this AS, [`BeaconFault::LinkDown`] if that link is down, [`BeaconFault::Loop`] if the AS
-/// stands in the beacon already.
+/// The first of these refusals is returned: [`BeaconFault::NotHere`] if the last way out does not
+/// lead to this AS, [`BeaconFault::LinkDown`] if that link is down, [`BeaconFault::Loop`] if the
+/// beacon already has an entry of this AS.
 pub fn terminate(
     alloc: Global,
     topology: &Topology,
@@ -84,7 +83,7 @@ pub fn terminate(
     }
 }
 
-/// The kind of a new beacon, and its entry.
+/// The kind of a new beacon, and its first entry.
 #[tactic(auto, unfolding(crate::specs::Calls::originated, path_segment::specs::Rules::first_fault))]
 fn first_entry(
     topology: &Topology,

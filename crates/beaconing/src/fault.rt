@@ -10,7 +10,7 @@ pub enum BeaconFault {
     /// The beacon has 62 entries.
     #[error("a beacon has at most 62 entries")]
     TooLong,
-    /// The AS stands in the beacon already.
+    /// The beacon already has an entry of the AS.
     #[error("the AS stands in the beacon already")]
     Loop,
     /// The AS is no core AS of the topology.
@@ -19,10 +19,10 @@ pub enum BeaconFault {
     /// The AS has no interface of this number.
     #[error("the AS has no interface of this number")]
     NoInterface,
-    /// The link by which the beacon comes in or is to go out is down.
+    /// The link by which the beacon comes in, or the one by which it would go out, is down.
     #[error("the link is down")]
     LinkDown,
-    /// The link is none that a beacon of this kind follows.
+    /// A beacon of this kind does not go over that link.
     #[error("a beacon of this kind does not follow this link")]
     WrongKind,
     /// The beacon's last way out does not lead to this AS.
@@ -62,5 +62,5 @@ impl BeaconFault {
     }
 }
 
-/// Why a call gave no beacon or segment: running out of memory, or a refusal.
+/// Why a call returned no beacon or segment: memory ran out, or a refusal.
 pub type BeaconError = OrMemory<BeaconFault>;

@@ -1,4 +1,4 @@
-//! The parts of a call: the entry that an AS makes, and where a beacon comes in and goes out.
+//! The parts of a call: the entry that an AS makes, and the beacon's way in and way out.
 
 ghost use Rattle.std.specs.Prelude.{◌≡◌, ◌≢◌, ◌==◌, false, IfOk, IsTrue};
 ghost use Rattle.std.specs.List.{list_any};
@@ -57,7 +57,7 @@ pub(crate) fn kind_over(kind: LinkKind) -> SegKind
     }
 }
 
-/// Whether a beacon of this kind goes on over a link of this kind.
+/// Whether a beacon of this kind may be sent on over a link of this kind.
 pub(crate) fn goes_on(kind: SegKind, link: LinkKind) -> bool
     ensures { result ≡ goes_on kind link }
 {
@@ -67,7 +67,7 @@ pub(crate) fn goes_on(kind: SegKind, link: LinkKind) -> bool
     }
 }
 
-/// An interface by which a beacon is to go out.
+/// The interface by which a beacon is to go out.
 pub(crate) fn way_out(topology: &Topology, ia: IsdAs, number: IfId) -> Result<&IfEntry, BeaconFault>
     ensures value { Gives (λ out. out.now) result
         (or_else BeaconFault.NoInterface (interface_at topology.now ia number)) }
@@ -80,7 +80,7 @@ pub(crate) fn way_out(topology: &Topology, ia: IsdAs, number: IfId) -> Result<&I
         .map_err(|_| BeaconFault::NoInterface)
 }
 
-/// The interface by which a beacon comes to an AS.
+/// The interface by which a beacon arrives in an AS.
 #[tactic(auto, unfolding(crate::specs::Calls::come_to))]
 pub(crate) fn come_to(topology: &Topology, beacon: &Beacon, ia: IsdAs) -> Result<IfId, BeaconFault>
     ensures value { result ≡ come_to topology.now beacon.now ia }
@@ -104,7 +104,7 @@ pub(crate) fn come_to(topology: &Topology, beacon: &Beacon, ia: IsdAs) -> Result
     Ok(ingress)
 }
 
-/// Whether a beacon has no entry of this AS yet.
+/// Whether a beacon has no entry of this AS.
 #[tactic(auto, unfolding(crate::specs::Calls::is_new))]
 pub(crate) fn is_new(beacon: &Beacon, ia: IsdAs) -> bool
     ensures value { result ≡ is_new beacon.now ia }
@@ -113,7 +113,7 @@ pub(crate) fn is_new(beacon: &Beacon, ia: IsdAs) -> bool
     !stands_in(beacon.entries(), ia)
 }
 
-/// Whether an AS stands in one of these entries.
+/// Whether one of these entries is of this AS.
 fn stands_in(entries: &[Entry], ia: IsdAs) -> bool
     ensures { result ≡ list_any (λ entry. entry.ia == ia) entries.now }
 {

@@ -8,23 +8,23 @@ ghost use Rattle.beaconing.specs.Entry.{key_in};
 ghost use Rattle.beaconing.specs.Calls.{originated, come_to, extended, terminated};
 ghost use Rattle.beaconing.specs.Issued.{IsUnderWay, IsIssued, ComesOver, Grows, keys_in, passed_on};
 
-/// A beacon that an AS begins is under way, with the key that the AS has in use.
+/// A beacon that an AS begins is under way, under the key that the AS has in use.
 pub fn begun_is_under_way()
     ensures { (n : Network) (ia egress timestamp beta0 : ℕ) (beacon : Chain) → IsNetwork n
         → originated n ia egress timestamp beta0 ≡ Ok beacon
         → IsUnderWay n (key_in n ia ∷ []) beacon }
 {}
 
-/// A beacon under way that an AS passes on is under way, with the key that the AS has in use
-/// besides.
+/// A beacon under way that an AS passes on is under way; its keys are those before and the key that
+/// the AS has in use.
 pub fn passed_on_is_under_way()
     ensures { (n : Network) (keys : List (List ℕ)) (beacon : Chain) (ia egress : ℕ) (next : Chain)
         → IsNetwork n → IsUnderWay n keys beacon → extended n beacon ia egress ≡ Ok next
         → IsUnderWay n (keys ++ (key_in n ia ∷ [])) next }
 {}
 
-/// A beacon under way that ends in an AS becomes a segment that the network issues, with the key
-/// that the AS has in use besides.
+/// A beacon under way that ends in an AS becomes a segment that the network issues; its keys are
+/// those before and the key that the AS has in use.
 pub fn ended_is_issued()
     ensures { (n : Network) (keys : List (List ℕ)) (beacon : Chain) (ia : ℕ) (segment : Chain)
         → IsNetwork n → IsUnderWay n keys beacon → terminated n beacon ia ≡ Ok segment
@@ -40,8 +40,8 @@ pub fn made_is_issued()
         → terminated n beacon last ≡ Ok segment → IsIssued n (keys_in n segment) segment }
 {}
 
-/// Each call adds one entry, that of the AS to which the beacon came; and the link by which it came
-/// is up.
+/// Each call adds one entry, that of the AS in which the beacon arrived; and the link by which it
+/// arrived is up.
 pub fn chains_grow_by_one()
     ensures extended { (n : Network) (beacon : Chain) (ia egress : ℕ) (next : Chain)
         → extended n beacon ia egress ≡ Ok next → Grows n beacon ia next }
@@ -51,7 +51,7 @@ pub fn chains_grow_by_one()
         → come_to n beacon ia ≡ Ok ingress → ComesOver n beacon ia ingress }
 {}
 
-/// A beacon under way stays so where a link goes up or down, and where an AS takes another key.
+/// A beacon under way stays so if a link goes up or down, or an AS changes its key.
 pub fn beacons_outlast_changes()
     ensures links { (n m : Network) (up : Bool) (ia number : ℕ) (keys : List (List ℕ))
         (beacon : Chain)
@@ -61,8 +61,8 @@ pub fn beacons_outlast_changes()
         → rotated ia key n ≡ Ok m → IsUnderWay n keys beacon → IsUnderWay m keys beacon }
 {}
 
-/// A segment that a network has issued stays so where a link goes up or down, and where an AS takes
-/// another key.
+/// A segment that a network has issued stays so if a link goes up or down, or an AS changes its
+/// key.
 pub fn segments_outlast_changes()
     ensures links { (n m : Network) (up : Bool) (ia number : ℕ) (keys : List (List ℕ))
         (segment : Chain)

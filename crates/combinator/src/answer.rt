@@ -14,7 +14,7 @@ use policy_expr::Policy;
 use std::alloc::{AllocError, Allocator, Global};
 use std::marker::Model;
 
-/// Paths that may be sent, in the order of an answer. They lend the segments of which they are
+/// Paths that may be sent, in the order of an answer. They borrow the segments of which they are
 /// made.
 #[derive(Drop)]
 pub struct Paths<'s, 'p, A: Allocator + Clone> {
@@ -40,7 +40,7 @@ impl<'s, 'p, A: Allocator + Clone> Paths<'s, 'p, A> {
         }
     }
 
-    /// How many paths there are.
+    /// The number of paths.
     pub fn len(&self) -> usize
         ensures { result ≡ length self.now }
     {
@@ -68,15 +68,15 @@ impl<'s, 'p, A: Allocator + Clone> Paths<'s, 'p, A> {
     }
 }
 
-/// The paths from `src` to `dst` that can be made of the segments of a set and may be sent at its
-/// second under a policy: for each walk the one that expires last, of these the one whose header
-/// has the least bytes; ordered by number of hop fields, bytes of the header and walk; the first
-/// `limit` of them.
+/// The paths from `src` to `dst` that can be made of the segments of a set and may be sent at the
+/// set's second under a policy. For each walk there is one path: the one that expires last, and
+/// among those the one with the smallest header bytes. The paths are ordered by number of hop
+/// fields, header bytes and walk, and the first `limit` of them are returned.
 ///
-/// Pieces are joined by the ASes in which they meet. With n pieces that begin in the source or end
-/// in the destination, or are whole core segments, and m lists of them that meet, it takes time in
-/// proportion to n for each such list. It keeps a path for each walk: with w walks, each path that
-/// may be sent is compared with some log w of those that are kept, and moves w pointers at most.
+/// The search takes the pieces that begin in the source, end in the destination, or are whole core
+/// segments. With n of them, it tries all n after each list of pieces that meet. Of the paths found
+/// it keeps one for each walk. With w walks it compares each path that may be sent with about log w
+/// others, and moves at most w pointers.
 pub fn paths_between<'s, 'p, A: Allocator + Clone>(
     alloc: Global,
     set: &'s SegmentSet,
@@ -100,7 +100,7 @@ pub fn paths_between<'s, 'p, A: Allocator + Clone>(
     answered(alloc, &ask, limit)
 }
 
-/// The answer to what is asked.
+/// The answer to a question.
 fn answered<'s, 'p, A: Allocator + Clone>(
     alloc: Global,
     ask: &PathRequest<'s, 'p, A>,

@@ -1,4 +1,4 @@
-//! Keeping, of the paths that were found, one for each walk.
+//! Keeps the best path for each walk.
 
 ghost use Rattle.std.specs.Prelude.{◌≡◌, ◌<◌, ◌≤◌, [], length, slice_index_or, IfErr, IfOk, OnOk};
 ghost use Rattle.combinator.specs.Candidate.{Question, IsCandidate};
@@ -12,8 +12,8 @@ use std::cmp::Ordering;
 use std::marker::Model;
 use std::mem;
 
-/// Paths that were found, one for each walk. Its type keeps that they stand in the order of their
-/// walks, so that the place of a walk is found by halving.
+/// The paths found so far, one for each walk. An invariant of the type says that they are in the
+/// order of their walks, so that a binary search finds the place of a walk.
 #[derive(Drop)]
 pub(crate) struct BestByWalk<'s, 'p, A: Allocator + Clone> {
     found: Vec<RankedPath<'s, 'p, A>>,
@@ -42,8 +42,8 @@ impl<'s, 'p, A: Allocator + Clone> BestByWalk<'s, 'p, A> {
         }
     }
 
-    /// Takes a path in, where none of its walk is there, or in place of that of its walk, where
-    /// that is worse. With n paths it compares some log n walks, and moves n pointers at most.
+    /// Adds a path if none of its walk is there, or replaces that one if it is worse. With n paths
+    /// this compares about log n walks and moves at most n pointers.
     pub(crate) fn keep(&mut self, found: RankedPath<'s, 'p, A>) -> Result<(), AllocError>
         ensures goes { OnOk result ((question : Question) → IsCandidate question found.entry
             → IsNoWorseThan question self.old self.new) }
@@ -60,7 +60,7 @@ impl<'s, 'p, A: Allocator + Clone> BestByWalk<'s, 'p, A> {
         Ok(())
     }
 
-    /// The paths, in the order of their walks, no two of one walk.
+    /// The paths, in the order of their walks; no two have the same walk.
     pub(crate) fn into_list(self) -> Vec<RankedPath<'s, 'p, A>>
         ensures all { result.items ≡ self.entry }
         ensures order { InOrder by_walk result.items }
@@ -69,7 +69,7 @@ impl<'s, 'p, A: Allocator + Clone> BestByWalk<'s, 'p, A> {
     }
 }
 
-/// The place of the path with the walk of this one, or else the place at which this one belongs.
+/// The place of the path with the same walk as this one, or else the place where this one belongs.
 fn place_of<'s, 'p, A: Allocator + Clone>(
     kept: &[RankedPath<'s, 'p, A>],
     found: &RankedPath<'s, 'p, A>,

@@ -10,7 +10,7 @@ use policy_expr::PolicyOption;
 use std::alloc::{AllocError, Allocator, Global};
 use std::marker::Model;
 
-/// The paths under the policy option that is used, and which one that is.
+/// The policy option that is used, and the paths under it.
 #[derive(Drop)]
 pub struct Choice<'s, 'p, A: Allocator + Clone> {
     option: Option<usize>,
@@ -27,14 +27,14 @@ impl<'s, 'p, A: Allocator + Clone> Model for Choice<'s, 'p, A> {
 }
 
 impl<'s, 'p, A: Allocator + Clone> Choice<'s, 'p, A> {
-    /// The option that is used, by its place in the list, and `None` if none leaves a path.
+    /// The place in the list of the option that is used, or `None` if no option leaves a path.
     pub fn option(&self) -> Option<usize>
         ensures { result ≡ self.now.used }
     {
         self.option
     }
 
-    /// The paths that it leaves, none where no option leaves one.
+    /// The paths that the option leaves; there are none if no option leaves one.
     pub fn paths(&self) -> &Paths<'s, 'p, A>
         ensures { result.now ≡ self.now.paths }
     {
@@ -42,9 +42,9 @@ impl<'s, 'p, A: Allocator + Clone> Choice<'s, 'p, A> {
     }
 }
 
-/// The paths of [`paths_between`] under the heaviest of several policy options that leaves one, of
-/// equal weights the first, and which option that is. An option that is no heavier than one that
-/// leaves a path is not asked.
+/// Chooses the option with the largest weight among those that leave a path, and of equal weights
+/// the first; returns it with its paths of [`paths_between`]. An option is not tried if one of at
+/// least its weight was found to leave a path.
 pub fn paths_with<'s, 'p, A: Allocator + Clone>(
     alloc: Global,
     set: &'s SegmentSet,
@@ -68,7 +68,7 @@ pub fn paths_with<'s, 'p, A: Allocator + Clone>(
     Ok(choice)
 }
 
-/// The choice after one option more.
+/// The choice after one more option.
 fn chosen<'s, 'p, A: Allocator + Clone>(
     alloc: Global,
     set: &'s SegmentSet,

@@ -12,11 +12,11 @@ use policy_expr::PolicyOption;
 use refusal::OrMemory;
 use std::alloc::{Allocator, Global};
 
-/// What [`paths_with`] gives, as a list that owns its paths, where the ends are two ASes; else
-/// [`CombineFault::SameAs`]. Running out of memory stands in place of an answer alone.
+/// The result of [`paths_with`] as a list that owns its paths. If both ends are the same AS, it is
+/// [`CombineFault::SameAs`]. Memory can run out only if they are not.
 ///
-/// Takes the time of [`crate::paths_between`] for each option that is asked, and time and room for
-/// the segments of the paths that are answered.
+/// It takes the time of [`crate::paths_between`] for each option that is tried, and time and memory
+/// for the segments of the paths that are returned.
 pub fn combine<A: Allocator + Clone>(
     alloc: Global,
     set: &SegmentSet,
@@ -26,12 +26,12 @@ pub fn combine<A: Allocator + Clone>(
     limit: usize,
 ) -> Result<PathList, CombineError>
     requires { 0 < limit }
-    // What is given answers the request.
+    // A list that is returned answers the request.
     ensures found { IfOk result (λ list.
         AnswersWith set.entry.now src dst options.entry.now limit list.used list.paths) }
-    // It is given only between two ASes.
+    // A list is returned only if the ends are two ASes.
     ensures ends { OnOk result (ends_at src dst ≡ Ok tt) }
-    // Which refusal it is, running out of memory apart.
+    // The exact refusal, if memory does not run out.
     ensures refused { IfErr result (λ error. Fails error (ends_at src dst)) }
 {
     if src == dst {

@@ -5,10 +5,10 @@ ghost use Rattle.refusal.specs.declared.fault.OrMemory.TheVariants.{Refused};
 use refusal::OrMemory;
 use thiserror::Error;
 
-/// Why paths are not looked for.
+/// Why a request for paths is refused.
 #[derive(Clone, Copy, Debug, PartialEq, Eq, Error)]
 pub enum CombineFault {
-    /// The source is the destination.
+    /// The source and the destination are the same AS.
     #[error("the source and the destination are one AS")]
     SameAs,
 }
@@ -33,7 +33,7 @@ impl CombineFault {
     }
 }
 
-/// Why no paths were answered: running out of memory, or a refusal.
+/// Why no paths were returned: memory ran out, or a refusal.
 pub type CombineError = OrMemory<CombineFault>;
 
 impl From<CombineFault> for OrMemory<CombineFault> {

@@ -9,9 +9,9 @@ ghost use Rattle.combinator.specs.Order.{header_and_walk};
 ghost use Rattle.combinator.specs.Answer.{IsAnswer, AnswersWith, question_under};
 ghost use Rattle.combinator.specs.Lasting.{IsSameSet, AreAllLive};
 
-/// Two answers to one question have the same headers and walks, in one order; and under several
-/// options they use one option. So it is where the headers of the paths are of the grammar, as
-/// those of a set of segments are ([`crate::paths_between`]).
+/// Two answers to one question have the same headers and walks, in the same order; under several
+/// options they also use the same option. The law needs headers of the grammar, which all
+/// candidates have ([`crate::paths_between`]).
 pub fn answers_agree()
     ensures paths { (question : Question) (limit : ℕ) (paths others : List PathValue)
         → AreSpelled question
@@ -25,8 +25,8 @@ pub fn answers_agree()
         → (used ≡ also) × (map header_and_walk paths ≡ map header_and_walk others) }
 {}
 
-/// Where two sets have the same segments, all live at the moments of both, what answers a question
-/// over one of them answers it over the other; under several options too.
+/// If two sets have the same segments, all live at the seconds of both, an answer over one set is
+/// an answer over the other, also under several options.
 pub fn answers_outlast_moments()
     ensures paths { (set other : Selection) (src dst : ℕ) (rules : Rules) (limit : ℕ)
         (paths : List PathValue) → IsSameSet set other → AreAllLive set set.moment

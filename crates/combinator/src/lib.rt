@@ -1,9 +1,9 @@
-//! What paths there are from one AS to another, made of known segments, and which of them are
-//! answered: for each walk the path that expires last, in a fixed order and up to a limit.
+//! The path combinator: it finds the paths between two ASes that known segments give. For each walk
+//! it answers the path that expires last, in a fixed order and up to a limit.
 //!
-//! The pieces of which paths can be made are listed once with the ASes at their ends, joined where
-//! they meet, and each list of them is judged; of the paths that may be sent one for each walk is
-//! kept, and these are then put in order and cut to the limit.
+//! It lists the usable pieces once, each with the ASes at its ends, and joins pieces that meet. The
+//! verifier decides about each list of pieces. For each walk one path that may be sent is kept.
+//! These are then put in order and cut at the limit.
 #![tactic(auto)]
 
 mod answer;

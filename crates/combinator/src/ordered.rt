@@ -1,4 +1,4 @@
-//! The paths of an answer in their order, up to a limit.
+//! Puts paths into the order of an answer, up to its limit.
 
 ghost use Rattle.std.specs.Prelude.{◌≤◌, length, All, Contains, IfSome, IfNone, IfOk, OnOk};
 ghost use Rattle.combinator.specs.Candidate.{Question, PathValue};
@@ -31,7 +31,7 @@ pub(crate) fn in_order<'s, 'p, A: Allocator + Clone>(
     Ok(ordered)
 }
 
-/// Takes a path into those that are in order, of which at most `limit` are kept.
+/// Adds a path to those in order; at most `limit` are kept.
 fn take_in<'s, 'p, A: Allocator + Clone>(
     ordered: &mut Vec<RankedPath<'s, 'p, A>>,
     found: RankedPath<'s, 'p, A>,
@@ -58,7 +58,7 @@ fn take_in<'s, 'p, A: Allocator + Clone>(
     Ok(())
 }
 
-/// The place at which a path belongs, and nothing where one is there already that shows the same.
+/// The place where a path belongs, or nothing if a path with the same header and walk is there.
 fn place_in<'s, 'p, A: Allocator + Clone>(
     ordered: &[RankedPath<'s, 'p, A>],
     found: &RankedPath<'s, 'p, A>,

@@ -9,8 +9,8 @@ use policy_expr::WalkHop;
 use std::alloc::{AllocError, Allocator, Global};
 use std::marker::Model;
 
-/// A path that owns what it is made of: its pieces, each with a segment of its own, its header and
-/// its walk. Its type keeps that the verifier's rules accept it, at some second and under some
+/// A path that owns its parts: its pieces with their segments, its header and its walk. An
+/// invariant of the type says that the verifier's rules accept it at some second and under some
 /// policy.
 #[derive(Drop)]
 pub struct Path {
@@ -55,7 +55,7 @@ impl Path {
         &self.walk
     }
 
-    /// The same path once more; or memory runs out.
+    /// A copy of this path, unless memory runs out.
     pub fn try_clone(&self, alloc: Global) -> Result<Path, AllocError>
         ensures { IfOk result (λ own. own ≡ self.now) }
     {
@@ -83,7 +83,7 @@ impl Model for PathList {
 }
 
 impl PathList {
-    /// Copies of what was chosen; or memory runs out.
+    /// Copies of the chosen paths, unless memory runs out.
     pub(crate) fn of<A: Allocator + Clone>(
         alloc: Global,
         choice: &Choice<'_, '_, A>,
@@ -97,7 +97,7 @@ impl PathList {
         })
     }
 
-    /// How many paths there are.
+    /// The number of paths.
     pub fn len(&self) -> usize
         ensures { result ≡ length self.now.paths }
     {
@@ -125,15 +125,15 @@ impl PathList {
         self.paths.get(place)
     }
 
-    /// The policy option that was used, by its place in the list of options, and `None` if none
-    /// leaves a path.
+    /// The place of the used policy option in the list of options, or `None` if no option leaves a
+    /// path.
     pub fn option(&self) -> Option<usize>
         ensures { result ≡ self.now.used }
     {
         self.option
     }
 
-    /// The same answer once more; or memory runs out, which an answer without a path wants none of.
+    /// A copy of this answer, unless memory runs out; an answer without paths takes none.
     pub fn try_clone(&self, alloc: Global) -> Result<PathList, AllocError>
         ensures same { IfOk result (λ own. own ≡ self.now) }
         ensures empty { self.now.paths ≡ [] → IsOk result }
@@ -149,7 +149,7 @@ impl PathList {
     }
 }
 
-/// Copies of the paths that were found; or memory runs out.
+/// Copies of the paths that were found, unless memory runs out.
 fn own_found<A: Allocator + Clone>(
     alloc: Global,
     found: &[RankedPath<'_, '_, A>],
@@ -163,7 +163,7 @@ fn own_found<A: Allocator + Clone>(
     Ok(paths)
 }
 
-/// A copy of a path that was found; or memory runs out.
+/// A copy of a path that was found, unless memory runs out.
 fn own_path<A: Allocator + Clone>(
     alloc: Global,
     found: &RankedPath<'_, '_, A>,

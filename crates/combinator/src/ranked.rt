@@ -10,10 +10,11 @@ use std::alloc::{AllocError, Allocator, Global};
 use std::cmp::Ordering;
 use std::marker::{Model, PhantomData};
 
-/// The most bytes of a header.
+/// The largest number of bytes of a header.
 const MAX_BYTES: usize = 796;
 
-/// A path that may be sent, with what it is compared by: when it expires, and its header's bytes.
+/// A path that may be sent, with the values by which it is compared: its expiry and its header's
+/// bytes.
 #[derive(Drop)]
 struct RankedParts<'s, 'p, A: Allocator + Clone> {
     path: VerifiedPath<'s, 'p, A>,
@@ -21,11 +22,11 @@ struct RankedParts<'s, 'p, A: Allocator + Clone> {
     bytes: Vec<u8>,
 }
 
-/// A path that was found. It lies on the heap, so that in a list of them pointers alone are moved.
+/// A path that was found. It is in a box, so that a list of them moves only pointers.
 #[derive(Drop)]
 pub(crate) struct RankedPath<'s, 'p, A: Allocator + Clone> {
     parts: Box<RankedParts<'s, 'p, A>>,
-    // Beside the box, since a box does not show what its path borrows.
+    // This field says what the path borrows, which the box does not.
     policy: PhantomData<&'p Policy<A>>,
 }
 
@@ -45,7 +46,7 @@ impl<'s, 'p, A: Allocator + Clone> Model for RankedPath<'s, 'p, A> {
 }
 
 impl<'s, 'p, A: Allocator + Clone> RankedPath<'s, 'p, A> {
-    /// A path, with what it is compared by.
+    /// A path with the values by which it is compared.
     pub(crate) fn new(
         alloc: Global,
         path: VerifiedPath<'s, 'p, A>,
@@ -79,7 +80,7 @@ impl<'s, 'p, A: Allocator + Clone> RankedPath<'s, 'p, A> {
         &self.parts.path
     }
 
-    /// How it stands to another one in the order of answers.
+    /// Compares this path with another one in the order of answers.
     #[tactic(auto, unfolding(crate::specs::Order::shown_cmp, crate::specs::Order::bytes_cmp))]
     pub(crate) fn compare(&self, other: &RankedPath<'s, 'p, A>) -> Ordering
         ensures { result ≡ path_cmp self.now other.now }
@@ -99,15 +100,15 @@ impl<'s, 'p, A: Allocator + Clone> RankedPath<'s, 'p, A> {
         }
     }
 
-    /// How its walk stands to that of another one.
+    /// Compares the walks of both paths.
     pub(crate) fn compare_walk(&self, other: &RankedPath<'s, 'p, A>) -> Ordering
         ensures { result ≡ by_walk self.now other.now }
     {
         compare_walks(self.parts.path.walk(), other.parts.path.walk())
     }
 
-    /// Whether it expires no earlier than another, and where both expire at one moment its header's
-    /// bytes are no greater; else the other is such.
+    /// Whether this path expires no earlier than the other and, if both expire at the same time,
+    /// has no greater header bytes. If not, the other path is no worse.
     #[tactic(auto, using(crate::proofs::Lasting::later_is_better, crate::proofs::Lasting::fewer_bytes))]
     pub(crate) fn is_no_worse(&self, other: &RankedPath<'s, 'p, A>) -> bool
         ensures it { IsTrue result → IsNoWorse self.now other.now }
@@ -127,7 +128,7 @@ impl<'s, 'p, A: Allocator + Clone> RankedPath<'s, 'p, A> {
     }
 }
 
-/// How two walks stand to each other, hop by hop.
+/// Compares two walks hop by hop.
 fn compare_walks(walk: &[WalkHop], other: &[WalkHop]) -> Ordering
     ensures { result ≡ walk_cmp walk.now other.now }
 {
@@ -142,7 +143,7 @@ fn compare_walks(walk: &[WalkHop], other: &[WalkHop]) -> Ordering
     }
 }
 
-/// How two hops stand to each other: by AS, by the way in, by the way out.
+/// Compares two hops: by AS, then by way in, then by way out.
 fn compare_hops(hop: &WalkHop, other: &WalkHop) -> Ordering
     ensures { result ≡ hop_cmp hop.now other.now }
 {

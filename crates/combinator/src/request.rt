@@ -4,7 +4,7 @@ use policy_expr::Policy;
 use std::alloc::Allocator;
 use std::marker::Model;
 
-/// What is asked: paths from one AS to another, made of these segments, under a policy.
+/// A request for paths from one AS to another, of these segments and under a policy.
 #[derive(Drop)]
 pub(crate) struct PathRequest<'s, 'p, A: Allocator + Clone> {
     pub(crate) set: &'s SegmentSet,

@@ -1,4 +1,4 @@
-//! Trying all lists of pieces of which paths can be made.
+//! Tries all lists of pieces that may be paths.
 
 ghost use Rattle.std.specs.Prelude.{◌≡◌, [], ◌∷◌, List, All, Contains, IfOk, OnOk};
 ghost use Rattle.path_header.specs.Value.{HeaderValue};
@@ -13,7 +13,7 @@ use crate::usable_piece::UsablePiece;
 use path_verifier::{Pieces, accept};
 use std::alloc::{AllocError, Allocator, Global};
 
-/// Takes the path of these pieces in, where it may be sent.
+/// Keeps the path of these pieces, if it may be sent.
 #[tactic(auto, unfolding(crate::specs::BestByWalk::AreMatched))]
 fn consider<'s, 'p, A: Allocator + Clone>(
     alloc: Global,
@@ -61,7 +61,7 @@ pub(crate) fn best_by_walk<'s, 'p, A: Allocator + Clone>(
     Ok(kept)
 }
 
-/// Tries the paths that begin with a piece, where that begins in the source.
+/// Tries the paths that begin with this piece, if it begins in the source.
 fn try_first<'s, 'p, A: Allocator + Clone>(
     alloc: Global,
     ask: &PathRequest<'s, 'p, A>,
@@ -89,7 +89,7 @@ fn try_first<'s, 'p, A: Allocator + Clone>(
     Ok(())
 }
 
-/// Tries the paths that begin with a piece.
+/// Tries the paths that begin with this piece.
 fn from_first<'s, 'p, A: Allocator + Clone>(
     alloc: Global,
     ask: &PathRequest<'s, 'p, A>,
@@ -116,7 +116,7 @@ fn from_first<'s, 'p, A: Allocator + Clone>(
     Ok(())
 }
 
-/// Tries the paths that begin with two pieces, where they meet.
+/// Tries the paths that begin with these two pieces, if they meet.
 fn try_second<'s, 'p, A: Allocator + Clone>(
     alloc: Global,
     ask: &PathRequest<'s, 'p, A>,
@@ -142,7 +142,7 @@ fn try_second<'s, 'p, A: Allocator + Clone>(
     Ok(())
 }
 
-/// Tries the paths that begin with two pieces.
+/// Tries the paths that begin with these two pieces.
 fn from_second<'s, 'p, A: Allocator + Clone>(
     alloc: Global,
     ask: &PathRequest<'s, 'p, A>,
@@ -168,7 +168,7 @@ fn from_second<'s, 'p, A: Allocator + Clone>(
     Ok(())
 }
 
-/// Tries the path of three pieces, where the last two meet.
+/// Tries the path of these three pieces, if the last two meet.
 fn try_third<'s, 'p, A: Allocator + Clone>(
     alloc: Global,
     ask: &PathRequest<'s, 'p, A>,

@@ -7,7 +7,7 @@ use path_segment::Segment;
 use path_verifier::Piece;
 use std::marker::Model;
 
-/// A piece of a segment, with the ASes in which the travel along it begins and ends.
+/// A piece of a segment, with the ASes in which it begins and ends in order of travel.
 #[derive(Drop)]
 pub(crate) struct UsablePiece<'s> {
     piece: Piece<'s>,
@@ -49,7 +49,7 @@ impl<'s> UsablePiece<'s> {
         }
     }
 
-    /// The piece once more.
+    /// A copy of the piece.
     pub(crate) fn piece(&self) -> Piece<'s>
         ensures { result ≡ self.now }
     {
@@ -62,21 +62,21 @@ impl<'s> UsablePiece<'s> {
         }
     }
 
-    /// Where it begins.
+    /// The AS in which it begins.
     pub(crate) fn begins(&self) -> IsdAs
         ensures { result ≡ begins_in self.now }
     {
         self.begins
     }
 
-    /// Where it ends.
+    /// The AS in which it ends.
     pub(crate) fn ends(&self) -> IsdAs
         ensures { result ≡ ends_in self.now }
     {
         self.ends
     }
 
-    /// The AS at its end that is not towards the beginning of its segment.
+    /// The AS at the end that is farther from the first AS of its segment.
     pub(crate) fn outer(&self) -> IsdAs
         ensures { result ≡ outer_of self.now }
     {

@@ -1,4 +1,4 @@
-//! The pieces of which paths can be made.
+//! The pieces that may occur in paths.
 
 ghost use Rattle.std.specs.Prelude.{◌≡◌, ◌<◌, ◌+◌, ℕ, Bool, true, false, length, All, Contains, OnOk, IfOk};
 ghost use Rattle.path_segment.specs.declared.kind.SegKind.TheVariants.{Intra, Core};
@@ -13,8 +13,8 @@ use isd_as::IsdAs;
 use path_segment::{SegKind, Segment};
 use std::alloc::{AllocError, Allocator, Global};
 
-/// The pieces of the set of which paths can be made: those of ups that begin in the source, whole
-/// cores in both directions, and those of downs that end in the destination.
+/// The usable pieces of the set: pieces of up segments that begin in the source, pieces of down
+/// segments that end in the destination, and whole core segments in both directions.
 pub(crate) fn usable_pieces_of<'s, 'p, A: Allocator + Clone>(
     alloc: Global,
     ask: &PathRequest<'s, 'p, A>,
@@ -55,7 +55,7 @@ fn add_cuts<'s>(
     Ok(())
 }
 
-/// Adds the pieces of a segment in a direction that have an AS at their outer end, where it is an
+/// Adds the pieces of a segment in a direction that have an AS at their outer end, if it is an
 /// intra segment.
 fn add_cuts_of<'s>(
     usable_pieces: &mut Vec<UsablePiece<'s>>,
@@ -100,7 +100,7 @@ fn add_pieces_of<'s>(
     Ok(())
 }
 
-/// Adds those of them up to a place.
+/// Adds the pieces that end at this place and have the AS at their outer end.
 fn add_cuts_to<'s>(
     usable_pieces: &mut Vec<UsablePiece<'s>>,
     segment: &'s Segment,
@@ -127,7 +127,7 @@ fn add_cuts_to<'s>(
     Ok(())
 }
 
-/// Adds a piece, where it has this AS at its outer end.
+/// Adds a piece, if it has this AS at its outer end.
 fn add_cut<'s>(
     usable_pieces: &mut Vec<UsablePiece<'s>>,
     usable_piece: UsablePiece<'s>,
@@ -163,7 +163,7 @@ fn add_cores<'s>(
     Ok(())
 }
 
-/// Adds a segment, whole and in both directions, where it is a core segment.
+/// Adds a segment, whole and in both directions, if it is a core segment.
 fn add_core<'s>(
     usable_pieces: &mut Vec<UsablePiece<'s>>,
     segment: &'s Segment,
@@ -185,7 +185,7 @@ fn add_core<'s>(
     Ok(())
 }
 
-/// Adds a segment, whole and in a direction.
+/// Adds a segment, whole and in this direction.
 fn add_whole<'s>(
     usable_pieces: &mut Vec<UsablePiece<'s>>,
     segment: &'s Segment,

@@ -7,11 +7,11 @@ use isd_as::IsdAs;
 use path_header::{Header, encode};
 use std::alloc::{AllocError, Global};
 
-/// The most bytes of a path header: a meta field, three info fields and 64 hop fields.
+/// The largest number of bytes of a path header: a meta field, three info fields and 64 hop fields.
 const MAX_HEADER_LEN: usize = 796;
 
-/// The bytes of a packet: 8 of its destination's address, 8 of its source's, its path header, and
-/// its payload. It makes one growth, or runs out of memory.
+/// The bytes of a packet: 8 bytes of destination address, 8 bytes of source address, its path
+/// header, and its payload. It allocates once, or memory runs out.
 #[tactic(auto, using(crate::proofs::Framed::framed_in_turn))]
 pub fn frame(
     alloc: Global,
@@ -23,7 +23,7 @@ pub fn frame(
     requires { length payload.now < 2 ^ 32 }
     ensures value { IfOk result (λ bytes.
         bytes.items ≡ framed source destination header.now payload.now) }
-    // The numbers of the header, and both addresses, have a place for their bits.
+    // The numbers of the header and both addresses fit into their bits.
     ensures fits { IfOk result (λ _. Fits header.now) }
     ensures addresses { (source < 2 ^ 64) × (destination < 2 ^ 64) }
 {
@@ -38,7 +38,7 @@ pub fn frame(
     Ok(bytes)
 }
 
-/// Writes the header to the front of the room, and gives its length in bytes.
+/// Writes the header to the front of the room, and returns its length in bytes.
 fn spell(header: &Header, room: &mut [u8]) -> usize
     requires { header_len header.now ≤ length room.old }
     ensures within { result ≤ length room.new }

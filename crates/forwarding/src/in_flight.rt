@@ -14,7 +14,7 @@ use scion_topology::{RouterView, Topology};
 use std::alloc::{AllocError, Global};
 use std::marker::Model;
 
-/// A packet in a network: its bytes, its place, and the first 64 hops that it has passed.
+/// A packet in a network: its bytes, its place, and the hops that it has passed, at most 64.
 #[derive(Debug, Drop)]
 pub struct PacketInFlight {
     bytes: Vec<u8>,
@@ -31,8 +31,8 @@ impl Model for PacketInFlight {
 }
 
 impl PacketInFlight {
-    /// A packet of these bytes that a host sends, at this router of its AS. It has room for the
-    /// hops that it will pass, and takes no memory.
+    /// A packet of these bytes that a host sends, at this router of the host's AS. It has room for
+    /// the hops that it will pass, and takes no memory.
     pub fn at_router(bytes: Vec<u8>, ia: IsdAs, router: u8) -> PacketInFlight
         ensures { result ≡ put_at bytes.items ia router }
     {
@@ -48,7 +48,7 @@ impl PacketInFlight {
         }
     }
 
-    /// A copy of the packet, with bytes of its own; or memory runs out.
+    /// A copy of the packet that owns its bytes, unless memory runs out.
     pub fn try_clone(&self, alloc: Global) -> Result<PacketInFlight, AllocError>
         ensures { IfOk result (λ copy. copy ≡ self.now) }
     {
@@ -75,7 +75,7 @@ impl PacketInFlight {
         self.place
     }
 
-    /// The hops that it has passed, in order, of which the first 64 are kept.
+    /// The hops that it has passed, in order; only the first 64 are kept.
     pub fn passed(&self) -> &[WalkHop]
         ensures value { result.now ≡ self.now.passed }
         ensures few { length result.now ≤ 64 }
@@ -83,11 +83,12 @@ impl PacketInFlight {
         self.passed.as_slice()
     }
 
-    /// One turn at the second `now`: the step of the router at which the packet stands, over its
-    /// own bytes; then it is at the router to which that led, delivered, or refused. A hop is noted
-    /// where the packet leaves an AS. A packet that is at no router of the network stays as it is.
+    /// One turn at the second `now`: the router that has the packet makes its step on the packet's
+    /// own bytes. After it the packet is at the router to which that led, or delivered, or refused.
+    /// The hop is added to the passed hops when the packet leaves an AS. A packet that is at no
+    /// router of the network stays as it is.
     ///
-    /// It takes no memory, and costs the router's step and three look-ups.
+    /// It takes no memory, and costs the router's step and three lookups.
     #[tactic(auto, unfolding(crate::specs::Turn::turn_of))]
     pub fn turn(&mut self, topology: &Topology, now: u32) -> TurnReply
         ensures reply { result ≡ (turn_of topology.now now self.old).0 }
@@ -102,8 +103,8 @@ impl PacketInFlight {
         }
     }
 
-    /// The same by the view of the router at which the packet stands, which the caller has made
-    /// already: where it is that of the packet's place, this is [`PacketInFlight::turn`].
+    /// A turn with a router's view that the caller already has. With the view of the router that
+    /// has the packet, this is [`PacketInFlight::turn`].
     #[tactic(auto, unfolding(crate::specs::Turn::turn_under))]
     pub fn turn_under(&mut self, topology: &Topology, view: &RouterView<'_>, now: u32) -> TurnReply
         ensures reply { result ≡ (turn_under topology.now view.now now self.old).0 }
@@ -115,7 +116,7 @@ impl PacketInFlight {
         }
     }
 
-    /// Loses the packet: from now on it has no turn.
+    /// Loses the packet: from now on it has no turns.
     pub fn lose(&mut self)
         ensures { self.new ≡ lost self.old }
     {
@@ -130,7 +131,7 @@ impl PacketInFlight {
         self.bytes[at] ^= change;
     }
 
-    /// The step of the router of this stop, by its view.
+    /// The step of the router that has the packet, with its view.
     fn step_at(
         &mut self,
         topology: &Topology,
@@ -147,7 +148,7 @@ impl PacketInFlight {
         self.answer(topology, stop, stepped)
     }
 
-    /// Places the packet as a router's step over its bytes answered, and tells what that was.
+    /// Puts the packet where the result of a router's step says, and returns the reply of the turn.
     fn answer(
         &mut self,
         topology: &Topology,
@@ -172,7 +173,7 @@ impl PacketInFlight {
         }
     }
 
-    /// Puts the packet where a router's step leads.
+    /// Puts the packet where the outcome of a router's step leads.
     fn put(&mut self, topology: &Topology, stop: RouterStop, outcome: Outcome)
         ensures { self.new ≡ put topology.now self.old stop outcome }
     {
@@ -192,7 +193,7 @@ impl PacketInFlight {
         }
     }
 
-    /// Puts the packet at the owner of the far end of a link.
+    /// Puts the packet at the router that owns the far end of a link.
     fn cross(&mut self, topology: &Topology, stop: RouterStop, out: IfId)
         ensures { self.new
             ≡ over_link topology.now self.old stop out (far_end_in topology.now stop.ia out) }
@@ -211,7 +212,7 @@ impl PacketInFlight {
     }
 }
 
-/// The hop of the AS of a stop, left by this interface.
+/// The hop of the AS in which the packet is, left by this interface.
 fn hop_by(stop: RouterStop, out: IfId) -> WalkHop
     ensures { result ≡ hop_by stop out }
 {

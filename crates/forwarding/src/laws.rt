@@ -1,5 +1,5 @@
-//! Laws of packets on their way: each is the contract of a function that does nothing. What a law
-//! says may be cited by the lemma of `proofs/` that its answer names.
+//! Laws of packets on their way: each is the contract of a function that does nothing. Proofs may
+//! use a law by citing the lemma of `proofs/` that its proof names.
 
 ghost use Rattle.std.specs.Prelude.{◌≡◌, ◌≢◌, ◌↔◌, ◌⊎◌, ℕ, ◌-◌, ◌*◌, ◌<◌, ◌≤◌, Bool, true, false, List, [], ◌∷◌, ◌++◌, length, All, Ok, IsOk};
 ghost use Rattle.scion_topology.specs.Network.{Network};
@@ -31,10 +31,9 @@ ghost use Rattle.forwarding.specs.Forwardable.{IsForwardable, MayForward};
 ghost use Rattle.forwarding.specs.OnPath.{OnPath, ComesNearer, arrived_with, Arrives};
 ghost use Rattle.forwarding.specs.Sound.{KeysAndLinksHold, KeyIsInUse, IsIssuedAndAccepted, AvoidsAs, AvoidsLink};
 
-/// One turn of a packet that stands on a path that the network lets through leads on: no router
-/// refuses it, and it stands at the next place of its path, one turn nearer to its end; or it is
-/// delivered with its whole walk passed, the header behind all pieces, and the payload as it was
-/// sent.
+/// One turn of a packet on a path on which the network forwards packets. No router refuses it. It
+/// is at the next place of its path, one turn nearer to the end; or it is delivered with its whole
+/// walk passed, the header at the end of all pieces, and the payload as it was sent.
 pub fn one_turn_leads_on()
     ensures { (n : Network) (now source destination : ℕ) (payload : List ℕ)
         (pieces : List PieceValue) (left : ℕ) (packet : Packet)
@@ -44,9 +43,9 @@ pub fn one_turn_leads_on()
         ⊎ Arrives n now source destination payload pieces left packet }
 {}
 
-/// In a network that does not change, a packet that stands on its path has a number of turns before
-/// it as is said: after fewer turns, at moments at which the network lets the path through, it
-/// stands on its path still, and after as many or more it is delivered.
+/// In a network that does not change, a packet on its path has an exact number of turns to its end.
+/// After fewer turns, at seconds at which the network forwards packets on the path, it is still on
+/// its path. After that many turns or more it is delivered.
 pub fn journeys_end()
     ensures before { (n : Network) (source destination : ℕ) (payload : List ℕ)
         (pieces : List PieceValue) (left : ℕ) (packet : Packet) (moments : List ℕ)
@@ -61,8 +60,8 @@ pub fn journeys_end()
         → after n packet moments ≡ arrived_with source destination payload pieces }
 {}
 
-/// A packet that is sent on a path, at the router that owns the way out of the path's first AS,
-/// stands at its beginning, with the turns of its whole walk before it.
+/// A packet that is sent on a path, at the router that owns the first way out of its walk, is at
+/// the beginning of the path and has the turns of its whole walk to go.
 pub fn sent_packets_stand()
     ensures { (n : Network) (source destination moment router : ℕ) (payload : List ℕ)
         (pieces : List PieceValue) → MakesPath pieces source destination moment
@@ -72,18 +71,18 @@ pub fn sent_packets_stand()
         (put_at (framed source destination (header_of pieces) payload) source router) }
 {}
 
-/// The turns of a path's walk are at most two for each of its hop fields.
+/// A path's walk takes at most two turns for each of its hop fields.
 pub fn turns_are_few()
     ensures { (n : Network) (pieces : List PieceValue) (source destination moment : ℕ)
         → MakesPath pieces source destination moment
         → turns_for n (walk_of pieces) ≤ 2 * hop_count pieces }
 {}
 
-/// In a network that does not change no packet has more than two turns for each of its hop fields,
-/// whatever its segments, the keys and the moments: one that a host sends, put at a router that the
-/// network has, with a header of the grammar whose numbers fit, is at no router any more after so
-/// many turns, and has had fewer while it is at one, which the network has too. The router that
-/// owns an interface is there.
+/// In a network that does not change, no packet has more than two turns for each of its hop fields,
+/// whatever its segments, keys and seconds. The packet comes from a host, at a router that exists,
+/// with a header of the grammar whose numbers fit. After that many turns it is at no router. While
+/// it is at a router, it has had fewer turns, and the router exists. The router that owns an
+/// interface exists.
 pub fn journeys_are_bounded()
     ensures ended { (n : Network) (source destination ia router : ℕ) (header : HeaderValue)
         (payload moments : List ℕ) → IsNetwork n → IsOk (view_in n ia router) → IsHeader header
@@ -106,9 +105,9 @@ pub fn journeys_are_bounded()
         → owner_in n ia number ≡ Ok router → IsOk (view_in n ia router) }
 {}
 
-/// A turn of a packet at a router that the network has is done, whatever its bytes, and leaves it
-/// at such a router or at none. A network has its routers whatever link goes up or down and
-/// whatever AS takes another key.
+/// A turn of a packet at a router that exists is done, whatever the packet's bytes; after it the
+/// packet is at a router that exists, or at none. The routers of a network stay if a link goes up
+/// or down or an AS changes its key.
 pub fn turns_are_done()
     ensures done { (n : Network) (now : ℕ) (packet : Packet) (stop : RouterStop)
         → packet.place ≡ PacketLocation.AtRouter stop → IsOk (view_in n stop.ia stop.router)
@@ -123,8 +122,7 @@ pub fn turns_are_done()
         → IsOk (view_in n ia router) → IsOk (view_in m ia router) }
 {}
 
-/// A packet stands where it stands, whatever link goes up or down and whatever AS takes another
-/// key.
+/// A packet on its path stays there if a link goes up or down or an AS changes its key.
 pub fn packets_stand_through_changes()
     ensures links { (n m : Network) (up : Bool) (ia number source destination : ℕ)
         (payload : List ℕ) (pieces : List PieceValue) (left : ℕ) (packet : Packet)
@@ -136,22 +134,23 @@ pub fn packets_stand_through_changes()
         → OnPath m source destination payload pieces left packet }
 {}
 
-/// A packet that is at no router stays as it is, at any moment and whatever the network.
+/// A packet that is at no router stays as it is, at any second and in any network.
 pub fn ended_packets_stay()
     ensures { (n : Network) (now : ℕ) (packet : Packet)
         → ((stop : RouterStop) → packet.place ≢ PacketLocation.AtRouter stop)
         → turn_of n now packet ≡ still packet }
 {}
 
-/// The turn by the view that the network has of the packet's place is the packet's turn.
+/// A turn with the network's view of the router that has the packet is the packet's turn.
 pub fn views_are_of_the_place()
     ensures { (n : Network) (now : ℕ) (packet : Packet) (stop : RouterStop) (view : View)
         → packet.place ≡ PacketLocation.AtRouter stop → view_in n stop.ia stop.router ≡ Ok view
         → turn_under n view now packet ≡ turn_of n now packet }
 {}
 
-/// What a network has made under keys that its ASes still accept, over links that are up, it lets
-/// through, travelled either way; and so a path of such pieces while its hops are live.
+/// A network forwards packets, in both directions, on a piece that it issued under keys that are
+/// still accepted and over links that are up; and so on a path of such pieces while its hops are
+/// live.
 pub fn sound_pieces_are_open()
     ensures piece { (n : Network) (keys : List (List ℕ)) (piece : PieceValue)
         → IsIssuedAndAccepted n keys piece → IsForwardable n piece }
@@ -161,9 +160,9 @@ pub fn sound_pieces_are_open()
         → MayForward n now source destination pieces }
 {}
 
-/// A piece stays sound where a link is mended; where one is cut that is none of its own; where an
-/// AS takes another key that is none of its own; and where one of its own does, if the key under
-/// which that AS made its entry was in use until then.
+/// A piece stays sound after each of these: a link is mended; a link is cut that is not one of the
+/// piece; an AS changes its key that is not on the piece; an AS on the piece changes its key, if
+/// the key of its entry was in use until then.
 pub fn sound_pieces_outlast_changes()
     ensures mended { (n m : Network) (ia number : ℕ) (keys : List (List ℕ)) (piece : PieceValue)
         → set_up true ia number n ≡ Ok m → IsIssuedAndAccepted n keys piece
@@ -182,9 +181,9 @@ pub fn sound_pieces_outlast_changes()
         → IsIssuedAndAccepted n keys piece → IsIssuedAndAccepted m keys piece }
 {}
 
-/// Between two places of a chain, be it a beacon under way or a segment, the keys of its entries
-/// are accepted and its links are up: when it is made, call by call; and after each change that
-/// would leave a piece of it sound.
+/// Between two places of a chain, a beacon under way or a segment, the keys of its entries are
+/// accepted and its links are up. This holds when the chain is made, call by call, and after each
+/// change that leaves a piece sound.
 pub fn chains_hold()
     ensures begun { (n : Network) (ia egress timestamp beta0 : ℕ) (beacon : Chain) (from to : ℕ)
         → IsNetwork n → originated n ia egress timestamp beta0 ≡ Ok beacon
@@ -212,7 +211,7 @@ pub fn chains_hold()
         → KeysAndLinksHold n keys chain from to → KeysAndLinksHold m keys chain from to }
 {}
 
-/// The key under which an AS made an entry is in use from then on until that AS takes another.
+/// The key under which an AS made an entry stays in use until that AS changes its key.
 pub fn keys_stay_in_use()
     ensures begun { (n : Network) (ia egress timestamp beta0 : ℕ) (beacon : Chain)
         (from to x : ℕ) → IsNetwork n → originated n ia egress timestamp beta0 ≡ Ok beacon
@@ -233,8 +232,8 @@ pub fn keys_stay_in_use()
         → KeyIsInUse m keys chain from to ia }
 {}
 
-/// Of the bytes of a delivered packet both addresses are read as they were sent, and the header
-/// behind all pieces.
+/// Reading the bytes of a delivered packet gives both addresses as they were sent, and the header
+/// at the end of all pieces.
 pub fn delivered_packets_are_read()
     ensures { (source destination moment : ℕ) (payload : List ℕ) (pieces : List PieceValue)
         → MakesPath pieces source destination moment → HasFrame source destination pieces
@@ -243,9 +242,10 @@ pub fn delivered_packets_are_read()
         × (header_in bytes ≡ Ok (header_behind pieces, header_len (header_behind pieces))) }
 {}
 
-/// The header of a delivered packet, reversed, is that of its path's pieces turned; with it the way
-/// back may be sent without a policy at each second up to the path's expiry, and past it is refused
-/// as Expired, whatever its header and its policy. What was sound one way is sound the other.
+/// The header of a delivered packet, reversed, is that of the turned pieces of its path. With it
+/// the way back may be sent without a policy at each second up to the path's expiry. After that it
+/// is refused as Expired, with any header and any policy. A piece that is sound in one direction is
+/// sound in the other.
 pub fn delivered_packets_are_answered()
     ensures header { (pieces : List PieceValue) (src dst now : ℕ) → MakesPath pieces src dst now
         → reversed (header_behind pieces) ≡ header_of (turned_pieces pieces) }

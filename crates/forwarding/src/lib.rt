@@ -1,11 +1,10 @@
-//! What a packet meets on its way: where it stands on its path, and what the turn of the router at
-//! which it stands makes of it.
+//! Packets on their way: their places on their paths, and the turns of routers that move them.
 //!
 //! A [`PacketInFlight`] is a packet in a network: its bytes, its place, and the hops that it has
-//! passed. Each turn is one step of the router at its place, after which it is at the next router,
-//! delivered, or refused. The laws say what that comes to for a packet on an accepted path: it is
-//! refused by no router, passes its walk hop by hop, and is delivered after an exact number of
-//! turns. No turn takes memory.
+//! passed. Each turn is one step of the router at its place; after it the packet is at the next
+//! router, delivered, or refused. The laws are about a packet on an accepted path: no router
+//! refuses it, it passes its walk hop by hop, and it is delivered after an exact number of turns.
+//! No turn takes memory.
 #![tactic(auto)]
 
 mod departing;

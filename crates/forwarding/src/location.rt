@@ -1,7 +1,7 @@
 use isd_as::{IfId, IsdAs};
 use router_step::{Arrival, Refusal};
 
-/// A packet's stop at a router.
+/// A router that has a packet, and how the packet came to it.
 #[derive(Clone, Copy, Debug, PartialEq, Eq)]
 pub struct RouterStop {
     /// The router's AS.
@@ -10,16 +10,16 @@ pub struct RouterStop {
     pub router: u8,
     /// How the packet came to the router.
     pub arrival: Arrival,
-    /// The interface by which the packet came into the AS, or 0 where it was sent there.
+    /// The interface by which the packet came into the AS, or 0 in the AS where it was sent.
     pub came_in_by: IfId,
 }
 
 /// Where a packet is.
 #[derive(Clone, Copy, Debug, PartialEq, Eq)]
 pub enum PacketLocation {
-    /// At a router that has not had its turn yet.
+    /// At a router that has not made its step yet.
     AtRouter(RouterStop),
-    /// Delivered, in the AS for which it was.
+    /// Delivered, in its destination AS.
     Delivered,
     /// Refused, by the router of this number in this AS.
     Refused(IsdAs, u8, Refusal),

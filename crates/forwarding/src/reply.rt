@@ -1,12 +1,12 @@
 use router_step::{Outcome, Refusal};
 
-/// What a turn of a packet was.
+/// The result of a packet's turn.
 #[derive(Clone, Copy, Debug, PartialEq, Eq)]
 pub enum TurnReply {
-    /// The router's step was done, and the packet went there.
+    /// The router made its step, with this outcome.
     Went(Outcome),
     /// The router refused the packet.
     Refused(Refusal),
-    /// There was no turn: the packet is at no router of the network.
+    /// There was no step: the packet is at no router of the network.
     Still,
 }

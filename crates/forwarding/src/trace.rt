@@ -5,10 +5,10 @@ use isd_as::{IfId, IsdAs};
 use policy_expr::WalkHop;
 use std::marker::Model;
 
-/// The most hops that a packet keeps of those that it has passed.
+/// The largest number of passed hops that a packet keeps.
 pub const MAX_PASSED: usize = 64;
 
-/// The first hops that a packet has passed, at most 64.
+/// The hops that a packet has passed, at most the first 64.
 #[derive(Debug, Drop)]
 pub(crate) struct HopTrace {
     hops: [WalkHop; MAX_PASSED],
@@ -42,7 +42,7 @@ impl HopTrace {
         }
     }
 
-    /// The same hops.
+    /// A copy of these hops.
     pub(crate) fn again(&self) -> HopTrace
         ensures { result ≡ self.now }
     {
@@ -61,7 +61,7 @@ impl HopTrace {
         &self.hops[..self.len]
     }
 
-    /// Notes a hop, where fewer than 64 are kept.
+    /// Adds a hop, if there are fewer than 64.
     pub(crate) fn note(&mut self, hop: WalkHop)
         ensures { self.new ≡ noted self.old hop }
     {

@@ -39,9 +39,10 @@ pub fn hop_mac(
     MacKey::new(key).hop_mac(beta, timestamp, exp_time, cons_ingress, cons_egress)
 }
 
-/// The accumulator after a hop with this authenticator: `beta` exclusive or its first two bytes.
+/// The accumulator after a hop with this authenticator: `beta`, exclusive or the first two bytes of
+/// the authenticator.
 ///
-/// The same step leads back from the accumulator after a hop to the one before it.
+/// The same step also leads back from the accumulator after a hop to the one before it.
 pub fn next_beta(beta: u16, mac: &[u8; 6]) -> u16
     ensures { result ≡ beta_after beta mac.now }
 {

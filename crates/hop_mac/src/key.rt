@@ -13,10 +13,10 @@ const INNER_MASK: u8 = 0x36;
 
 const OUTER_MASK: u8 = 0x5c;
 
-/// A key made ready for HMAC-SHA-256: the two hash states after the padded and masked key, so that
-/// each short text costs two compressions and not four.
+/// A key prepared for HMAC-SHA-256: the two hash states after the padded and masked key, so that a
+/// short text costs two compressions instead of four.
 ///
-/// Clauses see it as the 64 bytes of the padded key.
+/// In clauses its value is the 64 bytes of the padded key.
 #[derive(Drop)]
 pub struct MacKey {
     block: [u8; 64],
@@ -42,7 +42,7 @@ impl Clone for MacKey {
 
     ghost is_infallible = { λ _. ⊤ };
 
-    /// The same key once more, which takes no memory and never fails.
+    /// A copy of this key; it takes no memory and never fails.
     fn clone(&self) -> Result<MacKey, AllocError> {
         Ok(MacKey {
             block: self.block,
@@ -53,7 +53,7 @@ impl Clone for MacKey {
 }
 
 impl MacKey {
-    /// The key of these bytes, of which there are at most 64.
+    /// The key of these bytes, at most 64.
     pub fn new(key: &[u8]) -> MacKey
         requires { length key.now ≤ 64 }
         ensures { result ≡ padded key.now }
@@ -81,7 +81,7 @@ impl MacKey {
         outer.finalize()
     }
 
-    /// The authenticator of a hop under this key, as [`hop_mac`](crate::hop_mac) gives it.
+    /// The authenticator of a hop under this key, as [`hop_mac`](crate::hop_mac) returns it.
     pub fn hop_mac(
         &self,
         beta: u16,
@@ -105,7 +105,7 @@ fn first_six(code: &[u8; 32]) -> [u8; 6]
     [code[0], code[1], code[2], code[3], code[4], code[5]]
 }
 
-/// The same hash state once more, which takes no memory.
+/// A copy of this hash state; it takes no memory.
 fn clone_hasher(hasher: &Sha256) -> Sha256
     ensures { result ≡ hasher.now }
 {
@@ -115,7 +115,7 @@ fn clone_hasher(hasher: &Sha256) -> Sha256
     }
 }
 
-/// The key with zeros after it, up to a block.
+/// The key, filled up with zeros to a block of 64 bytes.
 fn padded_block(key: &[u8]) -> [u8; 64]
     requires { length key.now ≤ 64 }
     ensures { result ≡ padded key.now }
@@ -125,7 +125,7 @@ fn padded_block(key: &[u8]) -> [u8; 64]
     block
 }
 
-/// Each byte of a block exclusive or the mask.
+/// Each byte of a block combined with the mask by exclusive or.
 fn masked_block(block: &[u8; 64], mask: u8) -> [u8; 64]
     ensures { result ≡ masked mask block.now }
 {

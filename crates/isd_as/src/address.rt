@@ -79,7 +79,7 @@ impl IsdAs {
         self.number.to_be_bytes()
     }
 
-    /// The address that these 8 bytes are, the highest first.
+    /// The address in these 8 bytes, the highest first.
     pub fn from_bytes(bytes: [u8; 8]) -> IsdAs
         ensures value { result ≡ from_be_bytes w64 bytes }
         ensures back { to_be_bytes w64 result ≡ bytes }
@@ -90,7 +90,7 @@ impl IsdAs {
     }
 }
 
-/// The number that these 8 bytes are, the highest first.
+/// The number in these 8 bytes, the highest first.
 fn number_in(bytes: &[u8; 8]) -> u64
     ensures value { result ≡ from_be_bytes w64 bytes.now }
     ensures back { to_be_bytes w64 result ≡ bytes.now }

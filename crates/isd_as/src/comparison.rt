@@ -1,5 +1,5 @@
-//! That ISDs, AS numbers, addresses and interfaces go by their number: each call does what its name
-//! says by the operator or method that it is about, and its contract is the law.
+//! ISDs, AS numbers, addresses and interfaces are compared, ordered and hashed by their numbers.
+//! Each function here applies one operator or method, and its contract is the law about it.
 
 ghost use Rattle.std.specs.Prelude.{◌≡◌, ◌<◌, ◌↔◌, fold, IsTrue};
 ghost use Rattle.std.specs.Hash as fed;
@@ -9,7 +9,7 @@ use crate::address::IsdAs;
 use crate::numbers::{AsNumber, IfId, Isd};
 use std::hash::{DefaultHasher, Hash, Hasher};
 
-/// Addresses are equal where their numbers are.
+/// Addresses are equal if and only if their numbers are.
 pub fn addresses_are_equal(one: IsdAs, other: IsdAs) -> bool
     ensures { IsTrue result ↔ (one ≡ other) }
 {
@@ -32,7 +32,7 @@ pub fn address_is_hashed(address: &IsdAs) -> u64
     state.finish()
 }
 
-/// ISDs are equal where their numbers are.
+/// ISDs are equal if and only if their numbers are.
 pub fn isds_are_equal(one: Isd, other: Isd) -> bool
     ensures { IsTrue result ↔ (one ≡ other) }
 {
@@ -55,21 +55,21 @@ pub fn isd_is_hashed(isd: &Isd) -> u64
     state.finish()
 }
 
-/// AS numbers are equal where the numbers are.
+/// AS numbers are equal if and only if their values are.
 pub fn as_numbers_are_equal(one: AsNumber, other: AsNumber) -> bool
     ensures { IsTrue result ↔ (one ≡ other) }
 {
     one == other
 }
 
-/// AS numbers are ordered as numbers.
+/// AS numbers are ordered by their values.
 pub fn as_numbers_are_ordered(one: AsNumber, other: AsNumber) -> bool
     ensures { IsTrue result ↔ (one < other) }
 {
     one < other
 }
 
-/// An AS number is hashed as the number.
+/// An AS number is hashed as its value.
 pub fn as_number_is_hashed(as_number: &AsNumber) -> u64
     ensures { result ≡ sip.finish (fold sip.write sip.initial (fed.u64 as_number.now)) }
 {
@@ -78,7 +78,7 @@ pub fn as_number_is_hashed(as_number: &AsNumber) -> u64
     state.finish()
 }
 
-/// Interfaces are equal where their numbers are.
+/// Interfaces are equal if and only if their numbers are.
 pub fn interfaces_are_equal(one: IfId, other: IfId) -> bool
     ensures { IsTrue result ↔ (one ≡ other) }
 {
@@ -101,7 +101,7 @@ pub fn interface_is_hashed(interface: &IfId) -> u64
     state.finish()
 }
 
-/// The interface that stands for none is 0.
+/// [`IfId::NONE`] is 0.
 pub fn no_interface() -> IfId
     ensures { result ≡ 0 }
 {

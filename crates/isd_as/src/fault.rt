@@ -3,7 +3,7 @@ ghost use Rattle.isd_as.specs.Fault.{code_of, name_of};
 
 use thiserror::Error;
 
-/// Why a text is no address: the first of these causes, in the order that [`IsdAs::parse`] gives.
+/// Why a text is no address: the first of these refusals, in the order that [`IsdAs::parse`] gives.
 ///
 /// [`IsdAs::parse`]: crate::IsdAs::parse
 #[derive(Clone, Copy, Debug, PartialEq, Eq, Error)]

@@ -1,7 +1,7 @@
 //! The names of SCION: isolation domains, autonomous systems and their addresses, and interfaces.
 //!
 //! An ISD-AS address is one number of 64 bits: 16 bits for the ISD, then 48 bits for the AS number.
-//! This crate reads it from text and from bytes, and prints it in its one canonical text.
+//! This crate reads addresses from text and from bytes, and prints each in its one canonical text.
 #![tactic(auto)]
 
 mod address;

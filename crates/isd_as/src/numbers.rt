@@ -47,7 +47,7 @@ impl Model for AsNumber {
 }
 
 impl AsNumber {
-    /// The AS of this number, where it has at most 48 bits.
+    /// The AS of this number, or nothing if the number has more than 48 bits.
     pub fn new(number: u64) -> Option<AsNumber>
         ensures fits { IsSome result ↔ (number < 2 ^ 48) }
         ensures value { IfSome result (λ a. a ≡ number) }
@@ -75,7 +75,7 @@ impl AsNumber {
     }
 }
 
-/// The number of an interface of an AS, 16 bits. 0 stands for no interface.
+/// The number of an interface of an AS, 16 bits. 0 means that there is no interface.
 #[derive(Clone, Copy, Debug, PartialEq, Eq, PartialOrd, Ord, Hash)]
 pub struct IfId(pub u16);
 
@@ -88,7 +88,7 @@ impl Model for IfId {
 }
 
 impl IfId {
-    /// The number that stands where there is no interface.
+    /// The number 0, used where there is no interface.
     pub const NONE: IfId = IfId(0);
 
     /// The number of this interface.
@@ -98,7 +98,7 @@ impl IfId {
         self.0
     }
 
-    /// Whether this stands for no interface, the number 0.
+    /// Whether this is 0, that is, no interface.
     pub fn is_none(self) -> bool
         ensures { IsTrue result ↔ (self ≡ 0) }
     {

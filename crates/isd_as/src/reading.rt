@@ -13,13 +13,13 @@ use crate::numbers::{AsNumber, Isd};
 use separators::sign::cut;
 
 impl IsdAs {
-    /// The address that a text spells: an ISD in decimal, `-`, and an AS number, in decimal up to
-    /// 4294967295 or as three groups of 1 to 4 hexadecimal digits joined by `:`. Leading zeros and
-    /// letters of either case are accepted, and so is a small number in groups.
+    /// The address of a text: an ISD in decimal, `-`, and an AS number. The AS number is in decimal
+    /// up to 4294967295, or three groups of 1 to 4 hexadecimal digits joined by `:`. Leading zeros,
+    /// letters of either case, and groups for a small number are accepted.
     ///
-    /// The first of these refusals is given: [`NoDash`] without a `-`; for the ISD [`BadDigit`],
-    /// then [`IsdRange`]; for an AS number without `:` [`BadDigit`], then [`AsRange`]; for one with
-    /// `:` [`BadGroups`], then [`BadDigit`].
+    /// The first of these refusals is returned: [`NoDash`] if there is no `-`; for the ISD
+    /// [`BadDigit`], then [`IsdRange`]; for an AS number without `:` [`BadDigit`], then
+    /// [`AsRange`]; for one with `:` [`BadGroups`], then [`BadDigit`].
     ///
     /// [`NoDash`]: AddrFault::NoDash
     /// [`BadDigit`]: AddrFault::BadDigit
@@ -27,13 +27,13 @@ impl IsdAs {
     /// [`AsRange`]: AddrFault::AsRange
     /// [`BadGroups`]: AddrFault::BadGroups
     pub fn parse(text: &str) -> Result<IsdAs, AddrFault>
-        // What is read is spelled so.
+        // The text is a spelling of the address that is returned.
         ensures found { IfOk result (λ a. Spells text.now a) }
 
-        // What is spelled so is read.
+        // Each address of which the text is a spelling is returned.
         ensures only { (a : ℕ) → Spells text.now a → result ≡ Ok a }
 
-        // Which refusal it is.
+        // The exact result, with its refusal.
         ensures exact { result ≡ address_at text.now }
     {
         read_address(text)
@@ -41,7 +41,7 @@ impl IsdAs {
 }
 
 impl Isd {
-    /// The ISD that a text spells: one or more decimal digits, at most 65535. The refusals are
+    /// The ISD of a text: one or more decimal digits, at most 65535. The refusals are
     /// [`AddrFault::BadDigit`], then [`AddrFault::IsdRange`].
     pub fn parse(text: &str) -> Result<Isd, AddrFault>
         ensures found { IfOk result (λ isd. SpellsIsd text.now isd) }
@@ -53,10 +53,9 @@ impl Isd {
 }
 
 impl AsNumber {
-    /// The AS number that a text spells: decimal digits, at most 4294967295, or three groups of 1
-    /// to 4 hexadecimal digits joined by `:`. Without a `:` the refusals are
-    /// [`AddrFault::BadDigit`], then [`AddrFault::AsRange`]; with one [`AddrFault::BadGroups`],
-    /// then [`AddrFault::BadDigit`].
+    /// The AS number of a text: decimal digits, at most 4294967295, or three groups of 1 to 4
+    /// hexadecimal digits joined by `:`. Without `:` the refusals are [`AddrFault::BadDigit`], then
+    /// [`AddrFault::AsRange`]; with it, [`AddrFault::BadGroups`], then [`AddrFault::BadDigit`].
     pub fn parse(text: &str) -> Result<AsNumber, AddrFault>
         ensures found { IfOk result (λ as_number. SpellsAs text.now as_number) }
         ensures only { (as_number : ℕ) → SpellsAs text.now as_number → result ≡ Ok as_number }
@@ -66,7 +65,7 @@ impl AsNumber {
     }
 }
 
-/// What stands before and behind the first such sign, which is an ASCII character.
+/// The parts of the text before and after the first such sign, which is an ASCII character.
 fn parts(text: &str, sign: char, missing: AddrFault) -> Result<(&str, &str), AddrFault>
     requires { sign < 128 }
     ensures { Gives (λ parts. (parts.0.now, parts.1.now)) result
@@ -84,7 +83,7 @@ fn is_all_digits(text: &str, radix: u32) -> bool
     text.as_bytes().iter().all(|b| (*b as char).is_digit(radix))
 }
 
-/// The number of a text of digits, below the limit.
+/// The number of a text of digits, if it is below the limit.
 #[tactic(auto, unfolding(crate::specs::Reading::number_at))]
 fn number_of(text: &str, radix: u32, limit: u64, too_large: AddrFault) -> Result<u64, AddrFault>
     requires low { 2 ≤ radix }
@@ -101,28 +100,28 @@ fn number_of(text: &str, radix: u32, limit: u64, too_large: AddrFault) -> Result
     }
 }
 
-/// How many characters the text has.
+/// The number of characters of the text.
 fn char_count(text: &str) -> usize
     ensures { result ≡ length (chars text.now) }
 {
     text.chars().count()
 }
 
-/// Whether the text has as many characters as a group of an AS number has.
+/// Whether the text has 1 to 4 characters, as a group of an AS number does.
 fn has_group_length(text: &str) -> bool
     ensures { result ≡ is_group text.now }
 {
     (1..=4).contains(&char_count(text))
 }
 
-/// Whether groups are joined in the text.
+/// Whether the text has a `:`, the sign between groups.
 fn has_colon(text: &str) -> bool
     ensures { result ≡ list_any (λ b. b == colon) text.now }
 {
     text.as_bytes().contains(&b':')
 }
 
-/// The number of three groups of hexadecimal digits.
+/// The number of three groups of hexadecimal digits, joined by `:`.
 #[tactic(auto, unfolding(crate::specs::Reading::groups_at))]
 fn groups_of(text: &str) -> Result<u64, AddrFault>
     ensures exact { result ≡ groups_at text.now }
@@ -142,7 +141,7 @@ fn groups_of(text: &str) -> Result<u64, AddrFault>
     Ok(high * (1 << 32) + middle * (1 << 16) + low)
 }
 
-/// The number of an AS number's text.
+/// The number of an AS number's text, in decimal or in groups.
 #[tactic(auto, unfolding(crate::specs::Reading::as_number_at))]
 fn as_number_of(text: &str) -> Result<u64, AddrFault>
     ensures exact { result ≡ as_number_at text.now }
@@ -155,7 +154,7 @@ fn as_number_of(text: &str) -> Result<u64, AddrFault>
     }
 }
 
-/// Reads an ISD; the public call has the clauses on what is spelled too.
+/// Reads an ISD; the public call adds the clauses about spellings.
 #[tactic(auto, unfolding(crate::specs::Reading::isd_at))]
 fn read_isd(text: &str) -> Result<Isd, AddrFault>
     ensures { result ≡ isd_at text.now }
@@ -164,7 +163,7 @@ fn read_isd(text: &str) -> Result<Isd, AddrFault>
     Ok(Isd(number as u16))
 }
 
-/// Reads an AS number; the public call has the clauses on what is spelled too.
+/// Reads an AS number; the public call adds the clauses about spellings.
 fn read_as_number(text: &str) -> Result<AsNumber, AddrFault>
     ensures { result ≡ as_number_at text.now }
 {
@@ -175,7 +174,7 @@ fn read_as_number(text: &str) -> Result<AsNumber, AddrFault>
     }
 }
 
-/// Reads an address; the public call has the clauses on what is spelled too.
+/// Reads an address; the public call adds the clauses about spellings.
 #[tactic(auto, unfolding(crate::specs::Reading::address_at))]
 fn read_address(text: &str) -> Result<IsdAs, AddrFault>
     ensures { result ≡ address_at text.now }

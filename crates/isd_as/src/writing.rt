@@ -49,15 +49,15 @@ impl fmt::Display for IfId {
     }
 }
 
-/// The most bytes that the text of an address has, those of `65535-ffff:ffff:ffff`.
+/// The largest number of bytes in the text of an address, that of `65535-ffff:ffff:ffff`.
 pub const MAX_TEXT_LEN: usize = 20;
 
 /// A text under construction.
 type Text = ArrayVec<u8, MAX_TEXT_LEN>;
 
 impl IsdAs {
-    /// Writes the canonical text at the front of the room and says its length. The bytes of the
-    /// room behind it stay as they were.
+    /// Writes the canonical text to the front of the room and returns its length in bytes. The
+    /// bytes after it stay as they were.
     pub fn write_text(&self, room: &mut [u8; MAX_TEXT_LEN]) -> usize
         ensures written { take result room.new ≡ canonical self.now }
         ensures len { result ≡ length (canonical self.now) }
@@ -101,7 +101,7 @@ fn push_as_number(text: &mut Text, number: u64)
     }
 }
 
-/// Adds the digits of a number at the end.
+/// Adds a number's digits in this radix at the end.
 #[tactic(auto, using(crate::proofs::Printed::digits_one))]
 fn push_digits(text: &mut Text, number: u64, radix: u64)
     requires low { 10 ≤ radix }

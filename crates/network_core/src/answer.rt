@@ -12,8 +12,7 @@ use refusal::OrMemory;
 use std::alloc::Global;
 use std::marker::Model;
 
-/// An answer that is kept: the ends of its request, its paths, and the policy of the option that is
-/// used.
+/// A kept answer: the ends of its request, its paths, and the policy of the used option.
 #[derive(Drop)]
 pub(crate) struct Answer {
     pub(crate) source: IsdAs,

@@ -1,4 +1,4 @@
-//! Asking for paths.
+//! Requests for paths.
 
 ghost use Rattle.std.specs.Prelude.{◌≡◌, ◌<◌, slice_get, Ok, IfOk, OnOk};
 ghost use Rattle.std.specs.Option.{ok_or};
@@ -20,11 +20,11 @@ use policy_expr::{OptionText, Policy, PolicyOption};
 use refusal::OrMemory;
 use std::alloc::{AllocError, Global};
 
-/// The most paths of an answer.
+/// The largest number of paths in an answer.
 const MAX_LIMIT: u32 = 64;
 
 impl Net {
-    /// Asks for paths.
+    /// Answers a request for paths, and keeps the answer.
     pub(crate) fn ask(
         &mut self,
         alloc: Global,
@@ -41,8 +41,8 @@ impl Net {
         self.keep_answer(answer)
     }
 
-    /// The options of a request, or the first cause why it is refused. Running out of memory stands
-    /// only where there is no cause.
+    /// The options of a request, or the first refusal. Memory can run out only if the request is
+    /// not refused.
     fn options_asked(
         &self,
         alloc: Global,
@@ -75,7 +75,7 @@ impl Net {
         }
     }
 
-    /// The answer to a request between two ASes; or memory runs out.
+    /// The answer to a request between two ASes, unless memory runs out.
     fn answer_to(
         &self,
         alloc: Global,
@@ -105,7 +105,7 @@ impl Net {
         })
     }
 
-    /// Takes in an answer.
+    /// Adds an answer to those that are kept.
     fn keep_answer(&mut self, answer: Answer) -> Result<Reply, EventError>
         ensures { KeepsAnswer answer self.old self.new result }
     {
@@ -126,8 +126,8 @@ impl Net {
     }
 }
 
-/// The policy of the option that is used, or the one that allows every walk where none is; or
-/// memory runs out.
+/// The policy of the used option, or the policy that allows every walk if no option was used;
+/// unless memory runs out.
 fn policy_used(
     alloc: Global,
     options: &[PolicyOption<Global>],

@@ -18,11 +18,11 @@ use refusal::OrMemory;
 use scion_topology::TopologyFault;
 use std::alloc::Global;
 
-/// The most beacons, the most answers, and the most packets.
+/// The largest number of beacons, of answers, and of packets.
 pub(crate) const MAX_OBJECTS: usize = 1_000_000;
 
 impl Net {
-    /// The moment goes on.
+    /// Sets the time of the network.
     pub(crate) fn tick(&mut self, to: u32) -> Result<Reply, EventError>
         ensures { Does (ticked self.old to) ⊥ self.old self.new result }
     {
@@ -90,7 +90,7 @@ impl Net {
 }
 
 impl Net {
-    /// Takes in a beacon that was made.
+    /// Adds a beacon to the network.
     fn keep_beacon(&mut self, beacon: Beacon) -> Result<Reply, EventError>
         ensures { Does (with_beacon self.old beacon) (Unit {0}) self.old self.new result }
     {
@@ -102,7 +102,7 @@ impl Net {
         Ok(Reply::Begun(number))
     }
 
-    /// Registers a segment at the moment.
+    /// Registers a segment at the current second.
     fn register(&mut self, segment: Segment) -> Result<Reply, EventError>
         ensures { Does (with_segment self.old segment) (Unit {0}) self.old self.new result }
     {
@@ -112,7 +112,7 @@ impl Net {
         }
     }
 
-    /// Takes out of the store what is not live.
+    /// Removes the segments from the store that are not live.
     pub(crate) fn sweep(&mut self) -> Reply
         ensures { cleared self.old ≡ Ok (result, self.new) }
     {
@@ -137,7 +137,7 @@ impl Net {
         Ok(Reply::Done)
     }
 
-    /// Takes another key of an AS into use.
+    /// Takes another key into use for an AS.
     pub(crate) fn rotate_key(&mut self, ia: IsdAs, key: &[u8]) -> Result<Reply, EventError>
         ensures { Does (with_network self.old (rotated ia key.now self.old.network)) ⊥
             self.old self.new result }

@@ -4,11 +4,11 @@ use path_verifier::Pieces;
 use policy_expr::{OptionText, Policy};
 use std::alloc::Global;
 
-/// A way by which a packet is sent: its ends, its pieces and their header, and the policy under
-/// which it is sent.
+/// A given way of a packet: its ends, its pieces with their header, and the policy under which it
+/// is sent.
 #[derive(Clone, Copy)]
 pub struct Given<'a> {
-    /// The AS that sends.
+    /// The source AS.
     pub source: IsdAs,
     /// The destination AS.
     pub destination: IsdAs,
@@ -20,25 +20,25 @@ pub struct Given<'a> {
     pub policy: &'a Policy<Global>,
 }
 
-/// What may happen in a network. Beacons, answers and packets are named by their numbers, which
-/// count from 0 as they are made, each kind by itself.
+/// An event of a network. Beacons, answers and packets have numbers of their own, from 0 in the
+/// order in which they were made.
 #[derive(Clone, Copy)]
 pub enum Event<'a> {
-    /// The moment becomes this second.
+    /// Sets the network's time.
     Tick {
         /// The second.
         now: u32,
     },
-    /// A core AS begins a beacon over one of its links, at the moment.
+    /// A core AS begins a beacon over one of its links, at the current second.
     Originate {
         /// The AS.
         ia: IsdAs,
         /// The interface of the link.
         egress: IfId,
-        /// The accumulator with which the beacon begins.
+        /// The first accumulator of the beacon.
         beta0: u16,
     },
-    /// An AS passes a beacon that came to it on over one of its links. The old beacon stays.
+    /// An AS passes on a beacon that arrived in it, over one of its links. The old beacon stays.
     Extend {
         /// The number of the beacon.
         beacon: u32,
@@ -47,31 +47,31 @@ pub enum Event<'a> {
         /// The interface of the link.
         egress: IfId,
     },
-    /// An AS ends a beacon that came to it, and the segment is registered at the moment. The beacon
-    /// stays.
+    /// An AS ends a beacon that arrived in it, and the segment is registered at the current second.
+    /// The beacon stays.
     Terminate {
         /// The number of the beacon.
         beacon: u32,
         /// The AS.
         ia: IsdAs,
     },
-    /// The segments that are not live at the moment are taken out of the store.
+    /// Removes the stored segments that are not live at the current second.
     Sweep,
-    /// Paths are asked for, of the segments of the store that are live at the moment, and the
-    /// answer is kept with the policy of the option that is used.
+    /// Asks for paths of the stored segments that are live at the current second. The answer is
+    /// kept, together with the policy of the used option.
     Ask {
-        /// The AS that asks.
+        /// The source AS of the paths.
         src: IsdAs,
-        /// The AS to which the paths lead.
+        /// The destination AS of the paths.
         dst: IsdAs,
         /// The policy options, 1 to 16.
         options: &'a [OptionText<'a>],
-        /// The most paths, 1 to 64.
+        /// The largest number of paths wanted, 1 to 64.
         limit: u32,
     },
-    /// A packet is sent by a path of an answer, with the ends of its request and the policy of the
-    /// option that was used: where the verifier accepts the way at the moment, the packet stands at
-    /// the router that owns the way out of its first AS.
+    /// Sends a packet by a path of an answer, with the ends of its request and the policy of the
+    /// used option. If the verifier accepts the way at the current second, the packet is put at the
+    /// router that owns the first way out.
     Send {
         /// The number of the answer.
         ask: u32,
@@ -80,14 +80,14 @@ pub enum Event<'a> {
         /// The payload, of at most 1,024 bytes.
         payload: &'a [u8],
     },
-    /// A packet is sent by a way that is given, as it is by a path of an answer.
+    /// Sends a packet by a given way, checked in the same way.
     SendGiven {
         /// The way.
         way: Given<'a>,
         /// The payload, of at most 1,024 bytes.
         payload: &'a [u8],
     },
-    /// The router at which the packet stands makes one step.
+    /// The router that has the packet makes one step.
     Turn {
         /// The number of the packet.
         packet: u32,
@@ -97,38 +97,38 @@ pub enum Event<'a> {
         /// The number of the packet.
         packet: u32,
     },
-    /// A byte of the packet is changed by exclusive or.
+    /// Changes a byte of the packet by exclusive or.
     Alter {
         /// The number of the packet.
         packet: u32,
         /// The place of the byte.
         at: u32,
-        /// With what it is changed.
+        /// The value for the exclusive or.
         xor: u8,
     },
-    /// A delivered packet is answered: what its bytes say is turned round and sent as a packet of
-    /// its own, without a policy.
+    /// Answers a delivered packet: its addresses, path and header are reversed, and a packet of its
+    /// own is sent back without a policy.
     Back {
-        /// The number of the packet.
+        /// The number of the delivered packet.
         packet: u32,
-        /// The payload of the answer, of at most 1,024 bytes.
+        /// The payload of the reply, of at most 1,024 bytes.
         payload: &'a [u8],
     },
-    /// The link at an interface of an AS is cut.
+    /// Cuts the link at an interface of an AS.
     CutLink {
         /// The AS.
         ia: IsdAs,
         /// The interface.
         interface: IfId,
     },
-    /// The link at an interface of an AS is mended.
+    /// Mends the link at an interface of an AS.
     MendLink {
         /// The AS.
         ia: IsdAs,
         /// The interface.
         interface: IfId,
     },
-    /// An AS takes another key into use; the one that was in use is the one before.
+    /// An AS takes another key into use; the key in use until now becomes the one before.
     RotateKey {
         /// The AS.
         ia: IsdAs,

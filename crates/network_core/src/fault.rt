@@ -12,28 +12,28 @@ use thiserror::Error;
 /// Why an event is refused.
 #[derive(Clone, Copy, Debug, PartialEq, Eq, Error)]
 pub enum EventFault {
-    /// The AS does not begin the beacon, pass it on, or end it.
+    /// The AS can't begin the beacon, pass it on, or end it.
     #[error("{0}")]
     Beacon(BeaconFault),
-    /// The path store does not take the segment.
+    /// The path store refuses the segment.
     #[error("{0}")]
     Store(StoreFault),
     /// The policy options of a request can't be read.
     #[error("{0}")]
     Policy(OptionFault),
-    /// Paths are not looked for.
+    /// The request for paths is refused.
     #[error("{0}")]
     Combination(CombineFault),
     /// The verifier does not accept the path.
     #[error("{0}")]
     Path(VerifyFault),
-    /// The topology can't be changed so, or lacks the AS or the interface by which a packet begins.
+    /// The topology refuses the change, or lacks the AS or the first way out of a packet's path.
     #[error("{0}")]
     Topology(TopologyFault),
     /// There is no packet of this number.
     #[error("there is no packet of this number")]
     NoPacket,
-    /// The packet was delivered, refused or lost.
+    /// The packet is at no router: it was delivered, refused or lost.
     #[error("the packet was delivered, refused or lost")]
     NotInFlight,
     /// There is no beacon of this number.
@@ -42,7 +42,7 @@ pub enum EventFault {
     /// There is no answer of this number, or it has no path of this number.
     #[error("there is no such answer, or it has no such path")]
     NoAnswer,
-    /// The moment lies before the one that is reached.
+    /// The new time is before the current second.
     #[error("the moment lies before the one that is reached")]
     TimeBack,
     /// The payload has more than 1,024 bytes.
@@ -51,10 +51,10 @@ pub enum EventFault {
     /// The packet has no byte at this place.
     #[error("the packet has no byte at this place")]
     BadOffset,
-    /// A request asks for no path, or for more than 64.
+    /// The limit of a request is not 1 to 64.
     #[error("a request is for 1 to 64 paths")]
     BadLimit,
-    /// There are a million beacons, a million answers, or a million packets.
+    /// There are already a million beacons, a million answers, or a million packets.
     #[error("there are a million already")]
     TooMany,
     /// The packet was not delivered.

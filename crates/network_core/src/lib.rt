@@ -1,6 +1,6 @@
-//! The network of one process: its topology, the moment, the beacons that are under way, the
-//! segments that were registered, the answers that were given and the packets that were sent, and
-//! what events make of them, one after another.
+//! The network of one process, and the events that change it one after another: its topology, the
+//! current second, the beacons under way, the registered segments, the answers, and the packets
+//! that were sent.
 #![tactic(auto)]
 
 mod answer;

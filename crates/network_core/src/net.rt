@@ -18,9 +18,8 @@ use scion_topology::Topology;
 use std::alloc::{AllocError, Global};
 use std::marker::Model;
 
-/// A network of one process: its topology, the moment that it has reached, the beacons that were
-/// made in it, its path store, and the answers that were given and the packets that were sent in
-/// it.
+/// A network of one process: its topology, the current second, the beacons that were made in it,
+/// its path store, the answers that were given in it, and the packets that were sent.
 #[derive(Drop)]
 pub struct Net {
     pub(crate) topology: Topology,
@@ -54,7 +53,7 @@ impl Model for Net {
 pub(crate) type EventError = OrMemory<EventFault>;
 
 impl Net {
-    /// The network of a topology at moment 0, with nothing in it.
+    /// The network of a topology at second 0, with nothing in it.
     pub fn new(alloc: Global, topology: Topology) -> Net
         ensures { result ≡ new_net topology }
     {
@@ -75,7 +74,7 @@ impl Net {
         &self.topology
     }
 
-    /// The moment that the network has reached, in seconds.
+    /// The current second.
     pub fn now(&self) -> u32
         ensures { result ≡ self.now.moment }
     {
@@ -89,14 +88,14 @@ impl Net {
         &self.beacons
     }
 
-    /// The segments of the path store, in order of registration.
+    /// The segments of the path store, in the order of registration.
     pub fn segments(&self) -> &[Segment]
         ensures { result.now ≡ self.now.segments }
     {
         self.store.segments()
     }
 
-    /// The answer of this number, if there is one: its paths, and which option was used.
+    /// The answer of this number, if there is one: its paths, and the option that was used.
     pub fn answer(&self, number: usize) -> Option<&PathList>
         ensures { option_map (λ list. list.now) result
             ≡ option_map (λ one. one.answer) (slice_get self.now.answers number) }
@@ -114,14 +113,14 @@ impl Net {
         &self.packets
     }
 
-    /// The packet of this number, if there is one: what was sent, and where it is.
+    /// The packet of this number, if there is one: its shipment, and where it is.
     pub fn packet(&self, number: usize) -> Option<&Packet>
         ensures { option_map (λ p. p.now) result ≡ slice_get self.now.packets number }
     {
         self.packets.get(number)
     }
 
-    /// What the packet of this number was sent as, if there is one.
+    /// The shipment of the packet of this number, if there is one.
     pub fn sent(&self, number: usize) -> Option<&Sent>
         ensures { option_map (λ sent. sent.now) result
             ≡ option_map (λ p. p.sent) (slice_get self.now.packets number) }
@@ -132,17 +131,17 @@ impl Net {
         }
     }
 
-    /// One event: what it is answered, and the network after it. One that is refused changes
-    /// nothing, and so does running out of memory, which comes only where a beacon, a segment, an
-    /// answer or a packet was to be made.
+    /// Does one event, and returns its reply. An event that is refused changes nothing. Running out
+    /// of memory changes nothing either, and is possible only if the event makes a beacon, a
+    /// segment, an answer or a packet.
     ///
-    /// Takes time for the entries of the beacon that is named, for the segments of the store where
-    /// one is registered or the store is swept, and for the bytes of the packet that is named;
-    /// where paths are asked for, that of [`combinator::combine`] over the segments that may lead
-    /// there.
+    /// The time grows with the entries of the beacon that the event names, with the stored segments
+    /// if one is registered or the store is swept, and with the bytes of the packet that it names.
+    /// A request for paths takes the time of [`combinator::combine`] over the segments that may
+    /// lead there.
     pub fn step(&mut self, alloc: Global, event: &Event<'_>) -> Result<Reply, AllocError>
         ensures step { IfOk result (λ reply. Step self.old (event_value event.now) reply self.new) }
-        // Of what it sent, both addresses and the numbers of the header have a place for their
+        // Both addresses of what the event sent, and the numbers of the header, fit into their
         // bits.
         ensures framed { IfOk result (λ reply. IsFramed (event_value event.now) reply self.new) }
         ensures short { OnErr result (TakesMemory self.old (event_value event.now)) }
@@ -155,7 +154,7 @@ impl Net {
         }
     }
 
-    /// Does an event, or says why not.
+    /// Does an event, or returns why it was not done.
     fn attempt(&mut self, alloc: Global, event: &Event<'_>) -> Result<Reply, EventError>
         ensures { DoesEvent self.old (event_value event.now) self.new result }
     {
@@ -185,7 +184,7 @@ impl Net {
 }
 
 impl Net {
-    /// Takes in a packet that is ready to depart.
+    /// Adds a packet that is ready to be sent.
     pub(crate) fn keep_packet(&mut self, packet: Packet) -> Result<Reply, EventError>
         ensures { Keeps packet self.old self.new result }
     {

@@ -12,9 +12,9 @@ use policy_expr::{Policy, WalkHop};
 use std::alloc::Global;
 use std::marker::Model;
 
-/// What was accepted for sending: a path with its ends, its header and its policy, and a payload.
-/// Its type keeps that the verifier's rules accepted the path at some moment, and that the payload
-/// has at most 1,024 bytes.
+/// A shipment: a path with its ends, its header and its policy, and a payload. Invariants of the
+/// type: the verifier's rules accepted the path at some second, and the payload has at most 1,024
+/// bytes.
 #[derive(Drop)]
 pub struct Sent {
     pub(crate) source: IsdAs,
@@ -53,14 +53,14 @@ impl Model for Sent {
 }
 
 impl Sent {
-    /// The AS that sent it.
+    /// The source AS.
     pub fn source(&self) -> IsdAs
         ensures { result ≡ self.now.way.source }
     {
         self.source
     }
 
-    /// The AS to which it was sent.
+    /// The destination AS.
     pub fn destination(&self) -> IsdAs
         ensures { result ≡ self.now.way.destination }
     {
@@ -96,23 +96,23 @@ impl Sent {
         &self.payload
     }
 
-    /// The interface by which it leaves the AS that sends it.
+    /// The interface by which it leaves the source AS.
     pub fn way_out(&self) -> IfId
         ensures { result ≡ first_out (walk_of self.now.way.pieces) }
     {
         first_out(&self.pieces)
     }
 
-    /// Does nothing, and tells its caller that the path was accepted at some moment.
+    /// Does nothing; its contract tells the caller that the path was accepted at some second.
     pub fn known(&self)
         ensures { (moment : ℕ) × IsAccepted (asked_at moment self.now.way) }
     {
-        // The read of a field brings what the type keeps.
+        // Reading a field makes the type's invariants known here.
         let _ = &self.pieces;
     }
 }
 
-/// A packet: what was sent, and where it is.
+/// A packet: its shipment, and where it is.
 #[derive(Drop)]
 pub struct Packet {
     pub(crate) sent: Sent,
@@ -132,7 +132,7 @@ impl Model for Packet {
 }
 
 impl Packet {
-    /// What was sent.
+    /// Its shipment.
     pub fn sent(&self) -> &Sent
         ensures { result.now ≡ self.now.sent }
     {
@@ -153,7 +153,7 @@ impl Packet {
         self.transit.place()
     }
 
-    /// The hops that it has passed, in order, of which the first 64 are kept.
+    /// The hops that it has passed, in order; only the first 64 are kept.
     pub fn passed(&self) -> &[WalkHop]
         ensures value { result.now ≡ self.now.packet.passed }
         ensures few { length result.now ≤ 64 }

@@ -1,23 +1,23 @@
 use crate::fault::EventFault;
 use forwarding::TurnReply;
 
-/// What an event is answered.
+/// The reply to an event.
 #[derive(Clone, Copy, Debug, PartialEq, Eq)]
 pub enum Reply {
-    /// It was done.
+    /// The event was done.
     Done,
-    /// It gave the beacon of this number.
+    /// The event made the beacon of this number.
     Begun(usize),
-    /// It gave a segment, which was registered: whether the store has it as new, or knew it.
+    /// The event made a segment and registered it: `true` if it is new to the store.
     Registered(bool),
-    /// The number of segments that it took out of the store.
+    /// The event removed this number of segments from the store.
     Swept(usize),
-    /// It gave the answer of this number.
+    /// The event gave the answer of this number.
     Answered(usize),
-    /// It put the packet of this number on its way.
+    /// The event sent the packet of this number.
     Sent(usize),
     /// The packet had its turn.
     Turned(TurnReply),
-    /// It was refused, and changed nothing.
+    /// The event was refused, and changed nothing.
     Refused(EventFault),
 }

@@ -9,27 +9,28 @@ use crate::net::Net;
 use scion_topology::Topology;
 use std::alloc::Global;
 
-/// What a run left where memory ran out.
+/// The state of a run in which memory ran out.
 #[derive(Drop)]
 pub struct Stopped {
-    /// The network after the events before.
+    /// The network after the events that were done.
     pub net: Net,
-    /// How many events those are.
+    /// The number of events that were done.
     pub done: usize,
 }
 
-/// Runs events in order over a topology, in a network that begins with nothing in it. Where memory
-/// runs out at an event that makes something, the network after the events before is returned.
+/// Runs events in order, in a new network of this topology. If memory runs out at an event, the
+/// network after the events before it is returned.
 ///
-/// Each segment that is stored on the way was issued by events of the run, and the paths of each
-/// answer were accepted when it was given, so what is sent by an answer was issued before. And what
-/// a Send or a Back of it sent, on a path of segments that were issued before, is refused by no
-/// router, passes exactly the hops of its path in order, and is delivered exactly once it has had
-/// its turns, at most two for each hop field, and stands at a router before: where, from the first
-/// event that issued them and up to its delivery, no AS of the path takes another key twice and no
-/// link of it is cut, nobody alters the packet, nothing loses it, and each of its turns comes at a
-/// second not past the path's expiry. A delivered packet stays as it is. Its hops are a word of the
-/// policy under which it was sent, and pass its list.
+/// Each segment that is ever stored was issued by events of the run. The paths of each answer were
+/// accepted when it was given, so the segments of what is sent by an answer were issued before.
+///
+/// The rest is about a packet that was sent on a path of segments issued before, by an answer, a
+/// given way or a reply. From the first event that issued these segments up to the delivery, no AS
+/// of the path changes its key twice, no link of it is cut, nobody alters the packet, nothing loses
+/// it, and each of its turns comes no later than the path's expiry. Then no router refuses it, and
+/// it passes exactly the hops of its path in order. It is delivered if and only if it has had all
+/// its turns, at most two for each hop field, and is at a router before. A delivered packet stays
+/// as it is. Its hops are a word of the policy under which it was sent, and pass its list.
 pub fn run(alloc: Global, topology: Topology, events: &[Event<'_>]) -> Result<Net, Stopped>
     ensures ran { IfOk result (λ net. Ran topology (map event_value events.now) net) }
     ensures stopped { IfErr result (λ s. (event : EventValue)

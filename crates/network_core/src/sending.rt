@@ -1,4 +1,4 @@
-//! Sending packets, and answering delivered ones.
+//! Sending packets, and replying to delivered ones.
 
 ghost use Rattle.std.specs.Prelude.{◌≡◌, ◌≤◌, IfOk, OnOk, length, nat_le};
 ghost use Rattle.refusal.specs.Refusal.{check};
@@ -25,7 +25,7 @@ use refusal::OrMemory;
 use router_step::{destination_in, read_header, source_in};
 use std::alloc::{AllocError, Global};
 
-/// The most bytes of a payload.
+/// The largest number of bytes of a payload.
 const MAX_PAYLOAD: usize = 1024;
 
 impl Net {
@@ -46,7 +46,7 @@ impl Net {
         }
     }
 
-    /// Sends a packet by a way that is given.
+    /// Sends a packet by a given way.
     pub(crate) fn send_over(
         &mut self,
         alloc: Global,
@@ -60,7 +60,7 @@ impl Net {
         self.keep_packet(packet)
     }
 
-    /// Answers a delivered packet.
+    /// Sends the reply to a delivered packet.
     pub(crate) fn back(
         &mut self,
         alloc: Global,
@@ -76,7 +76,7 @@ impl Net {
         }
     }
 
-    /// A packet by a path of an answer, ready to depart, or the first cause why it may not.
+    /// A packet by a path of an answer, ready to be sent, or the first refusal.
     fn ready_answered(
         &self,
         alloc: Global,
@@ -101,7 +101,7 @@ impl Net {
         self.ready(alloc, &way, payload)
     }
 
-    /// The answer to a delivered packet, ready to depart, or the first cause why it may not.
+    /// The reply to a delivered packet, ready to be sent, or the first refusal.
     fn ready_back(&self, alloc: Global, packet: u32, payload: &[u8]) -> Result<Packet, EventError>
         ensures { ReadiesFrom (λ p. p) self.now
             (shipment_by self.now (BackOf packet) payload.now) result }
@@ -122,7 +122,7 @@ impl Net {
         self.ready(alloc, &way, payload)
     }
 
-    /// A packet that is ready to depart, or the first cause why it may not.
+    /// A packet by this way, ready to be sent, or the first refusal.
     fn ready(&self, alloc: Global, way: &Given<'_>, payload: &[u8]) -> Result<Packet, EventError>
         requires { length payload.now ≤ 1024 }
         ensures { Readies (λ p. p) self.now
@@ -152,7 +152,7 @@ impl Net {
     }
 }
 
-/// Whether a payload is short enough.
+/// Checks that a payload is short enough.
 fn check_payload(payload: &[u8]) -> Result<(), EventError>
     ensures judged { Judges (λ x. x) result
         (check (nat_le (length payload.now) 1024) faults.PayloadTooLong) }
@@ -181,7 +181,7 @@ fn header_back(one: &Packet) -> Result<Header, EventError>
     }
 }
 
-/// The packet of a way that was accepted, at this router of its source; or memory runs out.
+/// The packet of a way that was accepted, at this router of its source, unless memory runs out.
 fn packet_of(
     alloc: Global,
     way: &Given<'_>,
@@ -212,7 +212,7 @@ fn packet_of(
     })
 }
 
-/// The same bytes; or memory runs out.
+/// A copy of these bytes, unless memory runs out.
 fn clone_bytes(alloc: Global, bytes: &[u8]) -> Result<Vec<u8>, AllocError>
     ensures { IfOk result (λ own. own.items ≡ bytes.now) }
 {

@@ -1,4 +1,4 @@
-//! Packets on their way: they have their turns, are lost and altered.
+//! Turns, losses and changes of packets.
 
 ghost use Rattle.std.specs.Prelude.{◌<◌, IfOk, length};
 ghost use Rattle.network_core.specs.Doing.{Does, Flies, Judges};
@@ -12,7 +12,7 @@ use forwarding::PacketLocation;
 use refusal::OrMemory;
 
 impl Net {
-    /// A packet has its turn.
+    /// The router that has the packet makes one step.
     pub(crate) fn turn(&mut self, packet: u32) -> Result<Reply, EventError>
         ensures { Does (turns self.old packet) ⊥ self.old self.new result }
     {
@@ -54,7 +54,7 @@ impl Net {
             .ok_or(OrMemory::Refused(EventFault::NoPacket))
     }
 
-    /// The place in the list of a packet that is at a router.
+    /// The place in the list of a packet that is in flight.
     fn place_in_flight(&self, packet: u32) -> Result<usize, EventError>
         ensures judged { Flies self.now packet result }
         ensures place { IfOk result (λ place. place < length self.now.packets) }

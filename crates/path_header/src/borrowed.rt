@@ -11,7 +11,7 @@ use crate::meta::Meta;
 use crate::reading::{hop_in, info_in, meta_in, word_of};
 use crate::writing::put;
 
-/// Does nothing, and tells its caller what is known of bytes that begin with a header.
+/// Does nothing; its contract tells the caller what holds for bytes that begin with a header.
 fn begins(bytes: &[u8])
     requires { has_header bytes.now ≡ true }
     ensures header { IsHeader (header_at_front bytes.now) }
@@ -20,10 +20,11 @@ fn begins(bytes: &[u8])
         (header_at_front bytes.now) }
 {}
 
-/// A path header in borrowed bytes, which spell it in front: it is read and changed where it
-/// stands, without a copy.
+/// A path header in borrowed bytes, which begin with it. It is read and changed in place, without a
+/// copy.
 ///
-/// Its type keeps that the bytes spell a header. What follows the header plays no part.
+/// An invariant of the type says that the bytes begin with a header. Bytes after the header have no
+/// effect.
 #[derive(Drop)]
 pub struct HeaderMut<'a> {
     pub(crate) bytes: &'a mut [u8],
@@ -40,10 +41,10 @@ impl<'a> HeaderMut<'a> {
     ghost use Rattle.path_header.specs.Shown.{judged, has_header};
     ghost use Rattle.path_header.specs.Borrowed.{bytes_of, value_of, rest_of};
 
-    /// The header in front of these bytes, which are lent to it; with the refusals of
-    /// [`crate::decode`], in its order.
+    /// The header at the front of these bytes, which it borrows; with the refusals of
+    /// [`crate::decode`], in their order.
     ///
-    /// It takes no memory and looks at each field once, so at most at 3 info and 64 hop fields.
+    /// It takes no memory and reads each field once, at most 3 info and 64 hop fields.
     pub fn new(bytes: &'a mut [u8]) -> Result<HeaderMut<'a>, HeaderFault>
         ensures exact { Gives value_of result (header_at bytes.old) }
         ensures same_bytes { IfOk result (λ h. bytes_of h ≡ bytes.old) }
@@ -53,15 +54,15 @@ impl<'a> HeaderMut<'a> {
         Ok(HeaderMut::checked(bytes))
     }
 
-    /// The test that [`HeaderMut::new`] makes, with its refusals: whether a header stands in front
-    /// of these bytes, which are not lent.
+    /// Checks whether these bytes begin with a header, as [`HeaderMut::new`] does and with its
+    /// refusals, but does not keep them borrowed.
     pub fn check(bytes: &[u8]) -> Result<(), HeaderFault>
         ensures { result ≡ judged (header_at bytes.now) }
     {
         check(bytes)
     }
 
-    /// The header in front of these bytes, which a check found there.
+    /// The header at the front of these bytes, after a check found one there.
     pub fn checked(bytes: &'a mut [u8]) -> HeaderMut<'a>
         requires { has_header bytes.old ≡ true }
         ensures same_bytes { bytes_of result ≡ bytes.old }
@@ -70,7 +71,8 @@ impl<'a> HeaderMut<'a> {
         HeaderMut { bytes }
     }
 
-    /// Does nothing, and tells its caller that the bytes spell a header of the grammar in front.
+    /// Does nothing; its contract tells the caller that the bytes begin with a header of the
+    /// grammar.
     pub fn known(&self)
         ensures header { IsHeader (value_of self.now) }
         ensures long { header_len (value_of self.now) ≤ length (bytes_of self.now) }
@@ -80,7 +82,7 @@ impl<'a> HeaderMut<'a> {
         begins(self.bytes);
     }
 
-    /// What the meta field says.
+    /// The meta field.
     #[tactic(auto, using(crate::proofs::Seen::meta_shown))]
     fn meta(&self) -> Meta
         ensures { result ≡ meta_of (value_of self.now) }
@@ -158,21 +160,21 @@ impl<'a> HeaderMut<'a> {
         hop_in(rest)
     }
 
-    /// The info field at which the packet stands.
+    /// The info field at which the packet is.
     pub fn current_info(&self) -> InfoField
         ensures { slice_get (value_of self.now).infos (value_of self.now).curr_inf ≡ Some result }
     {
         self.info(self.curr_inf())
     }
 
-    /// The hop field at which the packet stands.
+    /// The hop field at which the packet is.
     pub fn current_hop(&self) -> HopField
         ensures { slice_get (value_of self.now).hops (value_of self.now).curr_hf ≡ Some result }
     {
         self.hop(self.curr_hf())
     }
 
-    /// The index of the info field of the segment in which this hop field stands.
+    /// The index of the info field of the segment to which this hop field belongs.
     pub fn segment_of(&self, hop: usize) -> usize
         requires { hop < length (value_of self.now).hops }
         ensures value { result ≡ segment_at (value_of self.now).lens hop }
@@ -191,7 +193,7 @@ impl<'a> HeaderMut<'a> {
         }
     }
 
-    /// Sets the accumulator of this info field: its two bytes, and no other.
+    /// Sets the accumulator of this info field; only its two bytes change.
     pub fn set_seg_id(&mut self, info: usize, seg_id: u16)
         requires { info < length (value_of self.old).infos }
         ensures value { (x : InfoField) → slice_get (value_of self.old).infos info ≡ Some x
@@ -210,7 +212,7 @@ impl<'a> HeaderMut<'a> {
         put(self.bytes, 6 + 8 * info, &seg_id.to_be_bytes());
     }
 
-    /// Sets the current info field and the current hop field: the first byte, and no other.
+    /// Sets the current info field and the current hop field; only the first byte changes.
     pub fn set_indices(&mut self, info: usize, hop: usize)
         requires info_below { info < length (value_of self.old).infos }
         requires hop_below { hop < length (value_of self.old).hops }

@@ -1,4 +1,4 @@
-//! The test whether bytes begin with a path header, which makes no list of its fields.
+//! Checks whether bytes begin with a path header, without building lists of its fields.
 
 ghost use Rattle.std.specs.Prelude.{◌≡◌, ◌*◌, ◌≤◌, length};
 ghost use Rattle.path_header.specs.Reading.{info_at, hop_at, fields_at, header_at};
@@ -7,7 +7,7 @@ ghost use Rattle.path_header.specs.Shown.{judged};
 use crate::fault::HeaderFault;
 use crate::reading::{check_hop, check_info, meta_of};
 
-/// Checks `count` info fields, one after the other.
+/// Checks `count` info fields, one after another.
 fn check_infos(bytes: &[u8], count: usize) -> Result<(), HeaderFault>
     requires few { count ≤ 3 }
     requires long { 8 * count ≤ length bytes.now }
@@ -20,7 +20,7 @@ fn check_infos(bytes: &[u8], count: usize) -> Result<(), HeaderFault>
     Ok(())
 }
 
-/// Checks `count` hop fields, one after the other.
+/// Checks `count` hop fields, one after another.
 fn check_hops(bytes: &[u8], count: usize) -> Result<(), HeaderFault>
     requires few { count ≤ 64 }
     requires long { 12 * count ≤ length bytes.now }
@@ -33,7 +33,7 @@ fn check_hops(bytes: &[u8], count: usize) -> Result<(), HeaderFault>
     Ok(())
 }
 
-/// Checks that a path header stands at the front, with the refusals of [`crate::decode`].
+/// Checks whether the bytes begin with a path header, with the refusals of [`crate::decode`].
 #[tactic(auto, unfolding(crate::specs::Reading::header_at))]
 pub(crate) fn check(bytes: &[u8]) -> Result<(), HeaderFault>
     ensures { result ≡ judged (header_at bytes.now) }

@@ -3,16 +3,15 @@ ghost use Rattle.path_header.specs.Fault.{code_of, name_of};
 
 use thiserror::Error;
 
-/// Why bytes or fields are no path header, or why a header could not be written.
+/// Why bytes or fields are no path header, or why a header was not written.
 ///
-/// Each call that refuses says in which order it looks for these causes.
+/// Each call that refuses gives the order of its checks.
 #[derive(Clone, Copy, Debug, PartialEq, Eq, Error)]
 pub enum HeaderFault {
-    /// The bytes end before the header does, or the fields given are not as many as the lengths
-    /// say.
+    /// The bytes end before the header does, or the numbers of fields are not those of the lengths.
     #[error("the header is cut off")]
     Short,
-    /// A bit that has no meaning is set.
+    /// A reserved bit is set.
     #[error("a reserved bit is set")]
     Reserved,
     /// An info field has the flag P, of a peering link, which this network does not have.
@@ -27,10 +26,10 @@ pub enum HeaderFault {
     /// The segments have more than 64 hop fields together.
     #[error("a path has at most 64 hop fields")]
     TooManyHops,
-    /// The current info field or the current hop field is none of the header's.
+    /// The index of the current info field or hop field is not below the number of fields.
     #[error("an index points behind the last field")]
     BadIndex,
-    /// The header is longer than the room that it was to be written into.
+    /// The room is shorter than the header that was to be written.
     #[error("the room is shorter than the header")]
     RoomTooSmall,
 }

@@ -8,10 +8,10 @@ use crate::lens::SegLens;
 use arrayvec::ArrayVec;
 use std::marker::Model;
 
-/// A path header: the fields of one to three segments, and where on the path the packet stands.
+/// A path header: the fields of one to three segments, and the place of the packet on the path.
 ///
-/// Its type keeps that the fields are as many as the segment lengths say and that the packet stands
-/// at one of them.
+/// Invariants of the type: the numbers of fields are those of the segment lengths, and both indices
+/// point to a field.
 #[derive(Clone, Debug, Drop, PartialEq, Eq)]
 pub struct Header {
     pub(crate) curr_inf: u8,
@@ -53,21 +53,20 @@ impl Model for Header {
 }
 
 impl Header {
-    /// The header of segments of these lengths and of these fields, at its first info and hop
+    /// The header of these segment lengths and fields, with the packet at the first info and hop
     /// field.
     ///
-    /// The first of these that holds is the refusal: [`HeaderFault::SegLens`] if the first
-    /// length is 0, a length behind a 0 is not, or a length is above 63;
-    /// [`HeaderFault::TooManyHops`] where their sum is above 64; [`HeaderFault::Short`] if there
-    /// are not as many info fields as lengths that are not 0, or not as many hop fields as their
-    /// sum.
+    /// The first of these refusals is returned: [`HeaderFault::SegLens`] if the first length is 0,
+    /// a length that is not 0 follows a 0, or a length is above 63; [`HeaderFault::TooManyHops`] if
+    /// their sum is above 64; [`HeaderFault::Short`] if there is not one info field for each length
+    /// that is not 0, or the number of hop fields is not the sum of the lengths.
     pub fn new(lens: [u8; 3], infos: &[InfoField], hops: &[HopField]) -> Result<Header, HeaderFault>
-        // What is built has these lengths and fields.
+        // The header that is returned has these lengths and fields.
         ensures found { IfOk result (λ h. h ≡ first_header (lens_from lens) infos.now hops.now) }
-        // Where these lengths and fields are a header, it is built.
+        // If these lengths and fields are a header, it is returned.
         ensures only { let header = first_header (lens_from lens) infos.now hops.now in
             IsHeader header → result ≡ Ok header }
-        // Which refusal it is.
+        // The exact result, with its refusal.
         ensures exact { result ≡ new_header (lens_from lens) infos.now hops.now }
     {
         let [first, second, third] = lens;
@@ -82,7 +81,7 @@ impl Header {
         )
     }
 
-    /// The header of these lengths and fields, at its first info and hop field.
+    /// The header of these lengths and fields, with the packet at the first info and hop field.
     fn build(lens: SegLens, infos: &[InfoField], hops: &[HopField]) -> Result<Header, HeaderFault>
         ensures { result ≡ new_header lens infos.now hops.now }
     {
@@ -161,21 +160,21 @@ impl Header {
         self.hops[index]
     }
 
-    /// The info field at which the packet stands.
+    /// The info field at which the packet is.
     pub fn current_info(&self) -> InfoField
         ensures { slice_get self.now.infos self.now.curr_inf ≡ Some result }
     {
         self.infos[usize::from(self.curr_inf)]
     }
 
-    /// The hop field at which the packet stands.
+    /// The hop field at which the packet is.
     pub fn current_hop(&self) -> HopField
         ensures { slice_get self.now.hops self.now.curr_hf ≡ Some result }
     {
         self.hops[usize::from(self.curr_hf)]
     }
 
-    /// The index of the info field of the segment in which this hop field stands.
+    /// The index of the info field of the segment to which this hop field belongs.
     pub fn segment_of(&self, hop: usize) -> usize
         requires { hop < length self.now.hops }
         ensures value { result ≡ segment_at self.now.lens hop }
@@ -218,24 +217,24 @@ impl Header {
         requires hop_below { hop < length self.old.hops }
         ensures { self.new ≡ record self.old { curr_inf = info; curr_hf = hop } }
     {
-        // The type's rules bound both indices, which is seen where a field is read.
+        // The type's invariants bound both indices; reading a field makes them known here.
         let _ = &self.lens;
         self.curr_inf = info as u8;
         self.curr_hf = hop as u8;
     }
 
-    /// Whether both are one header: the same indices, lengths and fields. It is what `==` answers.
+    /// Whether both headers have the same indices, lengths and fields. `==` gives the same answer.
     pub fn is_same(&self, other: &Header) -> bool
         ensures { IsTrue result ↔ (self.now ≡ other.now) }
     {
         self == other
     }
 
-    /// Does nothing, and tells its caller that this is a header of the grammar.
+    /// Does nothing; its contract tells the caller that this is a header of the grammar.
     pub fn known(&self)
         ensures { IsHeader self.now }
     {
-        // The type's rules are seen where a field is read.
+        // Reading a field makes the type's invariants known here.
         let _ = &self.lens;
     }
 }

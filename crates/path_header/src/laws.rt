@@ -7,7 +7,8 @@ ghost use Rattle.path_header.specs.Spelling.{Fits, Spells, spelling};
 ghost use Rattle.path_header.specs.Reading.{read_at};
 ghost use Rattle.path_header.specs.Reversal.{reversed};
 
-/// Each header has one spelling, each spelling is of one header, and none begins another.
+/// Each header has exactly one spelling, no two headers have the same, and no spelling is the
+/// beginning of another.
 pub fn one_spelling()
     ensures same_text { (v : HeaderValue) (text other : List ℕ) → Spells text v → Spells other v
         → text ≡ other }
@@ -15,8 +16,8 @@ pub fn one_spelling()
         → Spells (text ++ more) w → (v ≡ w) × (more ≡ []) }
 {}
 
-/// Each hop field stands in one segment, which is found by the sums of the lengths before it
-/// and up to it.
+/// Each hop field belongs to exactly one segment; the sums of the lengths before it and up to it
+/// give that segment.
 pub fn one_segment()
     ensures stands { (l : SegLens) (hop : ℕ) → hop < hop_count l
         → IsInSegment l hop (segment_at l hop) }
@@ -24,14 +25,14 @@ pub fn one_segment()
         ≡ segment_at l hop }
 {}
 
-/// The way back of a header is one, and the way back of the way back is the header.
+/// The reversed header is a header, and reversing it again gives the first header back.
 pub fn reversed_twice()
     ensures back { (v : HeaderValue) → IsHeader v → reversed (reversed v) ≡ v }
     ensures header { (v : HeaderValue) → IsHeader v → IsHeader (reversed v) }
 {}
 
-/// What spells a header is read as it, whatever follows, and has its length; and a header whose
-/// numbers fit is spelled by its spelling.
+/// Reading a spelling of a header gives that header and its length, whatever follows; and
+/// `spelling` spells each header whose numbers fit.
 pub fn spelled_is_read()
     ensures read { (v : HeaderValue) (text rest : List ℕ) → Spells text v
         → read_at (text ++ rest) ≡ Ok (v, header_len v) }

@@ -5,7 +5,7 @@ ghost use Rattle.path_header.specs.Reversal.{reversed_lens};
 
 use crate::fault::HeaderFault;
 
-/// How many hop fields each of the up to three segments of a path has; 0 is no segment.
+/// The number of hop fields in each of the up to three segments of a path; 0 means no segment.
 #[derive(Clone, Copy, Debug, PartialEq, Eq)]
 pub struct SegLens {
     /// The number of hop fields of the first segment.
@@ -17,7 +17,7 @@ pub struct SegLens {
 }
 
 impl SegLens {
-    /// The number of segments, which is that of the info fields: of the lengths that are not 0.
+    /// The number of segments, and so of info fields: the number of lengths that are not 0.
     pub fn info_count(self) -> usize
         ensures value { result ≡ info_count self }
         ensures bound { result ≤ 3 }
@@ -27,7 +27,7 @@ impl SegLens {
             + usize::from(self.third.min(1))
     }
 
-    /// The number of hop fields, the sum of the lengths.
+    /// The number of hop fields: the sum of the lengths.
     pub fn hop_count(self) -> usize
         ensures value { result ≡ hop_count self }
         ensures bound { result < 766 }
@@ -35,15 +35,15 @@ impl SegLens {
         usize::from(self.first) + usize::from(self.second) + usize::from(self.third)
     }
 
-    /// The length in bytes of a header of such segments: 4, 8 for each info field and 12 for each
-    /// hop field.
+    /// The length in bytes of a header with these lengths: 4, and 8 for each info field and 12 for
+    /// each hop field.
     pub(crate) fn encoded_len(self) -> usize
         ensures { result ≡ len_for self }
     {
         4 + 8 * self.info_count() + 12 * self.hop_count()
     }
 
-    /// These lengths, where a path header may have them.
+    /// These lengths, or why no path header may have them.
     pub(crate) fn checked(self) -> Result<SegLens, HeaderFault>
         ensures exact { result ≡ checked_lens self }
         ensures valid { OnOk result (AreLens self) }
@@ -58,7 +58,7 @@ impl SegLens {
         Ok(self)
     }
 
-    /// The lengths of the same segments, the last one first.
+    /// The lengths with the segments in reverse order.
     pub(crate) fn reversed(self) -> SegLens
         requires { AreLens self }
         ensures value { result ≡ reversed_lens self }

@@ -1,10 +1,9 @@
-//! The path header of a SCION packet: its value, its one spelling as bytes, and its reversal.
+//! The path header of a SCION packet: its value, its one encoding as bytes, and its reversal.
 //!
-//! A path is one to three segments. The header has an info field for each segment, a hop field for
-//! each AS on a segment, and two indices that say where the packet stands. [`decode`] and
-//! [`encode`] are the one place in which bytes become a header and back; everything else works on
-//! the value of [`Header`], whose type keeps that it is a header of the grammar. No call takes
-//! memory.
+//! A path has one to three segments. The header has an info field for each segment, a hop field for
+//! each AS on a segment, and two indices for the packet's place on the path. [`Header`] is its
+//! value, and [`decode`] and [`encode`] translate between bytes and values. [`HeaderMut`] reads and
+//! changes a header in its bytes. No call takes memory.
 #![tactic(auto)]
 
 mod borrowed;

@@ -14,28 +14,28 @@ use isd_as::IfId;
 
 /// The path header at the front of these bytes, and its length in bytes.
 ///
-/// Bytes after the header play no part. The first of these that holds is the refusal:
-/// [`HeaderFault::Short`] if there are fewer than 4 bytes; [`HeaderFault::Reserved`] if a
-/// reserved bit of the meta field is set; [`HeaderFault::SegLens`] if the first length is 0 or a
-/// length behind a 0 is not; [`HeaderFault::TooManyHops`] where their sum is above 64; `Short`
-/// where there are fewer bytes than the fields need; for each info field in order
-/// [`HeaderFault::PeerFlag`] if its flag P is set, and `Reserved`; for each hop field in order
-/// [`HeaderFault::AlertFlag`] if its flag I or E is set, and `Reserved`;
-/// [`HeaderFault::BadIndex`] if the current info or hop field is none of the header's.
+/// Bytes after the header have no effect. The first of these refusals is returned:
+/// [`HeaderFault::Short`] if there are fewer than 4 bytes; [`HeaderFault::Reserved`] if a reserved
+/// bit of the meta field is set; [`HeaderFault::SegLens`] if the first length is 0 or a length that
+/// is not 0 follows a 0; [`HeaderFault::TooManyHops`] if their sum is above 64; `Short` if the
+/// bytes are fewer than the fields need; for each info field in order [`HeaderFault::PeerFlag`] if
+/// its flag P is set, and `Reserved`; for each hop field in order [`HeaderFault::AlertFlag`] if its
+/// flag I or E is set, and `Reserved`; [`HeaderFault::BadIndex`] if the current info or hop field
+/// does not exist.
 pub fn decode(bytes: &[u8]) -> Result<(Header, usize), HeaderFault>
-    // What is read is spelled by the bytes in front, as many as are reported.
+    // The bytes up to the returned length are the spelling of the returned header.
     ensures found { IfOk result (λ r. (r.1 ≤ length bytes.now) × Spells (take r.1 bytes.now) r.0) }
     ensures len { IfOk result (λ r. r.1 ≡ header_len r.0) }
-    // What the bytes in front spell is read, whatever follows.
+    // If the bytes begin with the spelling of a header, it is returned, whatever follows.
     ensures only { (v : HeaderValue) (text rest : List ℕ) → Spells text v → bytes.now ≡ text ++ rest
         → result ≡ Ok (v, header_len v) }
-    // Which refusal it is.
+    // The exact result, with its refusal.
     ensures exact { result ≡ read_at bytes.now }
 {
     read(bytes)
 }
 
-/// The number of the first four bytes.
+/// The number in the first four bytes.
 pub(crate) fn word_of(bytes: &[u8]) -> u32
     requires { 4 ≤ length bytes.now }
     ensures { result ≡ word_at bytes.now }
@@ -43,14 +43,14 @@ pub(crate) fn word_of(bytes: &[u8]) -> u32
     u32::from_be_bytes([bytes[0], bytes[1], bytes[2], bytes[3]])
 }
 
-/// Whether one of the six bits of the meta field is set that have no meaning.
+/// Whether one of the six reserved bits of the meta field is set.
 fn has_reserved(word: u32) -> bool
     ensures { result ≡ nat_lt 0 (reserved_bits word) }
 {
     (word >> 18) % 64 > 0
 }
 
-/// What the meta field says as a number.
+/// The meta field as its number of 32 bits encodes it.
 pub(crate) fn meta_in(word: u32) -> Meta
     ensures { result ≡ meta_from word }
 {
@@ -65,7 +65,7 @@ pub(crate) fn meta_in(word: u32) -> Meta
     }
 }
 
-/// The meta field, where the bytes are long enough for the header that it begins.
+/// The meta field, if the bytes are long enough for the header that it begins.
 #[tactic(auto, unfolding(crate::specs::Reading::meta_at))]
 pub(crate) fn meta_of(bytes: &[u8]) -> Result<Meta, HeaderFault>
     ensures exact { result ≡ meta_at bytes.now }
@@ -87,7 +87,7 @@ pub(crate) fn meta_of(bytes: &[u8]) -> Result<Meta, HeaderFault>
     Ok(meta)
 }
 
-/// Checks that no flag but C and no reserved bit of the info field at the front is set.
+/// Checks that in the info field at the front no bit but the flag C is set in its first two bytes.
 #[tactic(auto, unfolding(crate::specs::Reading::info_at))]
 pub(crate) fn check_info(bytes: &[u8]) -> Result<(), HeaderFault>
     requires { 8 ≤ length bytes.now }
@@ -103,7 +103,7 @@ pub(crate) fn check_info(bytes: &[u8]) -> Result<(), HeaderFault>
     Ok(())
 }
 
-/// What the info field at the front says.
+/// The values in the info field at the front.
 pub(crate) fn info_in(bytes: &[u8]) -> InfoField
     requires { 8 ≤ length bytes.now }
     ensures { result ≡ info_from bytes.now }
@@ -115,7 +115,7 @@ pub(crate) fn info_in(bytes: &[u8]) -> InfoField
     }
 }
 
-/// The info field at the front.
+/// The info field at the front, if it passes `check_info`.
 fn info_of(bytes: &[u8]) -> Result<InfoField, HeaderFault>
     requires { 8 ≤ length bytes.now }
     ensures { result ≡ info_at bytes.now }
@@ -124,7 +124,7 @@ fn info_of(bytes: &[u8]) -> Result<InfoField, HeaderFault>
     Ok(info_in(bytes))
 }
 
-/// Checks that no flag and no reserved bit of the hop field at the front is set.
+/// Checks that in the hop field at the front no flag and no reserved bit is set.
 #[tactic(auto, unfolding(crate::specs::Reading::hop_at))]
 pub(crate) fn check_hop(bytes: &[u8]) -> Result<(), HeaderFault>
     requires { 12 ≤ length bytes.now }
@@ -140,7 +140,7 @@ pub(crate) fn check_hop(bytes: &[u8]) -> Result<(), HeaderFault>
     Ok(())
 }
 
-/// What the hop field at the front says.
+/// The values in the hop field at the front.
 pub(crate) fn hop_in(bytes: &[u8]) -> HopField
     requires { 12 ≤ length bytes.now }
     ensures { result ≡ hop_from bytes.now }
@@ -153,7 +153,7 @@ pub(crate) fn hop_in(bytes: &[u8]) -> HopField
     }
 }
 
-/// The hop field at the front.
+/// The hop field at the front, if it passes `check_hop`.
 fn hop_of(bytes: &[u8]) -> Result<HopField, HeaderFault>
     requires { 12 ≤ length bytes.now }
     ensures { result ≡ hop_at bytes.now }
@@ -162,7 +162,7 @@ fn hop_of(bytes: &[u8]) -> Result<HopField, HeaderFault>
     Ok(hop_in(bytes))
 }
 
-/// The info fields, `count` of them, one after the other.
+/// `count` info fields, one after another.
 fn infos_of(bytes: &[u8], count: usize) -> Result<ArrayVec<InfoField, 3>, HeaderFault>
     requires few { count ≤ 3 }
     requires long { 8 * count ≤ length bytes.now }
@@ -178,7 +178,7 @@ fn infos_of(bytes: &[u8], count: usize) -> Result<ArrayVec<InfoField, 3>, Header
     Ok(infos)
 }
 
-/// The hop fields, `count` of them, one after the other.
+/// `count` hop fields, one after another.
 fn hops_of(bytes: &[u8], count: usize) -> Result<ArrayVec<HopField, 64>, HeaderFault>
     requires few { count ≤ 64 }
     requires long { 12 * count ≤ length bytes.now }
@@ -194,7 +194,7 @@ fn hops_of(bytes: &[u8], count: usize) -> Result<ArrayVec<HopField, 64>, HeaderF
     Ok(hops)
 }
 
-/// The header at the front.
+/// The header at the front, and the refusals of [`decode`].
 #[tactic(auto, unfolding(crate::specs::Reading::header_at))]
 fn header_of(bytes: &[u8]) -> Result<Header, HeaderFault>
     ensures { result ≡ header_at bytes.now }
@@ -218,7 +218,8 @@ fn header_of(bytes: &[u8]) -> Result<Header, HeaderFault>
     })
 }
 
-/// The header at the front, and its length.
+/// The header at the front and its length in bytes; the public call adds the clauses about
+/// spellings.
 fn read(bytes: &[u8]) -> Result<(Header, usize), HeaderFault>
     ensures { result ≡ read_at bytes.now }
 {

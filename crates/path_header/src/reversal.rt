@@ -5,8 +5,8 @@ use crate::fields::InfoField;
 use crate::header::Header;
 
 impl Header {
-    /// Makes this the header of the way back: the segments and all fields from the last to the
-    /// first, each segment travelled the other way, and the packet where it stood.
+    /// Makes this the header of the way back: the segments and all fields in reverse order, each
+    /// segment in the other direction, and the packet at the same hop field.
     pub fn reverse(&mut self)
         ensures { self.new ≡ reversed self.old }
     {
@@ -19,7 +19,7 @@ impl Header {
     }
 }
 
-/// Marks each segment as travelled the other way.
+/// Marks each segment as travelled in the other direction.
 fn turn(infos: &mut [InfoField])
     ensures { infos.new ≡ map turned infos.old }
 {

@@ -8,10 +8,10 @@ use crate::fault::HeaderFault;
 use crate::fields::{HopField, InfoField};
 use crate::header::Header;
 
-/// Writes the one spelling of this header to the front of the room, and gives its length in bytes.
+/// Writes the encoding of this header to the front of the room, and returns its length in bytes.
 ///
-/// Every byte after it stays. [`HeaderFault::RoomTooSmall`] if the header does not fit, which
-/// leaves the room as it was; [`Header::encoded_len`] is the test.
+/// The bytes after it stay as they were. [`HeaderFault::RoomTooSmall`] if the room has fewer than
+/// [`Header::encoded_len`] bytes; the room stays as it was then.
 pub fn encode(header: &Header, room: &mut [u8]) -> Result<usize, HeaderFault>
     ensures fits { IsOk result ↔ (header_len header.now ≤ length room.old) }
     ensures len { IfOk result (λ n. n ≡ header_len header.now) }
@@ -27,7 +27,7 @@ pub fn encode(header: &Header, room: &mut [u8]) -> Result<usize, HeaderFault>
     Ok(len)
 }
 
-/// Writes the parts of this header to the front of the room, one behind the other.
+/// Writes the parts of this header to the front of the room, one after another.
 fn put_header(room: &mut [u8], header: &Header)
     requires { header_len header.now ≤ length room.old }
     ensures spelled { Spells (take (header_len header.now) room.new) header.now }
@@ -38,7 +38,7 @@ fn put_header(room: &mut [u8], header: &Header)
     put_hops(room, 4 + 8 * header.infos.len(), &header.hops);
 }
 
-/// Writes these bytes into the room, at this place.
+/// Writes these bytes to this place of the room.
 pub(crate) fn put(room: &mut [u8], at: usize, part: &[u8])
     requires { at + length part.now ≤ length room.old }
     ensures { room.new ≡ take at room.old ++ (part.now ++ drop (at + length part.now) room.old) }
@@ -46,7 +46,7 @@ pub(crate) fn put(room: &mut [u8], at: usize, part: &[u8])
     room[at..at + part.len()].copy_from_slice(part);
 }
 
-/// The meta field of this header.
+/// The bytes of this header's meta field.
 fn meta_bytes(header: &Header) -> [u8; 4]
     ensures { result ≡ to_be_bytes w32 (meta_word (meta_of header.now)) }
 {
@@ -57,7 +57,7 @@ fn meta_bytes(header: &Header) -> [u8; 4]
     (indices + lens).to_be_bytes()
 }
 
-/// The spelling of an info field.
+/// The bytes of an info field.
 fn info_bytes(info: &InfoField) -> [u8; 8]
     ensures text { result ≡ info_spelling info.now }
     ensures fits { InfoFits info.now }
@@ -76,7 +76,7 @@ fn info_bytes(info: &InfoField) -> [u8; 8]
     ]
 }
 
-/// The spelling of a hop field.
+/// The bytes of a hop field.
 fn hop_bytes(hop: HopField) -> [u8; 12]
     ensures text { result ≡ hop_spelling hop }
     ensures fits { HopFits hop }
@@ -100,7 +100,7 @@ fn hop_bytes(hop: HopField) -> [u8; 12]
     ]
 }
 
-/// Writes the spellings of info fields into the room, at this place.
+/// Writes the bytes of info fields to this place of the room.
 fn put_infos(room: &mut [u8], at: usize, infos: &[InfoField])
     requires { at + 8 * length infos.now ≤ length room.old }
     ensures text { room.new
@@ -114,7 +114,7 @@ fn put_infos(room: &mut [u8], at: usize, infos: &[InfoField])
     }
 }
 
-/// Writes the spellings of hop fields into the room, at this place.
+/// Writes the bytes of hop fields to this place of the room.
 fn put_hops(room: &mut [u8], at: usize, hops: &[HopField])
     requires { at + 12 * length hops.now ≤ length room.old }
     ensures text { room.new

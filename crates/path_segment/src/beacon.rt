@@ -15,7 +15,7 @@ use std::marker::Model;
 
 /// A segment under way: 1 to 62 entries, each with a way out to the next AS.
 ///
-/// Its type keeps the rules: only the first entry has no way in, and no AS stands in it twice.
+/// Its type keeps the rules: only the first entry has no way in, and no two entries are of one AS.
 #[derive(Debug, Drop)]
 pub struct Beacon {
     kind: SegKind,
@@ -36,7 +36,7 @@ impl Model for Beacon {
 }
 
 impl Beacon {
-    /// The beacon of its first AS: `timestamp` is in seconds, and `beta0` the accumulator with
+    /// The beacon of its first AS. `timestamp` is in seconds; `beta0` is the accumulator under
     /// which the first hop is authenticated.
     ///
     /// [`SegmentFault::BadEnds`] if the entry has a way in or no way out.
@@ -47,10 +47,10 @@ impl Beacon {
         beta0: u16,
         entry: Entry,
     ) -> Result<Beacon, SegmentError>
-        // It is the beacon of this entry, or the rule that it would break.
+        // The beacon of this entry, or the first rule that it breaks.
         ensures whole { Answers (λ b. b) result
             (beacon_of (chain_of kind timestamp beta0 (entry ∷ []))) }
-        // Which rule it is.
+        // Which rule that is, from the entry alone.
         ensures step { Answers (λ b. b) result
             (unless (first_fault entry) (chain_of kind timestamp beta0 (entry ∷ []))) }
     {
@@ -67,15 +67,15 @@ impl Beacon {
         })
     }
 
-    /// The beacon with one more entry, by which the AS passes it on.
+    /// The beacon with one more entry, by which the entry's AS passes it on.
     ///
-    /// The first of these refusals: [`SegmentFault::TooLong`] if the beacon has 62 entries,
-    /// [`SegmentFault::BadEnds`] if the entry has no way in or no way out,
-    /// [`SegmentFault::Loop`] if its AS stands in the beacon already.
+    /// The first of these refusals is returned: [`SegmentFault::TooLong`] if the beacon has 62
+    /// entries, [`SegmentFault::BadEnds`] if the entry has no way in or no way out,
+    /// [`SegmentFault::Loop`] if the beacon already has an entry of its AS.
     pub fn with_entry(&self, alloc: Global, entry: Entry) -> Result<Beacon, SegmentError>
-        // It is the beacon of these entries, or the rule that they would break.
+        // The beacon of these entries, or the first rule that they break.
         ensures whole { Answers (λ b. b) result (beacon_of (with_last self.now entry)) }
-        // Which rule it is.
+        // Which rule that is, from the new entry.
         ensures step { Answers (λ b. b) result
             (unless (next_fault self.now.entries entry) (with_last self.now entry)) }
     {
@@ -93,12 +93,12 @@ impl Beacon {
 
     /// The segment that ends with this entry.
     ///
-    /// The first of these refusals: [`SegmentFault::BadEnds`] if the entry has no way in, or a
-    /// way out, [`SegmentFault::Loop`] if its AS stands in the beacon already.
+    /// The first of these refusals is returned: [`SegmentFault::BadEnds`] if the entry has no way
+    /// in or has a way out, [`SegmentFault::Loop`] if the beacon already has an entry of its AS.
     pub fn finish(&self, alloc: Global, entry: Entry) -> Result<Segment, SegmentError>
-        // It is the segment of these entries, or the rule that they would break.
+        // The segment of these entries, or the first rule that they break.
         ensures whole { Answers (λ s. s) result (segment_of (with_last self.now entry)) }
-        // Which rule it is.
+        // Which rule that is, from the new entry.
         ensures step { Answers (λ s. s) result
             (unless (last_fault self.now.entries entry) (with_last self.now entry)) }
     {
@@ -114,14 +114,14 @@ impl Beacon {
         })
     }
 
-    /// Whether it has 62 entries, so that it can end and not be passed on.
+    /// Whether it has 62 entries, so that it can only be ended and not be passed on.
     pub fn is_full(&self) -> bool
         ensures { result ≡ nat_le 62 (length self.now.entries) }
     {
         self.entries.len() >= MAX_BEACON_LEN
     }
 
-    /// The same beacon once more.
+    /// A copy of this beacon.
     pub fn try_clone(&self, alloc: Global) -> Result<Beacon, AllocError>
         ensures { IfOk result (λ b. b ≡ self.now) }
     {
@@ -134,8 +134,7 @@ impl Beacon {
         })
     }
 
-    /// Whether the other is the same beacon: of the same kind, timestamp, first accumulator and
-    /// entries.
+    /// Whether both beacons have the same kind, timestamp, first accumulator and entries.
     pub fn is_same(&self, other: &Beacon) -> bool
         ensures { IsTrue result ↔ (self.now ≡ other.now) }
     {
@@ -145,21 +144,21 @@ impl Beacon {
             && are_same(&self.entries, &other.entries)
     }
 
-    /// What kind of links it follows.
+    /// The kind of links that it follows.
     pub fn kind(&self) -> SegKind
         ensures { result ≡ self.now.kind }
     {
         self.kind
     }
 
-    /// When it was made, in seconds.
+    /// When it was begun, in seconds.
     pub fn timestamp(&self) -> u32
         ensures { result ≡ self.now.timestamp }
     {
         self.timestamp
     }
 
-    /// The accumulator with which its first hop is authenticated.
+    /// The accumulator under which its first hop is authenticated.
     pub fn beta0(&self) -> u16
         ensures { result ≡ self.now.beta0 }
     {
@@ -175,8 +174,8 @@ impl Beacon {
         &self.entries
     }
 
-    /// The accumulator with which the entry at place `i` is authenticated, or after the last entry
-    /// the one for the entry to come.
+    /// The accumulator under which the entry at place `i` is authenticated; at the place after the
+    /// last entry, the accumulator for the next entry.
     pub fn beta_at(&self, i: usize) -> u16
         requires { i ≤ length self.now.entries }
         ensures { result ≡ beta_of self.now i }

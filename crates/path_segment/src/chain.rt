@@ -6,7 +6,7 @@ use crate::entry::Entry;
 use hop_mac::{expiry, hop_is_live, next_beta};
 use std::alloc::{AllocError, Global};
 
-/// The accumulator after the authenticators of these entries.
+/// The accumulator after these entries, if it is `beta0` before them.
 pub(crate) fn beta_after_all(beta0: u16, entries: &[Entry]) -> u16
     ensures { result ≡ beta_over beta0 entries.now }
 {
@@ -17,7 +17,7 @@ pub(crate) fn beta_after_all(beta0: u16, entries: &[Entry]) -> u16
     beta
 }
 
-/// The half second at which the first of these entries expires.
+/// The earliest expiry of these entries, in half seconds.
 pub(crate) fn least_expiry_of(timestamp: u32, entries: &[Entry]) -> u64
     requires { 0 < length entries.now }
     ensures { IsLeastExpiry timestamp entries.now result }
@@ -40,7 +40,7 @@ pub(crate) fn are_live(timestamp: u32, entries: &[Entry], now: u32) -> bool
         .all(|entry| hop_is_live(timestamp, entry.exp_time, now))
 }
 
-/// The same entries once more.
+/// A copy of these entries.
 pub(crate) fn clone_entries(alloc: Global, entries: &[Entry]) -> Result<Vec<Entry>, AllocError>
     ensures { IfOk result (λ copy. copy.items ≡ entries.now) }
 {
@@ -49,7 +49,7 @@ pub(crate) fn clone_entries(alloc: Global, entries: &[Entry]) -> Result<Vec<Entr
     Ok(copy)
 }
 
-/// The same entries and one more at the end.
+/// A copy of these entries with one more at the end.
 pub(crate) fn with_one_more(
     alloc: Global,
     entries: &[Entry],
@@ -63,7 +63,7 @@ pub(crate) fn with_one_more(
     Ok(more)
 }
 
-/// Whether these are the same entries in the same order.
+/// Whether both are the same entries in the same order.
 pub(crate) fn are_same(entries: &[Entry], others: &[Entry]) -> bool
     ensures { IsTrue result ↔ (entries.now ≡ others.now) }
 {

@@ -18,10 +18,10 @@ pub enum SegmentFault {
     /// out, or another entry has none.
     #[error("an interface is 0 exactly where a segment begins or ends")]
     BadEnds,
-    /// An AS stands in two entries.
+    /// Two entries are of one AS.
     #[error("an AS stands in two entries")]
     Loop,
-    /// The text is not JSON, or not of the form of a segment.
+    /// The text is not JSON, or does not have the form of a segment.
     #[error("the text is not a segment in JSON")]
     NotJson,
 }
@@ -54,7 +54,7 @@ impl SegmentFault {
     }
 }
 
-/// Why a call that takes memory gave no beacon or segment.
+/// Why a call that takes memory returned no beacon or segment.
 pub type SegmentError = OrMemory<SegmentFault>;
 
 impl From<SegmentFault> for OrMemory<SegmentFault> {

@@ -1,4 +1,4 @@
-/// What kind of links a segment follows.
+/// The kind of links that a segment follows.
 #[derive(Clone, Copy, Debug, PartialEq, Eq)]
 pub enum SegKind {
     /// Links between core ASes.

@@ -9,8 +9,8 @@ ghost use Rattle.path_segment.specs.Chain.{Chain, with_last, beta_of, IsLeastExp
 ghost use Rattle.path_segment.specs.Tests.{is_live, is_same, same_kind};
 ghost use Rattle.path_segment.specs.Rules.{AreOfBeacon, AreOfSegment, beacon_fault, next_fault, last_fault, segment_fault};
 
-/// The first accumulator is the one that was chosen, each next one is the step of the one before by
-/// the authenticator of its entry, and a further entry changes none of them.
+/// The first accumulator of a chain is `beta0`; each further one comes from the one before and the
+/// authenticator of its entry. A further entry at the end changes none of them.
 pub fn accumulators_are_chained()
     ensures first { (chain : Chain) → beta_of chain 0 ≡ chain.beta0 }
     ensures next { (chain : Chain) (i : ℕ) (entry : Entry) → slice_get chain.entries i ≡ Some entry
@@ -19,14 +19,14 @@ pub fn accumulators_are_chained()
         → beta_of (with_last chain entry) i ≡ beta_of chain i }
 {}
 
-/// The tests of the rules find no fault exactly where the rules hold in plain facts.
+/// The tests of the rules find no fault if and only if the rules hold.
 pub fn rules_are_kept()
     ensures beacon { (entries : List Entry) → (beacon_fault entries ≡ None) ↔ AreOfBeacon entries }
     ensures segment { (entries : List Entry) → (segment_fault entries ≡ None)
         ↔ AreOfSegment entries }
 {}
 
-/// Entries have one least expiry, and all are live exactly up to it.
+/// Entries have exactly one earliest expiry, and all of them are live up to it and not after it.
 pub fn live_up_to_least_expiry()
     ensures one { (timestamp least other : ℕ) (entries : List Entry)
         → IsLeastExpiry timestamp entries least → IsLeastExpiry timestamp entries other → least
@@ -36,14 +36,14 @@ pub fn live_up_to_least_expiry()
         → All (λ entry. IsLive timestamp entry.exp_time now) entries ↔ (2 * now ≤ least) }
 {}
 
-/// The tests of liveness, of kinds and of sameness in plain facts.
+/// What the tests of liveness and of equality mean.
 pub fn tests_are_plain()
     ensures live { (now : ℕ) (chain : Chain) → IsTrue (is_live now chain) ↔ AreLive chain now }
     ensures kind { (one other : SegKind) → IsTrue (same_kind one other) ↔ (one ≡ other) }
     ensures same { (one other : Chain) → IsTrue (is_same one other) ↔ (one ≡ other) }
 {}
 
-/// Of an entry behind those of a beacon only that entry is left to look at.
+/// If a beacon's entries keep the rules, only the new entry has to be checked when one is added.
 pub fn the_new_entry_alone_is_judged()
     ensures next { (entries : List Entry) (entry : Entry) → beacon_fault entries ≡ None
         → next_fault entries entry ≡ beacon_fault (entries ++ (entry ∷ [])) }
@@ -51,7 +51,7 @@ pub fn the_new_entry_alone_is_judged()
         → last_fault entries entry ≡ segment_fault (entries ++ (entry ∷ [])) }
 {}
 
-/// Every accumulator of a chain has 16 bits, where the first has and the authenticators are of
+/// Every accumulator of a chain has 16 bits, if the first has and the authenticators consist of
 /// bytes.
 pub fn accumulators_are_small()
     ensures { (chain : Chain) (i : ℕ) → chain.beta0 < 2 ^ 16

@@ -1,8 +1,10 @@
-//! Path segments: what beaconing makes, path servers keep and paths are cut from.
+//! Path segments: beaconing makes them, path servers store them, and paths are made of pieces of
+//! them.
 //!
 //! A segment is a list of entries, one for each AS that it passes, in the direction in which it was
-//! made, each with the AS's authenticator of its hop. A beacon is a segment under way. Both keep
-//! the rules of segments, so no value breaks them; a segment is written to JSON and read from it.
+//! made. Each entry has its AS's authenticator of the hop. A beacon is a segment under way. Types
+//! keep the rules of both, so that no value breaks them. Segments are written to JSON and read from
+//! it.
 #![tactic(auto)]
 
 mod beacon;

@@ -31,8 +31,8 @@ impl Segment {
         Segment::from_value(alloc, &value)
     }
 
-    /// The segment that a JSON value describes, as [`Segment::from_json`] has it, with the same
-    /// refusals.
+    /// The segment that a JSON value describes, in the form and with the refusals of
+    /// [`Segment::from_json`].
     #[tactic(auto, unfolding(crate::specs::Reading::chain_at))]
     pub fn from_value(alloc: Global, value: &Value) -> Result<Segment, SegmentError>
         ensures { Reads (λ s. s) result (judged (chain_at (view value.now))) }
@@ -46,7 +46,7 @@ impl Segment {
     }
 }
 
-/// An entry.
+/// The entry of a JSON object.
 #[tactic(auto, unfolding(crate::specs::Reading::entry_at))]
 fn entry_of(value: &Value) -> Option<Entry>
     ensures { result ≡ entry_at (view value.now) }
@@ -65,7 +65,7 @@ fn entry_of(value: &Value) -> Option<Entry>
     })
 }
 
-/// A member that is an address.
+/// A member whose value is an address.
 #[tactic(auto, unfolding(crate::specs::Reading::address_in))]
 fn address(value: &Value, name: &str) -> Option<IsdAs>
     ensures { result ≡ address_in name.now (view value.now) }
@@ -74,7 +74,7 @@ fn address(value: &Value, name: &str) -> Option<IsdAs>
     IsdAs::parse(text).ok()
 }
 
-/// A member that is an authenticator in hexadecimal.
+/// A member whose value is an authenticator in hexadecimal.
 #[tactic(auto, unfolding(crate::specs::Reading::mac_at))]
 fn mac(value: &Value, name: &str) -> Option<[u8; 6]>
     ensures { result ≡ mac_at name.now (view value.now) }
@@ -83,7 +83,7 @@ fn mac(value: &Value, name: &str) -> Option<[u8; 6]>
     <[u8; 6] as FromHex>::from_hex(text).ok()
 }
 
-/// A member that is the name of a kind.
+/// A member whose value is the name of a kind.
 #[tactic(auto, unfolding(crate::specs::Reading::kind_at))]
 fn kind(value: &Value, name: &str) -> Option<SegKind>
     ensures { result ≡ kind_at name.now (view value.now) }

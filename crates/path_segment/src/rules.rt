@@ -6,13 +6,13 @@ use crate::entry::Entry;
 use crate::fault::SegmentFault;
 use isd_as::{IfId, IsdAs};
 
-/// The most entries of a beacon: one less than of a segment, which has its last AS besides.
+/// The largest number of entries of a beacon. A segment may have one more: that of its last AS.
 pub(crate) const MAX_BEACON_LEN: usize = 62;
 
-/// The most entries of a segment.
+/// The largest number of entries of a segment.
 const MAX_SEGMENT_LEN: usize = 63;
 
-/// The first rule that a segment of these entries would break.
+/// The first rule that a segment of these entries breaks.
 #[tactic(auto, unfolding(crate::specs::Rules::segment_fault))]
 pub(crate) fn fault_of_segment(entries: &[Entry]) -> Option<SegmentFault>
     ensures { result ≡ segment_fault entries.now }
@@ -30,7 +30,7 @@ pub(crate) fn fault_of_segment(entries: &[Entry]) -> Option<SegmentFault>
     }
 }
 
-/// The first rule that a beacon of this one entry would break.
+/// The first rule that a beacon of this one entry breaks.
 #[tactic(auto, unfolding(crate::specs::Rules::first_fault, crate::specs::Rules::beacon_fault))]
 pub(crate) fn fault_of_first(entry: &Entry) -> Option<SegmentFault>
     ensures step { result ≡ first_fault entry.now }
@@ -43,8 +43,8 @@ pub(crate) fn fault_of_first(entry: &Entry) -> Option<SegmentFault>
     }
 }
 
-/// The first rule that a beacon of these entries would break with this entry more. Of a beacon only
-/// the new entry is left to look at.
+/// The first rule that a beacon breaks if this entry is added. Its other entries keep the rules, so
+/// only the new entry is checked.
 pub(crate) fn fault_of_next(entries: &[Entry], entry: &Entry) -> Option<SegmentFault>
     requires { beacon_fault entries.now ≡ None }
     ensures step { result ≡ next_fault entries.now entry.now }
@@ -68,8 +68,8 @@ fn fault_at_next(entries: &[Entry], entry: &Entry) -> Option<SegmentFault>
     }
 }
 
-/// The first rule that a beacon of these entries would break if it ended with this entry. Of a
-/// beacon only the new entry is left to look at.
+/// The first rule that a segment breaks that consists of a beacon's entries and this last one. The
+/// beacon's entries keep the rules, so only the new entry is checked.
 pub(crate) fn fault_of_last(entries: &[Entry], entry: &Entry) -> Option<SegmentFault>
     requires { beacon_fault entries.now ≡ None }
     ensures step { result ≡ last_fault entries.now entry.now }
@@ -91,28 +91,28 @@ fn fault_at_last(entries: &[Entry], entry: &Entry) -> Option<SegmentFault>
     }
 }
 
-/// Whether an entry has an interface to the AS before.
+/// Whether an entry has an interface towards the entry before it.
 fn comes_in(entry: &Entry) -> bool
     ensures { result ≡ has_way_in entry.now }
 {
     entry.cons_ingress != IfId::NONE
 }
 
-/// Whether an entry has an interface to the AS after.
+/// Whether an entry has an interface towards the entry after it.
 fn goes_out(entry: &Entry) -> bool
     ensures { result ≡ has_way_out entry.now }
 {
     entry.cons_egress != IfId::NONE
 }
 
-/// Whether each entry has an interface to the AS before.
+/// Whether each entry has an interface towards the entry before it.
 fn are_all_coming_in(entries: &[Entry]) -> bool
     ensures { result ≡ list_all has_way_in entries.now }
 {
     entries.iter().all(|entry| comes_in(entry))
 }
 
-/// Whether the first entry has no way in, and each later one has one.
+/// Whether the first entry has no way in, and each later one has a way in.
 fn do_begin_well(entries: &[Entry]) -> bool
     ensures { result ≡ begins_well entries.now }
 {
@@ -122,7 +122,7 @@ fn do_begin_well(entries: &[Entry]) -> bool
     }
 }
 
-/// Whether the last entry has no way out, and each earlier one has one.
+/// Whether the last entry has no way out, and each earlier one has a way out.
 fn do_end_well(entries: &[Entry]) -> bool
     ensures { result ≡ ends_well entries.now }
 {
@@ -140,7 +140,7 @@ fn is_in(entries: &[Entry], ia: IsdAs) -> bool
     entries.iter().any(|entry| entry.ia == ia)
 }
 
-/// Whether an AS stands in two entries.
+/// Whether two entries are of one AS.
 fn is_any_named_twice(entries: &[Entry]) -> bool
     ensures { result ≡ names_twice entries.now }
 {

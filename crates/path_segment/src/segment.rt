@@ -14,8 +14,8 @@ use std::marker::Model;
 
 /// A path segment: 2 to 63 entries, in the direction in which it was made.
 ///
-/// Its type keeps the rules: only the first entry has no way in, only the last no way out, and no
-/// AS stands in it twice.
+/// Its type keeps the rules: only the first entry has no way in, only the last has no way out, and
+/// no two entries are of one AS.
 #[derive(Debug, Drop)]
 pub struct Segment {
     pub(crate) kind: SegKind,
@@ -36,25 +36,25 @@ impl Model for Segment {
 }
 
 impl Segment {
-    /// The segment of these parts: `timestamp` is in seconds, and `beta0` the accumulator with
+    /// The segment of these parts. `timestamp` is in seconds; `beta0` is the accumulator under
     /// which the first hop is authenticated.
     ///
-    /// The first of these refusals: [`SegmentFault::TooShort`] for fewer than 2 entries,
-    /// [`SegmentFault::TooLong`] for more than 63, [`SegmentFault::BadEnds`] if the first entry
-    /// has a way in or a later one none, or the last a way out or an earlier one none,
-    /// [`SegmentFault::Loop`] if an AS stands in two entries.
+    /// The first of these refusals is returned: [`SegmentFault::TooShort`] for fewer than 2
+    /// entries; [`SegmentFault::TooLong`] for more than 63; [`SegmentFault::BadEnds`] if the first
+    /// entry has a way in or a later one has none, or if the last has a way out or an earlier one
+    /// has none; [`SegmentFault::Loop`] if two entries are of one AS.
     pub fn new(
         kind: SegKind,
         timestamp: u32,
         beta0: u16,
         entries: Vec<Entry>,
     ) -> Result<Segment, SegmentFault>
-        // Only entries that keep the rules are built.
+        // The entries of a segment that is returned keep the rules.
         ensures found { OnOk result (AreOfSegment entries.items) }
-        // What keeps the rules is built.
+        // If the entries keep the rules, the segment is returned.
         ensures only { AreOfSegment entries.items
             → result ≡ Ok (chain_of kind timestamp beta0 entries.items) }
-        // Which refusal it is.
+        // The exact result, with its refusal.
         ensures exact { result ≡ segment_of (chain_of kind timestamp beta0 entries.items) }
     {
         match fault_of_segment(&entries) {
@@ -68,7 +68,7 @@ impl Segment {
         }
     }
 
-    /// The same segment once more.
+    /// A copy of this segment.
     pub fn try_clone(&self, alloc: Global) -> Result<Segment, AllocError>
         ensures { IfOk result (λ s. s ≡ self.now) }
     {
@@ -81,8 +81,7 @@ impl Segment {
         })
     }
 
-    /// Whether the other is the same segment: of the same kind, timestamp, first accumulator and
-    /// entries.
+    /// Whether both segments have the same kind, timestamp, first accumulator and entries.
     pub fn is_same(&self, other: &Segment) -> bool
         ensures fact { IsTrue result ↔ (self.now ≡ other.now) }
         ensures test { result ≡ is_same self.now other.now }
@@ -90,7 +89,7 @@ impl Segment {
         self.has_parts_of(other)
     }
 
-    /// Whether it has the parts of the other.
+    /// Whether both segments have the same parts.
     fn has_parts_of(&self, other: &Segment) -> bool
         ensures { IsTrue result ↔ (self.now ≡ other.now) }
     {
@@ -100,21 +99,21 @@ impl Segment {
             && are_same(&self.entries, &other.entries)
     }
 
-    /// What kind of links it follows.
+    /// The kind of links that it follows.
     pub fn kind(&self) -> SegKind
         ensures { result ≡ self.now.kind }
     {
         self.kind
     }
 
-    /// When it was made, in seconds.
+    /// When its beacon was begun, in seconds.
     pub fn timestamp(&self) -> u32
         ensures { result ≡ self.now.timestamp }
     {
         self.timestamp
     }
 
-    /// The accumulator with which its first hop is authenticated.
+    /// The accumulator under which its first hop is authenticated.
     pub fn beta0(&self) -> u16
         ensures { result ≡ self.now.beta0 }
     {
@@ -152,8 +151,8 @@ impl Segment {
         }
     }
 
-    /// The accumulator with which the entry at place `i` is authenticated, or after the last entry
-    /// the one that all authenticators leave.
+    /// The accumulator under which the entry at place `i` is authenticated; at the place after the
+    /// last entry, the accumulator after all entries.
     pub fn beta_at(&self, i: usize) -> u16
         requires { i ≤ length self.now.entries }
         ensures { result ≡ beta_of self.now i }
@@ -161,8 +160,8 @@ impl Segment {
         beta_after_all(self.beta0, &self.entries[..i])
     }
 
-    /// The moment, in half seconds, at which the first of the hops from place `a` to place `b`
-    /// expires, both included.
+    /// The earliest expiry, in half seconds, of the hops from place `a` to place `b`, both
+    /// included.
     pub fn least_expiry(&self, a: usize, b: usize) -> u64
         requires order { a ≤ b }
         requires within { b < length self.now.entries }
@@ -179,7 +178,7 @@ impl Segment {
         self.is_each_hop_live(now)
     }
 
-    /// Whether each of its hops is live at the second `now`.
+    /// Whether every hop is live at the second `now`.
     fn is_each_hop_live(&self, now: u32) -> bool
         ensures { IsTrue result ↔ AreLive self.now now }
     {

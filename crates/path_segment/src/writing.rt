@@ -17,7 +17,7 @@ use serde_json::{Value, json};
 use std::alloc::{AllocError, Global};
 
 impl Segment {
-    /// The segment as one line of JSON without blanks, the names in ascending order.
+    /// The segment as JSON without white space, in one line, with the names in ascending order.
     ///
     /// [`Segment::from_json`] gives the segment back.
     pub fn to_json(&self, alloc: Global) -> Result<String, AllocError>
@@ -40,7 +40,7 @@ fn name_of(kind: SegKind) -> &'static str
     }
 }
 
-/// The canonical text of an address, which is read as it again.
+/// The canonical text of an address; reading it gives the address back.
 fn address_text(alloc: Global, ia: &IsdAs) -> Result<String, AllocError>
     ensures text { IfOk result (λ text. string_bytes text ≡ canonical ia.now) }
     ensures again { IfOk result (λ _. address_at (canonical ia.now) ≡ Ok ia.now) }
@@ -51,7 +51,7 @@ fn address_text(alloc: Global, ia: &IsdAs) -> Result<String, AllocError>
     Ok(text)
 }
 
-/// An authenticator in lower-case hexadecimal, which is read as it again.
+/// An authenticator in lower-case hexadecimal; reading it gives the authenticator back.
 fn mac_text(alloc: Global, mac: &[u8]) -> Result<String, AllocError>
     requires { length mac.now ≡ 6 }
     ensures text { IfOk result (λ text. string_bytes text ≡ encode_lower mac.now) }
@@ -61,7 +61,7 @@ fn mac_text(alloc: Global, mac: &[u8]) -> Result<String, AllocError>
     Ok(text)
 }
 
-/// An entry as a JSON value, which is read as it again.
+/// An entry as a JSON value; reading it gives the entry back.
 #[tactic(auto, unfolding(crate::specs::Text::entry_data))]
 fn entry_value(alloc: Global, entry: &Entry) -> Result<Value, AllocError>
     ensures value { IfOk result (λ v. view v ≡ entry_data entry.now) }
@@ -77,7 +77,7 @@ fn entry_value(alloc: Global, entry: &Entry) -> Result<Value, AllocError>
     Ok(value)
 }
 
-/// The entries as a list of JSON values, which is read as them again.
+/// The entries as a list of JSON values; reading it gives the entries back.
 fn entries_value(alloc: Global, entries: &[Entry]) -> Result<Value, AllocError>
     ensures value { IfOk result (λ v. view v ≡ array (items_of (map entry_data entries.now))) }
     ensures again { IfOk result
@@ -91,7 +91,7 @@ fn entries_value(alloc: Global, entries: &[Entry]) -> Result<Value, AllocError>
     Ok(Value::Array(values))
 }
 
-/// A segment as a JSON value, which is read as it again.
+/// A segment as a JSON value; reading it gives the segment back.
 #[tactic(auto, unfolding(crate::specs::Text::segment_data))]
 fn value_of(alloc: Global, segment: &Segment) -> Result<Value, AllocError>
     ensures value { IfOk result (λ v. view v ≡ segment_data segment.now) }

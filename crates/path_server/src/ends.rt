@@ -5,8 +5,8 @@ ghost use Rattle.path_server.specs.Index.{number_of, rank_between, rank, rank_at
 use path_segment::{SegKind, Segment};
 use std::cmp::Ordering;
 
-/// The ends of segments, as an index orders them: by kind, core segments first, then by the AS in
-/// which they end, and then by that in which they begin.
+/// The ends of segments as an index orders them: by kind, core segments first, then by the last AS,
+/// then by the first AS.
 #[derive(Clone, Copy)]
 pub(crate) struct Ends {
     kind: SegKind,
@@ -14,7 +14,7 @@ pub(crate) struct Ends {
 }
 
 impl Ends {
-    /// Those of the segments of a kind from one AS to another, of these numbers.
+    /// The ends of the segments of a kind from one AS to another; both ASes are given as numbers.
     #[tactic(auto, unfolding(crate::specs::Index::rank_between))]
     pub(crate) fn new(kind: SegKind, first: u64, last: u64) -> Ends
         ensures { number_of result ≡ rank_between kind first last }
@@ -23,7 +23,7 @@ impl Ends {
         Ends { kind, ases }
     }
 
-    /// Those of a segment.
+    /// The ends of a segment.
     pub(crate) fn of(segment: &Segment) -> Ends
         ensures number { number_of result ≡ rank segment.now }
         ensures addresses { HasAddresses segment.now }
@@ -32,7 +32,7 @@ impl Ends {
         Ends::new(segment.kind(), first, last)
     }
 
-    /// Those of the segment at a place, and the least where there is none.
+    /// The ends of the segment at a place, or the least ends if there is no such segment.
     fn at(segments: &[Segment], place: usize) -> Ends
         ensures { number_of result ≡ rank_at segments.now place }
     {
@@ -45,7 +45,7 @@ impl Ends {
         }
     }
 
-    /// Whether these stand before the others.
+    /// Whether these ends come before the others.
     fn is_below(self, others: Ends) -> bool
         ensures { result ≡ nat_lt (number_of self) (number_of others) }
     {

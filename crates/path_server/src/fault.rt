@@ -37,5 +37,5 @@ impl StoreFault {
     }
 }
 
-/// Why a path store did not take a segment: running out of memory, or a refusal.
+/// Why a path store did not take a segment: memory ran out, or a refusal.
 pub type StoreError = OrMemory<StoreFault>;

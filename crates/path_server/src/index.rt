@@ -1,4 +1,4 @@
-//! The index of a list of segments: their places, by their ends and registration.
+//! The index of a list of segments: their places, ordered by ends and then by registration.
 
 ghost use Rattle.std.specs.Prelude.{◌≡◌, ◌≤◌, ◌<◌, ℕ, length, filter, vec_len};
 ghost use Rattle.std.specs.List.{AllWithin, range_with_len};
@@ -23,7 +23,7 @@ pub(crate) fn range<'a>(
     &rest[..end_near(segments, rest, high)]
 }
 
-/// How many places have segments with ends below these.
+/// The number of places whose segments have ends below these.
 fn start_of(segments: &[Segment], index: &[usize], ends: Ends) -> usize
     requires { IsIndex segments.now index.now }
     ensures within { result ≤ length index.now }
@@ -35,7 +35,7 @@ fn start_of(segments: &[Segment], index: &[usize], ends: Ends) -> usize
     index.partition_point(|place| is_below(segments, *place, ends))
 }
 
-/// How many places have segments with these ends or ends below them.
+/// The number of places whose segments have these ends or ends below them.
 pub(crate) fn end_of(segments: &[Segment], index: &[usize], ends: Ends) -> usize
     requires { IsNonDecreasingBy (order_at segments.now) index.now }
     ensures within { result ≤ length index.now }
@@ -47,7 +47,7 @@ pub(crate) fn end_of(segments: &[Segment], index: &[usize], ends: Ends) -> usize
     index.partition_point(|place| !is_above(segments, *place, ends))
 }
 
-/// The same, without a search where the first place is already above these ends.
+/// The same as `end_of`, without a search if the first place is already above these ends.
 fn end_near(segments: &[Segment], index: &[usize], ends: Ends) -> usize
     requires { IsNonDecreasingBy (order_at segments.now) index.now }
     ensures within { result ≤ length index.now }
@@ -62,8 +62,7 @@ fn end_near(segments: &[Segment], index: &[usize], ends: Ends) -> usize
     }
 }
 
-/// Rebuilds `index` for these segments. It must have at least as many entries as there are
-/// segments.
+/// Rebuilds `index` for these segments. It needs an entry for each segment, and may have more.
 pub(crate) fn rebuild(segments: &[Segment], index: &mut Vec<usize>)
     requires { length segments.now ≤ vec_len index.old }
     ensures each { HasEachPlace segments.now index.new.items }

@@ -6,14 +6,14 @@ ghost use Rattle.path_server.specs.Segment.{is_alike};
 ghost use Rattle.path_server.specs.Store.{Operation, answer_to, IsAnswer, registered, swept, expired_count, after, store_of};
 ghost use Rattle.path_server.specs.Lookup.{segments_for, LeadsTo, IsReached, LeadsBetween};
 
-/// Which segments are counted together, in plain facts.
+/// What `is_alike` means: equal kinds, first ASes and last ASes.
 pub fn alike_is_plain()
     ensures { (one other : Chain) → IsTrue (is_alike one other)
         ↔ ((one.kind ≡ other.kind) × (first_as one ≡ first_as other)
         × (last_as one ≡ last_as other)) }
 {}
 
-/// What registering a segment answers, in plain facts.
+/// What the answers of registering mean.
 pub fn answers_are_plain()
     ensures { (segments : List Chain) (segment : Chain) (now : ℕ)
         → IsAnswer segments segment now (answer_to segments segment now) }
@@ -28,7 +28,7 @@ pub fn registering_adds_the_segment_alone()
         ⊎ (segment ≡ other) }
 {}
 
-/// What a sweep keeps is what is live, and a further one at the same second takes nothing out.
+/// A sweep keeps exactly the live segments, and another one at the same second removes nothing.
 pub fn sweeps_keep_the_live()
     ensures kept { (segments : List Chain) (now : ℕ) (segment : Chain)
         → Contains (swept segments now) segment
@@ -38,8 +38,8 @@ pub fn sweeps_keep_the_live()
     ensures none { (segments : List Chain) (now : ℕ) → expired_count (swept segments now) now ≡ 0 }
 {}
 
-/// In a store that operations made no two segments are equal, and at most 32 are of one kind, first
-/// AS and last AS.
+/// In a store that operations made, no two segments are equal, and at most 32 have the same kind,
+/// first AS and last AS.
 pub fn stores_are_bounded()
     ensures distinct { (operations : List Operation)
         → AllPairs (λ one other. one ≢ other) (store_of operations) }
@@ -47,13 +47,13 @@ pub fn stores_are_bounded()
         → count_by (is_alike segment) (store_of operations) ≤ 32 }
 {}
 
-/// Further operations go on from the store that those before made.
+/// Further operations start from the store that the operations before made.
 pub fn stores_go_on()
     ensures { (operations more : List Operation) → store_of (operations ++ more)
         ≡ fold after (store_of operations) more }
 {}
 
-/// What a look-up gives, in plain facts.
+/// What a lookup returns.
 pub fn selections_are_plain()
     ensures ups { (segments : List Chain) (src dst now : ℕ) (segment : Chain)
         → Contains (segments_for segments src dst now).ups segment

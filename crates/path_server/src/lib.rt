@@ -1,8 +1,8 @@
-//! A path store: the path segments that are known, and which of them a look-up gives.
+//! A path store: the known path segments, and the lookup of those for a source and a destination.
 //!
-//! The store is a list in order of registration. It takes in no segment that has expired, none
-//! twice and at most 32 of one kind from one AS to another. A look-up copies the live segments by
-//! which paths between two ASes can be made; an index of their ends finds them.
+//! The store is a list in the order of registration. It takes no segment that has expired, none
+//! twice, and at most 32 of one kind from one AS to another. A lookup copies the live segments of
+//! which paths between two ASes can be made. An index of the segments' ends finds them.
 #![tactic(auto)]
 
 mod ends;

@@ -1,4 +1,4 @@
-//! Which segments a look-up gives, found by the index, and copies of them.
+//! The segments that a lookup returns, found by the index, and copies of them.
 
 ghost use Rattle.std.specs.Prelude.{◌≡◌, ◌++◌, ℕ, filter, IfOk, OnOk};
 ghost use Rattle.std.specs.List.{flat_map};
@@ -13,7 +13,7 @@ use isd_as::IsdAs;
 use path_segment::{SegKind, Segment};
 use std::alloc::{AllocError, Global};
 
-/// The same segments once more.
+/// Copies of these segments.
 pub(crate) fn clone_segments(
     alloc: Global,
     segments: &[Segment],
@@ -65,7 +65,7 @@ pub(crate) fn ending_in(
     clone_segments_at(alloc, segments, &places)
 }
 
-/// The numbers of the ASes of a side of a path: its own, and those in which its segments begin.
+/// The numbers of the ASes on one side of a path: its end, and those in which its segments begin.
 pub(crate) fn ases_reached(
     alloc: Global,
     ia: IsdAs,
@@ -84,8 +84,8 @@ pub(crate) fn ases_reached(
     Ok(ases)
 }
 
-/// Copies of the live core segments from the ASes of one side to those of the other, either way
-/// round, by the numbers of the ASes.
+/// Copies of the live core segments between the ASes of one side and those of the other, in either
+/// direction; the ASes are given as numbers.
 pub(crate) fn core_segments_between(
     alloc: Global,
     segments: &[Segment],
@@ -106,7 +106,7 @@ pub(crate) fn core_segments_between(
     clone_segments_at(alloc, segments, &places)
 }
 
-/// Adds the places of the live core segments between an AS and others, either way round.
+/// Adds the places of the live core segments between an AS and others, in either direction.
 fn add_joining(
     places: &mut Vec<usize>,
     segments: &[Segment],
@@ -128,7 +128,7 @@ fn add_joining(
     Ok(())
 }
 
-/// Adds those of some places whose segments are live.
+/// Adds the places among these whose segments are live.
 fn add_live(
     places: &mut Vec<usize>,
     segments: &[Segment],
@@ -156,7 +156,7 @@ fn is_live_at(segments: &[Segment], place: usize, now: u32) -> bool
     }
 }
 
-/// Puts places in order of registration, each once.
+/// Puts places into the order of registration, without duplicates.
 fn put_in_order(places: &mut Vec<usize>)
     ensures rises { IsStrictlyIncreasing places.new.items }
     ensures same { (place : ℕ) → is_in places.new.items place ≡ is_in places.old.items place }

@@ -1,10 +1,10 @@
 use path_segment::Segment;
 
-/// What is done to a store, and at which second.
+/// An operation on a store, with the second at which it happens.
 #[derive(Debug, Drop)]
 pub enum StoreOp {
-    /// Takes a segment in, unless the store refuses it.
+    /// Stores the segment, unless the store refuses it.
     Register(Segment, u32),
-    /// Takes out what is not live.
+    /// Removes the segments that are not live.
     Sweep(u32),
 }

@@ -1,4 +1,4 @@
-//! What registering a segment answers, from those of its kind and ends.
+//! The answer to a registration, from the segments of the same kind and ends.
 
 ghost use Rattle.std.specs.Prelude.{◌≡◌, count_by, length};
 ghost use Rattle.std.specs.List.{list_any};
@@ -12,10 +12,10 @@ use crate::fault::StoreFault;
 use crate::index::range;
 use path_segment::Segment;
 
-/// The most segments of one kind with the same first and last AS.
+/// The largest number of segments with the same kind, first AS and last AS.
 const MAX_ALIKE: usize = 32;
 
-/// What registering a segment answers, before memory is asked for.
+/// The answer to a registration, before memory is requested.
 #[tactic(auto, unfolding(crate::specs::Store::answer_to))]
 pub(crate) fn answer_to(
     segments: &[Segment],
@@ -39,7 +39,7 @@ pub(crate) fn answer_to(
     }
 }
 
-/// The places of the segments that are of this one's kind, and begin and end where it does.
+/// The places of the segments with this one's kind, first AS and last AS.
 fn same_ends<'a>(segments: &[Segment], index: &'a [usize], segment: &Segment) -> &'a [usize]
     requires { IsIndex segments.now index.now }
     ensures same { list_any (passes_at (is_same segment.now) segments.now) result.now
@@ -50,7 +50,7 @@ fn same_ends<'a>(segments: &[Segment], index: &'a [usize], segment: &Segment) ->
     range(segments, index, ends, ends)
 }
 
-/// Whether an equal segment stands at one of these places.
+/// Whether an equal segment is at one of these places.
 fn is_among(segments: &[Segment], places: &[usize], segment: &Segment) -> bool
     ensures { result ≡ list_any (passes_at (is_same segment.now) segments.now) places.now }
 {
@@ -59,7 +59,7 @@ fn is_among(segments: &[Segment], places: &[usize], segment: &Segment) -> bool
         .any(|place| is_same_at(segments, *place, segment))
 }
 
-/// Whether an equal segment stands at this place.
+/// Whether an equal segment is at this place.
 fn is_same_at(segments: &[Segment], place: usize, segment: &Segment) -> bool
     ensures { result ≡ passes_at (is_same segment.now) segments.now place }
 {

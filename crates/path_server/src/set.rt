@@ -5,8 +5,8 @@ use path_segment::Segment;
 use std::alloc::{AllocError, Global};
 use std::marker::Model;
 
-/// What a look-up gives for a source and a destination: copies of the live segments of which paths
-/// between them can be made, each list in order of registration.
+/// The segments that a lookup found for a source and a destination: copies of the live segments of
+/// which paths between them can be made, each list in the order of registration.
 #[derive(Debug, Drop)]
 pub struct SegmentSet {
     pub(crate) ups: Vec<Segment>,
@@ -36,9 +36,9 @@ impl SegmentSet {
         &self.ups
     }
 
-    /// The core segments, either way round, with one end in the source or where one of
-    /// [`Self::ups`] begins, and the other in the destination or where one of [`Self::downs`]
-    /// begins.
+    /// The core segments with one end on the side of the source and the other end on the side of
+    /// the destination, in either direction. A side is its AS and the ASes in which [`Self::ups`],
+    /// or [`Self::downs`], begin.
     pub fn cores(&self) -> &[Segment]
         ensures { result.now ≡ self.now.cores }
     {
@@ -59,7 +59,7 @@ impl SegmentSet {
         self.moment
     }
 
-    /// The same set once more.
+    /// A copy of this set.
     pub fn try_clone(&self, alloc: Global) -> Result<SegmentSet, AllocError>
         ensures { IfOk result (λ set. set ≡ self.now) }
     {

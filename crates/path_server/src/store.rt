@@ -18,11 +18,10 @@ use refusal::OrMemory;
 use std::alloc::{AllocError, Global};
 use std::marker::Model;
 
-/// The path segments that are known, in order of registration.
+/// The known path segments, in the order of registration.
 ///
-/// Beside them stands an index, by which they are found: their places, ordered by kind, last AS,
-/// first AS and registration. Look-ups of up and down segments know the last AS alone, so it stands
-/// before the first.
+/// An index finds them: it has their places, ordered by kind, last AS, first AS and registration.
+/// Lookups of up and down segments know only the last AS, so the last AS comes before the first.
 #[derive(Debug, Drop)]
 pub struct PathStore {
     segments: Vec<Segment>,
@@ -40,7 +39,7 @@ impl Model for PathStore {
 }
 
 impl PathStore {
-    /// A store with no segments, whose room is taken from `alloc`.
+    /// An empty store; its memory is taken from `alloc`.
     pub fn new(alloc: Global) -> PathStore
         ensures { result ≡ [] }
     {
@@ -50,7 +49,7 @@ impl PathStore {
         }
     }
 
-    /// How many segments there are.
+    /// The number of segments.
     pub fn len(&self) -> usize
         ensures { result ≡ length self.now }
     {
@@ -71,16 +70,16 @@ impl PathStore {
         &self.segments
     }
 
-    /// Takes a segment in at the second `now`, behind the others, and says whether it is new. Where
-    /// an equal one is there nothing changes.
+    /// Registers a segment at the second `now`, at the end of the list, and returns whether it is
+    /// new. If an equal one is there, nothing changes.
     ///
-    /// The first of these refusals, with the segment returned: [`StoreFault::Expired`] if it is not
-    /// live at `now`, [`StoreFault::Full`] if it is new and 32 segments of its kind, first AS and
-    /// last AS are there. Running out of memory hands it back too, and comes only where the segment
-    /// was to be taken in.
+    /// The first of these refusals is returned, together with the segment: [`StoreFault::Expired`]
+    /// if it is not live at `now`; [`StoreFault::Full`] if it is new and the store has 32 segments
+    /// of its kind, first AS and last AS. Running out of memory also returns the segment, and is
+    /// possible only if it was to be stored.
     ///
-    /// It looks at the segments of that kind and those ends alone, and moves the places in the
-    /// index that stand behind the new one.
+    /// It reads only the segments of that kind and those ends, and moves the places in the index
+    /// that come after the new one.
     #[tactic(auto, unfolding(crate::specs::Store::registered))]
     pub fn register(&mut self, segment: Segment, now: u32) -> Result<bool, (Segment, StoreError)>
         ensures answer { Registers segment result (answer_to self.old segment now) }
@@ -97,14 +96,14 @@ impl PathStore {
         }
     }
 
-    /// What registering a segment answers, before memory is asked for.
+    /// The answer to a registration, before memory is requested.
     fn answer_to(&self, segment: &Segment, now: u32) -> Result<bool, StoreFault>
         ensures { result ≡ answer_to self.now segment.now now }
     {
         answer_to(&self.segments, &self.index, segment, now)
     }
 
-    /// Takes a segment in, behind the others. Running out of memory hands it back.
+    /// Adds a segment at the end. If memory runs out, it is returned.
     fn take_in(&mut self, segment: Segment) -> Result<(), Segment>
         ensures taken { OnOk result (self.new ≡ self.old ++ segment ∷ []) }
         ensures kept { OnErr result (self.new ≡ self.old) }
@@ -122,9 +121,9 @@ impl PathStore {
         Ok(())
     }
 
-    /// Takes out the segments that are not live at the second `now`, and says how many they were.
+    /// Removes the segments that are not live at the second `now`, and returns their number.
     ///
-    /// It looks at each segment, sorts the places of those that stay, and takes no memory.
+    /// It reads each segment, sorts the places of those that stay, and takes no memory.
     #[tactic(auto, using(crate::proofs::Counts::left_out), unfolding(crate::specs::Store::swept, crate::specs::Store::expired_count))]
     pub fn sweep(&mut self, now: u32) -> usize
         ensures kept { self.new ≡ swept self.old now }
@@ -136,10 +135,10 @@ impl PathStore {
         before - self.segments.len()
     }
 
-    /// Does one operation. A registration that the store would refuse changes nothing.
+    /// Does one operation. If the store would refuse a registration, nothing changes.
     ///
-    /// Running out of memory comes only where a new segment was to be taken in, of which it keeps a
-    /// copy.
+    /// Running out of memory is possible only if a new segment was to be stored, since the store
+    /// keeps a copy of it.
     pub fn apply(&mut self, alloc: Global, operation: &StoreOp) -> Result<(), AllocError>
         ensures done { OnOk result (self.new ≡ after self.old operation.now) }
         ensures kept { OnErr result (self.new ≡ self.old) }
@@ -154,7 +153,7 @@ impl PathStore {
         }
     }
 
-    /// Takes in a copy of a segment that is new at the second `now`, and no other.
+    /// Stores a copy of a segment if it is new at the second `now`.
     #[tactic(auto, unfolding(crate::specs::Store::registered))]
     fn register_copy(
         &mut self,
@@ -177,13 +176,13 @@ impl PathStore {
 
     /// Copies of the segments of which paths from `src` to `dst` can be made, all live at the
     /// second `now`: the intra segments that end in `src`, those that end in `dst`, and the core
-    /// segments that join the two sides, either way round.
+    /// segments between the two sides, in either direction.
     ///
-    /// To the side of `src` belong it and the ASes in which the segments to it begin, and likewise
-    /// for `dst`.
+    /// The side of `src` is `src` itself and the ASes in which its segments begin; likewise for
+    /// `dst`.
     ///
-    /// It searches the index once for each side, and twice for each AS of one side and each of the
-    /// other; beside that its time and memory grow with the segments that have these ends.
+    /// It searches the index once for each side, and twice for each pair of ASes of both sides.
+    /// Apart from that its time and memory grow with the number of segments that have these ends.
     #[tactic(auto, unfolding(crate::specs::Lookup::segments_for))]
     pub fn segments_for(
         &self,
@@ -209,7 +208,7 @@ impl PathStore {
     }
 }
 
-/// Takes out the segments that are not live at the second `now`.
+/// Removes the segments that are not live at the second `now`.
 fn keep_live(segments: &mut Vec<Segment>, now: u32)
     ensures kept { segments.new.items ≡ filter (is_live now) segments.old.items }
     ensures fewer { vec_len segments.new ≤ vec_len segments.old }

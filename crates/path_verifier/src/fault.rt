@@ -7,33 +7,33 @@ use thiserror::Error;
 /// Why a path may not be sent.
 #[derive(Clone, Copy, Debug, PartialEq, Eq, Error)]
 pub enum VerifyFault {
-    /// There is no piece, or a fourth one.
+    /// There is no piece, or a fourth one was added.
     #[error("a path has one to three pieces")]
     PieceCount,
-    /// The places of a piece are not those of two entries of its segment, the first before the
+    /// The places of a piece are not the places of two entries of its segment, the first before the
     /// second.
     #[error("a piece is not from one entry of its segment to a later one")]
     Range,
     /// The pieces are not up, core and down pieces in this order, at most one of each.
     #[error("the pieces are not up, core and down in this order")]
     Kinds,
-    /// A core piece is not whole, a piece beside it doesn't begin where its segment does, or of an
-    /// up and a down piece one does and the other does not.
+    /// A core piece is not whole, or a piece next to it doesn't begin at the first entry of its
+    /// segment. Or, without a core piece, one of two pieces begins there and the other does not.
     #[error("a piece is cut where it may not be")]
     CutAtCore,
-    /// A piece doesn't begin in the AS in which the one before it ends.
+    /// A piece doesn't begin in the AS in which the piece before it ends.
     #[error("adjoining pieces don't meet in one AS")]
     NotJoined,
-    /// The path doesn't begin in the source.
+    /// The path doesn't begin in the source AS.
     #[error("the path does not begin in the source")]
     Source,
-    /// The path doesn't end in the destination.
+    /// The path doesn't end in the destination AS.
     #[error("the path does not end in the destination")]
     Destination,
     /// The path has more than 64 hop fields.
     #[error("a path has at most 64 hop fields")]
     TooManyHops,
-    /// The walk names an AS twice.
+    /// The walk passes an AS twice.
     #[error("the walk names an AS twice")]
     Loop,
     /// A hop of the path is not live.
@@ -42,8 +42,8 @@ pub enum VerifyFault {
     /// The header is not that of the pieces.
     #[error("the header is not that of the pieces")]
     HeaderDiffers,
-    /// The policy's list denies a hop of the walk: the first that is denied, and the entry that
-    /// decides it.
+    /// The policy's list denies a hop of the walk: this is the first such hop, and the entry that
+    /// denies it.
     #[error("the policy denies a hop of the walk")]
     AclDenied(Denied),
     /// The walk is not a word of the policy's sequence.

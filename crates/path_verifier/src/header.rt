@@ -12,7 +12,7 @@ use arrayvec::ArrayVec;
 use path_header::{Header, HopField, InfoField};
 use path_segment::Entry;
 
-/// The header of these pieces, the packet standing at its first info and hop field.
+/// The header of these pieces, with the packet at the first info and hop field.
 #[tactic(auto, unfolding(crate::specs::Header::header_of))]
 pub(crate) fn header_of(held: &PieceSlots<'_>) -> Header
     requires some { 0 < length (pieces_in held.now) }
@@ -34,7 +34,7 @@ fn built(lens: [u8; 3], infos: &[InfoField], fields: &[HopField]) -> Header
     }
 }
 
-/// How many hop fields each piece has, and 0 where there is no piece.
+/// The number of hop fields of each piece, and 0 for each missing piece.
 fn lens_of(held: &PieceSlots<'_>) -> [u8; 3]
     requires { AllByRecursion HasRange (pieces_in held.now) }
     ensures value { lens_from result ≡ lens_from (map len_of (pieces_in held.now)) }
@@ -48,7 +48,7 @@ fn lens_of(held: &PieceSlots<'_>) -> [u8; 3]
     }
 }
 
-/// How many hop fields a piece has.
+/// The number of hop fields of a piece.
 fn len_of(piece: &Piece<'_>) -> u8
     requires { HasRange piece.now }
     ensures value { result ≡ len_of piece.now }

@@ -1,10 +1,10 @@
-/// What a piece of a path is.
+/// The kind of a piece of a path.
 #[derive(Clone, Copy, Debug, PartialEq, Eq)]
 pub enum PieceKind {
-    /// An intra segment, travelled up to the core: against the direction in which it was made.
+    /// A piece of an intra segment, travelled up to the core: against construction direction.
     Up,
-    /// A core segment, in either direction.
+    /// A piece of a core segment, in either direction.
     Core,
-    /// An intra segment, travelled down from the core: in the direction in which it was made.
+    /// A piece of an intra segment, travelled down from the core: in construction direction.
     Down,
 }

@@ -12,8 +12,8 @@ ghost use Rattle.path_verifier.specs.Walk.{hop_of, hops_of, walk_of};
 ghost use Rattle.path_verifier.specs.Accepted.{AreLive, IsAccepted, IsExpiry, MakesPath, MayAdjoin, Request, request_of, IsRefused, Keeps};
 ghost use Rattle.path_verifier.specs.Turned.{turned_piece, turned_pieces, turned_walk};
 
-/// A path may be sent exactly where it keeps each rule of which a refusal is the breach; it is
-/// refused by one fault at most, and by none where it may be sent.
+/// A path may be sent if and only if it breaks none of the rules whose breaches are refusals. It is
+/// refused by at most one fault, and by none if it may be sent.
 pub fn refusals_are_breaches()
     ensures kept { (request : Request)
         → IsAccepted request ↔ ((fault : VerifyFault) → Keeps request fault) }
@@ -32,21 +32,21 @@ pub fn walks_lead_on()
         ≡ Some dst }
 {}
 
-/// The hops of pieces are live exactly up to the moment at which the first of them expires.
+/// The hops of pieces are all live up to the earliest of their expiries, and not after it.
 pub fn live_up_to_expiry()
     ensures { (pieces : List PieceValue) (least now : ℕ) → IsExpiry pieces least
         → AreLive now pieces ↔ (2 * now ≤ least) }
 {}
 
-/// The walk of a path has at least two hops, and at most as many as its header has hop fields.
+/// The walk of a path has at least two hops, and no more hops than its header has hop fields.
 pub fn walks_are_short()
     ensures least { (pieces : List PieceValue) (src dst now : ℕ) → MakesPath pieces src dst now
         → 2 ≤ length (walk_of pieces) }
     ensures most { (pieces : List PieceValue) → length (walk_of pieces) ≤ hop_count pieces }
 {}
 
-/// A path has at most three pieces, and behind an up piece comes a core or a down piece, behind a
-/// core piece a down piece, and behind a down piece nothing.
+/// A path has at most three pieces. After an up piece comes a core or a down piece, after a core
+/// piece a down piece, and after a down piece nothing.
 pub fn pieces_adjoin()
     ensures most { (pieces : List PieceValue) (src dst now : ℕ) → MakesPath pieces src dst now
         → length pieces ≤ 3 }
@@ -55,14 +55,14 @@ pub fn pieces_adjoin()
         → MayAdjoin (kind_of piece) (kind_of next) }
 {}
 
-/// The header of a path of segments is one of the grammar. A segment has at most 63 entries.
+/// The header of a path is one of the grammar, since a segment has at most 63 entries.
 pub fn headers_are_of_the_grammar()
     ensures { (pieces : List PieceValue) (src dst now : ℕ) → MakesPath pieces src dst now
         → All (λ piece. length piece.segment.entries ≤ 63) pieces → IsHeader (header_of pieces) }
 {}
 
-/// A piece is travelled entry by entry: it has as many of them as lie between its places, both
-/// included, and as many hops and hop fields, each that of its entry.
+/// A piece has one hop and one hop field for each of its entries, from one place to the other, both
+/// included; each is that of its entry.
 pub fn pieces_go_by_entries()
     ensures entries { (piece : PieceValue) → HasRange piece
         → length (travelled piece) ≡ piece.to + 1 - piece.from }
@@ -76,10 +76,10 @@ pub fn pieces_go_by_entries()
         → slice_get (fields_of piece) i ≡ Some (field_of entry) }
 {}
 
-/// The way back of a path, its pieces from the last to the first and each travelled the other way,
-/// is a path at each second at which its hops are live, through the same ASes, with the ways in and
-/// out exchanged; and it expires when the path does. A path of which a hop has expired is refused
-/// for that alone.
+/// The way back of a path has its pieces in reverse order, each in the other direction. It is a
+/// path at each second at which its hops are live. It passes the same ASes, with ways in and ways
+/// out exchanged, and expires when the path does. A way back with an expired hop is refused as
+/// Expired.
 pub fn paths_turn_back()
     ensures path { (pieces : List PieceValue) (src dst now moment : ℕ)
         → MakesPath pieces src dst now → AreLive moment pieces
@@ -92,7 +92,7 @@ pub fn paths_turn_back()
         (rules : Rules) → MakesPath pieces src dst now → ¬ (AreLive moment pieces)
         → IsRefused (request_of pieces header src dst moment rules) Expired }
 
-    // The entries of a piece, and its hop fields, are travelled from the last to the first.
+    // The entries of a piece, and its hop fields, are in reverse order on the way back.
     ensures entries { (piece : PieceValue) → travelled (turned_piece piece)
         ≡ reverse (travelled piece) }
     ensures fields { (piece : PieceValue) → fields_of (turned_piece piece)

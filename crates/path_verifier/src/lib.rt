@@ -1,9 +1,9 @@
-//! Whether a path may be sent: pieces of segments with their header, tested against what a path is,
-//! its ends, a moment and a policy.
+//! The path verifier: it decides whether pieces of segments with a header are a path that may be
+//! sent between two ASes, at a given second and under a policy.
 //!
-//! A path is one to three pieces of segments, up to the core, over it and down from it. Its walk is
-//! the list of ASes that it passes, and its header what routers go by. No call of
-//! the verifier takes memory.
+//! A path has one to three pieces of segments: up to the core, across it, and down from it. Its
+//! walk is the list of ASes that it passes, and its header is what routers read. No call of the
+//! verifier takes memory.
 #![tactic(auto)]
 
 mod fault;

@@ -13,7 +13,7 @@ pub struct OwnedPiece {
     pub segment: Segment,
     /// The place in the segment of the piece's first entry, in construction order.
     pub from: usize,
-    /// The place of its last entry.
+    /// The place in the segment of the piece's last entry.
     pub to: usize,
     /// Whether it is travelled in the direction in which the segment was made.
     pub along: bool,
@@ -28,7 +28,7 @@ impl Model for OwnedPiece {
 }
 
 impl OwnedPiece {
-    /// A copy of a piece, with a segment of its own; or memory runs out.
+    /// A copy of a piece that owns its segment, unless memory runs out.
     pub fn of(alloc: Global, piece: &Piece<'_>) -> Result<OwnedPiece, AllocError>
         ensures { IfOk result (λ own. own ≡ piece.now) }
     {
@@ -40,7 +40,7 @@ impl OwnedPiece {
         })
     }
 
-    /// The piece, of the segment that is lent.
+    /// The piece, which borrows the segment.
     pub fn lend(&self) -> Piece<'_>
         ensures { result ≡ self.now }
     {
@@ -53,7 +53,7 @@ impl OwnedPiece {
     }
 }
 
-/// Copies of the pieces of a path, each with a segment of its own; or memory runs out.
+/// Copies of the pieces of a path that own their segments, unless memory runs out.
 pub fn to_owned_pieces(alloc: Global, pieces: &Pieces<'_>) -> Result<Vec<OwnedPiece>, AllocError>
     ensures { IfOk result (λ own. own.items ≡ pieces.now) }
 {
@@ -72,7 +72,7 @@ pub fn to_owned_pieces(alloc: Global, pieces: &Pieces<'_>) -> Result<Vec<OwnedPi
     }
 }
 
-/// The pieces, lent in their order.
+/// The pieces in the same order, which borrow the segments.
 pub fn lend_all(pieces: &[OwnedPiece]) -> Pieces<'_>
     requires { length pieces.now ≤ 3 }
     ensures { result ≡ pieces.now }

@@ -7,8 +7,8 @@ use policy_expr::{Policy, WalkHop};
 use std::alloc::Allocator;
 use std::marker::Model;
 
-/// A path that may be sent: its type keeps that it is accepted for its ends, its second and its
-/// policy.
+/// A path that may be sent. An invariant of the type says that it is accepted for its ends, its
+/// second and its policy.
 #[derive(Drop)]
 pub struct VerifiedPath<'s, 'p, A: Allocator + Clone> {
     pub(crate) pieces: Pieces<'s>,
@@ -57,8 +57,8 @@ impl<'s, 'p, A: Allocator + Clone> VerifiedPath<'s, 'p, A> {
         &self.header
     }
 
-    /// Its walk: the ASes that it passes, each with the interface by which the walk comes in and
-    /// the one by which it leaves, 0 at both ends. It has 2 to 64 hops.
+    /// Its walk: the ASes that it passes, each with the interface by which the walk enters and the
+    /// one by which it leaves, 0 at both ends. It has 2 to 64 hops.
     pub fn walk(&self) -> &[WalkHop]
         ensures value { result.now ≡ walk_of self.entry.now.pieces }
         ensures count { (2 ≤ length result.now) × (length result.now ≤ 64) }
@@ -66,7 +66,7 @@ impl<'s, 'p, A: Allocator + Clone> VerifiedPath<'s, 'p, A> {
         self.walk.as_slice()
     }
 
-    /// The moment, in half seconds, at which the first of its hops expires.
+    /// The half second at which the first of its hops expires.
     pub fn expiry(&self) -> u64
         ensures { IsExpiry self.entry.now.pieces result }
     {
@@ -74,7 +74,7 @@ impl<'s, 'p, A: Allocator + Clone> VerifiedPath<'s, 'p, A> {
         expiry_of(&pieces.held)
     }
 
-    /// Does nothing, and tells its caller that this path is accepted.
+    /// Does nothing; its contract tells the caller that this path is accepted.
     pub fn known(&self)
         ensures { IsAccepted self.entry.now }
     {

@@ -11,15 +11,15 @@ use isd_as::IsdAs;
 use path_segment::{Entry, SegKind, Segment};
 use std::marker::Model;
 
-/// A piece of a segment, by which a path goes: the entries from one place to a later one, both
-/// included, in one of both directions.
+/// A piece of a segment on a path: the entries from one place to a later one, both included,
+/// travelled in one of the two directions.
 #[derive(Debug, Drop)]
 pub struct Piece<'s> {
     /// The segment.
     pub segment: &'s Segment,
     /// The place in the segment of the piece's first entry, in construction order.
     pub from: usize,
-    /// The place of its last entry.
+    /// The place in the segment of the piece's last entry.
     pub to: usize,
     /// Whether it is travelled in the direction in which the segment was made.
     pub along: bool,
@@ -39,7 +39,7 @@ impl<'s> Model for Piece<'s> {
 }
 
 impl<'s> Piece<'s> {
-    /// What it is: an up, a core or a down piece.
+    /// Its kind: up, core or down.
     pub fn kind(&self) -> PieceKind
         ensures { result ≡ kind_of self.now }
     {
@@ -50,7 +50,7 @@ impl<'s> Piece<'s> {
         }
     }
 
-    /// The same entries of the same segment, travelled the other way.
+    /// The same entries of the same segment, travelled in the other direction.
     pub fn turned(&self) -> Piece<'s>
         ensures { result ≡ turned_piece self.now }
     {
@@ -62,7 +62,7 @@ impl<'s> Piece<'s> {
         }
     }
 
-    /// Whether its places are those of two entries, the first before the second.
+    /// Whether its places are the places of two entries, the first before the second.
     pub(crate) fn has_range(&self) -> bool
         ensures { IsTrue result ↔ HasRange self.now }
     {
@@ -76,21 +76,21 @@ impl<'s> Piece<'s> {
         matches!(self.kind(), PieceKind::Core)
     }
 
-    /// Whether it has the entry in which its segment begins.
+    /// Whether it has the first entry of its segment.
     pub(crate) fn begins_first(&self) -> bool
         ensures { IsTrue result ↔ (self.now.from ≡ 0) }
     {
         self.from == 0
     }
 
-    /// Whether it begins behind that entry.
+    /// Whether it lacks the first entry of its segment.
     pub(crate) fn begins_later(&self) -> bool
         ensures { IsTrue result ↔ (0 < self.now.from) }
     {
         self.from > 0
     }
 
-    /// Whether it has the entry in which its segment ends.
+    /// Whether it has the last entry of its segment.
     pub(crate) fn ends_last(&self) -> bool
         requires { HasRange self.now }
         ensures { IsTrue result ↔ (self.now.to + 1 ≡ length self.now.segment.entries) }
@@ -99,7 +99,7 @@ impl<'s> Piece<'s> {
         self.to == segment.entries().len() - 1
     }
 
-    /// The AS in which the travel along it begins.
+    /// The AS in which it begins, in order of travel.
     #[tactic(auto, unfolding(crate::specs::Piece::begins_in))]
     pub fn begins_in(&self) -> IsdAs
         requires { HasRange self.now }
@@ -108,7 +108,7 @@ impl<'s> Piece<'s> {
         self.entry(0).ia
     }
 
-    /// The AS in which it ends.
+    /// The AS in which it ends, in order of travel.
     #[tactic(auto, unfolding(crate::specs::Piece::ends_in))]
     pub fn ends_in(&self) -> IsdAs
         requires { HasRange self.now }
@@ -136,7 +136,7 @@ impl<'s> Piece<'s> {
         cut(segment.entries(), from, to)
     }
 
-    /// The moment, in half seconds, at which the first of its hops expires.
+    /// The half second at which the first of its hops expires.
     pub(crate) fn expiry(&self) -> u64
         requires { HasRange self.now }
         ensures { IsLeastExpiry self.now.segment.timestamp (entries_of self.now) result }
@@ -144,14 +144,14 @@ impl<'s> Piece<'s> {
         self.segment.least_expiry(self.from, self.to)
     }
 
-    /// The place in the segment of the entry that is travelled first.
+    /// The place in the segment of the first entry travelled.
     pub(crate) fn first_place(&self) -> usize
         ensures { result ≡ first_place self.now }
     {
         if self.along { self.from } else { self.to }
     }
 
-    /// How many entries are travelled, which is at most 63.
+    /// The number of its entries, at most 63.
     #[tactic(auto, using(crate::proofs::Entries::length_travelled))]
     pub(crate) fn len(&self) -> usize
         requires { HasRange self.now }
@@ -163,7 +163,7 @@ impl<'s> Piece<'s> {
         count(segment.entries(), from, to)
     }
 
-    /// The entry that is travelled at this place, counted from 0.
+    /// The entry at this place in order of travel, from 0.
     pub(crate) fn entry(&self, place: usize) -> &'s Entry
         requires range { HasRange self.now }
         requires within { place < length (travelled self.now) }
@@ -178,7 +178,7 @@ impl<'s> Piece<'s> {
         &segment.entries()[at]
     }
 
-    /// The same piece once more.
+    /// A copy of this piece.
     pub(crate) fn again(&self) -> Piece<'s>
         ensures { result ≡ self.now }
     {
@@ -191,7 +191,7 @@ impl<'s> Piece<'s> {
     }
 }
 
-/// How many entries there are from one place to another, both included.
+/// The number of entries from one place to another, both included.
 fn count(entries: &[Entry], from: usize, to: usize) -> usize
     requires order { from < to }
     requires within { to < length entries.now }

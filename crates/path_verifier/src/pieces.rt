@@ -7,13 +7,13 @@ use crate::piece::Piece;
 use std::marker::Model;
 use std::mem;
 
-/// The pieces of a path in order of travel: none to three of them.
+/// The pieces of a path in order of travel, at most three.
 #[derive(Debug, Drop)]
 pub struct Pieces<'s> {
     pub(crate) held: PieceSlots<'s>,
 }
 
-/// Pieces by their number.
+/// The pieces, one variant for each number of them.
 #[derive(Debug, Drop)]
 pub(crate) enum PieceSlots<'s> {
     Zero,
@@ -42,7 +42,7 @@ impl<'s> Pieces<'s> {
         }
     }
 
-    /// Adds a piece at the end, where there are fewer than three; else [`VerifyFault::PieceCount`],
+    /// Adds a piece at the end. If there are three already, that is [`VerifyFault::PieceCount`],
     /// and the pieces stay as they are.
     pub fn push(&mut self, piece: Piece<'s>) -> Result<(), VerifyFault>
         ensures room { IsOk result ↔ (length self.old < 3) }
@@ -71,7 +71,7 @@ impl<'s> Pieces<'s> {
         }
     }
 
-    /// How many pieces there are.
+    /// The number of pieces.
     pub fn len(&self) -> usize
         ensures { result ≡ length self.now }
     {
@@ -105,8 +105,8 @@ impl<'s> Pieces<'s> {
         }
     }
 
-    /// The pieces of the way back: the same from the last to the first, each travelled the other
-    /// way. It takes no memory.
+    /// The pieces of the way back: the same pieces in reverse order, each in the other direction.
+    /// It takes no memory.
     pub fn turned(&self) -> Pieces<'s>
         ensures { result ≡ turned_pieces self.now }
     {
@@ -115,7 +115,7 @@ impl<'s> Pieces<'s> {
         }
     }
 
-    /// The same pieces once more.
+    /// Copies of these pieces.
     pub(crate) fn again(&self) -> Pieces<'s>
         ensures { result ≡ self.now }
     {
@@ -150,7 +150,7 @@ impl<'s> PieceSlots<'s> {
         }
     }
 
-    /// The same pieces once more.
+    /// Copies of these pieces.
     fn again(&self) -> PieceSlots<'s>
         ensures { pieces_in result ≡ pieces_in self.now }
     {

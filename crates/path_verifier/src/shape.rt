@@ -1,4 +1,4 @@
-//! Which pieces make a path: their ranges, kinds, cuts and ends.
+//! The rules for the pieces of a path: their ranges, kinds, cuts and ends.
 
 ghost use Rattle.std.specs.Prelude.{◌≡◌, ◌↔◌, ◌<◌, ◌≤◌, ◌+◌, ℕ, length, map, All, Any, IsTrue, IfErr, OnOk};
 ghost use Rattle.std.specs.List.{AllByRecursion};
@@ -19,8 +19,8 @@ use crate::pieces::PieceSlots;
 use crate::walk::MAX_HOPS;
 use isd_as::IsdAs;
 
-/// Whether the pieces keep each rule up to that on the number of hops, or the first that they
-/// break.
+/// Succeeds if the pieces keep each rule from the first to the one on the number of hop fields;
+/// else returns the first fault.
 pub(crate) fn check_shape(held: &PieceSlots<'_>, src: IsdAs, dst: IsdAs) -> Result<(), VerifyFault>
     ensures kept { OnOk result ((header : HeaderValue) (now : ℕ) (rules : Rules)
         (fault : VerifyFault) → code_of fault < 78
@@ -58,7 +58,7 @@ pub(crate) fn check_shape(held: &PieceSlots<'_>, src: IsdAs, dst: IsdAs) -> Resu
     Ok(())
 }
 
-/// Whether the places of each piece are those of two entries, the first before the second.
+/// Whether the places of each piece are the places of two entries, the first before the second.
 fn are_in_range(held: &PieceSlots<'_>) -> bool
     ensures fact { IsTrue result ↔ All HasRange (pieces_in held.now) }
     ensures each { IsTrue result → AllByRecursion HasRange (pieces_in held.now) }
@@ -73,14 +73,14 @@ fn are_in_range(held: &PieceSlots<'_>) -> bool
     }
 }
 
-/// Whether a piece of the second kind may come right behind one of the first.
+/// Whether a piece of the second kind may come right after one of the first.
 fn may_adjoin(kind: PieceKind, next: PieceKind) -> bool
     ensures { IsTrue result ↔ MayAdjoin kind next }
 {
     matches!((kind, next), (Up, Core) | (Up, Down) | (Core, Down))
 }
 
-/// Whether each piece may come right behind the one before it.
+/// Whether each piece may come right after the piece before it.
 fn do_adjoin(held: &PieceSlots<'_>) -> bool
     ensures { IsTrue result ↔ DoAdjoin (map kind_of (pieces_in held.now)) }
 {
@@ -119,7 +119,7 @@ fn has_core(held: &PieceSlots<'_>) -> bool
     }
 }
 
-/// Whether a core piece is whole, and another one begins where its segment does.
+/// Whether a core piece is whole, or another piece begins at the first entry of its segment.
 fn fits_core(piece: &Piece<'_>) -> bool
     requires { HasRange piece.now }
     ensures { IsTrue result ↔ ((piece.now.from ≡ 0)
@@ -128,7 +128,7 @@ fn fits_core(piece: &Piece<'_>) -> bool
     piece.begins_first() && (!piece.is_core() || piece.ends_last())
 }
 
-/// Whether each piece is as it must be in a path with a core piece.
+/// Whether each piece fits into a path with a core piece.
 fn all_fit_core(held: &PieceSlots<'_>) -> bool
     requires { AllByRecursion HasRange (pieces_in held.now) }
     ensures { IsTrue result ↔ All (λ piece. (piece.from ≡ 0)
@@ -144,7 +144,7 @@ fn all_fit_core(held: &PieceSlots<'_>) -> bool
     }
 }
 
-/// Whether each piece begins where its segment does.
+/// Whether each piece begins at the first entry of its segment.
 fn all_begin_first(held: &PieceSlots<'_>) -> bool
     ensures { IsTrue result ↔ All (λ piece. piece.from ≡ 0) (pieces_in held.now) }
 {
@@ -158,7 +158,7 @@ fn all_begin_first(held: &PieceSlots<'_>) -> bool
     }
 }
 
-/// Whether each piece begins behind the entry in which its segment begins.
+/// Whether each piece begins after the first entry of its segment.
 fn all_begin_later(held: &PieceSlots<'_>) -> bool
     ensures { IsTrue result ↔ All (λ piece. 0 < piece.from) (pieces_in held.now) }
 {
@@ -218,7 +218,7 @@ fn end_in(held: &PieceSlots<'_>, dst: IsdAs) -> bool
     }
 }
 
-/// How many hop fields the pieces have together.
+/// The number of hop fields of all pieces together.
 fn hop_count(held: &PieceSlots<'_>) -> usize
     requires { AllByRecursion HasRange (pieces_in held.now) }
     ensures { result ≡ hop_count (pieces_in held.now) }
@@ -246,7 +246,7 @@ pub(crate) fn are_live(held: &PieceSlots<'_>, now: u32) -> bool
     }
 }
 
-/// The moment, in half seconds, at which the first hop of the pieces expires.
+/// The half second at which the first hop of the pieces expires.
 #[tactic(auto, using(crate::proofs::Expiry::expiry_of_one))]
 pub(crate) fn expiry_of(held: &PieceSlots<'_>) -> u64
     requires some { 0 < length (pieces_in held.now) }

@@ -21,22 +21,22 @@ use path_header::Header;
 use policy_expr::{Policy, WalkHop};
 use std::alloc::Allocator;
 
-/// The path of these pieces with this header, where it may be sent from `src` to `dst` at the
-/// second `now` under a policy.
+/// The path of these pieces with this header, if it may be sent from `src` to `dst` at the second
+/// `now` under a policy.
 ///
-/// The first of these refusals: [`VerifyFault::PieceCount`] for no pieces; [`VerifyFault::Range`]
-/// where a piece is not from one entry of its segment to a later one; [`VerifyFault::Kinds`] where
-/// they are not up, core and down pieces in this order, at most one of each;
-/// [`VerifyFault::CutAtCore`] if a core piece is not whole, a piece beside it doesn't begin
-/// where its segment does, or of an up and a down piece alone one does and the other does not;
-/// [`VerifyFault::NotJoined`] if a piece doesn't begin in the AS in which the one before it
-/// ends; [`VerifyFault::Source`] and [`VerifyFault::Destination`] if the path has other ends;
+/// The first of these refusals is returned: [`VerifyFault::PieceCount`] if there are no pieces;
+/// [`VerifyFault::Range`] if a piece is not from one entry of its segment to a later one;
+/// [`VerifyFault::Kinds`] if the pieces are not up, core and down in this order, at most one of
+/// each; [`VerifyFault::CutAtCore`] if a core piece is not whole, a piece next to it doesn't begin
+/// at the first entry of its segment, or of an up and a down piece alone only one does;
+/// [`VerifyFault::NotJoined`] if a piece doesn't begin in the AS in which the piece before it ends;
+/// [`VerifyFault::Source`] and [`VerifyFault::Destination`] if the path has other ends;
 /// [`VerifyFault::TooManyHops`] for more than 64 hop fields; [`VerifyFault::Loop`] if the walk
-/// names an AS twice; [`VerifyFault::Expired`] if a hop is not live at `now`;
-/// [`VerifyFault::HeaderDiffers`] if the header is not that of the pieces, the packet standing
-/// at its beginning; [`VerifyFault::AclDenied`] if the policy's list denies a hop, with the
-/// first such hop and the entry that decides it; [`VerifyFault::SequenceMismatch`] if the walk
-/// is no word of the policy's sequence.
+/// passes an AS twice; [`VerifyFault::Expired`] if a hop is not live at `now`;
+/// [`VerifyFault::HeaderDiffers`] if the header is not that of the pieces with the packet at its
+/// beginning; [`VerifyFault::AclDenied`] if the policy's list denies a hop, with the first such hop
+/// and the entry that denies it; [`VerifyFault::SequenceMismatch`] if the walk is no word of the
+/// policy's sequence.
 pub fn verify<'s, 'p, A: Allocator + Clone>(
     pieces: &Pieces<'s>,
     header: &Header,
@@ -45,13 +45,13 @@ pub fn verify<'s, 'p, A: Allocator + Clone>(
     now: u32,
     policy: &'p Policy<A>,
 ) -> Result<VerifiedPath<'s, 'p, A>, VerifyFault>
-    // What is given may be sent, and shows what was asked.
+    // A path that is returned is that of the request, and may be sent.
     ensures found { let request = request_of pieces.now header.now src dst now policy.entry.now in
         IfOk result (λ path. (path ≡ request) × IsAccepted request) }
-    // What may be sent is given.
+    // If the path may be sent, it is returned.
     ensures only { IsAccepted (request_of pieces.now header.now src dst now policy.entry.now)
         → IsOk result }
-    // Which refusal it is.
+    // The exact result, with its refusal.
     ensures exact { IfErr result
         (IsRefused (request_of pieces.now header.now src dst now policy.entry.now)) }
 {
@@ -67,11 +67,10 @@ pub fn verify<'s, 'p, A: Allocator + Clone>(
     })
 }
 
-/// The path of these pieces with the header that they make, where it may be sent from `src` to
-/// `dst` at the second `now` under a policy.
+/// The path of these pieces with the header that they give, if it may be sent from `src` to `dst`
+/// at the second `now` under a policy.
 ///
-/// The refusals are those of [`verify`], in their order; [`VerifyFault::HeaderDiffers`] never
-/// comes.
+/// The refusals are those of [`verify`], in their order, without [`VerifyFault::HeaderDiffers`].
 pub fn accept<'s, 'p, A: Allocator + Clone>(
     pieces: &Pieces<'s>,
     src: IsdAs,
@@ -79,15 +78,15 @@ pub fn accept<'s, 'p, A: Allocator + Clone>(
     now: u32,
     policy: &'p Policy<A>,
 ) -> Result<VerifiedPath<'s, 'p, A>, VerifyFault>
-    // What is given may be sent, and shows what was asked.
+    // A path that is returned is that of the request, and may be sent.
     ensures found { let request = request_of pieces.now (header_of pieces.now) src dst now
         policy.entry.now in
         IfOk result (λ path. (path ≡ request) × IsAccepted request) }
-    // What may be sent is given.
+    // If the path may be sent, it is returned.
     ensures only { IsAccepted
         (request_of pieces.now (header_of pieces.now) src dst now policy.entry.now)
         → IsOk result }
-    // Which refusal it is.
+    // The exact result, with its refusal.
     ensures exact { IfErr result (IsRefused
         (request_of pieces.now (header_of pieces.now) src dst now policy.entry.now)) }
 {
@@ -103,7 +102,7 @@ pub fn accept<'s, 'p, A: Allocator + Clone>(
     })
 }
 
-/// The walk and the header of these pieces, or the first rule that the path breaks.
+/// The walk and the header of these pieces, or the fault of the first rule that the path breaks.
 fn made<A: Allocator + Clone>(
     pieces: &Pieces<'_>,
     src: IsdAs,
@@ -127,8 +126,8 @@ fn made<A: Allocator + Clone>(
     Ok((walk, header))
 }
 
-/// The walk of these pieces and this header, which is theirs, or the first rule that the path
-/// breaks.
+/// The walk of these pieces with this header, which is theirs, or the fault of the first rule that
+/// the path breaks.
 fn walk_and_header<A: Allocator + Clone>(
     pieces: &Pieces<'_>,
     header: &Header,
@@ -155,7 +154,7 @@ fn walk_and_header<A: Allocator + Clone>(
     Ok((walk, own))
 }
 
-/// The walk of the pieces, where they make a path, or the first rule that they break.
+/// The walk of the pieces if they are a path, or the fault of the first rule that they break.
 fn checked_walk(
     held: &PieceSlots<'_>,
     src: IsdAs,
@@ -190,7 +189,7 @@ fn check_policy<A: Allocator + Clone>(
         (AllowsHops policy.now.acl walk.now × HasWord policy.now.sequence walk.now) }
     ensures only { AllowsHops policy.now.acl walk.now → HasWord policy.now.sequence walk.now
         → IsOk result }
-    // The fault is that of each path of this walk and policy that keeps the rules before.
+    // The fault is the same for each path with this walk and policy that keeps the rules before.
     ensures exact { IfErr result (λ fault. (request : Request) → walk.now ≡ walk_of request.pieces
         → policy.now ≡ request.rules
         → ((earlier : VerifyFault) → code_of earlier < 81 → Keeps request earlier)

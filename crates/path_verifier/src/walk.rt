@@ -15,7 +15,7 @@ use path_segment::Entry;
 use policy_expr::WalkHop;
 use std::marker::Model;
 
-/// The most hops of a walk, which has no more than a header has hop fields.
+/// The largest number of hops of a walk, since a header has at most 64 hop fields.
 pub(crate) const MAX_HOPS: usize = 64;
 
 /// A walk of at most 64 hops.
@@ -60,7 +60,7 @@ impl Walk {
         &self.hops[..self.len]
     }
 
-    /// How many hops there are.
+    /// The number of hops.
     fn len(&self) -> usize
         ensures { result ≡ length self.now }
     {
@@ -97,7 +97,7 @@ impl Walk {
     }
 }
 
-/// The hop of an entry that is travelled along its segment, or against it.
+/// The hop of an entry that is travelled in construction direction or against it.
 #[tactic(auto, unfolding(crate::specs::Walk::hop_of))]
 fn hop_of(along: bool, entry: &Entry) -> WalkHop
     ensures { result ≡ hop_of along entry.now }
@@ -117,7 +117,7 @@ fn hop_of(along: bool, entry: &Entry) -> WalkHop
     }
 }
 
-/// The hop of the entry that is travelled at this place of a piece.
+/// The hop of the entry at this place of a piece, in order of travel.
 #[tactic(auto, using(crate::proofs::Hops::hop_there))]
 fn hop_at(piece: &Piece<'_>, place: usize) -> WalkHop
     requires range { HasRange piece.now }
@@ -128,7 +128,7 @@ fn hop_at(piece: &Piece<'_>, place: usize) -> WalkHop
 }
 
 impl Walk {
-    /// Adds the hops of a piece from the second on.
+    /// Adds the hops of a piece from its second hop on.
     fn push_later(&mut self, piece: &Piece<'_>)
         requires range { HasRange piece.now }
         requires few { length self.old + len_of piece.now ≤ 65 }
@@ -139,7 +139,7 @@ impl Walk {
         }
     }
 
-    /// Goes on from the last AS by a hop, of which only the way out is new.
+    /// Continues in the last AS: the way out of this hop becomes the last way out.
     fn meet(&mut self, hop: WalkHop)
         requires { length self.old < 64 }
         ensures walk { self.new ≡ met self.old hop }
@@ -152,7 +152,7 @@ impl Walk {
         }
     }
 
-    /// Goes on with the hops of a piece.
+    /// Continues with the hops of a piece.
     #[tactic(auto, using(crate::proofs::Hops::joined_from))]
     fn go_on(&mut self, piece: &Piece<'_>)
         requires range { HasRange piece.now }
@@ -191,7 +191,7 @@ impl Walk {
     }
 }
 
-/// Whether no AS stands in two of these hops.
+/// Whether no two of these hops are of one AS.
 #[tactic(auto, using(crate::proofs::Doubled::once_without_double))]
 pub(crate) fn names_once(hops: &[WalkHop]) -> bool
     requires { length hops.now ≤ 64 }

@@ -13,9 +13,9 @@ use std::marker::Model;
 /// An entry of an access control list.
 #[derive(Clone, Copy, Debug, PartialEq, Eq)]
 pub struct AclEntry {
-    /// Whether a hop that it decides is allowed: `+`.
+    /// Whether the hops that it decides about are allowed (`+`) or denied (`-`).
     pub allows: bool,
-    /// Which hops it matches, or `None` if it is bare and matches each.
+    /// Which hops it matches; without a predicate it matches every hop.
     pub pred: Option<HopPred>,
 }
 
@@ -28,7 +28,7 @@ impl AclEntry {
     }
 }
 
-/// The first hop of a walk that is denied, and the entry that decides it, each by its place.
+/// The first denied hop of a walk, and the entry that denies it, each by its place.
 #[derive(Clone, Copy, Debug, PartialEq, Eq)]
 pub struct Denied {
     /// The place of the hop in the walk, from 0.
@@ -37,9 +37,10 @@ pub struct Denied {
     pub entry: usize,
 }
 
-/// An access control list: the first entry that matches a hop decides it.
+/// An access control list: the first entry that matches a hop decides about it.
 ///
-/// Its type keeps that it has at most 256 entries, of which the last is bare and no other is.
+/// Its type keeps the rules: at most 256 entries; the last has no predicate, and every other has
+/// one.
 #[derive(Drop)]
 pub struct Acl<A: Allocator + Clone> {
     entries: Vec<AclEntry, A>,
@@ -59,12 +60,13 @@ impl<A: Allocator + Clone> Model for Acl<A> {
 }
 
 impl<A: Allocator + Clone> Acl<A> {
-    /// The list of these texts, each `+` or `-` and then a predicate or nothing, with blanks
-    /// anywhere round them. A predicate of wildcards alone counts as none.
+    /// The list of these texts. Each is `+` or `-`, and then a predicate or nothing; blanks around
+    /// both are ignored. A predicate of wildcards alone counts as no predicate.
     ///
-    /// The first of these refusals: [`PolicyFault::BadPredicate`] for an entry that can't be read,
-    /// [`PolicyFault::TooLarge`] for more than 256 entries, [`PolicyFault::NoDefault`] if there
-    /// is none or the last is not bare, [`PolicyFault::AfterDefault`] where another is.
+    /// The first of these refusals is returned: [`PolicyFault::BadPredicate`] for an entry that
+    /// can't be read, [`PolicyFault::TooLarge`] for more than 256 entries,
+    /// [`PolicyFault::NoDefault`] if there is no entry or the last has a predicate,
+    /// [`PolicyFault::AfterDefault`] if another one has none.
     pub fn parse(alloc: A, text: &AclText) -> Result<Acl<A>, PolicyError>
         ensures { Answers (λ acl. acl) result (acl_at text.now) }
     {
@@ -73,7 +75,7 @@ impl<A: Allocator + Clone> Acl<A> {
         Ok(Acl { entries })
     }
 
-    /// The same list under another allocator.
+    /// A copy of this list in another allocator.
     pub fn clone_in<B: Allocator + Clone>(&self, alloc: B) -> Result<Acl<B>, AllocError>
         ensures { IfOk result (λ acl. acl ≡ self.now) }
     {
@@ -89,8 +91,8 @@ impl<A: Allocator + Clone> Acl<A> {
         &self.entries
     }
 
-    /// Whether each hop of the walk is allowed, or the first that is denied and the entry that
-    /// decides it. Takes no memory.
+    /// Succeeds if each hop of the walk is allowed; else returns the first denied hop and the entry
+    /// that denies it. Takes no memory.
     pub fn verdict(&self, walk: &[WalkHop]) -> Result<(), Denied>
         ensures ok { IsOk result ↔ AllowsWalk self.now walk.now }
         ensures denied { IfErr result (λ denied. IsDenial self.now walk.now denied) }
@@ -102,7 +104,7 @@ impl<A: Allocator + Clone> Acl<A> {
     }
 }
 
-/// The same entries once more.
+/// Copies of these entries.
 fn clone_entries<A: Allocator>(
     alloc: A,
     entries: &[AclEntry],

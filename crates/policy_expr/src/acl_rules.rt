@@ -5,7 +5,7 @@ ghost use Rattle.policy_expr.specs.Acl.{AllowsWalk, Decides, IsAcl, IsDenial, Ma
 use crate::acl::{AclEntry, Denied};
 use crate::hop::WalkHop;
 
-/// The first hop of the walk that is denied, and the entry that decides it.
+/// The first denied hop of the walk, and the entry that denies it.
 pub(crate) fn denial_of(entries: &[AclEntry], walk: &[WalkHop]) -> Option<Denied>
     requires { IsAcl entries.now }
     ensures { MatchOption result (AllowsWalk entries.now walk.now)
@@ -34,7 +34,7 @@ fn decider_of(entries: &[AclEntry], hop: &WalkHop) -> usize
     unreachable!()
 }
 
-/// Whether the entry matches the hop, as a bare one matches each.
+/// Whether the entry matches the hop; an entry without a predicate matches every hop.
 fn does_match(entry: &AclEntry, hop: &WalkHop) -> bool
     ensures { IsTrue result ↔ MatchesBy entry.now.pred hop.now }
 {

@@ -29,7 +29,7 @@ impl AclText {
         }
     }
 
-    /// Adds a text at the end. After running out of memory the list is as it was.
+    /// Adds a text at the end. If memory runs out, the list is as it was.
     pub fn push(&mut self, alloc: Global, text: &str) -> Result<(), AllocError>
         ensures ok { OnOk result (self.new ≡ self.old ++ text.now ∷ []) }
         ensures err { OnErr result (self.new ≡ self.old) }
@@ -39,7 +39,7 @@ impl AclText {
         Ok(())
     }
 
-    /// The same texts once more.
+    /// Copies of these texts.
     pub fn try_clone(&self, alloc: Global) -> Result<AclText, AllocError>
         ensures { IfOk result (λ text. text ≡ self.now) }
     {

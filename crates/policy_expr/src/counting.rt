@@ -7,11 +7,11 @@ ghost use Rattle.policy_expr.specs.Reading.{fault_at, sequence_at};
 use crate::fault::PolicyFault;
 use crate::token::{Token, next_token};
 
-/// How many parentheses may be open at once.
+/// The largest number of parentheses open at once.
 pub(crate) const MAX_OPEN: usize = 32;
 
-/// How much the tokens of a sequence of 256 nodes weigh: a predicate counts twice and a sign behind
-/// an item once, which makes one more than its nodes.
+/// The weight of the tokens of a sequence of 256 nodes. A predicate weighs 2 and a sign after an
+/// item weighs 1; the sum is one more than the number of nodes.
 const MAX_WEIGHT: usize = 257;
 
 /// The first refusal of a sequence's text. Takes no memory.
@@ -41,17 +41,17 @@ pub(crate) fn check_text(text: &str) -> Result<(), PolicyFault>
     Ok(())
 }
 
-/// A place in the text of a sequence.
+/// A state while the text of a sequence is checked.
 #[derive(Clone, Copy)]
 struct Place {
-    /// How many parentheses are open.
+    /// The number of open parentheses.
     depth: usize,
-    /// Whether an item stands before it, so that none must come.
+    /// Whether an item stands right before, so that the next token need not begin one.
     has_item: bool,
 }
 
 impl Place {
-    /// The place behind a token.
+    /// The state after one more token.
     fn behind(self, token: &Token) -> Result<Place, PolicyFault>
         ensures goes_on { IfOk result (λ next. (later : List Token)
             → fault_at self.depth self.has_item (token.now ∷ later)
@@ -86,8 +86,7 @@ impl Place {
     }
 }
 
-/// Whether a sequence may end where `open` parentheses are open and an item stands before the end
-/// or not.
+/// Whether a sequence may end in this state.
 fn check_end(depth: usize, has_item: bool) -> Result<(), PolicyFault>
     ensures { result_err result ≡ fault_at depth has_item [] }
 {

@@ -4,7 +4,7 @@ ghost use Rattle.policy_expr.specs.Table.{IsThen};
 
 use crate::pred_set::PredSet;
 
-/// Where the words of a part of a sequence begin and end.
+/// The predicates with which the words of a part of a sequence begin and end.
 #[derive(Clone, Copy)]
 pub(crate) struct Ends {
     /// The predicates that may come first.
@@ -16,7 +16,7 @@ pub(crate) struct Ends {
 }
 
 impl Ends {
-    /// Those of one predicate.
+    /// The ends of one predicate.
     pub(crate) fn of_hop(only: PredSet) -> Ends
         ensures { result ≡ record { first = only; last = only; has_empty = false } }
     {
@@ -27,7 +27,7 @@ impl Ends {
         }
     }
 
-    /// Those of this part and then the other.
+    /// The ends of this part followed by the other.
     pub(crate) fn then(self, back: Ends) -> Ends
         ensures { IsThen self back result }
     {
@@ -48,7 +48,7 @@ impl Ends {
         }
     }
 
-    /// Those of this part or the other.
+    /// The ends of this part or the other.
     pub(crate) fn or(self, other: Ends) -> Ends
         ensures first { (k : ℕ) → Has result.first k ↔ (Has self.first k ⊎ Has other.first k) }
         ensures last { (k : ℕ) → Has result.last k ↔ (Has self.last k ⊎ Has other.last k) }
@@ -61,7 +61,7 @@ impl Ends {
         }
     }
 
-    /// Those of this part or nothing.
+    /// The ends of this part or nothing.
     pub(crate) fn or_nothing(self) -> Ends
         ensures { result ≡ record self { has_empty = true } }
     {

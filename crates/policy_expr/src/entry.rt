@@ -11,7 +11,7 @@ use crate::hop::{HopPred, Interfaces};
 use separators::text::{trim, trim_start};
 use std::alloc::Allocator;
 
-/// How many entries a list may have.
+/// The largest number of entries of a list.
 const MAX_ENTRIES: usize = 256;
 
 /// The first refusal of a list's texts. Takes no memory.
@@ -44,7 +44,7 @@ fn check_entries(texts: &[String]) -> Result<(), PolicyFault>
     Ok(())
 }
 
-/// Whether the entry of a text is bare.
+/// Whether the entry of a text has no predicate.
 fn is_text_bare(text: &str) -> Result<bool, PolicyFault>
     ensures { result ≡ result_map_both is_bare (λ fault. fault) (entry_at text.now) }
 {
@@ -81,7 +81,7 @@ fn read_entry(text: &str) -> Result<AclEntry, PolicyFault>
     }
 }
 
-/// The entry of a sign and what stands behind it.
+/// The entry of a sign and of the text after it.
 fn read_signed(allows: bool, text: &str) -> Result<AclEntry, PolicyFault>
     ensures { result ≡ signed_at allows text.now }
 {
@@ -92,7 +92,7 @@ fn read_signed(allows: bool, text: &str) -> Result<AclEntry, PolicyFault>
     Ok(of_pred(allows, pred))
 }
 
-/// The entry of a sign and a predicate, bare where that is of wildcards alone.
+/// The entry of a sign and a predicate; a predicate of wildcards alone is dropped.
 fn of_pred(allows: bool, pred: HopPred) -> AclEntry
     ensures { result ≡ entry_of allows pred }
 {

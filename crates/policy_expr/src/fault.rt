@@ -13,10 +13,10 @@ pub enum PolicyFault {
     /// The text of a sequence ends where a predicate or a parenthesis must come.
     #[error("a sequence ends where an item must come")]
     UnexpectedEnd,
-    /// A predicate can't be read, or something else stands in its place.
+    /// A predicate can't be read, or another token stands where one has to come.
     #[error("a hop predicate can't be read")]
     BadPredicate,
-    /// A parenthesis is closed that is not open, or is left open.
+    /// A parenthesis is closed that was not opened, or is not closed.
     #[error("the parentheses of a sequence don't match")]
     Unbalanced,
     /// More than 32 parentheses are open at once.
@@ -28,7 +28,7 @@ pub enum PolicyFault {
     /// The last entry of an access control list has a predicate, or there is no entry.
     #[error("the last entry of a list has no predicate")]
     NoDefault,
-    /// An entry without a predicate stands before the last.
+    /// An entry before the last has no predicate.
     #[error("an entry without a predicate is the last of its list")]
     AfterDefault,
 }
@@ -73,7 +73,7 @@ impl From<AddrFault> for PolicyFault {
     }
 }
 
-/// Why a call that takes memory gave no policy: running out of memory, or a refusal.
+/// Why a call that takes memory returned no policy: memory ran out, or a refusal.
 pub type PolicyError = OrMemory<PolicyFault>;
 
 impl From<PolicyFault> for OrMemory<PolicyFault> {

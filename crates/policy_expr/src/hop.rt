@@ -3,30 +3,30 @@ ghost use Rattle.policy_expr.specs.Hop.{Fits, FitsInterfaces, Matches};
 
 use isd_as::{IfId, IsdAs};
 
-/// One hop of a walk: an AS, and the interfaces by which the walk comes in and leaves.
+/// One hop of a walk: an AS, and the interfaces by which the walk enters and leaves it.
 #[derive(Clone, Copy, Debug, PartialEq, Eq)]
 pub struct WalkHop {
     /// The AS.
     pub ia: IsdAs,
-    /// The interface by which the walk comes in, or 0 where it begins.
+    /// The interface by which the walk enters the AS, or 0 in the first AS.
     pub ingress: IfId,
-    /// The interface by which the walk leaves, or 0 where it ends.
+    /// The interface by which the walk leaves the AS, or 0 in the last AS.
     pub egress: IfId,
 }
 
-/// What a hop predicate says of the interfaces of a hop. The number 0 is a wildcard.
+/// The interfaces that a hop predicate matches. The number 0 is a wildcard.
 #[derive(Clone, Copy, Debug, PartialEq, Eq)]
 pub enum Interfaces {
-    /// Nothing.
+    /// Any interfaces.
     Any,
-    /// The way in or the way out is this one.
+    /// This one is the way in or the way out.
     Either(IfId),
-    /// The way in is the first, and the way out the second.
+    /// The first is the way in, and the second the way out.
     Both(IfId, IfId),
 }
 
-/// A hop predicate: which ISD, AS and interfaces a hop has. The number 0 is a wildcard in each
-/// place.
+/// A hop predicate: which ISD, AS and interfaces it matches. The number 0 is a wildcard for each of
+/// them.
 #[derive(Clone, Copy, Debug, PartialEq, Eq)]
 pub struct HopPred {
     /// The ISD and the AS.
@@ -36,7 +36,7 @@ pub struct HopPred {
 }
 
 impl HopPred {
-    /// Whether the hop has this ISD and AS, and these interfaces.
+    /// Whether the predicate matches the hop's ISD, AS and interfaces.
     pub fn matches(&self, hop: &WalkHop) -> bool
         ensures { IsTrue result ↔ Matches self.now hop.now }
     {
@@ -47,7 +47,7 @@ impl HopPred {
 }
 
 impl Interfaces {
-    /// Whether the hop has these interfaces.
+    /// Whether these interfaces match those of the hop.
     fn fit(self, hop: &WalkHop) -> bool
         ensures { IsTrue result ↔ FitsInterfaces self hop.now }
     {
@@ -65,7 +65,7 @@ impl Interfaces {
     }
 }
 
-/// Whether a number fits the one that is wanted, where 0 wants any.
+/// Whether a number is the wanted one, or the wildcard 0 is wanted.
 fn fits(wanted: u64, number: u64) -> bool
     ensures { IsTrue result ↔ Fits wanted number }
 {

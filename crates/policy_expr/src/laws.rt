@@ -13,27 +13,27 @@ ghost use Rattle.policy_expr.specs.Reading.{node_count, sequence_at};
 ghost use Rattle.policy_expr.specs.Printing.{IsPredicate, IsSequence, opened, predicate_text, printed};
 ghost use Rattle.policy_expr.specs.Tokens.{tokens};
 
-/// What is read as a sequence is what the grammar spells, of at most 256 nodes, and nothing else
-/// is.
+/// Reading accepts exactly the texts that the grammar spells with at most 256 nodes, and gives the
+/// tree that they spell.
 pub fn reading_is_the_grammar()
     ensures { (text : List ℕ) (tree : Tree) → (sequence_at text ≡ Ok tree)
         ↔ (SpellsSequence text tree × (node_count tree ≤ 256)) }
 {}
 
-/// What is printed of a sequence or of a predicate is read as it again.
+/// Reading the printed text of a sequence or of a predicate gives it back.
 pub fn printed_is_read()
     ensures sequence { (tree : Tree) → IsSequence tree → sequence_at (printed tree) ≡ Ok tree }
     ensures predicate { (pred : HopPred) → IsPredicate pred → predicate_at (predicate_text pred)
         ≡ Ok pred }
 {}
 
-/// No text that spells a sequence has fewer parentheses than the one that is printed.
+/// No text that spells a sequence has fewer parentheses than its printed text.
 pub fn printed_has_fewest_parentheses()
     ensures { (tree : Tree) (text : List ℕ) → IsSequence tree → SpellsSequence text tree
         → opened (tokens (printed tree)) ≤ opened (tokens text) }
 {}
 
-/// What is read of a text is a sequence or a predicate of that kind.
+/// Whatever is read from a text keeps the rules of a sequence or of a predicate.
 pub fn read_is_kept()
     ensures sequence { (text : List ℕ) (tree : Tree) → sequence_at text ≡ Ok tree
         → IsSequence tree }
@@ -41,7 +41,7 @@ pub fn read_is_kept()
         → IsPredicate pred }
 {}
 
-/// The rules of a list find no fault exactly where it is one in plain facts.
+/// The rules of a list find no fault if and only if it is an access control list.
 pub fn lists_are_plain()
     ensures { (entries : List AclEntry) → (acl_fault entries ≡ None) ↔ IsAcl entries }
 {}

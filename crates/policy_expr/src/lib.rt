@@ -1,8 +1,8 @@
 //! Path policies: which walks over autonomous systems are allowed.
 //!
-//! A policy has an access control list, which decides each hop of a walk by its first entry that
-//! matches, and a sequence, a regular expression over hops of which the walk must be a word. Both
-//! are read from text and are kept under any allocator.
+//! A policy has an access control list and a sequence. In the list, the first entry that matches a
+//! hop decides about it. The sequence is a regular expression over hops, and a walk must be a word
+//! of it. Both are read from text, and can be kept in any allocator.
 #![tactic(auto)]
 
 mod acl;

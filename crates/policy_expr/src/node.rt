@@ -4,26 +4,26 @@ ghost use Rattle.policy_expr.specs.Language.{tree_of};
 use crate::hop::HopPred;
 use std::alloc::{AllocError, Allocator};
 
-/// A node of a sequence: a regular expression over hops, whose parts lie in boxes over an
+/// A node of a sequence, which is a regular expression over hops. Its parts are in boxes of an
 /// allocator.
 #[derive(Drop)]
 pub enum SeqNode<A: Allocator> {
-    /// One hop that the predicate matches.
+    /// One hop, matched by the predicate.
     Hop(HopPred),
-    /// The first and then the second.
+    /// The first part followed by the second.
     Then(Box<SeqNode<A>, A>, Box<SeqNode<A>, A>),
-    /// The first or the second.
+    /// The first part or the second.
     Or(Box<SeqNode<A>, A>, Box<SeqNode<A>, A>),
     /// The item or nothing: `?`.
     Optional(Box<SeqNode<A>, A>),
-    /// The item any number of times, also never: `*`.
+    /// The item any number of times, or never: `*`.
     Repeated(Box<SeqNode<A>, A>),
-    /// The item once or more often: `+`.
+    /// The item at least once: `+`.
     OnceOrMore(Box<SeqNode<A>, A>),
 }
 
 impl<A: Allocator + Clone> SeqNode<A> {
-    /// The same tree under another allocator.
+    /// A copy of this tree in another allocator.
     pub fn clone_in<B: Allocator + Clone>(&self, alloc: &B) -> Result<SeqNode<B>, AllocError>
         ensures { IfOk result (λ node. tree_of node ≡ tree_of self.now) }
     {
@@ -52,7 +52,7 @@ impl<A: Allocator + Clone> SeqNode<A> {
     }
 }
 
-/// The node in a box over a copy of the allocator.
+/// The node in a box of a copy of the allocator.
 pub(crate) fn boxed<A: Allocator + Clone>(
     alloc: &A,
     node: SeqNode<A>,

@@ -48,7 +48,7 @@ impl From<PolicyFault> for OptionFault {
     }
 }
 
-/// Why a call that takes memory gave no options: running out of memory, or a refusal.
+/// Why a call that takes memory returned no options: memory ran out, or a refusal.
 pub type OptionError = OrMemory<OptionFault>;
 
 impl From<OptionFault> for OrMemory<OptionFault> {

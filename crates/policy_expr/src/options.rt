@@ -8,7 +8,7 @@ use refusal::OrMemory;
 use std::alloc::{AllocError, Allocator};
 use std::marker::Model;
 
-/// The most options of a request.
+/// The largest number of options of a request.
 const MAX_OPTIONS: usize = 16;
 
 /// The texts of a policy, and its weight among the options of a request.
@@ -16,7 +16,7 @@ const MAX_OPTIONS: usize = 16;
 pub struct OptionText<'a> {
     /// The texts.
     pub text: PolicyText<'a>,
-    /// The weight: of the options that leave a path the heaviest is used.
+    /// The weight: among the options that leave a path, the one with the largest weight is used.
     pub weight: u32,
 }
 
@@ -52,7 +52,7 @@ impl<'a> OptionText<'a> {
 pub struct PolicyOption<A: Allocator + Clone> {
     /// The policy.
     pub policy: Policy<A>,
-    /// The weight: of the options that leave a path the heaviest is used.
+    /// The weight: among the options that leave a path, the one with the largest weight is used.
     pub weight: u32,
 }
 
@@ -71,8 +71,8 @@ impl<A: Allocator + Clone> Model for PolicyOption<A> {
 impl<A: Allocator + Clone> PolicyOption<A> {
     /// The options of these texts, in their order.
     ///
-    /// The first of these refusals: [`OptionFault::OptionCount`] if there are not 1 to 16; then
-    /// those of [`Policy::parse`], of the first text that has one.
+    /// The refusal is [`OptionFault::OptionCount`] unless there are 1 to 16; then that of
+    /// [`Policy::parse`] for the first option that has one.
     #[tactic(auto, using(crate::proofs::Weighed::judged_read))]
     pub fn parse_all(
         alloc: A,
@@ -84,7 +84,7 @@ impl<A: Allocator + Clone> PolicyOption<A> {
         read_each(alloc, texts)
     }
 
-    /// The same option under another allocator.
+    /// A copy of this option in another allocator.
     pub fn clone_in<B: Allocator + Clone>(&self, alloc: B) -> Result<PolicyOption<B>, AllocError>
         ensures { IfOk result (λ option. option ≡ self.now) }
     {

@@ -15,7 +15,7 @@ use separators::bytes::trim_start;
 use std::alloc::{AllocError, Allocator};
 use std::marker::Model;
 
-/// The texts of a policy, either of which may be absent.
+/// The texts of a policy; each may be absent.
 #[derive(Clone, Copy)]
 pub struct PolicyText<'a> {
     /// The texts of the access control list.
@@ -24,8 +24,8 @@ pub struct PolicyText<'a> {
     pub sequence: Option<&'a str>,
 }
 
-/// A path policy: an access control list and a sequence, of which either may be absent and then
-/// allows every walk.
+/// A path policy: an access control list and a sequence. Each may be absent, and then allows every
+/// walk.
 #[derive(Drop)]
 pub struct Policy<A: Allocator + Clone> {
     acl: Option<Acl<A>>,
@@ -55,9 +55,9 @@ impl<A: Allocator + Clone> Policy<A> {
         }
     }
 
-    /// The policy of these texts. A sequence of blanks alone is read as none.
+    /// The policy of these texts. A sequence of blanks alone counts as absent.
     ///
-    /// The refusals are those of [`Acl::parse`], and then those of [`Seq::parse`].
+    /// The refusals are those of [`Acl::parse`], then those of [`Seq::parse`].
     #[tactic(auto, unfolding(crate::specs::Policy::policy_at))]
     pub fn parse(alloc: A, text: &PolicyText<'_>) -> Result<Policy<A>, PolicyError>
         ensures { Answers (λ p. p) result
@@ -70,7 +70,7 @@ impl<A: Allocator + Clone> Policy<A> {
         Ok(Policy { acl, sequence })
     }
 
-    /// The same policy under another allocator.
+    /// A copy of this policy in another allocator.
     pub fn clone_in<B: Allocator + Clone>(&self, alloc: B) -> Result<Policy<B>, AllocError>
         ensures { IfOk result (λ p. p ≡ self.now) }
     {
@@ -85,8 +85,8 @@ impl<A: Allocator + Clone> Policy<A> {
         Ok(Policy { acl, sequence })
     }
 
-    /// Whether the list allows each hop of the walk, or the first that is denied and the entry that
-    /// decides it. Takes no memory.
+    /// Succeeds if the list allows each hop of the walk; else returns the first denied hop and the
+    /// entry that denies it. Takes no memory.
     pub fn verdict(&self, walk: &[WalkHop]) -> Result<(), Denied>
         ensures ok { IsOk result ↔ AllowsHops self.now.acl walk.now }
         ensures denied { IfErr result (λ denied. DeniesHop self.now.acl walk.now denied) }
@@ -97,8 +97,8 @@ impl<A: Allocator + Clone> Policy<A> {
         }
     }
 
-    /// Whether the walk is a word of the sequence. Tries each hop with each predicate at most once,
-    /// so that a walk of 64 hops takes at most 8,192 tries. Takes no memory.
+    /// Whether the walk is a word of the sequence. It tries each hop with each predicate at most
+    /// once; a walk of 64 hops takes at most 8,192 tries. Takes no memory.
     pub fn matches(&self, walk: &[WalkHop]) -> bool
         ensures { IsTrue result ↔ HasWord self.now.sequence walk.now }
     {
@@ -120,7 +120,7 @@ pub(crate) fn check_policy(text: &PolicyText<'_>) -> Result<(), PolicyFault>
     check_sequence(unblank(text.sequence))
 }
 
-/// The first refusal of a list's texts, where there is one.
+/// The first refusal of a list's texts, if there is a list.
 fn check_list(text: Option<&AclText>) -> Result<(), PolicyFault>
     ensures { Judges result (if_there acl_at (option_map (λ t. t.now) text.entry)) }
 {
@@ -130,7 +130,7 @@ fn check_list(text: Option<&AclText>) -> Result<(), PolicyFault>
     }
 }
 
-/// The first refusal of a sequence's text, where there is one.
+/// The first refusal of a sequence's text, if there is one.
 fn check_sequence(text: Option<&str>) -> Result<(), PolicyFault>
     ensures { Judges result (if_there sequence_at (option_map (λ t. t.now) text.entry)) }
 {
@@ -140,7 +140,7 @@ fn check_sequence(text: Option<&str>) -> Result<(), PolicyFault>
     }
 }
 
-/// Reads the access control list, where there is one.
+/// Reads the access control list, if there is one.
 fn read_acl<A: Allocator + Clone>(
     alloc: A,
     text: Option<&AclText>,
@@ -153,7 +153,7 @@ fn read_acl<A: Allocator + Clone>(
     }
 }
 
-/// Reads the sequence, where there is one.
+/// Reads the sequence, if there is one.
 fn read_sequence<A: Allocator + Clone>(
     alloc: A,
     text: Option<&str>,
@@ -167,7 +167,7 @@ fn read_sequence<A: Allocator + Clone>(
     }
 }
 
-/// The text of a sequence, blanks alone being none.
+/// The text of a sequence; a text of blanks alone is no sequence.
 fn unblank(text: Option<&str>) -> Option<&str>
     ensures { option_map (λ t. t.now) result ≡ unblank (option_map (λ t. t.now) text.entry) }
 {

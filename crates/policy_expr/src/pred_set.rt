@@ -51,7 +51,7 @@ impl PredSet {
         }
     }
 
-    /// The predicates one by one.
+    /// An iterator over the predicates.
     pub(crate) fn members(self) -> Members
         ensures { result ≡ self }
     {
@@ -62,9 +62,8 @@ impl PredSet {
     }
 }
 
-/// What is left of a set whose predicates are visited one by one, in two halves, each of which a
-/// processor steps through at once: predicate `k` is bit `k` of the low half, or bit `k - 64` of
-/// the high one.
+/// The predicates of a set that were not visited yet, in two halves of a machine word each.
+/// Predicate `k` is bit `k` of the low half, or bit `k - 64` of the high half.
 #[derive(Drop)]
 pub(crate) struct Members {
     low: u64,
@@ -80,7 +79,7 @@ impl Model for Members {
 }
 
 impl Members {
-    /// The next predicate, which no later call gives again.
+    /// The next predicate; each is returned once.
     pub(crate) fn next(&mut self) -> Option<usize>
         ensures { MatchOption result ((k : ℕ) → Has self.old k → ⊥)
             (λ number. IsSplit self.old number self.new) }

@@ -8,17 +8,17 @@ use isd_as::{AsNumber, IfId, Isd, IsdAs};
 use separators::sign::cut;
 
 impl HopPred {
-    /// The predicate that a text spells: `ISD`, `ISD-AS`, `ISD-AS#IF` or `ISD-AS#IN,OUT`. ISD and
-    /// AS are those of addresses, and an interface is decimal digits up to 65535. `#0` and `#0,0`
-    /// are read as no interfaces.
+    /// The predicate of a text: `ISD`, `ISD-AS`, `ISD-AS#IF` or `ISD-AS#IN,OUT`. ISD and AS are
+    /// read as in addresses; an interface is decimal digits up to 65535. `#0` and `#0,0` match any
+    /// interfaces.
     ///
     /// Any other text is [`PolicyFault::BadPredicate`].
     pub fn parse(text: &str) -> Result<HopPred, PolicyFault>
-        // What is read is spelled so.
+        // The text is a spelling of the predicate that is returned.
         ensures found { IfOk result (λ pred. SpellsPredicate text.now pred) }
-        // What is spelled so is read.
+        // Each predicate of which the text is a spelling is returned.
         ensures only { (pred : HopPred) → SpellsPredicate text.now pred → result ≡ Ok pred }
-        // Which refusal it is.
+        // The exact result, with its refusal.
         ensures exact { result ≡ predicate_at text.now }
     {
         read_predicate(text)
@@ -54,7 +54,7 @@ fn read_ia(text: &str) -> Result<IsdAs, PolicyFault>
     }
 }
 
-/// The AS number that is a wildcard.
+/// The wildcard for the AS number.
 fn any_as() -> AsNumber
     ensures { result ≡ 0 }
 {
@@ -82,7 +82,7 @@ fn read_interfaces(text: &str) -> Result<Interfaces, PolicyFault>
     }
 }
 
-/// What one interface says, where 0 says nothing.
+/// One interface; 0 is the wildcard.
 fn of_one(interface: IfId) -> Interfaces
     ensures { result ≡ one_interface interface }
 {
@@ -93,7 +93,7 @@ fn of_one(interface: IfId) -> Interfaces
     }
 }
 
-/// What two interfaces say, where 0 and 0 say nothing.
+/// Two interfaces; 0 and 0 are the wildcard.
 fn of_two(ingress: IfId, egress: IfId) -> Interfaces
     ensures { result ≡ two_interfaces ingress egress }
 {
@@ -104,7 +104,7 @@ fn of_two(ingress: IfId, egress: IfId) -> Interfaces
     }
 }
 
-/// Reads an interface: decimal digits up to 65535, as those of an ISD.
+/// Reads an interface: decimal digits up to 65535, as for an ISD.
 fn read_interface(text: &str) -> Result<IfId, PolicyFault>
     ensures { result ≡ interface_at text.now }
 {

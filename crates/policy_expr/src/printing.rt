@@ -32,7 +32,7 @@ impl fmt::Display for HopPred {
     }
 }
 
-/// How tight a node binds: following least, then `|`, and all others most.
+/// How tightly a node binds: following least, `|` more, and all others most.
 const FOLLOWING: u8 = 0;
 
 const EITHER: u8 = 1;
@@ -73,7 +73,7 @@ impl<A: Allocator> SeqNode<A> {
         }
     }
 
-    /// Adds its text at the end, in parentheses where it binds less tight than that.
+    /// Adds its text at the end, in parentheses if it binds less tightly than `least`.
     #[cycle(printing)]
     fn print_in<B: Allocator>(&self, least: u8, out: &mut String<B>) -> Result<(), AllocError>
         ensures { OnOk result

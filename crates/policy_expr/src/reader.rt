@@ -11,17 +11,17 @@ use crate::node::{SeqNode, boxed};
 use crate::token::{Token, next_token};
 use std::alloc::{AllocError, Allocator};
 
-/// What stands before the next item since the last open parenthesis.
+/// What was read before the next item since the last open parenthesis.
 #[derive(Drop)]
 pub(crate) struct Level<A: Allocator> {
-    /// What the item will follow.
+    /// The part that the next item follows.
     before: Option<SeqNode<A>>,
-    /// The alternatives to which the item will be one more.
+    /// The alternatives to which the next item is added.
     choices: Option<SeqNode<A>>,
 }
 
 impl<A: Allocator> Level<A> {
-    /// Nothing.
+    /// A level at which nothing was read.
     fn new() -> Level<A>
         ensures { level_of result ≡ new_level }
     {
@@ -32,7 +32,7 @@ impl<A: Allocator> Level<A> {
     }
 }
 
-/// A sequence's text under way.
+/// The state of reading a sequence's text.
 #[derive(Drop)]
 pub(crate) struct Reader<A: Allocator> {
     alloc: A,
@@ -42,7 +42,7 @@ pub(crate) struct Reader<A: Allocator> {
 }
 
 impl<A: Allocator + Clone> Reader<A> {
-    /// Nothing read yet.
+    /// The state before the first token.
     pub(crate) fn new(alloc: A) -> Result<Reader<A>, AllocError>
         ensures { IfOk result (λ reader. (rest : List Token)
             → gives reader rest ≡ read_rest [] new_level None rest) }
@@ -56,7 +56,7 @@ impl<A: Allocator + Clone> Reader<A> {
         })
     }
 
-    /// Takes one token more.
+    /// The state after one more token.
     pub(crate) fn take(self, token: Token) -> Result<Reader<A>, PolicyError>
         ensures { GoesOn (λ rest. gives self (token ∷ rest)) result }
     {
@@ -72,7 +72,7 @@ impl<A: Allocator + Clone> Reader<A> {
         }
     }
 
-    /// The tree at the end of the text.
+    /// The tree, if the text ends here.
     pub(crate) fn end(self) -> Result<SeqNode<A>, PolicyError>
         ensures { Reads (λ node. tree_of node) result (gives self []) }
     {
@@ -94,7 +94,7 @@ impl<A: Allocator + Clone> Reader<A> {
     }
 }
 
-/// Takes a token where an item must come.
+/// Takes a token where an item has to come.
 fn begin_item<A: Allocator + Clone>(
     alloc: A,
     mut levels: Vec<Level<A>, A>,
@@ -127,7 +127,7 @@ fn begin_item<A: Allocator + Clone>(
     }
 }
 
-/// Takes a token behind an item.
+/// Takes a token after an item.
 fn follow_item<A: Allocator + Clone>(
     alloc: A,
     mut levels: Vec<Level<A>, A>,
@@ -204,7 +204,7 @@ fn follow_item<A: Allocator + Clone>(
     }
 }
 
-/// All that was read at a level, with this item at its end.
+/// The tree of all that was read at a level, with this item at its end.
 fn join_level<A: Allocator + Clone>(
     alloc: &A,
     level: Level<A>,
@@ -217,7 +217,7 @@ fn join_level<A: Allocator + Clone>(
     join_before(alloc, before, item)
 }
 
-/// The item as one alternative more.
+/// The item as one more alternative.
 fn join_choices<A: Allocator + Clone>(
     alloc: &A,
     choices: Option<SeqNode<A>>,
@@ -232,7 +232,7 @@ fn join_choices<A: Allocator + Clone>(
     }
 }
 
-/// The item behind what it follows.
+/// The item after the part that it follows.
 fn join_before<A: Allocator + Clone>(
     alloc: &A,
     before: Option<SeqNode<A>>,
@@ -247,7 +247,7 @@ fn join_before<A: Allocator + Clone>(
     }
 }
 
-/// The tree of a text, however large.
+/// The tree of a text, of any size.
 pub(crate) fn read_tree<A: Allocator + Clone>(
     alloc: A,
     text: &str,

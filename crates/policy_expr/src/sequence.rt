@@ -15,9 +15,9 @@ use crate::table::Table;
 use std::alloc::{AllocError, Allocator};
 use std::marker::Model;
 
-/// A sequence: a regular expression over hops, of which walks are words.
+/// A sequence: a regular expression over hops, whose words are walks.
 ///
-/// Its type keeps that it has at most 256 nodes, and that its text has at most 32 parentheses open
+/// Its type keeps the rules: it has at most 256 nodes, and its text has at most 32 parentheses open
 /// at once.
 #[derive(Drop)]
 pub struct Seq<A: Allocator + Clone> {
@@ -44,21 +44,21 @@ impl<A: Allocator + Clone> Model for Seq<A> {
 impl<A: Allocator + Clone> Seq<A> {
     /// The sequence of a text.
     ///
-    /// The text is read from left to right. Where an item must come, its end is
-    /// [`PolicyFault::UnexpectedEnd`], a `(` with 32 open [`PolicyFault::TooDeep`], and any token
-    /// but a predicate [`PolicyFault::BadPredicate`]. Behind an item, a `)` with none open and the
-    /// end with some open are [`PolicyFault::Unbalanced`], and an unknown character is
-    /// [`PolicyFault::BadPredicate`]. A text without these faults is [`PolicyFault::TooLarge`]
-    /// where it has more than 256 nodes.
+    /// The text is read from left to right. Where an item has to come, the end of the text is
+    /// [`PolicyFault::UnexpectedEnd`], a `(` with 32 open is [`PolicyFault::TooDeep`], and any
+    /// other token that begins no item is [`PolicyFault::BadPredicate`]. After an item, a `)` with
+    /// none open and the end with some open are [`PolicyFault::Unbalanced`], and an unknown
+    /// character is [`PolicyFault::BadPredicate`]. A text without these faults is
+    /// [`PolicyFault::TooLarge`] if it has more than 256 nodes.
     pub fn parse(alloc: A, text: &str) -> Result<Seq<A>, PolicyError>
-        // What is read is spelled so.
+        // The text is a spelling of the sequence that is returned.
         ensures found { IfOk result (λ s. SpellsSequence text.now s × (node_count s ≤ 256)) }
-        // What is spelled so is read, or memory is wanted.
+        // If the text is a spelling of a sequence, that is returned, or memory runs out.
         ensures only { (tree : Tree) → SpellsSequence text.now tree → node_count tree ≤ 256
             → Answers (λ s. s) result (Ok tree) }
-        // Which refusal it is.
+        // The refusal, if the text is refused.
         ensures refused { IfErr result (IsRefusal text.now) }
-        // The same as one equation.
+        // All of this as one equation.
         ensures exact { Answers (λ s. s) result (sequence_at text.now) }
     {
         Seq::read(alloc, text)
@@ -74,7 +74,8 @@ impl<A: Allocator + Clone> Seq<A> {
         Ok(Seq { root, table })
     }
 
-    /// Printing and parsing again gives the same sequence.
+    /// Does nothing; its contract tells the caller that printing and parsing gives the sequence
+    /// back.
     pub fn known(&self)
         ensures kept { IsSequence self.now }
         ensures again { sequence_at (printed self.now) ≡ Ok self.now }
@@ -82,9 +83,9 @@ impl<A: Allocator + Clone> Seq<A> {
         let _ = &self.root;
     }
 
-    /// Its text, with the fewest parentheses that keep the tree: one space for following, nothing
-    /// round `|`, addresses in their canonical text, and the ISD alone where AS and interfaces are
-    /// wildcards.
+    /// Its text, with no parentheses that the tree can do without. There is one space for following
+    /// and no space around `|`. Addresses are in their canonical text; the ISD stands alone if the
+    /// AS and the interfaces are wildcards.
     pub fn print<B: Allocator>(&self, alloc: B) -> Result<String<B>, AllocError>
         ensures { IfOk result (λ text. string_bytes text ≡ printed self.now) }
     {
@@ -93,7 +94,7 @@ impl<A: Allocator + Clone> Seq<A> {
         Ok(text)
     }
 
-    /// The same sequence under another allocator.
+    /// A copy of this sequence in another allocator.
     pub fn clone_in<B: Allocator + Clone>(&self, alloc: B) -> Result<Seq<B>, AllocError>
         ensures { IfOk result (λ s. s ≡ self.now) }
     {
@@ -102,8 +103,8 @@ impl<A: Allocator + Clone> Seq<A> {
         Ok(Seq { root, table })
     }
 
-    /// Whether the walk is a word of this sequence. Tries each hop with each predicate at most
-    /// once, so that a walk of 64 hops takes at most 8,192 tries. Takes no memory.
+    /// Whether the walk is a word of this sequence. It tries each hop with each predicate at most
+    /// once; a walk of 64 hops takes at most 8,192 tries. Takes no memory.
     pub fn matches(&self, walk: &[WalkHop]) -> bool
         ensures { IsTrue result ↔ Lang self.now walk.now }
     {

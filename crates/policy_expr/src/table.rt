@@ -10,15 +10,15 @@ use crate::node::SeqNode;
 use crate::pred_set::PredSet;
 use std::alloc::{AllocError, Allocator};
 
-/// A line of a table: a predicate, and the predicates that may follow it.
+/// A line of a table: a predicate, and the predicates that may come right behind it.
 #[derive(Clone, Copy)]
 pub(crate) struct Line {
     pub(crate) pred: HopPred,
     pub(crate) next: PredSet,
 }
 
-/// A sequence as a table: a line for each predicate, numbered from left to right, the predicates
-/// that may come first and last, and whether the walk of no hops is a word.
+/// A sequence as a table: a line for each predicate, numbered from left to right; the predicates
+/// that may come first and last; and whether the walk of no hops is a word.
 #[derive(Drop)]
 pub(crate) struct Table<A: Allocator> {
     pub(crate) lines: Vec<Line, A>,
@@ -36,7 +36,7 @@ impl<A: Allocator> Table<A> {
         Ok(Table { lines, ends })
     }
 
-    /// The same table under another allocator.
+    /// A copy of this table in another allocator.
     pub(crate) fn clone_in<B: Allocator>(&self, alloc: B) -> Result<Table<B>, AllocError>
         ensures { IfOk result
             (λ table. (table.lines.items ≡ self.now.lines.items) × (table.ends ≡ self.now.ends)) }
@@ -49,7 +49,7 @@ impl<A: Allocator> Table<A> {
         })
     }
 
-    /// Whether the walk is a word of the table. One pass over its hops, each of which is tried with
+    /// Whether the walk is a word of the table. It passes once over the hops, and tries each with
     /// each predicate at most once. Takes no memory.
     pub(crate) fn matches(&self, walk: &[WalkHop]) -> bool
         requires first { (k : ℕ) → Has self.now.ends.first k → k < length self.now.lines.items }
@@ -67,7 +67,7 @@ impl<A: Allocator> Table<A> {
         self.does_one_match(wanted.and(self.ends.last), end)
     }
 
-    /// The predicates that may follow one of these that matches the hop.
+    /// The predicates that may come behind those of `wanted` that match the hop.
     fn wanted_behind(&self, wanted: PredSet, hop: &WalkHop) -> PredSet
         requires { (k : ℕ) → Has wanted k → k < vec_len self.now.lines }
         ensures { (j : ℕ) → Has result j
@@ -85,7 +85,7 @@ impl<A: Allocator> Table<A> {
         next
     }
 
-    /// These predicates, and those that may follow this one where it matches the hop.
+    /// `next`, and if this predicate matches the hop also the predicates that may come behind it.
     fn with_followers(&self, number: usize, hop: &WalkHop, next: PredSet) -> PredSet
         requires { number < vec_len self.now.lines }
         ensures { (j : ℕ) → Has result j ↔ (Has next j
@@ -159,7 +159,8 @@ impl<A: Allocator> SeqNode<A> {
     }
 }
 
-/// Lets a part be followed by the other: the ends of both.
+/// Lets the words of one part be followed by those of the other, and returns the ends of both
+/// together.
 fn followed<B: Allocator>(lines: &mut Vec<Line, B>, front: Ends, back: Ends) -> Ends
     requires { (k : ℕ) → Has front.last k → k < vec_len lines.old }
     ensures links { Links lines.old.items lines.new.items front.last back.first }
@@ -169,7 +170,7 @@ fn followed<B: Allocator>(lines: &mut Vec<Line, B>, front: Ends, back: Ends) -> 
     front.then(back)
 }
 
-/// Lets a part begin again behind its end: its ends, or nothing.
+/// Lets a part begin again behind its end, and returns the ends of any number of repetitions.
 fn repeated<B: Allocator>(lines: &mut Vec<Line, B>, again: Ends) -> Ends
     requires { (k : ℕ) → Has again.last k → k < vec_len lines.old }
     ensures links { Links lines.old.items lines.new.items again.last again.first }
@@ -179,7 +180,7 @@ fn repeated<B: Allocator>(lines: &mut Vec<Line, B>, again: Ends) -> Ends
     again.or_nothing()
 }
 
-/// Lets a part begin again behind its end: its ends.
+/// Lets a part begin again behind its end, and returns the ends of at least one repetition.
 fn once_or_more<B: Allocator>(lines: &mut Vec<Line, B>, once: Ends) -> Ends
     requires { (k : ℕ) → Has once.last k → k < vec_len lines.old }
     ensures links { Links lines.old.items lines.new.items once.last once.first }
@@ -189,7 +190,7 @@ fn once_or_more<B: Allocator>(lines: &mut Vec<Line, B>, once: Ends) -> Ends
     once
 }
 
-/// Lets each of the one predicates be followed by each of the others.
+/// Lets each predicate of `last` be followed by each of `first`.
 fn link(lines: &mut [Line], last: PredSet, first: PredSet)
     requires { (k : ℕ) → Has last k → k < length lines.old }
     ensures { Links lines.old lines.new last first }

@@ -24,11 +24,11 @@ pub(crate) enum Token {
     Open,
     /// `)`
     Close,
-    /// A text that is no predicate, or a character that is no sign.
+    /// A text that looks like a predicate and is none, or a character that is no sign.
     Other,
 }
 
-/// The first token of the text, and the text behind it.
+/// The first token of the text, and the text after it.
 pub(crate) fn next_token(text: &[u8]) -> Option<(Token, &[u8])>
     ensures { MatchOption result (tokens text.now ≡ [])
         (λ found. (tokens text.now ≡ found.0 ∷ tokens found.1.now)
@@ -46,7 +46,7 @@ pub(crate) fn next_token(text: &[u8]) -> Option<(Token, &[u8])>
     Some((token_of_run(run), rest))
 }
 
-/// The text from its first byte that is no mark.
+/// The text after the characters of predicates with which it begins.
 fn behind_marks(text: &[u8]) -> &[u8]
     ensures { result.now ≡ drop (prefix_len is_mark text.now) text.now }
 {
@@ -60,14 +60,14 @@ fn behind_marks(text: &[u8]) -> &[u8]
     rest
 }
 
-/// Whether the byte is one that predicates are made of.
+/// Whether the byte is a character of predicates.
 fn is_mark_byte(byte: u8) -> bool
     ensures { result ≡ is_mark byte }
 {
     matches!(byte, b'0'..=b'9' | b'a'..=b'f' | b'A'..=b'F' | b'-' | b':' | b'#' | b',')
 }
 
-/// The token of a sign.
+/// The token of a character that is a sign.
 fn token_of_sign(byte: u8) -> Token
     ensures { result ≡ sign_token byte }
 {
@@ -82,7 +82,7 @@ fn token_of_sign(byte: u8) -> Token
     }
 }
 
-/// The token of a run of marks.
+/// The token of a run of characters of predicates.
 fn token_of_run(run: &[u8]) -> Token
     requires { IsAscii run.now }
     ensures { result ≡ read_token (predicate_at run.now) }

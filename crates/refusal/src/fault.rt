@@ -5,13 +5,13 @@ use std::alloc::{AllocError, AllocFailed};
 use std::fmt::Display;
 use thiserror::Error;
 
-/// Why a call that takes memory gave no value: memory ran out, or what the call refuses.
+/// Why a call that takes memory returned no value: memory ran out, or the request was refused.
 #[derive(Clone, Copy, Debug, PartialEq, Eq, Error)]
 pub enum OrMemory<F: Display> {
     /// Memory ran out.
     #[error("out of memory")]
     Memory,
-    /// What was asked for is refused.
+    /// The call refused the request, for this reason.
     #[error("{0}")]
     Refused(F),
 }

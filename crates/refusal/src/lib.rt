@@ -1,7 +1,7 @@
-//! Refusals beside running out of memory, and the words in which contracts speak of both.
+//! Errors of calls that can also run out of memory, and the words in which contracts speak of them.
 //!
-//! A call that takes memory answers a value, the refusal of its crate, or running out of memory.
-//! The error of every such call is [`OrMemory`] of its crate's refusals.
+//! A call that takes memory returns a value or an error. The error is [`OrMemory`] of its crate's
+//! refusals: a refusal, or running out of memory.
 #![tactic(auto)]
 
 mod fault;

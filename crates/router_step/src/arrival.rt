@@ -1,9 +1,9 @@
 use isd_as::IfId;
 
-/// How a packet came to the router at which it stands.
+/// How a packet came to its router.
 #[derive(Clone, Copy, Debug, PartialEq, Eq)]
 pub enum Arrival {
-    /// From a host of the router's AS, which sends it.
+    /// From a host of the router's AS.
     FromHost,
     /// From another router of the AS.
     Inside,

@@ -1,6 +1,6 @@
-//! The tests that a router makes, each as its definition says it.
+//! The checks of a router, one function for each.
 //!
-//! [`step`](crate::step) makes them in their order; who shows a packet asks them one by one.
+//! [`step`](crate::step) makes them in their order; a display of a packet calls them one by one.
 
 ghost use Rattle.std.specs.Prelude.{◌≡◌};
 ghost use Rattle.router_step.specs.Place.{is_over_link};
@@ -22,7 +22,7 @@ pub fn has_no_single(lens: SegLens) -> bool
     lens.first != 1 && lens.second != 1 && lens.third != 1
 }
 
-/// Whether a packet may start at this hop field, where a host sends it.
+/// Whether a packet that came in this way may be at this hop field: from a host, only at the first.
 pub fn is_start_right(arrival: &Arrival, hop: usize) -> bool
     ensures { result ≡ is_start_right arrival.now hop }
 {
@@ -52,7 +52,7 @@ pub fn is_owned(view: &RouterView<'_>, interface: IfId) -> bool
     }
 }
 
-/// Whether a packet that came over a link came in where it may.
+/// Whether a packet that came over a link came by an interface of this router, the hop's way in.
 pub fn way_in_fits(
     view: &RouterView<'_>,
     arrival: &Arrival,
@@ -74,7 +74,7 @@ pub fn is_live(now: u32, info: &InfoField, hop: &HopField) -> bool
     hop_is_live(info.timestamp, hop.exp_time, now)
 }
 
-/// Whether the hop's authenticator is right under the accumulator of its segment.
+/// Whether the hop's authenticator is right under the info field's accumulator and an accepted key.
 pub fn is_mac_right(view: &RouterView<'_>, info: &InfoField, hop: &HopField) -> bool
     ensures { result ≡ is_mac_right view.now info.now hop.now }
 {
@@ -88,7 +88,7 @@ pub fn is_mac_right(view: &RouterView<'_>, info: &InfoField, hop: &HopField) -> 
     )
 }
 
-/// Checks that the hop is live and its authenticator right.
+/// Checks that the hop is live and that its authenticator is right.
 #[tactic(auto, unfolding(crate::specs::Step::passes))]
 pub(crate) fn pass(
     view: &RouterView<'_>,
@@ -107,7 +107,7 @@ pub(crate) fn pass(
     Ok(())
 }
 
-/// Whether the source fits how the packet came.
+/// Whether the packet's source fits how the packet came.
 pub fn source_fits(view: &RouterView<'_>, arrival: &Arrival, source: IsdAs) -> bool
     ensures { result ≡ source_fits view.now arrival.now source }
 {
@@ -118,15 +118,15 @@ pub fn source_fits(view: &RouterView<'_>, arrival: &Arrival, source: IsdAs) -> b
     }
 }
 
-/// Whether the packet is for this AS exactly where its path ends here.
+/// Whether the packet is for this AS if and only if its path ends here.
 pub fn destination_fits(view: &RouterView<'_>, destination: IsdAs, last: bool) -> bool
     ensures { result ≡ destination_fits view.now destination last }
 {
     (destination == view.ia()) == last
 }
 
-/// Whether a path may go from a link of one kind to one of the other, with a switch to another
-/// segment between them or without.
+/// Whether a path may come in by a link of one kind and leave by one of the other, with or without
+/// a switch to another segment in between.
 pub fn are_joined(switched: bool, from: LinkKind, to: LinkKind) -> bool
     ensures { result ≡ are_joined switched from to }
 {
@@ -141,7 +141,7 @@ pub fn are_joined(switched: bool, from: LinkKind, to: LinkKind) -> bool
     }
 }
 
-/// Whether the links by which the packet comes in and goes out may be joined.
+/// Whether the links by which the packet comes in and leaves may be joined.
 pub fn kinds_fit(view: &RouterView<'_>, arrival: &Arrival, switched: bool, out: LinkKind) -> bool
     ensures { result ≡ kinds_fit view.now arrival.now switched out }
 {

@@ -4,18 +4,19 @@ ghost use Rattle.router_step.specs.Fault.{code_of, name_of};
 use path_header::HeaderFault;
 use thiserror::Error;
 
-/// Why a router refuses a packet: the first of the checks that fails, in the order of the variants,
-/// save that a switch to another segment checks expiry and authenticator once more.
+/// Why a router refuses a packet: the first check that fails, in the order of the variants. A
+/// switch to another segment checks expiry and authenticator once more, before
+/// [`Self::UnknownEgress`].
 #[derive(Clone, Copy, Debug, PartialEq, Eq, Error)]
 pub enum Refusal {
-    /// The packet has fewer bytes than its addresses need, or no path header behind them.
+    /// The packet has fewer bytes than its addresses need, or no path header after them.
     #[error("the packet has no path header: {0}")]
     BadHeader(HeaderFault),
-    /// The current info field is not that of the current hop field, a segment has a single hop
-    /// field, or a host's packet does not stand at the first hop field.
+    /// The current hop field is not in the current info field's segment, a segment has a single hop
+    /// field, or a packet from a host is not at the first hop field.
     #[error("the indices of the packet do not fit its path")]
     IndexMismatch,
-    /// The packet came over a link that is not this router's or not the hop's way in.
+    /// The packet came over a link that this router does not own, or that is not the hop's way in.
     #[error("the packet did not come in where its hop field says")]
     WrongIngress,
     /// The hop is past its expiry.
@@ -24,22 +25,22 @@ pub enum Refusal {
     /// The hop's authenticator is right under none of the keys that this AS accepts.
     #[error("the authenticator of the hop is not right")]
     BadMac,
-    /// A host's packet names another AS as its source, or one from outside names this one.
+    /// A packet from a host has another AS as its source, or a packet from outside has this one.
     #[error("the source AS does not fit how the packet came")]
     SourceAs,
-    /// The path ends in this AS and the packet is for another, or the other way round.
+    /// The path ends in this AS and the packet is for another AS, or the other way round.
     #[error("the destination AS does not fit the end of the path")]
     DestinationAs,
-    /// The path changes segments in this AS, and the packet did not come over a link.
+    /// The path switches to another segment in this AS, and the packet did not come over a link.
     #[error("a packet from inside the AS can't change segments")]
     SwitchInside,
-    /// The hop's egress interface is unknown.
+    /// The AS has no interface with the number of the hop's way out.
     #[error("the AS has no interface of the way out")]
     UnknownEgress,
-    /// The links in and out are not of kinds that a path may join.
+    /// A path may not join the links by which the packet comes in and leaves.
     #[error("the links in and out can't be joined")]
     LinkKinds,
-    /// The link at the way out is down.
+    /// The link at the hop's way out is down.
     #[error("the link at the way out is down")]
     LinkDown,
 }

@@ -14,10 +14,10 @@ ghost use Rattle.router_step.specs.Packet.{IsFrame, frame_step, packet_step};
 ghost use Rattle.router_step.specs.Done.{Situation, Does, on_arrival, at_the_way_out, IsOwnHop, IsOwnLink, StaysOnSegment, ChangesSegment};
 ghost use Rattle.router_step.specs.Forward.{IsAdmitted, MayLeave, goes};
 
-/// A packet that is not refused stands at a hop that is live and whose authenticator is right under
-/// a key that this AS accepts and the accumulator that the packet has after its arrival; and where
-/// the path goes on to another segment, at such a hop there too. So it is with each that leaves
-/// over a link and each that is delivered.
+/// A packet that is not refused is at a live hop, whose authenticator is right under a key that
+/// this AS accepts and the accumulator after the arrival. If the path switches to another segment,
+/// the same holds for the first hop of that segment. So it is for every packet that leaves over a
+/// link or is delivered.
 pub fn own_hops_alone()
     ensures here { (at : Situation) (outcome : Outcome) (new : HeaderValue)
         → Does at outcome new → IsOwnHop at.view at.now (on_arrival at) }
@@ -27,8 +27,8 @@ pub fn own_hops_alone()
     scion_topology::laws::authentic_by_test();
 }
 
-/// A packet leaves by the way out of its hop alone, over a link of this router that is up; and it
-/// goes to another router alone where that one owns the way out.
+/// A packet leaves only by the way out of its hop, over a link of this router that is up. It goes
+/// to another router only if that router owns the way out.
 pub fn own_links_alone()
     ensures over_link { (at : Situation) (interface : ℕ) (new : HeaderValue)
         → Does at (Outcome.ToLink interface) new
@@ -42,38 +42,39 @@ pub fn own_links_alone()
         ≡ Some entry))) }
 {}
 
-/// The new header is what the arrival makes of the old one, then a switch where the path goes on to
-/// another segment, then the outcome.
+/// The new header is the old one after three changes: that of the arrival, that of a switch if the
+/// path goes on to another segment, and that of the outcome.
 pub fn three_changes()
     ensures all { (at : Situation) (outcome : Outcome) (new : HeaderValue)
         → Does at outcome new → new ≡ gone outcome (at_the_way_out at) }
 
-    // A packet that goes to another router is as its arrival and a switch made it.
+    // A packet that goes to another router has only the changes of the arrival and of a switch.
     ensures to_router { (at : Situation) (router : ℕ) (new : HeaderValue)
         → Does at (Outcome.ToRouter router) new → new ≡ at_the_way_out at }
-    // A packet is delivered at its path's last hop, as its arrival made it.
+    // A packet is delivered at the last hop of its path, with only the change of the arrival.
     ensures delivered { (at : Situation) (new : HeaderValue)
         → Does at Outcome.Deliver new → (is_last at.header ≡ true) × (new ≡ on_arrival at) }
 {}
 
-/// Where the path does not go on to another segment, the new header differs from the old one by the
-/// index of its hop field and the accumulator of its segment alone.
+/// If the path stays on its segment, the new header differs only in the index of its hop field and
+/// in the accumulator of that segment.
 pub fn segment_stays()
     ensures { (at : Situation) (outcome : Outcome) (new : HeaderValue)
         → IsHeader at.header → Does at outcome new → changes_segment at.header ≡ false
         → StaysOnSegment at.header new }
 {}
 
-/// Where the path goes on to another segment, the one that is left keeps the accumulator of the
-/// arrival, the next one's is before the way out as it was, and both indices go up by one.
+/// If the path switches to another segment, the segment behind keeps the accumulator after the
+/// arrival, that of the next is unchanged before the packet leaves, and both indices go up by one.
 pub fn segment_changes()
     ensures { (at : Situation) (outcome : Outcome) (new : HeaderValue)
         → Does at outcome new → changes_segment at.header ≡ true → ChangesSegment at new }
 {}
 
-/// A packet that stays on its segment and leaves over a link takes along, in construction
-/// direction, the accumulator of the next hop; one that came over a link has, against it, that of
-/// the hop before, from which the chain's step leads to the one that it came with.
+/// A packet that stays on its segment and leaves over a link in construction direction carries the
+/// accumulator of the next hop. One that came over a link against construction direction has, after
+/// the step, the accumulator of the hop that it passed. One step of the chain leads from that back
+/// to the accumulator with which it came.
 pub fn accumulator_goes_on()
     ensures along { (at : Situation) (interface : ℕ) (new : HeaderValue)
         → IsHeader at.header → Does at (Outcome.ToLink interface) new
@@ -83,7 +84,8 @@ pub fn accumulator_goes_on()
         → IsHeader at.header → Does at outcome new → is_over_link at.arrival ≡ true
         → changes_segment at.header ≡ false → (info_of at.header).construction ≡ false
         → beta_after (info_of new).seg_id (hop_of at.header).mac ≡ (info_of at.header).seg_id }
-    // With a switch too a packet leaves in construction direction with the next hop's accumulator.
+    // With a switch, too, a packet that leaves in construction direction carries the next hop's
+    // accumulator.
     ensures leaving { (at : Situation) (interface : ℕ) (new : HeaderValue)
         → IsHeader at.header → Does at (Outcome.ToLink interface) new
         → (info_of (at_the_way_out at)).construction ≡ true
@@ -93,8 +95,8 @@ pub fn accumulator_goes_on()
     hop_mac::laws::step_undone();
 }
 
-/// A packet that is not refused has a header of the grammar again, and the next router finds that
-/// its indices fit.
+/// A packet that is not refused still has a header of the grammar, and its indices pass the check
+/// of the next router.
 pub fn indices_go_on()
     ensures header { (at : Situation) (outcome : Outcome) (new : HeaderValue)
         → IsHeader at.header → Does at outcome new → IsHeader new }
@@ -103,8 +105,8 @@ pub fn indices_go_on()
         → indices_fit arrival new ≡ true }
 {}
 
-/// Where the checks hold the step goes on: at the path's last hop the packet is delivered, and
-/// elsewhere it goes where its hop's way out leads, after a switch where its segment ends.
+/// If the checks succeed, the step does too. At the last hop of its path the packet is delivered.
+/// Elsewhere it leaves by its hop's way out, after a switch if its segment ends.
 pub fn checks_lead_on()
     ensures delivered { (view : View) (now : ℕ) (arrival : Arrival) (source destination : ℕ)
         (header here : HeaderValue) → IsAdmitted view now arrival source header here
@@ -119,7 +121,7 @@ pub fn checks_lead_on()
         → let there = moved_on has_switched here in let way = goes view out there in
         step_of view now arrival source destination header ≡ Ok (way, gone way there) }
 
-    // Whether there is a switch.
+    // Whether the step switches to another segment.
     ensures on_its_segment { (view : View) (now : ℕ) (arrival : Arrival) (here : HeaderValue)
         → ends_segment here ≡ false → switched view now arrival here ≡ Ok false }
     ensures to_the_next { (view : View) (now : ℕ) (arrival : Arrival) (here : HeaderValue)
@@ -129,8 +131,8 @@ pub fn checks_lead_on()
         → switched view now arrival here ≡ Ok true }
 {}
 
-/// A step over a packet of these parts is that over its path header, with the new header's spelling
-/// in the place of the old one's.
+/// A step on a packet in these parts is the step on its path header; in the new packet the new
+/// header's bytes replace the old ones.
 pub fn frames_are_stepped()
     ensures { (view : View) (now : ℕ) (arrival : Arrival) (packet addresses text rest : List ℕ)
         (header : HeaderValue) → IsFrame packet addresses text rest header

@@ -1,8 +1,8 @@
-//! One step of a router: what becomes of a packet that stands at a router of a SCION network.
+//! One step of a router of a SCION network on a packet.
 //!
-//! A router checks the hop field at which the packet stands against what it knows of its AS, in a
-//! fixed order of thirteen steps, and sends the packet over a link, hands it to another router of
-//! the AS, or delivers it. A packet that is refused stays as it was.
+//! A router checks the packet's current hop field against its view of its AS, in a fixed order of
+//! thirteen steps. Then it sends the packet over a link, hands it to another router of the AS, or
+//! delivers it. A packet that is refused stays as it was.
 #![tactic(auto)]
 
 mod arrival;

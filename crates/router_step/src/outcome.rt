@@ -1,6 +1,6 @@
 use isd_as::IfId;
 
-/// Where a packet goes that a router did not refuse.
+/// Where a packet goes that was not refused.
 #[derive(Clone, Copy, Debug, PartialEq, Eq)]
 pub enum Outcome {
     /// Over the link at this interface.

@@ -1,4 +1,4 @@
-//! The step over the bytes of a packet.
+//! The step on the bytes of a packet.
 
 ghost use Rattle.std.specs.Prelude.{◌≡◌, ℕ, ◌+◌, ◌≤◌, true, List, ◌++◌, length, take, drop, OnOk, OnErr, IfOk, MatchResult};
 ghost use Rattle.path_header.specs.Value.{HeaderValue, header_len};
@@ -16,36 +16,40 @@ use isd_as::IsdAs;
 use path_header::{Header, HeaderFault, HeaderMut, decode};
 use scion_topology::RouterView;
 
-/// The bytes in front of the path header: the destination's and the source's address.
+/// The length of the addresses in front of the path header, destination and source.
 const ADDRESSES_LEN: usize = 16;
 
-/// One step of the router with this view, at the second `now`, over a packet that came to it by
-/// `arrival`: where the packet goes, its path header brought on, or the first check that fails.
+/// One step of the router with this view, at the second `now`, on a packet that came to it by
+/// `arrival`. It returns where the packet goes and changes its path header, or returns the first
+/// check that fails.
 ///
-/// A packet is 8 bytes of its destination's address, 8 of its source's, a path header, and a
-/// payload. After a refusal every byte is as before; else those of the header alone are others, as
-/// many as before. The checks come in this order, each with its refusal:
+/// A packet is 8 bytes of destination address, 8 bytes of source address, a path header, and a
+/// payload. After a refusal every byte is as before; else only bytes of the header change, and its
+/// length stays. The checks come in this order, each with its refusal:
 ///
-/// 1. The packet has both addresses and a path header behind them: [`Refusal::BadHeader`], with the
-///    header's own refusal.
-/// 2. The current info field is that of the current hop field, no segment has a single hop field,
-///    and a host's packet stands at the first hop field: [`Refusal::IndexMismatch`].
-/// 3. A packet that came over a link came by an interface of this router, the hop's way in:
-///    [`Refusal::WrongIngress`].
+/// 1. The packet has both addresses and a path header after them: [`Refusal::BadHeader`], with the
+///    refusal of the header.
+/// 2. The current hop field is in the segment of the current info field, no segment has a single
+///    hop field, and a packet from a host is at the first hop field: [`Refusal::IndexMismatch`].
+/// 3. A packet that came over a link came by an interface of this router, and that is the hop's way
+///    in: [`Refusal::WrongIngress`].
 /// 4. The hop is live: [`Refusal::Expired`].
-/// 5. Over a link and against construction direction the accumulator goes one hop back. Then the
-///    hop's authenticator is right under it: [`Refusal::BadMac`].
-/// 6. A host's packet is from this AS, one that came over a link is not: [`Refusal::SourceAs`].
-/// 7. The packet is for this AS exactly where it stands at the path's last hop:
+/// 5. Over a link against construction direction, this hop's authenticator is taken out of the
+///    accumulator. Then the hop's authenticator is right under the accumulator:
+///    [`Refusal::BadMac`].
+/// 6. A packet from a host has this AS as its source, and one that came over a link has another:
+///    [`Refusal::SourceAs`].
+/// 7. The packet is for this AS if and only if it is at the last hop of its path:
 ///    [`Refusal::DestinationAs`].
-/// 8. At the path's last hop it is delivered.
-/// 9. At the last hop of a segment it must have come over a link, [`Refusal::SwitchInside`]; both
-///    indices go on by one, and the new hop passes checks 4 and 5 with the accumulator as it is.
+/// 8. At the last hop of its path, the packet is delivered.
+/// 9. At the last hop of a segment, the packet must have come over a link:
+///    [`Refusal::SwitchInside`]. Both indices go on by one, and the new hop passes checks 4 and 5
+///    with the accumulator as it is.
 /// 10. The AS has the interface of the way out: [`Refusal::UnknownEgress`].
-/// 11. The links by which a packet comes in and goes out may be joined: [`Refusal::LinkKinds`].
-/// 12. Where another router owns the way out the packet goes to it, with no further change.
-/// 13. The link is up: [`Refusal::LinkDown`]. In construction direction the accumulator goes one
-///     hop on; the packet goes over the link, at the next hop field.
+/// 11. The links by which the packet comes in and leaves may be joined: [`Refusal::LinkKinds`].
+/// 12. If another router owns the way out, the packet goes to it, with no further change.
+/// 13. The link is up: [`Refusal::LinkDown`]. In construction direction, this hop's authenticator
+///     is put into the accumulator. The packet goes over the link, at the next hop field.
 #[tactic(auto, unfolding(crate::specs::Packet::packet_step))]
 pub fn step(
     view: &RouterView<'_>,
@@ -53,18 +57,18 @@ pub fn step(
     arrival: Arrival,
     packet: &mut [u8],
 ) -> Result<Outcome, Refusal>
-    // Which outcome or refusal it is, and every byte of the packet after it.
+    // The exact outcome or refusal, and every byte of the packet after it.
     ensures exact { let step = packet_step view.now now arrival packet.old
         in IsPacketStepped step packet.old packet.new result }
 
-    // The same by the grammar: the step over the header that the packet's bytes spell, after which
-    // they spell the new one; the addresses and what follows the header stay.
+    // By the grammar: the step is that on the header whose bytes the packet has. After it the
+    // packet has the bytes of the new header there; the addresses and what follows the header stay.
     ensures spelled { (addresses text rest : List ℕ) (header : HeaderValue)
         → IsFrame packet.old addresses text rest header
         → let step = step_of view.now now arrival (source_of packet.old)
         (destination_of packet.old) header
         in StepsFrame step addresses text rest packet.new result }
-    // A packet has a path header, or it is refused for the reason that it has none.
+    // The packet has a path header, or is refused for the reason why it has none.
     ensures bad_header { MatchResult (header_in packet.old)
         (λ _. HasHeader packet.old)
         (λ refusal. (result ≡ Err refusal) × (packet.new ≡ packet.old)) }
@@ -76,7 +80,7 @@ pub fn step(
     step_behind(view, now, arrival, source, destination, rest)
 }
 
-/// The step over what stands behind a packet's addresses, in front of which a header was found.
+/// The step on the bytes after a packet's addresses, which begin with a header.
 fn step_behind(
     view: &RouterView<'_>,
     now: u32,
@@ -94,7 +98,7 @@ fn step_behind(
     ensures rest { let header = header_at_front bytes.new
         in drop (header_len header) bytes.new
         ≡ drop (header_len (header_at_front bytes.old)) bytes.old }
-    // There was a header, and there is one.
+    // The bytes begin with a header, before the step and after it.
     ensures before { let header = header_at_front bytes.old
         in Spells (take (header_len header) bytes.old) header }
     ensures after { let header = header_at_front bytes.new
@@ -108,8 +112,8 @@ fn step_behind(
     stepped
 }
 
-/// Checks that a path header stands behind a packet's addresses: [`Refusal::BadHeader`] with the
-/// reason why there is none.
+/// Checks that a path header comes after the addresses of a packet: [`Refusal::BadHeader`] with the
+/// reason if there is none.
 fn check_header(packet: &[u8]) -> Result<(), Refusal>
     ensures exact { let header = header_at_front (drop 16 packet.now)
         in Gives (λ _. (header, header_len header)) result (header_in packet.now) }
@@ -126,8 +130,8 @@ fn check_header(packet: &[u8]) -> Result<(), Refusal>
     }
 }
 
-/// The path header behind a packet's addresses, and its length in bytes; or [`Refusal::BadHeader`]
-/// with the reason why there is none.
+/// The path header after the addresses of a packet, and its length in bytes: [`Refusal::BadHeader`]
+/// with the reason if there is none.
 pub fn read_header(packet: &[u8]) -> Result<(Header, usize), Refusal>
     ensures exact { result ≡ header_in packet.now }
     ensures len { IfOk result (λ front. front.1 ≡ header_len front.0) }
@@ -146,7 +150,7 @@ pub fn read_header(packet: &[u8]) -> Result<(Header, usize), Refusal>
     }
 }
 
-/// The address of the AS for which the packet is: its first 8 bytes.
+/// The address of the packet's destination AS: its first 8 bytes.
 pub fn destination_in(packet: &[u8]) -> IsdAs
     requires { 8 ≤ length packet.now }
     ensures { result ≡ destination_of packet.now }
@@ -156,7 +160,7 @@ pub fn destination_in(packet: &[u8]) -> IsdAs
     IsdAs::from_bytes(bytes)
 }
 
-/// The address of the AS that sent it: the 8 bytes behind.
+/// The address of the packet's source AS: its next 8 bytes.
 pub fn source_in(packet: &[u8]) -> IsdAs
     requires { 16 ≤ length packet.now }
     ensures { result ≡ source_of packet.now }

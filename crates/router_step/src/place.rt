@@ -1,4 +1,4 @@
-//! Where a packet stands on its path: the fields there, and the writers of what a step changes.
+//! The place of a packet on its path: the fields there, and the changes that a step makes.
 
 ghost use Rattle.std.specs.Prelude.{◌≡◌, ◌+◌, ◌<◌, length, if◌then◌else◌};
 ghost use Rattle.path_header.specs.Borrowed.{value_of, rest_of};
@@ -10,7 +10,7 @@ use hop_mac::next_beta;
 use isd_as::IfId;
 use path_header::{HeaderMut, HopField, InfoField};
 
-/// The info field at which the packet stands.
+/// The current info field.
 pub(crate) fn info_at(header: &HeaderMut<'_>) -> InfoField
     ensures field { result ≡ info_of (value_of header.now) }
     ensures within { (value_of header.now).curr_inf < length (value_of header.now).infos }
@@ -18,14 +18,14 @@ pub(crate) fn info_at(header: &HeaderMut<'_>) -> InfoField
     header.current_info()
 }
 
-/// The hop field at which the packet stands.
+/// The current hop field.
 pub(crate) fn hop_at(header: &HeaderMut<'_>) -> HopField
     ensures { result ≡ hop_of (value_of header.now) }
 {
     header.current_hop()
 }
 
-/// The interface by which a packet that travels this segment comes into the hop's AS.
+/// The interface by which a packet on this segment enters the hop's AS.
 pub fn way_in(info: &InfoField, hop: &HopField) -> IfId
     ensures { result ≡ way_in info.now hop.now }
 {
@@ -36,7 +36,7 @@ pub fn way_in(info: &InfoField, hop: &HopField) -> IfId
     }
 }
 
-/// The interface by which it leaves.
+/// The interface by which it leaves the AS.
 pub fn way_out(info: &InfoField, hop: &HopField) -> IfId
     ensures { result ≡ way_out info.now hop.now }
 {
@@ -47,7 +47,8 @@ pub fn way_out(info: &InfoField, hop: &HopField) -> IfId
     }
 }
 
-/// The accumulator on arrival: over a link and against construction direction that of one hop back.
+/// The accumulator on arrival. Over a link against construction direction, this hop's authenticator
+/// is taken out of it.
 pub fn seg_id_on_arrival(arrival: &Arrival, info: &InfoField, hop: &HopField) -> u16
     ensures { result ≡ seg_id_on_arrival arrival.now info.now hop.now }
 {
@@ -57,7 +58,8 @@ pub fn seg_id_on_arrival(arrival: &Arrival, info: &InfoField, hop: &HopField) ->
     }
 }
 
-/// The accumulator on leaving over a link: in construction direction that of the next hop.
+/// The accumulator on leaving over a link. In construction direction, this hop's authenticator is
+/// put into it.
 fn seg_id_on_leaving(info: &InfoField, hop: &HopField) -> u16
     ensures { result ≡ seg_id_on_leaving info.now hop.now }
 {
@@ -68,7 +70,7 @@ fn seg_id_on_leaving(info: &InfoField, hop: &HopField) -> u16
     }
 }
 
-/// The info field at which the packet stands, as it is after the arrival.
+/// The current info field after the arrival.
 pub(crate) fn info_on_arrival(arrival: &Arrival, header: &HeaderMut<'_>) -> InfoField
     ensures { result ≡ info_of (arrived arrival.now (value_of header.now)) }
 {
@@ -77,7 +79,7 @@ pub(crate) fn info_on_arrival(arrival: &Arrival, header: &HeaderMut<'_>) -> Info
     info
 }
 
-/// The info field from which the packet leaves, after the arrival and a switch if there is one.
+/// The info field with which the packet leaves, after the arrival and a switch if there is one.
 pub(crate) fn info_to_leave(arrival: &Arrival, switched: bool, header: &HeaderMut<'_>) -> InfoField
     requires { let value = value_of header.now
         in value.curr_inf + (if switched then 1 else 0) < length value.infos }
@@ -90,7 +92,7 @@ pub(crate) fn info_to_leave(arrival: &Arrival, switched: bool, header: &HeaderMu
     }
 }
 
-/// The hop field from which the packet leaves, after a switch if there is one.
+/// The hop field with which the packet leaves, after a switch if there is one.
 pub(crate) fn hop_to_leave(switched: bool, header: &HeaderMut<'_>) -> HopField
     requires { let value = value_of header.now
         in value.curr_hf + (if switched then 1 else 0) < length value.hops }
@@ -103,7 +105,7 @@ pub(crate) fn hop_to_leave(switched: bool, header: &HeaderMut<'_>) -> HopField
     }
 }
 
-/// Sets the accumulator of the info field at which the packet stands.
+/// Sets the accumulator of the current info field.
 fn write_seg_id(seg_id: u16, header: &mut HeaderMut<'_>)
     ensures value { value_of header.new ≡ with_seg_id (value_of header.old) seg_id }
     ensures rest { rest_of header.new ≡ rest_of header.old }
@@ -113,7 +115,7 @@ fn write_seg_id(seg_id: u16, header: &mut HeaderMut<'_>)
     header.set_seg_id(info, seg_id);
 }
 
-/// Sets the accumulator that the header has after the arrival.
+/// Sets the accumulator on arrival.
 pub(crate) fn write_arrival(arrival: &Arrival, header: &mut HeaderMut<'_>)
     ensures value { value_of header.new ≡ arrived arrival.now (value_of header.old) }
     ensures rest { rest_of header.new ≡ rest_of header.old }
@@ -123,7 +125,7 @@ pub(crate) fn write_arrival(arrival: &Arrival, header: &mut HeaderMut<'_>)
     write_seg_id(seg_id, header);
 }
 
-/// Goes on to the next segment, where there is a switch.
+/// Goes on to the next segment, if there is a switch.
 pub(crate) fn write_switch(switched: bool, header: &mut HeaderMut<'_>)
     requires infos { let value = value_of header.old
         in value.curr_inf + (if switched then 1 else 0) < length value.infos }
@@ -140,7 +142,8 @@ pub(crate) fn write_switch(switched: bool, header: &mut HeaderMut<'_>)
     }
 }
 
-/// Leaves over a link: sets the accumulator of the next hop, and goes on to its hop field.
+/// If the packet leaves over a link: sets the accumulator of the next hop, and goes on to its hop
+/// field.
 pub(crate) fn write_outcome(outcome: &Outcome, header: &mut HeaderMut<'_>)
     requires { (value_of header.old).curr_hf + 1 < length (value_of header.old).hops }
     ensures value { value_of header.new ≡ gone outcome.now (value_of header.old) }

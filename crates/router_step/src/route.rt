@@ -1,4 +1,4 @@
-//! The step over the value of a path header: all checks first, then the changes.
+//! The step on the value of a path header: all checks first, then the changes.
 
 ghost use Rattle.std.specs.Prelude.{◌≡◌, ◌+◌, ◌<◌, true, false, length, if◌then◌else◌, OnOk, OnErr, IfOk};
 ghost use Rattle.path_header.specs.Value.{segment_at};
@@ -23,7 +23,7 @@ use isd_as::IsdAs;
 use path_header::{HeaderMut, HopField, InfoField};
 use scion_topology::RouterView;
 
-/// Whether the indices fit the segment lengths and how the packet came.
+/// Whether the indices fit the segment lengths and the way in which the packet came.
 fn indices_fit(arrival: &Arrival, header: &HeaderMut<'_>) -> bool
     ensures { result ≡ indices_fit arrival.now (value_of header.now) }
 {
@@ -33,8 +33,7 @@ fn indices_fit(arrival: &Arrival, header: &HeaderMut<'_>) -> bool
         && is_start_right(arrival, hop)
 }
 
-/// Checks that the packet stands where it may, came in where it may, and that its hop is live and
-/// this AS's own.
+/// Steps 2 to 5: checks the indices, the way in, and that the hop is live and of this AS.
 #[tactic(auto, unfolding(crate::specs::Step::admitted))]
 fn admit(
     view: &RouterView<'_>,
@@ -58,7 +57,8 @@ fn admit(
     pass(view, now, &info_on_arrival(arrival, header), &hop)
 }
 
-/// Checks both addresses, and answers whether the packet stands at the path's last hop.
+/// Steps 6 and 7: checks both addresses, and returns whether the packet is at the last hop of its
+/// path.
 #[tactic(auto, unfolding(crate::specs::Step::ended))]
 fn end(
     view: &RouterView<'_>,
@@ -83,7 +83,7 @@ fn end(
     Ok(last)
 }
 
-/// Answers whether the path changes segments here, after the checks of the hop on the next one.
+/// Step 9: returns whether the path switches to another segment here, after checking the hop there.
 #[tactic(auto, unfolding(crate::specs::Step::switched))]
 fn switch(
     view: &RouterView<'_>,
@@ -120,7 +120,7 @@ fn switch(
     Ok(true)
 }
 
-/// Chooses where the packet goes from this info and hop field.
+/// Steps 10 to 13: chooses where the packet goes from this info and hop field.
 #[tactic(auto, unfolding(crate::specs::Step::left))]
 fn leave(
     view: &RouterView<'_>,
@@ -147,8 +147,8 @@ fn leave(
     Ok(Outcome::ToLink(interface))
 }
 
-/// One step over a path header, after which the header is as the step says, or its bytes are as
-/// they were where the packet is refused.
+/// One step on a path header in its bytes. After it they are the new header, or as they were if the
+/// packet is refused.
 #[tactic(auto, unfolding(crate::specs::Step::step_of))]
 pub(crate) fn step_header(
     view: &RouterView<'_>,

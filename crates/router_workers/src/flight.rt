@@ -188,11 +188,11 @@ impl<'a> Flight<'a> {
         self.transit.passed()
     }
 
-    /// Does nothing, and tells its caller what every flight keeps.
+    /// Does nothing; its contract tells the caller what every flight keeps.
     pub fn known(&self)
         ensures { IsFlight self.now }
     {
-        // The read of a field brings what the type keeps.
+        // Reading a field makes the type's invariants known here.
         let _ = &self.fabric;
     }
 }

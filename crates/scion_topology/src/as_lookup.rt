@@ -10,8 +10,8 @@ use isd_as::IsdAs;
 use std::alloc::{AllocError, Global};
 use std::marker::Model;
 
-/// A list of ASes, each found by its index, or one by one where there was no memory for indexes.
-/// Clauses see the list.
+/// A list of ASes, searched by an index, or one by one if there was no memory for the index. In
+/// clauses its value is the list.
 #[derive(Drop)]
 pub struct AsLookup<'a> {
     pub(crate) ases: &'a [AsEntry],
@@ -32,7 +32,7 @@ impl<'a> Model for AsLookup<'a> {
 }
 
 impl<'a> AsLookup<'a> {
-    /// The ASes of this list.
+    /// The lookup over this list.
     pub(crate) fn new(alloc: Global, ases: &'a [AsEntry]) -> AsLookup<'a>
         ensures { result ≡ ases.now }
     {
@@ -62,7 +62,7 @@ impl<'a> AsLookup<'a> {
         self.named(ia).is_some()
     }
 
-    /// The indexes of the ASes, with the interfaces at the ends of these links.
+    /// The indexes of these ASes, with the interfaces at the ends of these links.
     pub(crate) fn into_indexes(self, links: &[Link]) -> Result<Indexes, AllocError>
         ensures { IfOk result (λ indexes. (ia : ℕ)
             → index_of indexes ia ≡ index_from 0 self.entry links.now ia) }

@@ -9,25 +9,26 @@ use crate::topology::Topology;
 use isd_as::{IfId, IsdAs};
 
 impl Topology {
-    /// Cuts the link at an interface, named by either end: [`TopologyFault::UnknownAs`], then
-    /// [`TopologyFault::NoLink`] if the AS has no such interface. A cut link stays cut.
+    /// Cuts the link at an interface; either end names it. [`TopologyFault::UnknownAs`] if the AS
+    /// isn't listed, then [`TopologyFault::NoLink`] if the AS has no such interface. A link that is
+    /// down stays down.
     pub fn cut_link(&mut self, ia: IsdAs, number: IfId) -> Result<(), TopologyFault>
         ensures { Becomes (set_up false ia number self.old) self.old self.new result }
     {
         self.set_link(ia, number, false)
     }
 
-    /// Mends the link at an interface, named by either end, with the refusals of
-    /// [`Topology::cut_link`]. A whole link stays whole.
+    /// Mends the link at an interface; either end names it. The refusals are those of
+    /// [`Topology::cut_link`]. A link that is up stays up.
     pub fn mend_link(&mut self, ia: IsdAs, number: IfId) -> Result<(), TopologyFault>
         ensures { Becomes (set_up true ia number self.old) self.old self.new result }
     {
         self.set_link(ia, number, true)
     }
 
-    /// Takes another key of an AS into use; the one that was in use is the one before, and the
-    /// older one is gone. [`TopologyFault::UnknownAs`], then [`TopologyFault::BadField`] if the
-    /// key has no byte or more than 64.
+    /// Takes another key of an AS into use. The key in use until now becomes the one before, and
+    /// the older one is dropped. [`TopologyFault::UnknownAs`] if the AS isn't listed, then
+    /// [`TopologyFault::BadField`] if the key is empty or has more than 64 bytes.
     pub fn rotate_key(&mut self, ia: IsdAs, key: &[u8]) -> Result<(), TopologyFault>
         ensures { Becomes (rotated ia key.now self.old) self.old self.new result }
     {
@@ -52,7 +53,7 @@ impl Topology {
     }
 }
 
-/// Takes another key of the AS at a place into use.
+/// Takes another key into use for the AS at a place.
 fn put_key(ases: &mut Vec<AsEntry>, place: usize, key: Key)
     requires { place < vec_len ases.old }
     ensures { ases.new.items ≡ keyed_at place key ases.old.items }

@@ -1,5 +1,5 @@
-//! Which ASes are listed twice, and which interfaces stand at two links. Both are found by putting
-//! numbers in order, or pair by pair where there is no memory for that.
+//! Finds an AS that is listed twice and an interface at two links: by sorting numbers, or by
+//! comparing pairs if there is no memory for sorting.
 
 ghost use Rattle.std.specs.Prelude.{◌≡◌, ◌<◌, ◌^◌, ◌++◌, IfOk, OnOk, All, map};
 ghost use Rattle.std.specs.List.{flat_map};
@@ -23,7 +23,7 @@ pub(crate) fn lists_twice(alloc: Global, ases: &[AsEntry]) -> bool
     }
 }
 
-/// The numbers of ASes.
+/// The addresses of the ASes as numbers.
 fn as_numbers(alloc: Global, ases: &[AsEntry]) -> Result<Vec<u128>, AllocError>
     ensures { IfOk result (λ numbers. numbers.items ≡ map (λ one. one.ia) ases.now) }
 {
@@ -34,7 +34,7 @@ fn as_numbers(alloc: Global, ases: &[AsEntry]) -> Result<Vec<u128>, AllocError>
     Ok(numbers)
 }
 
-/// Whether an AS is listed twice, pair by pair.
+/// Whether an AS is listed twice, by comparing pairs.
 #[tactic(auto, unfolding(crate::specs::Causes::lists_twice))]
 fn lists_one_of_pairs(ases: &[AsEntry]) -> bool
     ensures { result ≡ lists_twice ases.now }
@@ -49,7 +49,7 @@ fn lists_one_of_pairs(ases: &[AsEntry]) -> bool
     false
 }
 
-/// Whether an interface stands at the ends of two links.
+/// Whether two links end at one interface.
 pub(crate) fn joins_twice(alloc: Global, links: &[Link]) -> bool
     ensures { result ≡ joins_twice links.now }
 {
@@ -71,7 +71,7 @@ fn interface_numbers(alloc: Global, links: &[Link]) -> Result<Vec<u128>, AllocEr
     Ok(numbers)
 }
 
-/// Adds the numbers of the interfaces at the ends of a link, one where they are the same.
+/// Adds the numbers of the interfaces at both ends of a link, or one number if they are equal.
 fn push_numbers(numbers: &mut Vec<u128>, link: &Link) -> Result<(), AllocError>
     ensures numbers { OnOk result (numbers.new.items ≡ numbers.old.items ++ numbers_of link.now) }
     ensures bits { HasBits link.now }
@@ -84,7 +84,7 @@ fn push_numbers(numbers: &mut Vec<u128>, link: &Link) -> Result<(), AllocError>
     Ok(())
 }
 
-/// An interface as a number: that of its AS, and then its own.
+/// An interface as a number: its AS's address, and then its own number.
 fn number_of(end: &End) -> u128
     ensures value { result ≡ number_of end.now }
     ensures bits { end.now.number < 2 ^ 16 }
@@ -99,7 +99,7 @@ fn stands(links: &[Link], end: &End) -> bool
     links.iter().any(|link| has_end(link, end.ia, end.number))
 }
 
-/// Whether an interface stands at the ends of two links, pair by pair.
+/// Whether two links end at one interface, by comparing pairs.
 #[tactic(auto, unfolding(crate::specs::Causes::joins_twice))]
 fn joins_one_of_pairs(links: &[Link]) -> bool
     ensures { result ≡ joins_twice links.now }

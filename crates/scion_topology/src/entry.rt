@@ -1,6 +1,6 @@
 use isd_as::IfId;
 
-/// What the AS at the far end of a link is to this one.
+/// The kind of a link, seen from one of its ends: what the AS at the far end is to this one.
 #[derive(Clone, Copy, Debug, PartialEq, Eq)]
 pub enum LinkKind {
     /// Another core AS.
@@ -16,7 +16,7 @@ pub enum LinkKind {
 pub struct IfEntry {
     /// Its number.
     pub number: IfId,
-    /// What the AS at the far end is to this one.
+    /// The kind of its link, seen from this AS.
     pub kind: LinkKind,
     /// The number of the router that owns this interface.
     pub router: u8,

@@ -5,26 +5,26 @@ ghost use Rattle.refusal.specs.declared.fault.OrMemory.TheVariants.{Refused};
 use refusal::OrMemory;
 use thiserror::Error;
 
-/// Why a topology can't be read, asked or changed so, or why a view can't be made of its parts.
+/// Why a topology was not read, answered or changed, or why a view was not built.
 #[derive(Clone, Copy, Debug, PartialEq, Eq, Error)]
 pub enum TopologyFault {
     /// The text is not JSON.
     #[error("the text is not JSON")]
     NotJson,
-    /// A field is missing, of another type or out of its range; an address is a wildcard; a key has
-    /// not 1 to 64 bytes.
+    /// A field is missing, has the wrong type or is out of its range; an address is a wildcard; or
+    /// a key does not have 1 to 64 bytes.
     #[error("a field is missing, of another type or out of its range")]
     BadField,
-    /// An AS is listed twice.
+    /// Two ASes of the list have one address.
     #[error("an AS is listed twice")]
     DuplicateAs,
-    /// An interface stands at two ends of links.
+    /// Two links end at one interface.
     #[error("an interface stands at two ends of links")]
     DuplicateIf,
-    /// An AS is not listed.
+    /// The list has no AS of this address.
     #[error("an AS is not listed")]
     UnknownAs,
-    /// A link joins ASes that its kind doesn't join.
+    /// A link joins ASes that a link of its kind may not join.
     #[error("a link joins ASes that its kind does not join")]
     BadKind,
     /// An AS has no router of this number.
@@ -33,7 +33,7 @@ pub enum TopologyFault {
     /// An AS has no interface of this number.
     #[error("an AS has no interface of this number")]
     NoLink,
-    /// No AS is listed, or more than 1,024; or more than 4,096 links are.
+    /// The list has no AS or more than 1,024, or there are more than 4,096 links.
     #[error("there are 1 to 1024 ASes and at most 4096 links")]
     TooMany,
 }
@@ -74,7 +74,7 @@ impl TopologyFault {
     }
 }
 
-/// Why a topology was not read: running out of memory, or why the text is no topology.
+/// Why a topology was not read: memory ran out, or the text is no topology.
 pub type ReadError = OrMemory<TopologyFault>;
 
 impl From<TopologyFault> for OrMemory<TopologyFault> {

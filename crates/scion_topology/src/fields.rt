@@ -12,7 +12,7 @@ use isd_as::{IfId, IsdAs};
 use json_fields::{member, text, truth, whole};
 use serde_json::Value;
 
-/// A member that is an address without a wildcard.
+/// A member whose value is an address without a wildcard.
 #[tactic(auto, unfolding(crate::specs::Reading::address_in))]
 fn address(value: &Value, name: &str) -> Option<IsdAs>
     ensures value { result ≡ address_in name.now (view value.now) }
@@ -25,7 +25,7 @@ fn address(value: &Value, name: &str) -> Option<IsdAs>
     }
 }
 
-/// A member that is a key in hexadecimal.
+/// A member whose value is a key in hexadecimal.
 #[tactic(auto, unfolding(crate::specs::Reading::key_at))]
 fn key(value: &Value, name: &str) -> Option<Key>
     ensures value { result ≡ key_at name.now (view value.now) }
@@ -43,7 +43,7 @@ fn key(value: &Value, name: &str) -> Option<Key>
     }
 }
 
-/// An AS.
+/// The AS of a JSON object.
 #[tactic(auto, unfolding(crate::specs::Reading::as_at))]
 pub(crate) fn as_of(value: &Value) -> Option<AsEntry>
     ensures value { result ≡ as_at (view value.now) }
@@ -63,7 +63,7 @@ pub(crate) fn as_of(value: &Value) -> Option<AsEntry>
     })
 }
 
-/// What a link joins.
+/// A member whose value is the class of a link.
 #[tactic(auto, unfolding(crate::specs::Reading::class_at))]
 fn class(value: &Value, name: &str) -> Option<LinkClass>
     ensures { result ≡ class_at name.now (view value.now) }
@@ -76,7 +76,7 @@ fn class(value: &Value, name: &str) -> Option<LinkClass>
     }
 }
 
-/// An end of a link.
+/// A member whose value is an end of a link.
 #[tactic(auto, unfolding(crate::specs::Reading::end_at))]
 fn end(value: &Value, name: &str) -> Option<End>
     ensures value { result ≡ end_at name.now (view value.now) }
@@ -93,7 +93,7 @@ fn end(value: &Value, name: &str) -> Option<End>
     })
 }
 
-/// A link, which is up.
+/// The link of a JSON object; a link that is read is up.
 #[tactic(auto, unfolding(crate::specs::Reading::link_at))]
 pub(crate) fn link_of(value: &Value) -> Option<Link>
     ensures value { result ≡ link_at (view value.now) }

@@ -1,25 +1,25 @@
 use isd_as::IsdAs;
 use std::alloc::{AllocError, Global};
 
-/// How many hints there are.
+/// The number of hints.
 const HINTS: usize = 4096;
 
-/// Where ASes are looked for first: a place for each remainder of an address by the number of
-/// hints. A hint may be wrong, so whoever takes it tests it.
+/// Guesses where ASes are: a place for each remainder of an address by the number of hints. A guess
+/// may be wrong, so every user checks it.
 #[derive(Drop)]
 pub struct HashHints {
     places: Vec<u16>,
 }
 
 impl HashHints {
-    /// Hints before any place is noted.
+    /// Hints without any noted place.
     pub(crate) fn new(alloc: Global) -> Result<HashHints, AllocError> {
         Ok(HashHints {
             places: vec![in alloc; 0; HINTS]?,
         })
     }
 
-    /// Where an AS may stand.
+    /// The place where an AS may be.
     #[inline]
     pub(crate) fn place(&self, ia: IsdAs) -> usize {
         match self.places.get(slot(ia)) {
@@ -28,7 +28,7 @@ impl HashHints {
         }
     }
 
-    /// Notes where an AS stands, in place of what was noted under the same remainder.
+    /// Notes the place of an AS; this replaces any place noted for the same remainder.
     pub(crate) fn note(&mut self, ia: IsdAs, place: usize) {
         let Ok(place) = u16::try_from(place) else {
             return;
@@ -39,7 +39,7 @@ impl HashHints {
     }
 }
 
-/// Which hint is that of an AS.
+/// The number of the hint for an AS.
 fn slot(ia: IsdAs) -> usize {
     ia.number() as usize % HINTS
 }

@@ -9,8 +9,8 @@ use crate::table::InterfaceTable;
 use isd_as::{IfId, IsdAs};
 use std::alloc::{AllocError, Global};
 
-/// What a topology finds of an AS at once: its place in the list, its interfaces, and for each of
-/// them the place of its link. Its address stands beside them.
+/// The index of an AS in a topology: its address, its place in the list, its interfaces, and the
+/// place of each interface's link.
 #[derive(Drop)]
 pub struct AsIndex {
     pub(crate) ia: IsdAs,
@@ -20,7 +20,7 @@ pub struct AsIndex {
 }
 
 impl AsIndex {
-    /// The index of an AS at this place of the list, with no interface yet.
+    /// The index of an AS at this place of the list, without interfaces.
     pub(crate) fn new(alloc: Global, ia: IsdAs, position: usize) -> AsIndex
         ensures ia { result.ia ≡ ia }
         ensures value { value_of_index result
@@ -53,7 +53,7 @@ impl AsIndex {
         self.places.get(at).copied()
     }
 
-    /// Sets the interface of this number up or down, where there is one.
+    /// Sets the interface of this number up or down, if there is one.
     pub(crate) fn mark(&mut self, number: IfId, up: bool)
         ensures ia { self.new.ia ≡ self.old.ia }
         ensures value { value_of_index self.new ≡ marked number up (value_of_index self.old) }
@@ -62,7 +62,7 @@ impl AsIndex {
     }
 }
 
-/// What the far AS is to the AS at end a.
+/// The kind of a link, seen from the AS at end a.
 fn kind_at_a(class: LinkClass) -> LinkKind
     ensures { result ≡ kind_at_a class }
 {
@@ -72,7 +72,7 @@ fn kind_at_a(class: LinkClass) -> LinkKind
     }
 }
 
-/// What the far AS is to the AS at end b.
+/// The kind of a link, seen from the AS at end b.
 fn kind_at_b(class: LinkClass) -> LinkKind
     ensures { result ≡ kind_at_b class }
 {
@@ -108,7 +108,7 @@ pub(crate) fn interface_at_b(link: &Link) -> IfEntry
     end_as_interface(&link.b, kind_at_b(link.class), link.up)
 }
 
-/// Adds an interface to the index at a place, and the place of its link.
+/// Adds an interface and the place of its link to the index at a place.
 pub(crate) fn add_at(
     list: &mut Vec<AsIndex>,
     at: usize,

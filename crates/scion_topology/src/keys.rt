@@ -12,12 +12,12 @@ use isd_as::IfId;
 use std::marker::Model;
 use std::mem;
 
-/// The most bytes that a key has.
+/// The largest number of bytes of a key.
 pub const MAX_KEY_LEN: usize = 64;
 
-/// A key of an AS, of 1 to 64 bytes. Clauses see its bytes.
+/// A key of an AS, of 1 to 64 bytes. In clauses its value is its bytes.
 ///
-/// Its hash states stand beside them, so that each authenticator costs two compressions.
+/// It also holds the hash states of the key, so that each authenticator costs two compressions.
 #[derive(Drop)]
 pub struct Key {
     bytes: ArrayVec<u8, MAX_KEY_LEN>,
@@ -37,7 +37,7 @@ impl Model for Key {
 }
 
 impl Key {
-    /// The key of these bytes: [`TopologyFault::BadField`] if there is none or more than 64.
+    /// The key of these bytes: [`TopologyFault::BadField`] if there are none or more than 64.
     #[tactic(auto, unfolding(crate::specs::Keys::key_of))]
     pub fn new(bytes: &[u8]) -> Result<Key, TopologyFault>
         ensures value { result ≡ key_of bytes.now }
@@ -80,8 +80,8 @@ impl Key {
     }
 }
 
-/// The keys whose authenticators an AS accepts: the one in use, and the one before it, where it has
-/// had one. Clauses see the list of them, the key in use first.
+/// The keys that an AS accepts: the key in use, and the one before it if there is one. In clauses
+/// the value is the list of them, the key in use first.
 #[derive(Drop)]
 pub struct Keys {
     current: Key,
@@ -98,8 +98,8 @@ impl Model for Keys {
 }
 
 impl Keys {
-    /// The keys of an AS with this one in use, and this one before it:
-    /// [`TopologyFault::BadField`] if either has no byte or more than 64.
+    /// The keys of an AS, from the key in use and the one before it: [`TopologyFault::BadField`] if
+    /// either is empty or has more than 64 bytes.
     #[tactic(auto, unfolding(crate::specs::Keys::keys_of, crate::specs::Keys::key_of))]
     pub fn new(key: &[u8], previous: Option<&[u8]>) -> Result<Keys, TopologyFault>
         ensures { result ≡ keys_of key.now (option_copied previous.entry) }
@@ -130,15 +130,15 @@ impl Keys {
         &self.current
     }
 
-    /// The key that was in use before it, where there was one.
+    /// The key that was in use before, if there is one.
     pub fn before(&self) -> Option<&Key>
         ensures { option_copied result ≡ slice_get self.now 1 }
     {
         self.previous.as_ref()
     }
 
-    /// Takes another key into use. The one that was in use is the one before; the older one is
-    /// gone.
+    /// Takes another key into use. The key in use until now becomes the one before, and the older
+    /// one is dropped.
     pub(crate) fn renew(&mut self, key: Key)
         ensures { self.new ≡ renewed key self.old }
     {
@@ -146,7 +146,7 @@ impl Keys {
     }
 
     /// Whether `mac` is the authenticator of a hop of these values under one of the keys. The key
-    /// before is looked at only where it isn't under the one in use.
+    /// before is tried only if the key in use does not fit.
     pub fn authenticate(
         &self,
         mac: &[u8; 6],

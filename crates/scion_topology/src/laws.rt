@@ -1,5 +1,5 @@
-//! Laws of views and of topologies: each is the contract of a function that does nothing. What a
-//! law says may be cited by the lemma of `proofs/` that its answer names.
+//! Laws of views and of topologies: each is the contract of a function that does nothing. Proofs
+//! may use a law by citing the lemma of `proofs/` that its proof names.
 
 ghost use Rattle.std.specs.Prelude.{◌≡◌, ◌≢◌, ℕ, ◌<◌, ◌↔◌, All, Bool, true, IfSome, IsSome, List, Contains, None, Ok, Option, Some, IfOk, IsTrue};
 ghost use Rattle.scion_topology.specs.declared.entry.IfEntry.{IfEntry};
@@ -14,15 +14,15 @@ ghost use Rattle.scion_topology.specs.Rules.{IsAs, IsNetwork, IsNumbered};
 ghost use Rattle.scion_topology.specs.Topology.{known, interface_at, far_end_in, owner_in, set_up, rotated};
 ghost use Rattle.scion_topology.specs.Ends.{ShowsBothEnds, AreJoined, IsEndOf, IsUp, IsStill, IsSame};
 
-/// The rules of a network hold exactly where each AS and each link is right by itself and no cause
-/// of a refusal is found over the whole.
+/// A network keeps its rules if and only if each AS and each link keeps its own, and `cause_of`
+/// finds no fault in the whole.
 pub fn rules_without_cause()
     ensures none { (n : Network) → IsNetwork n → cause_of n.ases n.links ≡ None }
     ensures kept { (n : Network) → All IsAs n.ases → All IsNumbered n.links
         → cause_of n.ases n.links ≡ None → IsNetwork n }
 {}
 
-/// A view that is made shows exactly the parts that it was made of, and they are right.
+/// A view that is built has exactly the parts that it was built from, and they keep the rules.
 pub fn view_shows_its_parts()
     ensures { (ia router : ℕ) (key : List ℕ) (previous : Option (List ℕ)) (table : List IfEntry)
         → IfOk (view_of ia router key previous table) (λ view.
@@ -30,28 +30,27 @@ pub fn view_shows_its_parts()
         × IsRight view) }
 {}
 
-/// A view is made of all parts that are right.
+/// A view is built from any parts that keep the rules.
 pub fn right_parts_are_accepted()
     ensures { (view : View) (key : List ℕ) (previous : Option (List ℕ)) → IsRight view
         → view.keys ≡ accepted key previous
         → view_of view.ia view.router key previous view.table ≡ Ok view }
 {}
 
-/// Each interface of a view is the one that its number finds.
+/// Looking up the number of an interface in a view finds that interface.
 pub fn interfaces_named_once()
     ensures { (view : View) (entry : IfEntry) → IsRight view → Contains view.table entry
         → entry_of view entry.number ≡ Some entry }
 {}
 
-/// The test of an authenticator passes exactly where it is one under an accepted key.
+/// `is_authentic` is true if and only if the authenticator is right under an accepted key.
 pub fn authentic_by_test()
     ensures { (view : View) (mac : List ℕ) (beta timestamp exp_time cons_ingress cons_egress : ℕ)
         → IsTrue (is_authentic view mac beta timestamp exp_time cons_ingress cons_egress)
         ↔ IsAuthentic view mac beta timestamp exp_time cons_ingress cons_egress }
 {}
 
-/// In a topology that was read, however it was changed since, the far end of the far end of a link
-/// is the end itself.
+/// In every topology, the far end of the far end of a link is the near end.
 pub fn far_end_of_far_end()
     ensures { (n : Network) (ia number far_ia far_number : ℕ) → IsNetwork n
         → far_end_in n ia number ≡ Ok (far_ia, far_number)
@@ -64,8 +63,8 @@ pub fn owner_is_a_router()
         → owner_in n ia number ≡ Ok router → known n ia ≡ Ok one → router < one.routers }
 {}
 
-/// The two ends of a link see it alike: both up or both down, of a core link both as Core, and of a
-/// child link the parent's as Child and the child's as Parent.
+/// Both ends of a link agree: both are up or both are down. Both ends of a core link are Core; the
+/// parent's end of a child link is Child, and the child's end is Parent.
 pub fn ends_are_mirrored()
     ensures alike { (n : Network) (ia number far_ia far_number : ℕ) (near : IfEntry) → IsNetwork n
         → far_end_in n ia number ≡ Ok (far_ia, far_number)
@@ -83,21 +82,21 @@ pub fn no_interface_is_zero()
         → interface_at n ia number ≡ Ok entry → number ≢ 0 }
 {}
 
-/// Each AS that is found keeps the rules of one: among them, that it has a key in use.
+/// Each AS that is found keeps the rules of an AS; so it has a key in use.
 pub fn found_as_is_right()
     ensures { (n : Network) (ia : ℕ) (one : AsEntry) → IsNetwork n
         → as_named n.ases ia ≡ Some one → IsAs one × (one.ia ≡ ia) }
 {}
 
-/// Each link of the list shows itself at both its ends: the interfaces, who owns them, and that
-/// each leads to the other.
+/// For each link of the list, the queries give both its interfaces, their owners, and that each end
+/// leads to the other.
 pub fn links_show_both_ends()
     ensures { (n : Network) (link : Link) → IsNetwork n → Contains n.links link
         → ShowsBothEnds n link }
 {}
 
-/// Where an interface leads to a far end, a link of the list joins the two; and each interface is
-/// an end of a link of the list.
+/// If an interface leads to a far end, a link of the list joins the two; and each interface is an
+/// end of a link of the list.
 pub fn links_alone_are_shown()
     ensures far_ends { (n : Network) (ia number far_ia far_number : ℕ) → IsNetwork n
         → far_end_in n ia number ≡ Ok (far_ia, far_number)
@@ -106,7 +105,7 @@ pub fn links_alone_are_shown()
         → interface_at n ia number ≡ Ok entry → IsEndOf n ia number entry }
 {}
 
-/// A link that is cut or mended, and a new key, leave a network one.
+/// A network keeps its rules if a link is cut or mended, or a key is renewed.
 pub fn networks_outlast_changes()
     ensures links { (n m : Network) (up : Bool) (x y : ℕ) → IsNetwork n
         → set_up up x y n ≡ Ok m → IsNetwork m }
@@ -114,8 +113,8 @@ pub fn networks_outlast_changes()
         → rotated x key n ≡ Ok m → IsNetwork m }
 {}
 
-/// A new key is that of one AS, where the key that was in use is still accepted: the other ASes and
-/// all links stay as they were, and each interface with its owner and its far end.
+/// A new key changes the keys of one AS only, which still accepts the key in use before. The other
+/// ASes, all links, and each interface with its owner and its far end stay as they were.
 pub fn keys_change_alone()
     ensures own { (n m : Network) (x : ℕ) (key : List ℕ) (one : AsEntry) → rotated x key n ≡ Ok m
         → as_named n.ases x ≡ Some one
@@ -128,7 +127,7 @@ pub fn keys_change_alone()
         → IsSame n m ia number }
 {}
 
-/// A link that is cut or mended leaves all ASes as they were, and each interface but for its state.
+/// Cutting or mending a link changes no AS, and of the interfaces only their states.
 pub fn states_change_alone()
     ensures ases { (n m : Network) (up : Bool) (x y : ℕ) → set_up up x y n ≡ Ok m
         → m.ases ≡ n.ases }
@@ -136,8 +135,8 @@ pub fn states_change_alone()
         → IsStill n m ia number }
 {}
 
-/// The link that is cut or mended shows its state at both its ends; an interface of another link
-/// stays as it was, and one whose link is up when any link is mended.
+/// After a link was cut or mended, both its ends have the new state. An interface of another link
+/// stays as it was; and mending any link leaves an interface as it was if its link is up.
 pub fn named_link_changes()
     ensures both_ends { (n m : Network) (up : Bool) (x y far_ia far_number : ℕ) → IsNetwork n
         → set_up up x y n ≡ Ok m → far_end_in n x y ≡ Ok (far_ia, far_number)

@@ -1,9 +1,9 @@
-//! The network of a SCION process: its ASes, its links, and what each router knows of them.
+//! The network of a SCION process: its ASes, its links, and the views of its routers.
 //!
-//! A [`Topology`] is read from JSON with exact refusals, asked by address and interface, and
-//! changed by cutting and mending links and by new keys. A [`RouterView`] is what one router needs
-//! for its steps: the address of its AS, its own number, the key under which the AS authenticates
-//! its hops and the one before it, and the table of the AS's interfaces. Only reading takes memory.
+//! A [`Topology`] is read from JSON with exact refusals. It answers queries by address and
+//! interface, and changes when a link is cut or mended or a key is renewed. A [`RouterView`] is
+//! what one router needs for its steps: the address of its AS, its own number, the keys that the AS
+//! accepts, and the AS's interfaces. Only reading takes memory.
 #![tactic(auto)]
 
 mod as_lookup;

@@ -12,7 +12,7 @@ use isd_as::{IfId, IsdAs};
 use std::alloc::{AllocError, Global};
 use std::collections::BTreeMap;
 
-/// The indexes of ASes, found by their addresses: at once where a hint is right, else in a tree.
+/// The indexes of ASes by address: found at once if a hint is right, else in a tree.
 #[derive(Drop)]
 pub struct Indexes {
     list: Vec<AsIndex>,
@@ -24,8 +24,8 @@ pub struct Indexes {
 impl Indexes {
     ghost use Rattle.scion_topology.specs.Index.{value_of_index, index_at, index_of, index_from, spot_of, added_where, marked_where, with_link, with_links, with_first_index};
 
-    /// The index of each AS of a list, with no links yet. An AS that stands twice has that of its
-    /// first place.
+    /// The index of each AS of a list, without links. An AS that is listed twice has the index of
+    /// its first place.
     pub(crate) fn new(alloc: Global, ases: &[AsEntry]) -> Result<Indexes, AllocError>
         ensures { IfOk result (λ indexes. (ia : ℕ)
             → index_of indexes ia ≡ index_from 0 ases.now [] ia) }
@@ -37,7 +37,7 @@ impl Indexes {
         Ok(indexes)
     }
 
-    /// The index of no AS.
+    /// Indexes without any AS.
     fn none(alloc: Global) -> Result<Indexes, AllocError>
         ensures { IfOk result (λ indexes. (ia : ℕ) → index_of indexes ia ≡ None) }
     {
@@ -48,7 +48,7 @@ impl Indexes {
         })
     }
 
-    /// These indexes, and that of an AS at this position, where it has none yet.
+    /// These indexes, with an index for the AS at this position unless it has one.
     fn with_as(self, alloc: Global, position: usize, ia: IsdAs) -> Result<Indexes, AllocError>
         ensures { IfOk result (λ indexes. (x : ℕ) → index_of indexes x
             ≡ with_first_index (ia == x) (index_at position x []) (index_of self x)) }
@@ -116,7 +116,8 @@ impl Indexes {
         Ok(())
     }
 
-    /// Adds the interfaces at the ends of the link at a place, one where both are in one AS.
+    /// Adds the interfaces at the ends of the link at a place; if both ends are in one AS, only one
+    /// of them.
     fn add_link(&mut self, place: usize, link: &Link) -> Result<(), AllocError>
         ensures { OnOk result ((ia : ℕ) → index_of self.new ia
             ≡ option_map (with_link place ia link.now) (index_of self.old ia)) }

@@ -1,7 +1,7 @@
 use crate::keys::Keys;
 use isd_as::{IfId, IsdAs};
 
-/// What a link joins.
+/// The class of a link: which ASes it joins.
 #[derive(Clone, Copy, Debug, PartialEq, Eq)]
 pub enum LinkClass {
     /// Two core ASes, of one ISD or of two.
@@ -21,15 +21,14 @@ pub struct End {
     pub router: u8,
 }
 
-/// A link between two ASes. What a [`Topology`](crate::Topology) keeps of its ASes and links is
-/// said there.
+/// A link between two ASes. [`Topology`](crate::Topology) has the rules for it.
 #[derive(Clone, Copy, Debug, PartialEq, Eq)]
 pub struct Link {
-    /// What it joins.
+    /// Its class.
     pub class: LinkClass,
-    /// One end; of a child link the parent's.
+    /// One end; the parent's end of a child link.
     pub a: End,
-    /// The other end; of a child link the child's.
+    /// The other end; the child's end of a child link.
     pub b: End,
     /// Whether it is up.
     pub up: bool,
@@ -42,23 +41,23 @@ pub struct AsEntry {
     pub ia: IsdAs,
     /// Whether it is a core AS of its ISD.
     pub core: bool,
-    /// The expiry that it gives its hops, in units of 337.5 seconds, less one.
+    /// The expiry of its hops, in units of 337.5 seconds, minus one.
     pub exp_time: u8,
     /// The keys whose authenticators it accepts, the one in use first.
     pub keys: Keys,
-    /// How many routers it has, which are numbered from 0.
+    /// The number of its routers, which are numbered from 0.
     pub routers: u8,
 }
 
-/// What a topology says of an AS, but for its key.
+/// What a topology says of an AS, without its keys.
 #[derive(Clone, Copy, Debug, PartialEq, Eq)]
 pub struct AsInfo {
     /// Its place in the topology's list, from 0.
     pub position: usize,
     /// Whether it is a core AS of its ISD.
     pub core: bool,
-    /// The expiry that it gives its hops, in units of 337.5 seconds, less one.
+    /// The expiry of its hops, in units of 337.5 seconds, minus one.
     pub exp: u8,
-    /// How many routers it has.
+    /// The number of its routers.
     pub routers: u8,
 }

@@ -72,14 +72,14 @@ impl Topology {
     }
 
     /// The view of a router of an AS: [`TopologyFault::UnknownAs`], then
-    /// [`TopologyFault::NoRouter`] if the AS has no router of this number. The key and the table
-    /// are lent.
+    /// [`TopologyFault::NoRouter`] if the AS has no router of this number. The view borrows the
+    /// keys and the table.
     #[inline]
     #[tactic(auto, unfolding(crate::specs::Topology::view_in))]
     pub fn view(&self, ia: IsdAs, router: u8) -> Result<RouterView<'_>, TopologyFault>
         ensures { result ≡ view_in self.now ia router }
     {
-        // The read of a field brings what the type keeps.
+        // Reading a field makes the type's invariants known here.
         let _ = &self.links;
         let (one, index) = self.indexed(ia)?;
         if router >= one.routers {
@@ -103,21 +103,21 @@ impl Topology {
     pub fn interface(&self, ia: IsdAs, number: IfId) -> Result<&IfEntry, TopologyFault>
         ensures { Gives (λ entry. entry.now) result (interface_at self.now ia number) }
     {
-        // The read of a field brings what the type keeps.
+        // Reading a field makes the type's invariants known here.
         let _ = &self.links;
         let (_, index) = self.indexed(ia)?;
         index.table.get(number).ok_or(TopologyFault::NoLink)
     }
 
-    /// Does nothing, and tells its caller the rules that every topology keeps.
+    /// Does nothing; its contract tells the caller the rules that every topology keeps.
     pub fn known(&self)
         ensures { IsNetwork self.now }
     {
-        // The read of a field brings what the type keeps.
+        // Reading a field makes the type's invariants known here.
         let _ = &self.links;
     }
 
-    /// An AS and what was prepared for it.
+    /// An AS and its index.
     #[inline]
     pub(crate) fn indexed(&self, ia: IsdAs) -> Result<(&AsEntry, &AsIndex), TopologyFault>
         ensures { Gives (λ x. (x.0.now, value_of_index x.1.now)) result (index_in self.now ia) }
@@ -133,7 +133,7 @@ impl Topology {
         ensures value { result ≡ place_in self.now ia number }
         ensures bound { IfOk result (λ place. place < length self.now.links) }
     {
-        // The read of a field brings what the type keeps.
+        // Reading a field makes the type's invariants known here.
         let _ = &self.links;
         let (_, index) = self.indexed(ia)?;
         index.place(number).ok_or(TopologyFault::NoLink)

@@ -10,9 +10,9 @@ use std::alloc::{AllocError, Global};
 use std::collections::BTreeMap;
 use std::marker::Model;
 
-/// The interfaces of an AS, each found by its number in a tree. Clauses see the list of them.
+/// The interfaces of an AS; a tree finds each by its number. In clauses the value is their list.
 ///
-/// Where a number stands twice, it is the first of the two that is found.
+/// If two interfaces have the same number, the first is found.
 #[derive(Drop)]
 pub struct InterfaceTable {
     entries: Vec<IfEntry>,
@@ -35,7 +35,7 @@ impl Model for InterfaceTable {
 }
 
 impl InterfaceTable {
-    /// The table of no interface.
+    /// A table without interfaces.
     pub(crate) fn new(alloc: Global) -> InterfaceTable
         ensures { result ≡ [] }
     {
@@ -45,7 +45,7 @@ impl InterfaceTable {
         }
     }
 
-    /// Adds an interface behind the others.
+    /// Adds an interface at the end.
     pub(crate) fn push(&mut self, entry: IfEntry) -> Result<(), AllocError>
         ensures { OnOk result (self.new ≡ self.old ++ entry ∷ []) }
     {
@@ -80,7 +80,7 @@ impl InterfaceTable {
         self.places.get(&number).copied()
     }
 
-    /// Sets the interface of this number up or down, where there is one.
+    /// Sets the interface of this number up or down, if there is one.
     pub(crate) fn mark(&mut self, number: IfId, up: bool)
         ensures { self.new ≡ marked_table number up self.old }
     {

@@ -19,9 +19,9 @@ use std::marker::Model;
 
 /// A network: its ASes and its links.
 ///
-/// It is read from JSON, asked by address and interface, and changed by cutting and mending links
-/// and by new keys. Only reading takes memory. ASes and interfaces are found by a search, and no
-/// question goes through a list of them.
+/// It is read from JSON, answers queries by address and interface, and changes when a link is cut
+/// or mended or a key is renewed. Only reading takes memory. ASes and interfaces are found by a
+/// search; no query goes through a whole list.
 #[derive(Drop)]
 pub struct Topology {
     pub(crate) ases: Vec<AsEntry>,
@@ -52,11 +52,10 @@ impl Topology {
     /// `b`; an end has `ia`, `if` (1 to 65535) and `router` (0 to 63). Members beside these are
     /// ignored.
     ///
-    /// The refusals, each looked for in all of the text before the next:
-    /// [`TopologyFault::NotJson`], [`TopologyFault::BadField`], [`TopologyFault::TooMany`],
-    /// [`TopologyFault::DuplicateAs`], [`TopologyFault::UnknownAs`], [`TopologyFault::NoRouter`],
-    /// [`TopologyFault::BadKind`], [`TopologyFault::DuplicateIf`]. Running out of memory is
-    /// [`OrMemory::Memory`].
+    /// The refusals, each checked for the whole text before the next: [`TopologyFault::NotJson`],
+    /// [`TopologyFault::BadField`], [`TopologyFault::TooMany`], [`TopologyFault::DuplicateAs`],
+    /// [`TopologyFault::UnknownAs`], [`TopologyFault::NoRouter`], [`TopologyFault::BadKind`],
+    /// [`TopologyFault::DuplicateIf`]. Running out of memory is [`OrMemory::Memory`].
     pub fn from_json(alloc: Global, bytes: &[u8]) -> Result<Topology, ReadError>
         ensures { Reads (λ n. n) result (network_in bytes.now) }
     {
@@ -76,7 +75,7 @@ impl Topology {
         Topology::of_lists(alloc, ases, links)
     }
 
-    /// The network of these lists, or the first cause why they are none.
+    /// The network of these lists, or the first fault that they have.
     fn of_lists(alloc: Global, ases: Vec<AsEntry>, links: Vec<Link>) -> Result<Topology, ReadError>
         requires ases { IsTrue (list_all is_as ases.items) }
         requires links { IsTrue (list_all is_link links.items) }

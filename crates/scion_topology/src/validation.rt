@@ -11,14 +11,14 @@ use crate::network::{AsEntry, End, Link, LinkClass};
 use isd_as::{IfId, IsdAs};
 use std::alloc::Global;
 
-/// The most ASes that a topology lists.
+/// The largest number of ASes of a topology.
 const MAX_ASES: usize = 1024;
 
-/// The most links that a topology lists.
+/// The largest number of links of a topology.
 const MAX_LINKS: usize = 4096;
 
-/// Why the ASes and links are no network, where they are none: each cause is looked for everywhere
-/// before the next.
+/// The first fault of these ASes and links, if they are no network. Each rule is checked for the
+/// whole lists before the next.
 #[tactic(auto, unfolding(crate::specs::Causes::cause_of))]
 pub(crate) fn first_cause(
     alloc: Global,
@@ -86,7 +86,7 @@ fn is_any_router_missing(listed: &AsLookup<'_>, links: &[Link]) -> bool
     links.iter().any(|link| has_no_router(listed, link))
 }
 
-/// Whether a core AS of this address is listed.
+/// Whether the list has a core AS of this address.
 fn is_core(listed: &AsLookup<'_>, ia: IsdAs) -> bool
     ensures { result ≡ is_core listed.now ia }
 {
@@ -112,7 +112,7 @@ fn is_ill_joined(listed: &AsLookup<'_>, link: &Link) -> bool
     link.a.ia == link.b.ia || is_ill_classed(listed, link.class, link.a.ia, link.b.ia)
 }
 
-/// Whether a link joins what it may not.
+/// Whether a link joins ASes that it may not join.
 fn is_any_ill_joined(listed: &AsLookup<'_>, links: &[Link]) -> bool
     ensures { result ≡ list_any (λ link. is_ill_joined listed.now link) links.now }
 {

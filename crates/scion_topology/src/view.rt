@@ -11,12 +11,12 @@ use crate::table::InterfaceTable;
 use isd_as::{IfId, IsdAs};
 use std::marker::Model;
 
-/// What a router knows of its AS: its address, its own number, the AS's keys and its interfaces.
+/// A router's view of its AS: its address, the router's number, the AS's keys and its interfaces.
 ///
-/// Its type keeps that the address is no wildcard, that each key has 1 to 64 bytes, and that each
-/// interface is named once, none of them by 0. A topology lends the hash states of its keys and a
-/// table that is searched; else the states are made once, and the interfaces are borrowed as they
-/// are given.
+/// Invariants of the type: the address is no wildcard, each key has 1 to 64 bytes, and each
+/// interface is listed once and has a number other than 0. The view of a topology borrows the hash
+/// states of its keys and a table that is searched. A view from [`RouterView::new`] computes the
+/// states once, and borrows the interfaces as they are given.
 #[derive(Drop)]
 pub struct RouterView<'a> {
     ia: IsdAs,
@@ -24,12 +24,12 @@ pub struct RouterView<'a> {
     source: Source<'a>,
 }
 
-/// Where a view has its keys and its interfaces from.
+/// The keys and the interfaces of a view.
 #[derive(Drop)]
 enum Source<'a> {
-    /// An AS of a topology lends both.
+    /// Both are borrowed from an AS of a topology.
     Borrowed(&'a Keys, &'a InterfaceTable),
-    /// Both were given: the keys by their bytes, and the interfaces in any order.
+    /// Both were given: the keys as bytes, and the interfaces in any order.
     Owned(Keys, &'a [IfEntry]),
 }
 
@@ -57,11 +57,11 @@ impl<'a> Model for RouterView<'a> {
 
 impl<'a> RouterView<'a> {
     /// The view of router `router` of the AS `ia`, with this key in use, this key before it, and
-    /// these interfaces, in any order. It takes no memory.
+    /// these interfaces in any order. It takes no memory.
     ///
-    /// The first of these that holds is the refusal: [`TopologyFault::BadField`] if the ISD or
-    /// the AS number is the wildcard, a key has no byte or more than 64, or an interface has
-    /// number 0; [`TopologyFault::DuplicateIf`] where two interfaces have the same number.
+    /// The first of these refusals is returned: [`TopologyFault::BadField`] if the ISD or the AS
+    /// number is the wildcard, a key is empty or has more than 64 bytes, or an interface has number
+    /// 0; [`TopologyFault::DuplicateIf`] if two interfaces have the same number.
     #[tactic(auto, unfolding(crate::specs::Building::view_of, crate::specs::Keys::keys_of))]
     pub fn new(
         ia: IsdAs,
@@ -86,7 +86,7 @@ impl<'a> RouterView<'a> {
         })
     }
 
-    /// The view of these parts, which are known to be right: no test is run and nothing is hashed.
+    /// The view of these parts, which keep the rules already: nothing is checked or hashed.
     #[inline]
     pub(crate) fn of_parts(
         ia: IsdAs,
@@ -126,8 +126,7 @@ impl<'a> RouterView<'a> {
         self.keys().in_use().bytes()
     }
 
-    /// The key that was in use before it, whose authenticators the AS accepts too, where there was
-    /// one.
+    /// The key that was in use before, whose authenticators the AS accepts too, if there is one.
     pub fn previous(&self) -> Option<&[u8]>
         ensures { option_copied result ≡ slice_get self.now.keys 1 }
     {
@@ -137,8 +136,8 @@ impl<'a> RouterView<'a> {
         }
     }
 
-    /// The interface of this number, where the AS has one. A view that a topology lends searches a
-    /// tree for it; one that was made goes through the interfaces that it was given.
+    /// The interface of this number, if the AS has one. The view of a topology searches a tree for
+    /// it; a view from [`RouterView::new`] goes through its list.
     pub fn entry(&self, number: IfId) -> Option<&'a IfEntry>
         ensures { option_copied result ≡ entry_of self.now number }
     {
@@ -149,8 +148,8 @@ impl<'a> RouterView<'a> {
     }
 
     /// Whether `mac` is the authenticator of a hop of these values under the key in use or the one
-    /// before it: two compressions where it is right under the key in use or there is no other, and
-    /// four where it isn't.
+    /// before it. That takes two compressions if it is right under the key in use or there is no
+    /// other key, and else four.
     pub fn authenticates(
         &self,
         mac: &[u8; 6],
@@ -179,11 +178,11 @@ impl<'a> RouterView<'a> {
         }
     }
 
-    /// Does nothing, and tells its caller that this is a view of right parts.
+    /// Does nothing; its contract tells the caller that the parts of this view keep the rules.
     pub fn known(&self)
         ensures { IsRight self.now }
     {
-        // The read of a field brings what the type keeps.
+        // Reading a field makes the type's invariants known here.
         let _ = &self.source;
     }
 }
