@@ -1,4 +1,4 @@
--- What the words of a command line are answered, and what is told of faults.
+-- The results of reading the words of a command line, and the messages about faults.
 use Rattle.std.specs.Prelude.{◌≡◌, ◌≢◌, ℕ, codes, List, Option, Some, None, Result, Ok, Err, String}
 use Rattle.std.specs.String.{string_bytes}
 use Rattle.clap.specs.Words.{kind_of}
@@ -24,28 +24,28 @@ use Rattle.commands.specs.declared.status.Status.TheVariants.{Done, Failed, Refu
 
 -- ---- words
 
--- the text that is told of words that ask for nothing, where `clap` has none
+-- the message about words that are no command, if `clap` has none
 abbrev pub usage_text : List ℕ
 usage_text = codes "scionet: usage\n"
 
--- the words ask for nothing, which is told in our own text, or memory ran out, of which nothing is
--- said
+-- the fault of words: our own message about usage; or memory ran out, about which nothing is
+-- claimed
 abbrev pub IsWordsFault : WordsFault → Type 0
 IsWordsFault (words.Usage text) = string_bytes text ≡ usage_text
 IsWordsFault words.Memory = Unit {0}
 
--- a usage is of words that `clap` refuses
+-- a fault of usage is one for which `clap` refuses the words
 abbrev pub Explains : WordsFault → Error → Type 0
 Explains (words.Usage text) error = kind_of error ≢ OutOfMemory
 Explains words.Memory error = Unit {0}
 
--- the words ask for this, they are refused, or memory ran out
+-- the words are this command, they are refused, or memory ran out
 abbrev pub Asks : Result Command WordsFault → Option Command → Type 0
 Asks (Ok command) asked = asked ≡ Some command
 Asks (Err (words.Usage text)) asked = asked ≡ None
 Asks (Err words.Memory) asked = Unit {0}
 
--- the line of the turn that the words ask for was printed; they ask for none; they ask for one, and
+-- the line of the turn in the words was returned; or the words have no turn; or they have one, and
 -- the packet's text is no packet; or memory ran out
 abbrev pub Answers : {A : Type 0} → Result (String A) CommandFault → Option Turn → List ℕ → Type 0
 Answers (Ok line) asked packet =
@@ -58,23 +58,23 @@ Answers (Err fault) asked packet = ⊥
 
 -- ---- faults
 
--- the fault of words that are no command
+-- the fault of a command whose words are refused
 abbrev pub of_words : WordsFault → CommandFault
 of_words (words.Usage text) = Usage text
 of_words words.Memory = Memory
 
--- the fault of input that was not read to its end
+-- the fault of a command whose input was not read to its end
 abbrev pub of_input : InputFault → CommandFault
 of_input input.Read = Read
 of_input input.TooLong = InputTooLong
 of_input input.Memory = Memory
 
--- the fault of a turn that gave no line
+-- the fault of a command whose turn gave no line
 abbrev pub of_step : StepFault → CommandFault
 of_step step.PacketText = PacketText
 of_step step.Memory = Memory
 
--- the fault of a network's run that ended before its input did
+-- the fault of a command whose run ended before its input did
 abbrev pub of_run : RunFault → CommandFault
 of_run run.Topology = Topology
 of_run run.Read = Read
@@ -82,14 +82,14 @@ of_run run.Write = Write
 of_run run.Memory = Memory
 of_run run.InputTooLong = InputTooLong
 
--- the fault of a network whose packets were not carried, or their ends not told
+-- the fault of a command whose flights were not carried, or not reported
 abbrev pub of_work : WorkFault → CommandFault
 of_work (work.Lines fault) = of_run fault
 of_work work.Workers = Workers
 of_work work.Memory = Memory
 of_work work.Write = Write
 
--- what is told of a fault on standard error
+-- the message about a fault on standard error
 abbrev pub text_of_fault : CommandFault → List ℕ
 text_of_fault (Usage text) = string_bytes text
 text_of_fault PacketText = codes "scionet: bad packet text\n"
@@ -100,12 +100,12 @@ text_of_fault Read = codes "scionet: read failed\n"
 text_of_fault Write = codes "scionet: write failed\n"
 text_of_fault InputTooLong = codes "scionet: input too long\n"
 
--- the status that a fault leads to
+-- the status for a fault
 abbrev pub status_of : CommandFault → Status
 status_of (Usage text) = Refused
 status_of fault = Failed
 
--- the number by which the program's caller sees how it ended
+-- the exit status of the program
 abbrev pub code_of : Status → ℕ
 code_of Done = 0
 code_of Failed = 1

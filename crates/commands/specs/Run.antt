@@ -1,4 +1,4 @@
--- What a run of the program makes of its words and of what stands on its standard input.
+-- A run of the program: what it does with its words and its standard input.
 use Rattle.std.specs.Prelude.{◌≡◌, ◌||◌, ℕ, Bool, true, false, codes, List, ◌++◌, Option, Some, None, Result, Ok, Err}
 use Rattle.std.specs.Io.KnownBytes.{Appends, Keeps}
 use Rattle.streams.specs.declared.fault.InputFault.{InputFault}
@@ -19,14 +19,15 @@ use Rattle.commands.specs.Fault.{of_input, of_run, of_work, status_of, text_of_f
 
 -- ---- streams
 
--- what a call did to a stream: its bytes, where they are known, and its flag, before and after
+-- the change of a stream in a call: its bytes, if they are known, and its flag of failure, before
+-- and after
 pub record Change : Type 0 where
   pub old : Option (List ℕ)
   pub new : Option (List ℕ)
   pub had_failed : Bool
   pub has_failed : Bool
 
--- the change of a stream, by its bytes and its flag
+-- the change of a stream, from the functions for its bytes and its flag
 abbrev pub change_of : {A : Type 0} → (A → Option (List ℕ)) → (A → Bool) → A → A → Change
 change_of bytes failed before after = record {
   old = bytes before;
@@ -35,7 +36,7 @@ change_of bytes failed before after = record {
   has_failed = failed after;
 }
 
--- the flag was set exactly where this holds
+-- the flag is set if and only if it was set before or this is true
 abbrev pub SetsFlag : Change → Bool → Type 0
 SetsFlag change fails = change.has_failed ≡ (change.had_failed || fails)
 
@@ -45,22 +46,22 @@ IsStill change = Keeps change.old change.new × SetsFlag change false
 
 -- ---- one router's turn
 
--- the most bytes that standard input may give
+-- the largest number of bytes of standard input
 abbrev pub most_input : ℕ
 most_input = 67108864
 
--- the input was read to its end, or why not
+-- the input was read to its end, or the result says why not
 abbrev pub ReadsInput : Result (List ℕ) InputFault → Change → Type 0
 ReadsInput read source =
     ReadsAll (λ bytes. bytes) most_input read source.old source.new
     × SetsFlag source (is_failed_read read)
 
--- the line and its end
+-- the line with its end
 abbrev pub whole_line : List ℕ → List ℕ
 whole_line line = line ++ codes "\n"
 
--- the line was written; it was not, or a beginning of it, since a write failed; there is none; or
--- memory ran out, and nothing was written
+-- the line was written; or not all of it, because a write failed; or there is no line; or memory
+-- ran out, and nothing was written
 abbrev pub Prints : {A : Type 0} → Result A CommandFault → Option (List ℕ) → Change → Type 0
 Prints (Ok x) (Some line) sink = Appends sink.old sink.new (whole_line line) × SetsFlag sink false
 Prints (Err Write) (Some line) sink =
@@ -69,39 +70,40 @@ Prints (Err PacketText) None sink = IsStill sink
 Prints (Err Memory) line sink = IsStill sink
 Prints answer line sink = ⊥
 
--- the line of the packet that was read is printed, or the fault of the read is answered
+-- the line of the packet that was read is printed; or the result is the fault of the read
 abbrev pub PrintsOf : {A : Type 0} → Result A CommandFault → Turn
     → Result (List ℕ) InputFault → Change → Type 0
 PrintsOf answer turn (Ok bytes) sink = Prints answer (line_of turn bytes) sink
 PrintsOf answer turn (Err fault) sink = (answer ≡ Err (of_input fault)) × IsStill sink
 
--- one router's turn: the line of the packet on the whole input is printed, or why not
+-- one router's turn: the line of the packet on the whole input is printed, or the result says why
+-- not
 abbrev pub Steps : {A : Type 0} → Result A CommandFault → Turn → Change → Change → Type 0
 Steps answer turn source sink =
     (read : Result (List ℕ) InputFault) × (ReadsInput read source × PrintsOf answer turn read sink)
 
 -- ---- a network's run
 
--- what a run of lines is answered
+-- the result of a command from that of its run
 abbrev pub after_run : Result (Unit {0}) RunFault → Result (Unit {0}) CommandFault
 after_run (Ok done) = Ok done
 after_run (Err fault) = Err (of_run fault)
 
--- a network's run: the lines of the source are answered on the sink, or why not
+-- a network's run: the lines of the source are answered on the sink, or the result says why not
 abbrev pub AnswersLines : Result (Unit {0}) CommandFault → Change → Change → Type 0
 AnswersLines answer source sink = (run : Result (Unit {0}) RunFault)
     × ((answer ≡ after_run run)
     × (Runs run source.old source.new sink.old sink.new
     × (SetsFlag source (is_read_fault run) × SetsFlag sink (is_write_fault run))))
 
--- what a run of workers is answered
+-- the result of a command from that of its run with workers
 abbrev pub after_work : Result (Unit {0}) WorkFault → Result (Unit {0}) CommandFault
 after_work (Ok done) = Ok done
 after_work (Err fault) = Err (of_work fault)
 
--- a network's run with its packets carried by `workers` workers, with `slots` places in an inbox:
--- the lines of the source that prepare it are answered on the sink, and the ends of the flights
--- reported there, or why not
+-- a network's run with `workers` workers and inboxes of `slots` places: the lines of the source
+-- that prepare the network are answered on the sink, and the ends of the flights are reported
+-- there; or the result says why not
 abbrev pub CarriesPackets : Result (Unit {0}) CommandFault → ℕ → ℕ → Change → Change → Type 0
 CarriesPackets answer workers slots source sink = (run : Result (Unit {0}) WorkFault)
     × ((answer ≡ after_work run)
@@ -120,7 +122,8 @@ IsRefusal answer = ⊥
 abbrev pub Refuses : {A : Type 0} → Result A CommandFault → Change → Change → Type 0
 Refuses answer source sink = IsRefusal answer × (IsStill source × IsStill sink)
 
--- what the words ask for was done, or why not; words that ask for nothing are refused
+-- the command of the words was carried out, or the result says why not; words that are no command
+-- are refused
 abbrev pub Does : Result (Unit {0}) CommandFault → Option Command → Change → Change → Type 0
 Does answer None source sink = Refuses answer source sink
 Does answer (Some command.Run) source sink = AnswersLines answer source sink
@@ -128,22 +131,23 @@ Does answer (Some (command.Work workers slots)) source sink =
     CarriesPackets answer workers slots source sink
 Does answer (Some (command.Step turn)) source sink = Steps answer turn source sink
 
--- a fault is told of on standard error, whole where no write of it failed
+-- a message about the fault was written to standard error, whole if no write failed
 abbrev pub TellsOf : CommandFault → Change → Type 0
 TellsOf fault errors = AppendsFront errors.old errors.new (text_of_fault fault)
     × (errors.has_failed ≡ false → Appends errors.old errors.new (text_of_fault fault))
 
--- so is that of an answer, if it is one
+-- if the result is a fault, there is a message about it, and else none
 abbrev pub Tells : {A : Type 0} → Result A CommandFault → Change → Type 0
 Tells (Ok x) errors = IsStill errors
 Tells (Err fault) errors = TellsOf fault errors
 
--- the status of an answer
+-- the status for a result
 abbrev pub status_after : {A : Type 0} → Result A CommandFault → Status
 status_after (Ok x) = Done
 status_after (Err fault) = status_of fault
 
--- how a run ends: what the words ask for is answered, a fault is told of, and the status is theirs
+-- the end of a run: the command was carried out or not, a fault has its message, and the status is
+-- that of the result
 pub record Ends (status : Status) (asked : Option Command) (source sink errors : Change)
     : Type 0 where
   pub answer : Result (Unit {0}) CommandFault

@@ -15,15 +15,15 @@ use Rattle.step_line.specs.Turn.{StepOptions, Turn, turn_of}
 use Rattle.commands.specs.declared.command.Command.{Command as Asked}
 use Rattle.commands.specs.declared.command.Command.TheVariants.{Step, Run, Work}
 
--- an option that has a value and must be given
+-- an option that has a value and is required
 abbrev pub option_rule : Text → Rule
 option_rule name = record (new_rule name) { long = Some name; value_names = 1; required = true }
 
--- one that need not be given
+-- an option that has a value and is not required
 abbrev pub optional_rule : Text → Rule
 optional_rule name = record (new_rule name) { long = Some name; value_names = 1 }
 
--- one whose value is a number from `low` to `most`; from 0 to `most`
+-- a required option whose value is a number from `low` to `most`, and one from 0 to `most`
 abbrev pub range_rule : ℕ → ℕ → Text → Rule
 range_rule low most name =
     record (option_rule name) { parser = Some (Signed (pos low) (pos most)) }
@@ -31,7 +31,7 @@ range_rule low most name =
 abbrev pub number_rule : ℕ → Text → Rule
 number_rule most name = range_rule 0 most name
 
--- the interfaces, any number of them
+-- the interfaces: any number of values
 abbrev pub interface_rule : Rule
 interface_rule = record (new_rule (codes "interface")) { value_names = 1; action = Some Append }
 
@@ -43,7 +43,7 @@ step_app =
     (optional_rule (codes "previous"))) (number_rule 4294967295 (codes "now")))
     (option_rule (codes "from"))) interface_rule
 
--- `run`, without options
+-- `run`, which has no options
 abbrev pub run_app : App
 run_app = new_app (codes "run")
 
@@ -52,7 +52,7 @@ abbrev pub work_app : App
 work_app = with_rule (with_rule (new_app (codes "work")) (number_rule 4294967295 (codes "workers")))
     (range_rule 1 4096 (codes "slots"))
 
--- `scionet` with its commands and its version; the words begin behind its name
+-- `scionet` with its commands and its version; the words are those after its name
 abbrev pub program_app : App
 program_app =
     with_subcommand (with_subcommand (with_subcommand
@@ -62,11 +62,11 @@ program_app =
     }) (new_app (codes "scionet")))
     step_app.top) run_app.top) work_app.top
 
--- none of the command's arguments is one of its subcommands too
+-- no argument of the command is also one of its subcommands
 abbrev pub IsLocal : Command → Type 0
 IsLocal command = (out-Command command).has_globals ≡ false
 
--- the texts of the options among the matches
+-- the texts of the options in these matches
 abbrev pub texts_in : List Row → Option StepOptions
 texts_in rows = do
   ia ← first_of (codes "ia") rows
@@ -84,13 +84,13 @@ texts_in rows = do
     interfaces = unwrap_or (all_of (codes "interface") rows) [];
   })
 
--- the turn that the matches describe
+-- the turn of these matches
 abbrev pub turn_in : List Row → Option Turn
 turn_in rows = do
   texts ← texts_in rows
   turn_of texts
 
--- the workers and the places of their inboxes that the matches of `work` tell
+-- the numbers of workers and of places in an inbox, from the matches of `work`
 abbrev pub work_in : List Row → Option Asked
 work_in rows = do
   workers_text ← first_of (codes "workers") rows
@@ -99,7 +99,7 @@ work_in rows = do
   slots ← number_at 1 4096 slots_text
   Some (Work workers slots)
 
--- what the words ask for that name this command, or none
+-- the command with this name and these matches; without a name it is `run`
 abbrev pub command_in : Option (Text × List Row) → Option Asked
 command_in None = Some Run
 command_in (Some named) =
@@ -107,26 +107,26 @@ command_in (Some named) =
     else if bytes_eq named.0 (codes "work") then work_in named.1
     else option_map Step (turn_in named.1)
 
--- inboxes that are asked for have 1 to 4,096 places
+-- the inboxes of the command have 1 to 4,096 places
 abbrev pub IsInRange : Asked → Type 0
 IsInRange (Work workers slots) = (0 < slots) × (slots ≤ 4096)
 IsInRange command = Unit {0}
 
--- what is asked for, where `clap` finds no fault
+-- the command, if `clap` finds no fault
 abbrev pub unless_faulty : Kinds → Option Asked → Option Asked
 unless_faulty [] command = command
 unless_faulty (kind ∷ kinds) command = None
 
--- what the words behind the program's name ask for, where `clap` accepts them
+-- the command of the words after the program's name, if `clap` accepts them
 unfoldable pub asked : List Text → Option Asked
 asked words =
     unless_faulty (fault_of program_app words) (command_in (subcommand_of program_app words))
 
--- `clap` accepts the words behind the program's name
+-- `clap` accepts the words after the program's name
 abbrev pub IsAccepted : List Text → Type 0
 IsAccepted words = fault_of program_app words ≡ []
 
--- the turn among what may be asked for
+-- the turn of the command, if it is `step`
 abbrev pub turn_asked : Option Asked → Option Turn
 turn_asked (Some (Step turn)) = Some turn
 turn_asked other = None

@@ -11,19 +11,19 @@ use clap::{ArgMatches, Error};
 use std::alloc::{AllocError, Global};
 use step_line::StepCommand;
 
-/// What the words of a command line ask for.
+/// The command of a command line.
 #[derive(Drop)]
 pub enum Command {
-    /// `step`: one router's turn over the packet on standard input.
+    /// `step`: one turn of a router on the packet on standard input.
     Step(StepCommand),
-    /// `run`, and no words at all: the network that the lines on standard input tell of.
+    /// `run`, or no words at all: a network whose lines come on standard input.
     Run,
-    /// `work`: the network that the lines on standard input prepare, and its packets carried by
+    /// `work`: a network prepared by the lines on standard input, whose packets are carried by
     /// workers.
     Work {
         /// The number of workers.
         workers: u32,
-        /// The places of each worker's inbox, 1 to 4,096.
+        /// The number of places of each worker's inbox, 1 to 4,096.
         slots: u32,
     },
 }
@@ -62,16 +62,16 @@ fn named(alloc: Global, matches: &ArgMatches<'_>) -> Result<Option<Command>, All
 }
 
 impl Command {
-    /// The command that the words behind the program's name ask for.
+    /// The command of the words after the program's name.
     ///
-    /// [`WordsFault::Usage`] if `clap` refuses them or they ask for help, with its text, and
-    /// where those of `step` describe no turn or a number of `work` can't be read, with the text
-    /// `scionet: usage`; [`WordsFault::Memory`] if memory runs out.
+    /// [`WordsFault::Usage`] with the text of `clap`, if it refuses the words or they ask for help.
+    /// The same fault with the text `scionet: usage`, if the words of `step` give no turn or a
+    /// number of `work` can't be read. [`WordsFault::Memory`] if memory runs out.
     #[tactic(auto, unfolding(crate::specs::Words::asked))]
     pub fn parse<'a>(alloc: Global, words: &'a [&'a str]) -> Result<Command, WordsFault>
         ensures asks { Asks result (asked (map (λ word. word.now) words.entry.now)) }
         ensures range { IfOk result IsInRange }
-        // What is told of words that `clap` accepts and that ask for nothing is our own text.
+        // For words that `clap` accepts and that are no command, the text is our own.
         ensures usage { IfErr result (λ fault.
             IsAccepted (map (λ word. word.now) words.entry.now) → IsWordsFault fault) }
     {
@@ -86,12 +86,12 @@ impl Command {
     }
 }
 
-/// The line, without its end, that `scionet step` prints when its words are these and this text
-/// comes on standard input. The words are those behind the program's name.
+/// The line, without its end, that `scionet step` prints for these words and this text on standard
+/// input. The words are those after the program's name.
 ///
-/// [`CommandFault::Usage`] as in [`Command::parse`], and where they ask for another command; then
-/// [`CommandFault::PacketText`] as in [`StepCommand::line`]; [`CommandFault::Memory`] for want of
-/// memory.
+/// [`CommandFault::Usage`] as in [`Command::parse`], and if the words are another command; then
+/// [`CommandFault::PacketText`] as in [`StepCommand::line`]; [`CommandFault::Memory`] if memory
+/// runs out.
 pub fn step_line<'a>(
     alloc: Global,
     words: &'a [&'a str],

@@ -13,7 +13,7 @@ use streams::{InputFault, WriteFailed};
 use thiserror::Error;
 use work_lines::WorkFault;
 
-/// Why words ask for no command.
+/// Why words are no command.
 #[derive(Debug, Drop, Error)]
 pub enum WordsFault {
     /// The words are refused, or ask for help. It holds the text that the program prints.
@@ -25,7 +25,7 @@ pub enum WordsFault {
 }
 
 impl WordsFault {
-    /// The fault of words that `clap` accepts and that ask for nothing.
+    /// The fault of words that `clap` accepts and that are no command.
     pub(crate) fn no_command(alloc: Global) -> WordsFault
         ensures { IsWordsFault result }
     {
@@ -35,8 +35,8 @@ impl WordsFault {
         }
     }
 
-    /// The fault of words that can't be read: running out of memory, or a refused command line,
-    /// since words that are no UTF-8 are no words of a command.
+    /// The fault of words that can't be read: memory ran out, or the words are refused because they
+    /// are no UTF-8.
     pub fn unreadable(alloc: Global, error: &io::Error) -> WordsFault
         ensures { IsWordsFault result }
     {
@@ -55,7 +55,7 @@ impl From<AllocError> for WordsFault {
     }
 }
 
-/// Why a command was not done to its end.
+/// Why a command was not carried out to its end.
 #[derive(Debug, Drop, Error)]
 pub enum CommandFault {
     /// The words are refused, or ask for help. It holds the text that the program prints.
@@ -73,7 +73,7 @@ pub enum CommandFault {
     /// A read of standard input failed.
     #[error("scionet: read failed")]
     Read,
-    /// A write to standard output failed, or took nothing.
+    /// A write to standard output failed, or wrote no byte.
     #[error("scionet: write failed")]
     Write,
     /// Standard input has more than 67,108,864 bytes.
@@ -85,7 +85,7 @@ pub enum CommandFault {
 }
 
 impl CommandFault {
-    /// How a run with this fault ends: [`Status::Refused`] after words that are refused, else
+    /// The status of a run with this fault: [`Status::Refused`] if the words were refused, else
     /// [`Status::Failed`].
     pub fn status(&self) -> Status
         ensures { result ≡ status_of self.now }
@@ -96,7 +96,7 @@ impl CommandFault {
         }
     }
 
-    /// What standard error says of the fault, line ends included.
+    /// The message about the fault on standard error, with its line ends.
     pub fn told(&self) -> &str
         ensures { result.now ≡ text_of_fault self.now }
     {

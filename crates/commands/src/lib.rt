@@ -1,8 +1,8 @@
-//! The commands of `scionet`: the words of its command line, and what each command does over any
+//! The commands of `scionet`: the words of its command line, and what each command does with its
 //! streams.
 //!
-//! [`Command`] is what words ask for. [`run`] does it: it reads a source, writes to a sink, tells
-//! of a fault on another sink, and answers how the program ends.
+//! [`Command`] is the meaning of the words. [`run`] carries it out: it reads a source, writes to a
+//! sink, reports a fault on another sink, and returns the exit status.
 #![tactic(auto)]
 
 mod command;

@@ -1,4 +1,4 @@
-//! What the matches of a command line describe.
+//! Commands from the matches of a command line.
 
 ghost use Rattle.std.specs.Prelude.{◌≡◌, IfOk, IfSome, codes, map, option_map};
 ghost use Rattle.clap.specs.Words.{all_of, first_of, found_of, rows_of};
@@ -17,7 +17,7 @@ fn text_of<'a>(matches: &ArgMatches<'a>, id: &str) -> Option<&'a str>
     matches.get_str(id)
 }
 
-/// The texts of the interfaces, where any is given.
+/// The texts of the interfaces, if any were given.
 #[tactic(auto, using(crate::proofs::Matches::all_of_rows))]
 fn interfaces_of<'m, 'a>(matches: &'m ArgMatches<'a>) -> Option<&'m [&'a str]>
     ensures { option_map (λ s. map (λ t. t.now) s.now) result
@@ -26,7 +26,7 @@ fn interfaces_of<'m, 'a>(matches: &'m ArgMatches<'a>) -> Option<&'m [&'a str]>
     matches.get_strs("interface")
 }
 
-/// The workers and the places of their inboxes that the matches of `work` tell.
+/// The numbers of workers and of places in an inbox, from the matches of `work`.
 pub(crate) fn work(matches: &ArgMatches<'_>) -> Option<Command>
     ensures value { result ≡ work_in (rows_of (found_of matches.now)) }
     ensures range { IfSome result IsInRange }
@@ -38,7 +38,7 @@ pub(crate) fn work(matches: &ArgMatches<'_>) -> Option<Command>
     Some(Command::Work { workers, slots })
 }
 
-/// The turn that the matches of `step` describe.
+/// The turn of the matches of `step`.
 pub(crate) fn turn(
     alloc: Global,
     matches: &ArgMatches<'_>,

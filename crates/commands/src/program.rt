@@ -17,10 +17,10 @@ use step_line::StepCommand;
 use streams::{Sink, Source, read_all, write_all};
 use work_lines::work_lines;
 
-/// The most bytes that standard input may give.
+/// The largest number of bytes of standard input.
 const MAX_INPUT_LEN: u64 = 67_108_864;
 
-/// One router's turn over the packet that the source gives: it prints one line.
+/// One turn of a router on the packet of the source; it prints one line.
 fn run_step<S: Source, K: Sink>(
     alloc: Global,
     command: &StepCommand,
@@ -37,7 +37,7 @@ fn run_step<S: Source, K: Sink>(
     Ok(())
 }
 
-/// The network that the source's lines tell of: it answers each by a line.
+/// The network of the source's lines; it answers each line with a line.
 fn run_network<S: Source, K: Sink>(
     alloc: Global,
     source: &mut S,
@@ -50,8 +50,8 @@ fn run_network<S: Source, K: Sink>(
     Ok(())
 }
 
-/// The network that the source's lines prepare, with its packets carried by `workers` workers,
-/// whose inboxes have `slots` places each.
+/// The network that the source's lines prepare; `workers` workers carry its packets, with inboxes
+/// of `slots` places.
 fn run_workers<R: Threads + Wait + Sync, S: Source, K: Sink>(
     rt: &R,
     alloc: Global,
@@ -70,14 +70,14 @@ fn run_workers<R: Threads + Wait + Sync, S: Source, K: Sink>(
     Ok(())
 }
 
-/// Does what these words behind the program's name ask for: it reads the source to its end and
-/// writes the lines of the answer to the sink.
+/// Carries out the command of the words after the program's name: it reads the source to its end,
+/// and writes the lines of the result to the sink.
 ///
-/// The words are judged before anything is read. [`CommandFault::Usage`] as in [`Command::parse`];
-/// [`CommandFault::Read`] and [`CommandFault::Write`] exactly where a call of it failed the source
-/// or the sink; [`CommandFault::InputTooLong`] where byte 67,108,865 is read;
+/// The words are checked before anything is read. [`CommandFault::Usage`] as in [`Command::parse`];
+/// [`CommandFault::Read`] if and only if the source failed, and [`CommandFault::Write`] if and only
+/// if the sink failed; [`CommandFault::InputTooLong`] if byte 67,108,865 is read;
 /// [`CommandFault::PacketText`] as in [`StepCommand::line`]; [`CommandFault::Topology`] as in
-/// [`run_lines`], after its answer; [`CommandFault::Workers`] as in [`work_lines`], after all
+/// [`run_lines`], after its reply; [`CommandFault::Workers`] as in [`work_lines`], after all
 /// replies; [`CommandFault::Memory`] if memory runs out.
 pub fn execute<'a, R: Threads + Wait + Sync, S: Source, K: Sink>(
     rt: &R,
@@ -99,7 +99,7 @@ pub fn execute<'a, R: Threads + Wait + Sync, S: Source, K: Sink>(
     }
 }
 
-/// Ends a run with this fault: tells of it on `errors`, as far as that can be written.
+/// Ends a run with this fault: writes the message about it to `errors`, as far as that succeeds.
 pub fn end<E: Sink>(fault: &CommandFault, errors: &mut E) -> Status
     ensures status { result ≡ status_of fault.now }
     ensures tells { TellsOf fault.now (change_of E.held E.failed errors.old errors.new) }
@@ -108,8 +108,8 @@ pub fn end<E: Sink>(fault: &CommandFault, errors: &mut E) -> Status
     fault.status()
 }
 
-/// Runs `scionet` with these words behind the program's name: does what they ask for, and tells of
-/// a fault on `errors`.
+/// Runs `scionet` with the words after the program's name: carries out their command, and reports a
+/// fault on `errors`.
 ///
 /// [`Status::Refused`] if the words are refused or ask for help; [`Status::Failed`] after any
 /// other fault.

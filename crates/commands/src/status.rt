@@ -1,20 +1,20 @@
 ghost use Rattle.std.specs.Prelude.{◌≡◌};
 ghost use Rattle.commands.specs.Fault.{code_of};
 
-/// How a run of the program ends.
+/// How a run of the program ended.
 #[derive(Clone, Copy, Debug, PartialEq, Eq)]
 pub enum Status {
-    /// What the words ask for was done.
+    /// The command was carried out.
     Done,
-    /// The packet's text is none, the topology is refused, the workers are refused, a stream failed
-    /// or held too much, or memory ran out.
+    /// The packet's text is no packet, the topology or the number of workers is refused, a stream
+    /// failed or was too long, or memory ran out.
     Failed,
     /// The words are refused, or ask for help.
     Refused,
 }
 
 impl Status {
-    /// The number that the program gives to its caller: 0, 1 or 2.
+    /// The exit status of the program: 0, 1 or 2.
     pub fn code(self) -> u8
         ensures { result ≡ code_of self }
     {

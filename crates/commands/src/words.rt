@@ -8,11 +8,10 @@ use clap::builder::ValueParser;
 use clap::{Arg, ArgAction, Command};
 use std::alloc::{AllocError, Global};
 
-/// What `--version` prints behind the program's name: its version, and the toolchain that proved
-/// it.
+/// The text of `--version` after the program's name: its version, and the toolchain that proved it.
 static VERSION: &str = "0.1.0, proved by rattle-kit-13f logic dac8208d650f15bf";
 
-/// What stands at the end of the program's long help.
+/// The end of the program's long help.
 static PROGRAM_HELP: &str = "\
 Without a command, 'run' is meant. Times are seconds since 1970, keys, payloads and packets \
 hexadecimal digits, two for each byte, and an AS is written as 1-ff00:0:111.
@@ -30,7 +29,7 @@ Example: at second 21701, a packet that stands in the file packet.hex and came f
   scionet step --ia 1-ff00:0:111 --router 0 --key 6b --now 21701 \
 --from host 2,parent,0,up < packet.hex";
 
-/// What stands at the end of the long help of `step`.
+/// The end of the long help of `step`.
 static STEP_HELP: &str = "\
 The packet is 8 bytes of the destination's address, 8 of the source's, the path header and the \
 payload, in hexadecimal, with or without blanks at both ends; at most 67,108,864 bytes of text. \
@@ -42,7 +41,7 @@ Example: at second 100, a packet of a host leaves 1-ff00:0:111 over interface 2,
 110e4c1d3dad003f00000001a1a2a3a4a5a6 |
   scionet step --ia 1-ff00:0:111 --router 0 --key 6b --now 100 --from host 2,parent,0,up";
 
-/// What stands at the end of the long help of `run`.
+/// The end of the long help of `run`.
 static RUN_HELP: &str = "\
 Standard input has a topology on its first line, and on each line after it an event of its network \
 or the question 'show', each a JSON object; at most 67,108,864 bytes in all. A line is answered by \
@@ -84,7 +83,7 @@ which is answered by
   link 2
   delivered";
 
-/// What stands at the end of the long help of `work`.
+/// The end of the long help of `work`.
 static WORK_HELP: &str = "\
 Standard input has the lines of 'run' that prepare a network: all but 'turn', 'lose', 'alter', \
 'back' and 'show', which are answered by 'no 140 BadLine'. They are answered as 'run' answers \
@@ -119,7 +118,7 @@ which is answered by
   flight 0 delivered 2
   flight 1 delivered 2";
 
-/// An option that has a value and must be given.
+/// A required option that has a value.
 fn option<'a>(alloc: Global, name: &'a str, value: &'a str, help: &'a str) -> Arg<'a>
     ensures rule { rule_of result ≡ option_rule name.entry.now }
     ensures local { result.global ≡ false }
@@ -131,7 +130,7 @@ fn option<'a>(alloc: Global, name: &'a str, value: &'a str, help: &'a str) -> Ar
         .help(help)
 }
 
-/// An option that has a value and need not be given.
+/// An option that has a value and is not required.
 fn optional<'a>(alloc: Global, name: &'a str, value: &'a str, help: &'a str) -> Arg<'a>
     ensures rule { rule_of result ≡ optional_rule name.entry.now }
     ensures local { result.global ≡ false }
@@ -142,7 +141,7 @@ fn optional<'a>(alloc: Global, name: &'a str, value: &'a str, help: &'a str) -> 
         .help(help)
 }
 
-/// An option whose value is a number from `low` to `most`.
+/// A required option whose value is a number from `low` to `most`.
 fn range_option<'a>(
     alloc: Global,
     low: u32,
@@ -160,7 +159,7 @@ fn range_option<'a>(
     ))
 }
 
-/// An option whose value is a number from 0 to `most`.
+/// A required option whose value is a number from 0 to `most`.
 fn number_option<'a>(
     alloc: Global,
     most: u32,

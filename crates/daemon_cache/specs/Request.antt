@@ -1,4 +1,4 @@
--- What a daemon is asked, what answers it, and when it is refused.
+-- A daemon's requests, their answers, and their refusals.
 use Rattle.std.specs.Prelude.{◌≡◌, ℕ, ◌==◌, ◌&&◌, nat_le, not, List, Result, Ok, Err}
 use Rattle.refusal.specs.Refusal.{◌>>=◌, check, refused_as}
 use Rattle.refusal.specs.declared.fault.OrMemory.{OrMemory}
@@ -10,7 +10,7 @@ use Rattle.segment_board.specs.Board.{Informed}
 use Rattle.daemon_cache.specs.declared.fault.AskFault.{AskFault}
 use Rattle.daemon_cache.specs.declared.fault.AskFault.TheVariants as fault
 
--- a request: its ends, the texts of its options, and how many paths it wants at most
+-- a request: its ends, the texts of its options, and the largest number of paths wanted
 pub record RequestValue : Type 0 where
   pub src : ℕ
   pub dst : ℕ
@@ -20,23 +20,23 @@ pub record RequestValue : Type 0 where
 abbrev pub request_of : ℕ → ℕ → List OptionTexts → ℕ → RequestValue
 request_of src dst texts limit = record { src = src; dst = dst; texts = texts; limit = limit }
 
--- these paths of this set of segments answer the request, under the options that its texts are read
--- as
+-- the answer is one to the request from this set of segments, under the options that the request's
+-- texts give
 pub record IsAnswerTo (request : RequestValue) (set : Selection)
     (answer : AnswerValue) : Type 0 where
   pub options : List WeighedRules
   pub read : options_at request.texts ≡ Ok options
   pub answers : AnswersWith set request.src request.dst options request.limit answer.used answer.paths
 
--- the request is lawful, or the first cause why it is refused: its limit, its options, its ends
+-- the request is lawful, or the first refusal: that of its limit, of its options, of its ends
 unfoldable pub lawful_at : RequestValue → Result (Unit {0}) AskFault
 lawful_at request = do
   few ← check (nat_le 1 request.limit && nat_le request.limit 64) fault.BadLimit
   options ← refused_as fault.Options (options_at request.texts)
   check (not (request.src == request.dst)) fault.SameAs
 
--- why there is no answer: the reader could not enter the board, or memory ran out, both where the
--- request is lawful; or the request is refused. After a refusal the reader has seen what it had
+-- the error of a request. If the request is lawful, the reader could not enter the board, or memory
+-- ran out; else it is the refusal of the request. After a refusal the reader has seen nothing more.
 abbrev pub GivesNoAnswer : OrMemory AskFault → RequestValue → Informed → Informed → Type 0
 GivesNoAnswer Memory request before after = lawful_at request ≡ Ok tt
 GivesNoAnswer (Refused fault.NoEntry) request before after =

@@ -28,7 +28,7 @@ pub struct Daemon {
     cache: Mutex<LruCache<u64, Arc<Entry>>>,
 }
 
-/// A cache that is empty, and has room for `capacity` answers.
+/// An empty cache with room for `capacity` answers.
 fn empty_cache(alloc: Global, capacity: usize) -> Result<LruCache<u64, Arc<Entry>>, AllocError>
     requires { 0 < capacity }
     ensures empty { IfOk result (λ cache. cache.entries ≡ []) }
@@ -40,8 +40,8 @@ fn empty_cache(alloc: Global, capacity: usize) -> Result<LruCache<u64, Arc<Entry
     LruCache::new(alloc, capacity)
 }
 
-/// The answer to a lawful request over a set. The options of its texts are read in an arena, which
-/// is given up.
+/// The answer to a lawful request over a set. The options of its texts are read into an arena that
+/// is freed at the end.
 #[tactic(auto, using(crate::proofs::Lookups::lawful_wants))]
 fn made(alloc: Global, set: &SegmentSet, request: &Request<'_>) -> Result<PathList, AllocError>
     requires { lawful_at request.now ≡ Ok tt }
@@ -65,7 +65,7 @@ fn made(alloc: Global, set: &SegmentSet, request: &Request<'_>) -> Result<PathLi
 }
 
 impl Daemon {
-    /// A daemon whose cache is empty, and has room for 1 to 1,024 answers.
+    /// A daemon with an empty cache that has room for 1 to 1,024 answers.
     pub fn new(alloc: Global, capacity: usize) -> Result<Daemon, AllocError>
         requires some { 0 < capacity }
         requires few { capacity ≤ 1024 }
@@ -75,14 +75,13 @@ impl Daemon {
         })
     }
 
-    /// The entry that the cache has at a number, shared with it.
+    /// The cache's entry under a number, shared with the cache.
     fn entry<R: Wait>(&self, rt: &R, key: u64) -> Option<Arc<Entry>> {
         let mut cache = self.cache.lock(rt);
         Arc::try_clone(cache.get(&key)?).ok()
     }
 
-    /// The answer that the cache has for a request over a set. It is copied once the lock is given
-    /// up.
+    /// The cached answer to a request over a set. It is copied after the lock was released.
     fn cached<R: Wait>(
         &self,
         rt: &R,
@@ -97,8 +96,8 @@ impl Daemon {
         entry.served(alloc, set, request)
     }
 
-    /// Keeps an answer, where there is memory for it; else the cache stays as it was. What leaves
-    /// the cache is let go once the lock is given up.
+    /// Keeps an answer if there is memory for it; else the cache stays as it was. An entry that
+    /// leaves the cache is dropped after the lock was released.
     fn keep<R: Wait>(&self, rt: &R, alloc: Global, key: u64, entry: Entry) {
         let Ok(entry) = Arc::new(alloc, entry) else {
             return;
@@ -110,7 +109,7 @@ impl Daemon {
         drop(left);
     }
 
-    /// The answer to a lawful request over a set, and whether an entry of the cache served it.
+    /// The answer to a lawful request over a set, and whether an entry of the cache gave it.
     fn answered<R: Wait>(
         &self,
         rt: &R,
@@ -134,14 +133,14 @@ impl Daemon {
         Ok((paths, false))
     }
 
-    /// At most `limit` paths from `src` to `dst` at the second `now`, best first, of the segments
-    /// that the reader finds on its board, under the policies that the options' texts are read as;
-    /// and whether an entry of the cache served them. It may wait for another thread's ask.
+    /// At most `limit` paths from `src` to `dst` at the second `now`, best first, and whether they
+    /// come from the cache. The paths are made of the segments that the reader finds on its board,
+    /// under the policies of the options' texts. It may wait for another thread's ask.
     ///
-    /// The first of these refusals: [`AskFault::BadLimit`] if the limit is not 1 to 64; those of
-    /// [`PolicyOption::parse_all`]; [`AskFault::SameAs`] if the ends are one AS;
-    /// [`AskFault::NoEntry`] if the reader could not enter the board, and then the caller may ask
-    /// again. Running out of memory comes only where none of the first three does.
+    /// The first of these refusals is returned: [`AskFault::BadLimit`] if the limit is not 1 to 64;
+    /// those of [`PolicyOption::parse_all`]; [`AskFault::SameAs`] if both ends are the same AS;
+    /// [`AskFault::NoEntry`] if the reader could not enter the board, and then the caller may try
+    /// again. Memory can run out only if none of the first three comes.
     #[tactic(auto, using(crate::proofs::Lookups::gives_none, crate::proofs::Lookups::looked_up_is_live))]
     pub fn ask<R: Wait>(
         &self,
@@ -156,12 +155,12 @@ impl Daemon {
     ) -> Result<(PathList, bool), AskError>
         ensures board { reader.new.board ≡ reader.old.board }
         ensures later { IsPrefix reader.old.seen reader.new.seen }
-        // What is given answers the request over what the reader has seen then.
+        // The answer is one to the request over what the reader has then seen.
         ensures found { IfOk result (λ given. IsAnswerTo (request_of src dst options.now limit)
             (segments_for (store_of reader.new.seen) src dst now) given.0) }
-        // It is given only to a lawful request.
+        // An answer is returned only to a lawful request.
         ensures lawful { OnOk result (lawful_at (request_of src dst options.now limit) ≡ Ok tt) }
-        // Why there is none.
+        // Why there is no answer.
         ensures refused { IfErr result (λ error. GivesNoAnswer error
             (request_of src dst options.now limit) reader.old reader.new) }
     {

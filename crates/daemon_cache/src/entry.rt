@@ -1,4 +1,4 @@
-//! What the cache keeps of an answer.
+//! Entries of the cache.
 
 ghost use Rattle.std.specs.Prelude.{◌≡◌, ◌↔◌, IfOk, IfSome, IsSome, IsTrue};
 ghost use Rattle.combinator.specs.Lasting.{AreAllLive};
@@ -13,10 +13,10 @@ use path_server::SegmentSet;
 use std::alloc::{AllocError, Global};
 use std::marker::Model;
 
-/// An answer, with the request and the segments that it was made of. Its type keeps that it is one,
-/// at a second at which all these segments are live. It keeps no policy, so that threads may share
-/// it: the check proves of no type here that reaches a policy's tree that it may cross to another
-/// thread.
+/// An answer, with the request and the segments of which it was made. An invariant of the type says
+/// that it answers that request, at a second at which all these segments are live. It has no
+/// policy, so that threads may share it: for types that reach a policy's tree it is not proved that
+/// they may go to another thread.
 #[derive(Drop)]
 pub(crate) struct Entry {
     request: KeptRequest,
@@ -34,7 +34,7 @@ impl Model for Entry {
     ghost invariant = { λ e. IsOwn e.request e.set e.paths };
 }
 
-/// Whether these are the same segments, in the same order.
+/// Whether both are the same segments, in the same order.
 fn are_same(segments: &[Segment], others: &[Segment]) -> bool
     ensures { IsTrue result ↔ (segments.now ≡ others.now) }
 {
@@ -49,7 +49,7 @@ fn are_same(segments: &[Segment], others: &[Segment]) -> bool
     true
 }
 
-/// Whether these are sets of the same segments, each list in the same order.
+/// Whether both sets have the same segments, each list in the same order.
 fn are_of_one(own: &SegmentSet, set: &SegmentSet) -> bool
     ensures { IsTrue result ↔ HasSegmentsOf own.now set.now }
 {
@@ -59,7 +59,7 @@ fn are_of_one(own: &SegmentSet, set: &SegmentSet) -> bool
 }
 
 impl Entry {
-    /// An entry of an answer to a request that was made of this set.
+    /// The entry of an answer to a request, made of this set.
     pub(crate) fn of(
         alloc: Global,
         set: SegmentSet,
@@ -78,8 +78,8 @@ impl Entry {
         })
     }
 
-    /// The answer once more, where the request and the set are those that it was made of, whatever
-    /// the set's second; and nothing where they are not.
+    /// A copy of the answer if it was made for this request and of this set's segments, whatever
+    /// the set's second; else nothing.
     pub(crate) fn served(
         &self,
         alloc: Global,

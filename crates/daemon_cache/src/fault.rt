@@ -5,7 +5,7 @@ use policy_expr::OptionFault;
 use refusal::OrMemory;
 use thiserror::Error;
 
-/// Why a daemon gives no answer.
+/// Why a daemon returned no answer.
 #[derive(Clone, Copy, Debug, PartialEq, Eq, Error)]
 pub enum AskFault {
     /// The limit is not 1 to 64.
@@ -14,7 +14,7 @@ pub enum AskFault {
     /// The options can't be read.
     #[error("{0}")]
     Options(OptionFault),
-    /// The source is the destination.
+    /// The source and the destination are the same AS.
     #[error("the source and the destination are one AS")]
     SameAs,
     /// The reader could not enter the board.
@@ -48,5 +48,5 @@ impl AskFault {
     }
 }
 
-/// Why a daemon gives no answer: running out of memory, or a refusal.
+/// Why a daemon returned no answer: memory ran out, or a refusal.
 pub type AskError = OrMemory<AskFault>;

@@ -1,8 +1,8 @@
 //! A daemon that answers requests for paths, with a cache that threads share.
 //!
-//! [`Daemon::ask`] looks segments up on a published board and answers the paths that can be made of
-//! them. The cache changes no answer: an entry serves only a request equal in all that its paths
-//! were made of.
+//! [`Daemon::ask`] looks segments up on a published board and returns the paths that can be made of
+//! them. The cache changes no answer: an entry is used only if the request and the segments are the
+//! same.
 #![tactic(auto)]
 
 mod daemon;

@@ -7,7 +7,7 @@ use policy_expr::OptionText;
 use std::hash::{DefaultHasher, Hash, Hasher};
 use std::marker::Model;
 
-/// The most paths that a request may want.
+/// The largest number of paths of a request.
 const MAX_PATHS: usize = 64;
 
 /// A request for paths.
@@ -28,7 +28,8 @@ impl<'a> Model for Request<'a> {
 }
 
 impl<'a> Request<'a> {
-    /// The first refusal of the request. Takes no memory, and time in proportion to its texts.
+    /// The first refusal of the request. Takes no memory, and time in proportion to the request's
+    /// texts.
     #[tactic(auto, unfolding(crate::specs::Request::lawful_at))]
     pub(crate) fn check(&self) -> Result<(), AskFault>
         ensures { result ≡ lawful_at self.now }
@@ -45,7 +46,8 @@ impl<'a> Request<'a> {
         Ok(())
     }
 
-    /// Where the cache keeps the answer. Two requests of one number take each other's place.
+    /// The number under which the cache keeps the answer. An answer replaces another one with the
+    /// same number.
     pub(crate) fn key(&self) -> u64 {
         let mut hasher = DefaultHasher::new();
         self.src.number().hash(&mut hasher);

@@ -7,7 +7,7 @@ use policy_expr::{AclText, OptionText};
 use std::alloc::{AllocError, Global};
 use std::marker::Model;
 
-/// The texts of an option, kept.
+/// The stored texts of an option.
 #[derive(Drop)]
 struct KeptText {
     acl: Option<AclText>,
@@ -49,7 +49,7 @@ impl KeptText {
         })
     }
 
-    /// Whether these are the texts of an option.
+    /// Whether the option has these texts.
     fn is_of(&self, text: &OptionText<'_>) -> bool
         ensures { IsTrue result ↔ (self.now ≡ text.now) }
     {
@@ -67,7 +67,7 @@ impl KeptText {
     }
 }
 
-/// Whether these are the same texts, in the same order.
+/// Whether both are the same texts, in the same order.
 fn are_same(texts: &[String], others: &[String]) -> bool
     ensures { IsTrue result ↔ (map string_bytes texts.now ≡ map string_bytes others.now) }
 {
@@ -97,7 +97,7 @@ fn kept_texts(alloc: Global, texts: &[OptionText<'_>]) -> Result<Vec<KeptText>, 
     Ok(kept)
 }
 
-/// Whether these are the texts of the options, in their order.
+/// Whether the options have these texts, in their order.
 fn are_texts_of(kept: &[KeptText], texts: &[OptionText<'_>]) -> bool
     ensures { IsTrue result ↔ (kept.now ≡ texts.now) }
 {
@@ -112,7 +112,7 @@ fn are_texts_of(kept: &[KeptText], texts: &[OptionText<'_>]) -> bool
     true
 }
 
-/// A request, kept.
+/// A stored request.
 #[derive(Drop)]
 pub(crate) struct KeptRequest {
     src: IsdAs,
@@ -142,7 +142,7 @@ impl KeptRequest {
         })
     }
 
-    /// Whether this is the request.
+    /// Whether the request is this one.
     pub(crate) fn is_of(&self, request: &Request<'_>) -> bool
         ensures { IsTrue result ↔ (self.now ≡ request.now) }
     {

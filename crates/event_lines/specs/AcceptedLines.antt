@@ -5,7 +5,7 @@ use Rattle.event_lines.specs.declared.accepted.AcceptedLines.{AcceptedLines}
 use Rattle.event_lines.specs.declared.accepted.AcceptedLines.TheVariants.{All, Preparing}
 use Rattle.event_lines.specs.Line.{LineValue, Happens, Shows}
 
--- whether an event prepares a network: it neither turns, loses, alters nor answers a packet
+-- whether an event prepares a network: it does not turn, lose, alter or answer a packet
 abbrev pub prepares : EventValue → Bool
 prepares (Tick to) = true
 prepares (Originate ia egress beta0) = true
@@ -23,13 +23,13 @@ prepares (CutLink ia interface) = true
 prepares (MendLink ia interface) = true
 prepares (RotateKey ia key) = true
 
--- whether a line is accepted: any; or only an event that prepares a network
+-- whether a run accepts a line: every line, or only an event that prepares a network
 abbrev pub accepts : AcceptedLines → LineValue → Bool
 accepts All line = true
 accepts Preparing (Happens event) = prepares event
 accepts Preparing (Shows packet) = false
 
--- what a line asks for, if it is accepted; any other asks for nothing
+-- the value of a line if the run accepts it, else nothing
 abbrev pub accepted_as : AcceptedLines → Option LineValue → Option LineValue
 accepted_as accepted None = None
 accepted_as accepted (Some line) = if accepts accepted line then Some line else None

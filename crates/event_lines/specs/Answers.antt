@@ -1,4 +1,4 @@
--- What lines are answered: the first begins a network, and the later ones are a run of it.
+-- The replies to lines: the first line begins a network, and the later ones are its events.
 use Rattle.std.specs.Prelude.{◌≡◌, ℕ, codes, List, [], ◌∷◌, ◌++◌, Option, Some, None, Result, Ok, Err, slice_get}
 use Rattle.std.specs.List.{flat_map}
 use Rattle.scion_topology.specs.declared.fault.TopologyFault.{TopologyFault}
@@ -17,18 +17,18 @@ use Rattle.event_lines.specs.Text.{bad_line, coded, packet_text, reply_text}
 
 -- ---- lines after the first
 
--- the event that is asked for, if one is
+-- the event of a line, if it is one
 abbrev pub event_of : Option LineValue → List EventValue
 event_of (Some (Happens event)) = event ∷ []
 event_of (Some (Shows packet)) = []
 event_of None = []
 
--- the events of these lines, of those that are accepted, in their order
+-- the events of those lines that the run accepts, in their order
 abbrev pub events_of : AcceptedLines → List (List ℕ) → List EventValue
 events_of accepted lines = flat_map (λ line. event_of (accepted_as accepted (line_in line))) lines
 
--- what a line is answered in a network, and what happens: an event, which is answered by its reply;
--- or nothing, where a packet is shown, and where the line asks for nothing
+-- the reply to a line in a network, and the events that happen. An event has its reply. If a packet
+-- is shown, or the line has no value, nothing happens.
 abbrev pub IsAnswered : NetValue → Option LineValue → List ℕ → List EventRecord → Type 0
 IsAnswered net (Some (Happens event)) text happened = (reply : Reply) × (new : NetValue)
     × ((happened ≡ record { event = event; reply = reply; net = new } ∷ [])
@@ -37,7 +37,7 @@ IsAnswered net (Some (Shows packet)) text happened =
     (happened ≡ []) × (text ≡ packet_text (slice_get net.packets packet))
 IsAnswered net None text happened = (happened ≡ []) × (text ≡ bad_line)
 
--- what these lines are answered in a network, one after the other, and what happens
+-- the replies to these lines in a network, one after another, and the events that happen
 abbrev pub AreAnswered : AcceptedLines → NetValue → List (List ℕ) → List (List ℕ) → List EventRecord
     → Type 0
 AreAnswered accepted net [] texts history = (texts ≡ []) × (history ≡ [])
@@ -47,8 +47,8 @@ AreAnswered accepted net (line ∷ lines) (text ∷ texts) history =
     × (IsAnswered net (accepted_as accepted (line_in line)) text happened
     × AreAnswered accepted (net_after net happened) lines texts later))
 
--- the lines are a run of their events over this topology, which leads to this network, and are
--- answered by its history
+-- the lines are a run of their events over this topology, which ends with this network; their
+-- replies are those of the run's history
 pub record AreRun (accepted : AcceptedLines) (network : Network) (lines texts : List (List ℕ))
     (net : NetValue) : Type 0 where
   pub ran : Ran network (events_of accepted lines) net
@@ -56,7 +56,7 @@ pub record AreRun (accepted : AcceptedLines) (network : Network) (lines texts : 
 
 -- ---- the first line
 
--- what it is answered, where it is a topology and where it is none
+-- the reply to the first line, if it is a topology and if it is none
 abbrev pub begun_text : List ℕ
 begun_text = codes "topology ok"
 
@@ -65,14 +65,14 @@ refused_text fault = codes "topology no " ++ coded (topology.code_of fault) (top
 
 -- ---- all lines
 
--- where a run stands: before its first line, in a network, or at its end, since its topology is
+-- the state of a run: before its first line, in a network, or at its end because its topology was
 -- refused
 pub data Stage : Type 0 where
   Unbegun : Stage
   Open : NetValue → Stage
   Closed : Stage
 
--- a topology begins a run of the later lines, and its refusal ends the run
+-- a topology begins a run of the later lines; if it is refused, the run ends
 abbrev pub Begins : AcceptedLines → Result Network TopologyFault → List ℕ → List (List ℕ)
     → List (List ℕ) → Stage → Type 0
 Begins accepted (Ok network) text lines texts stage = (net : NetValue)
@@ -80,7 +80,8 @@ Begins accepted (Ok network) text lines texts stage = (net : NetValue)
 Begins accepted (Err fault) text lines texts stage =
     (text ≡ refused_text fault) × ((stage ≡ Closed) × ((lines ≡ []) × (texts ≡ [])))
 
--- what these lines are answered, from the first of an input on, and where the run then stands
+-- the replies to these lines of an input from its first line on, and the state of the run after
+-- them
 abbrev pub RepliesToInput : AcceptedLines → List (List ℕ) → List (List ℕ) → Stage → Type 0
 RepliesToInput accepted [] texts stage = (texts ≡ []) × (stage ≡ Unbegun)
 RepliesToInput accepted (first ∷ lines) [] stage = ⊥

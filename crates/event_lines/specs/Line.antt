@@ -1,6 +1,6 @@
--- A line of text as what it asks for: an object of JSON with the member `do`, and others by its
--- word. Addresses are texts, payloads and keys are hexadecimal, numbers are whole numbers up to the
--- most that their type has, and members beside these are ignored.
+-- The value of a line: it is a JSON object with the member `do`, and with others that depend on its
+-- word. Addresses are texts; payloads and keys are hexadecimal; numbers are whole numbers up to the
+-- largest of their type. Other members are ignored.
 use Rattle.std.specs.Prelude.{ℕ, if◌then◌else◌, codes, List, [], ◌∷◌, Option, Some, None, option_map}
 use Rattle.std.specs.Option.{is_none}
 use Rattle.std.specs.Str.{bytes_eq}
@@ -13,14 +13,14 @@ use Rattle.isd_as.specs.Reading.{address_at}
 use Rattle.policy_expr.specs.Options.{OptionTexts, options_at}
 use Rattle.network_core.specs.Event.{EventValue, Tick, Originate, Extend, Terminate, Sweep, Ask, ByAnswer, BackOf, Send, Turn, Lose, Alter, CutLink, MendLink, RotateKey}
 
--- what a line asks for: that an event happens, or where a packet is
+-- the value of a line: an event that happens, or a packet whose place is shown
 pub data LineValue : Type 0 where
   Happens : EventValue → LineValue
   Shows : ℕ → LineValue
 
 -- ---- members
 
--- a number of 32 bits, of 16 bits, of 8 bits
+-- a number of 32 bits, of 16 bits, and of 8 bits
 abbrev pub long_at : List ℕ → Data → Option ℕ
 long_at name d = whole_at 0 4294967295 name d
 
@@ -30,13 +30,13 @@ short_at name d = whole_at 0 65535 name d
 abbrev pub byte_at : List ℕ → Data → Option ℕ
 byte_at name d = whole_at 0 255 name d
 
--- an address
+-- the address in a member
 unfoldable pub ia_at : List ℕ → Data → Option ℕ
 ia_at name d = do
   text ← text_at name d
   only (address_at text)
 
--- bytes in hexadecimal, with digits of either case
+-- the bytes in a member, in hexadecimal digits of either case
 unfoldable pub bytes_at : List ℕ → Data → Option (List ℕ)
 bytes_at name d = do
   text ← text_at name d
@@ -44,34 +44,34 @@ bytes_at name d = do
 
 -- ---- policy options
 
--- a list of texts that may be absent
+-- a list of texts; it may be absent
 unfoldable pub texts_at : List ℕ → Data → Option (Option (List (List ℕ)))
 texts_at name d = if is_none (get name d) then Some None else (do
   items ← list_at name d
   texts ← items_at as_str items
   Some (Some texts))
 
--- a text that may be absent
+-- a text; it may be absent
 unfoldable pub maybe_text_at : List ℕ → Data → Option (Option (List ℕ))
 maybe_text_at name d = if is_none (get name d) then Some None else (do
   text ← text_at name d
   Some (Some text))
 
--- the members `acl` and `sequence`, of which either may be absent, with this weight
+-- an option of this weight from the members `acl` and `sequence`; each may be absent
 unfoldable pub option_with : ℕ → Data → Option OptionTexts
 option_with weight d = do
   acl ← texts_at (codes "acl") d
   sequence ← maybe_text_at (codes "sequence") d
   Some (record { acl = acl; sequence = sequence; weight = weight })
 
--- an option: its weight beside them
+-- an option with its weight in the member `weight`
 unfoldable pub option_in : Data → Option OptionTexts
 option_in d = do
   weight ← long_at (codes "weight") d
   option_with weight d
 
--- the options of an `ask`: the list `options`, beside which neither `acl` nor `sequence` stands; or
--- one option of weight 0
+-- the options of an `ask`: the list `options`, with which neither `acl` nor `sequence` may occur;
+-- without the list, one option of weight 0
 unfoldable pub listed_options : Data → Option (List OptionTexts)
 listed_options d =
     if is_none (get (codes "acl") d) then
@@ -171,7 +171,7 @@ rotate_in d = do
   ia ← ia_at (codes "ia") d
   Some (RotateKey ia key)
 
--- the events that carry neither bytes nor texts
+-- the events that have neither bytes nor texts
 unfoldable pub plain_event : List ℕ → Data → Option EventValue
 plain_event word d =
     if bytes_eq word (codes "tick") then tick_in d
@@ -186,7 +186,7 @@ plain_event word d =
     else if bytes_eq word (codes "mend") then mend_in d
     else None
 
--- the events that carry no texts
+-- the events that have no texts
 unfoldable pub untexted_event : List ℕ → Data → Option EventValue
 untexted_event word d =
     if bytes_eq word (codes "send") then send_in d
@@ -201,25 +201,25 @@ event_in word d =
 
 -- ---- lines
 
--- the question where a packet is
+-- a line that shows a packet
 unfoldable pub show_in : Data → Option LineValue
 show_in d = do
   packet ← long_at (codes "packet") d
   Some (Shows packet)
 
--- what an object with this word says
+-- the value of an object with this word
 unfoldable pub worded : List ℕ → Data → Option LineValue
 worded word d =
     if bytes_eq word (codes "show") then show_in d
     else option_map Happens (event_in word d)
 
--- what an object says
+-- the value of an object
 unfoldable pub said_by : Data → Option LineValue
 said_by d = do
   word ← text_at (codes "do") d
   worded word d
 
--- what the bytes of a line say, if they are such an object
+-- the value of a line's bytes, if they are such an object
 unfoldable pub line_in : List ℕ → Option LineValue
 line_in bytes = do
   d ← document_in bytes

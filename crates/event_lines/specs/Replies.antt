@@ -1,4 +1,4 @@
--- What lines are answered one by one (words of no public clause).
+-- The replies to single lines (words of no public clause).
 use Rattle.std.specs.Prelude.{◌≡◌, ℕ, List, [], ◌∷◌, Option, Some, None, Result, Ok, Err, slice_get}
 use Rattle.scion_topology.specs.declared.fault.TopologyFault.{TopologyFault}
 use Rattle.scion_topology.specs.Network.{Network}
@@ -13,8 +13,8 @@ use Rattle.event_lines.specs.Line.{LineValue, Happens, Shows, line_in}
 use Rattle.event_lines.specs.Answers.{Stage, Unbegun, Open, Closed, begun_text, refused_text}
 use Rattle.event_lines.specs.Text.{bad_line, packet_text, reply_text}
 
--- what a line is answered, and the network after it: an event happens, a packet is shown, or the
--- line asks for nothing
+-- the reply to a line, and the network after it: an event happens, a packet is shown, or the line
+-- has no value
 abbrev pub Replies : NetValue → Option LineValue → List ℕ → NetValue → Type 0
 Replies old (Some (Happens event)) text new = (reply : Reply)
     × (Step old event reply new × (IsFramed event reply new × (text ≡ reply_text new reply)))
@@ -22,20 +22,20 @@ Replies old (Some (Shows packet)) text new =
     (text ≡ packet_text (slice_get old.packets packet)) × (new ≡ old)
 Replies old None text new = (text ≡ bad_line) × (new ≡ old)
 
--- a topology begins a network at moment 0, and its refusal ends the run
+-- a topology begins a network at second 0; if it is refused, the run ends
 abbrev pub Opens : Result Network TopologyFault → List ℕ → Stage → Type 0
 Opens (Ok network) text stage =
     (text ≡ begun_text) × (IsNetwork network × (stage ≡ Open (new_net network)))
 Opens (Err fault) text stage = (text ≡ refused_text fault) × (stage ≡ Closed)
 
--- what a line is answered by a run that accepts these lines, and where the run then stands
+-- the reply to a line in a run that accepts these lines, and the state of the run after it
 abbrev pub RepliesTo : AcceptedLines → Stage → List ℕ → List ℕ → Stage → Type 0
 RepliesTo accepted Unbegun line text stage = Opens (network_in line) text stage
 RepliesTo accepted (Open old) line text stage = (new : NetValue)
     × (Replies old (accepted_as accepted (line_in line)) text new × (stage ≡ Open new))
 RepliesTo accepted Closed line text stage = ⊥
 
--- what these lines are answered, one after the other, and where the run then stands
+-- the replies to these lines, one after another, and the state of the run after them
 abbrev pub RepliesToAll : AcceptedLines → Stage → List (List ℕ) → List (List ℕ) → Stage → Type 0
 RepliesToAll accepted start [] texts stage = (texts ≡ []) × (stage ≡ start)
 RepliesToAll accepted start (line ∷ lines) [] stage = ⊥

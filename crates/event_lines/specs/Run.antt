@@ -1,4 +1,4 @@
--- A run over streams: which lines were read, and what was written.
+-- A run over streams: the lines that were read, and the replies that were written.
 use Rattle.std.specs.Prelude.{◌≡◌, ◌⊎◌, ℕ, ◌+◌, ◌≤◌, Bool, true, false, List, [], ◌∷◌, ◌++◌, length, take, flat_map, ◌==◌, Option, Result, Ok, Err}
 use Rattle.std.specs.List.{list_any}
 use Rattle.std.specs.Io.KnownBytes.{Appends, Consumes, IsAtEnd}
@@ -15,48 +15,48 @@ use Rattle.event_lines.specs.Answers.{Stage, Open, Closed, RepliesToInput}
 abbrev pub line_end : ℕ
 line_end = 10
 
--- whether a line ends among the bytes
+-- whether the bytes have the end of a line among them
 abbrev pub has_end : List ℕ → Bool
 has_end bytes = list_any (λ b. b == line_end) bytes
 
--- lines, each with its end
+-- the bytes of these lines, each with its end
 abbrev pub ended : List (List ℕ) → List ℕ
 ended lines = flat_map (λ line. line ++ line_end ∷ []) lines
 
--- the bytes are these lines, each with its end, and then what has no end yet
+-- the bytes are these lines, each with its end, and after them a rest without an end
 pub record AreLines (bytes : List ℕ) (lines : List (List ℕ)) (rest : List ℕ) : Type 0 where
   pub whole : bytes ≡ ended lines ++ rest
   pub apart : list_any has_end lines ≡ false
   pub last : has_end rest ≡ false
 
--- the lines of an input, of which the last may lack its end; an input without a byte is one empty
+-- the lines of an input, the last of which may lack its end; an input without bytes is one empty
 -- line
 abbrev pub all_lines : List (List ℕ) → List ℕ → List (List ℕ)
 all_lines [] rest = rest ∷ []
 all_lines (line ∷ lines) [] = line ∷ lines
 all_lines (line ∷ lines) (b ∷ rest) = (line ∷ lines) ++ (b ∷ rest) ∷ []
 
--- these are the first lines of what was read
+-- these are the first of the lines that were read
 abbrev pub AreFirst : List ℕ → List (List ℕ) → Type 0
 AreFirst read lines =
     (later : List (List ℕ)) × (rest : List ℕ) × AreLines read (lines ++ later) rest
 
--- what was read is all, and these are its lines
+-- all of the input was read, and these are its lines
 abbrev pub AreAll : Type 0 → List ℕ → List (List ℕ) → Type 0
 AreAll at_end read lines = (whole : List (List ℕ)) × (rest : List ℕ)
     × (AreLines read whole rest × (at_end × (lines ≡ all_lines whole rest)))
 
--- these lines were answered
+-- these lines were read and answered
 abbrev pub AreHeard : Type 0 → List ℕ → List (List ℕ) → Type 0
 AreHeard at_end read lines = AreFirst read lines ⊎ AreAll at_end read lines
 
 -- ---- how a run ended
 
--- the most bytes of an input
+-- the largest number of bytes of an input
 abbrev pub most_input : ℕ
 most_input = 67108864
 
--- exactly the replies to these lines were written, and the run then stands there
+-- exactly the replies to these lines were written, and the run is in this state after them
 abbrev pub Wrote : AcceptedLines → List (List ℕ) → List ℕ → Stage → Type 0
 Wrote accepted lines went stage =
     (texts : List (List ℕ)) × (RepliesToInput accepted lines texts stage × (went ≡ ended texts))
@@ -66,14 +66,14 @@ abbrev pub WroteSome : AcceptedLines → List (List ℕ) → List ℕ → Type 0
 WroteSome accepted lines went = (texts : List (List ℕ)) × (stage : Stage) × (n : ℕ)
     × (RepliesToInput accepted lines texts stage × (went ≡ take n (ended texts)))
 
--- the replies to all whole lines of what was read were written
+-- the replies to all complete lines of what was read were written
 abbrev pub WroteWhole : AcceptedLines → List ℕ → List ℕ → Type 0
 WroteWhole accepted read went = (lines : List (List ℕ)) × (rest : List ℕ) × (stage : Stage)
     × (AreLines read lines rest × Wrote accepted lines went stage)
 
--- what was read and what was written: all lines were answered, and the run reached this network;
--- the topology was refused; a read failed; one byte too many came; memory ran out at some line; or
--- a write failed
+-- what was read and written, by the result of the run. All lines were answered, and the run ended
+-- with this network; or the topology was refused; a read failed; the input had more than the
+-- largest number of bytes; memory ran out at a line; or a write failed.
 abbrev pub Ends : AcceptedLines → Result NetValue RunFault → Type 0 → List ℕ → List ℕ → Type 0
 Ends accepted (Ok net) at_end read went = (lines : List (List ℕ))
     × (AreAll at_end read lines × Wrote accepted lines went (Open net))
@@ -87,27 +87,28 @@ Ends accepted (Err faults.Memory) at_end read went = (lines : List (List ℕ)) �
 Ends accepted (Err faults.Write) at_end read went = (lines : List (List ℕ))
     × (AreHeard at_end read lines × WroteSome accepted lines went)
 
--- the most bytes that are read: one more where too many came
+-- the largest number of bytes that are read: one more than an input may have, if the input is too
+-- long
 abbrev pub most_read : Result NetValue RunFault → ℕ
 most_read (Err faults.InputTooLong) = most_input + 1
 most_read result = most_input
 
--- a run that accepts these lines, of a source that had these bytes left before and has those after,
--- into a sink that held these bytes before and holds those after
+-- a run that accepts these lines. The first two contents are what the source still had before and
+-- after it; the last two are what the sink held before and after it.
 abbrev pub Listens : AcceptedLines → Result NetValue RunFault → Option (List ℕ) → Option (List ℕ)
     → Option (List ℕ) → Option (List ℕ) → Type 0
 Listens accepted result before after held holds = (read went : List ℕ)
     × (Consumes before after read × (Appends held holds went
     × ((length read ≤ most_read result) × Ends accepted result (IsAtEnd after) read went)))
 
--- a run that accepts all lines, whatever network it reached
+-- a run that accepts all lines, whatever network it ends with
 abbrev pub Runs : Result (Unit {0}) RunFault → Option (List ℕ) → Option (List ℕ) → Option (List ℕ)
     → Option (List ℕ) → Type 0
 Runs (Ok done) before after held holds =
     (net : NetValue) × Listens All (Ok net) before after held holds
 Runs (Err fault) before after held holds = Listens All (Err fault) before after held holds
 
--- the run ended since a read failed; since a write failed
+-- whether the run ended because a read failed, and whether because a write failed
 abbrev pub is_read_fault : {A : Type 0} → Result A RunFault → Bool
 is_read_fault (Err faults.Read) = true
 is_read_fault result = false

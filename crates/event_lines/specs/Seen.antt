@@ -1,4 +1,4 @@
--- A line as the definitions see it, and what it carries (words of private calls).
+-- The values of lines, and the bytes that they carry (words of private calls).
 use Rattle.std.specs.Prelude.{ℕ, if◌then◌else◌, codes, List, [], Option, Some}
 use Rattle.std.specs.Str.{bytes_eq}
 use Rattle.serde_json.specs.Data.{Data}
@@ -7,12 +7,12 @@ use Rattle.event_lines.specs.declared.line.Line.{Line}
 use Rattle.event_lines.specs.declared.line.Line.TheVariants as lines
 use Rattle.event_lines.specs.Line.{LineValue, Happens, Shows, bytes_at}
 
--- what the line asks for
+-- the value of a line
 abbrev pub line_value : Line → LineValue
 line_value (lines.Happens event) = Happens (events.event_value event)
 line_value (lines.Show packet) = Shows packet
 
--- the bytes that an event with this word carries, a payload or a key; none where it carries none
+-- the bytes that an event with this word carries: a payload, a key, or none
 unfoldable pub payload_in : List ℕ → Data → Option (List ℕ)
 payload_in word d =
     if bytes_eq word (codes "send") then bytes_at (codes "payload") d

@@ -1,4 +1,4 @@
--- What private calls of a run answer (words of no public clause).
+-- Contracts of the private calls of a run (words of no public clause).
 use Rattle.std.specs.Prelude.{◌≡◌, ◌⊎◌, ℕ, ◌≤◌, false, List, [], ◌∷◌, ◌++◌, length, take, Option, Some, None, Result, Ok, Err}
 use Rattle.std.specs.Io.KnownBytes.{Appends, Consumes, IsAtEnd, Keeps}
 use Rattle.network_core.specs.Value.{NetValue}
@@ -11,17 +11,17 @@ use Rattle.event_lines.specs.Replies.{RepliesTo, RepliesToAll}
 use Rattle.event_lines.specs.Answers.{Stage, Unbegun, Open, Closed}
 use Rattle.event_lines.specs.Run.{AreLines, ended, has_end, line_end}
 
--- where a run stands whose network is this one, if it has begun
+-- the state of a run whose network is this one, if it has begun
 abbrev pub stage_of : Option NetValue → Stage
 stage_of None = Unbegun
 stage_of (Some net) = Open net
 
--- the bytes are a line with its end, and what stands behind it
+-- the bytes are a line with its end, and the rest after it
 pub record IsCut (bytes line rest : List ℕ) : Type 0 where
   pub whole : bytes ≡ line ++ line_end ∷ rest
   pub one : has_end line ≡ false
 
--- one line was answered, and the run stands where the value says; the topology was refused; or
+-- one line was answered, and the value gives the state of the run; or the topology was refused; or
 -- memory ran out
 abbrev pub RepliesOrFails : {A : Type 0} → AcceptedLines → (A → Stage) → Result A RunFault → Stage
     → List ℕ
@@ -33,13 +33,14 @@ RepliesOrFails accepted stage (Err faults.Topology) old line before after = (tex
 RepliesOrFails accepted stage (Err faults.Memory) old line before after = after ≡ before
 RepliesOrFails accepted stage (Err fault) old line before after = ⊥
 
--- a run's network, what it has of a line without its end, and what it has still to write
+-- a run's state, the bytes of a line whose end was not read yet, and the replies that are not
+-- written yet
 pub record SessionValue : Type 0 where
   pub stage : Stage
   pub rest : List ℕ
   pub replies : List ℕ
 
--- what a run so far shows
+-- the value of a session
 abbrev pub value_of : Session → SessionValue
 value_of session = record {
   stage = stage_of session.net;
@@ -47,7 +48,7 @@ value_of session = record {
   replies = string_bytes session.replies;
 }
 
--- these lines were answered behind what there was, and this is still to be written
+-- these lines were answered after the earlier ones, and these replies are not written yet
 pub record AnswersLines (accepted : AcceptedLines) (lines : List (List ℕ)) (old : SessionValue)
     (stage : Stage)
     (replies : List ℕ) : Type 0 where
@@ -55,8 +56,8 @@ pub record AnswersLines (accepted : AcceptedLines) (lines : List (List ℕ)) (ol
   pub told : RepliesToAll accepted old.stage lines texts stage
   pub kept : replies ≡ old.replies ++ ended texts
 
--- the bytes were read: all of their lines; those up to the topology that was refused; or those
--- up to where memory ran out
+-- the lines of these bytes were answered: all of them; or those up to a topology that was refused;
+-- or those before memory ran out
 abbrev pub AnswersBytes : AcceptedLines → Result (Unit {0}) RunFault → List ℕ → SessionValue
     → SessionValue
     → Type 0
@@ -74,30 +75,30 @@ AnswersBytes accepted (Err faults.Memory) bytes old new =
     × AnswersLines accepted lines old stage new.replies))
 AnswersBytes accepted (Err fault) bytes old new = ⊥
 
--- what stands behind the last end as a line: none where it is empty and a run has begun
+-- the line in the rest after the last end; none if it is empty and the run has begun
 abbrev pub last_after : Stage → List ℕ → List (List ℕ)
 last_after Unbegun rest = rest ∷ []
 last_after stage [] = []
 last_after stage (b ∷ rest) = (b ∷ rest) ∷ []
 
--- the same of a run so far
+-- the line in the rest of this session
 abbrev pub last_lines : SessionValue → List (List ℕ)
 last_lines session = last_after session.stage session.rest
 
--- a run has begun, and nothing is left
+-- the run has begun, and the rest has no line
 pub record IsDone (session : SessionValue) (net : NetValue) : Type 0 where
   pub begun : session.stage ≡ Open net
   pub none : last_lines session ≡ []
 
 -- ---- streams
 
--- a source gave these bytes, none at its end alone; or its read failed
+-- the source gave these bytes, and no bytes only at its end; or its read failed
 abbrev pub Brings : Option (List ℕ) → Option (List ℕ) → Option (List ℕ) → ℕ → Type 0
 Brings None before after most = Keeps before after
 Brings (Some bytes) before after most =
     Consumes before after bytes × ((bytes ≡ [] → IsAtEnd after) × (length bytes ≤ most))
 
--- what was still to be written was written, or a beginning of it
+-- the replies that were not written yet were written, or a beginning of them
 abbrev pub Writes : Result (Unit {0}) RunFault → SessionValue → SessionValue → Option (List ℕ)
     → Option (List ℕ) → Type 0
 Writes (Ok done) old new held holds =
@@ -105,7 +106,7 @@ Writes (Ok done) old new held holds =
 Writes (Err faults.Write) old new held holds = (n : ℕ) × Appends held holds (take n old.replies)
 Writes (Err fault) old new held holds = ⊥
 
--- these lines were answered behind what there was, and the replies were written
+-- these lines were answered after the earlier ones, and the replies were written
 pub record Passes (accepted : AcceptedLines) (lines : List (List ℕ)) (old : SessionValue)
     (stage : Stage)
     (held holds : Option (List ℕ)) : Type 0 where
@@ -113,7 +114,7 @@ pub record Passes (accepted : AcceptedLines) (lines : List (List ℕ)) (old : Se
   pub told : RepliesToAll accepted old.stage lines texts stage
   pub kept : Appends held holds (ended texts)
 
--- these lines were answered behind what there was, and a beginning of the replies was written
+-- these lines were answered after the earlier ones, and a beginning of the replies was written
 pub record PassesSome (accepted : AcceptedLines) (lines : List (List ℕ)) (old : SessionValue)
     (held holds : Option (List ℕ)) : Type 0 where
   pub texts : List (List ℕ)
@@ -122,8 +123,8 @@ pub record PassesSome (accepted : AcceptedLines) (lines : List (List ℕ)) (old 
   pub most : ℕ
   pub kept : Appends held holds (take most (ended texts))
 
--- the bytes were read and the replies written: all; those up to the topology that was refused, or
--- to where memory ran out; or a beginning of them
+-- the lines of these bytes were answered, and the replies written: all; or those up to a topology
+-- that was refused; or those before memory ran out; or a beginning of the replies
 abbrev pub Exchanges : AcceptedLines → Result (Unit {0}) RunFault → List ℕ → SessionValue
     → SessionValue
     → Option (List ℕ) → Option (List ℕ) → Type 0
@@ -145,8 +146,8 @@ Exchanges accepted (Err faults.Write) bytes old new held holds =
     × PassesSome accepted lines old held holds)
 Exchanges accepted (Err fault) bytes old new held holds = ⊥
 
--- what is left at the end of the input was answered, if it is a line, and the reply written; the
--- run then stands in this network
+-- at the end of the input, the line in the rest was answered, if there is one, and its reply
+-- written; the run has this network then
 abbrev pub Finishes : AcceptedLines → Result (Unit {0}) RunFault → SessionValue → Stage
     → Option (List ℕ)
     → Option (List ℕ) → Type 0

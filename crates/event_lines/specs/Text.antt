@@ -1,4 +1,4 @@
--- The replies to an event, to a question about a packet, and to a line that asks for nothing.
+-- The texts of replies: to an event, to a question about a packet, and to a line without a value.
 use Rattle.std.specs.Prelude.{ℕ, codes, List, [], ◌∷◌, ◌++◌, length, flat_map, Bool, true, false, Option, Some, None, option_map, slice_get}
 use Rattle.std.specs.List.{join_by}
 use Rattle.std.specs.Fmt.{decimal}
@@ -38,36 +38,36 @@ abbrev pub hop_text : WalkHop → List ℕ
 hop_text hop =
     canonical hop.ia ++ (codes "#" ++ (decimal hop.ingress ++ (codes "," ++ decimal hop.egress)))
 
--- hops, with one space between two
+-- the hops of a walk, separated by spaces
 abbrev pub hops_text : List WalkHop → List ℕ
 hops_text hops = join_by hop_text (codes " ") hops
 
--- hops that were passed, behind a semicolon; nothing where there are none
+-- the hops that a packet has passed, after a semicolon; nothing if there are none
 abbrev pub passed_text : List WalkHop → List ℕ
 passed_text [] = []
 passed_text (hop ∷ hops) = codes "; " ++ hops_text (hop ∷ hops)
 
 -- ---- routers
 
--- a router's refusal; of a packet without a path header the header's too
+-- a router's refusal; a packet without a path header also has the refusal of the header
 abbrev pub refusal_text : Refusal → List ℕ
 refusal_text (BadHeader fault) =
     codes "90 BadHeader " ++ coded (header.code_of fault) (header.name_of fault)
 refusal_text refusal = coded (router.code_of refusal) (router.name_of refusal)
 
--- where a router's step leads
+-- the outcome of a router's step
 abbrev pub outcome_text : Outcome → List ℕ
 outcome_text (ToLink interface) = numbered (codes "link") interface
 outcome_text (ToRouter router) = numbered (codes "router") router
 outcome_text Deliver = codes "delivered"
 
--- a turn
+-- the reply of a turn
 abbrev pub turn_text : TurnReply → List ℕ
 turn_text (turns.Went outcome) = outcome_text outcome
 turn_text (turns.Refused refusal) = codes "refused " ++ refusal_text refusal
 turn_text turns.Still = codes "ok"
 
--- where a packet is
+-- the place of a packet
 abbrev pub place_text : PacketLocation → List ℕ
 place_text (places.AtRouter stop) =
     codes "at " ++ (canonical stop.ia ++ (codes " " ++ decimal stop.router))
@@ -79,15 +79,15 @@ place_text places.Lost = codes "lost"
 
 -- ---- events
 
--- an event that is refused: `no CODE Name`
+-- the refusal of an event: `no CODE Name`
 abbrev pub fault_text : EventFault → List ℕ
 fault_text fault = codes "no " ++ coded (code_of fault) (name_of fault)
 
--- the walk of each path of an answer, behind a semicolon
+-- the walk of a path of an answer, after a semicolon
 abbrev pub path_text : PathValue → List ℕ
 path_text path = codes "; " ++ hops_text (walk_of path.pieces)
 
--- the paths of an answer
+-- the paths of an answer, and the answer of this number
 abbrev pub paths_of : Option AnswerValue → List PathValue
 paths_of None = []
 paths_of (Some answer) = answer.paths
@@ -95,18 +95,18 @@ paths_of (Some answer) = answer.paths
 abbrev pub answer_in : NetValue → ℕ → Option AnswerValue
 answer_in net number = option_map (λ one. one.answer) (slice_get net.answers number)
 
--- an answer of this number: `ask K N`, and its paths
+-- the reply with an answer: `ask K N`, and its N paths
 abbrev pub answer_text : ℕ → List PathValue → List ℕ
 answer_text number paths =
     numbered (codes "ask") number
     ++ (codes " " ++ (decimal (length paths) ++ flat_map path_text paths))
 
--- whether the store has the segment as new
+-- whether the segment is new to the store
 abbrev pub segment_text : Bool → List ℕ
 segment_text true = codes "segment new"
 segment_text false = codes "segment known"
 
--- what an event is answered, in the network after it
+-- the reply to an event, in the network after it
 abbrev pub reply_text : NetValue → Reply → List ℕ
 reply_text net Done = codes "ok"
 reply_text net (Begun beacon) = numbered (codes "beacon") beacon
@@ -117,11 +117,11 @@ reply_text net (Sent packet) = numbered (codes "packet") packet
 reply_text net (Turned reply) = turn_text reply
 reply_text net (Refused fault) = fault_text fault
 
--- the line on a packet: where it is and which hops it has passed, if there is one
+-- the reply about a packet: its place and the hops that it has passed, if there is such a packet
 abbrev pub packet_text : Option PacketValue → List ℕ
 packet_text None = codes "no 130 NoPacket"
 packet_text (Some one) = place_text one.packet.place ++ passed_text one.packet.passed
 
--- the reply to a line that asks for nothing
+-- the reply to a line without a value
 abbrev pub bad_line : List ℕ
 bad_line = codes "no 140 BadLine"

@@ -1,4 +1,4 @@
-//! Which lines are accepted.
+//! Which lines a run accepts.
 
 ghost use Rattle.std.specs.Prelude.{◌≡◌};
 ghost use Rattle.network_core.specs.Seen as events;
@@ -8,17 +8,17 @@ ghost use Rattle.event_lines.specs.Seen.{line_value};
 use crate::line::Line;
 use network_core::Event;
 
-/// Which lines after the first a run accepts; any other is a bad line.
+/// Which lines after the first a run accepts; all others are bad lines.
 #[derive(Clone, Copy, Debug, PartialEq, Eq)]
 pub enum AcceptedLines {
     /// All lines.
     All,
-    /// Those alone that prepare a network: none that turns, loses, alters, answers or shows a
+    /// Only lines that prepare a network: none that turns, loses, alters, answers or shows a
     /// packet.
     Preparing,
 }
 
-/// Whether an event prepares a network: it neither turns, loses, alters nor answers a packet.
+/// Whether an event prepares a network: it does not turn, lose, alter or answer a packet.
 fn prepares(event: &Event<'_>) -> bool
     ensures { result ≡ prepares (events.event_value event.now) }
 {
@@ -29,7 +29,7 @@ fn prepares(event: &Event<'_>) -> bool
 }
 
 impl AcceptedLines {
-    /// Whether it accepts this line.
+    /// Whether the run accepts this line.
     pub(crate) fn accepts(self, line: &Line<'_>) -> bool
         ensures { result ≡ accepts self (line_value line.now) }
     {

@@ -7,11 +7,11 @@ use std::marker::Model;
 /// A policy option of a request for paths: the texts of its policy, and its weight.
 #[derive(Drop)]
 pub struct OwnedOptionText {
-    /// The texts of the access control list, where there is one.
+    /// The texts of the access control list, if there is one.
     pub acl: Option<AclText>,
-    /// The text of the sequence, where there is one.
+    /// The text of the sequence, if there is one.
     pub sequence: Option<String>,
-    /// The weight: of the options that leave a path the heaviest is used.
+    /// The weight: among the options that leave a path, the one with the largest weight is used.
     pub weight: u32,
 }
 
@@ -30,7 +30,7 @@ impl Model for OwnedOptionText {
 }
 
 impl OwnedOptionText {
-    /// The option, lent to a request.
+    /// The option as a request borrows it.
     pub(crate) fn lent(&self) -> OptionText<'_>
         ensures { result ≡ self.now }
     {
@@ -49,7 +49,7 @@ impl OwnedOptionText {
     }
 }
 
-/// The options, lent to a request.
+/// The options as a request borrows them.
 pub fn lend_all(
     alloc: Global,
     options: &[OwnedOptionText],

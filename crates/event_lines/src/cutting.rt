@@ -9,8 +9,8 @@ use memchr::memchr;
 /// The end of a line.
 pub(crate) const LINE_END: u8 = b'\n';
 
-/// The first line of the bytes without its end, and what stands behind it; `None` if no line
-/// ends among them.
+/// The first line of the bytes without its end, and the bytes after it; `None` if the bytes have no
+/// end of a line.
 pub(crate) fn cut_line(bytes: &[u8]) -> Option<(&[u8], &[u8])>
     ensures cut { IfSome result (λ parts. IsCut bytes.now parts.0.now parts.1.now) }
     ensures none { result ≡ None → has_end bytes.now ≡ false }

@@ -7,13 +7,13 @@ use thiserror::Error;
 /// Why a run ended before its input did.
 #[derive(Clone, Copy, Debug, PartialEq, Eq, Error)]
 pub enum RunFault {
-    /// The first line is no topology.
+    /// The topology on the first line was refused.
     #[error("topology refused")]
     Topology,
     /// A read failed.
     #[error("read failed")]
     Read,
-    /// A write failed, or took none of some bytes.
+    /// A write failed, or wrote no byte.
     #[error("write failed")]
     Write,
     /// Memory ran out.

@@ -1,4 +1,4 @@
-//! The members of a line, for whoever reads objects that have the same ones.
+//! The members of a line's JSON object, also for other readers of such objects.
 
 ghost use Rattle.std.specs.Prelude.{◌≡◌, IfOk, IfSome, ◌≤◌, option_map, map};
 ghost use Rattle.std.specs.String.{string_bytes};
@@ -15,7 +15,7 @@ use policy_expr::AclText;
 use serde_json::Value;
 use std::alloc::{AllocError, Global};
 
-/// A number of 32 bits.
+/// A member that is a number of 32 bits.
 pub fn long(value: &Value, name: &str) -> Option<u32>
     ensures { result ≡ long_at name.now (view value.now) }
 {
@@ -23,7 +23,7 @@ pub fn long(value: &Value, name: &str) -> Option<u32>
     Some(number as u32)
 }
 
-/// A number of 16 bits.
+/// A member that is a number of 16 bits.
 pub(crate) fn short(value: &Value, name: &str) -> Option<u16>
     ensures { result ≡ short_at name.now (view value.now) }
 {
@@ -31,7 +31,7 @@ pub(crate) fn short(value: &Value, name: &str) -> Option<u16>
     Some(number as u16)
 }
 
-/// A number of 8 bits.
+/// A member that is a number of 8 bits.
 pub(crate) fn byte(value: &Value, name: &str) -> Option<u8>
     ensures { result ≡ byte_at name.now (view value.now) }
 {
@@ -39,7 +39,7 @@ pub(crate) fn byte(value: &Value, name: &str) -> Option<u8>
     Some(number as u8)
 }
 
-/// The number of an interface.
+/// A member that is the number of an interface.
 pub(crate) fn interface(value: &Value, name: &str) -> Option<IfId>
     ensures { result ≡ short_at name.now (view value.now) }
 {
@@ -47,7 +47,7 @@ pub(crate) fn interface(value: &Value, name: &str) -> Option<IfId>
     Some(IfId(number))
 }
 
-/// An address.
+/// A member that is an address.
 #[tactic(auto, unfolding(crate::specs::Line::ia_at))]
 pub fn ia(value: &Value, name: &str) -> Option<IsdAs>
     ensures { result ≡ ia_at name.now (view value.now) }
@@ -56,7 +56,7 @@ pub fn ia(value: &Value, name: &str) -> Option<IsdAs>
     IsdAs::parse(text).ok()
 }
 
-/// Bytes in hexadecimal, with digits of either case.
+/// A member that is bytes in hexadecimal, with digits of either case.
 #[tactic(auto, unfolding(crate::specs::Line::bytes_at))]
 pub(crate) fn bytes(alloc: Global, value: &Value, name: &str) -> Result<Option<Vec<u8>>, AllocError>
     ensures { IfOk result (λ o. option_map (λ v. v.items) o ≡ bytes_at name.now (view value.now)) }
@@ -85,7 +85,7 @@ fn acl_text(alloc: Global, values: &[Value]) -> Result<Option<AclText>, AllocErr
     Ok(Some(texts))
 }
 
-/// A list of texts that may be absent.
+/// A list of texts; it may be absent.
 #[tactic(auto, unfolding(crate::specs::Line::texts_at))]
 fn texts(alloc: Global, value: &Value, name: &str) -> Result<Option<Option<AclText>>, AllocError>
     ensures { IfOk result (λ o. o ≡ texts_at name.now (view value.now)) }
@@ -102,7 +102,7 @@ fn texts(alloc: Global, value: &Value, name: &str) -> Result<Option<Option<AclTe
     }
 }
 
-/// A text that may be absent.
+/// A text; it may be absent.
 #[tactic(auto, unfolding(crate::specs::Line::maybe_text_at))]
 fn maybe_text(
     alloc: Global,
@@ -121,7 +121,7 @@ fn maybe_text(
     }
 }
 
-/// The policy of the members `acl` and `sequence`, with this weight.
+/// An option of this weight from the members `acl` and `sequence`.
 #[tactic(auto, unfolding(crate::specs::Line::option_with))]
 fn weighed(alloc: Global, weight: u32, value: &Value) -> Result<Option<OwnedOptionText>, AllocError>
     ensures { IfOk result (λ o. o ≡ option_with weight (view value.now)) }
@@ -165,7 +165,7 @@ fn each_option(alloc: Global, values: &[Value]) -> Result<Option<Vec<OwnedOption
     Ok(Some(options))
 }
 
-/// The policy options of the member `options`, beside which no other policy stands.
+/// The policy options of the member `options`, with which neither `acl` nor `sequence` may occur.
 #[tactic(auto, unfolding(crate::specs::Line::listed_options))]
 fn listed(alloc: Global, value: &Value) -> Result<Option<Vec<OwnedOptionText>>, AllocError>
     ensures { IfOk result (λ o. option_map (λ v. v.items) o ≡ listed_options (view value.now)) }
@@ -192,7 +192,7 @@ fn single(alloc: Global, value: &Value) -> Result<Option<Vec<OwnedOptionText>>, 
     Ok(Some(options))
 }
 
-/// The policy options of a request.
+/// The policy options of a request: those of `options`, or one of weight 0.
 pub fn options(alloc: Global, value: &Value) -> Result<Option<Vec<OwnedOptionText>>, AllocError>
     ensures { IfOk result (λ o. option_map (λ v. v.items) o ≡ options_in (view value.now)) }
 {

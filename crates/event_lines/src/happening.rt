@@ -1,4 +1,4 @@
-//! What happens at a line.
+//! Replies to lines, and the events that happen.
 
 ghost use Rattle.std.specs.Prelude.{◌≡◌, IfOk, Some, option_map};
 ghost use Rattle.std.specs.String.{string_bytes};
@@ -20,7 +20,7 @@ use network_core::{Event, Net, Reply};
 use serde_json::Value;
 use std::alloc::{AllocError, Global};
 
-/// An event happens.
+/// Does an event, and returns its reply.
 fn happen(alloc: Global, net: &mut Net, event: &Event<'_>) -> Result<String, AllocError>
     ensures { IfOk result (λ text. Replies net.old (Some (Happens (events.event_value event.now)))
         (string_bytes text) net.new) }
@@ -32,7 +32,7 @@ fn happen(alloc: Global, net: &mut Net, event: &Event<'_>) -> Result<String, All
     text::reply(alloc, net, reply)
 }
 
-/// What a line is answered.
+/// The reply to a line.
 fn answer(alloc: Global, net: &mut Net, line: &Line<'_>) -> Result<String, AllocError>
     ensures { IfOk result (λ text. Replies net.old (Some (line_value line.now))
         (string_bytes text) net.new) }
@@ -43,7 +43,7 @@ fn answer(alloc: Global, net: &mut Net, line: &Line<'_>) -> Result<String, Alloc
     }
 }
 
-/// The reply to a line if it is accepted; that to a bad line otherwise.
+/// The reply to a line if it is accepted, else the reply to a bad line.
 fn answer_accepted(
     alloc: Global,
     accepted: AcceptedLines,
@@ -61,7 +61,7 @@ fn answer_accepted(
     }
 }
 
-/// What a line is answered that asks where a packet is.
+/// The reply to a line that shows a packet.
 fn answer_show(
     alloc: Global,
     accepted: AcceptedLines,
@@ -77,7 +77,7 @@ fn answer_show(
     }
 }
 
-/// What a line is answered that asks for paths. Its texts are decoded before they are lent.
+/// The reply to a line that asks for paths. Its texts are decoded first, and then borrowed.
 #[tactic(auto, unfolding(crate::specs::Line::ask_in))]
 fn answer_ask(
     alloc: Global,
@@ -99,7 +99,7 @@ fn answer_ask(
     }
 }
 
-/// What a line is answered that carries no texts. Its bytes are decoded before they are lent.
+/// The reply to a line without texts. Its bytes are decoded first, and then borrowed.
 #[tactic(auto, unfolding(crate::specs::Line::untexted_event))]
 fn answer_untexted(
     alloc: Global,
@@ -121,7 +121,7 @@ fn answer_untexted(
     }
 }
 
-/// What an object is answered.
+/// The reply to a JSON object.
 #[tactic(auto, unfolding(crate::specs::Line::said_by, crate::specs::Line::worded))]
 fn answer_object(
     alloc: Global,
@@ -142,12 +142,11 @@ fn answer_object(
     }
 }
 
-/// What the bytes of a line are answered, without the line's end, if these lines are accepted. A
-/// bad line is one that is not accepted, or is no object of the table of lines: no JSON, an object
-/// without the member `do` or with a word there that is none of these, or one in which a member of
-/// the word is missing or has another form.
+/// The reply to a line without its end, in a run that accepts these lines. A line is bad if it is
+/// not accepted, or if it is no object of the table of lines: it is no JSON, the member `do` is
+/// missing or has an unknown word, or a member of the word is missing or has another form.
 ///
-/// Takes time and memory for the bytes of the line, beside what its event takes.
+/// It takes the time and memory of the line's event, and more in proportion to its bytes.
 #[tactic(auto, unfolding(crate::specs::Line::line_in))]
 pub(crate) fn answer_line(
     alloc: Global,

@@ -1,8 +1,8 @@
 //! A network that reads lines of text and answers each with a line: `scionet run`.
 //!
-//! The first line is a topology, and each line after it an event of the network or the question
-//! where a packet is. [`listen`] accepts all lines, or those alone that prepare a network, and
-//! hands out the network that they lead to.
+//! The first line is a topology. Each line after it is an event of the network, or shows a packet.
+//! [`listen`] accepts all lines, or only those that prepare a network, and returns the network
+//! after them.
 #![tactic(auto)]
 
 mod accepted;

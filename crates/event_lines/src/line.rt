@@ -1,4 +1,4 @@
-//! What a line asks for.
+//! The values of lines.
 
 ghost use Rattle.std.specs.Prelude.{◌≡◌, IfOk, None, Ok, Some, codes, option_map};
 ghost use Rattle.serde_json.specs.View.{view};
@@ -12,19 +12,19 @@ use policy_expr::OptionText;
 use serde_json::Value;
 use std::alloc::{AllocError, Global};
 
-/// What a line asks for.
+/// The value of a line.
 #[derive(Clone, Copy)]
 pub(crate) enum Line<'a> {
-    /// An event of the network is to happen.
+    /// An event that happens in the network.
     Happens(Event<'a>),
-    /// `show`: where a packet is, and which hops it has passed.
+    /// `show`: the place of a packet and the hops that it has passed are shown.
     Show {
         /// The number of the packet.
         packet: u32,
     },
 }
 
-/// The line that asks where a packet is.
+/// The line that shows a packet.
 #[tactic(auto, unfolding(crate::specs::Line::show_in))]
 pub(crate) fn show<'a>(value: &Value) -> Option<Line<'a>>
     ensures { option_map line_value result ≡ show_in (view value.now) }
@@ -33,8 +33,8 @@ pub(crate) fn show<'a>(value: &Value) -> Option<Line<'a>>
     Some(Line::Show { packet })
 }
 
-/// The bytes that an event carries, a payload or a key, decoded; empty if it carries none. `None`
-/// if they are missing or are no hexadecimal text.
+/// The bytes that an event carries, a payload or a key, decoded; no bytes if it carries none.
+/// `None` if they are missing or are no hexadecimal text.
 #[tactic(auto, unfolding(crate::specs::Line::untexted_event, crate::specs::Line::send_in, crate::specs::Line::back_in, crate::specs::Line::rotate_in, crate::specs::Seen::payload_in))]
 pub(crate) fn payload(
     alloc: Global,
@@ -53,7 +53,7 @@ pub(crate) fn payload(
     }
 }
 
-/// The event of a line that carries no texts, with the bytes that it carries.
+/// The event of a line without texts, with the bytes that it carries.
 #[tactic(auto, unfolding(crate::specs::Line::untexted_event, crate::specs::Seen::payload_in))]
 pub(crate) fn untexted<'a>(word: &str, value: &Value, payload: &'a [u8]) -> Option<Event<'a>>
     requires { payload_in word.now (view value.now) ≡ Some payload.now }
@@ -67,7 +67,7 @@ pub(crate) fn untexted<'a>(word: &str, value: &Value, payload: &'a [u8]) -> Opti
     }
 }
 
-/// The event of a line that carries neither bytes nor texts.
+/// The event of a line without bytes and without texts.
 #[tactic(auto, unfolding(crate::specs::Line::plain_event))]
 fn plain<'a>(word: &str, value: &Value) -> Option<Event<'a>>
     ensures { option_map events.event_value result ≡ plain_event word.now (view value.now) }
@@ -168,7 +168,7 @@ fn mend<'a>(value: &Value) -> Option<Event<'a>>
     Some(Event::MendLink { ia, interface })
 }
 
-/// The event of a line that asks for paths, with the policy options that it carries.
+/// The event of a line that asks for paths, with its policy options.
 #[tactic(auto, unfolding(crate::specs::Line::ask_in))]
 pub(crate) fn ask<'a>(value: &Value, options: &'a [OptionText<'a>]) -> Option<Event<'a>>
     requires { options_in (view value.now) ≡ Some options.now }

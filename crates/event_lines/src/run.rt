@@ -12,14 +12,14 @@ use network_core::Net;
 use std::alloc::Global;
 use streams::{Sink, Source, write_all};
 
-/// The most bytes of an input.
+/// The largest number of bytes of an input.
 const MAX_INPUT_LEN: usize = 67_108_864;
 
-/// The most bytes that one read asks for.
+/// The largest number of bytes of one read.
 const ROOM_LEN: usize = 8_192;
 
-/// How many bytes to read next, `count` bytes having been read: 1 at the limit, to find out whether
-/// more follow.
+/// The number of bytes to read next after `count` bytes. At the limit it is 1, to find out whether
+/// more bytes follow.
 fn wanted_after(count: usize) -> usize
     requires { count ≤ most_input }
     ensures some { 0 < result }
@@ -31,7 +31,7 @@ fn wanted_after(count: usize) -> usize
     if left == 0 { 1 } else { left.min(ROOM_LEN) }
 }
 
-/// What the next read brings, into `room`; `None` if it fails.
+/// The bytes of the next read, in `room`; `None` if it fails.
 fn read_into<'r, S: Source>(source: &mut S, room: &'r mut [u8]) -> Option<&'r [u8]>
     requires { 0 < length room.old }
     ensures bytes { Brings (option_map (λ bytes. bytes.now) result) (S.left source.old)
@@ -44,7 +44,7 @@ fn read_into<'r, S: Source>(source: &mut S, room: &'r mut [u8]) -> Option<&'r [u
     }
 }
 
-/// Writes what is still to be written.
+/// Writes the replies that are not written yet.
 fn write_replies<K: Sink>(session: &mut Session, sink: &mut K) -> Result<(), RunFault>
     ensures written { Writes result (value_of session.old) (value_of session.new)
         (K.held sink.old) (K.held sink.new) }
@@ -60,8 +60,7 @@ fn write_replies<K: Sink>(session: &mut Session, sink: &mut K) -> Result<(), Run
     Ok(())
 }
 
-/// Answers the lines that end in these bytes, and writes the replies to the lines that end among
-/// them.
+/// Answers the lines whose ends are among these bytes, and writes the replies.
 fn exchange<K: Sink>(
     alloc: Global,
     accepted: AcceptedLines,
@@ -80,7 +79,7 @@ fn exchange<K: Sink>(
     heard
 }
 
-/// Answers the last line, if it has no end, and writes the reply. An input without a byte is one
+/// Answers the last line if it has no end, and writes the reply. An input without bytes is one
 /// empty line.
 fn finish<K: Sink>(
     alloc: Global,
@@ -101,23 +100,21 @@ fn finish<K: Sink>(
     heard
 }
 
-/// Answers the lines of a source, of those after the first the accepted ones, and returns
-/// the network that they lead to. The first line is a topology, and each later one an event of its
-/// network or the question where a packet is; a line that is not accepted is a bad line. Each is
-/// answered by one line, which is written and flushed before more is read.
+/// Answers the lines of a source, and returns the network after them. The first line is a topology.
+/// Each later line is an event of the network, or shows a packet; a line that is not accepted is a
+/// bad line. Each line has one reply, which is written and flushed before more is read.
 ///
-/// The lines behind the first are a run of the events that they ask for, in their order, and the
-/// replies are the answers of its history. So what is promised of a run ([`network_core::run`])
-/// holds of them, and also of those that were answered before a fault.
+/// The lines after the first are a run of their events, in their order, and the replies are those
+/// of its history. So the guarantees of a run ([`network_core::run`]) hold for them, also for the
+/// lines that were answered before a fault.
 ///
-/// [`RunFault::Topology`] if the first line is no topology, after its answer;
-/// [`RunFault::Read`] and [`RunFault::Write`] if the source or the sink failed;
-/// [`RunFault::Memory`] if memory ran out at some line, after the answers to the lines before;
-/// [`RunFault::InputTooLong`] at byte 67,108,865.
+/// [`RunFault::Topology`] if the first line is no topology, after its reply; [`RunFault::Read`] and
+/// [`RunFault::Write`] if the source or the sink failed; [`RunFault::Memory`] if memory ran out at
+/// a line, after the replies to the lines before; [`RunFault::InputTooLong`] at byte 67,108,865.
 ///
-/// It ends for every source that ends or passes that limit. A line takes time and memory for its
-/// bytes, beside what its event takes; the bytes of one line, and of the replies to the lines that
-/// one read of up to 8,192 bytes brought, are held at a time.
+/// It ends for every source that ends or passes that limit. A line takes the time and memory of its
+/// event, and more in proportion to its bytes. The bytes of one line, and the replies to the lines
+/// of one read of up to 8,192 bytes, are held at a time.
 pub fn listen<S: Source, K: Sink>(
     alloc: Global,
     accepted: AcceptedLines,
@@ -149,8 +146,8 @@ pub fn listen<S: Source, K: Sink>(
     }
 }
 
-/// Answers the lines of a source, all of them, as [`listen`] does, and lets the network go that
-/// they lead to. Its faults are those of [`listen`].
+/// Answers all lines of a source as [`listen`] does, and drops the network. Its faults are those of
+/// [`listen`].
 pub fn run_lines<S: Source, K: Sink>(
     alloc: Global,
     source: &mut S,

@@ -16,8 +16,8 @@ use refusal::OrMemory;
 use scion_topology::{Topology, TopologyFault};
 use std::alloc::{AllocError, Global};
 
-/// A run so far: its network, once the topology was read; the beginning of a line whose end has not
-/// come; and the replies that are still to be written.
+/// A run so far: its network, once the topology was read; the beginning of a line whose end was not
+/// read yet; and the replies that are not written yet.
 #[derive(Drop)]
 pub(crate) struct Session {
     pub(crate) net: Option<Net>,
@@ -25,7 +25,7 @@ pub(crate) struct Session {
     pub(crate) replies: String,
 }
 
-/// Adds a reply and its end. If memory runs out, the replies are as they were.
+/// Adds a reply and the end of its line. If memory runs out, the replies are as they were.
 fn push_reply(replies: &mut String, reply: String) -> Result<(), AllocError>
     ensures { string_bytes replies.new ≡ (if is_ok result
         then string_bytes replies.old ++ (string_bytes reply ++ line_end ∷ [])
@@ -36,7 +36,7 @@ fn push_reply(replies: &mut String, reply: String) -> Result<(), AllocError>
     replies.push_str(&line)
 }
 
-/// Tells a network a line, and adds the reply.
+/// Answers a line in a network, and adds the reply.
 fn tell(
     alloc: Global,
     accepted: AcceptedLines,
@@ -52,8 +52,8 @@ fn tell(
     Ok(())
 }
 
-/// The network of the first line, and adds the reply. [`RunFault::Topology`] if the line is no
-/// topology.
+/// Begins the network of the first line, and adds the reply. [`RunFault::Topology`] if the line is
+/// no topology.
 fn begin(alloc: Global, line: &[u8], replies: &mut String) -> Result<Net, RunFault>
     ensures { (accepted : AcceptedLines)
         → RepliesOrFails accepted (λ net. Open net) result Unbegun line.now
@@ -75,7 +75,7 @@ fn begin(alloc: Global, line: &[u8], replies: &mut String) -> Result<Net, RunFau
     }
 }
 
-/// Answers a line: the first begins the network, and each later one is an event or a question.
+/// Answers a line: the first begins the network, and each later one is an event or shows a packet.
 fn answer(
     alloc: Global,
     accepted: AcceptedLines,
@@ -107,7 +107,7 @@ impl Session {
         }
     }
 
-    /// Whether a run has begun and nothing stands behind the last end.
+    /// Whether the run has begun and no bytes follow the last end of a line.
     pub(crate) fn is_done(&self) -> bool
         ensures done { result ≡ true → (net : NetValue) × IsDone (value_of self.now) net }
         ensures more { result ≡ false → last_lines (value_of self.now) ≡ self.now.rest.items ∷ [] }
@@ -118,7 +118,7 @@ impl Session {
         }
     }
 
-    /// The network in which the run stands.
+    /// The network of the run.
     pub(crate) fn into_net(self) -> Net
         requires begun { (net : NetValue) × (stage_of self.net ≡ Open net) }
         ensures { stage_of self.net ≡ Open result }
@@ -130,7 +130,7 @@ impl Session {
         }
     }
 
-    /// Answers the line that has come, whose end is not among its bytes.
+    /// Answers the line that was read so far, which had no end.
     pub(crate) fn answer(&mut self, alloc: Global, accepted: AcceptedLines) -> Result<(), RunFault>
         ensures told { RepliesOrFails accepted (λ _. stage_of self.new.net) result
             (stage_of self.old.net)
@@ -146,8 +146,8 @@ impl Session {
         )
     }
 
-    /// Answers the line of which these bytes are the end. It is read where it lies if all of it is
-    /// among them.
+    /// Answers the line that ends with these bytes. If all of the line is among them, it is not
+    /// copied.
     fn end_line(
         &mut self,
         alloc: Global,
@@ -169,7 +169,7 @@ impl Session {
         Ok(())
     }
 
-    /// Answers each line that ends among these bytes, and keeps what stands behind the last.
+    /// Answers each line that ends among these bytes, and keeps the bytes after the last end.
     pub(crate) fn answer_bytes(
         &mut self,
         alloc: Global,

@@ -1,4 +1,4 @@
-//! The replies to events, and the lines on packets.
+//! The texts of replies to events and about packets.
 
 ghost use Rattle.std.specs.Prelude.{◌≡◌, ◌++◌, IfOk, OnOk, flat_map, option_map};
 ghost use Rattle.std.specs.String.{string_bytes};
@@ -18,7 +18,7 @@ fn hop(alloc: Global, hop: &WalkHop) -> Result<String, AllocError>
     format!(in alloc; "{}#{},{}", hop.ia, hop.ingress, hop.egress)
 }
 
-/// Adds hops, with one space between two.
+/// Adds the hops, separated by spaces.
 fn push_hops(alloc: Global, text: &mut String, hops: &[WalkHop]) -> Result<(), AllocError>
     ensures { OnOk result (string_bytes text.new ≡ string_bytes text.old ++ hops_text hops.now) }
 {
@@ -33,7 +33,7 @@ fn push_hops(alloc: Global, text: &mut String, hops: &[WalkHop]) -> Result<(), A
     Ok(())
 }
 
-/// Hops as lines tell them: `ISD-AS#INGRESS,EGRESS`, with one space between two.
+/// The text of hops: `ISD-AS#INGRESS,EGRESS`, separated by spaces.
 pub fn hops_text(alloc: Global, hops: &[WalkHop]) -> Result<String, AllocError>
     ensures { IfOk result (λ text. string_bytes text ≡ hops_text hops.now) }
 {
@@ -42,8 +42,8 @@ pub fn hops_text(alloc: Global, hops: &[WalkHop]) -> Result<String, AllocError>
     Ok(text)
 }
 
-/// A router's refusal as lines tell it: its number and its name, and of a packet without a path
-/// header the header's too.
+/// The text of a router's refusal: its number and its name; for a packet without a path header,
+/// also the number and name of the header's refusal.
 pub fn refusal_text(alloc: Global, refusal: Refusal) -> Result<String, AllocError>
     ensures { IfOk result (λ text. string_bytes text ≡ refusal_text refusal) }
 {
@@ -55,7 +55,7 @@ pub fn refusal_text(alloc: Global, refusal: Refusal) -> Result<String, AllocErro
     }
 }
 
-/// Where a router's step leads.
+/// The outcome of a router's step.
 pub(crate) fn outcome(alloc: Global, outcome: Outcome) -> Result<String, AllocError>
     ensures { IfOk result (λ text. string_bytes text ≡ outcome_text outcome) }
 {
@@ -66,7 +66,7 @@ pub(crate) fn outcome(alloc: Global, outcome: Outcome) -> Result<String, AllocEr
     }
 }
 
-/// A turn.
+/// The reply of a turn.
 fn turn(alloc: Global, reply: TurnReply) -> Result<String, AllocError>
     ensures { IfOk result (λ text. string_bytes text ≡ turn_text reply) }
 {
@@ -80,14 +80,14 @@ fn turn(alloc: Global, reply: TurnReply) -> Result<String, AllocError>
     }
 }
 
-/// An event that is refused.
+/// The refusal of an event.
 fn fault(alloc: Global, fault: EventFault) -> Result<String, AllocError>
     ensures { IfOk result (λ text. string_bytes text ≡ fault_text fault) }
 {
     format!(in alloc; "no {} {}", fault.code(), fault.name())
 }
 
-/// A line that asks for nothing.
+/// The reply to a bad line.
 pub(crate) fn bad_line(alloc: Global) -> Result<String, AllocError>
     ensures { IfOk result (λ text. string_bytes text ≡ bad_line) }
 {
@@ -106,7 +106,7 @@ fn push_paths(alloc: Global, text: &mut String, paths: &[Path]) -> Result<(), Al
     Ok(())
 }
 
-/// An answer of this number.
+/// The reply with an answer of this number.
 fn answer(alloc: Global, number: usize, paths: &[Path]) -> Result<String, AllocError>
     ensures { IfOk result (λ text. string_bytes text ≡ answer_text number paths.now) }
 {
@@ -125,7 +125,7 @@ fn paths_in(net: &Net, number: usize) -> &[Path]
     }
 }
 
-/// What an event is answered, in the network after it.
+/// The reply to an event, in the network after it.
 pub(crate) fn reply(alloc: Global, net: &Net, reply: Reply) -> Result<String, AllocError>
     ensures { IfOk result (λ text. string_bytes text ≡ reply_text net.now reply) }
 {
@@ -142,7 +142,7 @@ pub(crate) fn reply(alloc: Global, net: &Net, reply: Reply) -> Result<String, Al
     }
 }
 
-/// Where a packet is.
+/// The place of a packet.
 fn place(alloc: Global, place: PacketLocation) -> Result<String, AllocError>
     ensures { IfOk result (λ text. string_bytes text ≡ place_text place) }
 {
@@ -169,7 +169,7 @@ fn push_passed(alloc: Global, text: &mut String, passed: &[WalkHop]) -> Result<(
     push_hops(alloc, text, passed)
 }
 
-/// The line on a packet: where it is, and which hops it has passed.
+/// The reply about a packet: its place, and the hops that it has passed.
 pub(crate) fn packet(alloc: Global, packet: Option<&Packet>) -> Result<String, AllocError>
     ensures { IfOk result (λ text. string_bytes text
         ≡ packet_text (option_map (λ p. p.now) packet.entry)) }

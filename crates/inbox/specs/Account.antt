@@ -1,4 +1,5 @@
--- The account of a pass, and the rule of an inbox: balance, and the order of the first two senders.
+-- The account of a pass, and the rule of an inbox: its balance, and the order of the first two
+-- senders' values.
 use Rattle.std.specs.Prelude.{◌≡◌, ℕ, ◌+◌, true, List, [], ◌∷◌, ◌++◌, map}
 use Rattle.inbox.specs.declared.account.Tally.{Tally}
 use Rattle.inbox.specs.declared.account.Roles.{Roles}
@@ -8,7 +9,7 @@ use Rattle.inbox.specs.Tally.{tally, weigh, Balanced}
 use Rattle.inbox.specs.Roles.{those_of, values, roles, Ordered, put_by, taken_by, keeps_of, gives_of, sends_of, takes_of, both_of, no_roles}
 
 module _ {T : Type 0} where
-  -- a tally and roles
+  -- the account of this tally and these roles
   abbrev pub account : Tally T → Roles T → Account T
   account t r = record { tally = t; roles = r }
 
@@ -20,11 +21,11 @@ module _ {T : Type 0} where
   abbrev pub roles_of : Account T → Roles T
   roles_of v = v.roles
 
-  -- the rule of an inbox in which these values are, with the accounts of all passes
+  -- the rule of an inbox that holds these values, whose passes have these accounts
   abbrev pub Keeps : List T → List (Account T) → Type 0
   Keeps items views = Balanced items (map tally_of views) × Ordered items (map roles_of views)
 
-  -- the account of a pass that is alone, with which nothing was put in or taken out
+  -- the account of the only pass of an inbox, by which nothing was put in or taken out
   abbrev pub everything : Account T
   everything = account (tally (share 1 0) [] []) (roles true true true [] [] [])
 
@@ -32,51 +33,52 @@ module _ {T : Type 0} where
   abbrev pub with_half : Tally T → Tally T
   with_half t = tally (half t.share) t.put t.taken
 
-  -- the tally of the pass that has the other half
+  -- the tally of a new pass with the other half of the share
   abbrev pub other_half : Tally T → Tally T
   other_half t = tally (half t.share) [] []
 
-  -- two tallies as one
+  -- the tally of two passes together
   abbrev pub tallies_of : Tally T → Tally T → Tally T
   tallies_of t u = tally (sum_of t.share u.share) (t.put ++ u.put) (t.taken ++ u.taken)
 
-  -- the first sender's account, where the receiver's pass was cut off
+  -- the first sender's account after the receiver's pass was split off
   abbrev pub first_sender : Account T → Account T
   first_sender v = account (with_half v.tally) (sends_of v.roles)
 
-  -- the receiver's account
+  -- the receiver's account after it was split off
   abbrev pub receiver : Account T → Account T
   receiver v = account (other_half v.tally) (takes_of v.roles)
 
-  -- the account that a sender's pass keeps where it is split
+  -- the account that stays with a sender's pass when it is split
   abbrev pub kept : Account T → Account T
   kept v = account (with_half v.tally) (keeps_of v.roles)
 
-  -- the account of the further pass
+  -- the account of the pass that is split off
   abbrev pub given : Account T → Account T
   given v = account (other_half v.tally) (gives_of v.roles)
 
-  -- after a value was put in
+  -- the account after a value was put in
   abbrev pub with_put : Account T → T → Account T
   with_put v x =
       account (tally v.tally.share (v.tally.put ++ x ∷ []) v.tally.taken) (put_by v.roles x)
 
-  -- after a value was taken out
+  -- the account after a value was taken out
   abbrev pub with_taken : Account T → T → Account T
   with_taken v x =
       account (tally v.tally.share v.tally.put (v.tally.taken ++ x ∷ [])) (taken_by v.roles x)
 
-  -- after another pass was taken in
+  -- the account of a pass that has taken over another pass
   abbrev pub joined : Account T → Account T → Account T
   joined v w = account (tallies_of v.tally w.tally) (both_of v.roles w.roles)
 
-  -- what is left of a pass that was taken in
+  -- the account that remains of a pass that was taken over
   abbrev pub spent : Account T
   spent = account (tally (share 0 0) [] []) no_roles
 
-  -- what a pass knows of the values in the inbox: with the whole share, that each value was put in
-  -- as often as it was taken out or is left; with every role, that what came out and then what is
-  -- left has the values of the first two senders in each one's order
+  -- what a pass guarantees about the values in its inbox. With the whole share: each value was put
+  -- in as often as it was taken out or is still there. With every role: the values that came out
+  -- and then those still there have the values of each of the first two senders in that sender's
+  -- order.
   pub record AddsUp (v : Account T) (items : List T) : Type 0 where
     pub as_often : IsWhole v.tally.share → (h : T → ℕ)
         → weigh h v.tally.put ≡ weigh h v.tally.taken + weigh h items

@@ -1,14 +1,14 @@
--- An inbox and its passes, as contracts see them.
+-- Inboxes and passes in contracts.
 use Rattle.std.specs.Prelude.{ℕ}
 use Rattle.atomic_table.specs.Seated.{TableId}
 use Rattle.inbox.specs.declared.account.Account.{Account}
 
--- an inbox: which one it is, and how many places it has
+-- an inbox: its identity, and its number of places
 pub record Opened : Type 0 where
   pub inbox : TableId
   pub slots : ℕ
 
--- a pass: of which inbox, and its account
+-- a pass: the identity of its inbox, and its account
 pub record Known (T : Type 0) : Type 0 where
   pub inbox : TableId
   pub account : Account T

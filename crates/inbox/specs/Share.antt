@@ -1,4 +1,4 @@
--- Shares of the right to know the whole, as fractions whose denominator is a power of two.
+-- Shares of the knowledge about an inbox: fractions whose denominator is a power of two.
 use Rattle.std.specs.Prelude.{◌≡◌, ℕ, suc, ◌+◌, ◌*◌, ◌-◌, ◌^◌, max}
 use Rattle.inbox.specs.declared.account.Share.{Share}
 
@@ -14,10 +14,10 @@ IsWhole s = s.pieces ≡ 2 ^ s.halvings
 abbrev pub half : Share → Share
 half s = share s.pieces (suc s.halvings)
 
--- the share in pieces of a whole that was halved n times, no less often than the share's
+-- the share in pieces of a whole that was halved `n` times, at least as often as the share's
 abbrev pub worth : ℕ → Share → ℕ
 worth n s = s.pieces * 2 ^ (n - s.halvings)
 
--- two shares as one
+-- the sum of two shares
 abbrev pub sum_of : Share → Share → Share
 sum_of s t = let n = max s.halvings t.halvings in share (worth n s + worth n t) n

@@ -1,4 +1,4 @@
-//! The ways into and out of an inbox: an inbox beside a pass of it.
+//! The ways into and out of an inbox: each is an inbox together with a pass of it.
 
 ghost use Rattle.std.specs.Prelude.{◌≡◌, IfErr, IfNone, IfSome, OnErr, OnOk};
 ghost use Rattle.crossbeam_queue.specs.Fifo.{Held};
@@ -9,7 +9,7 @@ use crate::pass::{ReceiverPass, SenderPass};
 use std::marker::Model;
 use std::sync::Wait;
 
-/// The way into an inbox: contracts see the inbox, and the account of the pass.
+/// The way into an inbox. In contracts it is the inbox and the account of the pass.
 #[derive(Drop)]
 pub struct Sender<'a, T: Drop> {
     inbox: &'a Inbox<T>,
@@ -28,7 +28,7 @@ impl<'a, T: Drop> Model for Sender<'a, T> {
 }
 
 impl<'a, T: Drop> Sender<'a, T> {
-    /// The way into an inbox with a pass of it.
+    /// The way into an inbox by a pass of it.
     pub fn new(inbox: &'a Inbox<T>, pass: SenderPass<T>) -> Sender<'a, T>
         requires { pass.inbox ≡ inbox.now.inbox }
         ensures of { result.of ≡ inbox.now }
@@ -37,7 +37,7 @@ impl<'a, T: Drop> Sender<'a, T> {
         Sender { inbox, pass }
     }
 
-    /// Puts a value at the back. It is returned only where the inbox is full at that step.
+    /// Puts a value at the back. It is returned only if the inbox is full at that step.
     pub fn push<R: Wait>(&mut self, rt: &R, x: T) -> Result<(), T>
         ensures of { self.new.of ≡ self.old.of }
         ensures put { OnOk result (self.new.account ≡ with_put self.old.account x) }
@@ -48,7 +48,7 @@ impl<'a, T: Drop> Sender<'a, T> {
         self.inbox.push(rt, &mut self.pass, x)
     }
 
-    /// A further way into the same inbox, with a further pass of it.
+    /// Another way into the same inbox, by another pass of it.
     pub fn split(&mut self) -> Sender<'a, T>
         ensures of { (self.new.of ≡ self.old.of) × (result.of ≡ self.old.of) }
         ensures kept { self.new.account ≡ kept self.old.account }
@@ -60,7 +60,7 @@ impl<'a, T: Drop> Sender<'a, T> {
         }
     }
 
-    /// The pass, where its thread has ended.
+    /// The pass, after its thread has ended.
     pub fn end(self) -> SenderPass<T>
         ensures inbox { result.inbox ≡ self.entry.of.inbox }
         ensures account { result.account ≡ self.entry.account }
@@ -73,7 +73,7 @@ impl<'a, T: Drop> Sender<'a, T> {
     }
 }
 
-/// The way out of an inbox: contracts see the inbox, and the account of the pass.
+/// The way out of an inbox. In contracts it is the inbox and the account of the pass.
 #[derive(Drop)]
 pub struct Receiver<'a, T: Drop> {
     inbox: &'a Inbox<T>,
@@ -92,7 +92,7 @@ impl<'a, T: Drop> Model for Receiver<'a, T> {
 }
 
 impl<'a, T: Drop> Receiver<'a, T> {
-    /// The way out of an inbox with a pass of it.
+    /// The way out of an inbox by a pass of it.
     pub fn new(inbox: &'a Inbox<T>, pass: ReceiverPass<T>) -> Receiver<'a, T>
         requires { pass.inbox ≡ inbox.now.inbox }
         ensures of { result.of ≡ inbox.now }
@@ -101,7 +101,7 @@ impl<'a, T: Drop> Receiver<'a, T> {
         Receiver { inbox, pass }
     }
 
-    /// Takes the value at the front. It gives nothing only where the inbox is empty at that step.
+    /// Takes the value at the front. There is none only if the inbox is empty at that step.
     pub fn pop<R: Wait>(&mut self, rt: &R) -> Option<T>
         ensures of { self.new.of ≡ self.old.of }
         ensures taken { IfSome result (λ x. self.new.account ≡ with_taken self.old.account x) }
@@ -111,7 +111,7 @@ impl<'a, T: Drop> Receiver<'a, T> {
         self.inbox.pop(rt, &mut self.pass)
     }
 
-    /// The pass, where its thread has ended.
+    /// The pass, after its thread has ended.
     pub fn end(self) -> ReceiverPass<T>
         ensures inbox { result.inbox ≡ self.entry.of.inbox }
         ensures account { result.account ≡ self.entry.account }

@@ -11,8 +11,8 @@ use std::alloc::{AllocError, Global};
 use std::marker::{Model, PhantomData};
 use std::sync::Wait;
 
-/// A queue of fixed length, which threads share: contracts see which one it is, and how many
-/// places it has.
+/// A queue of fixed length that threads share. In contracts it is its identity and its number of
+/// places.
 #[derive(Drop)]
 pub struct Inbox<T: Drop> {
     queue: Queue<T>,
@@ -31,9 +31,9 @@ impl<T: Drop> Model for Inbox<T> {
 }
 
 impl<T: Drop> Inbox<T> {
-    /// An empty inbox of 1 to 4,096 places, with the pass of the first sender and that of the
-    /// receiver, with which nothing was put in or taken out. [`AllocError`] if there is no
-    /// memory for the places; no later call takes any.
+    /// An empty inbox of 1 to 4,096 places, with the passes of the first sender and of the
+    /// receiver, by which nothing was put in or taken out. [`AllocError`] if there is no memory for
+    /// the places; no later call takes memory.
     pub fn new(
         alloc: Global,
         slots: usize,
@@ -61,8 +61,8 @@ impl<T: Drop> Inbox<T> {
         ))
     }
 
-    /// A further sender's pass. The first one that the first sender's pass gives is the second
-    /// sender's. Any sender's pass may be split, as often as is wanted.
+    /// Splits another sender's pass off. The first one that is split off the first sender's pass is
+    /// the second sender's. Any sender's pass may be split, any number of times.
     pub fn split(&self, pass: &mut SenderPass<T>) -> SenderPass<T>
         requires { pass.old.inbox ≡ self.now.inbox }
         ensures inbox { (pass.new.inbox ≡ pass.old.inbox) × (result.inbox ≡ pass.old.inbox) }
@@ -76,12 +76,13 @@ impl<T: Drop> Inbox<T> {
         }
     }
 
-    /// Takes in a pass of this inbox whose thread has ended: what was put in and taken out with
-    /// both is from then on in one account. Nothing in the inbox changes.
+    /// Takes over a pass of this inbox whose thread has ended. From then on the values put in and
+    /// taken out by both are in one account. The inbox itself does not change.
     ///
-    /// Whoever has taken in all other passes has the whole share and all three roles, and knows
-    /// the whole at once: each value was taken out as often as it was put in, or is left, and what
-    /// came out and then what is left has the values of the first two senders in each one's order.
+    /// A pass that has taken over all others has the whole share and all three roles. So its owner
+    /// knows about all values: each was put in as often as it was taken out or is still there. And
+    /// the values that came out, followed by those still there, have the values of each of the
+    /// first two senders in that sender's order.
     pub fn take_in<R: Right, E: Right>(&self, pass: &mut InboxPass<T, R>, ended: InboxPass<T, E>)
         requires pass { pass.old.inbox ≡ self.now.inbox }
         requires ended { ended.inbox ≡ self.now.inbox }
@@ -97,8 +98,9 @@ impl<T: Drop> Inbox<T> {
         self.queue.learn_as::<TakesIn>(&mut pass.pass);
     }
 
-    /// Puts a value at the back. It is returned only where the inbox is full at that step; what
-    /// the pass knows of the whole holds there. It may wait for a thread that is within a step.
+    /// Puts a value at the back. It is returned only if the inbox is full at that step; what the
+    /// pass knows about all values holds at that step. It may wait for a thread that is within a
+    /// step.
     pub fn push<R: Wait>(&self, rt: &R, pass: &mut SenderPass<T>, x: T) -> Result<(), T>
         requires { pass.old.inbox ≡ self.now.inbox }
         ensures inbox { pass.new.inbox ≡ pass.old.inbox }
@@ -110,9 +112,9 @@ impl<T: Drop> Inbox<T> {
         self.queue.push_as::<Puts, R>(rt, &mut pass.pass, x)
     }
 
-    /// Takes the value at the front. It gives nothing only where the inbox is empty at that step;
-    /// what the pass knows of the whole holds there. It may wait for a thread that is within a
-    /// step.
+    /// Takes the value at the front. There is none only if the inbox is empty at that step; what
+    /// the pass knows about all values holds at that step. It may wait for a thread that is within
+    /// a step.
     pub fn pop<R: Wait>(&self, rt: &R, pass: &mut ReceiverPass<T>) -> Option<T>
         requires { pass.old.inbox ≡ self.now.inbox }
         ensures inbox { pass.new.inbox ≡ pass.old.inbox }

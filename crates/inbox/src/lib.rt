@@ -1,13 +1,13 @@
-//! An inbox between running threads: a queue of fixed length, of which nothing is lost or
-//! doubled.
+//! An inbox between running threads: a queue of fixed length that loses no value and gives none
+//! twice.
 //!
-//! [`Inbox::new`] gives the inbox with the pass of a sender and that of the receiver. Each thread
-//! reaches the inbox with a pass of its own, which keeps the account of what was put in and taken
-//! out with it. Seven kinds of step keep the rule of the inbox: making it, splitting a pass,
-//! taking in a pass whose thread has ended, a push that is taken and one that is returned, a
-//! pop that gives a value and one that finds the inbox empty. Whoever has taken in all other
-//! passes knows of the whole: each value came out as often as it was put in, or is left, and the
-//! values of the first two senders came out in each one's order.
+//! [`Inbox::new`] returns the inbox with the passes of a sender and of the receiver. Each thread
+//! uses the inbox by a pass of its own, whose account has the values put in and taken out by it.
+//! The rule of the inbox is kept by seven kinds of step: making the inbox, splitting a pass, taking
+//! over a pass whose thread has ended, a push that succeeds and one that returns its value, and a
+//! pop with a value and one that finds the inbox empty. The owner of a pass that has taken over all
+//! others knows about all values: each came out as often as it was put in, or is still there, and
+//! the values of each of the first two senders came out in that sender's order.
 #![tactic(auto)]
 
 mod account;

@@ -6,9 +6,9 @@ use crate::account::Account;
 use crossbeam_queue::Pass;
 use std::marker::{Model, PhantomData};
 
-/// What a pass gives the right to.
+/// The right of a pass.
 pub trait Right {
-    /// Whether to take out.
+    /// Whether it is the right to take out.
     ghost takes: { Bool };
 }
 
@@ -30,7 +30,8 @@ impl Right for Receives {
     ghost takes = { true };
 }
 
-/// A pass of an inbox: contracts see of which inbox, and its account. It has no bytes.
+/// A pass of an inbox. In contracts it is the identity of its inbox and its account. It has no
+/// bytes.
 #[derive(Drop)]
 pub struct InboxPass<T, R: Right> {
     pub(crate) pass: Pass<T, Account<T>>,

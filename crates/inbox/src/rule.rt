@@ -1,10 +1,10 @@
-//! The rule of an inbox, and what its steps tell of it.
+//! The rule of an inbox, and what its steps show to their callers.
 
 use crate::account::Account;
 use crossbeam_queue::RuledArrayQueue;
 use crossbeam_queue::protocol::{Join, Lesson, Outcome, Protocol, Split};
 
-/// The rule: the inbox is in balance, and in order for the first two senders.
+/// The rule: the inbox is in balance, and the values of the first two senders are in order.
 pub(crate) struct Kept;
 
 impl<T> Protocol<T, Account<T>> for Kept {
@@ -18,7 +18,7 @@ impl<T> Protocol<T, Account<T>> for Kept {
 /// The queue of an inbox.
 pub(crate) type Queue<T> = RuledArrayQueue<T, Account<T>, Kept>;
 
-/// The receiver's pass is cut off.
+/// The receiver's pass is split off.
 pub(crate) struct CutsOff;
 
 impl<T> Split<Account<T>> for CutsOff {
@@ -40,7 +40,7 @@ impl<T> Split<Account<T>> for Splits {
     ghost right = { given };
 }
 
-/// A pass takes in another, and what that tells.
+/// A pass takes over another one, and shows what its owner then knows.
 pub(crate) struct TakesIn;
 
 impl<T> Join<Account<T>> for TakesIn {
@@ -57,7 +57,7 @@ impl<T> Lesson<T, Account<T>> for TakesIn {
     ghost fact = { AddsUp };
 }
 
-/// What a push tells.
+/// What a push shows.
 pub(crate) struct Puts;
 
 impl<T> Outcome<T, Account<T>> for Puts {
@@ -73,7 +73,7 @@ impl<T> Lesson<T, Account<T>> for Puts {
     ghost fact = { AddsUp };
 }
 
-/// What a pop tells.
+/// What a pop shows.
 pub(crate) struct Takes;
 
 impl<T> Outcome<T, Account<T>> for Takes {

@@ -1,5 +1,5 @@
-//! Tests of what no clause says: that there is room where places are free, and in which order
-//! values come out while there are several passes.
+//! Tests of what no clause says: a push succeeds if places are free, and the order in which values
+//! come out while there are several passes.
 
 use crate::{Inbox, Receiver, Sender};
 use std::test::Fail;

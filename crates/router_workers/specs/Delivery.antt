@@ -1,4 +1,5 @@
--- What becomes of a flight whose path the network lets through (draft-dekater-scion-dataplane).
+-- The guarantees for a flight on whose path the network forwards packets
+-- (draft-dekater-scion-dataplane).
 use Rattle.std.specs.Prelude.{◌≡◌, ◌↔◌, ℕ, ◌*◌, ◌<◌, ◌≤◌, List, ◌++◌}
 use Rattle.policy_expr.specs.declared.hop.WalkHop.{WalkHop}
 use Rattle.scion_topology.specs.Network.{Network}
@@ -12,11 +13,11 @@ use Rattle.router_workers.specs.Flight.{SentPacket}
 use Rattle.router_workers.specs.declared.end.End.{End}
 use Rattle.router_workers.specs.declared.end.End.TheVariants as ends
 
--- a packet of what was sent, with `total` turns to its walk's end, of which `done` were had: no
--- router has refused it; the hops that it has passed are the beginning of its walk; it is delivered
--- exactly once it has had its turns, and stands at a router before; two turns for each of its hop
--- fields are enough; and it is delivered with its whole walk passed, the header behind all pieces
--- and the payload as it was sent
+-- the state of a packet whose walk takes `total` turns and that has had `done` of them. No router
+-- has refused it, and the hops that it has passed are the beginning of its walk. It is delivered if
+-- and only if it has had all its turns, and is at a router before. Two turns for each of its hop
+-- fields are enough. When it is delivered it has passed its whole walk, with the header at the end
+-- of all pieces and the payload as it was sent.
 pub record IsForwarded (sent : SentPacket) (total done : ℕ) (packet : Packet) : Type 0 where
   pub unrefused : ¬ (IsRefusedAt packet.place)
   pub rest : List WalkHop
@@ -27,13 +28,13 @@ pub record IsForwarded (sent : SentPacket) (total done : ℕ) (packet : Packet) 
   pub whole : packet.place ≡ places.Delivered
       → packet ≡ arrived_with sent.source sent.destination sent.payload sent.pieces
 
--- each piece of its path is of a segment that the network has made under some keys, which are
--- accepted, over links that are up
+-- each piece of its path is of a segment that the network issued under some keys; its keys are
+-- accepted, and its links are up
 abbrev pub IsSoundIn : Network → SentPacket → Type 0
 IsSoundIn n sent = AreSound n sent.pieces
 
--- the end of a flight with `total` turns to its walk's end, none of them had before: delivered
--- after exactly that many, or dropped before; never refused
+-- the end of a flight whose walk takes `total` turns, before its first turn: delivered after
+-- exactly that many turns, or dropped earlier; never refused
 abbrev pub IsSoundEnd : ℕ → End → Type 0
 IsSoundEnd total (ends.Delivered turns) = turns ≡ total
 IsSoundEnd total (ends.Refused refusal turns) = ⊥

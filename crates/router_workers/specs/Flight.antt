@@ -1,5 +1,5 @@
--- A flight: a packet that is carried through a network that does not change, and the turns that it
--- has had (draft-dekater-scion-dataplane).
+-- A flight: a packet on its way through a network that does not change, and the number of its turns
+-- (draft-dekater-scion-dataplane).
 use Rattle.std.specs.Prelude.{◌≡◌, ℕ, ◌+◌, ◌≤◌, List, length, Result, Ok, Err}
 use Rattle.scion_topology.specs.declared.fault.TopologyFault.{TopologyFault}
 use Rattle.scion_topology.specs.View.{View}
@@ -26,7 +26,7 @@ pub record SentPacket : Type 0 where
   pub header : HeaderValue
   pub payload : List ℕ
 
--- what was accepted for sending, without the policy
+-- a shipment of a network without its policy
 abbrev pub sent_packet_of : Shipment → SentPacket
 sent_packet_of sent = record {
   source = sent.way.source;
@@ -36,14 +36,14 @@ sent_packet_of sent = record {
   payload = sent.payload;
 }
 
--- the network, what was sent, the turns that were had, and the packet after them
+-- a flight: its network, what was sent, the number of its turns, and the packet after them
 pub record FlightValue : Type 0 where
   pub fabric : Network
   pub sent : SentPacket
   pub turns : ℕ
   pub packet : Packet
 
--- what is sent as it departs: at the router that owns the way out of its walk's first AS
+-- the packet at the start of a flight: at the router that owns the first way out of its walk
 abbrev pub put_with : SentPacket → Result ℕ TopologyFault → Result Packet TopologyFault
 put_with sent (Ok router) = Ok
     (put_at (framed sent.source sent.destination sent.header sent.payload) sent.source router)
@@ -52,24 +52,24 @@ put_with sent (Err fault) = Err fault
 abbrev pub departed : Network → SentPacket → Result Packet TopologyFault
 departed n sent = put_with sent (owner_in n sent.source (first_out (walk_of sent.pieces)))
 
--- a flight that has had no turn
+-- a flight without any turns
 abbrev pub grounded : Network → SentPacket → Packet → FlightValue
 grounded n sent start = record { fabric = n; sent = sent; turns = 0; packet = start }
 
--- the flight after one turn more, at this second
+-- the flight after one more turn, at this second
 abbrev pub advanced : ℕ → FlightValue → FlightValue
 advanced now flight = record flight {
   turns = flight.turns + 1;
   packet = turned flight.fabric now flight.packet;
 }
 
--- the view is that which the network has of the router at which a packet stands
+-- the view is the network's view of the router that has the packet
 abbrev pub IsViewAt : Network → PacketLocation → View → Type 0
 IsViewAt n (places.AtRouter stop) view = view_in n stop.ia stop.router ≡ Ok view
 IsViewAt n place view = ⊥
 
--- what was sent was accepted, and has turned, from where it departs, at exactly as many moments as
--- the flight has had turns, which are at most 128
+-- the rules of a flight: what was sent was accepted, and the packet is as one turn at each of some
+-- seconds made it from its start. There were as many turns as the flight says, at most 128.
 pub record IsFlight (flight : FlightValue) : Type 0 where
   pub network : IsNetwork flight.fabric
   pub moment : ℕ

@@ -1,4 +1,5 @@
--- The inboxes of a run: their passes, and which a flight goes into (words of no public clause).
+-- The inboxes of a run: their passes, and the inbox that a flight goes into (words of no public
+-- clause).
 use Rattle.std.specs.Prelude.{◌≡◌, ◌⊎◌, ℕ, ◌+◌, ◌%◌, Bool, true, List, Some, slice_get, slice_set, IfOk}
 use Rattle.scion_topology.specs.Network.{Network}
 use Rattle.scion_topology.specs.Topology.{info_in}
@@ -8,30 +9,30 @@ use Rattle.inbox.specs.Account.{with_put}
 use Rattle.inbox.specs.Inbox.{Opened, Way}
 use Rattle.router_workers.specs.declared.pass_pairs.PassPair.{PassPair}
 
--- the passes are of the inboxes, in their order
+-- the passes belong to the inboxes, in their order
 abbrev pub ArePassPairs : {T : Type 0} → List Opened → List (PassPair T) → Type 0
 ArePassPairs inboxes pairs =
     (i : ℕ) (inbox : Opened) (pair : PassPair _) → slice_get inboxes i ≡ Some inbox
     → slice_get pairs i ≡ Some pair
     → (pair.sender.inbox ≡ inbox.inbox) × (pair.receiver.inbox ≡ inbox.inbox)
 
--- of `workers` workers, the one to whose router a packet has come: the place of the router's AS in
--- the network plus the router's number, modulo their number
+-- the worker for a packet's router, among `workers` workers: the place of the router's AS in the
+-- network plus the router's number, modulo the number of workers
 abbrev pub IsNext : Network → ℕ → PacketLocation → ℕ → Type 0
 IsNext n workers (places.AtRouter stop) next =
     IfOk (info_in n stop.ia) (λ info. next ≡ (info.position + stop.router) % workers)
 IsNext n workers place next = Unit {0}
 
--- a way into an inbox after this flight was put in by it
+-- a way into an inbox after this flight was put in
 abbrev pub put_in : {T : Type 0} → T → Way T → Way T
 put_in carried way = record way { account = with_put way.account carried }
 
--- a flight was put in by this way; or it was dropped, and nothing was, where more flights were
--- given than an inbox has places
+-- the flight was put in by this way; or it was dropped, and nothing was put in, because there are
+-- more flights than places in an inbox
 abbrev pub IsPutIn : {T : Type 0} → Bool → T → Way T → Way T → Type 0
 IsPutIn crowded carried old new = (new ≡ put_in carried old) ⊎ ((new ≡ old) × (crowded ≡ true))
 
--- the same by the way of this number; the others are as they were
+-- `IsPutIn` for the way of this number; the other ways are as they were
 abbrev pub IsPassedTo : {T : Type 0} → Bool → T → ℕ → List (Way T) → List (Way T) → Type 0
 IsPassedTo crowded carried next old new = (before : Way _) × (after : Way _)
     × (slice_get old next ≡ Some before) × IsPutIn crowded carried before after

@@ -1,4 +1,4 @@
--- A run of flights at one second, and what it reports of each.
+-- A run of flights at one second, and its report about each.
 use Rattle.std.specs.Prelude.{◌≡◌, ℕ, zero, suc, ◌<◌, List, Some, length, slice_get}
 use Rattle.scion_topology.specs.Network.{Network}
 use Rattle.router_step.specs.declared.fault.Refusal.{Refusal}
@@ -10,26 +10,26 @@ use Rattle.router_workers.specs.Flight.{FlightValue}
 use Rattle.router_workers.specs.declared.end.End.{End}
 use Rattle.router_workers.specs.declared.end.End.TheVariants.{Delivered, Refused, Dropped}
 
--- a packet after a number of turns at one second
+-- a packet after this number of turns, all at one second
 abbrev pub repeated : Network → ℕ → Packet → ℕ → Packet
 repeated n now packet zero = packet
 repeated n now packet (suc k) = turned n now (repeated n now packet k)
 
--- where a flight as it was given is after a number of turns of the run
+-- the place of a flight's packet after this number of turns of the run
 abbrev pub place_after : ℕ → FlightValue → ℕ → PacketLocation
 place_after now given turns = (repeated given.fabric now given.packet turns).place
 
--- it was at a router before each of these turns
+-- the packet was at a router before each of these turns
 abbrev pub FliesUntil : ℕ → FlightValue → ℕ → Type 0
 FliesUntil now given turns = (k : ℕ) → k < turns → IsAtRouter (place_after now given k)
 
--- some router has refused it so
+-- a router has refused the packet with this refusal
 abbrev pub RefusedAs : Refusal → PacketLocation → Type 0
 RefusedAs refusal place = (ia : ℕ) × ((router : ℕ) × (place ≡ places.Refused ia router refusal))
 
--- the end that a run at this second, with inboxes of `slots` places, may report of one of these
--- flights: delivered or refused after exactly that many turns; or dropped, still at a router after
--- so many, where more flights were given than an inbox has places
+-- the end that a run may report of one of these flights, at this second and with inboxes of `slots`
+-- places. Delivered or refused: after exactly this number of turns. Dropped: it is still at a
+-- router after this number of turns, and there are more flights than places in an inbox.
 abbrev pub IsEnd : List FlightValue → ℕ → ℕ → FlightValue → End → Type 0
 IsEnd flights now slots given (Delivered turns) =
     (place_after now given turns ≡ places.Delivered) × FliesUntil now given turns
@@ -38,7 +38,7 @@ IsEnd flights now slots given (Refused refusal turns) =
 IsEnd flights now slots given (Dropped turns) =
     IsAtRouter (place_after now given turns) × (slots < length flights)
 
--- one end for each flight, in their order
+-- one end for each flight, in the order of the flights
 pub record IsReport (flights : List FlightValue) (now slots : ℕ) (ends : List End) : Type 0 where
   pub all : length ends ≡ length flights
   pub each : (i : ℕ) (given : FlightValue) (end : End) → slice_get flights i ≡ Some given
@@ -51,8 +51,8 @@ abbrev pub IsEndOf : List FlightValue → ℕ → ℕ → ℕ → End → Type 0
 IsEndOf flights now slots number end = (given : FlightValue)
     × ((slice_get flights number ≡ Some given) × IsEnd flights now slots given end)
 
--- the carried flight is that of this number after its turns of the run, and was at a router
--- before each
+-- the carried flight is the flight of this number after its turns of the run, and was at a router
+-- before each of them
 pub record IsCarried (flights : List FlightValue) (now number turns : ℕ) (carried : FlightValue)
     : Type 0 where
   pub given : FlightValue
@@ -61,7 +61,7 @@ pub record IsCarried (flights : List FlightValue) (now number turns : ℕ) (carr
   pub is : carried.packet ≡ repeated given.fabric now given.packet turns
   pub flew : FliesUntil now given turns
 
--- the first ends are those of the first flights
+-- the ends are those of the first flights
 abbrev pub AreEnds : List FlightValue → ℕ → ℕ → List End → Type 0
 AreEnds flights now slots ends =
     (i : ℕ) (end : End) → slice_get ends i ≡ Some end → IsEndOf flights now slots i end

@@ -1,4 +1,4 @@
-//! Flights that are under way in a run, and their ends.
+//! Flights that are carried in a run, and their ends.
 
 ghost use Rattle.std.specs.Prelude.{◌≡◌, ◌<◌, ◌≤◌, Some, IfOk, IfErr, length, slice_get};
 ghost use Rattle.network_core.specs.Delivery.{IsAtRouter};
@@ -10,8 +10,8 @@ use forwarding::PacketLocation;
 use std::alloc::{AllocError, Global};
 use std::marker::{Brand, Model, PhantomData};
 
-/// What is fixed for a run: the flights as they were given, the second, and the places of an inbox.
-/// No value has it; it stands in the types of carried flights.
+/// The constants of a run: the flights as they were given, the second, and the places of an inbox.
+/// No value has this type; it occurs as a parameter of the types of carried flights.
 pub(crate) trait RunFacts {
     ghost use Rattle.std.specs.Prelude.{List, ℕ};
     ghost use Rattle.router_workers.specs.Flight.{FlightValue};
@@ -33,12 +33,11 @@ impl RunFacts for Brand {
     ghost slots = { 0 };
 }
 
-/// A flight that is under way in a run: its number among those that were given, its turns in the
-/// run so far, and a copy of it that has had them. Its type keeps that this is so, and that the
-/// flight was at a router before each of them.
+/// A carried flight: its number among the given flights, its turns in the run so far, and a copy of
+/// the flight after them. Invariants of the type say this, and that the flight was at a router
+/// before each turn.
 ///
-/// The copy stands where it was made, so that a flight which goes from inbox to inbox is a few
-/// words and not the room for all the hops that a flight may pass.
+/// The copy stays in its memory, so that only a few words move from inbox to inbox.
 #[derive(Drop)]
 pub(crate) struct CarriedFlight<'f, J: RunFacts> {
     number: usize,
@@ -60,8 +59,8 @@ impl<'f, J: RunFacts> Model for CarriedFlight<'f, J> {
         × IsCarried J.flights J.now j.number j.turns j.flight.value };
 }
 
-/// The end of a flight of a run, with the flight's number. Its type keeps that it is that flight's
-/// end.
+/// The end of a flight of a run, with the flight's number. An invariant of the type says that the
+/// end is that of this flight.
 #[derive(Drop)]
 pub(crate) struct FlightEnd<J: RunFacts> {
     number: usize,
@@ -82,8 +81,7 @@ impl<J: RunFacts> Model for FlightEnd<J> {
 }
 
 impl<'f, J: RunFacts> CarriedFlight<'f, J> {
-    /// A flight to be carried, as it was given: a copy, that has had no turn in the run; or memory
-    /// runs out.
+    /// A copy of a given flight, without any turn in the run, unless memory runs out.
     pub(crate) fn new(
         alloc: Global,
         number: usize,
@@ -100,7 +98,7 @@ impl<'f, J: RunFacts> CarriedFlight<'f, J> {
         })
     }
 
-    /// Its end if the flight is at no router any more; else the flight itself.
+    /// Its end if the flight is at no router, else the flight itself.
     pub(crate) fn into_end(self) -> Result<FlightEnd<J>, CarriedFlight<'f, J>>
         ensures { IfErr result (λ carried. IsAtRouter carried.packet.place) }
     {
@@ -131,7 +129,7 @@ impl<'f, J: RunFacts> CarriedFlight<'f, J> {
         }
     }
 
-    /// One turn of the router at which the flight stands.
+    /// One turn of the router that has the flight.
     pub(crate) fn advance(self, now: u32) -> CarriedFlight<'f, J>
         requires now { now ≡ J.now }
         requires under_way { IsAtRouter self.packet.place }
@@ -152,7 +150,7 @@ impl<'f, J: RunFacts> CarriedFlight<'f, J> {
         }
     }
 
-    /// Where the flight is.
+    /// The place of the flight.
     pub(crate) fn place(&self) -> PacketLocation
         ensures { result ≡ self.now.packet.place }
     {
@@ -168,7 +166,7 @@ impl<J: RunFacts> FlightEnd<J> {
         self.number
     }
 
-    /// The end, and whose it is.
+    /// The end of its flight.
     pub(crate) fn end(&self) -> End
         ensures { IsEndOf J.flights J.now J.slots self.now.0 result }
     {

@@ -4,13 +4,13 @@ ghost use Rattle.router_workers.specs.Fault.{code_of, name_of};
 use std::alloc::AllocError;
 use thiserror::Error;
 
-/// Why flights are not run.
+/// Why a run did not take place.
 #[derive(Clone, Copy, Debug, PartialEq, Eq, Error)]
 pub enum RunFault {
     /// There are not 1 to 8 workers.
     #[error("a run has 1 to 8 workers")]
     Workers,
-    /// Memory ran out, or a thread could not be made, before any worker took a flight.
+    /// Memory ran out, or a thread could not be started, before any worker took a flight.
     #[error("there is no memory for the run")]
     Memory,
 }

@@ -15,11 +15,11 @@ use scion_topology::{RouterView, Topology, TopologyFault};
 use std::alloc::{AllocError, Global};
 use std::marker::Model;
 
-/// A packet that is carried through a network, and the turns that it has had.
+/// A packet that is carried through a network, and the number of its turns.
 ///
-/// Its type keeps that, at some list of just as many moments, the turns of the network's routers
-/// lead from what was sent, as it departs, to its packet, its place and the hops that it has
-/// passed; and that these are at most 128 turns.
+/// An invariant of the type: what was sent, put at the start of its walk, becomes this packet, with
+/// its place and the hops that it has passed, by one turn at each of some list of seconds. That
+/// list is as long as the number of turns, which is at most 128.
 #[derive(Drop)]
 pub struct Flight<'a> {
     fabric: &'a Topology,
@@ -65,11 +65,10 @@ impl<'a> Model for Flight<'a> {
 }
 
 impl<'a> Flight<'a> {
-    /// What was sent, as it departs in this network: at the router that owns the way out of its
-    /// first AS, with no turn had. Refused with [`TopologyFault::UnknownAs`] if the network
-    /// lacks that AS, and with [`TopologyFault::NoLink`] if the AS lacks that interface. It
-    /// makes one growth, for the packet's bytes; the room for the hops that it will pass is its
-    /// own.
+    /// The flight of what was sent in this network, at the router that owns the first way out of
+    /// its walk, without any turns. [`TopologyFault::UnknownAs`] if the network has no such AS, and
+    /// [`TopologyFault::NoLink`] if the AS has no such interface. It allocates once, for the
+    /// packet's bytes; the room for the passed hops is part of the flight.
     pub fn new(
         alloc: Global,
         fabric: &'a Topology,
@@ -103,7 +102,7 @@ impl<'a> Flight<'a> {
         })
     }
 
-    /// A copy of the flight, with bytes of its own; or memory runs out.
+    /// A copy of the flight that owns its bytes, unless memory runs out.
     pub fn try_clone(&self, alloc: Global) -> Result<Flight<'a>, AllocError>
         ensures { IfOk result (λ copy. copy ≡ self.now) }
     {
@@ -119,9 +118,9 @@ impl<'a> Flight<'a> {
         })
     }
 
-    /// One turn at the second `now`, under the view of the router at which the flight stands: the
-    /// router's step over its own bytes, after which it is at the next router, delivered, or
-    /// refused. It takes no memory.
+    /// One turn at the second `now`, with the view of the router that has the flight: the router
+    /// makes its step on the flight's own bytes. After it the flight is at the next router,
+    /// delivered, or refused. It takes no memory.
     pub fn advance(self, view: &RouterView<'_>, now: u32) -> Flight<'a>
         requires { IsViewAt self.fabric self.packet.place view.now }
         ensures { result ≡ advanced now self.entry }
@@ -133,7 +132,7 @@ impl<'a> Flight<'a> {
         flight
     }
 
-    /// The same where the flight stands, under the view that the network has of its place.
+    /// One turn in place, with the network's view of the router that has the flight.
     pub(crate) fn turn(&mut self, now: u32)
         requires { IsAtRouter self.old.packet.place }
         ensures { self.new ≡ advanced now self.old }
@@ -143,7 +142,7 @@ impl<'a> Flight<'a> {
         self.turns += 1;
     }
 
-    /// The view that its network has of the router at which it stands; none where it is at none.
+    /// The network's view of the router that has the flight; none if it is at no router.
     pub fn view(&self) -> Option<RouterView<'a>>
         ensures at { IfSome result (λ view. IsViewAt self.now.fabric self.now.packet.place view) }
         ensures none { result ≡ None → IsAtNoRouter self.now.packet }
@@ -172,7 +171,7 @@ impl<'a> Flight<'a> {
         self.transit.place()
     }
 
-    /// The turns that it has had, at most 128.
+    /// The number of its turns, at most 128.
     pub fn turns(&self) -> u32
         ensures value { result ≡ self.now.turns }
         ensures few { result ≤ 128 }
@@ -180,7 +179,7 @@ impl<'a> Flight<'a> {
         self.turns
     }
 
-    /// The hops that it has passed, in order, of which the first 64 are kept.
+    /// The hops that it has passed, in order; only the first 64 are kept.
     pub fn passed(&self) -> &[WalkHop]
         ensures value { result.now ≡ self.now.packet.passed }
         ensures few { length result.now ≤ 64 }
@@ -188,7 +187,7 @@ impl<'a> Flight<'a> {
         self.transit.passed()
     }
 
-    /// Does nothing; its contract tells the caller what every flight keeps.
+    /// Does nothing; its contract tells the caller the rules of every flight.
     pub fn known(&self)
         ensures { IsFlight self.now }
     {

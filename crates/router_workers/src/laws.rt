@@ -11,11 +11,10 @@ ghost use Rattle.router_workers.specs.Flight.{SentPacket, FlightValue, IsFlight,
 ghost use Rattle.router_workers.specs.Delivery.{IsForwarded, IsSoundIn, IsSoundEnd};
 ghost use Rattle.router_workers.specs.Run.{IsReport};
 
-/// A flight that has had no turn, over pieces of segments that its network has made, under keys
-/// that are accepted and over links that are up, is after any list of moments at which its path is
-/// live refused by no router, has passed the beginning of its walk, and is delivered exactly once
-/// it has had its turns, with its whole walk passed; and no later than after two turns for each of
-/// its hop fields.
+/// A flight without any turns, on pieces that its network issued under keys that are accepted and
+/// over links that are up. After turns at any seconds at which its path is live, no router has
+/// refused it, and it has passed the beginning of its walk. It is delivered if and only if it has
+/// had all its turns, with its whole walk passed. Two turns for each of its hop fields are enough.
 pub fn sound_flights_are_delivered()
     ensures { (n : Network) (sent : SentPacket) (start : Packet) (moments : List ℕ)
         → IsFlight (grounded n sent start) → IsSoundIn n sent
@@ -24,8 +23,8 @@ pub fn sound_flights_are_delivered()
         (after n start moments) }
 {}
 
-/// A run refuses no such flight at a second at which its path is live: the report says that it was
-/// delivered after exactly its turns, or dropped before.
+/// A run at a second at which the path of such a flight is live refuses it nowhere. The report says
+/// that it was delivered after exactly its turns, or dropped before.
 pub fn sound_flights_are_reported()
     ensures { (flights : List FlightValue) (now slots i : ℕ) (ends : List End) (n : Network)
         (sent : SentPacket) (start : Packet) (end : End) → IsReport flights now slots ends

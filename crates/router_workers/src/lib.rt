@@ -1,10 +1,10 @@
 //! Flights, and the workers that carry them.
 //!
-//! A [`Flight`] is a packet that was sent in a network that does not change any more: each call of
-//! [`Flight::advance`] is one turn of the router at which it stands. [`run_workers`] carries many
-//! flights at one second on 1 to 8 running threads, each with an inbox, and reports of each flight
-//! exactly one end: where the turns of its routers leave it, whatever the schedule, or that there
-//! was no room for it in an inbox.
+//! A [`Flight`] is a packet that was sent in a network that no longer changes: each call of
+//! [`Flight::advance`] is one turn of the router that has it. [`run_workers`] carries many flights
+//! at one second on 1 to 8 running threads, each with an inbox. It reports exactly one end for each
+//! flight: that to which the turns of its routers lead, in any schedule, or that there was no room
+//! for it in an inbox.
 #![tactic(auto)]
 
 mod carried;

@@ -1,4 +1,4 @@
-//! The inboxes of a run, and who holds which passes of them.
+//! The inboxes of a run, and their passes.
 
 ghost use Rattle.std.specs.Prelude.{◌≡◌, ◌<◌, ◌≤◌, IfOk, length};
 ghost use Rattle.router_workers.specs.PassPairs.{ArePassPairs};
@@ -8,7 +8,7 @@ use crate::worker::Worker;
 use inbox::{Inbox, Receiver, ReceiverPass, Sender, SenderPass};
 use std::alloc::{AllocError, Global};
 
-/// The passes with which an inbox was made, before anybody holds them.
+/// The two passes of a new inbox.
 #[derive(Drop)]
 pub(crate) struct PassPair<T: Drop> {
     /// The inbox's number.
@@ -64,9 +64,9 @@ pub(crate) fn ends_of<'a, T: Drop>(
     Ok((first_senders, receivers))
 }
 
-/// The workers, by their numbers: each has its own inbox, and a way into every one.
-/// The ways by which the inboxes were filled are the first worker's; those of the others are split
-/// from them. Or memory runs out.
+/// The workers, by their numbers, unless memory runs out: each has its own inbox and a way into
+/// every inbox. The ways by which the inboxes were filled are the first worker's; those of the
+/// others are split off them.
 pub(crate) fn workers_of<'a, 'f, J: RunFacts>(
     alloc: Global,
     first_senders: Vec<Sender<'a, CarriedFlight<'f, J>>>,
@@ -96,7 +96,7 @@ pub(crate) fn workers_of<'a, 'f, J: RunFacts>(
     Ok(worker_list)
 }
 
-/// A further sender for each inbox, unless memory runs out.
+/// Another sender for each inbox, unless memory runs out.
 fn split_all<'a, T: Drop>(
     alloc: Global,
     first_senders: &mut Vec<Sender<'a, T>>,

@@ -1,11 +1,11 @@
-//! What a run reports.
+//! The report of a run.
 
 ghost use Rattle.std.specs.Prelude.{◌≡◌};
 
 use crate::end::End;
 use std::marker::Model;
 
-/// How the flights of a run ended: contracts see the list of their ends, in the order of the
+/// How the flights of a run ended. In contracts it is the list of their ends, in the order of the
 /// flights.
 #[derive(Drop)]
 pub struct Report {

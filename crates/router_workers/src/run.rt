@@ -19,18 +19,19 @@ use std::sync::{OnceLock, Wait};
 use std::thread;
 use std::thread::Threads;
 
-/// The most workers of a run.
+/// The largest number of workers of a run.
 const MOST_WORKERS: usize = 8;
 
-/// Carries flights at the second `now` through the network of `topology` on `workers` workers, each
-/// a thread with an inbox of `slots` places, and reports of each flight, in their order, how it
-/// ended and after how many turns: delivered, or refused by a router, after exactly as many as the
-/// network's routers take at that second; or dropped, since it found its next inbox full. What has
-/// ended before ends at once, with no turn. The flights that are given are lent, and stay as they
-/// are.
+/// Carries flights at the second `now` through the network of `topology`, on `workers` workers.
+/// Each worker is a thread with an inbox of `slots` places. The report says for each flight, in
+/// their order, how it ended. It was delivered, or refused by a router, after exactly the number of
+/// turns that the network's routers need at that second. Or it was dropped because its next inbox
+/// was full. A flight that has ended before has no turn. The given flights are borrowed, and stay
+/// as they are.
 ///
-/// [`RunFault::Workers`] if there are not 1 to 8 workers; [`RunFault::Memory`] if memory, or
-/// a thread, is not to be had. Then no worker has taken a flight: all that may fail comes before.
+/// [`RunFault::Workers`] if there are not 1 to 8 workers; [`RunFault::Memory`] if memory runs out
+/// or a thread can't be started. No worker has taken a flight then: everything that may fail comes
+/// before.
 pub fn run_workers<'f, R: Threads + Wait + Sync, G: Gate>(
     rt: &R,
     alloc: Global,
@@ -99,7 +100,7 @@ fn run_with<'f, J: RunFacts + Send + Sync, R: Threads + Wait + Sync, G: Gate>(
     })
 }
 
-/// A place for the end of each flight; or memory runs out.
+/// A place for the end of each flight, unless memory runs out.
 fn places_for<J: RunFacts>(
     alloc: Global,
     count: usize,
@@ -113,8 +114,8 @@ fn places_for<J: RunFacts>(
     Ok(places)
 }
 
-/// Settles the flights that have ended, and puts the others into the inboxes of their workers, in
-/// their order; or memory runs out.
+/// Records the flights that have ended, and puts the others into the inboxes of their workers, in
+/// their order, unless memory runs out.
 fn fill<'f, J: RunFacts, R: Wait, G: Gate>(
     rt: &R,
     alloc: Global,
@@ -133,8 +134,8 @@ fn fill<'f, J: RunFacts, R: Wait, G: Gate>(
     Ok(())
 }
 
-/// Starts a thread for each worker, and returns once all of them have ended. The workers begin when
-/// all threads are there; where one can't be made, none begins.
+/// Starts a thread for each worker, and returns when all of them have ended. The workers begin when
+/// all threads have started; if one can't be started, none begins.
 fn start<'f, J: RunFacts + Send + Sync, R: Threads + Wait + Sync, G: Gate>(
     rt: &R,
     state: &RunState<'_, J, G>,
@@ -157,8 +158,8 @@ fn start<'f, J: RunFacts + Send + Sync, R: Threads + Wait + Sync, G: Gate>(
     )
 }
 
-/// The ends of all flights, in their order, once they are noted. There is room for them, so nothing
-/// may fail any more.
+/// The ends of all flights, in their order, when they are recorded. The room for them was taken
+/// before, so nothing can fail here.
 fn collect<J: RunFacts, R: Wait>(
     rt: &R,
     places: &[OnceLock<FlightEnd<J>>],
@@ -176,7 +177,7 @@ fn collect<J: RunFacts, R: Wait>(
     ends
 }
 
-/// The end of the flight of this number, once it is noted.
+/// The end of the flight of this number, when it is recorded.
 fn end_of<J: RunFacts, R: Wait>(rt: &R, places: &[OnceLock<FlightEnd<J>>], number: usize) -> End
     requires { number < length places.now }
     ensures { IsEndOf J.flights J.now J.slots number result }

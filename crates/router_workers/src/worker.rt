@@ -1,4 +1,4 @@
-//! A worker at work: it takes flights from its inbox, gives each its turn, and passes it on.
+//! A worker: it takes flights from its inbox, makes the turn of each, and passes it on.
 
 ghost use Rattle.std.specs.Prelude.{◌≡◌, ◌<◌, ◌%◌, ◌+◌, true, length, IfOk, IfSome, IsOk, Some, None, MatchResult};
 ghost use Rattle.scion_topology.specs.Topology.{info_in};
@@ -14,16 +14,16 @@ use std::sync::atomic::{AtomicBool, AtomicUsize, Ordering};
 use std::sync::{OnceLock, Wait};
 use std::thread;
 
-/// What is called round each turn of a run, with the number of the worker, from 0.
+/// Called before and after each turn of a run, with the number of the worker, from 0.
 pub trait Gate: Sync {
-    /// Right before a turn.
+    /// Called right before a turn.
     fn enter(&self, worker: usize);
 
-    /// Right after it.
+    /// Called right after a turn.
     fn leave(&self, worker: usize);
 }
 
-/// The gate through which everybody passes.
+/// The gate that does nothing.
 #[derive(Clone, Copy, Debug)]
 pub struct OpenGate;
 
@@ -38,14 +38,15 @@ impl Gate for OpenGate {
 pub(crate) struct RunState<'d, J: RunFacts, G> {
     /// A place for the end of each flight, by its number.
     pub(crate) ends: &'d [OnceLock<FlightEnd<J>>],
-    /// How many flights have not ended. No promise rests on it: it ends the workers' loops.
+    /// The number of flights that have not ended. No clause depends on it: it ends the workers'
+    /// loops.
     pub(crate) left: &'d AtomicUsize,
     /// Whether the workers may begin.
     pub(crate) begun: &'d AtomicBool,
     pub(crate) gate: &'d G,
     pub(crate) topology: &'d Topology,
     pub(crate) now: u32,
-    /// Whether more flights were given than an inbox has places.
+    /// Whether more flights were given than an inbox has places, so that an inbox may be full.
     pub(crate) crowded: bool,
     ghost now_is: { now ≡ J.now },
     ghost crowd: { crowded ≡ true → J.slots < length J.flights },
@@ -60,8 +61,8 @@ pub(crate) struct Worker<'a, 'f, J: RunFacts> {
     ghost some: { 0 < length senders.items },
 }
 
-/// The worker that carries a flight while it stands at this router: the place of its AS in the
-/// topology plus the router's number, modulo the number of workers.
+/// The worker for flights at this router: the place of its AS in the topology plus the router's
+/// number, modulo the number of workers.
 pub fn worker_of(topology: &Topology, ia: IsdAs, router: u8, workers: usize) -> usize
     requires listed { IsOk (info_in topology.now ia) }
     requires some { 0 < workers }
@@ -75,7 +76,7 @@ pub fn worker_of(topology: &Topology, ia: IsdAs, router: u8, workers: usize) -> 
     }
 }
 
-/// The same, where the topology lists the AS; else nothing. It looks the AS up once.
+/// As `worker_of`, or nothing if the topology does not list the AS. It looks the AS up once.
 fn carrier(topology: &Topology, ia: IsdAs, router: u8, workers: usize) -> Option<usize>
     requires { 0 < workers }
     ensures value { MatchResult (info_in topology.now ia)
@@ -98,9 +99,9 @@ pub(crate) fn settle<J: RunFacts, G: Gate>(state: &RunState<'_, J, G>, done: Fli
     state.left.fetch_sub(1, Ordering::SeqCst);
 }
 
-/// Passes a flight on to the inbox of `next`, the worker to whose router it has come. Where that is
-/// full, the flight is dropped if more were given than an inbox has places; else it is tried again.
-/// No other inbox is touched.
+/// Passes a flight on to the inbox of `next`, the worker for its router. If that inbox is full, the
+/// flight is dropped if more flights were given than an inbox has places, and is tried again if
+/// not. No other inbox is used.
 pub(crate) fn pass_on<'f, J: RunFacts, R: Wait, G: Gate>(
     rt: &R,
     state: &RunState<'_, J, G>,
@@ -116,8 +117,8 @@ pub(crate) fn pass_on<'f, J: RunFacts, R: Wait, G: Gate>(
     push_or_drop(rt, state, &mut senders[next], carried);
 }
 
-/// Puts a flight into an inbox by this way. Where the inbox is full, the flight is dropped if more
-/// were given than an inbox has places; else it is tried again.
+/// Puts a flight into an inbox by this way. If the inbox is full, the flight is dropped if more
+/// flights were given than an inbox has places, and is tried again if not.
 fn push_or_drop<'f, J: RunFacts, R: Wait, G: Gate>(
     rt: &R,
     state: &RunState<'_, J, G>,
@@ -143,7 +144,7 @@ fn push_or_drop<'f, J: RunFacts, R: Wait, G: Gate>(
     }
 }
 
-/// The worker to whose router a flight has come.
+/// The worker for the router that has a flight.
 fn next_worker(topology: &Topology, place: PacketLocation, workers: usize) -> usize
     requires { 0 < workers }
     ensures value { IsNext topology.now workers place result }
@@ -158,7 +159,7 @@ fn next_worker(topology: &Topology, place: PacketLocation, workers: usize) -> us
     }
 }
 
-/// Records the end of a flight that has ended, and passes any other on.
+/// Records the end of a flight that has ended, and passes any other flight on.
 pub(crate) fn send_on<'f, J: RunFacts, R: Wait, G: Gate>(
     rt: &R,
     state: &RunState<'_, J, G>,
@@ -176,7 +177,7 @@ pub(crate) fn send_on<'f, J: RunFacts, R: Wait, G: Gate>(
     }
 }
 
-/// Takes flights until all have ended.
+/// Takes flights until all flights have ended.
 pub(crate) fn work<'f, J: RunFacts, R: Wait, G: Gate>(
     rt: &R,
     state: &RunState<'_, J, G>,
@@ -197,8 +198,8 @@ pub(crate) fn work<'f, J: RunFacts, R: Wait, G: Gate>(
     }
 }
 
-/// Takes flights until the inbox has none. The count of those that are left is not looked at, since
-/// each end of a flight changes it, and each look would wait for that.
+/// Takes flights until the inbox is empty. It does not read the number of flights left: each end of
+/// a flight changes it, and each read would wait for that.
 fn empty<'f, J: RunFacts, R: Wait, G: Gate>(
     rt: &R,
     state: &RunState<'_, J, G>,
@@ -226,9 +227,9 @@ fn wait_for_beginning<R: Wait>(rt: &R, begun: &AtomicBool) {
     }
 }
 
-/// Carries a flight that the worker of this number took from its inbox. Where it stands at a router
-/// of this worker it has one turn, and is then settled or passed on, to this worker's own inbox
-/// too; any other is settled or passed on at once.
+/// Carries a flight that the worker of this number took from its inbox. If it is at a router of
+/// this worker, it has one turn, and is then recorded or passed on, possibly to this worker's own
+/// inbox. Any other flight is recorded or passed on at once.
 fn carry<'f, J: RunFacts, R: Wait, G: Gate>(
     rt: &R,
     state: &RunState<'_, J, G>,
@@ -252,8 +253,8 @@ fn carry<'f, J: RunFacts, R: Wait, G: Gate>(
     }
 }
 
-/// One turn of a flight, through the gate, by the worker to whose router it has come: that of this
-/// number among all workers.
+/// One turn of a flight, through the gate, by the worker of this number, which is the one for the
+/// flight's router.
 fn turn<'f, J: RunFacts, G: Gate>(
     state: &RunState<'_, J, G>,
     number: usize,

@@ -1,4 +1,4 @@
--- What the writer of a board has at hand.
+-- The state of a board's writer.
 use Rattle.std.specs.Prelude.{List, [], ◌∷◌, drop}
 use Rattle.path_server.specs.declared.op.StoreOp.{StoreOp}
 use Rattle.segment_board.specs.declared.edition.Edition.{Edition}
@@ -8,7 +8,7 @@ use Rattle.segment_board.specs.declared.board_state.BoardOp.{BoardOp}
 use Rattle.segment_board.specs.declared.board_state.BoardOp.TheVariants.{Apply, Mark}
 use Rattle.left_right.specs.declared.writer.Writer.{Writer}
 
--- the operations of the store among these
+-- the operations on the store among these
 abbrev pub operations_of : List BoardOp → List StoreOp
 operations_of [] = []
 operations_of (Apply op ∷ ops) = op ∷ operations_of ops
@@ -21,10 +21,10 @@ module _ {V P A S : Type 0} {g : _} where
   abbrev pub shown_of : Writer BoardValue BoardOp V P A S g → BoardValue
   shown_of w = w.desk.shown.value
 
-  -- the edition that readers find now
+  -- the edition that readers see now
   abbrev pub edition_of : Writer BoardValue BoardOp V P A S g → Edition
   edition_of w = newest (shown_of w).front.log
 
-  -- the edition that is to be published next
+  -- the edition that is published next
   abbrev pub awaited : Writer BoardValue BoardOp V P A S g → Edition
   awaited w = edition_after (edition_of w) (operations_of (queue_of w))

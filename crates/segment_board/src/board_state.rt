@@ -1,4 +1,4 @@
-//! What lies on the board: a store, and the front of the history whose newest list made it.
+//! The state of a board: a store, and the part of the history whose newest edition made it.
 
 ghost use Rattle.std.specs.Prelude.{◌≡◌};
 
@@ -12,7 +12,7 @@ use path_server::{PathStore, StoreOp};
 use std::alloc::{AllocError, Global};
 use std::marker::Model;
 
-/// A store, and the front of the history that it belongs to.
+/// A store, and the part of the board's history to which it belongs.
 #[derive(Drop)]
 pub(crate) struct BoardState {
     pub(crate) alloc: Global,
@@ -28,12 +28,12 @@ impl Model for BoardState {
     ghost view = { λ s. record { store = s.store; front = s.front } };
 }
 
-/// What the two copies on a board take in.
+/// An operation on the two copies of a board's state.
 #[derive(Drop)]
 pub(crate) enum BoardOp {
-    /// An operation of the store.
+    /// An operation on the store.
     Apply(StoreOp),
-    /// The front at the end of what is published at once.
+    /// The history at the end of the operations that are published at one step.
     Mark(HistoryPrefix),
 }
 
@@ -57,9 +57,9 @@ impl Absorb<BoardOp> for BoardState {
     }
 }
 
-/// The rule of the board: the store that lies there is the one that the published operations make,
-/// and they begin with what each thread saw there, at the same edition or at an earlier one. Five
-/// kinds of step keep it: publishing, entering, telling, learning, and giving a reader its place.
+/// The rule of the board. Its store is the one that the published operations make. These begin with
+/// what each thread saw there, at the same edition or at an earlier one. Five kinds of step keep
+/// the rule: publishing, entering, telling, learning, and giving a reader its place.
 pub(crate) struct Published;
 
 impl Protocol<BoardState, Option<HistoryPrefix>> for Published {
@@ -71,7 +71,7 @@ impl Protocol<BoardState, Option<HistoryPrefix>> for Published {
     ghost first = { None };
 }
 
-/// What publishing tells the writer: it has seen all that is published.
+/// What publishing shows to the writer: it has seen all that is published.
 pub(crate) struct Publishes;
 
 impl Outcome<BoardState, Option<HistoryPrefix>> for Publishes {
@@ -80,7 +80,7 @@ impl Outcome<BoardState, Option<HistoryPrefix>> for Publishes {
     ghost then = { λ v x y w. w ≡ Some y.front };
 }
 
-/// What entering tells a reader: it has seen all that is published, which goes on from what it had
+/// What entering shows to a reader: it has seen all that is published, which continues what it had
 /// seen.
 pub(crate) struct Enters;
 
@@ -98,7 +98,7 @@ pub(crate) type StoreWriter = Writer<BoardState, BoardOp, Option<HistoryPrefix>,
 /// A reader's place at the two copies.
 pub(crate) type StoreReader = Reader<BoardState, Option<HistoryPrefix>, Published>;
 
-/// The writer tells which board it is, and knows it still.
+/// The writer names its board, and knows it from then on.
 pub(crate) struct Tells;
 
 impl Split<Option<HistoryPrefix>> for Tells {
@@ -109,7 +109,7 @@ impl Split<Option<HistoryPrefix>> for Tells {
     ghost right = { begun_as };
 }
 
-/// A reader learns which board it is at.
+/// A reader is told at which board it is.
 pub(crate) struct Learns;
 
 impl Join<Option<HistoryPrefix>> for Learns {

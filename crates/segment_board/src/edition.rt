@@ -1,10 +1,10 @@
-//! An edition of a board. It stands in contracts alone: no value of it is made.
+//! An edition of a board. It occurs only in contracts: the code makes no value of it.
 
 use path_server::StoreOp;
 
-/// What is published at one step: which edition it is, counted from the opening one, which is empty
-/// and has number 0, and all operations that are published with it. A contract reads the array as a
-/// list of any length, and the number as any number.
+/// The state of what is published after one publishing step: the number of the edition, and all
+/// operations published with it. The opening edition has number 0 and no operations. In contracts
+/// the array is a list of any length, and the number has no largest value.
 pub struct Edition {
     number: u64,
     operations: [StoreOp; 0],

@@ -4,7 +4,7 @@ ghost use Rattle.segment_board.specs.Fault.{code_of, name_of};
 use refusal::OrMemory;
 use thiserror::Error;
 
-/// Why a board gives no reader, or a reader no segments.
+/// Why a board gave no reader, or a reader no segments.
 #[derive(Clone, Copy, Debug, PartialEq, Eq, Error)]
 pub enum BoardFault {
     /// No place for a reader is free.
@@ -37,5 +37,5 @@ impl BoardFault {
     }
 }
 
-/// Why a look-up gives nothing: running out of memory, or a refusal.
+/// Why a lookup returned nothing: memory ran out, or a refusal.
 pub type LookupError = OrMemory<BoardFault>;

@@ -1,5 +1,5 @@
-//! The history of a board: the editions that were made ready for publishing, one after another. It
-//! stands in contracts alone; a board keeps its length.
+//! The history of a board: the editions that were prepared for publishing, one after another. It
+//! occurs only in contracts; a board stores its length.
 
 ghost use Rattle.std.specs.Prelude.{◌≡◌, ◌+◌, ◌^◌, ◌<◌, [], ◌∷◌, ◌++◌, length, MatchBool};
 ghost use mathlib.Core.List.{IsPrefix};
@@ -11,10 +11,10 @@ use crate::edition::Edition;
 use logbook::{Gain, Offer, Plain, Play, Rule, Seen, Start, Word};
 use std::marker::Model;
 
-/// The word whose number is the length of the history.
+/// The word that holds the length of the history.
 pub(crate) type Head = Word<Edition, u64, AppendOnly>;
 
-/// The rule of the history: the operations of each edition begin those of the next.
+/// The rule of the history: each edition begins with the operations of the one before.
 pub struct AppendOnly;
 
 impl Rule<Edition, u64> for AppendOnly {
@@ -35,7 +35,7 @@ impl Rule<Edition, u64> for AppendOnly {
     ghost moves = { λ ask before after answer. Unit {0} };
 }
 
-/// Nobody trades anything for a step.
+/// No step gives anything in exchange.
 struct Nothing;
 
 impl Gain<Edition, u64> for Nothing {
@@ -44,7 +44,7 @@ impl Gain<Edition, u64> for Nothing {
     ghost after = { λ names about answer. ftrue };
 }
 
-/// The step that adds the edition which the writer is about to publish.
+/// The step that adds the edition that the writer is about to publish.
 struct Adds;
 
 impl Play<Edition, u64> for Adds {
@@ -62,7 +62,7 @@ impl Plain<StoreWriter, Edition, u64> for Adds {
     ghost state = { λ writer. None };
 }
 
-/// A beginning of the history that was seen.
+/// The beginning of the history that was seen.
 #[derive(Drop)]
 pub(crate) struct HistoryPrefix {
     count: u64,
@@ -91,7 +91,7 @@ impl HistoryPrefix {
         (head, HistoryPrefix { count: 1, seen })
     }
 
-    /// A copy.
+    /// A copy of this beginning.
     pub(crate) fn again(&self) -> HistoryPrefix
         ensures same { result ≡ self.now }
         ensures rises { Rises result.log }
@@ -102,7 +102,7 @@ impl HistoryPrefix {
         }
     }
 
-    /// Whether at least as much was seen here as there.
+    /// Whether at least as much of the history was seen here as there.
     pub(crate) fn reaches(&self, other: &HistoryPrefix) -> bool
         requires { other.now.board ≡ self.now.board }
         ensures order { MatchBool result (IsPrefix other.now.log self.now.log)
@@ -114,7 +114,7 @@ impl HistoryPrefix {
         other.count <= self.count
     }
 
-    /// Adds the edition that the writer is about to publish, and says whether it did. It does where
+    /// Adds the edition that the writer is about to publish, and returns whether it did. It does if
     /// the whole history was seen here.
     pub(crate) fn grow(&mut self, head: &Head, writer: &StoreWriter) -> bool
         requires head { head.now ≡ head_of self.old.board }
@@ -150,7 +150,8 @@ impl HistoryPrefix {
     }
 }
 
-/// What was published when the writer told it. A reader that learns it sees no less from then on.
+/// What was published when the writer made this. A reader that learns it sees at least as much from
+/// then on.
 #[derive(Drop)]
 pub struct Told {
     pub(crate) front: HistoryPrefix,

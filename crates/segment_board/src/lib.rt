@@ -1,10 +1,10 @@
-//! A published board of path segments: one writer publishes what was registered and swept, and
-//! readers look segments up without waiting for anybody.
+//! A published board of path segments: one writer publishes registrations and sweeps, and readers
+//! look segments up without waiting for anybody.
 //!
-//! [`new_board`] gives the [`BoardWriter`], and the writer its [`BoardReader`]s. What is published
-//! is seen at one step, whole or not at all. What a reader has seen it never loses: each of its
-//! look-ups is answered from the store that some published operations made, which begin with all
-//! that it had seen or learnt.
+//! [`new_board`] returns the [`BoardWriter`], and the writer gives out its [`BoardReader`]s. A
+//! publication is seen at one step, whole or not at all. A reader never loses what it has seen:
+//! each of its lookups is answered from a store that some published operations made, and these
+//! begin with all that it had seen or learnt.
 #![tactic(auto)]
 
 mod board_state;

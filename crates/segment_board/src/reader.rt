@@ -18,7 +18,7 @@ use refusal::OrMemory;
 use std::alloc::{AllocError, Global};
 use std::marker::Model;
 
-/// A reader of a board: contracts see which board it is, the operations that it has seen, and those
+/// A reader of a board. In contracts it is its board, the operations that it has seen, and those
 /// that it was told.
 #[derive(Drop)]
 pub struct BoardReader {
@@ -44,7 +44,7 @@ impl Model for BoardReader {
     ghost invariant = { λ r. HasSeen (view_of r.place.place) r.front r.told };
 }
 
-/// What is asked of the store that a reader finds.
+/// A lookup in the store that a reader finds.
 #[derive(Clone, Copy)]
 struct StoreQuery {
     alloc: Global,
@@ -53,8 +53,7 @@ struct StoreQuery {
     now: u32,
 }
 
-/// Enters, looks the segments up in what lies on the board, and leaves. Nothing where the reader
-/// could not enter.
+/// Enters the board, looks the segments up, and leaves. `None` if the reader could not enter.
 fn look(
     place: StoreReader,
     asked: StoreQuery,
@@ -82,14 +81,14 @@ fn look(
 }
 
 impl BoardReader {
-    /// Takes in what the writer of this reader's board told. From now on this reader sees no less.
-    /// Takes no memory.
+    /// Learns what the writer of this reader's board has published. From now on this reader sees at
+    /// least as much. Takes no memory.
     pub fn learn(&mut self, told: Told)
         requires board { told.board ≡ self.old.board }
         ensures board { self.new.board ≡ self.old.board }
         ensures seen { IsPrefix self.old.seen self.new.seen }
         ensures told { IsPrefix told.seen self.new.seen }
-        // It makes nothing up: nothing is new, or what was told.
+        // Nothing is invented: either nothing is new, or what was told is.
         ensures either { (self.new ≡ self.old)
             ⊎ (self.new ≡ record self.old { seen = told.seen; told = told.seen }) }
     {
@@ -100,12 +99,12 @@ impl BoardReader {
     }
 
     /// Copies of the segments of which paths from `src` to `dst` can be made at the second `now`,
-    /// in the store that some published operations made. These begin with all that this reader had
-    /// seen or learnt, and it has seen them then, after running out of memory too. Waits for
-    /// nobody.
+    /// from a store that some published operations made. These operations begin with all that this
+    /// reader had seen or learnt; it has seen them after the call, also if memory runs out. Waits
+    /// for nobody.
     ///
-    /// [`BoardFault::NoEntry`] if the reader could not enter the board, and then it has seen what
-    /// it had; the caller may ask again.
+    /// [`BoardFault::NoEntry`] if the reader could not enter the board. It has seen nothing more
+    /// then, and the caller may try again.
     pub fn lookup(
         &mut self,
         alloc: Global,

@@ -20,8 +20,8 @@ use std::alloc::{AllocError, AllocFailed, Global};
 use std::marker::Model;
 use std::sync::Wait;
 
-/// The writer of a board: contracts see which board it is, how many editions were published there,
-/// the operations that are published, and those that are pending. [`BoardWriter::close`] ends it.
+/// The writer of a board. In contracts it is its board, the number of editions published there, the
+/// operations that are published, and those that are pending. [`BoardWriter::close`] ends it.
 pub struct BoardWriter {
     writer: StoreWriter,
     head: Head,
@@ -46,7 +46,7 @@ impl Model for BoardWriter {
     ghost invariant = { λ b. IsInOrder b.writer b.head b.root b.latest };
 }
 
-/// Shows readers what is pending.
+/// Shows the pending operations to readers.
 fn show<R: Wait>(writer: StoreWriter, rt: &R) -> (StoreWriter, Result<(), AllocError>)
     requires { IsReady (shown_of writer) (queue_of writer) }
     ensures { MatchResult result.1
@@ -58,7 +58,7 @@ fn show<R: Wait>(writer: StoreWriter, rt: &R) -> (StoreWriter, Result<(), AllocE
     writer.publish_as::<Publishes, R>(rt)
 }
 
-/// Adds an operation to what is pending. It comes back where memory runs out.
+/// Adds an operation to those that are pending. It is returned if memory runs out.
 fn add(writer: &mut StoreWriter, op: StoreOp) -> Result<(), StoreOp>
     ensures desk { writer.new.desk ≡ writer.old.desk }
     ensures queue { MatchResult result
@@ -72,7 +72,8 @@ fn add(writer: &mut StoreWriter, op: StoreOp) -> Result<(), StoreOp>
     }
 }
 
-/// Adds the mark at the end of what is to be published, and says whether there was memory for it.
+/// Adds the history at the end of the operations to be published, and returns whether there was
+/// memory for it.
 fn mark(writer: &mut StoreWriter, front: HistoryPrefix) -> bool
     ensures desk { writer.new.desk ≡ writer.old.desk }
     ensures queue { MatchBool result
@@ -82,8 +83,8 @@ fn mark(writer: &mut StoreWriter, front: HistoryPrefix) -> bool
     writer.append(BoardOp::Mark(front)).is_ok()
 }
 
-/// A board of an empty store, with room for 1 to 8 readers at once. Waits for nobody, since no
-/// reader is there.
+/// A board with an empty store and room for 1 to 8 readers at once. Waits for nobody, since there
+/// is no reader yet.
 pub fn new_board<R: Wait>(rt: &R, alloc: Global, readers: usize) -> Result<BoardWriter, AllocError>
     requires some { 0 < readers }
     requires few { readers ≤ 8 }
@@ -119,7 +120,7 @@ pub fn new_board<R: Wait>(rt: &R, alloc: Global, readers: usize) -> Result<Board
 impl BoardWriter {
     /// A reader that has seen nothing.
     ///
-    /// [`BoardFault::NoPlace`] if no place was given; the caller may ask again.
+    /// [`BoardFault::NoPlace`] if no place is free; the caller may try again.
     pub fn reader(&mut self) -> Result<BoardReader, BoardFault>
         ensures same { self.new ≡ self.old }
         ensures reader { IfOk result
@@ -137,8 +138,8 @@ impl BoardWriter {
         })
     }
 
-    /// Adds the registration of a segment at the second `now` to what is pending. The segment comes
-    /// back where memory runs out.
+    /// Adds the registration of a segment at the second `now` to the pending operations. The
+    /// segment is returned if memory runs out.
     pub fn register(&mut self, segment: Segment, now: u32) -> Result<(), AllocFailed<Segment>>
         ensures done { OnOk result (self.new
             ≡ record self.old { pending = self.old.pending ++ Register segment now ∷ [] }) }
@@ -153,7 +154,7 @@ impl BoardWriter {
         }
     }
 
-    /// Adds a sweep at the second `now` to what is pending.
+    /// Adds a sweep at the second `now` to the pending operations.
     pub fn sweep(&mut self, now: u32) -> Result<(), AllocError>
         ensures done { OnOk result (self.new
             ≡ record self.old { pending = self.old.pending ++ Sweep now ∷ [] }) }
@@ -165,10 +166,10 @@ impl BoardWriter {
         Err(AllocError)
     }
 
-    /// Publishes all that is pending, at one step: as the next edition. It may wait for readers
+    /// Publishes all pending operations at one step, as the next edition. It may wait for readers
     /// that are inside.
     ///
-    /// After running out of memory all is pending that was, and a later call publishes it.
+    /// If memory runs out, all operations are still pending, and a later call publishes them.
     pub fn publish<R: Wait>(&mut self, rt: &R) -> Result<(), AllocError>
         ensures done { OnOk result (self.new ≡ record self.old {
           edition = self.old.edition + 1;
@@ -189,7 +190,7 @@ impl BoardWriter {
         replace_with(&mut self.writer, rt, show)
     }
 
-    /// What is published, for a reader of this board to learn. Takes no memory.
+    /// What is published now, for a reader of this board to learn. Takes no memory.
     pub fn tell(&self) -> Told
         ensures board { result.board ≡ self.now.board }
         ensures seen { result.seen ≡ self.now.published }

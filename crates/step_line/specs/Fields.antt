@@ -1,4 +1,4 @@
--- The values of `scionet step`'s options, as their texts write them.
+-- The values of `scionet step`'s options, from their texts.
 use Rattle.std.specs.Prelude.{ℕ, ◌&&◌, nat_lt, nat_le, Bool, true, false, if◌then◌else◌, codes, List, [], ◌∷◌, length, Option, Some, None}
 use Rattle.std.specs.Str.{bytes_eq}
 use Rattle.std.specs.Str.Parse.{digits_value}
@@ -16,7 +16,7 @@ use Rattle.router_step.specs.declared.arrival.Arrival.TheVariants.{FromHost, Ins
 abbrev pub is_decimal : List ℕ → Bool
 is_decimal text = nat_lt 0 (length text) && all_digits 10 text
 
--- a number from low to high, in decimal digits
+-- a number from `low` to `high`, in decimal digits
 unfoldable pub number_at : ℕ → ℕ → List ℕ → Option ℕ
 number_at low high text =
     if is_decimal text && (nat_le low (digits_value 10 text) && nat_le (digits_value 10 text) high)
@@ -30,7 +30,7 @@ bytes_of text = only (decode_of text)
 abbrev pub ia_at : List ℕ → Option ℕ
 ia_at text = only (address_at text)
 
--- how the packet came: `host`, `inside`, or the number of the interface by which it came in
+-- how the packet came: `host`, `inside`, or the number of the interface
 unfoldable pub arrival_at : List ℕ → Option Arrival
 arrival_at text =
     if bytes_eq text (codes "host") then Some FromHost
@@ -43,7 +43,7 @@ arrival_at text =
 abbrev pub comma : ℕ
 comma = 44
 
--- what the AS at the far end of a link is
+-- the kind of a link: what the AS at its far end is
 unfoldable pub kind_at : List ℕ → Option LinkKind
 kind_at text =
     if bytes_eq text (codes "core") then Some Core
@@ -70,7 +70,7 @@ interface_at text = do
   up ← state_at third.1
   Some (record { number = number; kind = kind; router = router; up = up })
 
--- each interface of the table
+-- the interfaces of these texts
 unfoldable pub interfaces_at : List (List ℕ) → Option (List IfEntry)
 interfaces_at [] = Some []
 interfaces_at (text ∷ texts) = do

@@ -1,4 +1,4 @@
--- The line that `scionet step` prints of a packet.
+-- The line that `scionet step` prints for a packet.
 use Rattle.std.specs.Prelude.{ℕ, codes, List, ◌++◌, Option, option_map, Result, Ok, Err}
 use Rattle.std.specs.Fmt.{decimal}
 use Rattle.separators.specs.Blanks.{trimmed}
@@ -13,17 +13,18 @@ use Rattle.router_step.specs.Packet.{packet_step}
 use Rattle.step_line.specs.Fields.{bytes_of}
 use Rattle.step_line.specs.Turn.{Turn}
 
--- a code and a name behind a word: `WORD CODE Name`
+-- a word, a code and a name: `WORD CODE Name`
 abbrev pub coded : List ℕ → ℕ → List ℕ → List ℕ
 coded word code name = word ++ (codes " " ++ (decimal code ++ (codes " " ++ name)))
 
--- a refusal: `refused CODE Name`, and of a packet without a path header the header's code and name
+-- a refusal: `refused CODE Name`; for a packet without a path header, also the code and the name of
+-- the header's refusal
 abbrev pub refusal_text : Refusal → List ℕ
 refusal_text (BadHeader fault) =
     coded (codes "refused 90 BadHeader") (header.code_of fault) (header.name_of fault)
 refusal_text refusal = coded (codes "refused") (code_of refusal) (name_of refusal)
 
--- where the packet goes: `link IF HEX`, `router N HEX` or `deliver HEX`, with its bytes after the
+-- an outcome: `link IF HEX`, `router N HEX` or `deliver HEX`, with the packet's bytes after the
 -- step
 abbrev pub outcome_text : Outcome → List ℕ → List ℕ
 outcome_text (ToLink interface) packet = coded (codes "link") interface (encode_lower packet)
@@ -35,7 +36,7 @@ abbrev pub text_of : Result (Outcome × List ℕ) Refusal → List ℕ
 text_of (Ok stepped) = outcome_text stepped.0 stepped.1
 text_of (Err refusal) = refusal_text refusal
 
--- the line of the packet that this text writes in hexadecimal, with blanks at its ends
+-- the line for the packet whose bytes this text gives in hexadecimal; blanks around it are ignored
 unfoldable pub line_of : Turn → List ℕ → Option (List ℕ)
 line_of turn text =
     option_map (λ packet. text_of (packet_step turn.view turn.moment turn.arrival packet))

@@ -1,4 +1,4 @@
--- One router's turn, as the words of `scionet step` describe it.
+-- One router's turn, from the words of `scionet step`.
 use Rattle.std.specs.Prelude.{ℕ, List, Option, Some, None, option_map, Vec}
 use Rattle.scion_topology.specs.declared.entry.IfEntry.{IfEntry}
 use Rattle.scion_topology.specs.View.{View}
@@ -8,7 +8,7 @@ use Rattle.router_step.specs.declared.arrival.Arrival.{Arrival}
 use Rattle.refusal.specs.Optional.{◌>>=◌, only}
 use Rattle.step_line.specs.Fields.{ia_at, number_at, bytes_of, arrival_at, interfaces_at}
 
--- the texts of the options, and of the interfaces
+-- the texts of the options, and those of the interfaces
 pub record StepOptions : Type 0 where
   pub ia : List ℕ
   pub router : List ℕ
@@ -18,27 +18,27 @@ pub record StepOptions : Type 0 where
   pub from : List ℕ
   pub interfaces : List (List ℕ)
 
--- what the router knows of its AS, the second at which it works, and how the packet came to it
+-- a turn: the router's view, the second of its step, and how the packet came
 pub record Turn : Type 0 where
   pub view : View
   pub moment : ℕ
   pub arrival : Arrival
 
--- the turn of these parts, if they make a view
+-- the turn of these parts, if they are a view
 unfoldable pub turn_with : ℕ → ℕ → List ℕ → Option (List ℕ) → ℕ → Arrival → List IfEntry
     → Option Turn
 turn_with ia router key previous moment arrival table = do
   view ← only (view_of ia router key previous table)
   Some (record { view = view; moment = moment; arrival = arrival })
 
--- the key before, where one is given
+-- the key before, if there is one
 abbrev pub previous_of : Option (List ℕ) → Option (Option (List ℕ))
 previous_of None = Some None
 previous_of (Some text) = do
   key ← bytes_of text
   Some (Some key)
 
--- the turn that the texts describe, if each can be read and the parts make a view
+-- the turn of these texts, if all can be read and the parts are a view
 unfoldable pub turn_of : StepOptions → Option Turn
 turn_of texts = do
   ia ← ia_at texts.ia
@@ -50,11 +50,11 @@ turn_of texts = do
   table ← interfaces_at texts.interfaces
   turn_with ia router key previous moment arrival table
 
--- the bytes of a key that may be there
+-- the bytes of a key, if there is one
 abbrev pub items_of : {A : Type 0} → Option (Vec ℕ A) → Option (List ℕ)
 items_of key = option_map (λ v. v.items) key
 
--- the view that these parts show
+-- the view of these parts
 abbrev pub parts_seen : ℕ → ℕ → List ℕ → Option (List ℕ) → List IfEntry → View
 parts_seen ia router key previous table =
     record { ia = ia; router = router; keys = accepted key previous; table = table }

@@ -15,8 +15,8 @@ use separators::bytes::trim;
 use std::alloc::{AllocError, Global};
 use std::marker::Model;
 
-/// One router's turn, read from texts: what the router knows of its AS, the
-/// second at which it works, and how the packet came to it.
+/// One router's turn, read from texts: the router's view, the second of its step, and how the
+/// packet came to it.
 #[derive(Drop)]
 pub struct StepCommand {
     ia: IsdAs,
@@ -46,11 +46,10 @@ impl Model for StepCommand {
 }
 
 impl StepCommand {
-    /// The turn that the texts describe, or `None` if one can't be read or the parts make no
-    /// view.
-    #[tactic(auto, unfolding(crate::specs::Turn::turn_of))]
+    /// The turn of these texts, or `None` if one of them can't be read or the parts are no view.
     ///
     /// `AllocError` if memory runs out.
+    #[tactic(auto, unfolding(crate::specs::Turn::turn_of))]
     pub fn from_texts(
         alloc: Global,
         texts: StepArgs<'_, '_>,
@@ -81,7 +80,7 @@ impl StepCommand {
         Ok(StepCommand::of_parts(ia, router, key, previous, moment as u32, arrival, table))
     }
 
-    /// The turn of these parts, or `None` if they make no view.
+    /// The turn of these parts, or `None` if they are no view.
     #[tactic(auto, using(crate::proofs::Views::view_of_accepts, crate::proofs::Views::turn_with_accepted, crate::proofs::Views::turn_with_refused))]
     fn of_parts(
         ia: IsdAs,
@@ -109,7 +108,7 @@ impl StepCommand {
         })
     }
 
-    /// What the router knows of its AS. It takes no memory.
+    /// The router's view of its AS. It takes no memory.
     pub fn view(&self) -> RouterView<'_>
         ensures { result ≡ self.now.view }
     {
@@ -125,23 +124,23 @@ impl StepCommand {
         }
     }
 
-    /// The second at which the router works.
+    /// The second of the router's step.
     pub fn moment(&self) -> u32
         ensures { result ≡ self.now.moment }
     {
         self.moment
     }
 
-    /// How the packet came to it.
+    /// How the packet came to the router.
     pub fn arrival(&self) -> Arrival
         ensures { result ≡ self.now.arrival }
     {
         self.arrival
     }
 
-    /// The line, without its end, that the turn prints of the packet that the text writes in
-    /// hexadecimal, letters of either case, with spaces, tabs, CR and LF at both ends. The text
-    /// comes as bytes, which need not be UTF-8.
+    /// The line, without its end, that the turn prints for the packet that the text gives in
+    /// hexadecimal. Letters may be of either case; spaces, tabs, CR and LF around the digits are
+    /// ignored. The text need not be UTF-8.
     ///
     /// [`StepFault::PacketText`] if the text is not hexadecimal digits, two for each byte.
     #[tactic(auto, unfolding(crate::specs::Line::line_of))]
@@ -158,7 +157,7 @@ impl StepCommand {
     }
 }
 
-/// The key before, where one is given; `None` if its text is no hexadecimal.
+/// The key before, if one is given; `None` if its text is no hexadecimal.
 fn previous_key(alloc: Global, text: Option<&str>) -> Result<Option<Option<Vec<u8>>>, AllocError>
     ensures { IfOk result (λ o. option_map items_of o ≡ previous_of (option_copied text.entry)) }
 {
@@ -171,7 +170,7 @@ fn previous_key(alloc: Global, text: Option<&str>) -> Result<Option<Option<Vec<u
     }
 }
 
-/// The bytes of a key that may be there.
+/// The bytes of a key, if there is one.
 fn lent(key: &Option<Vec<u8>>) -> Option<&[u8]>
     ensures { option_copied result ≡ items_of key.now }
 {

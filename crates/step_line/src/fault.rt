@@ -4,7 +4,7 @@ ghost use Rattle.step_line.specs.declared.fault.StepFault.TheVariants.{Memory};
 use std::alloc::AllocError;
 use thiserror::Error;
 
-/// Why a turn gives no line.
+/// Why a turn returned no line.
 #[derive(Clone, Copy, Debug, PartialEq, Eq, Error)]
 pub enum StepFault {
     /// The packet's text is not hexadecimal digits, two for each byte.

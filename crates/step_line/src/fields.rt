@@ -1,4 +1,4 @@
-//! The values of the options, as their texts write them.
+//! The values of the options, from their texts.
 
 ghost use Rattle.std.specs.Prelude.{◌≡◌, ℕ, ◌≤◌, IfOk, IfSome, List, map, option_map};
 ghost use Rattle.isd_as.specs.Reading.{all_digits};
@@ -18,8 +18,8 @@ fn is_all_digits(text: &str) -> bool
     text.as_bytes().iter().all(|b| (*b as char).is_digit(10))
 }
 
-/// The number from `low` to `high` that the text writes in decimal digits, without a sign; `None`
-/// where it writes none.
+/// The number from `low` to `high` that the text is in decimal digits, without a sign; `None` if it
+/// is none.
 #[tactic(auto, unfolding(crate::specs::Fields::number_at))]
 pub fn number(text: &str, low: u64, high: u64) -> Option<u64>
     ensures value { result ≡ number_at low high text.now }
@@ -35,8 +35,8 @@ pub fn number(text: &str, low: u64, high: u64) -> Option<u64>
     }
 }
 
-/// The bytes that the text writes in hexadecimal, with letters of either case; `None` if it
-/// writes none.
+/// The bytes that the text is in hexadecimal, with letters of either case; `None` if it is no
+/// hexadecimal.
 pub fn bytes(alloc: Global, text: &[u8]) -> Result<Option<Vec<u8>>, AllocError>
     ensures { IfOk result (λ o. option_map (λ v. v.items) o ≡ bytes_of text.now) }
 {
@@ -62,7 +62,7 @@ pub(crate) fn arrival(text: &str) -> Option<Arrival>
     }
 }
 
-/// What the AS at the far end of a link is.
+/// The kind of a link: what the AS at its far end is.
 #[tactic(auto, unfolding(crate::specs::Fields::kind_at))]
 fn kind(text: &str) -> Option<LinkKind>
     ensures { result ≡ kind_at text.now }

@@ -1,7 +1,7 @@
-//! One turn of a router as text: what `scionet step` makes of its options and of a packet.
+//! One turn of a router as text: the result of `scionet step` for its options and a packet.
 //!
-//! Texts say what the router knows of its AS, the second at which it works and how the packet came
-//! to it. The packet comes as hexadecimal text, and the answer is one line.
+//! Texts give the router's view, the second of its step, and how the packet came to it. The packet
+//! comes as hexadecimal text, and the result is one line.
 #![tactic(auto)]
 
 mod command;

@@ -1,4 +1,4 @@
-//! The line that is printed of a packet.
+//! The line that is printed for a packet.
 
 ghost use Rattle.std.specs.Prelude.{◌≡◌, IfOk, reverse};
 ghost use Rattle.std.specs.String.{string_bytes};
@@ -7,7 +7,7 @@ ghost use Rattle.step_line.specs.Line.{outcome_text, refusal_text};
 use router_step::{Outcome, Refusal};
 use std::alloc::{AllocError, Global};
 
-/// The line of a packet that goes on or is delivered.
+/// The line of a packet that was not refused.
 pub(crate) fn outcome_line(
     alloc: Global,
     outcome: Outcome,
@@ -23,7 +23,7 @@ pub(crate) fn outcome_line(
     }
 }
 
-/// The line, without its end, of a packet that is refused.
+/// The line of a packet that was refused, without its end.
 pub fn refusal_line(alloc: Global, refusal: Refusal) -> Result<String, AllocError>
     ensures { IfOk result (λ line. string_bytes line ≡ refusal_text refusal) }
 {

@@ -9,9 +9,9 @@ pub struct StepArgs<'a, 'm> {
     pub router: &'a str,
     /// The AS's key, in hexadecimal.
     pub key: &'a str,
-    /// The key that was in use before it, in hexadecimal, where there was one.
+    /// The key that was in use before, in hexadecimal, if there is one.
     pub previous: Option<&'a str>,
-    /// The second at which the router works.
+    /// The second of the router's step.
     pub now: &'a str,
     /// How the packet came.
     pub from: &'a str,

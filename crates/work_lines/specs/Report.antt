@@ -1,4 +1,4 @@
--- The flights of a network's packets, and what is told of how they ended.
+-- The flights of a network's packets, and the report about their ends.
 use Rattle.std.specs.Prelude.{◌≡◌, ℕ, ◌+◌, codes, List, [], ◌∷◌, ◌++◌, Some, Ok, length, slice_get}
 use Rattle.std.specs.Fmt.{decimal}
 use Rattle.scion_topology.specs.Network.{Network}
@@ -10,7 +10,7 @@ use Rattle.router_workers.specs.Run.{IsReport}
 use Rattle.event_lines.specs.Text.{refusal_text}
 use Rattle.event_lines.specs.Run.{ended}
 
--- a flight of what was sent, as it departs in this network, with no turn had
+-- a flight of this shipment at its start in this network
 abbrev pub IsFlightOf : Network → Shipment → FlightValue → Type 0
 IsFlightOf n sent flight =
     (departed n (sent_packet_of sent) ≡ Ok flight.packet)
@@ -24,23 +24,24 @@ pub record AreFlights (net : NetValue) (flights : List FlightValue) : Type 0 whe
 
 -- ---- lines
 
--- how a flight ended, behind its number
+-- the end of a flight, after its number
 abbrev pub end_text : End → List ℕ
 end_text (Delivered turns) = codes " delivered " ++ decimal turns
 end_text (Refused refusal turns) = codes " refused " ++ refusal_text refusal
 end_text (Dropped turns) = codes " dropped"
 
--- its line: `flight N delivered TURNS`, `flight N refused CODE Name`, or `flight N dropped`
+-- the line of a flight: `flight N delivered TURNS`, `flight N refused CODE Name`, or `flight N
+-- dropped`
 abbrev pub flight_text : ℕ → End → List ℕ
 flight_text number end = codes "flight " ++ (decimal number ++ end_text end)
 
--- the lines of flights that are numbered from this number on
+-- the lines of flights with numbers from this one on
 abbrev pub report_lines : ℕ → List End → List (List ℕ)
 report_lines number [] = []
 report_lines number (end ∷ ends) = flight_text number end ∷ report_lines (number + 1) ends
 
--- the bytes are the lines, each with its end, of how flights of the network's packets ended at the
--- moment that it has reached, with inboxes of `slots` places
+-- the bytes are the report lines, each with its end, about flights of the network's packets at the
+-- network's current second, with inboxes of `slots` places
 abbrev pub Reports : NetValue → ℕ → List ℕ → Type 0
 Reports net slots bytes = (flights : List FlightValue) × (ends : List End)
     × (AreFlights net flights

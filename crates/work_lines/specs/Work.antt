@@ -1,4 +1,4 @@
--- A run of lines and of the flights that they prepare: what was read, and what was written.
+-- A run of lines and then of the flights that they prepare: what was read, and what was written.
 use Rattle.std.specs.Prelude.{◌<◌, ◌≤◌, ℕ, Bool, true, false, List, Option, Result, Ok, Err}
 use Rattle.std.specs.Io.KnownBytes.{Appends}
 use Rattle.streams.specs.Streams.{AppendsFront}
@@ -12,19 +12,19 @@ use Rattle.work_lines.specs.declared.fault.WorkFault.{WorkFault}
 use Rattle.work_lines.specs.declared.fault.WorkFault.TheVariants as faults
 use Rattle.work_lines.specs.Report.{Reports}
 
--- the number of workers that may be asked for
+-- the number of workers is allowed
 abbrev pub IsNumberOfWorkers : ℕ → Type 0
 IsNumberOfWorkers workers = (0 < workers) × (workers ≤ 8)
 
--- the lines prepared this network, and the sink then held these bytes
+-- the lines prepared this network, and after their replies the sink held these bytes
 abbrev pub Prepares : NetValue → Option (List ℕ) → Option (List ℕ) → Option (List ℕ)
     → Option (List ℕ) → Type 0
 Prepares net before after held holds = Listens Preparing (Ok net) before after held holds
 
--- a run of a source that had these bytes left before and has those after, into a sink that held
--- these bytes before and holds those after. The lines prepared a network, and then: its flights
--- were reported; or there were no such workers; or memory ran out; or a beginning of the report was
--- written. Or the lines were not answered to their end.
+-- a run with workers. The first two contents are what the source still had before and after it; the
+-- last two are what the sink held before and after it. If the lines prepared a network: its flights
+-- were reported; or the number of workers is not allowed; or memory ran out; or a beginning of the
+-- report was written. Else the lines were not answered to their end.
 abbrev pub Works : Result (Unit {0}) WorkFault → ℕ → ℕ → Option (List ℕ) → Option (List ℕ)
     → Option (List ℕ) → Option (List ℕ) → Type 0
 Works (Ok done) workers slots before after held holds =
@@ -42,7 +42,8 @@ Works (Err faults.Write) workers slots before after held holds =
 Works (Err (faults.Lines fault)) workers slots before after held holds =
     Listens Preparing (Err fault) before after held holds
 
--- the run ended since a read failed; since a write failed, of a reply or of the report
+-- whether the run ended because a read failed, and whether because a write of a reply or of the
+-- report failed
 abbrev pub is_read_fault : Result (Unit {0}) WorkFault → Bool
 is_read_fault (Err (faults.Lines lines.Read)) = true
 is_read_fault result = false
@@ -54,25 +55,25 @@ is_write_fault result = false
 
 -- ---- words of private calls
 
--- the fault of a run of workers
+-- the fault of the command from that of the run of workers
 abbrev pub of_run : RunFault → WorkFault
 of_run run.Workers = faults.Workers
 of_run run.Memory = faults.Memory
 
--- flights could not be carried by these workers
+-- why flights could not be carried by these workers
 abbrev pub Stops : ℕ → WorkFault → Type 0
 Stops workers faults.Workers = ¬ (IsNumberOfWorkers workers)
 Stops workers faults.Memory = Unit {0}
 Stops workers fault = ⊥
 
--- a report was written, or a beginning of it
+-- the report was written, or a beginning of it
 abbrev pub Writes : Result (Unit {0}) WorkFault → List ℕ → Option (List ℕ) → Option (List ℕ)
     → Type 0
 Writes (Ok done) text held holds = Appends held holds text
 Writes (Err faults.Write) text held holds = AppendsFront held holds text
 Writes (Err fault) text held holds = ⊥
 
--- a report was not written
+-- whether the report was not written
 abbrev pub is_unwritten : Result (Unit {0}) WorkFault → Bool
 is_unwritten (Ok done) = false
 is_unwritten (Err fault) = true

@@ -5,7 +5,7 @@ ghost use Rattle.work_lines.specs.Work.{of_run};
 use std::alloc::AllocError;
 use thiserror::Error;
 
-/// Why packets were not carried, or their ends not told.
+/// Why packets were not carried, or their ends not reported.
 #[derive(Clone, Copy, Debug, PartialEq, Eq, Error)]
 pub enum WorkFault {
     /// The lines were not answered to their end.

@@ -10,7 +10,7 @@ use router_workers::Flight;
 use scion_topology::Topology;
 use std::alloc::{AllocError, Global};
 
-/// A flight for each packet of a network, in their order, over its topology as it is now; or memory
+/// A flight for each packet of a network, in their order, over its current topology, unless memory
 /// runs out.
 pub(crate) fn flights_of(alloc: Global, net: &Net) -> Result<Vec<Flight<'_>>, AllocError>
     requires { AllMayDepart net.now }
@@ -26,7 +26,7 @@ pub(crate) fn flights_of(alloc: Global, net: &Net) -> Result<Vec<Flight<'_>>, Al
     Ok(flights)
 }
 
-/// The flight of what was sent, with no turn had; or memory runs out.
+/// The flight of what was sent, without any turns, unless memory runs out.
 fn flight_of<'a>(
     alloc: Global,
     topology: &'a Topology,

@@ -1,8 +1,8 @@
-//! A network that is told lines of text, and whose packets are then carried by workers: `scionet
-//! work`.
+//! A network that is prepared by lines of text, and whose packets are then carried by workers:
+//! `scionet work`.
 //!
-//! The lines are those that prepare a network. Behind their replies stands a line for each packet:
-//! how its flight ended.
+//! The lines are those that prepare a network. After their replies comes a line for each packet,
+//! about the end of its flight.
 #![tactic(auto)]
 
 mod fault;

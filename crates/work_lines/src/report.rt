@@ -1,4 +1,4 @@
-//! What is told of flights.
+//! The report about flights.
 
 ghost use Rattle.std.specs.Prelude.{◌≡◌, IfOk};
 ghost use Rattle.std.specs.String.{string_bytes};
@@ -9,7 +9,7 @@ use event_lines::refusal_text;
 use router_workers::End;
 use std::alloc::{AllocError, Global};
 
-/// The line of how the flight of this number ended, without its end.
+/// The line about the end of the flight of this number, without its line end.
 fn line(alloc: Global, number: usize, end: End) -> Result<String, AllocError>
     ensures { IfOk result (λ text. string_bytes text ≡ flight_text number end) }
 {
@@ -23,7 +23,7 @@ fn line(alloc: Global, number: usize, end: End) -> Result<String, AllocError>
     }
 }
 
-/// The lines of how the flights ended, in their order.
+/// The lines about the ends of the flights, in their order.
 pub(crate) fn report(alloc: Global, ends: &[End]) -> Result<String, AllocError>
     ensures { IfOk result (λ text. string_bytes text ≡ ended (report_lines 0 ends.now)) }
 {

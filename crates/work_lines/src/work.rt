@@ -17,7 +17,7 @@ use std::sync::Wait;
 use std::thread::Threads;
 use streams::{Sink, Source, write_all};
 
-/// The report on the flights of a network's packets, once `workers` workers have carried them.
+/// The report about the flights of a network's packets, after `workers` workers have carried them.
 fn carry<R: Threads + Wait + Sync>(
     rt: &R,
     alloc: Global,
@@ -60,20 +60,20 @@ fn write_report<K: Sink>(text: &str, sink: &mut K) -> Result<(), WorkFault>
     Ok(())
 }
 
-/// Answers the lines of a source, those that prepare a network, as [`listen`] does; then carries a
-/// packet for each that was sent through the network that they lead to, at the moment that it has
-/// reached, on `workers` workers with inboxes of `slots` places each, as [`run_workers`] does; and
-/// then writes for each, in their order, how its flight ended: `flight N delivered TURNS`, `flight
+/// Answers the lines of a source that prepare a network, as [`listen`] does. Then, as
+/// [`run_workers`] does, it carries each packet that was sent through the network after these
+/// lines, at its current second, on `workers` workers with inboxes of `slots` places. Then it
+/// writes how the flight of each packet ended, in their order: `flight N delivered TURNS`, `flight
 /// N refused CODE Name`, or `flight N dropped`.
 ///
-/// [`WorkFault::Lines`] if the lines were not answered to their end, with no flight made;
-/// [`WorkFault::Workers`] if there are not 1 to 8 workers, also where there is no packet;
-/// [`WorkFault::Memory`] if a flight, the run or the report runs out of memory;
-/// [`WorkFault::Write`] where the sink failed at the report. All but the first come after all
-/// replies were written.
+/// [`WorkFault::Lines`] if the lines were not answered to their end; no packet is carried then.
+/// [`WorkFault::Workers`] if there are not 1 to 8 workers, also if there is no packet;
+/// [`WorkFault::Memory`] if memory runs out for a flight, the run or the report;
+/// [`WorkFault::Write`] if the sink failed at the report. These three come after all replies were
+/// written.
 ///
-/// Beside the time and memory of [`listen`] it takes those of a copy of each packet, of its turns,
-/// and of its line.
+/// It takes the time and memory of [`listen`], and also of a copy of each packet, its turns, and
+/// its line.
 pub fn work_lines<R: Threads + Wait + Sync, S: Source, K: Sink>(
     rt: &R,
     alloc: Global,
