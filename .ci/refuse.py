@@ -22,7 +22,7 @@ CRATES = os.environ.get("REFUSE_CRATES", os.path.join(os.path.dirname(HERE), "cr
 
 # The tests in which memory may be short once: by crate, the beginnings of their names.
 TESTS = {
-    "conformance_core": ("runs::",),
+    "conformance_run": ("event_runs::",),
     "conformance_threads": ("board::", "daemon::"),
     "conformance_workers": ("runs::",),
 }

@@ -1,7 +1,7 @@
 //! Asking for paths: ends, policies and options.
 
-use crate::table::{expect_talk, row_sent, row_turns};
-use hop_mac::{hop_mac, next_beta};
+use crate::row::{authenticators, row_sent, row_turns};
+use crate::table::expect_talk;
 use std::test::Fail;
 
 #[test]
@@ -111,10 +111,8 @@ fn keys_change_once(rt: HostRuntime) -> Result<(), Fail> {
 
 /// The authenticator of the last hop of the row's segment under this key of its AS.
 fn last_authenticator(key: &[u8; 2]) -> [u8; 6] {
-    let first = hop_mac(b"a0", 0x1234, 1000, 63, 0, 1);
-    let beta = next_beta(0x1234, &first);
-    let second = hop_mac(b"a1", beta, 1000, 63, 1, 2);
-    hop_mac(key, next_beta(beta, &second), 1000, 63, 1, 0)
+    let [_, _, last] = authenticators(key);
+    last
 }
 
 /// The keys are 6132, 6133 and 6134, and the packet's authenticator is made under the first.

@@ -1,6 +1,7 @@
 //! Lines that ask for nothing, and first lines that are no topology.
 
-use crate::table::{answers_of, expect_talk, lines_of, row_sent, told};
+use crate::row::row_sent;
+use crate::table::{answers_of, expect_talk, lines_of, told};
 use event_lines::RunFault;
 use std::alloc::Global;
 use std::test::Fail;
@@ -114,9 +115,9 @@ fn beginnings_of_a_topology(rt: HostRuntime) -> Result<(), Fail> {
 #[test]
 fn the_last_line_may_lack_its_end(rt: HostRuntime) -> Result<(), Fail> {
     let alloc = rt.alloc();
-    let mut input = lines_of(alloc, &row_sent())?;
+    let mut input = lines_of(alloc, &[&row_sent()])?;
     input.push_str(r#"{"do":"turn","packet":0}"#)?;
-    let mut wanted = answers_of(alloc, &row_sent())?;
+    let mut wanted = answers_of(alloc, &[&row_sent()])?;
     wanted.push_str("link 1\n")?;
     let (result, output) = told(alloc, input.as_bytes());
     assert!(rt; result.is_ok());

@@ -1,8 +1,9 @@
 //! Packets on whose way something happens: each premise of the delivery theorem left out, and the
 //! same happening beside a packet that keeps them all.
 
+use crate::row::{row_sent, row_turns};
 use crate::scripts::{fork, pair_sent, wide_fork};
-use crate::table::{expect_talk, row_sent, row_turns};
+use crate::table::expect_talk;
 use std::test::Fail;
 
 #[test]

@@ -1,6 +1,7 @@
 //! Answers to packets that were delivered.
 
-use crate::table::{expect_talk, row_sent};
+use crate::row::row_sent;
+use crate::table::expect_talk;
 use std::test::Fail;
 
 #[test]

@@ -1,16 +1,14 @@
 //! Whole networks, up to a packet's delivery.
 
-use crate::table::{Row, expect_talk, row_sent, row_turns};
+use crate::row::{row_sent, row_turns};
+use crate::table::{Row, expect_talk};
 use std::test::Fail;
 
 /// Two core ASes, each with a child, and that with another, two routers each, up to a packet from
 /// one end to the other.
 pub(crate) fn pair_sent() -> [Row; 12] {
     [
-        (
-            r#"{"ases":[{"ia":"1-ff00:0:110","core":true,"exp":63,"key":"6b","routers":2},{"ia":"1-ff00:0:111","core":false,"exp":63,"key":"6b","routers":2},{"ia":"1-ff00:0:112","core":false,"exp":63,"key":"6b","routers":2},{"ia":"2-ff00:0:210","core":true,"exp":63,"key":"6b","routers":2},{"ia":"2-ff00:0:211","core":false,"exp":63,"key":"6b","routers":2},{"ia":"2-ff00:0:212","core":false,"exp":63,"key":"6b","routers":2}],"links":[{"kind":"child","a":{"ia":"1-ff00:0:110","if":1,"router":0},"b":{"ia":"1-ff00:0:111","if":1,"router":0}},{"kind":"child","a":{"ia":"1-ff00:0:111","if":2,"router":1},"b":{"ia":"1-ff00:0:112","if":1,"router":0}},{"kind":"core","a":{"ia":"1-ff00:0:110","if":2,"router":1},"b":{"ia":"2-ff00:0:210","if":1,"router":0}},{"kind":"child","a":{"ia":"2-ff00:0:210","if":2,"router":1},"b":{"ia":"2-ff00:0:211","if":1,"router":0}},{"kind":"child","a":{"ia":"2-ff00:0:211","if":2,"router":1},"b":{"ia":"2-ff00:0:212","if":1,"router":0}}]}"#,
-            "topology ok",
-        ),
+        (worked::pair(), "topology ok"),
         (r#"{"do":"tick","now":1000}"#, "ok"),
         (
             r#"{"do":"originate","ia":"1-ff00:0:110","egress":1,"beta0":1}"#,

@@ -1,6 +1,7 @@
 //! Streams that give little at a time, that fail, and that do not end.
 
-use crate::table::{lines_of, row_sent, row_told};
+use crate::row::{row_sent, row_told};
+use crate::table::lines_of;
 use event_lines::{RunFault, run_lines};
 use std::alloc::Global;
 use std::cell::Cell;
@@ -272,7 +273,7 @@ fn a_write_that_takes_nothing(rt: HostRuntime) -> Result<(), Fail> {
 fn blanks_without_an_end(rt: HostRuntime) -> Result<(), Fail> {
     let alloc = rt.alloc();
     let [topology, ..] = row_sent();
-    let input = lines_of(alloc, &[topology])?;
+    let input = lines_of(alloc, &[&[topology]])?;
     let reader = Endless {
         bytes: input.as_bytes(),
     };

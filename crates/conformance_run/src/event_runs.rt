@@ -1,6 +1,6 @@
 //! A run of events over three ASes in a row: a packet goes from the last to the first.
 
-use crate::given::step;
+use crate::given_paths::step;
 use forwarding::PacketLocation;
 use isd_as::IfId;
 use network_core::{Event, Net, Stopped, run};

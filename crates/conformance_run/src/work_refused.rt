@@ -1,6 +1,8 @@
-//! What is refused: lines, workers, topologies and words.
+//! What `scionet work` refuses: lines, numbers of workers and topologies.
 
-use crate::program::{Row, answers_of, lines_of, row_asked, sent_twice, worked};
+use crate::row::{row_asked, sent_twice};
+use crate::table::{Row, lines_of};
+use crate::work_program::{output_of, run_work};
 use std::test::Fail;
 
 #[test]
@@ -19,12 +21,12 @@ fn lines_that_do_not_prepare(rt: HostRuntime) -> Result<(), Fail> {
     ];
     let tables: [&[Row]; 3] = [&row, &sent, &unheard];
     let lines = lines_of(rt.alloc(), &tables)?;
-    let wanted = answers_of(
+    let wanted = output_of(
         rt.alloc(),
         &tables,
         &["flight 0 delivered 3", "flight 1 delivered 3"],
     )?;
-    assert!(rt; worked(&rt, rt.alloc(), "2", "2", &lines).is(0, &wanted, ""));
+    assert!(rt; run_work(&rt, rt.alloc(), "2", "2", &lines).is(0, &wanted, ""));
     Ok(())
 }
 
@@ -33,21 +35,21 @@ fn numbers_of_workers(rt: HostRuntime) -> Result<(), Fail> {
     let (row, sent) = (row_asked(), sent_twice());
     let tables: [&[Row]; 2] = [&row, &sent];
     let lines = lines_of(rt.alloc(), &tables)?;
-    let replies = answers_of(rt.alloc(), &tables, &[])?;
+    let replies = output_of(rt.alloc(), &tables, &[])?;
     for workers in ["0", "9", "4294967295"] {
-        let ended = worked(&rt, rt.alloc(), workers, "1", &lines);
+        let ended = run_work(&rt, rt.alloc(), workers, "1", &lines);
         assert!(rt; ended.is(1, &replies, "scionet: workers refused\n"));
     }
     let bare = lines_of(rt.alloc(), &[&row])?;
-    let replies = answers_of(rt.alloc(), &[&row], &[])?;
-    let ended = worked(&rt, rt.alloc(), "9", "1", &bare);
+    let replies = output_of(rt.alloc(), &[&row], &[])?;
+    let ended = run_work(&rt, rt.alloc(), "9", "1", &bare);
     assert!(rt; ended.is(1, &replies, "scionet: workers refused\n"));
     Ok(())
 }
 
 #[test]
 fn topologies(rt: HostRuntime) -> Result<(), Fail> {
-    let ended = worked(&rt, rt.alloc(), "9", "1", "{}\n");
+    let ended = run_work(&rt, rt.alloc(), "9", "1", "{}\n");
     assert!(rt;
         ended.is(
             1,

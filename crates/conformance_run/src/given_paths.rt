@@ -1,9 +1,9 @@
 //! Packets that are sent by a way that is given: over a segment that the network issued, and over
 //! one that nobody issued.
 
+use crate::row::authenticators;
 use forwarding::TurnReply;
-use hop_mac::{hop_mac, next_beta};
-use isd_as::{IfId, IsdAs};
+use isd_as::IfId;
 use network_core::{Event, Given, Net, Reply};
 use path_header::Header;
 use path_segment::{Entry, SegKind, Segment};
@@ -38,11 +38,7 @@ fn segment(alloc: Global, macs: [[u8; 6]; 3]) -> Result<Segment, Fail> {
 
 /// The segment that the row's ASes issue at second 1000 with accumulator 4660.
 fn issued(alloc: Global) -> Result<Segment, Fail> {
-    let first = hop_mac(b"a0", 4660, 1000, 63, 0, 1);
-    let beta = next_beta(4660, &first);
-    let second = hop_mac(b"a1", beta, 1000, 63, 1, 2);
-    let third = hop_mac(b"a2", next_beta(beta, &second), 1000, 63, 1, 0);
-    segment(alloc, [first, second, third])
+    segment(alloc, authenticators(b"a2"))
 }
 
 /// The event that sends a packet from 1-ff00:0:112 to 1-ff00:0:110 by this way.
