@@ -1,5 +1,5 @@
 -- What a request for paths is answered.
-use Rattle.std.specs.Prelude.{◌≡◌, ℕ, ◌&&◌, nat_le, List, [], Option, Result, Ok, Err}
+use Rattle.std.specs.Prelude.{◌≡◌, ℕ, ◌&&◌, nat_le, List, [], Result, Ok, Err}
 use Rattle.std.specs.List.{fold}
 use Rattle.refusal.specs.Refusal.{◌>>=◌, check, refused_as}
 use Rattle.path_segment.specs.Chain.{Chain}

@@ -1,6 +1,6 @@
 //! Requests for paths.
 
-ghost use Rattle.std.specs.Prelude.{◌≡◌, IfOk};
+ghost use Rattle.std.specs.Prelude.{IfOk};
 ghost use Rattle.std.specs.String.{string_bytes};
 ghost use Rattle.scion_ffi_paths.specs.Answer.{AnswersPaths, AnswersUnder, options_asked};
 ghost use Rattle.scion_ffi_paths.specs.Room.{IsAnswered};

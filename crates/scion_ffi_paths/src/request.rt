@@ -1,6 +1,5 @@
 //! What a request asks for.
 
-ghost use Rattle.std.specs.Prelude.{◌≡◌};
 ghost use Rattle.serde_json.specs.View.{view};
 ghost use Rattle.refusal.specs.Refusal.{Reads};
 ghost use Rattle.scion_ffi_paths.specs.Asked.{asked_at, paths_asked_in};

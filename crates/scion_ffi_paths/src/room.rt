@@ -1,8 +1,8 @@
 //! The room of a host, into which an answer is written.
 
-ghost use Rattle.std.specs.Prelude.{◌≡◌, option_map};
+ghost use Rattle.std.specs.Prelude.{option_map};
 ghost use Rattle.std.specs.String.{string_bytes};
-ghost use Rattle.scion_ffi_paths.specs.Room.{IsPut, text_answer};
+ghost use Rattle.scion_ffi_paths.specs.Room.{IsPut};
 
 /// What became of an answer: `status` is 0 where its `len` bytes were written, 1 where the room has
 /// fewer than the `len` bytes that it needs, and 2 where memory ran out.
