@@ -28,8 +28,9 @@ pub enum Command {
     },
 }
 
-/// The fault of words that `clap` refuses.
-fn explained(alloc: Global, error: &Error) -> WordsFault
+/// The fault of words that `clap` refuses with this error: [`WordsFault::Usage`] with its text, or
+/// [`WordsFault::Memory`] if memory ran out, there or for the text.
+pub fn explained(alloc: Global, error: &Error) -> WordsFault
     ensures { Explains result error.now }
 {
     if error.kind() == ErrorKind::OutOfMemory {

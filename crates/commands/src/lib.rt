@@ -12,7 +12,9 @@ mod program;
 mod status;
 mod words;
 
-pub use command::{Command, step_line};
+pub use command::{Command, explained, step_line};
 pub use fault::{CommandFault, WordsFault};
-pub use program::{end, execute, run};
+pub use matched::turn;
+pub use program::{MAX_INPUT_LEN, end, execute, run};
 pub use status::Status;
+pub use words::VERSION;

@@ -38,11 +38,11 @@ pub(crate) fn work(matches: &ArgMatches<'_>) -> Option<Command>
     Some(Command::Work { workers, slots })
 }
 
-/// The turn of the matches of `step`.
-pub(crate) fn turn(
-    alloc: Global,
-    matches: &ArgMatches<'_>,
-) -> Result<Option<StepCommand>, AllocError>
+/// The turn that the matches of `step`, or of another command with the same options, describe;
+/// `None` if they describe none.
+///
+/// [`AllocError`] if memory runs out.
+pub fn turn(alloc: Global, matches: &ArgMatches<'_>) -> Result<Option<StepCommand>, AllocError>
     ensures { IfOk result (λ o. o ≡ turn_in (rows_of (found_of matches.now))) }
 {
     let Some(ia) = text_of(matches, "ia") else {

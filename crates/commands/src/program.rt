@@ -17,8 +17,8 @@ use step_line::StepCommand;
 use streams::{Sink, Source, read_all, write_all};
 use work_lines::work_lines;
 
-/// The largest number of bytes of standard input.
-const MAX_INPUT_LEN: u64 = 67_108_864;
+/// The largest number of bytes of standard input: 64 MiB.
+pub const MAX_INPUT_LEN: u64 = 67_108_864;
 
 /// One turn of a router on the packet of the source; it prints one line.
 fn run_step<S: Source, K: Sink>(

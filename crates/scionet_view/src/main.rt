@@ -11,7 +11,7 @@ mod path;
 mod reached;
 mod words;
 
-use commands::{CommandFault, Status, WordsFault, end};
+use commands::{CommandFault, MAX_INPUT_LEN, Status, WordsFault, end};
 use network::network_picture;
 use packet_view::packet_lines;
 use path::packet_path;
@@ -20,9 +20,6 @@ use std::env;
 use std::process::ExitCode;
 use streams::{Reader, Sink, Source, Writer, read_all, write_all};
 use words::{View, asked};
-
-/// The most bytes that standard input may give.
-const MAX_INPUT_LEN: u64 = 67_108_864;
 
 /// The words behind the program's name.
 fn words_behind(rt: &HostRuntime) -> Result<Vec<String>, CommandFault> {

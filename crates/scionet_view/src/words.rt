@@ -1,15 +1,10 @@
 //! The words of the command line.
 
 use clap::builder::ValueParser;
-use clap::error::ErrorKind;
-use clap::{Arg, ArgAction, ArgMatches, Command, Error};
-use commands::WordsFault;
+use clap::{Arg, ArgAction, ArgMatches, Command};
+use commands::{VERSION, WordsFault, explained, turn};
 use std::alloc::{AllocError, Global};
-use step_line::{StepArgs, StepCommand, number};
-
-/// What `--version` prints behind the program's name: its version, and the toolchain that proved
-/// it.
-static VERSION: &str = "0.1.0, proved by rattle-kit-13f logic dac8208d650f15bf";
+use step_line::{StepCommand, number};
 
 /// What stands at the end of the long help of `packet`.
 static PACKET_HELP: &str = "\
@@ -202,38 +197,6 @@ fn usage(alloc: Global) -> Result<WordsFault, AllocError> {
     Ok(WordsFault::Usage(text))
 }
 
-/// The fault of words that `clap` refuses.
-fn explained(alloc: Global, error: &Error) -> Result<WordsFault, AllocError> {
-    if error.kind() == ErrorKind::OutOfMemory {
-        return Ok(WordsFault::Memory);
-    }
-    let text = error.to_string(alloc)?;
-    Ok(WordsFault::Usage(text))
-}
-
-/// The turn that the matches of `packet` describe, where they describe one.
-fn turn(alloc: Global, matches: &ArgMatches<'_>) -> Result<Option<StepCommand>, AllocError> {
-    let (Some(ia), Some(router), Some(key), Some(now), Some(from)) = (
-        matches.get_str("ia"),
-        matches.get_str("router"),
-        matches.get_str("key"),
-        matches.get_str("now"),
-        matches.get_str("from"),
-    ) else {
-        return Ok(None);
-    };
-    let texts = StepArgs {
-        ia,
-        router,
-        key,
-        previous: matches.get_str("previous"),
-        now,
-        from,
-        interfaces: matches.get_strs("interface").unwrap_or(&[]),
-    };
-    StepCommand::from_texts(alloc, texts)
-}
-
 /// The number of a packet that a text writes.
 fn packet_number(text: &str) -> Option<u32> {
     let number = number(text, 0, u64::from(u32::MAX))?;
@@ -280,7 +243,7 @@ fn view_asked(alloc: Global, matches: &ArgMatches<'_>) -> Result<Option<View>, A
 pub(crate) fn asked<'a>(alloc: Global, words: &'a [&'a str]) -> Result<View, WordsFault> {
     let matches = match program(alloc)?.try_get_matches_from(words) {
         Ok(matches) => matches,
-        Err(error) => return Err(explained(alloc, &error)?),
+        Err(error) => return Err(explained(alloc, &error)),
     };
     match view_asked(alloc, &matches)? {
         Some(view) => Ok(view),
