@@ -14,7 +14,7 @@ use Rattle.path_segment.specs.Chain.{Chain, chain_of, with_last}
 use Rattle.beaconing.specs.declared.fault.BeaconFault.TheVariants.{TooLong, Loop, NotCore, NoInterface, LinkDown, WrongKind, NotHere}
 use Rattle.beaconing.specs.Entry.{key_of, key_in, entry_by, added_by, kind_over, goes_on}
 use Rattle.beaconing.specs.Calls.{originated, come_to, is_new, extended, terminated}
-use Rattle.beaconing.specs.Issued.{IsUnderWay, IsIssued, keys_in, passed_on, Grows}
+use Rattle.beaconing.specs.Issued.{IsUnderWay, IsIssued, keys_in_use, passed_through, Grows}
 use Rattle.beaconing.proofs.Reaching.{ia_of_named}
 use Rattle.beaconing.proofs.Issuing.{begun, ended}
 use Rattle.beaconing.proofs.Issuing as calls
@@ -120,32 +120,32 @@ ended_issued n keys b ia c network under found =
 
 -- ---- one network, call by call
 
-keys_grow : (n : Network) (b : Chain) (ia : ℕ) (c : Chain) → Grows n b ia c → keys_in n b ++ (key_in n ia ∷ []) ≡ keys_in n c
+keys_grow : (n : Network) (b : Chain) (ia : ℕ) (c : Chain) → Grows n b ia c → keys_in_use n b ++ (key_in n ia ∷ []) ≡ keys_in_use n c
 keys_grow n b ia c grows =
-    ap (λ (x : ℕ). keys_in n b ++ (key_in n x ∷ [])) (sym grows.of)
+    ap (λ (x : ℕ). keys_in_use n b ++ (key_in n x ∷ [])) (sym grows.of)
     ∙ sym (map-append (λ (entry : Entry). key_in n entry.ia) b.entries (grows.entry ∷ []))
-    ∙ ap (keys_in n) (sym grows.is)
+    ∙ ap (keys_in_use n) (sym grows.is)
 
-keys_begun : (n : Network) (ia : ℕ) (b : Chain) → IsBegun n ia b → key_in n ia ∷ [] ≡ keys_in n b
+keys_begun : (n : Network) (ia : ℕ) (b : Chain) → IsBegun n ia b → key_in n ia ∷ [] ≡ keys_in_use n b
 keys_begun n ia b s =
     ap (λ (x : ℕ). key_in n x ∷ []) (sym s.of) ∙ ap (map (λ (entry : Entry). key_in n entry.ia)) (sym s.is)
 
-under_own_keys : (n : Network) (b : Chain) (hops : List (ℕ × ℕ)) (c : Chain) → IsNetwork n → IsUnderWay n (keys_in n b) b → passed_on n b hops ≡ Ok c → IsUnderWay n (keys_in n c) c
+under_own_keys : (n : Network) (b : Chain) (hops : List (ℕ × ℕ)) (c : Chain) → IsNetwork n → IsUnderWay n (keys_in_use n b) b → passed_through n b hops ≡ Ok c → IsUnderWay n (keys_in_use n c) c
 under_own_keys n b [] c network under found =
     let same : b ≡ c = ok_is b c found in
-    subst (λ (x : Chain). IsUnderWay n (keys_in n x) x) same under
+    subst (λ (x : Chain). IsUnderWay n (keys_in_use n x) x) same under
 under_own_keys n b (hop ∷ hops) c network under found =
-    let step = bind_ok (extended n b hop.0 hop.1) (λ (next : Chain). passed_on n next hops) c found in
-    let more = passed_under_way n (keys_in n b) b hop.0 hop.1 step.0 network under step.1 in
+    let step = bind_ok (extended n b hop.0 hop.1) (λ (next : Chain). passed_through n next hops) c found in
+    let more = passed_under_way n (keys_in_use n b) b hop.0 hop.1 step.0 network under step.1 in
     let own = subst (λ (keys : List (List ℕ)). IsUnderWay n keys step.0) (keys_grow n b hop.0 step.0 (extended_grows n b hop.0 hop.1 step.0 step.1)) more in
     under_own_keys n step.0 hops c network own step.2
 
 pub made_is_issued : (n : Network) (ia egress timestamp beta0 : ℕ) (hops : List (ℕ × ℕ)) (last : ℕ) (first beacon segment : Chain) → IsNetwork n
-    → originated n ia egress timestamp beta0 ≡ Ok first → passed_on n first hops ≡ Ok beacon → terminated n beacon last ≡ Ok segment
-    → IsIssued n (keys_in n segment) segment
+    → originated n ia egress timestamp beta0 ≡ Ok first → passed_through n first hops ≡ Ok beacon → terminated n beacon last ≡ Ok segment
+    → IsIssued n (keys_in_use n segment) segment
 made_is_issued n ia egress timestamp beta0 hops last first beacon segment network began on ended_so =
     let s = is_begun n ia egress timestamp beta0 first began in
     let begun_own = subst (λ (keys : List (List ℕ)). IsUnderWay n keys first) (keys_begun n ia first s) (begun_under_way n ia egress timestamp beta0 first network began) in
     let under = under_own_keys n first hops beacon network begun_own on in
     subst (λ (keys : List (List ℕ)). IsIssued n keys segment) (keys_grow n beacon last segment (terminated_grows n beacon last segment ended_so))
-    (ended_issued n (keys_in n beacon) beacon last segment network under ended_so)
+    (ended_issued n (keys_in_use n beacon) beacon last segment network under ended_so)

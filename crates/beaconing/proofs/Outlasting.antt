@@ -8,7 +8,7 @@ use Rattle.scion_topology.specs.declared.entry.LinkKind.{LinkKind}
 use Rattle.scion_topology.specs.declared.fault.TopologyFault.TheVariants as faults
 use Rattle.scion_topology.specs.declared.network.AsEntry.{AsEntry}
 use Rattle.scion_topology.specs.declared.network.Link.{Link}
-use Rattle.scion_topology.specs.Keys.{key_of, renewed}
+use Rattle.scion_topology.specs.Keys.{key_from, renewed}
 use Rattle.scion_topology.specs.Network.{Network, as_named, has_end, interface_of, with_first, table_of, interface_in}
 use Rattle.scion_topology.specs.Causes.{is_core}
 use Rattle.scion_topology.specs.Topology.{known, known_link, interface_at, with_up, with_key, set_up, rotated}
@@ -200,7 +200,7 @@ Outlasts-rotated : (ia : ℕ) (key : List ℕ) (n m : Network) → rotated ia ke
 unfolding rotated
 Outlasts-rotated ia key n m change =
     let step = bind_ok (known n ia) _ m change in
-    let made = bind_ok (key_of key) _ m step.2 in
+    let made = bind_ok (key_from key) _ m step.2 in
     let is = ok_is (record n { ases = with_key ia made.0 n.ases }) m made.2 in
     rw (← is) (record {
       ases = λ x one named. rekeyed ia made.0 x n.ases one named;

@@ -72,15 +72,15 @@ pub record IsIssued (n : Network) (keys : List (List ℕ)) (segment : Chain) : T
   pub made : IsMade n keys segment
 
 -- the keys in use of the ASes of a chain's entries
-abbrev pub keys_in : Network → Chain → List (List ℕ)
-keys_in n chain = map (λ entry. key_in n entry.ia) chain.entries
+abbrev pub keys_in_use : Network → Chain → List (List ℕ)
+keys_in_use n chain = map (λ entry. key_in n entry.ia) chain.entries
 
 -- the beacon after these ASes have passed it on over these interfaces, one after another
-abbrev pub passed_on : Network → Chain → List (ℕ × ℕ) → Result Chain BeaconFault
-passed_on n beacon [] = Ok beacon
-passed_on n beacon (hop ∷ hops) = do
+abbrev pub passed_through : Network → Chain → List (ℕ × ℕ) → Result Chain BeaconFault
+passed_through n beacon [] = Ok beacon
+passed_through n beacon (hop ∷ hops) = do
   next ← extended n beacon hop.0 hop.1
-  passed_on n next hops
+  passed_through n next hops
 
 -- the beacon arrives in this AS by this interface, over a link that is up
 pub record ComesOver (n : Network) (beacon : Chain) (ia ingress : ℕ) : Type 0 where

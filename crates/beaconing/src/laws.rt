@@ -6,7 +6,7 @@ ghost use Rattle.scion_topology.specs.Topology.{IsNetwork, set_up, rotated};
 ghost use Rattle.path_segment.specs.Chain.{Chain};
 ghost use Rattle.beaconing.specs.Entry.{key_in};
 ghost use Rattle.beaconing.specs.Calls.{originated, come_to, extended, terminated};
-ghost use Rattle.beaconing.specs.Issued.{IsUnderWay, IsIssued, ComesOver, Grows, keys_in, passed_on};
+ghost use Rattle.beaconing.specs.Issued.{IsUnderWay, IsIssued, ComesOver, Grows, keys_in_use, passed_through};
 
 /// A beacon that an AS begins is under way, under the key that the AS has in use.
 pub fn begun_is_under_way()
@@ -36,8 +36,8 @@ pub fn ended_is_issued()
 pub fn made_is_issued()
     ensures { (n : Network) (ia egress timestamp beta0 : ℕ) (hops : List (ℕ × ℕ)) (last : ℕ)
         (begun beacon segment : Chain) → IsNetwork n
-        → originated n ia egress timestamp beta0 ≡ Ok begun → passed_on n begun hops ≡ Ok beacon
-        → terminated n beacon last ≡ Ok segment → IsIssued n (keys_in n segment) segment }
+        → originated n ia egress timestamp beta0 ≡ Ok begun → passed_through n begun hops ≡ Ok beacon
+        → terminated n beacon last ≡ Ok segment → IsIssued n (keys_in_use n segment) segment }
 {}
 
 /// Each call adds one entry, that of the AS in which the beacon arrived; and the link by which it

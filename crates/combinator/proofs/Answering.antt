@@ -14,7 +14,7 @@ use Rattle.path_verifier.specs.Piece.{PieceValue, HasRange, kind_in, kind_of, be
 use Rattle.path_verifier.specs.Walk.{walk_of}
 use Rattle.path_verifier.specs.Accepted.{IsCore, MayAdjoin}
 use Rattle.path_verifier.proofs.Lengths.{path_is_short, pieces_adjoin}
-use Rattle.path_header.specs.Spelling.{Spells, spelling}
+use Rattle.path_header.specs.Spelling.{SpellsHeader, spelling}
 use Rattle.combinator.specs.Candidate.{Question, IsOf, segments_of, PathValue, IsCandidate, path_with, AreSpelled}
 use Rattle.combinator.specs.Order.{path_cmp, HaveOneWalk}
 use Rattle.combinator.specs.Answer.{IsBest, IsLeftOut, IsAnswer}
@@ -110,7 +110,7 @@ module _ (question : Question) (usable_pieces : List PieceValue)
     not_down one next may is = (let h : MayAdjoin Down next = subst (λ (kind : PieceKind). MayAdjoin kind next) is may in h)
 
     met_of : (pieces : List PieceValue) (header : _) → (is : IsCandidate question (path_with pieces header))
-        → Spells (spelling header) header × IsMet kept (path_with pieces header)
+        → SpellsHeader (spelling header) header × IsMet kept (path_with pieces header)
     unfolding AreMatched
     met_of [] header is = absurd (let some = is.accepted.path.some in omega arith)
     met_of (a ∷ []) header is =
@@ -135,7 +135,7 @@ module _ (question : Question) (usable_pieces : List PieceValue)
     met_of (a ∷ b ∷ c ∷ d ∷ more) header is =
         absurd (let few = path_is_short (a ∷ b ∷ c ∷ d ∷ more) question.src question.dst question.set.moment is.accepted.path in omega arith)
 
-    pub all_met : (path : PathValue) → IsCandidate question path → Spells (spelling path.header) path.header × IsMet kept path
+    pub all_met : (path : PathValue) → IsCandidate question path → SpellsHeader (spelling path.header) path.header × IsMet kept path
     all_met path is = met_of path.pieces path.header is
 
 -- ---- each path that is kept stands for its walk
@@ -158,7 +158,7 @@ same_one paths j k d e apart inside within same = elim (cases_lt j k) [
 ]
 
 module _ (question : Question) (limit : ℕ) (kept ordered : List PathValue) (sound : All (IsCandidate question) kept) (apart : InOrder by_walk kept)
-    (met : (path : PathValue) → IsCandidate question path → Spells (spelling path.header) path.header × IsMet kept path) where
+    (met : (path : PathValue) → IsCandidate question path → SpellsHeader (spelling path.header) path.header × IsMet kept path) where
   spelled : AreSpelled question
   spelled path is = (met path is).0
 

@@ -7,7 +7,7 @@ use Rattle.std.specs.declared.cmp.Ordering.TheVariants.{Less, Equal, Greater}
 use Rattle.std.specs.Ordering.{nat_cmp, ordering_reverse}
 use Rattle.std.specs.Cmp.Lexicographic.{slice_cmp}
 use Rattle.hop_mac.specs.Lifetime.{expiry_of}
-use Rattle.path_header.specs.Spelling.{Spells, spelling}
+use Rattle.path_header.specs.Spelling.{SpellsHeader, spelling}
 use Rattle.path_verifier.specs.Piece.{PieceValue, entries_of}
 use Rattle.path_verifier.specs.Accepted.{IsExpiry}
 use Rattle.std.proofs.lemmas.Cmp.{nat_list_cmp_total}
@@ -45,14 +45,14 @@ not_less Equal one other e upto less = (let back : bytes_cmp other.header one.he
 not_less Greater one other e upto less = upto refl
 
 pub fewer_bytes : (one other : PathValue) (e f : ℕ) (bytes text : List ℕ) → IsExpiry one.pieces e → IsExpiry other.pieces f → e ≡ f
-    → Spells bytes one.header → Spells text other.header → slice_cmp nat_cmp bytes text ≢ Greater → IsNoWorse one other
+    → SpellsHeader bytes one.header → SpellsHeader text other.header → slice_cmp nat_cmp bytes text ≢ Greater → IsNoWorse one other
 unfolding bytes_cmp
 fewer_bytes one other e f bytes text is also same first second upto = record {
   latest = as_long one other e f is also (omega arith);
   least = λ as_late. not_less (bytes_cmp one.header other.header) one other refl (λ more. upto (ap (λ (b : List ℕ). slice_cmp nat_cmp b text) first.spelled ∙ ap (slice_cmp nat_cmp (spelling one.header)) second.spelled ∙ more));
 }
 
-pub same_bytes : (one other : PathValue) (bytes text : List ℕ) → Spells bytes one.header → Spells text other.header → slice_cmp nat_cmp bytes text ≡ bytes_cmp one.header other.header
+pub same_bytes : (one other : PathValue) (bytes text : List ℕ) → SpellsHeader bytes one.header → SpellsHeader text other.header → slice_cmp nat_cmp bytes text ≡ bytes_cmp one.header other.header
 unfolding bytes_cmp
 same_bytes one other bytes text first second = ap (λ (b : List ℕ). slice_cmp nat_cmp b text) first.spelled ∙ ap (slice_cmp nat_cmp (spelling one.header)) second.spelled
 

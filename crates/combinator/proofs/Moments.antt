@@ -28,12 +28,12 @@ also_of set other same Up segment there = (same.ups segment).0 there
 also_of set other same Core segment there = (same.cores segment).0 there
 also_of set other same Down segment there = (same.downs segment).0 there
 
-live_in : (set : Selection) (now : ℕ) → AreAllLive set now → (kind : PieceKind) (segment : Chain) → Contains (segments_of set kind) segment → segments.AreLive segment now
-live_in set now live Up segment there = All-contains (λ s. segments.AreLive s now) set.ups segment live.ups there
-live_in set now live Core segment there = All-contains (λ s. segments.AreLive s now) set.cores segment live.cores there
-live_in set now live Down segment there = All-contains (λ s. segments.AreLive s now) set.downs segment live.downs there
+live_in : (set : Selection) (now : ℕ) → AreAllLive set now → (kind : PieceKind) (segment : Chain) → Contains (segments_of set kind) segment → segments.IsChainLive segment now
+live_in set now live Up segment there = All-contains (λ s. segments.IsChainLive s now) set.ups segment live.ups there
+live_in set now live Core segment there = All-contains (λ s. segments.IsChainLive s now) set.cores segment live.cores there
+live_in set now live Down segment there = All-contains (λ s. segments.IsChainLive s now) set.downs segment live.downs there
 
-live_stretch : (piece : PieceValue) (now : ℕ) → segments.AreLive piece.segment now → All (λ (entry : Entry). IsLive piece.segment.timestamp entry.exp_time now) (entries_of piece)
+live_stretch : (piece : PieceValue) (now : ℕ) → segments.IsChainLive piece.segment now → All (λ (entry : Entry). IsLive piece.segment.timestamp entry.exp_time now) (entries_of piece)
 live_stretch piece now live =
     All-drop (λ (entry : Entry). IsLive piece.segment.timestamp entry.exp_time now) piece.from (take (piece.to + 1) piece.segment.entries)
     (All-take (λ (entry : Entry). IsLive piece.segment.timestamp entry.exp_time now) (piece.to + 1) piece.segment.entries live)

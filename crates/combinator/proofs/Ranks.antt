@@ -8,7 +8,7 @@ use Rattle.std.proofs.lemmas.Cmp.{nat_cmp_total, nat_list_cmp_total, lists_total
 use Rattle.std.proofs.lemmas.Map.Lookups.{exact_unsigned, exact_bytes}
 use Rattle.std.proofs.lemmas.List.{append-nil}
 use Rattle.path_header.specs.Value.{HeaderValue}
-use Rattle.path_header.specs.Spelling.{Spells, spelling}
+use Rattle.path_header.specs.Spelling.{SpellsHeader, spelling}
 use Rattle.path_header.proofs.WholeHeader.{spelled_once}
 use Rattle.policy_expr.specs.declared.hop.WalkHop.{WalkHop}
 use Rattle.path_verifier.specs.Walk.{walk_of}
@@ -71,16 +71,16 @@ pub tied_walks : (one other : PathValue) → HaveOneWalk one other → by_walk o
 tied_walks one other same = ap (walk_cmp (walk_of one.pieces)) (sym same) ∙ tied_itself walks_total one
 
 -- headers of the grammar with the same bytes are one
-pub same_header : (one other : HeaderValue) → Spells (spelling one) one → Spells (spelling other) other → bytes_cmp one other ≡ Equal → one ≡ other
+pub same_header : (one other : HeaderValue) → SpellsHeader (spelling one) one → SpellsHeader (spelling other) other → bytes_cmp one other ≡ Equal → one ≡ other
 unfolding bytes_cmp
 same_header one other first second e =
     let bytes : spelling one ≡ spelling other = exact_bytes (spelling one) (spelling other) e in
     let longer : spelling other ≡ spelling one ++ [] = sym bytes ∙ sym (append-nil (spelling one)) in
-    let also : Spells (spelling one ++ []) other = subst (λ (text : List ℕ). Spells text other) longer second in
+    let also : SpellsHeader (spelling one ++ []) other = subst (λ (text : List ℕ). SpellsHeader text other) longer second in
     (spelled_once one other (spelling one) [] first also).0
 
 -- paths in the grammar that stand at one place of the order show the same
-pub same_shown : (one other : PathValue) → Spells (spelling one.header) one.header → Spells (spelling other.header) other.header → path_cmp one other ≡ Equal → header_and_walk one ≡ header_and_walk other
+pub same_shown : (one other : PathValue) → SpellsHeader (spelling one.header) one.header → SpellsHeader (spelling other.header) other.header → path_cmp one other ≡ Equal → header_and_walk one ≡ header_and_walk other
 unfolding shown_cmp
 same_shown one other first second e =
     let parts = then_equal (nat_cmp (length one.header.hops) (length other.header.hops)) (ordering_then (bytes_cmp one.header other.header) (walk_cmp (header_and_walk one).1 (header_and_walk other).1)) e in

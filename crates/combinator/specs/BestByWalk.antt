@@ -3,7 +3,7 @@ use Rattle.std.specs.Prelude.{◌≢◌, List, All, Any}
 use Rattle.std.specs.declared.cmp.Ordering.{Ordering}
 use Rattle.std.specs.declared.cmp.Ordering.TheVariants.{Less}
 use Rattle.path_header.specs.Value.{HeaderValue}
-use Rattle.path_header.specs.Spelling.{Spells, spelling}
+use Rattle.path_header.specs.Spelling.{SpellsHeader, spelling}
 use Rattle.path_verifier.specs.Piece.{PieceValue}
 use Rattle.path_verifier.specs.Walk.{walk_of}
 use Rattle.combinator.specs.Candidate.{Question, PathValue, path_with, IsCandidate}
@@ -34,4 +34,4 @@ pub record IsNoWorseThan (question : Question) (old new : List PathValue) : Type
 unfoldable pub AreMatched : Question → List PathValue → List PieceValue → Type 0
 AreMatched question paths pieces = (header : HeaderValue)
     → IsCandidate question (path_with pieces header)
-    → Spells (spelling header) header × IsMet paths (path_with pieces header)
+    → SpellsHeader (spelling header) header × IsMet paths (path_with pieces header)

@@ -3,7 +3,7 @@
 use Rattle.std.specs.Prelude.{ℕ, List, All, Contains}
 use Rattle.path_segment.specs.Chain.{Chain}
 use Rattle.path_header.specs.Value.{HeaderValue}
-use Rattle.path_header.specs.Spelling.{Spells, spelling}
+use Rattle.path_header.specs.Spelling.{SpellsHeader, spelling}
 use Rattle.path_server.specs.Lookup.{Selection}
 use Rattle.policy_expr.specs.Policy.{Rules}
 use Rattle.path_verifier.specs.declared.kind.PieceKind.{PieceKind}
@@ -61,4 +61,4 @@ HasNone question = (path : PathValue) → ¬ (IsCandidate question path)
 -- the header of each candidate is one of the grammar: its numbers fit into their bits
 abbrev pub AreSpelled : Question → Type 0
 AreSpelled question = (path : PathValue) → IsCandidate question path
-    → Spells (spelling path.header) path.header
+    → SpellsHeader (spelling path.header) path.header

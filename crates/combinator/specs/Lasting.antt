@@ -1,6 +1,6 @@
 -- Sets of segments that have the same answers (words of the laws).
 use Rattle.std.specs.Prelude.{◌↔◌, ℕ, List, All, Contains}
-use Rattle.path_segment.specs.Chain.{Chain, AreLive}
+use Rattle.path_segment.specs.Chain.{Chain, IsChainLive}
 use Rattle.path_server.specs.Lookup.{Selection}
 
 -- the lists have the same segments, in any order
@@ -15,6 +15,6 @@ pub record IsSameSet (set other : Selection) : Type 0 where
 
 -- each segment of the set is live at this second
 pub record AreAllLive (set : Selection) (now : ℕ) : Type 0 where
-  pub ups : All (λ segment. AreLive segment now) set.ups
-  pub cores : All (λ segment. AreLive segment now) set.cores
-  pub downs : All (λ segment. AreLive segment now) set.downs
+  pub ups : All (λ segment. IsChainLive segment now) set.ups
+  pub cores : All (λ segment. IsChainLive segment now) set.cores
+  pub downs : All (λ segment. IsChainLive segment now) set.downs

@@ -1,5 +1,5 @@
 ghost use Rattle.std.specs.Prelude.{◌≡◌, ◌⊎◌, IfOk, OnOk, IsTrue};
-ghost use Rattle.path_header.specs.Spelling.{Spells, spelling};
+ghost use Rattle.path_header.specs.Spelling.{SpellsHeader, spelling};
 ghost use Rattle.combinator.specs.Order.{path_cmp, walk_cmp, hop_cmp};
 ghost use Rattle.combinator.specs.BestByWalk.{by_walk, IsNoWorse};
 
@@ -31,7 +31,7 @@ pub(crate) struct RankedPath<'s, 'p, A: Allocator + Clone> {
 }
 
 impl<'s, 'p, A: Allocator + Clone> Model for RankedPath<'s, 'p, A> {
-    ghost use Rattle.path_header.specs.Spelling.{Spells};
+    ghost use Rattle.path_header.specs.Spelling.{SpellsHeader};
     ghost use Rattle.path_verifier.specs.Accepted.{IsExpiry};
     ghost use Rattle.combinator.specs.Candidate.{PathValue};
 
@@ -42,7 +42,7 @@ impl<'s, 'p, A: Allocator + Clone> Model for RankedPath<'s, 'p, A> {
 
     ghost invariant = { λ f. let parts = f.parts.value in
         IsExpiry parts.path.pieces parts.expiry
-        × Spells parts.bytes.items parts.path.header };
+        × SpellsHeader parts.bytes.items parts.path.header };
 }
 
 impl<'s, 'p, A: Allocator + Clone> RankedPath<'s, 'p, A> {
@@ -53,7 +53,7 @@ impl<'s, 'p, A: Allocator + Clone> RankedPath<'s, 'p, A> {
     ) -> Result<RankedPath<'s, 'p, A>, AllocError>
         ensures value { IfOk result
             (λ f. f ≡ record { pieces = path.entry.pieces; header = path.entry.header }) }
-        ensures spelled { OnOk result (Spells (spelling path.entry.header) path.entry.header) }
+        ensures spelled { OnOk result (SpellsHeader (spelling path.entry.header) path.entry.header) }
     {
         let mut room = [0; MAX_BYTES];
         let Ok(len) = encode(path.header(), &mut room) else {

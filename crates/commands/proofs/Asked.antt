@@ -11,7 +11,7 @@ use Rattle.commands.specs.declared.command.Command.{Command}
 use Rattle.commands.specs.declared.fault.WordsFault.{WordsFault}
 use Rattle.commands.specs.declared.fault.WordsFault.TheVariants.{Usage, Memory}
 use Rattle.commands.specs.Words.{asked, command_in, program_app, unless_faulty}
-use Rattle.commands.specs.Fault.{Asks, Explains, IsWordsFault}
+use Rattle.commands.specs.Fault.{AsksFor, Explains, IsWordsFault}
 
 -- the command line is one whose matches and faults `clap` states
 pub is_program_simple : is_simple program_app ≡ true
@@ -28,7 +28,7 @@ none_of (k ∷ ks) kind command among = refl
 
 -- words that `clap` refuses ask for nothing
 pub asked-refused : (words : List Text) (error : Error) (fault : WordsFault) → Explains fault error
-    → HasKind (fault_of program_app words) error → Asks (Err fault) (asked words)
+    → HasKind (fault_of program_app words) error → AsksFor (Err fault) (asked words)
 unfolding asked
 asked-refused words error (Usage text) differs has = elim has [
   | inl memory ↦ absurd (differs memory)
@@ -55,6 +55,6 @@ asked-named words found command none is named =
     ∙ (ap command_in (sym is) ∙ sym named)
 
 -- a fault of words is right where they ask for nothing
-pub Asks-none : (fault : WordsFault) (asked : Option Command) → IsWordsFault fault → asked ≡ None → Asks (Err fault) asked
+pub Asks-none : (fault : WordsFault) (asked : Option Command) → IsWordsFault fault → asked ≡ None → AsksFor (Err fault) asked
 Asks-none (Usage text) asked is none = none
 Asks-none Memory asked is none = tt

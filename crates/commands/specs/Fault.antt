@@ -40,21 +40,21 @@ Explains (words.Usage text) error = kind_of error ≢ OutOfMemory
 Explains words.Memory error = Unit {0}
 
 -- the words are this command, they are refused, or memory ran out
-abbrev pub Asks : Result Command WordsFault → Option Command → Type 0
-Asks (Ok command) asked = asked ≡ Some command
-Asks (Err (words.Usage text)) asked = asked ≡ None
-Asks (Err words.Memory) asked = Unit {0}
+abbrev pub AsksFor : Result Command WordsFault → Option Command → Type 0
+AsksFor (Ok command) asked = asked ≡ Some command
+AsksFor (Err (words.Usage text)) asked = asked ≡ None
+AsksFor (Err words.Memory) asked = Unit {0}
 
 -- the line of the turn in the words was returned; or the words have no turn; or they have one, and
 -- the packet's text is no packet; or memory ran out
-abbrev pub Answers : {A : Type 0} → Result (String A) CommandFault → Option Turn → List ℕ → Type 0
-Answers (Ok line) asked packet =
+abbrev pub AnswersTurn : {A : Type 0} → Result (String A) CommandFault → Option Turn → List ℕ → Type 0
+AnswersTurn (Ok line) asked packet =
     (turn : Turn) × ((asked ≡ Some turn) × (line_of turn packet ≡ Some (string_bytes line)))
-Answers (Err (Usage text)) asked packet = asked ≡ None
-Answers (Err PacketText) asked packet =
+AnswersTurn (Err (Usage text)) asked packet = asked ≡ None
+AnswersTurn (Err PacketText) asked packet =
     (turn : Turn) × ((asked ≡ Some turn) × (line_of turn packet ≡ None))
-Answers (Err Memory) asked packet = Unit {0}
-Answers (Err fault) asked packet = ⊥
+AnswersTurn (Err Memory) asked packet = Unit {0}
+AnswersTurn (Err fault) asked packet = ⊥
 
 -- ---- faults
 

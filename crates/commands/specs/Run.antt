@@ -41,8 +41,8 @@ abbrev pub SetsFlag : Change → Bool → Type 0
 SetsFlag change fails = change.has_failed ≡ (change.had_failed || fails)
 
 -- nothing was read or written, and nothing failed
-abbrev pub IsStill : Change → Type 0
-IsStill change = Keeps change.old change.new × SetsFlag change false
+abbrev pub IsUntouched : Change → Type 0
+IsUntouched change = Keeps change.old change.new × SetsFlag change false
 
 -- ---- one router's turn
 
@@ -62,19 +62,19 @@ whole_line line = line ++ codes "\n"
 
 -- the line was written; or not all of it, because a write failed; or there is no line; or memory
 -- ran out, and nothing was written
-abbrev pub Prints : {A : Type 0} → Result A CommandFault → Option (List ℕ) → Change → Type 0
-Prints (Ok x) (Some line) sink = Appends sink.old sink.new (whole_line line) × SetsFlag sink false
-Prints (Err Write) (Some line) sink =
+abbrev pub PrintsLine : {A : Type 0} → Result A CommandFault → Option (List ℕ) → Change → Type 0
+PrintsLine (Ok x) (Some line) sink = Appends sink.old sink.new (whole_line line) × SetsFlag sink false
+PrintsLine (Err Write) (Some line) sink =
     AppendsFront sink.old sink.new (whole_line line) × SetsFlag sink true
-Prints (Err PacketText) None sink = IsStill sink
-Prints (Err Memory) line sink = IsStill sink
-Prints answer line sink = ⊥
+PrintsLine (Err PacketText) None sink = IsUntouched sink
+PrintsLine (Err Memory) line sink = IsUntouched sink
+PrintsLine answer line sink = ⊥
 
 -- the line of the packet that was read is printed; or the result is the fault of the read
 abbrev pub PrintsOf : {A : Type 0} → Result A CommandFault → Turn
     → Result (List ℕ) InputFault → Change → Type 0
-PrintsOf answer turn (Ok bytes) sink = Prints answer (line_of turn bytes) sink
-PrintsOf answer turn (Err fault) sink = (answer ≡ Err (of_input fault)) × IsStill sink
+PrintsOf answer turn (Ok bytes) sink = PrintsLine answer (line_of turn bytes) sink
+PrintsOf answer turn (Err fault) sink = (answer ≡ Err (of_input fault)) × IsUntouched sink
 
 -- one router's turn: the line of the packet on the whole input is printed, or the result says why
 -- not
@@ -90,8 +90,8 @@ after_run (Ok done) = Ok done
 after_run (Err fault) = Err (of_run fault)
 
 -- a network's run: the lines of the source are answered on the sink, or the result says why not
-abbrev pub AnswersLines : Result (Unit {0}) CommandFault → Change → Change → Type 0
-AnswersLines answer source sink = (run : Result (Unit {0}) RunFault)
+abbrev pub AnswersSource : Result (Unit {0}) CommandFault → Change → Change → Type 0
+AnswersSource answer source sink = (run : Result (Unit {0}) RunFault)
     × ((answer ≡ after_run run)
     × (Runs run source.old source.new sink.old sink.new
     × (SetsFlag source (is_read_fault run) × SetsFlag sink (is_write_fault run))))
@@ -108,28 +108,28 @@ abbrev pub CarriesPackets : Result (Unit {0}) CommandFault → ℕ → ℕ → C
 CarriesPackets answer workers slots source sink = (run : Result (Unit {0}) WorkFault)
     × ((answer ≡ after_work run)
     × (work.Works run workers slots source.old source.new sink.old sink.new
-    × (SetsFlag source (work.is_read_fault run) × SetsFlag sink (work.is_write_fault run))))
+    × (SetsFlag source (work.is_work_read_fault run) × SetsFlag sink (work.is_work_write_fault run))))
 
 -- ---- the program
 
 -- the words are refused, or memory ran out
-abbrev pub IsRefusal : {A : Type 0} → Result A CommandFault → Type 0
-IsRefusal (Err (Usage text)) = Unit {0}
-IsRefusal (Err Memory) = Unit {0}
-IsRefusal answer = ⊥
+abbrev pub IsNoCommand : {A : Type 0} → Result A CommandFault → Type 0
+IsNoCommand (Err (Usage text)) = Unit {0}
+IsNoCommand (Err Memory) = Unit {0}
+IsNoCommand answer = ⊥
 
 -- the words are refused, and nothing was read or written
 abbrev pub Refuses : {A : Type 0} → Result A CommandFault → Change → Change → Type 0
-Refuses answer source sink = IsRefusal answer × (IsStill source × IsStill sink)
+Refuses answer source sink = IsNoCommand answer × (IsUntouched source × IsUntouched sink)
 
 -- the command of the words was carried out, or the result says why not; words that are no command
 -- are refused
-abbrev pub Does : Result (Unit {0}) CommandFault → Option Command → Change → Change → Type 0
-Does answer None source sink = Refuses answer source sink
-Does answer (Some command.Run) source sink = AnswersLines answer source sink
-Does answer (Some (command.Work workers slots)) source sink =
+abbrev pub DoesCommand : Result (Unit {0}) CommandFault → Option Command → Change → Change → Type 0
+DoesCommand answer None source sink = Refuses answer source sink
+DoesCommand answer (Some command.Run) source sink = AnswersSource answer source sink
+DoesCommand answer (Some (command.Work workers slots)) source sink =
     CarriesPackets answer workers slots source sink
-Does answer (Some (command.Step turn)) source sink = Steps answer turn source sink
+DoesCommand answer (Some (command.Step turn)) source sink = Steps answer turn source sink
 
 -- a message about the fault was written to standard error, whole if no write failed
 abbrev pub TellsOf : CommandFault → Change → Type 0
@@ -137,9 +137,9 @@ TellsOf fault errors = AppendsFront errors.old errors.new (text_of_fault fault)
     × (errors.has_failed ≡ false → Appends errors.old errors.new (text_of_fault fault))
 
 -- if the result is a fault, there is a message about it, and else none
-abbrev pub Tells : {A : Type 0} → Result A CommandFault → Change → Type 0
-Tells (Ok x) errors = IsStill errors
-Tells (Err fault) errors = TellsOf fault errors
+abbrev pub TellsFault : {A : Type 0} → Result A CommandFault → Change → Type 0
+TellsFault (Ok x) errors = IsUntouched errors
+TellsFault (Err fault) errors = TellsOf fault errors
 
 -- the status for a result
 abbrev pub status_after : {A : Type 0} → Result A CommandFault → Status
@@ -148,9 +148,9 @@ status_after (Err fault) = status_of fault
 
 -- the end of a run: the command was carried out or not, a fault has its message, and the status is
 -- that of the result
-pub record Ends (status : Status) (asked : Option Command) (source sink errors : Change)
+pub record EndsWith (status : Status) (asked : Option Command) (source sink errors : Change)
     : Type 0 where
   pub answer : Result (Unit {0}) CommandFault
-  pub does : Does answer asked source sink
-  pub tells : Tells answer errors
+  pub does : DoesCommand answer asked source sink
+  pub tells : TellsFault answer errors
   pub ended : status ≡ status_after answer

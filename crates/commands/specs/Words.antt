@@ -10,8 +10,8 @@ use Rattle.clap.specs.declared.builder.value_parser.ValueParser.TheVariants.{Sig
 use Rattle.clap.specs.declared.builder.command.Command.{Command}
 use Rattle.clap.specs.declared.builder.command.Command.TheViews.{out-Command}
 use Rattle.refusal.specs.Optional.{◌>>=◌}
-use Rattle.step_line.specs.Fields.{number_at}
-use Rattle.step_line.specs.Turn.{StepOptions, Turn, turn_of}
+use Rattle.step_line.specs.Fields.{bounded_number_at}
+use Rattle.step_line.specs.Turn.{StepOptions, Turn, turn_from}
 use Rattle.commands.specs.declared.command.Command.{Command as Asked}
 use Rattle.commands.specs.declared.command.Command.TheVariants.{Step, Run, Work}
 
@@ -85,18 +85,18 @@ texts_in rows = do
   })
 
 -- the turn of these matches
-abbrev pub turn_in : List Row → Option Turn
-turn_in rows = do
+abbrev pub turn_in_rows : List Row → Option Turn
+turn_in_rows rows = do
   texts ← texts_in rows
-  turn_of texts
+  turn_from texts
 
 -- the numbers of workers and of places in an inbox, from the matches of `work`
 abbrev pub work_in : List Row → Option Asked
 work_in rows = do
   workers_text ← first_of (codes "workers") rows
   slots_text ← first_of (codes "slots") rows
-  workers ← number_at 0 4294967295 workers_text
-  slots ← number_at 1 4096 slots_text
+  workers ← bounded_number_at 0 4294967295 workers_text
+  slots ← bounded_number_at 1 4096 slots_text
   Some (Work workers slots)
 
 -- the command with this name and these matches; without a name it is `run`
@@ -105,7 +105,7 @@ command_in None = Some Run
 command_in (Some named) =
     if bytes_eq named.0 (codes "run") then Some Run
     else if bytes_eq named.0 (codes "work") then work_in named.1
-    else option_map Step (turn_in named.1)
+    else option_map Step (turn_in_rows named.1)
 
 -- the inboxes of the command have 1 to 4,096 places
 abbrev pub IsInRange : Asked → Type 0
@@ -123,8 +123,8 @@ asked words =
     unless_faulty (fault_of program_app words) (command_in (subcommand_of program_app words))
 
 -- `clap` accepts the words after the program's name
-abbrev pub IsAccepted : List Text → Type 0
-IsAccepted words = fault_of program_app words ≡ []
+abbrev pub IsCommandLine : List Text → Type 0
+IsCommandLine words = fault_of program_app words ≡ []
 
 -- the turn of the command, if it is `step`
 abbrev pub turn_asked : Option Asked → Option Turn

@@ -1,7 +1,7 @@
 ghost use Rattle.std.specs.Prelude.{◌≡◌, IfErr, IfOk, IfSome, map};
 ghost use Rattle.clap.specs.Words.{subcommand_rows_of};
-ghost use Rattle.commands.specs.Words.{IsAccepted, IsInRange, asked, command_in, turn_asked};
-ghost use Rattle.commands.specs.Fault.{Answers, Asks, Explains, IsWordsFault};
+ghost use Rattle.commands.specs.Words.{IsCommandLine, IsInRange, asked, command_in, turn_asked};
+ghost use Rattle.commands.specs.Fault.{AnswersTurn, AsksFor, Explains, IsWordsFault};
 
 use crate::fault::{CommandFault, WordsFault};
 use crate::matched::{turn, work};
@@ -70,11 +70,11 @@ impl Command {
     /// number of `work` can't be read. [`WordsFault::Memory`] if memory runs out.
     #[tactic(auto, unfolding(crate::specs::Words::asked))]
     pub fn parse<'a>(alloc: Global, words: &'a [&'a str]) -> Result<Command, WordsFault>
-        ensures asks { Asks result (asked (map (λ word. word.now) words.entry.now)) }
+        ensures asks { AsksFor result (asked (map (λ word. word.now) words.entry.now)) }
         ensures range { IfOk result IsInRange }
         // For words that `clap` accepts and that are no command, the text is our own.
         ensures usage { IfErr result (λ fault.
-            IsAccepted (map (λ word. word.now) words.entry.now) → IsWordsFault fault) }
+            IsCommandLine (map (λ word. word.now) words.entry.now) → IsWordsFault fault) }
     {
         let matches = match program(alloc)?.try_get_matches_from(words) {
             Ok(matches) => matches,
@@ -98,7 +98,7 @@ pub fn step_line<'a>(
     words: &'a [&'a str],
     packet: &str,
 ) -> Result<String, CommandFault>
-    ensures { Answers result (turn_asked (asked (map (λ word. word.now) words.entry.now)))
+    ensures { AnswersTurn result (turn_asked (asked (map (λ word. word.now) words.entry.now)))
         packet.now }
 {
     match Command::parse(alloc, words)? {

@@ -2,7 +2,7 @@
 
 ghost use Rattle.std.specs.Prelude.{◌≡◌, IfOk, IfSome, codes, map, option_map};
 ghost use Rattle.clap.specs.Words.{all_of, first_of, found_of, rows_of};
-ghost use Rattle.commands.specs.Words.{IsInRange, turn_in, work_in};
+ghost use Rattle.commands.specs.Words.{IsInRange, turn_in_rows, work_in};
 
 use crate::command::Command;
 use clap::ArgMatches;
@@ -43,7 +43,7 @@ pub(crate) fn work(matches: &ArgMatches<'_>) -> Option<Command>
 ///
 /// [`AllocError`] if memory runs out.
 pub fn turn(alloc: Global, matches: &ArgMatches<'_>) -> Result<Option<StepCommand>, AllocError>
-    ensures { IfOk result (λ o. o ≡ turn_in (rows_of (found_of matches.now))) }
+    ensures { IfOk result (λ o. o ≡ turn_in_rows (rows_of (found_of matches.now))) }
 {
     let Some(ia) = text_of(matches, "ia") else {
         return Ok(None);

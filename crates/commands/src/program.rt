@@ -3,7 +3,7 @@
 ghost use Rattle.std.specs.Prelude.{◌≡◌, ◌<◌, ◌≤◌, IfErr, map};
 ghost use Rattle.commands.specs.Words.{asked};
 ghost use Rattle.commands.specs.Fault.{status_of};
-ghost use Rattle.commands.specs.Run.{AnswersLines, CarriesPackets, Does, Ends, Steps, TellsOf, change_of};
+ghost use Rattle.commands.specs.Run.{AnswersSource, CarriesPackets, DoesCommand, EndsWith, Steps, TellsOf, change_of};
 ghost use Rattle.commands.specs.declared.status.Status.TheVariants.{Done, Refused};
 
 use crate::command::Command;
@@ -43,7 +43,7 @@ fn run_network<S: Source, K: Sink>(
     source: &mut S,
     sink: &mut K,
 ) -> Result<(), CommandFault>
-    ensures { AnswersLines result (change_of S.left S.failed source.old source.new)
+    ensures { AnswersSource result (change_of S.left S.failed source.old source.new)
         (change_of K.held K.failed sink.old sink.new) }
 {
     run_lines(alloc, source, sink)?;
@@ -86,7 +86,7 @@ pub fn execute<'a, R: Threads + Wait + Sync, S: Source, K: Sink>(
     source: &mut S,
     sink: &mut K,
 ) -> Result<(), CommandFault>
-    ensures does { Does result (asked (map (λ word. word.now) words.entry.now))
+    ensures does { DoesCommand result (asked (map (λ word. word.now) words.entry.now))
         (change_of S.left S.failed source.old source.new)
         (change_of K.held K.failed sink.old sink.new) }
     ensures silent { IfErr result (λ fault. status_of fault ≡ Refused
@@ -121,7 +121,7 @@ pub fn run<'a, R: Threads + Wait + Sync, S: Source, K: Sink, E: Sink>(
     sink: &mut K,
     errors: &mut E,
 ) -> Status
-    ensures ends { Ends result (asked (map (λ word. word.now) words.entry.now))
+    ensures ends { EndsWith result (asked (map (λ word. word.now) words.entry.now))
         (change_of S.left S.failed source.old source.new)
         (change_of K.held K.failed sink.old sink.new)
         (change_of E.held E.failed errors.old errors.new) }

@@ -3,7 +3,7 @@ use Rattle.std.proofs.Common.{◌≡◌, ◌≢◌, ◌<◌, ◌==◌, ◌&&◌,
 use Rattle.std.proofs.lemmas.Bool.{and_parts}
 use Rattle.std.proofs.lemmas.Bool.Decides.{nat_tests}
 use Rattle.std.proofs.lemmas.List.Elements.{All-weaker, All-contains_itself}
-use Rattle.path_segment.specs.Chain.{Chain, AreLive}
+use Rattle.path_segment.specs.Chain.{Chain, IsChainLive}
 use Rattle.path_server.specs.Lookup.{Selection, segments_for}
 use Rattle.path_server.proofs.Plain.{ups_are_plain, downs_are_plain, cores_are_plain}
 use Rattle.refusal.specs.Refusal.{◌>>=◌, check, refused_as}
@@ -18,16 +18,16 @@ use Rattle.daemon_cache.specs.Entry.{HasSegmentsOf, IsOwn}
 use Rattle.segment_board.specs.Board.{Informed}
 use Rattle.daemon_cache.specs.declared.fault.AskFault.{AskFault}
 use Rattle.daemon_cache.specs.declared.fault.AskFault.TheVariants as fault
-use Rattle.daemon_cache.specs.Request.{RequestValue, IsAnswerTo, GivesNoAnswer, lawful_at}
+use Rattle.daemon_cache.specs.Request.{RequestValue, IsAnswerToRequest, GivesNoAnswer, lawful_at}
 
 -- what a look-up gives is live at its second
 pub found_is_live : (segments : List Chain) (src dst now : ℕ) → AreAllLive (segments_for segments src dst now) now
 found_is_live segments src dst now =
     let set = segments_for segments src dst now in
     record {
-      ups = All-weaker (Contains set.ups) (λ s. AreLive s now) (λ s there. ((ups_are_plain segments src dst now s).0 there).live) set.ups (All-contains_itself set.ups);
-      cores = All-weaker (Contains set.cores) (λ s. AreLive s now) (λ s there. ((cores_are_plain segments src dst now s).0 there).live) set.cores (All-contains_itself set.cores);
-      downs = All-weaker (Contains set.downs) (λ s. AreLive s now) (λ s there. ((downs_are_plain segments src dst now s).0 there).live) set.downs (All-contains_itself set.downs);
+      ups = All-weaker (Contains set.ups) (λ s. IsChainLive s now) (λ s there. ((ups_are_plain segments src dst now s).0 there).live) set.ups (All-contains_itself set.ups);
+      cores = All-weaker (Contains set.cores) (λ s. IsChainLive s now) (λ s there. ((cores_are_plain segments src dst now s).0 there).live) set.cores (All-contains_itself set.cores);
+      downs = All-weaker (Contains set.downs) (λ s. IsChainLive s now) (λ s there. ((downs_are_plain segments src dst now s).0 there).live) set.downs (All-contains_itself set.downs);
     }
 
 same_lists : (segments others : List Chain) → segments ≡ others → HaveSame segments others
@@ -35,7 +35,7 @@ same_lists segments others same s = (subst (λ (l : List Chain). Contains l s) s
 
 -- an entry's answer answers its request over each set of its segments, all of which are live
 pub served_answers : (request : RequestValue) (own set : Selection) (answer : AnswerValue) → IsOwn request own answer
-    → HasSegmentsOf own set → AreAllLive set set.moment → IsAnswerTo request set answer
+    → HasSegmentsOf own set → AreAllLive set set.moment → IsAnswerToRequest request set answer
 served_answers request own set answer is segments live =
     let same : IsSameSet own set = record {
       ups = same_lists own.ups set.ups segments.ups;

@@ -17,12 +17,12 @@ pub record RequestValue : Type 0 where
   pub texts : List OptionTexts
   pub limit : ℕ
 
-abbrev pub request_of : ℕ → ℕ → List OptionTexts → ℕ → RequestValue
-request_of src dst texts limit = record { src = src; dst = dst; texts = texts; limit = limit }
+abbrev pub request_value : ℕ → ℕ → List OptionTexts → ℕ → RequestValue
+request_value src dst texts limit = record { src = src; dst = dst; texts = texts; limit = limit }
 
 -- the answer is one to the request from this set of segments, under the options that the request's
 -- texts give
-pub record IsAnswerTo (request : RequestValue) (set : Selection)
+pub record IsAnswerToRequest (request : RequestValue) (set : Selection)
     (answer : AnswerValue) : Type 0 where
   pub options : List WeighedRules
   pub read : options_at request.texts ≡ Ok options

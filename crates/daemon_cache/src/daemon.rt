@@ -5,7 +5,7 @@ ghost use mathlib.Core.List.{IsPrefix};
 ghost use Rattle.path_server.specs.Store.{store_of};
 ghost use Rattle.path_server.specs.Lookup.{segments_for};
 ghost use Rattle.combinator.specs.Lasting.{AreAllLive};
-ghost use Rattle.daemon_cache.specs.Request.{GivesNoAnswer, IsAnswerTo, lawful_at, request_of};
+ghost use Rattle.daemon_cache.specs.Request.{GivesNoAnswer, IsAnswerToRequest, lawful_at, request_value};
 
 use crate::entry::Entry;
 use crate::fault::{AskError, AskFault};
@@ -45,7 +45,7 @@ fn empty_cache(alloc: Global, capacity: usize) -> Result<LruCache<u64, Arc<Entry
 #[tactic(auto, using(crate::proofs::Lookups::lawful_wants))]
 fn made(alloc: Global, set: &SegmentSet, request: &Request<'_>) -> Result<PathList, AllocError>
     requires { lawful_at request.now ≡ Ok tt }
-    ensures { IfOk result (IsAnswerTo request.now set.now) }
+    ensures { IfOk result (IsAnswerToRequest request.now set.now) }
 {
     let arena = Bump::new(alloc);
     let Ok(options) = PolicyOption::parse_all(&arena, request.options) else {
@@ -90,7 +90,7 @@ impl Daemon {
         request: &Request<'_>,
     ) -> Option<Result<PathList, AllocError>>
         requires { AreAllLive set.now set.now.moment }
-        ensures { IfSome result (λ given. IfOk given (IsAnswerTo request.now set.now)) }
+        ensures { IfSome result (λ given. IfOk given (IsAnswerToRequest request.now set.now)) }
     {
         let entry = self.entry(rt, request.key())?;
         entry.served(alloc, set, request)
@@ -119,7 +119,7 @@ impl Daemon {
     ) -> Result<(PathList, bool), AllocError>
         requires lawful { lawful_at request.now ≡ Ok tt }
         requires live { AreAllLive set set.moment }
-        ensures { IfOk result (λ given. IsAnswerTo request.now set given.0) }
+        ensures { IfOk result (λ given. IsAnswerToRequest request.now set given.0) }
     {
         match self.cached(rt, alloc, &set, request) {
             Some(Ok(paths)) => return Ok((paths, true)),
@@ -156,13 +156,13 @@ impl Daemon {
         ensures board { reader.new.board ≡ reader.old.board }
         ensures later { IsPrefix reader.old.seen reader.new.seen }
         // The answer is one to the request over what the reader has then seen.
-        ensures found { IfOk result (λ given. IsAnswerTo (request_of src dst options.now limit)
+        ensures found { IfOk result (λ given. IsAnswerToRequest (request_value src dst options.now limit)
             (segments_for (store_of reader.new.seen) src dst now) given.0) }
         // An answer is returned only to a lawful request.
-        ensures lawful { OnOk result (lawful_at (request_of src dst options.now limit) ≡ Ok tt) }
+        ensures lawful { OnOk result (lawful_at (request_value src dst options.now limit) ≡ Ok tt) }
         // Why there is no answer.
         ensures refused { IfErr result (λ error. GivesNoAnswer error
-            (request_of src dst options.now limit) reader.old reader.new) }
+            (request_value src dst options.now limit) reader.old reader.new) }
     {
         let request = Request {
             src,

@@ -2,7 +2,7 @@
 
 ghost use Rattle.std.specs.Prelude.{◌≡◌, ◌↔◌, IfOk, IfSome, IsSome, IsTrue};
 ghost use Rattle.combinator.specs.Lasting.{AreAllLive};
-ghost use Rattle.daemon_cache.specs.Request.{IsAnswerTo};
+ghost use Rattle.daemon_cache.specs.Request.{IsAnswerToRequest};
 ghost use Rattle.daemon_cache.specs.Entry.{HasSegmentsOf, IsFor};
 
 use crate::request::Request;
@@ -25,9 +25,9 @@ pub(crate) struct Entry {
 }
 
 impl Model for Entry {
-    ghost use Rattle.daemon_cache.specs.Entry.{Kept, IsOwn};
+    ghost use Rattle.daemon_cache.specs.Entry.{CachedAnswer, IsOwn};
 
-    ghost Value = { Kept };
+    ghost Value = { CachedAnswer };
 
     ghost view = { λ e. record { request = e.request; set = e.set; answer = e.paths } };
 
@@ -67,7 +67,7 @@ impl Entry {
         paths: &PathList,
     ) -> Result<Entry, AllocError>
         requires live { AreAllLive set set.moment }
-        requires answers { IsAnswerTo request.now set paths.now }
+        requires answers { IsAnswerToRequest request.now set paths.now }
         ensures { IfOk result (λ entry.
             entry ≡ record { request = request.now; set = set; answer = paths.now }) }
     {
@@ -89,7 +89,7 @@ impl Entry {
         requires { AreAllLive set.now set.now.moment }
         ensures own { IsSome result ↔ IsFor self.now request.now set.now }
         ensures same { IfSome result (λ given. IfOk given (λ paths. paths ≡ self.now.answer)) }
-        ensures answers { IfSome result (λ given. IfOk given (IsAnswerTo request.now set.now)) }
+        ensures answers { IfSome result (λ given. IfOk given (IsAnswerToRequest request.now set.now)) }
     {
         if !self.request.is_of(request) || !are_of_one(&self.set, set) {
             return None;

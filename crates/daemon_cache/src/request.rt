@@ -20,11 +20,11 @@ pub(crate) struct Request<'a> {
 }
 
 impl<'a> Model for Request<'a> {
-    ghost use Rattle.daemon_cache.specs.Request.{RequestValue, request_of};
+    ghost use Rattle.daemon_cache.specs.Request.{RequestValue, request_value};
 
     ghost Value = { RequestValue };
 
-    ghost view = { λ r. request_of r.src r.dst r.options.now r.limit };
+    ghost view = { λ r. request_value r.src r.dst r.options.now r.limit };
 }
 
 impl<'a> Request<'a> {

@@ -122,11 +122,11 @@ pub(crate) struct KeptRequest {
 }
 
 impl Model for KeptRequest {
-    ghost use Rattle.daemon_cache.specs.Request.{RequestValue, request_of};
+    ghost use Rattle.daemon_cache.specs.Request.{RequestValue, request_value};
 
     ghost Value = { RequestValue };
 
-    ghost view = { λ r. request_of r.src r.dst r.texts.items r.limit };
+    ghost view = { λ r. request_value r.src r.dst r.texts.items r.limit };
 }
 
 impl KeptRequest {

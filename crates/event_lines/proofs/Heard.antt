@@ -4,10 +4,10 @@ use Rattle.std.proofs.lemmas.List.{length-append}
 use Rattle.event_lines.specs.declared.fault.RunFault.{RunFault}
 use Rattle.event_lines.specs.declared.fault.RunFault.TheVariants as faults
 use Rattle.event_lines.specs.declared.accepted.AcceptedLines.{AcceptedLines}
-use Rattle.event_lines.specs.Run.{AreLines, ended, has_end, line_end}
+use Rattle.event_lines.specs.Run.{AreLines, ended_lines, has_line_end, line_end}
 use Rattle.event_lines.specs.Replies.{RepliesTo, RepliesToAll}
 use Rattle.event_lines.specs.Answers.{Stage, Closed}
-use Rattle.event_lines.specs.Session.{AnswersLines, AnswersBytes, IsCut, SessionValue, RepliesOrFails}
+use Rattle.event_lines.specs.Session.{AnswersLines, AnswersBytes, IsLineCut, SessionValue, RepliesOrFails}
 use Rattle.event_lines.proofs.Lines.{closed, cut_of, ended_more, grown, joined, none_read}
 use Rattle.event_lines.proofs.Telling.{told_append, told_one}
 
@@ -20,7 +20,7 @@ pub record Heard (accepted : AcceptedLines) (bytes left : List ℕ) (old now : S
   pub heard : AnswersLines accepted lines old now.stage now.replies
 
 -- nothing was heard yet
-pub heard_none : (accepted : AcceptedLines) (bytes : List ℕ) (old : SessionValue) → has_end old.rest ≡ false → Heard accepted bytes bytes old old
+pub heard_none : (accepted : AcceptedLines) (bytes : List ℕ) (old : SessionValue) → has_line_end old.rest ≡ false → Heard accepted bytes bytes old old
 heard_none accepted bytes old none = record {
   front = [];
   lines = [];
@@ -37,12 +37,12 @@ hears_more accepted {lines} {old} stage next replies after line text accepts say
   texts = accepts.texts ++ text ∷ [];
   told = told_append accepted old.stage stage next lines (line ∷ []) accepts.texts (text ∷ []) accepts.told (told_one accepted stage next line text says);
   kept = grows ∙ ap (λ l. l ++ (text ++ line_end ∷ [])) accepts.kept
-      ∙ append_assoc old.replies (ended accepts.texts) (text ++ line_end ∷ [])
+      ∙ append_assoc old.replies (ended_lines accepts.texts) (text ++ line_end ∷ [])
       ∙ ap (λ l. old.replies ++ l) (sym (ended_more accepts.texts text));
 }
 
 -- a line and its end behind lines
-line_read : {read rest : List ℕ} {lines : List (List ℕ)} (line : List ℕ) → AreLines read lines rest → has_end line ≡ false
+line_read : {read rest : List ℕ} {lines : List (List ℕ)} (line : List ℕ) → AreLines read lines rest → has_line_end line ≡ false
     → AreLines (read ++ (line ++ line_end ∷ [])) (lines ++ (rest ++ line) ∷ []) []
 line_read {read} {rest} {lines} line are one =
     subst (λ l. AreLines l (lines ++ (rest ++ line) ∷ []) []) (append_assoc read line (line_end ∷ []))
@@ -55,7 +55,7 @@ front_more front line behind =
 
 -- one line more was heard
 pub heard_line : (accepted : AcceptedLines) (bytes left line behind : List ℕ) (old now : SessionValue) (next : Stage) (after text : List ℕ)
-    → Heard accepted bytes left old now → IsCut left line behind
+    → Heard accepted bytes left old now → IsLineCut left line behind
     → RepliesTo accepted now.stage (now.rest ++ line) text next → after ≡ now.replies ++ (text ++ line_end ∷ [])
     → Heard accepted bytes behind old (record { stage = next; rest = []; replies = after })
 heard_line accepted bytes left line behind old now next after text heard cut says grows = record {
@@ -85,7 +85,7 @@ later_of accepted bytes left old now heard =
 
 -- the topology of the line that was heard last is refused
 pub heard_closed : (accepted : AcceptedLines) (bytes left line behind : List ℕ) (old now new : SessionValue) (text : List ℕ)
-    → Heard accepted bytes left old now → IsCut left line behind
+    → Heard accepted bytes left old now → IsLineCut left line behind
     → RepliesTo accepted now.stage (now.rest ++ line) text Closed → new.replies ≡ now.replies ++ (text ++ line_end ∷ [])
     → AnswersBytes accepted (Err faults.Topology) bytes old new
 heard_closed accepted bytes left line behind old now new text heard cut says grows =
@@ -111,7 +111,7 @@ heard_short accepted bytes left old now new heard same =
     )
 
 -- what is left has no line's end
-pub heard_all : (accepted : AcceptedLines) (bytes left : List ℕ) (old now new : SessionValue) → Heard accepted bytes left old now → has_end left ≡ false
+pub heard_all : (accepted : AcceptedLines) (bytes left : List ℕ) (old now new : SessionValue) → Heard accepted bytes left old now → has_line_end left ≡ false
     → new.rest ≡ now.rest ++ left → new.stage ≡ now.stage → new.replies ≡ now.replies
     → AnswersBytes accepted (Ok tt) bytes old new
 heard_all accepted bytes left old now new heard none rest stage replies = (
@@ -128,12 +128,12 @@ heard_all accepted bytes left old now new heard none rest stage replies = (
 )
 
 -- what stands behind a line is less
-pub shorter : (left line behind : List ℕ) → IsCut left line behind → length behind < length left
+pub shorter : (left line behind : List ℕ) → IsLineCut left line behind → length behind < length left
 shorter left line behind cut = subst (λ l. length behind < length l) (sym cut.whole) (grind (arith, length-append line (line_end ∷ behind)))
 
 -- the line that was heard last could not be answered
 pub heard_failed : (accepted : AcceptedLines) (bytes left line behind : List ℕ) (old now new : SessionValue) (fault : RunFault)
-    → Heard accepted bytes left old now → IsCut left line behind
+    → Heard accepted bytes left old now → IsLineCut left line behind
     → RepliesOrFails {A = Unit {0}} accepted (λ _. new.stage) (Err fault) now.stage (now.rest ++ line) now.replies new.replies
     → AnswersBytes accepted (Err fault) bytes old new
 heard_failed accepted bytes left line behind old now new faults.Topology heard cut tells =

@@ -3,7 +3,7 @@ use Rattle.std.proofs.Common.{rules, ◌≡◌, ℕ, List, [], ◌∷◌, ◌++�
 use Rattle.std.specs.List.{list_any}
 use Rattle.std.proofs.lemmas.Grind.{flat_map-append}
 use Rattle.std.proofs.lemmas.List.Folds.{list_any-append}
-use Rattle.event_lines.specs.Run.{AreLines, ended, has_end, line_end}
+use Rattle.event_lines.specs.Run.{AreLines, ended_lines, has_line_end, line_end}
 
 -- nothing passes a test in two lists where nothing does in each
 both_none : (a b : Bool) → a ≡ false → b ≡ false → (a || b) ≡ false
@@ -12,30 +12,30 @@ both_none false b p q = q
 
 -- bytes come among which no line ends
 pub grown : {bytes rest : List ℕ} {lines : List (List ℕ)} (more : List ℕ)
-    → AreLines bytes lines rest → has_end more ≡ false → AreLines (bytes ++ more) lines (rest ++ more)
+    → AreLines bytes lines rest → has_line_end more ≡ false → AreLines (bytes ++ more) lines (rest ++ more)
 grown {bytes} {rest} {lines} more are none = record {
-  whole = ap (λ l. l ++ more) are.whole ∙ append_assoc (ended lines) rest more;
+  whole = ap (λ l. l ++ more) are.whole ∙ append_assoc (ended_lines lines) rest more;
   apart = are.apart;
-  last = list_any-append (λ b. b == line_end) rest more ∙ both_none (has_end rest) (has_end more) are.last none;
+  last = list_any-append (λ b. b == line_end) rest more ∙ both_none (has_line_end rest) (has_line_end more) are.last none;
 }
 
 -- lines with one more
-pub ended_more : (lines : List (List ℕ)) (line : List ℕ) → ended (lines ++ line ∷ []) ≡ ended lines ++ (line ++ line_end ∷ [])
+pub ended_more : (lines : List (List ℕ)) (line : List ℕ) → ended_lines (lines ++ line ∷ []) ≡ ended_lines lines ++ (line ++ line_end ∷ [])
 ended_more lines line =
     flat_map-append (λ l. l ++ line_end ∷ []) lines (line ∷ [])
-    ∙ ap (λ l. ended lines ++ l) (append-nil (line ++ line_end ∷ []))
+    ∙ ap (λ l. ended_lines lines ++ l) (append-nil (line ++ line_end ∷ []))
 
-pub ended_append : (xs ys : List (List ℕ)) → ended (xs ++ ys) ≡ ended xs ++ ended ys
+pub ended_append : (xs ys : List (List ℕ)) → ended_lines (xs ++ ys) ≡ ended_lines xs ++ ended_lines ys
 ended_append xs ys = flat_map-append (λ l. l ++ line_end ∷ []) xs ys
 
 -- the end of a line comes
 pub closed : {bytes rest : List ℕ} {lines : List (List ℕ)}
     → AreLines bytes lines rest → AreLines (bytes ++ line_end ∷ []) (lines ++ rest ∷ []) []
 closed {bytes} {rest} {lines} are = record {
-  whole = ap (λ l. l ++ line_end ∷ []) are.whole ∙ append_assoc (ended lines) rest (line_end ∷ [])
-      ∙ sym (ended_more lines rest) ∙ sym (append-nil (ended (lines ++ rest ∷ [])));
-  apart = list_any-append has_end lines (rest ∷ [])
-      ∙ both_none (list_any has_end lines) (has_end rest || false) are.apart (both_none (has_end rest) false are.last refl);
+  whole = ap (λ l. l ++ line_end ∷ []) are.whole ∙ append_assoc (ended_lines lines) rest (line_end ∷ [])
+      ∙ sym (ended_more lines rest) ∙ sym (append-nil (ended_lines (lines ++ rest ∷ [])));
+  apart = list_any-append has_line_end lines (rest ∷ [])
+      ∙ both_none (list_any has_line_end lines) (has_line_end rest || false) are.apart (both_none (has_line_end rest) false are.last refl);
   last = refl;
 }
 
@@ -43,11 +43,11 @@ closed {bytes} {rest} {lines} are = record {
 pub joined : {read rest last : List ℕ} {lines more : List (List ℕ)} (bytes : List ℕ)
     → AreLines read lines rest → AreLines (rest ++ bytes) more last → AreLines (read ++ bytes) (lines ++ more) last
 joined {read} {rest} {last} {lines} {more} bytes first second = record {
-  whole = ap (λ l. l ++ bytes) first.whole ∙ append_assoc (ended lines) rest bytes
-      ∙ ap (λ l. ended lines ++ l) second.whole ∙ sym (append_assoc (ended lines) (ended more) last)
+  whole = ap (λ l. l ++ bytes) first.whole ∙ append_assoc (ended_lines lines) rest bytes
+      ∙ ap (λ l. ended_lines lines ++ l) second.whole ∙ sym (append_assoc (ended_lines lines) (ended_lines more) last)
       ∙ ap (λ l. l ++ last) (sym (ended_append lines more));
-  apart = list_any-append has_end lines more
-      ∙ both_none (list_any has_end lines) (list_any has_end more) first.apart second.apart;
+  apart = list_any-append has_line_end lines more
+      ∙ both_none (list_any has_line_end lines) (list_any has_line_end more) first.apart second.apart;
   last = second.last;
 }
 
@@ -57,7 +57,7 @@ pub record Cut (bytes : List ℕ) : Type 0 where
   pub rest : List ℕ
   pub are : AreLines bytes lines rest
 
-pub none_read : (rest : List ℕ) → has_end rest ≡ false → AreLines rest [] rest
+pub none_read : (rest : List ℕ) → has_line_end rest ≡ false → AreLines rest [] rest
 none_read rest none = record { whole = refl; apart = refl; last = none }
 
 with_first : (b : ℕ) (bytes : List ℕ) → Cut bytes → (is : Bool) → (b == line_end) ≡ is → Cut (b ∷ bytes)
@@ -79,7 +79,7 @@ with_first b bytes cut false is = onto cut.lines cut.rest cut.are
       are = record {
         whole = ap (λ l. b ∷ l) are.whole;
         apart = refl;
-        last = both_none (b == line_end) (has_end rest) is are.last;
+        last = both_none (b == line_end) (has_line_end rest) is are.last;
       };
     }
     onto (line ∷ lines) rest are = record {
@@ -87,7 +87,7 @@ with_first b bytes cut false is = onto cut.lines cut.rest cut.are
       rest = rest;
       are = record {
         whole = ap (λ l. b ∷ l) are.whole;
-        apart = ap (λ t. (t || has_end line) || list_any has_end lines) is ∙ are.apart;
+        apart = ap (λ t. (t || has_line_end line) || list_any has_line_end lines) is ∙ are.apart;
         last = are.last;
       };
     }

@@ -6,7 +6,7 @@ use Rattle.std.proofs.KnownBytes.{Appends-kept, Appends-trans, Consumes-kept, Co
 use Rattle.event_lines.specs.declared.fault.RunFault.{RunFault}
 use Rattle.event_lines.specs.declared.fault.RunFault.TheVariants as faults
 use Rattle.event_lines.specs.declared.accepted.AcceptedLines.{AcceptedLines}
-use Rattle.event_lines.specs.Run.{AreAll, AreFirst, AreLines, Ends, Listens, Wrote, WroteSome, all_lines, ended, most_input, most_read}
+use Rattle.event_lines.specs.Run.{AreAll, AreFirst, AreLines, Ends, Listens, Wrote, WroteSome, all_lines, ended_lines, most_input, most_read}
 use Rattle.network_core.specs.Value.{NetValue}
 use Rattle.event_lines.specs.Replies.{RepliesTo, RepliesToAll}
 use Rattle.event_lines.specs.Answers.{Stage, Unbegun, Open, Closed, RepliesToInput}
@@ -27,7 +27,7 @@ pub record SoFar (accepted : AcceptedLines) (before after held holds : Option (L
   pub are : AreLines read lines session.rest
   pub texts : List (List ℕ)
   pub told : RepliesToAll accepted Unbegun lines texts session.stage
-  pub same : went ≡ ended texts
+  pub same : went ≡ ended_lines texts
   pub none : session.replies ≡ []
   pub few : count ≤ most_input
 
@@ -59,13 +59,13 @@ passed_on accepted before after now held holds with {session} {count} bytes next
   read = far.read ++ bytes;
   consumed = Consumes-trans before after now far.read bytes far.consumed more;
   counted = length-append far.read bytes ∙ ap (λ n. n + length bytes) far.counted;
-  went = far.went ++ ended passes.texts;
-  appended = Appends-trans held holds with far.went (ended passes.texts) far.appended passes.kept;
+  went = far.went ++ ended_lines passes.texts;
+  appended = Appends-trans held holds with far.went (ended_lines passes.texts) far.appended passes.kept;
   lines = far.lines ++ lines;
   are = joined bytes far.are are;
   texts = far.texts ++ passes.texts;
   told = told_append accepted Unbegun session.stage next.stage far.lines lines far.texts passes.texts far.told passes.told;
-  same = ap (λ l. l ++ ended passes.texts) far.same ∙ sym (ended_append far.texts passes.texts);
+  same = ap (λ l. l ++ ended_lines passes.texts) far.same ∙ sym (ended_append far.texts passes.texts);
   none = none;
   few = few;
 }
@@ -82,15 +82,15 @@ written_on : (accepted : AcceptedLines) {before after held holds : Option (List 
     → (far : SoFar accepted before after held holds session count) → Passes accepted lines session stage holds with
     → (went : List ℕ) × (Appends held with went × Wrote accepted (far.lines ++ lines) went stage)
 written_on accepted {before} {after} {held} {holds} with {session} {count} lines stage far passes = (
-  far.went ++ ended passes.texts,
+  far.went ++ ended_lines passes.texts,
   (
-    Appends-trans held holds with far.went (ended passes.texts) far.appended passes.kept,
+    Appends-trans held holds with far.went (ended_lines passes.texts) far.appended passes.kept,
     (
       far.texts ++ passes.texts,
       (
         told_as_run accepted (far.lines ++ lines) (far.texts ++ passes.texts) stage
             (told_append accepted Unbegun session.stage stage far.lines lines far.texts passes.texts far.told passes.told),
-        ap (λ l. l ++ ended passes.texts) far.same ∙ sym (ended_append far.texts passes.texts),
+        ap (λ l. l ++ ended_lines passes.texts) far.same ∙ sym (ended_append far.texts passes.texts),
       ),
     ),
   ),
@@ -108,9 +108,9 @@ some_on : (accepted : AcceptedLines) {before after held holds : Option (List ℕ
     → (far : SoFar accepted before after held holds session count) → PassesSome accepted lines session holds with
     → (went : List ℕ) × (Appends held with went × WroteSome accepted (far.lines ++ lines) went)
 some_on accepted {before} {after} {held} {holds} with {session} {count} lines far passes = (
-  far.went ++ take passes.most (ended passes.texts),
+  far.went ++ take passes.most (ended_lines passes.texts),
   (
-    Appends-trans held holds with far.went (take passes.most (ended passes.texts)) far.appended passes.kept,
+    Appends-trans held holds with far.went (take passes.most (ended_lines passes.texts)) far.appended passes.kept,
     (
       far.texts ++ passes.texts,
       passes.stage,
@@ -118,8 +118,8 @@ some_on accepted {before} {after} {held} {holds} with {session} {count} lines fa
       (
         told_as_run accepted (far.lines ++ lines) (far.texts ++ passes.texts) passes.stage
             (told_append accepted Unbegun session.stage passes.stage far.lines lines far.texts passes.texts far.told passes.told),
-        take_behind far.went (ended passes.texts) passes.most
-            ∙ ap (take (length far.went + passes.most)) (ap (λ l. l ++ ended passes.texts) far.same ∙ sym (ended_append far.texts passes.texts)),
+        take_behind far.went (ended_lines passes.texts) passes.most
+            ∙ ap (take (length far.went + passes.most)) (ap (λ l. l ++ ended_lines passes.texts) far.same ∙ sym (ended_append far.texts passes.texts)),
       ),
     ),
   ),

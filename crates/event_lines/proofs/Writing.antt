@@ -9,10 +9,10 @@ use Rattle.network_core.specs.Value.{NetValue, new_net}
 use Rattle.event_lines.specs.declared.fault.RunFault.{RunFault}
 use Rattle.event_lines.specs.declared.fault.RunFault.TheVariants as faults
 use Rattle.event_lines.specs.declared.accepted.AcceptedLines.{AcceptedLines}
-use Rattle.event_lines.specs.Run.{AreLines, ended, line_end}
+use Rattle.event_lines.specs.Run.{AreLines, ended_lines, line_end}
 use Rattle.event_lines.specs.Replies.{Opens, RepliesTo}
 use Rattle.event_lines.specs.Answers.{Stage, Unbegun, Open, Closed}
-use Rattle.event_lines.specs.Session.{Exchanges, Finishes, AnswersLines, AnswersBytes, IsDone, Passes, PassesSome, SessionValue, RepliesOrFails, Writes, last_lines, stage_of}
+use Rattle.event_lines.specs.Session.{Exchanges, Finishes, AnswersLines, AnswersBytes, IsRunDone, Passes, PassesSome, SessionValue, RepliesOrFails, WritesRest, last_lines, stage_of}
 use Rattle.event_lines.proofs.Telling.{told_one}
 
 -- a beginning of the replies to these lines was written
@@ -24,7 +24,7 @@ some_written accepted lines old mid stage held holds none accepts wrote = record
   stage = stage;
   told = accepts.told;
   most = wrote.0;
-  kept = subst (λ l. Appends held holds (take wrote.0 l)) (accepts.kept ∙ ap (λ l. l ++ ended accepts.texts) none) wrote.1;
+  kept = subst (λ l. Appends held holds (take wrote.0 l)) (accepts.kept ∙ ap (λ l. l ++ ended_lines accepts.texts) none) wrote.1;
 }
 
 -- a write failed after bytes were heard
@@ -52,7 +52,7 @@ write_failed accepted (Err faults.InputTooLong) bytes old mid new held holds non
 
 pub exchange_failed : (accepted : AcceptedLines) (heard : Result (Unit {0}) RunFault) (fault : RunFault) (bytes : List ℕ) (old mid new : SessionValue)
     (held holds : Option (List ℕ))
-    → old.replies ≡ [] → AnswersBytes accepted heard bytes old mid → Writes (Err fault) mid new held holds
+    → old.replies ≡ [] → AnswersBytes accepted heard bytes old mid → WritesRest (Err fault) mid new held holds
     → Exchanges accepted (Err fault) bytes old new held holds
 exchange_failed accepted heard faults.Write bytes old mid new held holds none accepts wrote =
     write_failed accepted heard bytes old mid new held holds none accepts wrote
@@ -64,13 +64,13 @@ exchange_failed accepted heard faults.InputTooLong bytes old mid new held holds 
 -- ---- the last line
 
 -- nothing is left to be told
-pub nothing_told : (accepted : AcceptedLines) (old : SessionValue) (net : NetValue) (held : Option (List ℕ)) → IsDone old net
+pub nothing_told : (accepted : AcceptedLines) (old : SessionValue) (net : NetValue) (held : Option (List ℕ)) → IsRunDone old net
     → Passes accepted (last_lines old) old (Open net) held held
 nothing_told accepted old net held done = subst (λ ls. Passes accepted ls old (Open net) held held) (sym done.none)
     (record { texts = []; told = (refl, sym done.begun); kept = Appends-nil held })
 
 -- the replies to one line are the reply
-one_reply : (replies text : List ℕ) → replies ≡ [] ++ (text ++ line_end ∷ []) → replies ≡ ended (text ∷ [])
+one_reply : (replies text : List ℕ) → replies ≡ [] ++ (text ++ line_end ∷ []) → replies ≡ ended_lines (text ∷ [])
 one_reply replies text is = is ∙ sym (append-nil (text ++ line_end ∷ []))
 
 -- the reply to the last line was written
@@ -176,7 +176,7 @@ pub finish_failed : (accepted : AcceptedLines) (told : Result (Unit {0}) RunFaul
     (held holds : Option (List ℕ))
     → old.replies ≡ [] → last_lines old ≡ old.rest ∷ []
     → RepliesOrFails {A = Unit {0}} accepted (λ _. stage_of net) told old.stage old.rest old.replies mid.replies
-    → Writes (Err fault) mid new held holds → Finishes accepted (Err fault) old stage held holds
+    → WritesRest (Err fault) mid new held holds → Finishes accepted (Err fault) old stage held holds
 finish_failed accepted told faults.Write old mid new net stage held holds none one tells wrote =
     last_failed accepted told old net stage mid.replies held holds none one tells wrote
 finish_failed accepted told faults.Topology old mid new net stage held holds none one tells wrote = absurd wrote

@@ -31,8 +31,8 @@ abbrev pub byte_at : List ℕ → Data → Option ℕ
 byte_at name d = whole_at 0 255 name d
 
 -- the address in a member
-unfoldable pub ia_at : List ℕ → Data → Option ℕ
-ia_at name d = do
+unfoldable pub ia_in : List ℕ → Data → Option ℕ
+ia_in name d = do
   text ← text_at name d
   only (address_at text)
 
@@ -97,7 +97,7 @@ tick_in d = do
 
 unfoldable pub originate_in : Data → Option EventValue
 originate_in d = do
-  ia ← ia_at (codes "ia") d
+  ia ← ia_in (codes "ia") d
   egress ← short_at (codes "egress") d
   beta0 ← short_at (codes "beta0") d
   Some (Originate ia egress beta0)
@@ -105,21 +105,21 @@ originate_in d = do
 unfoldable pub extend_in : Data → Option EventValue
 extend_in d = do
   beacon ← long_at (codes "beacon") d
-  ia ← ia_at (codes "ia") d
+  ia ← ia_in (codes "ia") d
   egress ← short_at (codes "egress") d
   Some (Extend beacon ia egress)
 
 unfoldable pub terminate_in : Data → Option EventValue
 terminate_in d = do
   beacon ← long_at (codes "beacon") d
-  ia ← ia_at (codes "ia") d
+  ia ← ia_in (codes "ia") d
   Some (Terminate beacon ia)
 
 unfoldable pub ask_in : Data → Option EventValue
 ask_in d = do
   texts ← options_in d
-  src ← ia_at (codes "src") d
-  dst ← ia_at (codes "dst") d
+  src ← ia_in (codes "src") d
+  dst ← ia_in (codes "dst") d
   limit ← long_at (codes "limit") d
   Some (Ask src dst (options_at texts) limit)
 
@@ -130,8 +130,8 @@ send_in d = do
   path ← long_at (codes "path") d
   Some (Send (ByAnswer ask path) payload)
 
-unfoldable pub turn_in : Data → Option EventValue
-turn_in d = do
+unfoldable pub turn_event_in : Data → Option EventValue
+turn_event_in d = do
   packet ← long_at (codes "packet") d
   Some (Turn packet)
 
@@ -155,20 +155,20 @@ back_in d = do
 
 unfoldable pub cut_in : Data → Option EventValue
 cut_in d = do
-  ia ← ia_at (codes "ia") d
+  ia ← ia_in (codes "ia") d
   interface ← short_at (codes "if") d
   Some (CutLink ia interface)
 
 unfoldable pub mend_in : Data → Option EventValue
 mend_in d = do
-  ia ← ia_at (codes "ia") d
+  ia ← ia_in (codes "ia") d
   interface ← short_at (codes "if") d
   Some (MendLink ia interface)
 
 unfoldable pub rotate_in : Data → Option EventValue
 rotate_in d = do
   key ← bytes_at (codes "key") d
-  ia ← ia_at (codes "ia") d
+  ia ← ia_in (codes "ia") d
   Some (RotateKey ia key)
 
 -- the events that have neither bytes nor texts
@@ -179,7 +179,7 @@ plain_event word d =
     else if bytes_eq word (codes "extend") then extend_in d
     else if bytes_eq word (codes "terminate") then terminate_in d
     else if bytes_eq word (codes "sweep") then Some Sweep
-    else if bytes_eq word (codes "turn") then turn_in d
+    else if bytes_eq word (codes "turn") then turn_event_in d
     else if bytes_eq word (codes "lose") then lose_in d
     else if bytes_eq word (codes "alter") then alter_in d
     else if bytes_eq word (codes "cut") then cut_in d

@@ -16,18 +16,18 @@ abbrev pub line_end : ℕ
 line_end = 10
 
 -- whether the bytes have the end of a line among them
-abbrev pub has_end : List ℕ → Bool
-has_end bytes = list_any (λ b. b == line_end) bytes
+abbrev pub has_line_end : List ℕ → Bool
+has_line_end bytes = list_any (λ b. b == line_end) bytes
 
 -- the bytes of these lines, each with its end
-abbrev pub ended : List (List ℕ) → List ℕ
-ended lines = flat_map (λ line. line ++ line_end ∷ []) lines
+abbrev pub ended_lines : List (List ℕ) → List ℕ
+ended_lines lines = flat_map (λ line. line ++ line_end ∷ []) lines
 
 -- the bytes are these lines, each with its end, and after them a rest without an end
 pub record AreLines (bytes : List ℕ) (lines : List (List ℕ)) (rest : List ℕ) : Type 0 where
-  pub whole : bytes ≡ ended lines ++ rest
-  pub apart : list_any has_end lines ≡ false
-  pub last : has_end rest ≡ false
+  pub whole : bytes ≡ ended_lines lines ++ rest
+  pub apart : list_any has_line_end lines ≡ false
+  pub last : has_line_end rest ≡ false
 
 -- the lines of an input, the last of which may lack its end; an input without bytes is one empty
 -- line
@@ -59,12 +59,12 @@ most_input = 67108864
 -- exactly the replies to these lines were written, and the run is in this state after them
 abbrev pub Wrote : AcceptedLines → List (List ℕ) → List ℕ → Stage → Type 0
 Wrote accepted lines went stage =
-    (texts : List (List ℕ)) × (RepliesToInput accepted lines texts stage × (went ≡ ended texts))
+    (texts : List (List ℕ)) × (RepliesToInput accepted lines texts stage × (went ≡ ended_lines texts))
 
 -- a beginning of the replies to these lines was written
 abbrev pub WroteSome : AcceptedLines → List (List ℕ) → List ℕ → Type 0
 WroteSome accepted lines went = (texts : List (List ℕ)) × (stage : Stage) × (n : ℕ)
-    × (RepliesToInput accepted lines texts stage × (went ≡ take n (ended texts)))
+    × (RepliesToInput accepted lines texts stage × (went ≡ take n (ended_lines texts)))
 
 -- the replies to all complete lines of what was read were written
 abbrev pub WroteWhole : AcceptedLines → List ℕ → List ℕ → Type 0

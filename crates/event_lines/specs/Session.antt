@@ -9,7 +9,7 @@ use Rattle.event_lines.specs.declared.fault.RunFault.TheVariants as faults
 use Rattle.event_lines.specs.declared.accepted.AcceptedLines.{AcceptedLines}
 use Rattle.event_lines.specs.Replies.{RepliesTo, RepliesToAll}
 use Rattle.event_lines.specs.Answers.{Stage, Unbegun, Open, Closed}
-use Rattle.event_lines.specs.Run.{AreLines, ended, has_end, line_end}
+use Rattle.event_lines.specs.Run.{AreLines, ended_lines, has_line_end, line_end}
 
 -- the state of a run whose network is this one, if it has begun
 abbrev pub stage_of : Option NetValue → Stage
@@ -17,9 +17,9 @@ stage_of None = Unbegun
 stage_of (Some net) = Open net
 
 -- the bytes are a line with its end, and the rest after it
-pub record IsCut (bytes line rest : List ℕ) : Type 0 where
+pub record IsLineCut (bytes line rest : List ℕ) : Type 0 where
   pub whole : bytes ≡ line ++ line_end ∷ rest
-  pub one : has_end line ≡ false
+  pub one : has_line_end line ≡ false
 
 -- one line was answered, and the value gives the state of the run; or the topology was refused; or
 -- memory ran out
@@ -41,8 +41,8 @@ pub record SessionValue : Type 0 where
   pub replies : List ℕ
 
 -- the value of a session
-abbrev pub value_of : Session → SessionValue
-value_of session = record {
+abbrev pub session_value : Session → SessionValue
+session_value session = record {
   stage = stage_of session.net;
   rest = session.rest.items;
   replies = string_bytes session.replies;
@@ -54,7 +54,7 @@ pub record AnswersLines (accepted : AcceptedLines) (lines : List (List ℕ)) (ol
     (replies : List ℕ) : Type 0 where
   pub texts : List (List ℕ)
   pub told : RepliesToAll accepted old.stage lines texts stage
-  pub kept : replies ≡ old.replies ++ ended texts
+  pub kept : replies ≡ old.replies ++ ended_lines texts
 
 -- the lines of these bytes were answered: all of them; or those up to a topology that was refused;
 -- or those before memory ran out
@@ -86,7 +86,7 @@ abbrev pub last_lines : SessionValue → List (List ℕ)
 last_lines session = last_after session.stage session.rest
 
 -- the run has begun, and the rest has no line
-pub record IsDone (session : SessionValue) (net : NetValue) : Type 0 where
+pub record IsRunDone (session : SessionValue) (net : NetValue) : Type 0 where
   pub begun : session.stage ≡ Open net
   pub none : last_lines session ≡ []
 
@@ -99,12 +99,12 @@ Brings (Some bytes) before after most =
     Consumes before after bytes × ((bytes ≡ [] → IsAtEnd after) × (length bytes ≤ most))
 
 -- the replies that were not written yet were written, or a beginning of them
-abbrev pub Writes : Result (Unit {0}) RunFault → SessionValue → SessionValue → Option (List ℕ)
+abbrev pub WritesRest : Result (Unit {0}) RunFault → SessionValue → SessionValue → Option (List ℕ)
     → Option (List ℕ) → Type 0
-Writes (Ok done) old new held holds =
+WritesRest (Ok done) old new held holds =
     Appends held holds old.replies × (new ≡ record old { replies = [] })
-Writes (Err faults.Write) old new held holds = (n : ℕ) × Appends held holds (take n old.replies)
-Writes (Err fault) old new held holds = ⊥
+WritesRest (Err faults.Write) old new held holds = (n : ℕ) × Appends held holds (take n old.replies)
+WritesRest (Err fault) old new held holds = ⊥
 
 -- these lines were answered after the earlier ones, and the replies were written
 pub record Passes (accepted : AcceptedLines) (lines : List (List ℕ)) (old : SessionValue)
@@ -112,7 +112,7 @@ pub record Passes (accepted : AcceptedLines) (lines : List (List ℕ)) (old : Se
     (held holds : Option (List ℕ)) : Type 0 where
   pub texts : List (List ℕ)
   pub told : RepliesToAll accepted old.stage lines texts stage
-  pub kept : Appends held holds (ended texts)
+  pub kept : Appends held holds (ended_lines texts)
 
 -- these lines were answered after the earlier ones, and a beginning of the replies was written
 pub record PassesSome (accepted : AcceptedLines) (lines : List (List ℕ)) (old : SessionValue)
@@ -121,7 +121,7 @@ pub record PassesSome (accepted : AcceptedLines) (lines : List (List ℕ)) (old 
   pub stage : Stage
   pub told : RepliesToAll accepted old.stage lines texts stage
   pub most : ℕ
-  pub kept : Appends held holds (take most (ended texts))
+  pub kept : Appends held holds (take most (ended_lines texts))
 
 -- the lines of these bytes were answered, and the replies written: all; or those up to a topology
 -- that was refused; or those before memory ran out; or a beginning of the replies

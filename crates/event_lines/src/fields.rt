@@ -5,7 +5,7 @@ ghost use Rattle.std.specs.String.{string_bytes};
 ghost use Rattle.serde_json.specs.Find.{as_str};
 ghost use Rattle.serde_json.specs.View.{view, items_view};
 ghost use Rattle.json_fields.specs.Fields.{items_at};
-ghost use Rattle.event_lines.specs.Line.{byte_at, bytes_at, ia_at, long_at, maybe_text_at, one_option, option_in, option_with, options_in, listed_options, short_at, texts_at};
+ghost use Rattle.event_lines.specs.Line.{byte_at, bytes_at, ia_in, long_at, maybe_text_at, one_option, option_in, option_with, options_in, listed_options, short_at, texts_at};
 
 use crate::asked::OwnedOptionText;
 use hex::FromHexError;
@@ -48,9 +48,9 @@ pub(crate) fn interface(value: &Value, name: &str) -> Option<IfId>
 }
 
 /// A member that is an address.
-#[tactic(auto, unfolding(crate::specs::Line::ia_at))]
+#[tactic(auto, unfolding(crate::specs::Line::ia_in))]
 pub fn ia(value: &Value, name: &str) -> Option<IsdAs>
-    ensures { result ≡ ia_at name.now (view value.now) }
+    ensures { result ≡ ia_in name.now (view value.now) }
 {
     let text = text(value, name)?;
     IsdAs::parse(text).ok()

@@ -3,7 +3,7 @@
 ghost use Rattle.std.specs.Prelude.{◌≡◌, IfOk, None, Ok, Some, codes, option_map};
 ghost use Rattle.serde_json.specs.View.{view};
 ghost use Rattle.network_core.specs.Seen as events;
-ghost use Rattle.event_lines.specs.Line.{alter_in, ask_in, back_in, bytes_at, cut_in, extend_in, lose_in, mend_in, options_in, originate_in, plain_event, rotate_in, send_in, show_in, terminate_in, tick_in, turn_in, untexted_event};
+ghost use Rattle.event_lines.specs.Line.{alter_in, ask_in, back_in, bytes_at, cut_in, extend_in, lose_in, mend_in, options_in, originate_in, plain_event, rotate_in, send_in, show_in, terminate_in, tick_in, turn_event_in, untexted_event};
 ghost use Rattle.event_lines.specs.Seen.{payload_in, line_value};
 
 use crate::fields::{byte, bytes, ia, interface, long, short};
@@ -124,9 +124,9 @@ fn terminate<'a>(value: &Value) -> Option<Event<'a>>
     Some(Event::Terminate { beacon, ia })
 }
 
-#[tactic(auto, unfolding(crate::specs::Line::turn_in))]
+#[tactic(auto, unfolding(crate::specs::Line::turn_event_in))]
 fn turn<'a>(value: &Value) -> Option<Event<'a>>
-    ensures { option_map events.event_value result ≡ turn_in (view value.now) }
+    ensures { option_map events.event_value result ≡ turn_event_in (view value.now) }
 {
     let packet = long(value, "packet")?;
     Some(Event::Turn { packet })

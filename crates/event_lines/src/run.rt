@@ -2,8 +2,8 @@
 
 ghost use Rattle.std.specs.Prelude.{◌≡◌, ◌+◌, ◌<◌, ◌≤◌, ◌||◌, [], false, is_none, length, option_map};
 ghost use Rattle.std.specs.String.{string_bytes};
-ghost use Rattle.event_lines.specs.Run.{Listens, Runs, has_end, is_read_fault, is_write_fault, most_input};
-ghost use Rattle.event_lines.specs.Session.{Brings, Exchanges, Finishes, Writes, stage_of, value_of};
+ghost use Rattle.event_lines.specs.Run.{Listens, Runs, has_line_end, is_read_fault, is_write_fault, most_input};
+ghost use Rattle.event_lines.specs.Session.{Brings, Exchanges, Finishes, WritesRest, stage_of, session_value};
 
 use crate::accepted::AcceptedLines;
 use crate::fault::RunFault;
@@ -46,7 +46,7 @@ fn read_into<'r, S: Source>(source: &mut S, room: &'r mut [u8]) -> Option<&'r [u
 
 /// Writes the replies that are not written yet.
 fn write_replies<K: Sink>(session: &mut Session, sink: &mut K) -> Result<(), RunFault>
-    ensures written { Writes result (value_of session.old) (value_of session.new)
+    ensures written { WritesRest result (session_value session.old) (session_value session.new)
         (K.held sink.old) (K.held sink.new) }
     ensures flag { K.failed sink.new ≡ (K.failed sink.old || is_write_fault result) }
 {
@@ -68,9 +68,9 @@ fn exchange<K: Sink>(
     sink: &mut K,
     bytes: &[u8],
 ) -> Result<(), RunFault>
-    requires whole { has_end session.old.rest.items ≡ false }
+    requires whole { has_line_end session.old.rest.items ≡ false }
     requires written { string_bytes session.old.replies ≡ [] }
-    ensures told { Exchanges accepted result bytes.now (value_of session.old) (value_of session.new)
+    ensures told { Exchanges accepted result bytes.now (session_value session.old) (session_value session.new)
         (K.held sink.old) (K.held sink.new) }
     ensures flag { K.failed sink.new ≡ (K.failed sink.old || is_write_fault result) }
 {
@@ -88,7 +88,7 @@ fn finish<K: Sink>(
     sink: &mut K,
 ) -> Result<(), RunFault>
     requires { string_bytes session.old.replies ≡ [] }
-    ensures told { Finishes accepted result (value_of session.old) (stage_of session.new.net)
+    ensures told { Finishes accepted result (session_value session.old) (stage_of session.new.net)
         (K.held sink.old) (K.held sink.new) }
     ensures flag { K.failed sink.new ≡ (K.failed sink.old || is_write_fault result) }
 {

@@ -3,9 +3,9 @@
 ghost use Rattle.std.specs.Prelude.{◌≡◌, ◌++◌, ◌∷◌, [], true, false, if◌then◌else◌, is_ok, Ok, Err};
 ghost use Rattle.std.specs.String.{string_bytes};
 ghost use Rattle.network_core.specs.Value.{NetValue};
-ghost use Rattle.event_lines.specs.Run.{has_end, line_end};
+ghost use Rattle.event_lines.specs.Run.{has_line_end, line_end};
 ghost use Rattle.event_lines.specs.Answers.{Open, Unbegun};
-ghost use Rattle.event_lines.specs.Session.{AnswersBytes, IsDone, RepliesOrFails, last_lines, stage_of, value_of};
+ghost use Rattle.event_lines.specs.Session.{AnswersBytes, IsRunDone, RepliesOrFails, last_lines, stage_of, session_value};
 
 use crate::accepted::AcceptedLines;
 use crate::cutting::cut_line;
@@ -98,7 +98,7 @@ fn answer(
 impl Session {
     /// A run that has not begun.
     pub(crate) fn new(alloc: Global) -> Session
-        ensures { value_of result ≡ record { stage = Unbegun; rest = []; replies = [] } }
+        ensures { session_value result ≡ record { stage = Unbegun; rest = []; replies = [] } }
     {
         Session {
             net: None,
@@ -109,8 +109,8 @@ impl Session {
 
     /// Whether the run has begun and no bytes follow the last end of a line.
     pub(crate) fn is_done(&self) -> bool
-        ensures done { result ≡ true → (net : NetValue) × IsDone (value_of self.now) net }
-        ensures more { result ≡ false → last_lines (value_of self.now) ≡ self.now.rest.items ∷ [] }
+        ensures done { result ≡ true → (net : NetValue) × IsRunDone (session_value self.now) net }
+        ensures more { result ≡ false → last_lines (session_value self.now) ≡ self.now.rest.items ∷ [] }
     {
         match &self.net {
             Some(_) => self.rest.is_empty(),
@@ -176,8 +176,8 @@ impl Session {
         accepted: AcceptedLines,
         bytes: &[u8],
     ) -> Result<(), RunFault>
-        requires { has_end self.old.rest.items ≡ false }
-        ensures { AnswersBytes accepted result bytes.now (value_of self.old) (value_of self.new) }
+        requires { has_line_end self.old.rest.items ≡ false }
+        ensures { AnswersBytes accepted result bytes.now (session_value self.old) (session_value self.new) }
     {
         let mut left = bytes;
         while let Some((line, behind)) = cut_line(left) {

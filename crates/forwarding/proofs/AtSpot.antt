@@ -12,12 +12,12 @@ use Rattle.path_header.specs.declared.fields.InfoField.{InfoField}
 use Rattle.path_header.specs.declared.fields.HopField.{HopField}
 use Rattle.path_header.specs.Value.{HeaderValue, lens_from, segment_at}
 use Rattle.path_verifier.specs.Piece.{PieceValue, HasRange, travelled}
-use Rattle.path_verifier.specs.Header.{field_of, fields_of, len_of, hop_count}
+use Rattle.path_verifier.specs.Header.{field_of, fields_of, len_of, total_hops}
 use Rattle.router_step.specs.declared.arrival.Arrival.{Arrival}
 use Rattle.router_step.specs.declared.arrival.Arrival.TheVariants.{FromHost, Inside, Link}
 use Rattle.router_step.specs.declared.outcome.Outcome.TheVariants.{ToLink}
-use Rattle.router_step.specs.Place.{info_of, hop_of, with_seg_id, seg_id_on_arrival, seg_id_on_leaving, arrived, moved_on, gone}
-use Rattle.router_step.specs.Checks.{is_start_right, indices_fit, way_in_fits, is_live, is_mac_right, source_fits, is_last, ends_segment}
+use Rattle.router_step.specs.Place.{current_info, current_hop, with_seg_id, seg_id_on_arrival, seg_id_on_leaving, arrived, moved_on, gone}
+use Rattle.router_step.specs.Checks.{is_start_right, indices_fit, way_in_fits, is_hop_live, is_mac_right, source_fits, is_last, ends_segment}
 use Rattle.forwarding.specs.PathPosition.{PathPosition, pieces_at, beta_at, beta_before, info_with, header_with, header_there, header_coming, advanced}
 use Rattle.forwarding.specs.OnPath.{header_on}
 use Rattle.forwarding.proofs.Reading.{info_of-header_with, with_seg_id-header_with, hop_of-header_with, length_fields}
@@ -56,7 +56,7 @@ arrived_with : (arrival : Arrival) (spot : PathPosition) (seg_id : ℕ) (entry :
     (seg_id_on_arrival arrival (info_with spot.piece seg_id) (field_of entry))
 arrived_with arrival spot seg_id entry there =
     ap (λ (i : InfoField). with_seg_id (header_with spot seg_id)
-    (seg_id_on_arrival arrival i (hop_of (header_with spot seg_id))))
+    (seg_id_on_arrival arrival i (current_hop (header_with spot seg_id))))
     (info_of-header_with spot seg_id)
     ∙ ap (λ (h : HopField). with_seg_id (header_with spot seg_id)
     (seg_id_on_arrival arrival (info_with spot.piece seg_id) h))
@@ -76,7 +76,7 @@ arrived_there (Link interface) spot entry is =
 -- ---- the checks on arrival
 
 indices_there : (arrival : Arrival) (spot : PathPosition) (seg_id : ℕ) (entry : Entry) → IsSpot spot entry
-    → is_start_right arrival (hop_count spot.past + spot.reached) ≡ true
+    → is_start_right arrival (total_hops spot.past + spot.reached) ≡ true
     → indices_fit arrival (header_with spot seg_id) ≡ true
 unfolding header_with
 indices_there arrival spot seg_id entry is start =
@@ -87,7 +87,7 @@ indices_there arrival spot seg_id entry is start =
     (and_from _ _ (no_single (pieces_at spot) (all_long spot entry is)) start)
 
 pub indices_on : (arrival : Arrival) (spot : PathPosition) (entry : Entry) → IsSpot spot entry
-    → is_start_right arrival (hop_count spot.past + spot.reached) ≡ true
+    → is_start_right arrival (total_hops spot.past + spot.reached) ≡ true
     → indices_fit arrival (header_on arrival spot) ≡ true
 indices_on FromHost spot entry is start =
     indices_there FromHost spot (beta_at spot.piece spot.reached) entry is start
@@ -99,29 +99,29 @@ indices_on (Link interface) spot entry is start =
 -- the router is one to which the packet may have come: what is asked of its arrival
 pub record Comes (view : View) (arrival : Arrival) (source : ℕ) (spot : PathPosition)
     (entry : Entry) : Type 0 where
-  pub start : is_start_right arrival (hop_count spot.past + spot.reached) ≡ true
+  pub start : is_start_right arrival (total_hops spot.past + spot.reached) ≡ true
   pub way : way_in_fits view arrival (info_with spot.piece 0) (field_of entry) ≡ true
   pub from : source_fits view arrival source ≡ true
 
 -- the hop is live and the router's AS made it
 pub record IsOwn (view : View) (now : ℕ) (piece : PieceValue) (i : ℕ) (entry : Entry) : Type 0 where
-  pub live : is_live now (info_with piece (beta_at piece i)) (field_of entry) ≡ true
+  pub live : is_hop_live now (info_with piece (beta_at piece i)) (field_of entry) ≡ true
   pub mac : is_mac_right view (info_with piece (beta_at piece i)) (field_of entry) ≡ true
 
 hop_on : (arrival : Arrival) (spot : PathPosition) (entry : Entry) → IsSpot spot entry
-    → hop_of (header_on arrival spot) ≡ field_of entry
+    → current_hop (header_on arrival spot) ≡ field_of entry
 hop_on FromHost spot entry is = hop_of-header_with spot _ entry is.there
 hop_on Inside spot entry is = hop_of-header_with spot _ entry is.there
 hop_on (Link interface) spot entry is = hop_of-header_with spot _ entry is.there
 
 way_on_arrival : (view : View) (arrival : Arrival) (spot : PathPosition) (entry : Entry) → IsSpot spot entry
     → way_in_fits view arrival (info_with spot.piece 0) (field_of entry) ≡ true
-    → way_in_fits view arrival (info_of (header_on arrival spot))
-    (hop_of (header_on arrival spot)) ≡ true
+    → way_in_fits view arrival (current_info (header_on arrival spot))
+    (current_hop (header_on arrival spot)) ≡ true
 way_on_arrival view FromHost spot entry is way = refl
 way_on_arrival view Inside spot entry is way = refl
 way_on_arrival view (Link interface) spot entry is way =
-    ap (λ (i : InfoField). way_in_fits view (Link interface) i (hop_of (header_coming spot)))
+    ap (λ (i : InfoField). way_in_fits view (Link interface) i (current_hop (header_coming spot)))
     (info_of-header_with spot (beta_before spot.piece spot.reached))
     ∙ ap (λ (h : HopField). way_in_fits view (Link interface)
     (info_with spot.piece (beta_before spot.piece spot.reached)) h)
@@ -137,13 +137,13 @@ admitted_there view now arrival source spot entry is comes own = record {
   indices = indices_on arrival spot entry is comes.start;
   way_in = way_on_arrival view arrival spot entry is comes.way;
   live =
-      ap (λ (i : InfoField). is_live now i (hop_of (header_on arrival spot)))
+      ap (λ (i : InfoField). is_hop_live now i (current_hop (header_on arrival spot)))
       (info_of-header_with spot (beta_at spot.piece spot.reached))
-      ∙ ap (λ (h : HopField). is_live now
+      ∙ ap (λ (h : HopField). is_hop_live now
       (info_with spot.piece (beta_at spot.piece spot.reached)) h) (hop_on arrival spot entry is)
       ∙ own.live;
   mac =
-      ap (λ (i : InfoField). is_mac_right view i (hop_of (header_on arrival spot)))
+      ap (λ (i : InfoField). is_mac_right view i (current_hop (header_on arrival spot)))
       (info_of-header_with spot (beta_at spot.piece spot.reached))
       ∙ ap (λ (h : HopField). is_mac_right view
       (info_with spot.piece (beta_at spot.piece spot.reached)) h) (hop_on arrival spot entry is)
@@ -154,19 +154,19 @@ admitted_there view now arrival source spot entry is comes own = record {
 -- ---- where the path goes on
 
 pub hops_of_spot : (spot : PathPosition)
-    → length (flat_map fields_of (pieces_at spot)) ≡ hop_count spot.past +
-    (len_of spot.piece + hop_count spot.later)
+    → length (flat_map fields_of (pieces_at spot)) ≡ total_hops spot.past +
+    (len_of spot.piece + total_hops spot.later)
 hops_of_spot spot = length_fields (pieces_at spot)
     ∙ sum_by-append len_of spot.past (spot.piece ∷ spot.later)
-    ∙ ap (λ n. hop_count spot.past + n) (sum_by-cons len_of spot.piece spot.later)
+    ∙ ap (λ n. total_hops spot.past + n) (sum_by-cons len_of spot.piece spot.later)
 
 pub not_last : (spot : PathPosition) (seg_id : ℕ)
-    → spot.reached + 1 < len_of spot.piece + hop_count spot.later
+    → spot.reached + 1 < len_of spot.piece + total_hops spot.later
     → is_last (header_with spot seg_id) ≡ false
 unfolding header_with
 not_last spot seg_id more =
     let count = hops_of_spot spot in
-    let apart : hop_count spot.past + spot.reached + 1 < length
+    let apart : total_hops spot.past + spot.reached + 1 < length
     (flat_map fields_of (pieces_at spot)) = omega arith in
     grind (arith, nat_tests)
 
@@ -175,8 +175,8 @@ pub last : (spot : PathPosition) (seg_id : ℕ) → spot.reached + 1 ≡ len_of 
 unfolding header_with
 last spot seg_id at_end none =
     let count = hops_of_spot spot in
-    let no_more : hop_count spot.later ≡ 0 = ap (λ (ps : List PieceValue). hop_count ps) none in
-    let same : hop_count spot.past + spot.reached + 1 ≡ length
+    let no_more : total_hops spot.later ≡ 0 = ap (λ (ps : List PieceValue). total_hops ps) none in
+    let same : total_hops spot.past + spot.reached + 1 ≡ length
     (flat_map fields_of (pieces_at spot)) = omega arith in
     eq-eqb _ _ same
 
@@ -186,13 +186,13 @@ pub stays : (spot : PathPosition) (seg_id : ℕ) (entry : Entry) → IsSpot spot
     → spot.reached + 1 < len_of spot.piece → ends_segment (header_with spot seg_id) ≡ false
 unfolding header_with
 stays spot seg_id entry is more =
-    let place : hop_count spot.past + (spot.reached + 1) ≡ hop_count spot.past + spot.reached + 1 =
+    let place : total_hops spot.past + (spot.reached + 1) ≡ total_hops spot.past + spot.reached + 1 =
     omega arith in
     let segment =
     segment_of_place spot.past spot.later spot.piece
     (spot.reached + 1) is.three is.past_long more in
     let same : segment_at (lens_from (map len_of (pieces_at spot)))
-    (hop_count spot.past + spot.reached + 1) ≡ length spot.past =
+    (total_hops spot.past + spot.reached + 1) ≡ length spot.past =
     ap (segment_at (lens_from (map len_of (pieces_at spot)))) (sym place) ∙ segment in
     ap not (eq-eqb _ _ same)
 
@@ -208,7 +208,7 @@ further : (spot : PathPosition) (seg_id : ℕ)
     ≡ header_with (advanced spot) seg_id
 unfolding header_with
 further spot seg_id =
-    let place : hop_count spot.past + spot.reached + 1 ≡ hop_count spot.past + (spot.reached + 1) =
+    let place : total_hops spot.past + spot.reached + 1 ≡ total_hops spot.past + (spot.reached + 1) =
     omega arith in
     ap (λ n. record (header_with spot seg_id) { curr_hf = n }) place
 
@@ -219,11 +219,11 @@ pub leaving : (spot : PathPosition) (entry : Entry) (interface : ℕ) → IsSpot
 leaving spot entry interface is more =
     let beta = beta_at spot.piece spot.reached in
     let left : with_seg_id (header_with spot beta)
-    (seg_id_on_leaving (info_of (header_with spot beta)) (hop_of (header_with spot beta)))
+    (seg_id_on_leaving (current_info (header_with spot beta)) (current_hop (header_with spot beta)))
     ≡ header_with spot (beta_before spot.piece (spot.reached + 1)) =
     with_seg_id-header_with spot beta _
     ∙ ap (λ (i : InfoField). header_with spot
-    (seg_id_on_leaving i (hop_of (header_with spot beta)))) (info_of-header_with spot beta)
+    (seg_id_on_leaving i (current_hop (header_with spot beta)))) (info_of-header_with spot beta)
     ∙ ap (λ (h : HopField). header_with spot (seg_id_on_leaving (info_with spot.piece beta) h))
     (hop_of-header_with spot beta entry is.there)
     ∙ ap (header_with spot) (onward spot.piece spot.reached entry is.ranged is.there more) in

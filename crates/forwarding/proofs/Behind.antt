@@ -8,7 +8,7 @@ use Rattle.path_header.specs.declared.fields.InfoField.{InfoField}
 use Rattle.path_header.specs.declared.fields.HopField.{HopField}
 use Rattle.path_header.specs.Value.{HeaderValue, lens_from}
 use Rattle.path_verifier.specs.Piece.{PieceValue}
-use Rattle.path_verifier.specs.Header.{fields_of, len_of, info_of, hop_count}
+use Rattle.path_verifier.specs.Header.{fields_of, len_of, info_of, total_hops}
 use Rattle.forwarding.specs.PathPosition.{PathPosition, pieces_at, beta_at, info_with, info_left, header_with, header_there}
 use Rattle.forwarding.specs.Turned.{header_behind}
 
@@ -41,10 +41,10 @@ there_behind spot none over =
     ap (λ (ps : List PieceValue). past ++ piece ∷ ps) none in
     let long = ap (λ (ps : List PieceValue). length ps) whole in
     let front = length-append past (piece ∷ []) in
-    let all = ap hop_count whole in
+    let all = ap total_hops whole in
     let split = sum_by-append len_of past (piece ∷ []) in
     let one = sum_by-cons len_of piece [] in
-    header_like _ (length (pieces_at spot) - 1) _ (hop_count (pieces_at spot) - 1) _
+    header_like _ (length (pieces_at spot) - 1) _ (total_hops (pieces_at spot) - 1) _
     (lens_of (pieces_at spot)) _ (map info_left (pieces_at spot)) _
     (flat_map fields_of (pieces_at spot))
     (omega arith) (omega arith) refl

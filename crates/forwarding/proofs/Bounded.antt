@@ -7,7 +7,7 @@ use Rattle.scion_topology.specs.View.{View, entry_of}
 use Rattle.scion_topology.specs.Network.{Network}
 use Rattle.scion_topology.specs.Topology.{IsNetwork, view_in, owner_in}
 use Rattle.path_header.specs.Value.{HeaderValue, IsHeader}
-use Rattle.path_header.specs.Spelling.{Fits, spelling}
+use Rattle.path_header.specs.Spelling.{FitsBits, spelling}
 use Rattle.path_header.proofs.WholeHeader.{spelling_spells}
 use Rattle.router_step.specs.declared.arrival.Arrival.{Arrival}
 use Rattle.router_step.specs.declared.arrival.Arrival.TheVariants.{FromHost, Inside, Link}
@@ -16,14 +16,14 @@ use Rattle.router_step.specs.declared.outcome.Outcome.TheVariants.{ToLink, ToRou
 use Rattle.router_step.specs.declared.fault.Refusal.{Refusal}
 use Rattle.router_step.specs.Packet.{source_of, destination_of, IsFrame}
 use Rattle.router_step.specs.Step.{step_of}
-use Rattle.router_step.specs.Done.{Situation, Does, at_the_way_out}
+use Rattle.router_step.specs.Done.{Situation, DoesStep, at_the_way_out}
 use Rattle.router_step.proofs.Frames.{frame_stepped}
 use Rattle.router_step.proofs.StepLaws.{new_header, over_own_link, to_owner}
 use Rattle.router_step.proofs.Continuing.{header_again}
 use Rattle.forwarding.specs.declared.location.RouterStop.{RouterStop}
 use Rattle.forwarding.specs.declared.location.PacketLocation.TheVariants.{AtRouter}
 use Rattle.forwarding.specs.Frame.{addresses, framed}
-use Rattle.forwarding.specs.Turn.{Packet, IsAtNoRouter, put_at, put, over_link, at_owner, at_place, stepped, turn_under, turned, after}
+use Rattle.forwarding.specs.Turn.{Packet, IsAtNoRouter, put_at, put, over_link, at_owner, at_place, stepped, turn_under, turned_packet, after}
 use Rattle.forwarding.proofs.Ended.{ended_stays, turn_by_view}
 use Rattle.forwarding.proofs.Framed.{is_frame}
 use Rattle.forwarding.proofs.Onward.{Owns, way_of, fits_again, leaves_from_inside, IsSeen, seen_as, entry_there, leads_on, owner_is_there}
@@ -102,7 +102,7 @@ module _ (n : Network) (network : IsNetwork n) where
     abbrev bearing : HeaderValue → Packet
     bearing new = record packet { bytes = near.front ++ (spelling new ++ near.rest) }
 
-    again : (outcome : Outcome) (new : HeaderValue) → Does at outcome new
+    again : (outcome : Outcome) (new : HeaderValue) → DoesStep at outcome new
         → IsFrame (bearing new).bytes near.front (spelling new) near.rest new
     again outcome new done =
         let is = header_again at outcome new near.frame.spells.is_header done in
@@ -113,7 +113,7 @@ module _ (n : Network) (network : IsNetwork n) where
     seen : IsSeen n near.stop.ia near.stop.router near.view
     seen = seen_as n near.stop.ia near.stop.router near.view near.seen
 
-    to_router : (router : ℕ) (new : HeaderValue) → Does at (ToRouter router) new
+    to_router : (router : ℕ) (new : HeaderValue) → DoesStep at (ToRouter router) new
         → IsNear n less (put n (bearing new) near.stop (ToRouter router))
     to_router router new done =
         let made = new_header at (ToRouter router) new done in
@@ -152,7 +152,7 @@ module _ (n : Network) (network : IsNetwork n) where
           few = omega arith;
         }
 
-    to_link : (out : ℕ) (new : HeaderValue) → Does at (ToLink out) new
+    to_link : (out : ℕ) (new : HeaderValue) → DoesStep at (ToLink out) new
         → IsNear n less (put n (bearing new) near.stop (ToLink out))
     to_link out new done =
         let made = new_header at (ToLink out) new done in
@@ -191,7 +191,7 @@ module _ (n : Network) (network : IsNetwork n) where
           few = omega arith;
         })
 
-    where_it_goes : (outcome : Outcome) (new : HeaderValue) → Does at outcome new
+    where_it_goes : (outcome : Outcome) (new : HeaderValue) → DoesStep at outcome new
         → Nears n less (put n (bearing new) near.stop outcome)
     where_it_goes (ToLink out) new done = inr (to_link out new done)
     where_it_goes (ToRouter router) new done = inr (to_router router new done)
@@ -207,7 +207,7 @@ module _ (n : Network) (network : IsNetwork n) where
     by_step (Ok done) is = where_it_goes done.0 done.1 is
     by_step (Err refusal) is = inl (λ stop same. absurd cc)
 
-    turn_is : turned n now packet ≡ (stepped n packet near.stop (step_of near.view now
+    turn_is : turned_packet n now packet ≡ (stepped n packet near.stop (step_of near.view now
         near.stop.arrival (source_of packet.bytes) (destination_of packet.bytes) near.header
         >>= answer)).1
     unfolding turn_under
@@ -218,7 +218,7 @@ module _ (n : Network) (network : IsNetwork n) where
         (frame_stepped near.view now near.stop.arrival packet.bytes near.front near.text near.rest
         near.header near.frame)
 
-    one_turn : Nears n less (turned n now packet)
+    one_turn : Nears n less (turned_packet n now packet)
     one_turn = subst (Nears n less) (sym turn_is) (by_step _ refl)
 
   -- ---- turn by turn
@@ -227,7 +227,7 @@ module _ (n : Network) (network : IsNetwork n) where
       → IsAtNoRouter (after n packet moments)
   ended_on [] packet ended = ended
   ended_on (now ∷ later) packet ended =
-      ended_on later (turned n now packet)
+      ended_on later (turned_packet n now packet)
       (subst IsAtNoRouter (sym (ap (λ t. t.1) (ended_stays n now packet ended))) ended)
 
   ended_after : (moments : List ℕ) (left : ℕ) (packet : Packet) → IsNear n left packet
@@ -243,8 +243,8 @@ module _ (n : Network) (network : IsNetwork n) where
   ended_after (now ∷ later) (suc less) packet near enough =
       let one : suc less ≡ 1 + less = omega arith in
       elim (one_turn less now packet (subst (λ k. IsNear n k packet) one near)) [
-        | inl ended ↦ ended_on later (turned n now packet) ended
-        | inr nearer ↦ ended_after later less (turned n now packet) nearer (omega arith)
+        | inl ended ↦ ended_on later (turned_packet n now packet) ended
+        | inr nearer ↦ ended_after later less (turned_packet n now packet) nearer (omega arith)
       ]
 
   -- and wherever it stands, the network has the router
@@ -262,7 +262,7 @@ module _ (n : Network) (network : IsNetwork n) where
       omega arith)
   there_after (now ∷ later) (suc less) packet stop (inr near) at =
       let one : suc less ≡ 1 + less = omega arith in
-      there_after later less (turned n now packet) stop
+      there_after later less (turned_packet n now packet) stop
       (one_turn less now packet (subst (λ k. IsNear n k packet) one near)) at
 
 -- ---- from a host
@@ -272,7 +272,7 @@ ok_there (Ok x) is = (x, refl)
 ok_there (Err fault) is = absurd cc
 
 starts : (n : Network) (source destination ia router : ℕ) (header : HeaderValue)
-    (payload : List ℕ) → IsOk (view_in n ia router) → IsHeader header → Fits header
+    (payload : List ℕ) → IsOk (view_in n ia router) → IsHeader header → FitsBits header
     → IsNear n (2 * length header.hops)
     (put_at (framed source destination header payload) ia router)
 starts n source destination ia router header payload there is fits =
@@ -293,7 +293,7 @@ starts n source destination ia router header payload there is fits =
 
 pub ended_in_time : (n : Network) (source destination ia router : ℕ) (header : HeaderValue)
     (payload moments : List ℕ) → IsNetwork n → IsOk (view_in n ia router) → IsHeader header
-    → Fits header → 2 * length header.hops ≤ length moments
+    → FitsBits header → 2 * length header.hops ≤ length moments
     → IsAtNoRouter (after n (put_at (framed source destination header payload) ia router) moments)
 ended_in_time n source destination ia router header payload moments network there is fits enough =
     ended_after n network moments (2 * length header.hops)
@@ -302,7 +302,7 @@ ended_in_time n source destination ia router header payload moments network ther
 
 pub fewer_before : (n : Network) (source destination ia router : ℕ) (header : HeaderValue)
     (payload moments : List ℕ) (stop : RouterStop) → IsNetwork n → IsOk (view_in n ia router)
-    → IsHeader header → Fits header
+    → IsHeader header → FitsBits header
     → (after n (put_at (framed source destination header payload) ia router) moments).place
     ≡ AtRouter stop
     → length moments < 2 * length header.hops
@@ -318,7 +318,7 @@ owners_are_there n ia number router network owned =
 
 pub stops_are_there : (n : Network) (source destination ia router : ℕ) (header : HeaderValue)
     (payload moments : List ℕ) (stop : RouterStop) → IsNetwork n → IsOk (view_in n ia router)
-    → IsHeader header → Fits header
+    → IsHeader header → FitsBits header
     → (after n (put_at (framed source destination header payload) ia router) moments).place
     ≡ AtRouter stop
     → IsOk (view_in n stop.ia stop.router)

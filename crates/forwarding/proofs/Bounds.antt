@@ -4,7 +4,7 @@ use Rattle.scion_topology.specs.Network.{Network}
 use Rattle.scion_topology.specs.Topology.{owner_in}
 use Rattle.path_verifier.specs.Piece.{PieceValue}
 use Rattle.path_verifier.specs.Walk.{walk_of}
-use Rattle.path_verifier.specs.Header.{hop_count}
+use Rattle.path_verifier.specs.Header.{total_hops}
 use Rattle.path_verifier.specs.Accepted.{MakesPath}
 use Rattle.policy_expr.specs.declared.hop.WalkHop.{WalkHop}
 use Rattle.forwarding.specs.Journey.{is_one, turns_over, turns_for}
@@ -25,7 +25,7 @@ over_few n (hop ∷ next ∷ later) =
 -- two turns for each hop field are enough
 pub turns_are_few : (n : Network) (pieces : List PieceValue) (source destination moment : ℕ)
     → MakesPath pieces source destination moment
-    → turns_for n (walk_of pieces) ≤ 2 * hop_count pieces
+    → turns_for n (walk_of pieces) ≤ 2 * total_hops pieces
 turns_are_few n pieces source destination moment path =
     let some = walk_is_long pieces source destination moment path in
     let rest = over_few n (drop 1 (walk_of pieces)) in

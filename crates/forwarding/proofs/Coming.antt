@@ -8,7 +8,7 @@ use Rattle.path_segment.specs.declared.entry.Entry.{Entry}
 use Rattle.policy_expr.specs.declared.hop.WalkHop.{WalkHop}
 use Rattle.path_verifier.specs.Piece.{PieceValue, travelled}
 use Rattle.path_verifier.specs.Header.{len_of}
-use Rattle.path_verifier.specs.Walk.{hop_of, hops_of, entered_by, left_by, joined, walk_of}
+use Rattle.path_verifier.specs.Walk.{hop_of, hops_of, entered_by, left_by, walk_with, walk_of}
 use Rattle.path_verifier.proofs.Hops.{hop_there, length_hops_of}
 use Rattle.forwarding.specs.PathPosition.{PathPosition, advanced, in_by, out_by}
 use Rattle.forwarding.specs.Journey.{first_out, way_beyond, walk_beyond, to_come}
@@ -143,7 +143,7 @@ has_two : (piece : PieceValue) → IsLong piece → HasTwo (hops_of piece)
 has_two piece long = let count = length_hops_of piece in two_of (hops_of piece) (omega arith)
 
 abbrev walk_over : List (List WalkHop) → List WalkHop
-walk_over hops = left_by 0 (entered_by 0 (fold joined [] hops))
+walk_over hops = left_by 0 (entered_by 0 (fold walk_with [] hops))
 
 abbrev coming_two : List WalkHop → List WalkHop → List WalkHop
 coming_two a b = entered_by 0 (left_by (first_out b) a) ++ (left_by 0 (drop 1 b) ++ [])

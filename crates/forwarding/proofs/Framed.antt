@@ -6,7 +6,7 @@ use Rattle.std.proofs.lemmas.Nat.{from_be_bytes-to_be_bytes_8}
 use Rattle.refusal.specs.Refusal.{◌>>=◌}
 use Rattle.scion_topology.specs.View.{View}
 use Rattle.path_header.specs.Value.{HeaderValue, header_len}
-use Rattle.path_header.specs.Spelling.{Spells, spelling}
+use Rattle.path_header.specs.Spelling.{SpellsHeader, spelling}
 use Rattle.router_step.specs.declared.arrival.Arrival.{Arrival}
 use Rattle.router_step.specs.declared.outcome.Outcome.{Outcome}
 use Rattle.router_step.specs.declared.fault.Refusal.{Refusal}
@@ -42,7 +42,7 @@ source_is source destination header payload fits = from_be_bytes-to_be_bytes_8 s
 
 -- and the header
 pub header_is_read : (source destination : ℕ) (header : HeaderValue) (payload : List ℕ)
-    → Spells (spelling header) header
+    → SpellsHeader (spelling header) header
     → header_in (framed source destination header payload) ≡ Ok (header, header_len header)
 unfolding framed
 header_is_read source destination header payload spells =
@@ -54,7 +54,7 @@ header_is_read source destination header payload spells =
     (ap as_bad_header (spelled_is_read header (spelling header) payload spells))
 
 pub is_frame : (source destination : ℕ) (header : HeaderValue) (payload : List ℕ)
-    → Spells (spelling header) header
+    → SpellsHeader (spelling header) header
     → IsFrame (framed source destination header payload) (addresses source destination)
     (spelling header) payload header
 unfolding framed
@@ -68,7 +68,7 @@ answer source destination payload done =
 -- a step over the header is one over the packet's bytes
 pub frame_goes : (view : View) (now : ℕ) (arrival : Arrival) (source destination : ℕ)
     (header : HeaderValue) (payload : List ℕ) (done : Outcome × HeaderValue)
-    → source < 2 ^ 64 → destination < 2 ^ 64 → Spells (spelling header) header
+    → source < 2 ^ 64 → destination < 2 ^ 64 → SpellsHeader (spelling header) header
     → step_of view now arrival source destination header ≡ Ok done
     → packet_step view now arrival (framed source destination header payload)
     ≡ Ok (done.0, framed source destination done.1 payload)

@@ -8,7 +8,7 @@ use Rattle.policy_expr.specs.declared.hop.WalkHop.{WalkHop}
 use Rattle.path_verifier.specs.Piece.{PieceValue}
 use Rattle.router_step.specs.declared.arrival.Arrival.{Arrival}
 use Rattle.router_step.specs.declared.arrival.Arrival.TheVariants.{FromHost, Inside, Link}
-use Rattle.forwarding.specs.Turn.{Packet, turn_of, turned, after}
+use Rattle.forwarding.specs.Turn.{Packet, turn_of, turned_packet, after}
 use Rattle.forwarding.specs.Journey.{is_one, turns_over, turns_left, to_come}
 use Rattle.forwarding.specs.Forwardable.{MayForward}
 use Rattle.forwarding.specs.OnPath.{OnPath, arrived_with}
@@ -48,7 +48,7 @@ turns_before n source destination payload pieces left packet s =
 -- ---- and a delivered one none
 
 stays : (n : Network) (now source destination : ℕ) (payload : List ℕ) (pieces : List PieceValue)
-    → turned n now (arrived_with source destination payload pieces)
+    → turned_packet n now (arrived_with source destination payload pieces)
     ≡ arrived_with source destination payload pieces
 unfolding turn_of
 stays n now source destination payload pieces = refl
@@ -82,10 +82,10 @@ module _ (n : Network) (source destination : ℕ) (payload : List ℕ) (pieces :
       elim (one_turn n now source destination payload pieces left packet lets.0 s) [
         | inl goes ↦ (
             let one = goes.one in
-            let rest = stands_by later goes.less (turned n now packet) lets.1 goes.stands
+            let rest = stands_by later goes.less (turned_packet n now packet) lets.1 goes.stands
             (omega arith) in
             less_by n source destination payload pieces (goes.less - length later)
-            (left - length (now ∷ later)) (after n (turned n now packet) later) (omega arith) rest)
+            (left - length (now ∷ later)) (after n (turned_packet n now packet) later) (omega arith) rest)
         | inr arrives ↦ absurd (let one = arrives.one in omega arith)
       ]
 
@@ -101,7 +101,7 @@ module _ (n : Network) (source destination : ℕ) (payload : List ℕ) (pieces :
       elim (one_turn n now source destination payload pieces left packet lets.0 s) [
         | inl goes ↦ (
             let one = goes.one in
-            delivered_by later goes.less (turned n now packet) lets.1 goes.stands (omega arith))
+            delivered_by later goes.less (turned_packet n now packet) lets.1 goes.stands (omega arith))
         | inr arrives ↦
             ap (λ (p : Packet). after n p later) arrives.there
             ∙ stays_on n later source destination payload pieces

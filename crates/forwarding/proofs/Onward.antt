@@ -19,17 +19,17 @@ use Rattle.scion_topology.proofs.Ends.{owner_below}
 use Rattle.scion_topology.proofs.Shown.{is_end_of, shows_both_ends}
 use Rattle.path_header.specs.declared.fields.InfoField.{InfoField}
 use Rattle.path_header.specs.Value.{HeaderValue, IsHeader}
-use Rattle.path_header.specs.Spelling.{InfoFits, HopFits, Fits}
+use Rattle.path_header.specs.Spelling.{InfoFits, HopFits, FitsBits}
 use Rattle.router_step.specs.declared.arrival.Arrival.{Arrival}
 use Rattle.router_step.specs.declared.arrival.Arrival.TheVariants.{Inside}
 use Rattle.router_step.specs.declared.outcome.Outcome.{Outcome}
 use Rattle.router_step.specs.declared.outcome.Outcome.TheVariants.{ToLink, ToRouter, Deliver}
 use Rattle.router_step.specs.declared.fault.Refusal.{Refusal}
 use Rattle.router_step.specs.declared.fault.Refusal.TheVariants as refusals
-use Rattle.router_step.specs.Place.{info_of, hop_of, way_out, with_seg_id, is_over_link, seg_id_on_arrival, seg_id_on_leaving, arrived, moved_on, gone}
+use Rattle.router_step.specs.Place.{current_info, current_hop, way_out, with_seg_id, is_over_link, seg_id_on_arrival, seg_id_on_leaving, arrived, moved_on, gone}
 use Rattle.router_step.specs.Checks.{ends_segment}
 use Rattle.router_step.specs.Step.{passes, switched, step_of}
-use Rattle.router_step.specs.Done.{Situation, Does, at_the_way_out}
+use Rattle.router_step.specs.Done.{Situation, DoesStep, at_the_way_out}
 use Rattle.router_step.proofs.FieldReads.{info_of-with_seg_id}
 use Rattle.router_step.proofs.DoneSteps.{same_value, left_ok, step_ok}
 use Rattle.router_step.proofs.StepLaws.{new_header}
@@ -46,58 +46,58 @@ all_set P [] i x all here = tt
 all_set P (y ∷ ys) zero x all here = (here, all.1)
 all_set P (y ∷ ys) (suc i) x all here = (all.0, all_set P ys i x all.1 here)
 
-info_fits : (header : HeaderValue) → header.curr_inf < length header.infos → Fits header
-    → InfoFits (info_of header)
+info_fits : (header : HeaderValue) → header.curr_inf < length header.infos → FitsBits header
+    → InfoFits (current_info header)
 info_fits header within fits =
-    all_there InfoFits header.infos header.curr_inf (info_of header) fits.infos
+    all_there InfoFits header.infos header.curr_inf (current_info header) fits.infos
     (slice_get-get_or header.infos header.curr_inf _ within)
 
-hop_fits : (header : HeaderValue) → header.curr_hf < length header.hops → Fits header
-    → HopFits (hop_of header)
+hop_fits : (header : HeaderValue) → header.curr_hf < length header.hops → FitsBits header
+    → HopFits (current_hop header)
 hop_fits header within fits =
-    all_there HopFits header.hops header.curr_hf (hop_of header) fits.hops
+    all_there HopFits header.hops header.curr_hf (current_hop header) fits.hops
     (slice_get-get_or header.hops header.curr_hf _ within)
 
 fits_with : (header : HeaderValue) (seg_id : ℕ) → header.curr_inf < length header.infos
-    → Fits header → seg_id < 2 ^ 16 → Fits (with_seg_id header seg_id)
+    → FitsBits header → seg_id < 2 ^ 16 → FitsBits (with_seg_id header seg_id)
 fits_with header seg_id within fits small =
     let info = info_fits header within fits in
     record {
       infos = all_set InfoFits header.infos header.curr_inf
-          (record (info_of header) { seg_id = seg_id }) fits.infos
+          (record (current_info header) { seg_id = seg_id }) fits.infos
           (record { seg_id = small; timestamp = info.timestamp });
       hops = fits.hops;
     }
 
-fits_on_arrival : (arrival : Arrival) (header : HeaderValue) → IsHeader header → Fits header
-    → Fits (arrived arrival header)
+fits_on_arrival : (arrival : Arrival) (header : HeaderValue) → IsHeader header → FitsBits header
+    → FitsBits (arrived arrival header)
 fits_on_arrival arrival header is fits =
-    let info = info_of header in
-    let hop = hop_of header in
+    let info = current_info header in
+    let hop = current_hop header in
     let small = (info_fits header is.curr_inf fits).seg_id in
     fits_with header (seg_id_on_arrival arrival info hop) is.curr_inf fits
     (chosen (is_over_link arrival && not info.construction) (beta_after info.seg_id hop.mac)
     info.seg_id (stepped info.seg_id hop small (hop_fits header is.curr_hf fits)) small)
 
-fits_gone : (outcome : Outcome) (there : HeaderValue) → Fits there → IsHeader (gone outcome there)
-    → Fits (gone outcome there)
+fits_gone : (outcome : Outcome) (there : HeaderValue) → FitsBits there → IsHeader (gone outcome there)
+    → FitsBits (gone outcome there)
 fits_gone (ToLink interface) there fits is =
     let within : there.curr_inf < length there.infos = rw length-set at is.curr_inf in
     let more : there.curr_hf + 1 < length there.hops = is.curr_hf in
-    let made = fits_with there (seg_id_on_leaving (info_of there) (hop_of there)) within fits
-    (on_leaving (info_of there) (hop_of there) (info_fits there within fits).seg_id
+    let made = fits_with there (seg_id_on_leaving (current_info there) (current_hop there)) within fits
+    (on_leaving (current_info there) (current_hop there) (info_fits there within fits).seg_id
     (hop_fits there (omega arith) fits)) in
     record { infos = made.infos; hops = made.hops }
 fits_gone (ToRouter router) there fits is = fits
 fits_gone Deliver there fits is = fits
 
 pub fits_again : (at : Situation) (outcome : Outcome) (new : HeaderValue) → IsHeader at.header
-    → Fits at.header → Does at outcome new → Fits new
+    → FitsBits at.header → DoesStep at outcome new → FitsBits new
 fits_again at outcome new is fits done =
     let here = fits_on_arrival at.arrival at.header is fits in
-    let there : Fits (at_the_way_out at) = record { infos = here.infos; hops = here.hops } in
+    let there : FitsBits (at_the_way_out at) = record { infos = here.infos; hops = here.hops } in
     let made = new_header at outcome new done in
-    subst Fits (sym made)
+    subst FitsBits (sym made)
     (fits_gone outcome (at_the_way_out at) there
     (subst IsHeader made (header_again at outcome new is done)))
 
@@ -105,7 +105,7 @@ fits_again at outcome new is fits done =
 
 -- the way out of the hop at which a packet stands
 abbrev pub way_of : HeaderValue → ℕ
-way_of header = way_out (info_of header) (hop_of header)
+way_of header = way_out (current_info header) (current_hop header)
 
 -- the router of a view owns this interface
 pub record Owns (view : View) (number : ℕ) : Type 0 where
@@ -116,8 +116,8 @@ pub record Owns (view : View) (number : ℕ) : Type 0 where
 way_on_arrival : (arrival : Arrival) (header : HeaderValue) → header.curr_inf < length header.infos
     → way_of (arrived arrival header) ≡ way_of header
 way_on_arrival arrival header within =
-    ap (λ (i : InfoField). way_out i (hop_of header))
-    (info_of-with_seg_id header (seg_id_on_arrival arrival (info_of header) (hop_of header)) within)
+    ap (λ (i : InfoField). way_out i (current_hop header))
+    (info_of-with_seg_id header (seg_id_on_arrival arrival (current_info header) (current_hop header)) within)
 
 -- a packet from inside the AS does not switch
 no_switch_by : (ends : Bool) (next : Unit {0} → Result Bool Refusal) (has_switched : Bool)
@@ -131,7 +131,7 @@ no_switch_inside : (view : View) (now : ℕ) (here : HeaderValue) (has_switched 
 unfolding switched
 no_switch_inside view now here has_switched e =
     no_switch_by (ends_segment here)
-    (λ _. passes view now (info_of (moved_on true here)) (hop_of (moved_on true here))
+    (λ _. passes view now (current_info (moved_on true here)) (current_hop (moved_on true here))
     >>= λ _. Ok true) has_switched e
 
 -- from inside, at the owner of its way out, it goes to no other router

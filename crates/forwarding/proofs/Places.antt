@@ -5,7 +5,7 @@ use Rattle.std.proofs.lemmas.Grind.{common_steps}
 use Rattle.std.proofs.lemmas.Bool.Decides.{nat_tests}
 use Rattle.path_header.specs.Value.{lens_from, segment_at}
 use Rattle.path_verifier.specs.Piece.{PieceValue, HasRange}
-use Rattle.path_verifier.specs.Header.{len_of, hop_count}
+use Rattle.path_verifier.specs.Header.{len_of, total_hops}
 use Rattle.path_verifier.proofs.Entries.{length_travelled}
 use Rattle.router_step.specs.Checks.{has_no_single}
 
@@ -20,7 +20,7 @@ long_of piece range = let count = length_travelled piece range in let order =
 -- the segment of the hop field at this place of a piece
 pub segment_of_place : (past later : List PieceValue) (piece : PieceValue) (i : ℕ)
     → length (past ++ piece ∷ later) ≤ 3 → AllByRecursion IsLong past → i < len_of piece
-    → segment_at (lens_from (map len_of (past ++ piece ∷ later))) (hop_count past + i) ≡ length past
+    → segment_at (lens_from (map len_of (past ++ piece ∷ later))) (total_hops past + i) ≡ length past
 segment_of_place [] later piece i three long within = grind (arith, common_steps, nat_tests)
 segment_of_place (a ∷ []) later piece i three long within = grind (arith, common_steps, nat_tests)
 segment_of_place (a ∷ b ∷ []) later piece i three long within =

@@ -25,7 +25,7 @@ use Rattle.router_step.proofs.StepLaws.{to_owner}
 use Rattle.forwarding.specs.declared.location.RouterStop.{RouterStop}
 use Rattle.forwarding.specs.declared.location.PacketLocation.TheVariants.{AtRouter}
 use Rattle.forwarding.specs.declared.reply.TurnReply.TheVariants as replies
-use Rattle.forwarding.specs.Turn.{Packet, put, over_link, at_owner, at_place, stepped, turn_under, turn_of, turned}
+use Rattle.forwarding.specs.Turn.{Packet, put, over_link, at_owner, at_place, stepped, turn_under, turn_of, turned_packet}
 use Rattle.forwarding.proofs.Bounded.{ok_there, owners_are_there}
 use Rattle.forwarding.proofs.Ended.{turn_by_view}
 use Rattle.forwarding.proofs.Onward.{way_of, seen_as, entry_there, leads_on}
@@ -135,7 +135,7 @@ module _ (n : Network) (network : IsNetwork n) (stop : RouterStop) (view : View)
 
 pub turn_stays_present : (n : Network) (now : ℕ) (packet : Packet) (stop : RouterStop) → IsNetwork n
     → packet.place ≡ AtRouter stop → IsOk (view_in n stop.ia stop.router)
-    → IsPresent n (turned n now packet)
+    → IsPresent n (turned_packet n now packet)
 turn_stays_present n now packet stop network at there =
     let view = ok_there (view_in n stop.ia stop.router) there in
     subst (IsPresent n) (ap (λ t. t.1) (sym (turn_is n now packet stop view.0 at view.1)))

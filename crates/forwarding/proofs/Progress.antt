@@ -14,7 +14,7 @@ use Rattle.forwarding.specs.PathPosition.{PathPosition, pieces_at, advanced, in_
 use Rattle.forwarding.specs.Forwardable.{IsLinked}
 use Rattle.forwarding.specs.declared.location.RouterStop.{RouterStop}
 use Rattle.forwarding.specs.Frame.{HasFrame}
-use Rattle.forwarding.specs.Turn.{Packet, noted, turned}
+use Rattle.forwarding.specs.Turn.{Packet, noted, turned_packet}
 use Rattle.forwarding.specs.OnPath.{at_spot, ComesNearer}
 use Rattle.forwarding.specs.Journey.{to_come, turns_over}
 use Rattle.forwarding.proofs.AtSpot.{IsSpot}
@@ -49,7 +49,7 @@ pub onward : (n : Network) (now source destination : ℕ) (payload : List ℕ)
     (pieces : List PieceValue)
     (left : ℕ) (packet : Packet) (stop : RouterStop) (passed : List WalkHop) (view : View) (spot : PathPosition)
     (entry next : Entry) (goes : IsLinked n spot.piece entry next)
-    → turned n now packet
+    → turned_packet n now packet
     ≡ placed n source destination payload stop passed (onward_by view goes.near spot entry)
     → stop.ia ≡ entry.ia → HasFrame source destination pieces
     → slice_get (travelled spot.piece) spot.reached ≡ Some entry

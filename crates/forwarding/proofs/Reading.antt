@@ -12,15 +12,15 @@ use Rattle.path_segment.specs.declared.entry.Entry.{Entry}
 use Rattle.path_header.specs.declared.fields.InfoField.{InfoField}
 use Rattle.path_header.specs.declared.fields.HopField.{HopField}
 use Rattle.path_verifier.specs.Piece.{PieceValue, travelled}
-use Rattle.path_verifier.specs.Header.{field_of, fields_of, len_of, hop_count}
+use Rattle.path_verifier.specs.Header.{field_of, fields_of, len_of, total_hops}
 use Rattle.path_verifier.specs.Header as path
 use Rattle.path_verifier.proofs.Headers.{field_there, length_fields_of}
-use Rattle.router_step.specs.Place.{info_of, hop_of, with_seg_id}
+use Rattle.router_step.specs.Place.{current_info, current_hop, with_seg_id}
 use Rattle.forwarding.specs.PathPosition.{PathPosition, info_with, info_left, header_with}
 
 -- the info field at which the packet stands is that of its piece
 pub info_of-header_with : (spot : PathPosition) (seg_id : ℕ)
-    → info_of (header_with spot seg_id) ≡ info_with spot.piece seg_id
+    → current_info (header_with spot seg_id) ≡ info_with spot.piece seg_id
 unfolding header_with
 info_of-header_with spot seg_id =
     let seam =
@@ -36,12 +36,12 @@ pub with_seg_id-header_with : (spot : PathPosition) (old new : ℕ)
     → with_seg_id (header_with spot old) new ≡ header_with spot new
 unfolding header_with
 with_seg_id-header_with spot old new =
-    let read : record (info_of (header_with spot old)) { seg_id = new } ≡ info_with spot.piece new =
+    let read : record (current_info (header_with spot old)) { seg_id = new } ≡ info_with spot.piece new =
     ap (λ (i : InfoField). record i { seg_id = new }) (info_of-header_with spot old) in
     let front = map info_left spot.past in
     let back = map path.info_of spot.later in
     let written : set (front ++ info_with spot.piece old ∷ back) (length spot.past)
-    (record (info_of (header_with spot old)) { seg_id = new })
+    (record (current_info (header_with spot old)) { seg_id = new })
     ≡ front ++ info_with spot.piece new ∷ back =
     ap (set (front ++ info_with spot.piece old ∷ back) (length spot.past)) read
     ∙ ap (λ n. set (front ++ info_with spot.piece old ∷ back) n (info_with spot.piece new))
@@ -51,7 +51,7 @@ with_seg_id-header_with spot old new =
 
 -- as many hop fields as the pieces have entries
 pub length_fields : (pieces : List PieceValue)
-    → length (flat_map fields_of pieces) ≡ hop_count pieces
+    → length (flat_map fields_of pieces) ≡ total_hops pieces
 length_fields [] = refl
 length_fields (piece ∷ pieces) =
     length-append (fields_of piece) (flat_map fields_of pieces)
@@ -61,7 +61,7 @@ length_fields (piece ∷ pieces) =
 -- the hop field at which it stands is that of the entry
 pub hop_of-header_with : (spot : PathPosition) (seg_id : ℕ) (entry : Entry)
     → slice_get (travelled spot.piece) spot.reached ≡ Some entry
-    → hop_of (header_with spot seg_id) ≡ field_of entry
+    → current_hop (header_with spot seg_id) ≡ field_of entry
 unfolding header_with
 hop_of-header_with spot seg_id entry there =
     let none : HopField = record { exp_time = 0; cons_ingress = 0; cons_egress = 0; mac = [] } in
@@ -71,7 +71,7 @@ hop_of-header_with spot seg_id entry there =
     let field = field_there spot.piece spot.reached entry (field_of entry) there refl in
     let within : spot.reached < length here =
     slice_get_within here spot.reached (field_of entry) field in
-    ap (λ xs. get_or xs (hop_count spot.past + spot.reached) none)
+    ap (λ xs. get_or xs (total_hops spot.past + spot.reached) none)
     (flat_map-append fields_of spot.past (spot.piece ∷ spot.later))
     ∙ ap (λ n. get_or (front ++ (here ++ back)) (n + spot.reached) none)
     (sym (length_fields spot.past))

@@ -5,7 +5,7 @@ use Rattle.std.proofs.lemmas.List.Elements.{recursion_from_All}
 use Rattle.std.proofs.lemmas.Option.{slice_get-get_or}
 use Rattle.path_segment.specs.declared.entry.Entry.{Entry}
 use Rattle.path_header.specs.Value.{HeaderValue, IsHeader, header_len}
-use Rattle.path_header.specs.Spelling.{Fits, Spells, spelling}
+use Rattle.path_header.specs.Spelling.{FitsBits, SpellsHeader, spelling}
 use Rattle.path_verifier.specs.Piece.{PieceValue, HasRange, travelled}
 use Rattle.path_verifier.specs.Header.{len_of, header_of}
 use Rattle.path_verifier.specs.Accepted.{MakesPath}
@@ -49,7 +49,7 @@ range_of_last (one ∷ past) piece ranges = range_of_last past piece ranges.1
 -- the header behind all pieces has a spelling
 pub behind_spelled : (source destination moment : ℕ) (pieces : List PieceValue)
     → MakesPath pieces source destination moment → HasFrame source destination pieces
-    → Spells (spelling (header_behind pieces)) (header_behind pieces)
+    → SpellsHeader (spelling (header_behind pieces)) (header_behind pieces)
 behind_spelled source destination moment pieces path frame =
     let last = has_last pieces path.some in
     let ranges : AllByRecursion HasRange (last.past ++ last.piece ∷ []) =
@@ -73,9 +73,9 @@ behind_spelled source destination moment pieces path frame =
     let is = spot_of spot entry three ranges there in
     let spells = spelled_on spot entry is ranges
     (subst (λ (ps : List PieceValue). IsHeader (header_of ps)) (sym last.is) frame.is_header)
-    (subst (λ (ps : List PieceValue). Fits (header_of ps)) (sym last.is) frame.fits)
+    (subst (λ (ps : List PieceValue). FitsBits (header_of ps)) (sym last.is) frame.fits)
     Inside (λ m same. absurd cc) in
-    subst (λ (h : HeaderValue). Spells (spelling h) h)
+    subst (λ (h : HeaderValue). SpellsHeader (spelling h) h)
     (there_behind spot refl over ∙ ap header_behind last.is) spells
 
 -- both addresses and the header of a delivered packet are read as they are

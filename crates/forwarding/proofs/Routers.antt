@@ -15,7 +15,7 @@ use Rattle.path_segment.specs.declared.entry.Entry.{Entry}
 use Rattle.path_verifier.specs.declared.kind.PieceKind.{PieceKind}
 use Rattle.path_verifier.specs.declared.kind.PieceKind.TheVariants.{Up, Core, Down}
 use Rattle.path_verifier.specs.Piece.{PieceValue, kind_of}
-use Rattle.path_verifier.specs.Header.{hop_count}
+use Rattle.path_verifier.specs.Header.{total_hops}
 use Rattle.router_step.specs.declared.arrival.Arrival.TheVariants.{FromHost, Inside, Link}
 use Rattle.router_step.specs.Checks.{are_joined, kinds_fit}
 use Rattle.forwarding.specs.PathPosition.{PathPosition, beta_at, in_by, out_by}
@@ -143,7 +143,7 @@ pub comes_inside : (n : Network) (one : AsEntry) (router source : ℕ) (spot : P
 comes_inside n one router source spot entry = record { start = refl; way = refl; from = refl }
 
 pub comes_first : (n : Network) (one : AsEntry) (router source : ℕ) (spot : PathPosition) (entry : Entry)
-    → hop_count spot.past + spot.reached ≡ 0 → source ≡ entry.ia
+    → total_hops spot.past + spot.reached ≡ 0 → source ≡ entry.ia
     → Comes (view_for n one entry.ia router) FromHost source spot entry
 comes_first n one router source spot entry start same =
     record { start = eq-eqb _ _ start; way = refl; from = eq-eqb source entry.ia same }

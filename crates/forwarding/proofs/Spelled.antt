@@ -9,10 +9,10 @@ use Rattle.path_segment.specs.declared.entry.Entry.{Entry}
 use Rattle.path_header.specs.declared.fields.InfoField.{InfoField}
 use Rattle.path_header.specs.declared.fields.HopField.{HopField}
 use Rattle.path_header.specs.Value.{IsHeader}
-use Rattle.path_header.specs.Spelling.{InfoFits, HopFits, Fits, Spells, spelling}
+use Rattle.path_header.specs.Spelling.{InfoFits, HopFits, FitsBits, SpellsHeader, spelling}
 use Rattle.path_header.proofs.WholeHeader.{spelling_spells}
 use Rattle.path_verifier.specs.Piece.{PieceValue, HasRange, travelled}
-use Rattle.path_verifier.specs.Header.{field_of, fields_of, len_of, hop_count, header_of}
+use Rattle.path_verifier.specs.Header.{field_of, fields_of, len_of, total_hops, header_of}
 use Rattle.path_verifier.specs.Header as path
 use Rattle.path_verifier.proofs.Headers.{field_there}
 use Rattle.router_step.specs.declared.arrival.Arrival.{Arrival}
@@ -178,19 +178,19 @@ is_header_there spot entry seg_id is header = record {
 }
 
 fits_there : (spot : PathPosition) (seg_id : ℕ) → AllByRecursion HasRange (pieces_at spot)
-    → Fits (header_of (pieces_at spot)) → seg_id < 2 ^ 16 → Fits (header_with spot seg_id)
+    → FitsBits (header_of (pieces_at spot)) → seg_id < 2 ^ 16 → FitsBits (header_with spot seg_id)
 unfolding header_of header_with
 fits_there spot seg_id ranges fits small = record {
   infos = infos_fit spot.past spot.later spot.piece seg_id ranges fits.infos fits.hops small;
   hops = fits.hops;
 }
 
-infos_of : (pieces : List PieceValue) → Fits (header_of pieces)
+infos_of : (pieces : List PieceValue) → FitsBits (header_of pieces)
     → AllByRecursion InfoFits (map path.info_of pieces)
 unfolding header_of
 infos_of pieces fits = fits.infos
 
-hops_of_all : (pieces : List PieceValue) → Fits (header_of pieces)
+hops_of_all : (pieces : List PieceValue) → FitsBits (header_of pieces)
     → AllByRecursion HopFits (flat_map fields_of pieces)
 unfolding header_of
 hops_of_all pieces fits = fits.hops
@@ -203,9 +203,9 @@ range_at (one ∷ past) later piece all = range_at past later piece all.1
 module _ (spot : PathPosition) (entry : Entry) (is : IsSpot spot entry)
     (ranges : AllByRecursion HasRange (pieces_at spot))
     (header : IsHeader (header_of (pieces_at spot)))
-    (fits : Fits (header_of (pieces_at spot))) where
+    (fits : FitsBits (header_of (pieces_at spot))) where
   with_small : (seg_id : ℕ) → seg_id < 2 ^ 16
-      → Spells (spelling (header_with spot seg_id)) (header_with spot seg_id)
+      → SpellsHeader (spelling (header_with spot seg_id)) (header_with spot seg_id)
   with_small seg_id small =
       spelling_spells (header_with spot seg_id) (is_header_there spot entry seg_id is header)
       (fits_there spot seg_id ranges fits small)
@@ -221,7 +221,7 @@ module _ (spot : PathPosition) (entry : Entry) (is : IsSpot spot entry)
   -- first
   pub spelled_on : (arrival : Arrival)
       → ((interface : ℕ) → arrival ≡ Link interface → 0 < spot.reached)
-      → Spells (spelling (header_on arrival spot)) (header_on arrival spot)
+      → SpellsHeader (spelling (header_on arrival spot)) (header_on arrival spot)
   spelled_on FromHost later = with_small (beta_at spot.piece spot.reached) here_small
   spelled_on Inside later = with_small (beta_at spot.piece spot.reached) here_small
   spelled_on (Link interface) later =

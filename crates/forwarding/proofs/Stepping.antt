@@ -12,13 +12,13 @@ use Rattle.path_header.specs.declared.fields.InfoField.{InfoField}
 use Rattle.path_header.specs.declared.fields.HopField.{HopField}
 use Rattle.path_header.specs.Value.{HeaderValue, lens_from}
 use Rattle.path_verifier.specs.Piece.{PieceValue}
-use Rattle.path_verifier.specs.Header.{field_of, fields_of, len_of, hop_count}
+use Rattle.path_verifier.specs.Header.{field_of, fields_of, len_of, total_hops}
 use Rattle.path_verifier.specs.Header as path
 use Rattle.router_step.specs.declared.arrival.Arrival.{Arrival}
 use Rattle.router_step.specs.declared.outcome.Outcome.{Outcome}
 use Rattle.router_step.specs.declared.outcome.Outcome.TheVariants.{ToLink, ToRouter, Deliver}
 use Rattle.router_step.specs.declared.fault.Refusal.{Refusal}
-use Rattle.router_step.specs.Place.{info_of, hop_of, way_out, moved_on, gone}
+use Rattle.router_step.specs.Place.{current_info, current_hop, way_out, moved_on, gone}
 use Rattle.router_step.specs.Checks.{destination_fits, kinds_fit}
 use Rattle.router_step.specs.Step.{step_of}
 use Rattle.forwarding.specs.PathPosition.{PathPosition, beta_at, info_with, info_left, header_with, header_there, header_coming, advanced, out_by}
@@ -37,10 +37,10 @@ pub record Opens (view : View) (arrival : Arrival) (has_switched : Bool) (piece 
   pub up : out.up ≡ true
 
 way_there : (spot : PathPosition) (seg_id : ℕ) (entry : Entry) → IsSpot spot entry
-    → way_out (info_of (header_with spot seg_id))
-    (hop_of (header_with spot seg_id)) ≡ out_by spot.piece entry
+    → way_out (current_info (header_with spot seg_id))
+    (current_hop (header_with spot seg_id)) ≡ out_by spot.piece entry
 way_there spot seg_id entry is =
-    ap (λ (i : InfoField). way_out i (hop_of (header_with spot seg_id)))
+    ap (λ (i : InfoField). way_out i (current_hop (header_with spot seg_id)))
     (info_of-header_with spot seg_id)
     ∙ ap (λ (h : HopField). way_out (info_with spot.piece seg_id) h)
     (hop_of-header_with spot seg_id entry is.there)
@@ -75,9 +75,9 @@ answer view out spot entry is more false e =
     let way = way_there spot (beta_at spot.piece spot.reached) entry is in
     let left =
     leaving spot entry
-    (way_out (info_of (header_there spot)) (hop_of (header_there spot))) is more in
+    (way_out (current_info (header_there spot)) (current_hop (header_there spot))) is more in
     rw e (ap (λ (h : HeaderValue).
-    (ToLink (way_out (info_of (header_there spot)) (hop_of (header_there spot))), h)) left
+    (ToLink (way_out (current_info (header_there spot)) (current_hop (header_there spot))), h)) left
     ∙ ap (λ n. (ToLink n, header_coming (advanced spot))) way)
 
 abbrev pub done : Outcome × HeaderValue → Result (Outcome × HeaderValue) Refusal
@@ -100,7 +100,7 @@ goes_on view now arrival source destination spot entry out is comes own other mo
     subst (λ (h : HeaderValue). MayLeave view arrival false h out) (sym same)
     (may_leave view arrival false spot entry out is opens) in
     let b = beta_at spot.piece spot.reached in
-    let further : spot.reached + 1 < len_of spot.piece + hop_count spot.later = omega arith in
+    let further : spot.reached + 1 < len_of spot.piece + total_hops spot.later = omega arith in
     went_on view now arrival source destination (header_on arrival spot)
     (header_there spot) false out
     (admitted_there view now arrival source spot entry is comes own) (not_last spot b further)
@@ -149,7 +149,7 @@ switch_header past later piece next i at_end =
     let inf : length past + 1 ≡ length (past ++ piece ∷ []) =
     sym (length-append past (piece ∷ [])) in
     let count = sum_by_push len_of past piece in
-    let hf : hop_count past + i + 1 ≡ hop_count (past ++ piece ∷ []) + 0 = omega arith in
+    let hf : total_hops past + i + 1 ≡ total_hops (past ++ piece ∷ []) + 0 = omega arith in
     let fronts : map info_left (past ++ piece ∷ []) ++
     (info_with next (beta_at next 0) ∷ map path.info_of later) ≡ map info_left past ++
     (info_left piece ∷ info_with next (beta_at next 0) ∷ map path.info_of later) =
@@ -174,13 +174,13 @@ switch_header past later piece next i at_end =
     ∙ ap (λ (xs : List InfoField). record old {
       curr_inf = length (past ++ piece ∷ []);
       curr_hf =
-          hop_count (past ++ piece ∷ []) + 0;
+          total_hops (past ++ piece ∷ []) + 0;
       infos = xs;
     }) infos
     ∙ ap (λ (ps : List PieceValue). record old {
       curr_inf = length (past ++ piece ∷ []);
       curr_hf =
-          hop_count (past ++ piece ∷ []) + 0;
+          total_hops (past ++ piece ∷ []) + 0;
       infos =
           map info_left (past ++ piece ∷ []) ++
           (info_with next (beta_at next 0) ∷ map path.info_of later);

@@ -11,10 +11,10 @@ use Rattle.path_header.specs.declared.fields.InfoField.{InfoField}
 use Rattle.path_header.specs.declared.fields.HopField.{HopField}
 use Rattle.path_header.specs.Value.{HeaderValue, lens_from, segment_at}
 use Rattle.path_verifier.specs.Piece.{PieceValue, HasRange, travelled}
-use Rattle.path_verifier.specs.Header.{len_of, hop_count}
+use Rattle.path_verifier.specs.Header.{len_of, total_hops}
 use Rattle.router_step.specs.declared.arrival.Arrival.TheVariants.{Link}
-use Rattle.router_step.specs.Place.{info_of, hop_of, moved_on, gone}
-use Rattle.router_step.specs.Checks.{is_live, is_mac_right, ends_segment}
+use Rattle.router_step.specs.Place.{current_info, current_hop, moved_on, gone}
+use Rattle.router_step.specs.Checks.{is_hop_live, is_mac_right, ends_segment}
 use Rattle.router_step.specs.Step.{step_of}
 use Rattle.forwarding.specs.PathPosition.{PathPosition, beta_at, info_with, header_with, header_there}
 use Rattle.forwarding.specs.OnPath.{header_on}
@@ -63,16 +63,16 @@ ends past later piece next i seg_id entry first is range there over =
     let segment = segment_of_place (past ++ piece ∷ []) later next 0 beyond.three beyond.past_long
     (within_piece (at_start past piece next later) first beyond) in
     let count = sum_by_push len_of past piece in
-    let place : hop_count (past ++ piece ∷ []) + 0 ≡ hop_count past + i + 1 = omega arith in
+    let place : total_hops (past ++ piece ∷ []) + 0 ≡ total_hops past + i + 1 = omega arith in
     let behind : length (past ++ piece ∷ []) ≡ length past + 1 = length-append past (piece ∷ []) in
     let found : segment_at (lens_from (map len_of (past ++ piece ∷ next ∷ later)))
-    (hop_count past + i + 1) ≡ length past + 1 =
-    ap (λ (ps : List PieceValue). segment_at (lens_from (map len_of ps)) (hop_count past + i + 1))
+    (total_hops past + i + 1) ≡ length past + 1 =
+    ap (λ (ps : List PieceValue). segment_at (lens_from (map len_of ps)) (total_hops past + i + 1))
     (sym (is_beyond past later piece next))
     ∙ ap (segment_at (lens_from (map len_of ((past ++ piece ∷ []) ++ next ∷ later)))) (sym place)
     ∙ segment ∙ behind in
     let apart : segment_at (lens_from (map len_of (past ++ piece ∷ next ∷ later)))
-    (hop_count past + i + 1) ≢ length past =
+    (total_hops past + i + 1) ≢ length past =
     λ same. (let two = sym found ∙ same in absurd (omega arith)) in
     ap not (ne_eqb _ _ apart)
 
@@ -96,18 +96,18 @@ switches view now interface source destination past later piece next i entry fir
     let is_next = next_spot past later piece next i entry first is range there in
     let long = long_of next range in
     let count = sum_by-cons len_of next later in
-    let further : i + 1 < len_of piece + hop_count (next ∷ later) = omega arith in
-    let live : is_live now (info_of (moved_on true (header_there spot)))
-    (hop_of (moved_on true (header_there spot))) ≡ true =
-    ap (λ (h : HeaderValue). is_live now (info_of h) (hop_of h)) same
-    ∙ ap (λ (x : InfoField). is_live now x (hop_of (header_there goal)))
+    let further : i + 1 < len_of piece + total_hops (next ∷ later) = omega arith in
+    let live : is_hop_live now (current_info (moved_on true (header_there spot)))
+    (current_hop (moved_on true (header_there spot))) ≡ true =
+    ap (λ (h : HeaderValue). is_hop_live now (current_info h) (current_hop h)) same
+    ∙ ap (λ (x : InfoField). is_hop_live now x (current_hop (header_there goal)))
     (info_of-header_with goal (beta_at next 0))
-    ∙ ap (λ (x : HopField). is_live now (info_with next (beta_at next 0)) x)
+    ∙ ap (λ (x : HopField). is_hop_live now (info_with next (beta_at next 0)) x)
     (hop_of-header_with goal (beta_at next 0) first there) ∙ own_next.live in
-    let mac : is_mac_right view (info_of (moved_on true (header_there spot)))
-    (hop_of (moved_on true (header_there spot))) ≡ true =
-    ap (λ (h : HeaderValue). is_mac_right view (info_of h) (hop_of h)) same
-    ∙ ap (λ (x : InfoField). is_mac_right view x (hop_of (header_there goal)))
+    let mac : is_mac_right view (current_info (moved_on true (header_there spot)))
+    (current_hop (moved_on true (header_there spot))) ≡ true =
+    ap (λ (h : HeaderValue). is_mac_right view (current_info h) (current_hop h)) same
+    ∙ ap (λ (x : InfoField). is_mac_right view x (current_hop (header_there goal)))
     (info_of-header_with goal (beta_at next 0))
     ∙ ap (λ (x : HopField). is_mac_right view (info_with next (beta_at next 0)) x)
     (hop_of-header_with goal (beta_at next 0) first there) ∙ own_next.mac in

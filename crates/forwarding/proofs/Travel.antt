@@ -9,7 +9,7 @@ use Rattle.scion_topology.proofs.Ends.{owner_below}
 use Rattle.path_segment.specs.declared.entry.Entry.{Entry}
 use Rattle.path_header.specs.Value.{HeaderValue}
 use Rattle.path_verifier.specs.Piece.{PieceValue, HasRange, travelled}
-use Rattle.path_verifier.specs.Header.{len_of, hop_count}
+use Rattle.path_verifier.specs.Header.{len_of, total_hops}
 use Rattle.path_verifier.specs.Walk.{walk_of}
 use Rattle.policy_expr.specs.declared.hop.WalkHop.{WalkHop}
 use Rattle.router_step.specs.declared.arrival.Arrival.{Arrival}
@@ -17,7 +17,7 @@ use Rattle.router_step.specs.declared.arrival.Arrival.TheVariants.{FromHost, Ins
 use Rattle.forwarding.specs.PathPosition.{PathPosition, pieces_at, advanced, in_by, out_by}
 use Rattle.forwarding.specs.Forwardable.{IsLinked}
 use Rattle.path_header.specs.Value.{IsHeader}
-use Rattle.path_header.specs.Spelling.{Fits, Spells, spelling}
+use Rattle.path_header.specs.Spelling.{FitsBits, SpellsHeader, spelling}
 use Rattle.path_verifier.specs.Header.{header_of}
 use Rattle.std.specs.List.{AllByRecursion}
 use Rattle.forwarding.specs.declared.location.PacketLocation.TheVariants.{Delivered}
@@ -46,11 +46,11 @@ module _ (n : Network) (now source destination : ℕ) (payload : List ℕ) (piec
   -- the header with which a packet comes to a spot of the path has a spelling
   spelled : (arrival : Arrival) (spot : PathPosition) (entry : Entry) → IsSpot spot entry
       → pieces_at spot ≡ pieces → ((interface : ℕ) → arrival ≡ Link interface → 0 < spot.reached)
-      → Spells (spelling (header_on arrival spot)) (header_on arrival spot)
+      → SpellsHeader (spelling (header_on arrival spot)) (header_on arrival spot)
   spelled arrival spot entry good whole later =
       spelled_on spot entry good (subst (AllByRecursion HasRange) (sym whole) route.all_ranges)
       (subst (λ (ps : List PieceValue). IsHeader (header_of ps)) (sym whole) frame.is_header)
-      (subst (λ (ps : List PieceValue). Fits (header_of ps)) (sym whole) frame.fits) arrival later
+      (subst (λ (ps : List PieceValue). FitsBits (header_of ps)) (sym whole) frame.fits) arrival later
 
   pub from_inside : (left : ℕ) (spot : PathPosition) (entry : Entry) (router came_in_by : ℕ)
       (passed : List WalkHop) → IsSpot spot entry → pieces_at spot ≡ pieces
@@ -121,9 +121,9 @@ module _ (n : Network) (now source destination : ℕ) (payload : List ℕ) (piec
       let from =
       route.starts hop ahead (ap (λ (p : List WalkHop). p ++ hop ∷ ahead) (sym placed.1.1.0)
       ∙ all) in
-      let none_past : hop_count spot.past ≡ 0 =
-      ap (λ (ps : List PieceValue). hop_count ps) placed.0 in
-      let start : hop_count spot.past + spot.reached ≡ 0 = omega arith in
+      let none_past : total_hops spot.past ≡ 0 =
+      ap (λ (ps : List PieceValue). total_hops ps) placed.0 in
+      let start : total_hops spot.past + spot.reached ≡ 0 = omega arith in
       let owned = placed.1.1.1 in
       let below =
       owner_below n entry.ia (out_by spot.piece entry) router accepted.one route.network owned

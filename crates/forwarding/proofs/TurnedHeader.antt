@@ -9,11 +9,11 @@ use Rattle.path_segment.specs.Chain.{beta_of}
 use Rattle.path_header.specs.declared.fields.InfoField.{InfoField}
 use Rattle.path_header.specs.declared.fields.HopField.{HopField}
 use Rattle.path_header.specs.Value.{lens_from}
-use Rattle.path_header.specs.Reversal.{turned, reversed_lens, reversed}
+use Rattle.path_header.specs.Reversal.{turned_info, reversed_lens, reversed}
 use Rattle.path_segment.specs.declared.entry.Entry.{Entry}
 use Rattle.path_verifier.specs.Piece.{PieceValue, HasRange, travelled}
 use Rattle.path_verifier.proofs.Turned.{travelled_turned, fields_turned}
-use Rattle.path_verifier.specs.Header.{fields_of, len_of, info_of, hop_count, header_of}
+use Rattle.path_verifier.specs.Header.{fields_of, len_of, info_of, total_hops, header_of}
 use Rattle.path_verifier.proofs.Entries.{length_travelled}
 use Rattle.forwarding.specs.PathPosition.{place_of, info_with, info_left}
 use Rattle.path_verifier.specs.Turned.{turned_piece, turned_pieces}
@@ -55,21 +55,21 @@ last_place piece range =
     place_either piece (len_of piece - 1) (omega arith) (omega arith)
 
 pub info_turned : (piece : PieceValue) → HasRange piece
-    → turned (info_left piece) ≡ info_of (turned_piece piece)
+    → turned_info (info_left piece) ≡ info_of (turned_piece piece)
 info_turned piece range =
     ap (λ place. info_with (turned_piece piece) (beta_of piece.segment place))
     (last_place piece range)
 
 infos_forward : (pieces : List PieceValue) → AllByRecursion HasRange pieces
-    → map turned (map info_left pieces) ≡ map info_of (map turned_piece pieces)
+    → map turned_info (map info_left pieces) ≡ map info_of (map turned_piece pieces)
 infos_forward [] ranges = refl
 infos_forward (piece ∷ pieces) ranges =
-    ap (λ (x : InfoField). x ∷ map turned (map info_left pieces)) (info_turned piece ranges.0)
+    ap (λ (x : InfoField). x ∷ map turned_info (map info_left pieces)) (info_turned piece ranges.0)
     ∙ ap (λ (xs : List InfoField). info_of (turned_piece piece) ∷ xs)
     (infos_forward pieces ranges.1)
 
 infos_turned : (pieces : List PieceValue) → AllByRecursion HasRange pieces
-    → reverse (map turned (map info_left pieces)) ≡ map info_of (turned_pieces pieces)
+    → reverse (map turned_info (map info_left pieces)) ≡ map info_of (turned_pieces pieces)
 infos_turned pieces ranges = ap (λ (xs : List InfoField). reverse xs) (infos_forward pieces ranges)
     ∙ sym (map_back info_of (map turned_piece pieces))
 
@@ -132,7 +132,7 @@ pub header_back : (pieces : List PieceValue) → length pieces ≤ 3 → AllByRe
 unfolding header_behind header_of
 header_back pieces three long ranges =
     let infos = length-map pieces info_left in
-    let hops : length (flat_map fields_of pieces) ≡ hop_count pieces = length_fields pieces in
+    let hops : length (flat_map fields_of pieces) ≡ total_hops pieces = length_fields pieces in
     header_like _ 0 _ 0 _ (lens_of (turned_pieces pieces)) _ (map info_of (turned_pieces pieces)) _
     (flat_map fields_of (turned_pieces pieces))
     (omega arith) (omega arith) (lens_turned pieces three long) (infos_turned pieces ranges)

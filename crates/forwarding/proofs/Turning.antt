@@ -22,9 +22,9 @@ use Rattle.forwarding.specs.PathPosition.{PathPosition, header_there, advanced, 
 use Rattle.forwarding.specs.Forwardable.{IsAuthenticHop, IsLinked}
 use Rattle.forwarding.specs.declared.location.RouterStop.{RouterStop}
 use Rattle.forwarding.specs.declared.location.PacketLocation.TheVariants.{AtRouter, Delivered}
-use Rattle.path_header.specs.Spelling.{Spells, spelling}
+use Rattle.path_header.specs.Spelling.{SpellsHeader, spelling}
 use Rattle.forwarding.specs.Frame.{framed}
-use Rattle.forwarding.specs.Turn.{Packet, noted, put, stepped, by_view, turn_of, turned}
+use Rattle.forwarding.specs.Turn.{Packet, noted, put, stepped, by_view, turn_of, turned_packet}
 use Rattle.forwarding.specs.OnPath.{header_on, at_spot}
 use Rattle.forwarding.proofs.Framed.{frame_goes}
 use Rattle.forwarding.proofs.AtSpot.{IsSpot, Comes, IsOwn}
@@ -88,10 +88,10 @@ inside n source destination payload stop passed view spot entry next goes here o
 turn_is : (n : Network) (now source destination : ℕ) (payload : List ℕ) (header : HeaderValue)
     (stop : RouterStop) (passed : List WalkHop) (one : AsEntry) (done : Outcome × HeaderValue)
     → as_named n.ases stop.ia ≡ Some one → stop.router < one.routers
-    → source < 2 ^ 64 → destination < 2 ^ 64 → Spells (spelling header) header
+    → source < 2 ^ 64 → destination < 2 ^ 64 → SpellsHeader (spelling header) header
     → step_of (view_for n one stop.ia stop.router) now stop.arrival source destination header
     ≡ Ok done
-    → turned n now (carried source destination payload header stop passed)
+    → turned_packet n now (carried source destination payload header stop passed)
     ≡ placed n source destination payload stop passed done
 unfolding turn_of
 turn_is n now source destination payload header stop passed one done named below from for spells
@@ -109,12 +109,12 @@ module _ (n : Network) (now source destination : ℕ) (payload : List ℕ) (from
   pub turns_on : (spot : PathPosition) (entry next : Entry) (arrival : Arrival) (router came_in_by : ℕ)
       (passed : List WalkHop) → (accepted : IsAuthenticHop n spot.piece spot.reached entry)
       (goes : IsLinked n spot.piece entry next) → IsSpot spot entry → router < accepted.one.routers
-      → Spells (spelling (header_on arrival spot)) (header_on arrival spot)
+      → SpellsHeader (spelling (header_on arrival spot)) (header_on arrival spot)
       → IsLive spot.piece.segment.timestamp entry.exp_time now
       → destination ≢ entry.ia → spot.reached + 1 < len_of spot.piece
       → Comes (view_for n accepted.one entry.ia router) arrival source spot entry
       → Opens (view_for n accepted.one entry.ia router) arrival false spot.piece entry goes.near
-      → turned n now (at_spot source destination payload spot entry arrival router came_in_by passed)
+      → turned_packet n now (at_spot source destination payload spot entry arrival router came_in_by passed)
       ≡ placed n source destination payload (stop_at entry.ia router arrival came_in_by) passed
       (onward_by (view_for n accepted.one entry.ia router) goes.near spot entry)
   turns_on spot entry next arrival router came_in_by passed accepted goes is below spells live other more
@@ -130,11 +130,11 @@ module _ (n : Network) (now source destination : ℕ) (payload : List ℕ) (from
   pub turns_last : (spot : PathPosition) (entry : Entry) (arrival : Arrival) (router came_in_by : ℕ)
       (passed : List WalkHop) → (accepted : IsAuthenticHop n spot.piece spot.reached entry)
       → IsSpot spot entry → router < accepted.one.routers
-      → Spells (spelling (header_on arrival spot)) (header_on arrival spot)
+      → SpellsHeader (spelling (header_on arrival spot)) (header_on arrival spot)
       → IsLive spot.piece.segment.timestamp entry.exp_time now
       → destination ≡ entry.ia → spot.reached + 1 ≡ len_of spot.piece → spot.later ≡ []
       → Comes (view_for n accepted.one entry.ia router) arrival source spot entry
-      → turned n now (at_spot source destination payload spot entry arrival router came_in_by passed)
+      → turned_packet n now (at_spot source destination payload spot entry arrival router came_in_by passed)
       ≡ record {
         bytes = framed source destination (header_there spot) payload;
         place = Delivered;
@@ -155,7 +155,7 @@ module _ (n : Network) (now source destination : ℕ) (payload : List ℕ) (from
       → (accepted : IsAuthenticHop n piece i entry) (first_accepted : IsAuthenticHop n next_piece 0 first)
       (goes : IsLinked n next_piece first second)
       → IsSpot (at_end past piece next_piece later i) entry → router < accepted.one.routers
-      → Spells (spelling (header_on (Link interface) (at_end past piece next_piece later i)))
+      → SpellsHeader (spelling (header_on (Link interface) (at_end past piece next_piece later i)))
       (header_on (Link interface) (at_end past piece next_piece later i))
       → IsLive piece.segment.timestamp entry.exp_time now
       → IsLive next_piece.segment.timestamp first.exp_time now
@@ -166,7 +166,7 @@ module _ (n : Network) (now source destination : ℕ) (payload : List ℕ) (from
       (at_end past piece next_piece later i) entry
       → Opens (view_for n accepted.one entry.ia router)
       (Link interface) true next_piece first goes.near
-      → turned n now
+      → turned_packet n now
       (at_spot source destination payload (at_end past piece next_piece later i) entry
       (Link interface) router came_in_by passed)
       ≡ placed n source destination payload (stop_at entry.ia router (Link interface) came_in_by) passed

@@ -2,7 +2,7 @@
 use Rattle.std.specs.Prelude.{ℕ, ◌^◌, ◌<◌, List, ◌++◌}
 use Rattle.std.specs.Int.{w64, to_be_bytes}
 use Rattle.path_header.specs.Value.{HeaderValue, IsHeader}
-use Rattle.path_header.specs.Spelling.{Fits, spelling}
+use Rattle.path_header.specs.Spelling.{FitsBits, spelling}
 use Rattle.path_verifier.specs.Piece.{PieceValue}
 use Rattle.path_verifier.specs.Header.{header_of}
 
@@ -20,4 +20,4 @@ pub record HasFrame (source destination : ℕ) (pieces : List PieceValue) : Type
   pub source_fits : source < 2 ^ 64
   pub destination_fits : destination < 2 ^ 64
   pub is_header : IsHeader (header_of pieces)
-  pub fits : Fits (header_of pieces)
+  pub fits : FitsBits (header_of pieces)

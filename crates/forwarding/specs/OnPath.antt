@@ -12,7 +12,7 @@ use Rattle.router_step.specs.declared.arrival.Arrival.{Arrival}
 use Rattle.router_step.specs.declared.arrival.Arrival.TheVariants.{FromHost, Inside, Link}
 use Rattle.forwarding.specs.declared.location.PacketLocation.TheVariants.{AtRouter, Delivered}
 use Rattle.forwarding.specs.Frame.{framed, HasFrame}
-use Rattle.forwarding.specs.Turn.{Packet, turned}
+use Rattle.forwarding.specs.Turn.{Packet, turned_packet}
 use Rattle.forwarding.specs.PathPosition.{PathPosition, pieces_at, header_there, header_coming, in_by, out_by}
 use Rattle.forwarding.specs.Journey.{to_come, turns_left}
 use Rattle.forwarding.specs.Turned.{header_behind}
@@ -73,7 +73,7 @@ pub record ComesNearer (n : Network) (now source destination : ℕ) (payload : L
     (pieces : List PieceValue) (left : ℕ) (packet : Packet) : Type 0 where
   pub less : ℕ
   pub one : left ≡ 1 + less
-  pub stands : OnPath n source destination payload pieces less (turned n now packet)
+  pub stands : OnPath n source destination payload pieces less (turned_packet n now packet)
 
 -- the packet after its delivery: with the header at the end of all pieces, the payload as it was
 -- sent, and the whole walk passed
@@ -88,4 +88,4 @@ arrived_with source destination payload pieces = record {
 pub record Arrives (n : Network) (now source destination : ℕ) (payload : List ℕ)
     (pieces : List PieceValue) (left : ℕ) (packet : Packet) : Type 0 where
   pub one : left ≡ 1
-  pub there : turned n now packet ≡ arrived_with source destination payload pieces
+  pub there : turned_packet n now packet ≡ arrived_with source destination payload pieces

@@ -7,7 +7,7 @@ use Rattle.path_segment.specs.Chain.{beta_of}
 use Rattle.path_header.specs.declared.fields.InfoField.{InfoField}
 use Rattle.path_header.specs.Value.{HeaderValue, lens_from}
 use Rattle.path_verifier.specs.Piece.{PieceValue}
-use Rattle.path_verifier.specs.Header.{info_of, fields_of, len_of, hop_count}
+use Rattle.path_verifier.specs.Header.{info_of, fields_of, len_of, total_hops}
 
 -- a place on a path: the pieces already travelled, the current piece, the pieces to come, and the
 -- index of the entry reached in the current piece, in order of travel from 0
@@ -52,7 +52,7 @@ info_left piece = info_with piece (beta_at piece (len_of piece - 1))
 unfoldable pub header_with : PathPosition → ℕ → HeaderValue
 header_with spot seg_id = record {
   curr_inf = length spot.past;
-  curr_hf = hop_count spot.past + spot.reached;
+  curr_hf = total_hops spot.past + spot.reached;
   lens = lens_from (map len_of (pieces_at spot));
   infos = map info_left spot.past ++ info_with spot.piece seg_id ∷ map info_of spot.later;
   hops = flat_map fields_of (pieces_at spot);

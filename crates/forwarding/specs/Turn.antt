@@ -99,13 +99,13 @@ unfoldable pub turn_under : Network → View → ℕ → Packet → TurnReply ×
 turn_under n view now packet = at_place n view now packet packet.place
 
 -- the packet after a turn
-abbrev pub turned : Network → ℕ → Packet → Packet
-turned n now packet = (turn_of n now packet).1
+abbrev pub turned_packet : Network → ℕ → Packet → Packet
+turned_packet n now packet = (turn_of n now packet).1
 
 -- the packet after a turn at each of these seconds
 abbrev pub after : Network → Packet → List ℕ → Packet
 after n packet [] = packet
-after n packet (now ∷ later) = after n (turned n now packet) later
+after n packet (now ∷ later) = after n (turned_packet n now packet) later
 
 -- the packet is at no router: it was delivered, refused or lost
 abbrev pub IsAtNoRouter : Packet → Type 0

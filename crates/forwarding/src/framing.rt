@@ -1,6 +1,6 @@
 ghost use Rattle.std.specs.Prelude.{◌≡◌, ◌^◌, ◌<◌, ◌≤◌, length, take, IfOk};
 ghost use Rattle.path_header.specs.Value.{header_len};
-ghost use Rattle.path_header.specs.Spelling.{Fits, spelling};
+ghost use Rattle.path_header.specs.Spelling.{FitsBits, spelling};
 ghost use Rattle.forwarding.specs.Frame.{framed};
 
 use isd_as::IsdAs;
@@ -24,7 +24,7 @@ pub fn frame(
     ensures value { IfOk result (λ bytes.
         bytes.items ≡ framed source destination header.now payload.now) }
     // The numbers of the header and both addresses fit into their bits.
-    ensures fits { IfOk result (λ _. Fits header.now) }
+    ensures fits { IfOk result (λ _. FitsBits header.now) }
     ensures addresses { (source < 2 ^ 64) × (destination < 2 ^ 64) }
 {
     let mut room = [0; MAX_HEADER_LEN];
@@ -43,7 +43,7 @@ fn spell(header: &Header, room: &mut [u8]) -> usize
     requires { header_len header.now ≤ length room.old }
     ensures within { result ≤ length room.new }
     ensures text { take result room.new ≡ spelling header.now }
-    ensures fits { Fits header.now }
+    ensures fits { FitsBits header.now }
 {
     match encode(header, room) {
         Ok(len) => len,

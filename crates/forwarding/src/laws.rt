@@ -7,13 +7,13 @@ ghost use Rattle.scion_topology.specs.View.{View};
 ghost use Rattle.scion_topology.specs.Topology.{IsNetwork, owner_in, rotated, set_up, view_in};
 ghost use Rattle.path_segment.specs.Chain.{Chain};
 ghost use Rattle.path_verifier.specs.Piece.{PieceValue};
-ghost use Rattle.path_verifier.specs.Header.{header_of, hop_count};
+ghost use Rattle.path_verifier.specs.Header.{header_of, total_hops};
 ghost use Rattle.path_verifier.specs.Walk.{walk_of};
 ghost use Rattle.path_verifier.specs.declared.fault.VerifyFault.{VerifyFault};
 ghost use Rattle.path_verifier.specs.Accepted.{AreLive, IsExpiry, MakesPath, request_of, IsAccepted, IsRefused};
 ghost use Rattle.path_verifier.specs.Turned.{turned_piece, turned_pieces};
 ghost use Rattle.path_header.specs.Value.{HeaderValue, IsHeader, header_len};
-ghost use Rattle.path_header.specs.Spelling.{Fits};
+ghost use Rattle.path_header.specs.Spelling.{FitsBits};
 ghost use Rattle.router_step.specs.Packet.{destination_of, source_of, header_in};
 ghost use Rattle.path_header.specs.Reversal.{reversed};
 ghost use Rattle.policy_expr.specs.Policy.{Rules};
@@ -25,7 +25,7 @@ ghost use Rattle.forwarding.specs.declared.location.PacketLocation.{PacketLocati
 ghost use Rattle.forwarding.specs.declared.location.RouterStop.{RouterStop};
 ghost use Rattle.forwarding.specs.declared.reply.TurnReply.{TurnReply};
 ghost use Rattle.forwarding.specs.Frame.{framed, HasFrame};
-ghost use Rattle.forwarding.specs.Turn.{Packet, IsAtNoRouter, put_at, still, turn_under, turn_of, turned, after};
+ghost use Rattle.forwarding.specs.Turn.{Packet, IsAtNoRouter, put_at, still, turn_under, turn_of, turned_packet, after};
 ghost use Rattle.forwarding.specs.Journey.{first_out, turns_for};
 ghost use Rattle.forwarding.specs.Forwardable.{IsForwardable, MayForward};
 ghost use Rattle.forwarding.specs.OnPath.{OnPath, ComesNearer, arrived_with, Arrives};
@@ -75,7 +75,7 @@ pub fn sent_packets_stand()
 pub fn turns_are_few()
     ensures { (n : Network) (pieces : List PieceValue) (source destination moment : ℕ)
         → MakesPath pieces source destination moment
-        → turns_for n (walk_of pieces) ≤ 2 * hop_count pieces }
+        → turns_for n (walk_of pieces) ≤ 2 * total_hops pieces }
 {}
 
 /// In a network that does not change, no packet has more than two turns for each of its hop fields,
@@ -86,18 +86,18 @@ pub fn turns_are_few()
 pub fn journeys_are_bounded()
     ensures ended { (n : Network) (source destination ia router : ℕ) (header : HeaderValue)
         (payload moments : List ℕ) → IsNetwork n → IsOk (view_in n ia router) → IsHeader header
-        → Fits header → 2 * length header.hops ≤ length moments
+        → FitsBits header → 2 * length header.hops ≤ length moments
         → IsAtNoRouter
         (after n (put_at (framed source destination header payload) ia router) moments) }
     ensures before { (n : Network) (source destination ia router : ℕ) (header : HeaderValue)
         (payload moments : List ℕ) (stop : RouterStop) → IsNetwork n → IsOk (view_in n ia router)
-        → IsHeader header → Fits header
+        → IsHeader header → FitsBits header
         → (after n (put_at (framed source destination header payload) ia router) moments).place
         ≡ PacketLocation.AtRouter stop
         → length moments < 2 * length header.hops }
     ensures there { (n : Network) (source destination ia router : ℕ) (header : HeaderValue)
         (payload moments : List ℕ) (stop : RouterStop) → IsNetwork n → IsOk (view_in n ia router)
-        → IsHeader header → Fits header
+        → IsHeader header → FitsBits header
         → (after n (put_at (framed source destination header payload) ia router) moments).place
         ≡ PacketLocation.AtRouter stop
         → IsOk (view_in n stop.ia stop.router) }
@@ -114,7 +114,7 @@ pub fn turns_are_done()
         → (turn_of n now packet).0 ≢ TurnReply.Still }
     ensures there { (n : Network) (now : ℕ) (packet : Packet) (stop next : RouterStop) → IsNetwork n
         → packet.place ≡ PacketLocation.AtRouter stop → IsOk (view_in n stop.ia stop.router)
-        → (turned n now packet).place ≡ PacketLocation.AtRouter next
+        → (turned_packet n now packet).place ≡ PacketLocation.AtRouter next
         → IsOk (view_in n next.ia next.router) }
     ensures links { (n m : Network) (up : Bool) (x y ia router : ℕ) → set_up up x y n ≡ Ok m
         → IsOk (view_in n ia router) → IsOk (view_in m ia router) }

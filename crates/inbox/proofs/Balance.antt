@@ -6,7 +6,7 @@ use Rattle.std.proofs.Math.Nat.{max-le, pow-suc}
 use Rattle.crossbeam_queue.specs.Fifo.{Pushes, Pops, Forks, Merges, Learns}
 use Rattle.crossbeam_queue.proofs.Lists.{at_set, at_snoc}
 use Rattle.inbox.specs.declared.account.Tally.{Tally}
-use Rattle.inbox.specs.Share.{share, IsWhole, half, worth, sum_of}
+use Rattle.inbox.specs.Share.{share, IsWholeShare, half, worth, sum_of}
 use Rattle.inbox.specs.Tally.{tally, weigh, total, AreWithin, IdleIsEmpty, Balanced}
 use Rattle.inbox.proofs.Shares.{doubled, halved, sums, wholes, no_piece, sum_some}
 
@@ -160,7 +160,7 @@ module _ {T : Type 0} where
       )
 
   -- the pass whose share is the whole knows the whole
-  pub learns : (port : ℕ) (v : Tally T) → Learns Balanced port v (λ items. IsWhole v.share → (h : T → ℕ) → weigh h v.put ≡ weigh h v.taken + weigh h items)
+  pub learns : (port : ℕ) (v : Tally T) → Learns Balanced port v (λ items. IsWholeShare v.share → (h : T → ℕ) → weigh h v.put ≡ weigh h v.taken + weigh h items)
   learns port v items views b at whole h =
       let k = b.0.0 in
       let z : Tally T = tally (share 0 0) [] [] in

@@ -4,7 +4,7 @@ use Prim.Native.Nat.{max}
 use Rattle.std.proofs.Math.Nat.{pow-suc, mul_assoc, add-mul, le-max_left, le-max_right, mul-pos}
 use Rattle.std.proofs.lemmas.Nat.{pow-add, pow_pos}
 use Rattle.inbox.specs.declared.account.Share.{Share}
-use Rattle.inbox.specs.Share.{share, IsWhole, half, worth, sum_of}
+use Rattle.inbox.specs.Share.{share, IsWholeShare, half, worth, sum_of}
 
 -- the same share in smaller pieces
 shifted : (m n : ℕ) (s : Share) → s.halvings ≤ m → m ≤ n → worth m s * 2 ^ (n - m) ≡ worth n s
@@ -33,7 +33,7 @@ sums n s t low low' high =
     add-mul (worth m s) (worth m t) (2 ^ (n - m)) ∙ (λ i. a i + b i)
 
 -- the whole
-pub wholes : (n : ℕ) (s : Share) → IsWhole s → s.halvings ≤ n → worth n s ≡ 2 ^ n
+pub wholes : (n : ℕ) (s : Share) → IsWholeShare s → s.halvings ≤ n → worth n s ≡ 2 ^ n
 wholes n s whole low =
     ap (λ k. k * 2 ^ (n - s.halvings)) whole ∙ (sym (pow-add 2 s.halvings (n - s.halvings)) ∙ ap (λ k. 2 ^ k) (let e : s.halvings + (n - s.halvings) ≡ n = omega arith in e))
 

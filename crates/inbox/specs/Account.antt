@@ -4,7 +4,7 @@ use Rattle.std.specs.Prelude.{◌≡◌, ℕ, ◌+◌, true, List, [], ◌∷◌
 use Rattle.inbox.specs.declared.account.Tally.{Tally}
 use Rattle.inbox.specs.declared.account.Roles.{Roles}
 use Rattle.inbox.specs.declared.account.Account.{Account}
-use Rattle.inbox.specs.Share.{share, IsWhole, half, sum_of}
+use Rattle.inbox.specs.Share.{share, IsWholeShare, half, sum_of}
 use Rattle.inbox.specs.Tally.{tally, weigh, Balanced}
 use Rattle.inbox.specs.Roles.{those_of, values, roles, Ordered, put_by, taken_by, keeps_of, gives_of, sends_of, takes_of, both_of, no_roles}
 
@@ -80,7 +80,7 @@ module _ {T : Type 0} where
   -- and then those still there have the values of each of the first two senders in that sender's
   -- order.
   pub record AddsUp (v : Account T) (items : List T) : Type 0 where
-    pub as_often : IsWhole v.tally.share → (h : T → ℕ)
+    pub as_often : IsWholeShare v.tally.share → (h : T → ℕ)
         → weigh h v.tally.put ≡ weigh h v.tally.taken + weigh h items
     pub in_order : v.roles.one ≡ true → v.roles.two ≡ true → v.roles.takes ≡ true
         → (tagged : List (ℕ × T)) × (values tagged ≡ v.roles.taken ++ items)

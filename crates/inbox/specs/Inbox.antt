@@ -9,11 +9,11 @@ pub record Opened : Type 0 where
   pub slots : ℕ
 
 -- a pass: the identity of its inbox, and its account
-pub record Known (T : Type 0) : Type 0 where
+pub record KnownPass (T : Type 0) : Type 0 where
   pub inbox : TableId
   pub account : Account T
 
 -- a way into or out of an inbox: the inbox, and the account of the pass
-pub record Way (T : Type 0) : Type 0 where
+pub record WayThrough (T : Type 0) : Type 0 where
   pub of : Opened
   pub account : Account T

@@ -7,8 +7,8 @@ abbrev pub share : ℕ → ℕ → Share
 share pieces halvings = record { pieces = pieces; halvings = halvings }
 
 -- the share is the whole
-abbrev pub IsWhole : Share → Type 0
-IsWhole s = s.pieces ≡ 2 ^ s.halvings
+abbrev pub IsWholeShare : Share → Type 0
+IsWholeShare s = s.pieces ≡ 2 ^ s.halvings
 
 -- half of a share
 abbrev pub half : Share → Share

@@ -18,9 +18,9 @@ pub struct Sender<'a, T: Drop> {
 
 impl<'a, T: Drop> Model for Sender<'a, T> {
     ghost use Rattle.std.specs.Prelude.{◌≡◌};
-    ghost use Rattle.inbox.specs.Inbox.{Way};
+    ghost use Rattle.inbox.specs.Inbox.{WayThrough};
 
-    ghost Value = { Way T };
+    ghost Value = { WayThrough T };
 
     ghost view = { λ o. record { of = o.inbox.now; account = o.pass.account } };
 
@@ -82,9 +82,9 @@ pub struct Receiver<'a, T: Drop> {
 
 impl<'a, T: Drop> Model for Receiver<'a, T> {
     ghost use Rattle.std.specs.Prelude.{◌≡◌};
-    ghost use Rattle.inbox.specs.Inbox.{Way};
+    ghost use Rattle.inbox.specs.Inbox.{WayThrough};
 
-    ghost Value = { Way T };
+    ghost Value = { WayThrough T };
 
     ghost view = { λ i. record { of = i.inbox.now; account = i.pass.account } };
 

@@ -41,9 +41,9 @@ pub struct InboxPass<T, R: Right> {
 impl<T, R: Right> Model for InboxPass<T, R> {
     ghost use Rattle.std.specs.Prelude.{◌≡◌, ◌<◌, true, []};
     ghost use Rattle.crossbeam_queue.specs.Passes.{view as view_of};
-    ghost use Rattle.inbox.specs.Inbox.{Known};
+    ghost use Rattle.inbox.specs.Inbox.{KnownPass};
 
-    ghost Value = { Known T };
+    ghost Value = { KnownPass T };
 
     ghost view = { λ p. record { inbox = p.pass.table_id; account = view_of p.pass } };
 

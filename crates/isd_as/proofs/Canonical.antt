@@ -3,10 +3,10 @@ use Rattle.std.proofs.Common.{ℕ, ◌/◌, ◌%◌, ◌^◌, ◌<◌, ◌≤◌
 use Rattle.std.specs.Fmt.{digits, decimal}
 use Rattle.std.proofs.lemmas.Bool.{cases_lt, lt-ltb, le-ltb}
 use Rattle.std.proofs.lemmas.Fmt.{decimal_is_IsNumeral, digits_is_IsNumeral, length-decimal-le}
-use Rattle.isd_as.specs.Address.{dash, colon, Writes, WritesGroup, SpellsIsd, SpellsGroups, SpellsAs, Spells, canonical_as, canonical}
+use Rattle.isd_as.specs.Address.{dash, colon, IsNumeralOf, WritesGroup, SpellsIsd, SpellsGroups, SpellsAs, Spells, canonical_as, canonical}
 use Rattle.isd_as.proofs.Printed.{length-digits-le}
 
-Writes-decimal : (n : ℕ) → n < 2 ^ 64 → Writes 10 (decimal n) n
+Writes-decimal : (n : ℕ) → n < 2 ^ 64 → IsNumeralOf 10 (decimal n) n
 Writes-decimal n fits = let is = decimal_is_IsNumeral n fits in record { numeral = is.0; value = is.1 }
 
 -- a number of 16 bits is printed as a group

@@ -13,7 +13,7 @@ use Rattle.std.specs.Option.{ok_or}
 use Rattle.refusal.specs.Refusal.{◌>>=◌}
 use Rattle.isd_as.specs.declared.fault.AddrFault.{AddrFault}
 use Rattle.isd_as.specs.declared.fault.AddrFault.TheVariants as fault
-use Rattle.isd_as.specs.Address.{dash, colon, Writes, WritesGroup, SpellsGroups, SpellsIsd, SpellsAs, Spells}
+use Rattle.isd_as.specs.Address.{dash, colon, IsNumeralOf, WritesGroup, SpellsGroups, SpellsIsd, SpellsAs, Spells}
 use Rattle.isd_as.specs.Reading.{all_digits, number_at, isd_at, is_group, groups_at, as_number_at, address_at}
 use Rattle.isd_as.proofs.Digits.{AllDigits-all_digits, all_digits-AllDigits}
 use Rattle.refusal.proofs.Steps.{bind_ok, guard_ok, guard_not, ok_or_ok, ok_is, done}
@@ -44,7 +44,7 @@ chars-AllDigits radix text small all = chars-IsAscii text (IsAscii-AllDigits rad
 
 -- ---- a number
 
-pub Writes-number_at : (radix limit : ℕ) (e : AddrFault) (text : List ℕ) (n : ℕ) → number_at radix limit e text ≡ Ok n → Writes radix text n × (n < limit)
+pub Writes-number_at : (radix limit : ℕ) (e : AddrFault) (text : List ℕ) (n : ℕ) → number_at radix limit e text ≡ Ok n → IsNumeralOf radix text n × (n < limit)
 unfolding number_at
 Writes-number_at radix limit e text n read =
     let tested = guard_ok _ _ _ _ read in
@@ -55,7 +55,7 @@ Writes-number_at radix limit e text n read =
       subst (λ (m : ℕ). m < limit) value (ltb-true (digits_value radix text) limit fits.0),
     )
 
-pub number_at-Writes : (radix limit : ℕ) (e : AddrFault) (text : List ℕ) (n : ℕ) → Writes radix text n → n < limit → number_at radix limit e text ≡ Ok n
+pub number_at-Writes : (radix limit : ℕ) (e : AddrFault) (text : List ℕ) (n : ℕ) → IsNumeralOf radix text n → n < limit → number_at radix limit e text ≡ Ok n
 unfolding number_at
 number_at-Writes radix limit e text n written below =
     rw (lt-ltb 0 (length text) written.numeral.0, all_digits-AllDigits radix text written.numeral.1, written.value, lt-ltb n limit below) refl

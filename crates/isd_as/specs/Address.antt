@@ -30,13 +30,13 @@ abbrev pub colon : ℕ
 colon = 58
 
 -- the text is one or more digits of the radix, and their value is the number
-pub record Writes (radix : ℕ) (text : List ℕ) (n : ℕ) : Type 0 where
+pub record IsNumeralOf (radix : ℕ) (text : List ℕ) (n : ℕ) : Type 0 where
   pub numeral : IsNumeral radix text
   pub value : digits_value radix text ≡ n
 
 -- the text is 1 to 4 hexadecimal digits, and their value is the number
 pub record WritesGroup (text : List ℕ) (n : ℕ) : Type 0 where
-  pub written : Writes 16 text n
+  pub written : IsNumeralOf 16 text n
   pub short : length text ≤ 4
 
 -- the text is three groups joined by ':'; each group gives 16 bits of the number, the highest first
@@ -55,12 +55,12 @@ pub record SpellsGroups (text : List ℕ) (n : ℕ) : Type 0 where
 
 -- the text is a decimal number of 16 bits: the ISD
 pub record SpellsIsd (text : List ℕ) (n : ℕ) : Type 0 where
-  pub written : Writes 10 text n
+  pub written : IsNumeralOf 10 text n
   pub small : n < 2 ^ 16
 
 -- the text is a decimal number of 32 bits
 pub record SpellsDecimal (text : List ℕ) (n : ℕ) : Type 0 where
-  pub written : Writes 10 text n
+  pub written : IsNumeralOf 10 text n
   pub small : n < 2 ^ 32
 
 -- the text is an AS number: a decimal number of 32 bits, or three groups

@@ -4,7 +4,7 @@ use Rattle.std.specs.Prelude.{slice_get}
 use Rattle.std.specs.Option.{option_map_or}
 use Rattle.std.proofs.lemmas.List.Elements.{All-nil, All-weaker, All-contains}
 use Rattle.path_segment.specs.Chain.{Chain}
-use Rattle.path_server.specs.Lookup.{ends_in, is_reached, joins, segments_for}
+use Rattle.path_server.specs.Lookup.{is_intra_to, is_reached, joins, segments_for}
 use Rattle.policy_expr.specs.Policy.{Rules}
 use Rattle.policy_expr.specs.Options.{WeighedRules}
 use Rattle.path_verifier.specs.declared.kind.PieceKind.{PieceKind}
@@ -30,11 +30,11 @@ best_accepted segments src dst moment option path best = best.candidate.accepted
 found_all : (P : Chain → Type 0) (segments : List Chain) (src dst moment : ℕ) (kind : PieceKind)
     → All P segments → All P (segments_of (segments_for segments src dst moment) kind)
 unfolding segments_for
-found_all P segments src dst moment Up all = all_filter P (ends_in src moment) segments all
+found_all P segments src dst moment Up all = all_filter P (is_intra_to src moment) segments all
 found_all P segments src dst moment Core all =
     all_filter P (joins (is_reached src (segments_for segments src dst moment).ups)
     (is_reached dst (segments_for segments src dst moment).downs) moment) segments all
-found_all P segments src dst moment Down all = all_filter P (ends_in dst moment) segments all
+found_all P segments src dst moment Down all = all_filter P (is_intra_to dst moment) segments all
 
 best_stored : (P : Chain → Type 0) (segments : List Chain) (src dst moment : ℕ)
     (option : WeighedRules) (path : PathValue) → All P segments

@@ -11,7 +11,7 @@ use Rattle.network_core.specs.declared.reply.Reply.TheVariants as replies
 use Rattle.network_core.specs.Value.{Shipment, PacketValue, NetValue}
 use Rattle.network_core.specs.Step.{Made, Leads, departs}
 use Rattle.network_core.specs.Delivery.{HasSentFrame}
-use Rattle.network_core.specs.Doing.{DoesSend, Keeps, ReadiesFrom}
+use Rattle.network_core.specs.Doing.{DoesSend, KeepsPacket, ReadiesFrom}
 
 leads_refused : (made : Made) (fault : EventFault) (old new : NetValue) → made ≡ Err fault
     → new ≡ old → Leads made old (replies.Refused fault) new
@@ -62,7 +62,7 @@ framed_last old new reply packet replied left frame p one sent there =
 
 pub ready_kept : {X : Type 0} (view : X → PacketValue) (old new : NetValue)
     (sent : Result Shipment EventFault) (packet : X) (answer : Result Reply (OrMemory EventFault))
-    → ReadiesFrom view old sent (Ok packet) → Keeps (view packet) old new answer
+    → ReadiesFrom view old sent (Ok packet) → KeepsPacket (view packet) old new answer
     → DoesSend sent old new answer
 ready_kept view old new (Ok sent) packet (Ok reply) ready keeps = (
   inl (

@@ -17,10 +17,10 @@ use Rattle.path_verifier.specs.Accepted.{IsAccepted, IsRefused}
 
 -- the call did what was to be made, or returns its refusal or that memory ran out, and changed
 -- nothing
-abbrev pub Does : Made → Type 0 → NetValue → NetValue → Result Reply (OrMemory EventFault) → Type 0
-Does made takes old new (Ok reply) = made ≡ Ok (reply, new)
-Does made takes old new (Err (Refused fault)) = (made ≡ Err fault) × (new ≡ old)
-Does made takes old new (Err Memory) = takes × (new ≡ old)
+abbrev pub DoesOrFails : Made → Type 0 → NetValue → NetValue → Result Reply (OrMemory EventFault) → Type 0
+DoesOrFails made takes old new (Ok reply) = made ≡ Ok (reply, new)
+DoesOrFails made takes old new (Err (Refused fault)) = (made ≡ Err fault) × (new ≡ old)
+DoesOrFails made takes old new (Err Memory) = takes × (new ≡ old)
 
 -- the error of a lower call, as that of the event
 abbrev pub error_as : {F : Type 0} → (F → EventFault) → OrMemory F → OrMemory EventFault
@@ -92,19 +92,19 @@ ReadiesFrom view net (Ok sent) answer = Readies view net sent answer
 ReadiesFrom view net (Err fault) answer = answer ≡ Err (Refused fault)
 
 -- the call returns what was judged, or the refusal; it takes no memory
-abbrev pub Judges : {X Y : Type 0} → (X → Y) → Result X (OrMemory EventFault)
+abbrev pub JudgesEvent : {X Y : Type 0} → (X → Y) → Result X (OrMemory EventFault)
     → Result Y EventFault → Type 0
-Judges view (Ok x) wanted = wanted ≡ Ok (view x)
-Judges view (Err (Refused fault)) wanted = wanted ≡ Err fault
-Judges view (Err Memory) wanted = ⊥
+JudgesEvent view (Ok x) wanted = wanted ≡ Ok (view x)
+JudgesEvent view (Err (Refused fault)) wanted = wanted ≡ Err fault
+JudgesEvent view (Err Memory) wanted = ⊥
 
 -- the call added the packet at the end of the list, or memory ran out
-abbrev pub Keeps : PacketValue → NetValue → NetValue → Result Reply (OrMemory EventFault) → Type 0
-Keeps packet old new (Ok reply) =
+abbrev pub KeepsPacket : PacketValue → NetValue → NetValue → Result Reply (OrMemory EventFault) → Type 0
+KeepsPacket packet old new (Ok reply) =
     (reply ≡ replies.Sent (length old.packets))
     × (new ≡ record old { packets = old.packets ++ packet ∷ [] })
-Keeps packet old new (Err Memory) = new ≡ old
-Keeps packet old new (Err (Refused fault)) = ⊥
+KeepsPacket packet old new (Err Memory) = new ≡ old
+KeepsPacket packet old new (Err (Refused fault)) = ⊥
 
 -- the call returns the place of a packet that is in flight, or why there is none
 abbrev pub Flies : NetValue → ℕ → Result ℕ (OrMemory EventFault) → Type 0

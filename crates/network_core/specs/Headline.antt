@@ -4,7 +4,7 @@
 use Rattle.std.specs.Prelude.{◌≡◌, ℕ, ◌+◌, ◌*◌, ◌<◌, ◌≤◌, true, List, length, slice_get, All, Any, take, drop, Some, Ok}
 use Rattle.path_verifier.specs.Piece.{PieceValue}
 use Rattle.path_verifier.specs.Walk.{walk_of}
-use Rattle.path_verifier.specs.Header.{hop_count}
+use Rattle.path_verifier.specs.Header.{total_hops}
 use Rattle.path_verifier.specs.declared.fault.VerifyFault.TheVariants.{Expired}
 use Rattle.path_verifier.specs.Turned.{turned_pieces}
 use Rattle.path_verifier.specs.Accepted.{IsExpiry, IsAccepted}
@@ -98,7 +98,7 @@ pub record Headline (start : NetValue) (history : List EventRecord) (number p : 
       (turns_since history number p k) sent
   pub in_time : (k : ℕ) → (after : number < k)
       → (quiet : Undisturbed start (take k history) number p sent.way.pieces)
-      → 2 * hop_count sent.way.pieces ≤ turns_since history number p k
+      → 2 * total_hops sent.way.pieces ≤ turns_since history number p k
       → (forwarded k after quiet).packet.packet.place ≡ Delivered
   pub answerable : (k : ℕ) → (after : number < k)
       → (quiet : Undisturbed start (take k history) number p sent.way.pieces)

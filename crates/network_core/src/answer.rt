@@ -1,7 +1,7 @@
 ghost use Rattle.std.specs.Prelude.{slice_get};
 ghost use Rattle.std.specs.Option.{ok_or};
 ghost use Rattle.network_core.specs.declared.fault.EventFault.TheVariants as faults;
-ghost use Rattle.network_core.specs.Doing.{Judges};
+ghost use Rattle.network_core.specs.Doing.{JudgesEvent};
 
 use crate::fault::EventFault;
 use crate::net::EventError;
@@ -41,7 +41,7 @@ impl Model for Answer {
 impl Answer {
     /// The path of this number.
     pub(crate) fn path_numbered(&self, number: u32) -> Result<&Path, EventError>
-        ensures { Judges (λ path. path.now) result
+        ensures { JudgesEvent (λ path. path.now) result
             (ok_or (slice_get self.now.answer.paths number) faults.NoAnswer) }
     {
         match self.paths.get(number as usize) {

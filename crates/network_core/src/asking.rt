@@ -6,7 +6,7 @@ ghost use Rattle.refusal.specs.Refusal.{Answers};
 ghost use Rattle.policy_expr.specs.Options.{options_at};
 ghost use Rattle.combinator.specs.Fault.{ends_at};
 ghost use Rattle.network_core.specs.declared.fault.EventFault.TheVariants as faults;
-ghost use Rattle.network_core.specs.Doing.{AnswersTo, DoesAsk, Judges, KeepsAnswer};
+ghost use Rattle.network_core.specs.Doing.{AnswersTo, DoesAsk, JudgesEvent, KeepsAnswer};
 ghost use Rattle.network_core.specs.Step.{options_asked, rules_used};
 
 use crate::answer::Answer;
@@ -116,7 +116,7 @@ impl Net {
 
     /// The answer of this number.
     pub(crate) fn answer_numbered(&self, number: u32) -> Result<&Answer, EventError>
-        ensures { Judges (λ one. one.now) result
+        ensures { JudgesEvent (λ one. one.now) result
             (ok_or (slice_get self.now.answers number) faults.NoAnswer) }
     {
         match self.answers.get(number as usize) {

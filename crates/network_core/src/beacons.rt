@@ -4,7 +4,7 @@ ghost use Rattle.std.specs.Prelude.{◌≡◌, IsOk, Ok, false, true};
 ghost use Rattle.refusal.specs.declared.fault.OrMemory.TheVariants.{Refused};
 ghost use Rattle.scion_topology.specs.Topology.{set_up, rotated};
 ghost use Rattle.network_core.specs.declared.fault.EventFault.TheVariants as faults;
-ghost use Rattle.network_core.specs.Doing.{Does, Judges, error_as};
+ghost use Rattle.network_core.specs.Doing.{DoesOrFails, JudgesEvent, error_as};
 ghost use Rattle.network_core.specs.Step.{ticked, beacon_at, begun, passed_on, ended, originates, extends, terminates, with_beacon, with_segment, with_network, cleared};
 
 use crate::fault::EventFault;
@@ -24,7 +24,7 @@ pub(crate) const MAX_OBJECTS: usize = 1_000_000;
 impl Net {
     /// Sets the time of the network.
     pub(crate) fn tick(&mut self, to: u32) -> Result<Reply, EventError>
-        ensures { Does (ticked self.old to) ⊥ self.old self.new result }
+        ensures { DoesOrFails (ticked self.old to) ⊥ self.old self.new result }
     {
         if to < self.moment {
             return Err(OrMemory::Refused(EventFault::TimeBack));
@@ -41,7 +41,7 @@ impl Net {
         egress: IfId,
         beta0: u16,
     ) -> Result<Reply, EventError>
-        ensures { Does (originates self.old ia egress beta0)
+        ensures { DoesOrFails (originates self.old ia egress beta0)
             (IsOk (begun self.old ia egress beta0)) self.old self.new result }
     {
         let begun = originate(alloc, &self.topology, ia, egress, self.moment, beta0);
@@ -56,7 +56,7 @@ impl Net {
         ia: IsdAs,
         egress: IfId,
     ) -> Result<Reply, EventError>
-        ensures { Does (extends self.old beacon ia egress)
+        ensures { DoesOrFails (extends self.old beacon ia egress)
             (IsOk (passed_on self.old beacon ia egress)) self.old self.new result }
     {
         let old = self.beacon(beacon)?;
@@ -71,7 +71,7 @@ impl Net {
         beacon: u32,
         ia: IsdAs,
     ) -> Result<Reply, EventError>
-        ensures { Does (terminates self.old beacon ia)
+        ensures { DoesOrFails (terminates self.old beacon ia)
             (IsOk (ended self.old beacon ia)) self.old self.new result }
     {
         let old = self.beacon(beacon)?;
@@ -81,7 +81,7 @@ impl Net {
 
     /// The beacon of a number.
     fn beacon(&self, beacon: u32) -> Result<&Beacon, EventError>
-        ensures { Judges (λ b. b.now) result (beacon_at self.now beacon) }
+        ensures { JudgesEvent (λ b. b.now) result (beacon_at self.now beacon) }
     {
         self.beacons
             .get(beacon as usize)
@@ -92,7 +92,7 @@ impl Net {
 impl Net {
     /// Adds a beacon to the network.
     fn keep_beacon(&mut self, beacon: Beacon) -> Result<Reply, EventError>
-        ensures { Does (with_beacon self.old beacon) (Unit {0}) self.old self.new result }
+        ensures { DoesOrFails (with_beacon self.old beacon) (Unit {0}) self.old self.new result }
     {
         let number = self.beacons.len();
         if number >= MAX_OBJECTS {
@@ -104,7 +104,7 @@ impl Net {
 
     /// Registers a segment at the current second.
     fn register(&mut self, segment: Segment) -> Result<Reply, EventError>
-        ensures { Does (with_segment self.old segment) (Unit {0}) self.old self.new result }
+        ensures { DoesOrFails (with_segment self.old segment) (Unit {0}) self.old self.new result }
     {
         match self.store.register(segment, self.moment) {
             Ok(is_new) => Ok(Reply::Registered(is_new)),
@@ -121,7 +121,7 @@ impl Net {
 
     /// Cuts a link.
     pub(crate) fn cut_link(&mut self, ia: IsdAs, interface: IfId) -> Result<Reply, EventError>
-        ensures { Does (with_network self.old (set_up false ia interface self.old.network)) ⊥
+        ensures { DoesOrFails (with_network self.old (set_up false ia interface self.old.network)) ⊥
             self.old self.new result }
     {
         self.topology.cut_link(ia, interface).map_err(of_topology)?;
@@ -130,7 +130,7 @@ impl Net {
 
     /// Mends a link.
     pub(crate) fn mend_link(&mut self, ia: IsdAs, interface: IfId) -> Result<Reply, EventError>
-        ensures { Does (with_network self.old (set_up true ia interface self.old.network)) ⊥
+        ensures { DoesOrFails (with_network self.old (set_up true ia interface self.old.network)) ⊥
             self.old self.new result }
     {
         self.topology.mend_link(ia, interface).map_err(of_topology)?;
@@ -139,7 +139,7 @@ impl Net {
 
     /// Takes another key into use for an AS.
     pub(crate) fn rotate_key(&mut self, ia: IsdAs, key: &[u8]) -> Result<Reply, EventError>
-        ensures { Does (with_network self.old (rotated ia key.now self.old.network)) ⊥
+        ensures { DoesOrFails (with_network self.old (rotated ia key.now self.old.network)) ⊥
             self.old self.new result }
     {
         self.topology.rotate_key(ia, key).map_err(of_topology)?;

@@ -1,6 +1,6 @@
 ghost use Rattle.std.specs.Prelude.{◌≡◌, IfOk, OnErr, option_map, slice_get};
 ghost use Rattle.network_core.specs.Delivery.{IsFramed};
-ghost use Rattle.network_core.specs.Doing.{DoesEvent, Keeps};
+ghost use Rattle.network_core.specs.Doing.{DoesEvent, KeepsPacket};
 ghost use Rattle.network_core.specs.Seen.{event_value};
 ghost use Rattle.network_core.specs.Step.{Step, TakesMemory};
 ghost use Rattle.network_core.specs.Value.{new_net};
@@ -186,7 +186,7 @@ impl Net {
 impl Net {
     /// Adds a packet that is ready to be sent.
     pub(crate) fn keep_packet(&mut self, packet: Packet) -> Result<Reply, EventError>
-        ensures { Keeps packet self.old self.new result }
+        ensures { KeepsPacket packet self.old self.new result }
     {
         let number = self.packets.len();
         self.packets.push(packet)?;

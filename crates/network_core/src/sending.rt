@@ -5,7 +5,7 @@ ghost use Rattle.refusal.specs.Refusal.{check};
 ghost use Rattle.path_verifier.specs.Accepted.{IsAccepted};
 ghost use Rattle.forwarding.specs.Frame.{HasFrame};
 ghost use Rattle.network_core.specs.declared.fault.EventFault.TheVariants as faults;
-ghost use Rattle.network_core.specs.Doing.{DoesSend, Judges, Readies, ReadiesFrom};
+ghost use Rattle.network_core.specs.Doing.{DoesSend, JudgesEvent, Readies, ReadiesFrom};
 ghost use Rattle.network_core.specs.Event.{BackOf, ByAnswer};
 ghost use Rattle.network_core.specs.Seen.{way_of};
 ghost use Rattle.network_core.specs.Value.{asked_at};
@@ -154,7 +154,7 @@ impl Net {
 
 /// Checks that a payload is short enough.
 fn check_payload(payload: &[u8]) -> Result<(), EventError>
-    ensures judged { Judges (λ x. x) result
+    ensures judged { JudgesEvent (λ x. x) result
         (check (nat_le (length payload.now) 1024) faults.PayloadTooLong) }
     ensures few { IfOk result (λ _. length payload.now ≤ 1024) }
 {
@@ -166,7 +166,7 @@ fn check_payload(payload: &[u8]) -> Result<(), EventError>
 
 /// The header of a delivered packet, reversed.
 fn header_back(one: &Packet) -> Result<Header, EventError>
-    ensures { Judges (λ header. header) result
+    ensures { JudgesEvent (λ header. header) result
         (header_back one.now.packet one.now.packet.place) }
 {
     if one.place() != PacketLocation::Delivered {

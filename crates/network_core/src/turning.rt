@@ -1,7 +1,7 @@
 //! Turns, losses and changes of packets.
 
 ghost use Rattle.std.specs.Prelude.{◌<◌, IfOk, length};
-ghost use Rattle.network_core.specs.Doing.{Does, Flies, Judges};
+ghost use Rattle.network_core.specs.Doing.{DoesOrFails, Flies, JudgesEvent};
 ghost use Rattle.network_core.specs.Step.{packet_at, turns, loses, alters};
 
 use crate::fault::EventFault;
@@ -14,7 +14,7 @@ use refusal::OrMemory;
 impl Net {
     /// The router that has the packet makes one step.
     pub(crate) fn turn(&mut self, packet: u32) -> Result<Reply, EventError>
-        ensures { Does (turns self.old packet) ⊥ self.old self.new result }
+        ensures { DoesOrFails (turns self.old packet) ⊥ self.old self.new result }
     {
         let place = self.place_in_flight(packet)?;
         let turned = self.packets[place]
@@ -25,7 +25,7 @@ impl Net {
 
     /// A packet is lost.
     pub(crate) fn lose(&mut self, packet: u32) -> Result<Reply, EventError>
-        ensures { Does (loses self.old packet) ⊥ self.old self.new result }
+        ensures { DoesOrFails (loses self.old packet) ⊥ self.old self.new result }
     {
         let place = self.place_in_flight(packet)?;
         self.packets[place].transit.lose();
@@ -34,7 +34,7 @@ impl Net {
 
     /// A byte of a packet is changed.
     pub(crate) fn alter(&mut self, packet: u32, at: u32, xor: u8) -> Result<Reply, EventError>
-        ensures { Does (alters self.old packet at xor) ⊥ self.old self.new result }
+        ensures { DoesOrFails (alters self.old packet at xor) ⊥ self.old self.new result }
     {
         let place = self.place_in_flight(packet)?;
         let at = at as usize;
@@ -47,7 +47,7 @@ impl Net {
 
     /// The packet of a number.
     pub(crate) fn packet_numbered(&self, packet: u32) -> Result<&Packet, EventError>
-        ensures { Judges (λ p. p.now) result (packet_at self.now packet) }
+        ensures { JudgesEvent (λ p. p.now) result (packet_at self.now packet) }
     {
         self.packets
             .get(packet as usize)

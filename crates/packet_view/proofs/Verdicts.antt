@@ -14,10 +14,10 @@ use Rattle.router_step.specs.declared.outcome.Outcome.{Outcome}
 use Rattle.router_step.specs.declared.outcome.Outcome.TheVariants.{ToLink, ToRouter, Deliver}
 use Rattle.router_step.specs.declared.fault.Refusal.{Refusal}
 use Rattle.router_step.specs.declared.fault.Refusal.TheVariants as refusal
-use Rattle.router_step.specs.Place.{info_of, hop_of, is_over_link, way_out, moved_on, gone}
-use Rattle.router_step.specs.Checks.{indices_fit, way_in_fits, is_live, is_mac_right, source_fits, is_last, destination_fits, ends_segment, kinds_fit}
+use Rattle.router_step.specs.Place.{current_info, current_hop, is_over_link, way_out, moved_on, gone}
+use Rattle.router_step.specs.Checks.{indices_fit, way_in_fits, is_hop_live, is_mac_right, source_fits, is_last, destination_fits, ends_segment, kinds_fit}
 use Rattle.router_step.specs.Done.{Situation, on_arrival}
-use Rattle.router_step.specs.Step.{passes, admitted, ended, switched, left, step_of}
+use Rattle.router_step.specs.Step.{passes, admitted, at_path_end, switched, left, step_of}
 use Rattle.router_step.specs.Packet.{destination_of, source_of, header_in, packet_step}
 use Rattle.packet_view.specs.Checks.{CheckValue, pass_checks, place_checks, end_checks, switch_checks, leave_checks, way_out_checks, checks_at, situation_of, checks_behind, checks_of, verdict_of}
 use Rattle.packet_view.specs.Sides.{header_sides, kinds_sides, owner_sides, link_sides}
@@ -86,19 +86,19 @@ leave view arrival has_switched info hop (Some out) make =
 
 -- 2 to 13
 pub verdict_of-checks_at : (at : Situation) → verdict_of (checks_at at) ≡ judged (step_of at.view at.now at.arrival at.source at.destination at.header)
-unfolding verdict_of checks_at place_checks pass_checks end_checks switch_checks step_of admitted passes ended switched left
+unfolding verdict_of checks_at place_checks pass_checks end_checks switch_checks step_of admitted passes at_path_end switched left
 verdict_of-checks_at at =
     let here = on_arrival at in
     let there = λ (has_switched : Bool). moved_on has_switched here in
-    front (indices_fit at.arrival at.header) (way_in_fits at.view at.arrival (info_of at.header) (hop_of at.header))
-    (is_live at.now (info_of here) (hop_of at.header)) (is_mac_right at.view (info_of here) (hop_of at.header)) here _ _
+    front (indices_fit at.arrival at.header) (way_in_fits at.view at.arrival (current_info at.header) (current_hop at.header))
+    (is_hop_live at.now (current_info here) (current_hop at.header)) (is_mac_right at.view (current_info here) (current_hop at.header)) here _ _
     (end (source_fits at.view at.arrival at.source) (destination_fits at.view at.destination (is_last at.header)) (is_last at.header) _ _
     (after (is_last at.header) (switch_checks at ++ way_out_checks at) (Deliver, here) _
-    (switch (ends_segment at.header) (is_over_link at.arrival) (is_live at.now (info_of (there true)) (hop_of (there true)))
-    (is_mac_right at.view (info_of (there true)) (hop_of (there true))) _ _ _
-    (λ has_switched. leave_checks at.view at.arrival has_switched (info_of (there has_switched)) (hop_of (there has_switched))
-    (entry_of at.view (way_out (info_of (there has_switched)) (hop_of (there has_switched))))) _
-    (λ has_switched. leave at.view at.arrival has_switched (info_of (there has_switched)) (hop_of (there has_switched)) _
+    (switch (ends_segment at.header) (is_over_link at.arrival) (is_hop_live at.now (current_info (there true)) (current_hop (there true)))
+    (is_mac_right at.view (current_info (there true)) (current_hop (there true))) _ _ _
+    (λ has_switched. leave_checks at.view at.arrival has_switched (current_info (there has_switched)) (current_hop (there has_switched))
+    (entry_of at.view (way_out (current_info (there has_switched)) (current_hop (there has_switched))))) _
+    (λ has_switched. leave at.view at.arrival has_switched (current_info (there has_switched)) (current_hop (there has_switched)) _
     (λ outcome. (outcome, gone outcome (there has_switched)))))))
 
 behind : (view : View) (now : ℕ) (arrival : Arrival) (packet : List ℕ) (read : Result (HeaderValue × ℕ) Refusal) (make : HeaderValue × ℕ → Outcome × HeaderValue → Outcome × List ℕ)

@@ -10,8 +10,8 @@ use Rattle.path_header.specs.Shown.{judged}
 use Rattle.router_step.specs.declared.arrival.Arrival.{Arrival}
 use Rattle.router_step.specs.declared.fault.Refusal.{Refusal}
 use Rattle.router_step.specs.declared.fault.Refusal.TheVariants as refusal
-use Rattle.router_step.specs.Place.{info_of, hop_of, is_over_link, way_out, moved_on}
-use Rattle.router_step.specs.Checks.{indices_fit, way_in_fits, is_live, is_mac_right, source_fits, is_last, destination_fits, ends_segment, kinds_fit}
+use Rattle.router_step.specs.Place.{current_info, current_hop, is_over_link, way_out, moved_on}
+use Rattle.router_step.specs.Checks.{indices_fit, way_in_fits, is_hop_live, is_mac_right, source_fits, is_last, destination_fits, ends_segment, kinds_fit}
 use Rattle.router_step.specs.Done.{Situation, on_arrival}
 use Rattle.router_step.specs.Packet.{destination_of, source_of, header_in}
 use Rattle.packet_view.specs.Sides.{header_sides, indices_sides, way_in_sides, live_sides, mac_sides, source_sides, destination_sides, switch_sides, way_out_sides, kinds_sides, owner_sides, link_sides}
@@ -28,7 +28,7 @@ tested sides holds refusal = record { sides = sides; verdict = check holds refus
 -- 4 and 5: the hop is live, and its authenticator right
 unfoldable pub pass_checks : ℕ → ℕ → View → ℕ → InfoField → HopField → List CheckValue
 pass_checks four five view now info hop =
-    tested (live_sides four now info hop) (is_live now info hop) refusal.Expired
+    tested (live_sides four now info hop) (is_hop_live now info hop) refusal.Expired
     ∷ tested (mac_sides five view info hop) (is_mac_right view info hop) refusal.BadMac ∷ []
 
 -- 2 and 3
@@ -36,8 +36,8 @@ unfoldable pub place_checks : Situation → List CheckValue
 place_checks at =
     tested (indices_sides at.arrival at.header) (indices_fit at.arrival at.header)
     refusal.IndexMismatch
-    ∷ tested (way_in_sides at.view at.arrival (info_of at.header) (hop_of at.header))
-    (way_in_fits at.view at.arrival (info_of at.header) (hop_of at.header)) refusal.WrongIngress
+    ∷ tested (way_in_sides at.view at.arrival (current_info at.header) (current_hop at.header))
+    (way_in_fits at.view at.arrival (current_info at.header) (current_hop at.header)) refusal.WrongIngress
     ∷ []
 
 -- 6 and 7
@@ -53,8 +53,8 @@ unfoldable pub switch_checks : Situation → List CheckValue
 switch_checks at =
     if ends_segment at.header
     then tested (switch_sides at.arrival at.header) (is_over_link at.arrival) refusal.SwitchInside
-    ∷ pass_checks 9 9 at.view at.now (info_of (moved_on true (on_arrival at)))
-    (hop_of (moved_on true at.header))
+    ∷ pass_checks 9 9 at.view at.now (current_info (moved_on true (on_arrival at)))
+    (current_hop (moved_on true at.header))
     else []
 
 -- 10 to 13, from this info and hop field, and with this interface of the way out
@@ -74,15 +74,15 @@ leave_checks view arrival switched info hop (Some out) =
 abbrev pub way_out_checks : Situation → List CheckValue
 way_out_checks at =
     let switched = ends_segment at.header in
-    let info = info_of (moved_on switched (on_arrival at)) in
-    let hop = hop_of (moved_on switched at.header) in
+    let info = current_info (moved_on switched (on_arrival at)) in
+    let hop = current_hop (moved_on switched at.header) in
     leave_checks at.view at.arrival switched info hop (entry_of at.view (way_out info hop))
 
 -- 2 to 13; 8 is the end of the path, behind which there are no more
 unfoldable pub checks_at : Situation → List CheckValue
 checks_at at =
     place_checks at
-    ++ (pass_checks 4 5 at.view at.now (info_of (on_arrival at)) (hop_of at.header)
+    ++ (pass_checks 4 5 at.view at.now (current_info (on_arrival at)) (current_hop at.header)
     ++ (end_checks at
     ++ (if is_last at.header then [] else switch_checks at ++ way_out_checks at)))
 

@@ -9,7 +9,7 @@ use Rattle.path_header.specs.declared.fields.InfoField.{InfoField}
 use Rattle.path_header.specs.declared.fields.HopField.{HopField}
 use Rattle.path_header.specs.Value.{HeaderValue, segment_at}
 use Rattle.router_step.specs.declared.fault.Refusal.{Refusal}
-use Rattle.router_step.specs.Place.{info_at, hop_of}
+use Rattle.router_step.specs.Place.{info_field_at, current_hop}
 use Rattle.router_step.specs.Packet.{destination_of, source_of, header_in}
 
 -- a number of bytes from a place of the packet on, and what they say
@@ -93,16 +93,16 @@ each_below one (suc n) = each_below one n ++ one n
 
 unfoldable pub infos_text : List ℕ → HeaderValue → ℕ → List ℕ
 infos_text packet header count =
-    each_below (λ i. info_text packet (20 + 8 * i) i (info_at header i)) count
+    each_below (λ i. info_text packet (20 + 8 * i) i (info_field_at header i)) count
 
 -- the hop field of this index
 abbrev pub hop_field : HeaderValue → ℕ → HopField
-hop_field header index = hop_of (record header { curr_hf = index })
+hop_field header index = current_hop (record header { curr_hf = index })
 
 unfoldable pub hops_text : List ℕ → HeaderValue → ℕ → List ℕ
 hops_text packet header count =
     each_below (λ i. hop_text packet (20 + 8 * length header.infos + 12 * i) i
-    (info_at header (segment_at header.lens i)).timestamp (hop_field header i)) count
+    (info_field_at header (segment_at header.lens i)).timestamp (hop_field header i)) count
 
 -- ---- the packet
 

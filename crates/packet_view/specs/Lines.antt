@@ -3,7 +3,7 @@ use Rattle.std.specs.Prelude.{ℕ, codes, if◌then◌else◌, List, [], ◌∷�
 use Rattle.separators.specs.Blanks.{trimmed}
 use Rattle.refusal.specs.Optional.{◌>>=◌}
 use Rattle.router_step.specs.declared.fault.Refusal.{Refusal}
-use Rattle.step_line.specs.Fields.{bytes_of}
+use Rattle.step_line.specs.Fields.{hex_bytes_of}
 use Rattle.step_line.specs.Turn.{Turn}
 use Rattle.step_line.specs.Line.{line_of, refusal_text}
 use Rattle.packet_view.specs.Fields.{fields_text}
@@ -31,6 +31,6 @@ lines_before turn packet =
 -- all lines; the last one is that of the turn, and has no end
 unfoldable pub lines_of : Turn → List ℕ → Option (List ℕ)
 lines_of turn text = do
-  packet ← bytes_of (trimmed text)
+  packet ← hex_bytes_of (trimmed text)
   line ← line_of turn text
   Some (lines_before turn packet ++ line)

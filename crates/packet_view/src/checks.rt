@@ -13,7 +13,7 @@ use crate::sides::{
 use crate::situation::Situation;
 use path_header::{HopField, InfoField};
 use router_step::checks::{
-    destination_fits, is_live, is_mac_right, is_over_link, kinds_fit, source_fits, way_in_fits,
+    destination_fits, is_hop_live, is_mac_right, is_over_link, kinds_fit, source_fits, way_in_fits,
 };
 use router_step::{Arrival, Refusal, destination_in, read_header, source_in, way_out};
 use scion_topology::RouterView;
@@ -50,7 +50,7 @@ fn add_pass(
         ++ pass_checks four five at.entry.now.view at.entry.now.now info.now hop.now) }
 {
     let sides = live_sides(alloc, four, at.now, info, hop)?;
-    checks.push(Check::tested(sides, is_live(at.now, info, hop), Refusal::Expired))?;
+    checks.push(Check::tested(sides, is_hop_live(at.now, info, hop), Refusal::Expired))?;
     let sides = mac_sides(alloc, five, at, info, hop)?;
     checks.push(Check::tested(sides, is_mac_right(&at.view, info, hop), Refusal::BadMac))?;
     Ok(())

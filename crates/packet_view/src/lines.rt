@@ -2,7 +2,7 @@
 
 ghost use Rattle.std.specs.Prelude.{◌≡◌, IfOk};
 ghost use Rattle.std.specs.String.{string_bytes};
-ghost use Rattle.step_line.specs.Fault.{Prints};
+ghost use Rattle.step_line.specs.Fault.{PrintsTurn};
 ghost use Rattle.packet_view.specs.Lines.{check_text, checks_text, lines_of};
 
 use crate::check::Check;
@@ -49,7 +49,7 @@ fn check_text(alloc: Global, check: &Check) -> Result<String, AllocError>
 /// [`StepFault::Memory`] if memory runs out.
 #[tactic(auto, unfolding(crate::specs::Lines::lines_of))]
 pub fn packet_lines(alloc: Global, command: &StepCommand, text: &[u8]) -> Result<String, StepFault>
-    ensures { Prints result (lines_of command.now text.now) }
+    ensures { PrintsTurn result (lines_of command.now text.now) }
 {
     let Some(packet) = bytes(alloc, trim(text))? else {
         return Err(StepFault::PacketText);

@@ -3,7 +3,7 @@
 ghost use Rattle.std.specs.Prelude.{◌≡◌, ◌+◌, ◌<◌, ◌≤◌, false, length};
 ghost use Rattle.scion_topology.specs.Keys.{key_in_use};
 ghost use Rattle.path_header.specs.Value.{segment_at};
-ghost use Rattle.router_step.specs.Place.{hop_of, info_of, moved_on};
+ghost use Rattle.router_step.specs.Place.{current_hop, current_info, moved_on};
 ghost use Rattle.router_step.specs.Checks.{ends_segment, indices_fit, is_last};
 ghost use Rattle.router_step.specs.Done.{on_arrival};
 
@@ -51,7 +51,7 @@ impl Situation<'_> {
 
     /// The info field at which the packet stands.
     pub(crate) fn info(&self) -> InfoField
-        ensures field { result ≡ info_of self.entry.now.header }
+        ensures field { result ≡ current_info self.entry.now.header }
         ensures within { let header = self.entry.now.header
             in header.curr_inf < length header.infos }
     {
@@ -61,7 +61,7 @@ impl Situation<'_> {
 
     /// The hop field at which the packet stands.
     pub(crate) fn hop(&self) -> HopField
-        ensures { result ≡ hop_of self.entry.now.header }
+        ensures { result ≡ current_hop self.entry.now.header }
     {
         self.header.current_hop()
     }
@@ -69,7 +69,7 @@ impl Situation<'_> {
     /// The info field, as it is after the arrival: over a link and against construction direction
     /// with the accumulator of one hop back.
     pub(crate) fn info_on_arrival(&self) -> InfoField
-        ensures { result ≡ info_of (on_arrival self.entry.now) }
+        ensures { result ≡ current_info (on_arrival self.entry.now) }
     {
         let mut info = self.info();
         info.seg_id = seg_id_on_arrival(&self.arrival, &info, &self.hop());
@@ -121,7 +121,7 @@ impl Situation<'_> {
 
     /// The info field from which the packet leaves, after the arrival and a switch if there is one.
     pub(crate) fn info_to_leave(&self, switched: bool) -> InfoField
-        ensures { result ≡ info_of (moved_on switched (on_arrival self.entry.now)) }
+        ensures { result ≡ current_info (moved_on switched (on_arrival self.entry.now)) }
     {
         if !switched {
             return self.info_on_arrival();
@@ -137,7 +137,7 @@ impl Situation<'_> {
     /// The hop field from which the packet leaves, after a switch if there is one.
     pub(crate) fn hop_to_leave(&self, switched: bool) -> HopField
         requires { self.now.header.curr_hf + 1 < length self.now.header.hops }
-        ensures { result ≡ hop_of (moved_on switched self.entry.now.header) }
+        ensures { result ≡ current_hop (moved_on switched self.entry.now.header) }
     {
         if switched {
             self.header.hop(self.header.curr_hf() + 1)

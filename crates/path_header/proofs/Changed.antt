@@ -9,7 +9,7 @@ use Rattle.std.proofs.lemmas.List.Concat.{flat_map-cons}
 use Rattle.std.proofs.lemmas.Grind.{flat_map-append}
 use Rattle.path_header.specs.declared.fields.InfoField.{InfoField}
 use Rattle.path_header.specs.Value.{HeaderValue, IsHeader, header_len}
-use Rattle.path_header.specs.Spelling.{meta_of, meta_word, info_spelling, hop_spelling, spelling, InfoFits, Fits, Spells}
+use Rattle.path_header.specs.Spelling.{meta_of, meta_word, info_spelling, hop_spelling, spelling, InfoFits, FitsBits, SpellsHeader}
 use Rattle.path_header.specs.Reading.{header_at}
 use Rattle.path_header.specs.Shown.{is_read, has_header, read_or_none, header_at_front}
 use Rattle.path_header.proofs.OneField.{length-info_spelling}
@@ -21,7 +21,7 @@ pub record Shows (bytes : List ℕ) (v : HeaderValue) (rest : List ℕ) : Type 0
   pub value : header_at_front bytes ≡ v
   pub rest_is : drop (header_len (header_at_front bytes)) bytes ≡ rest
 
-shows : (v : HeaderValue) (bytes rest : List ℕ) → IsHeader v → Fits v → bytes ≡ spelling v ++ rest → Shows bytes v rest
+shows : (v : HeaderValue) (bytes rest : List ℕ) → IsHeader v → FitsBits v → bytes ≡ spelling v ++ rest → Shows bytes v rest
 shows v bytes rest is fits e =
     let read : header_at bytes ≡ Ok v = ap (λ (t : List ℕ). header_at t) e ∙ header_again v rest is fits in
     let value : header_at_front bytes ≡ v = ap (λ r. read_or_none r) read in
@@ -29,7 +29,7 @@ shows v bytes rest is fits e =
     record { has = ap (λ r. is_read r) read; value = value; rest_is = ap (λ (w : HeaderValue). drop (header_len w) bytes) value ∙ behind }
 
 -- bytes in front of which this header is spelled
-whole : (v : HeaderValue) (bytes : List ℕ) → Spells (take (header_len v) bytes) v → bytes ≡ spelling v ++ drop (header_len v) bytes
+whole : (v : HeaderValue) (bytes : List ℕ) → SpellsHeader (take (header_len v) bytes) v → bytes ≡ spelling v ++ drop (header_len v) bytes
 whole v bytes s = sym (take-append-drop (header_len v) bytes) ∙ ap (λ (t : List ℕ). t ++ drop (header_len v) bytes) s.spelled
 
 -- ---- an accumulator
@@ -75,7 +75,7 @@ spelled_at infos front back x e =
     ∙ ap (λ (t : List ℕ). flat_map info_spelling front ++ t) (flat_map-cons info_spelling x back)
 
 pub seg_id_changed : (v : HeaderValue) (bytes next : List ℕ) (i seg_id : ℕ) (x : InfoField)
-    → IsHeader v → Spells (take (header_len v) bytes) v → seg_id < 2 ^ 16 → slice_get v.infos i ≡ Some x
+    → IsHeader v → SpellsHeader (take (header_len v) bytes) v → seg_id < 2 ^ 16 → slice_get v.infos i ≡ Some x
     → next ≡ take (6 + 8 * i) bytes ++ (to_be_bytes w16 seg_id ++ drop (6 + 8 * i + 2) bytes)
     → Shows next (record v { infos = set v.infos i (record x { seg_id = seg_id }) }) (drop (header_len v) bytes)
 seg_id_changed v bytes next i seg_id x is s small found next_is =
@@ -108,7 +108,7 @@ seg_id_changed v bytes next i seg_id x is s small found next_is =
     let new_fits : InfoFits new = record { seg_id = small; timestamp = old_fits.timestamp } in
     let len : length infos ≡ length v.infos = length-set v.infos i new in
     let is_new : IsHeader w = record { lens = is.lens; infos = len ∙ is.infos; hops = is.hops; curr_inf = omega (arith, len, is.curr_inf); curr_hf = is.curr_hf } in
-    let fits_new : Fits w = record { infos = all-set InfoFits v.infos i new s.fits.infos new_fits; hops = s.fits.hops } in
+    let fits_new : FitsBits w = record { infos = all-set InfoFits v.infos i new s.fits.infos new_fits; hops = s.fits.hops } in
     shows w next rest is_new fits_new spelled
 
 -- ---- the indices
@@ -126,7 +126,7 @@ first_byte : (i h j k low : ℕ) → j < 4 → k < 64 → low < 2 ^ 18
 first_byte i h j k low lj lk ll = four_like _ _ _ _ _ _ _ _ (omega arith) (omega arith) (omega arith) (omega arith)
 
 pub indices_changed : (v : HeaderValue) (bytes next : List ℕ) (info hop : ℕ)
-    → IsHeader v → Spells (take (header_len v) bytes) v → info < length v.infos → hop < length v.hops
+    → IsHeader v → SpellsHeader (take (header_len v) bytes) v → info < length v.infos → hop < length v.hops
     → next ≡ set bytes 0 (64 * info + hop)
     → Shows next (record v { curr_inf = info; curr_hf = hop }) (drop (header_len v) bytes)
 indices_changed v bytes next info hop is s li lh next_is =

@@ -6,7 +6,7 @@ use Rattle.std.proofs.lemmas.List.{take_at, drop_at, drop-drop}
 use Rattle.path_header.specs.declared.fields.InfoField.{InfoField}
 use Rattle.path_header.specs.declared.fields.HopField.{HopField}
 use Rattle.path_header.specs.Value.{HeaderValue, IsHeader, header_len}
-use Rattle.path_header.specs.Spelling.{meta_of, meta_word, info_spelling, hop_spelling, spelling, InfoFits, HopFits, Fits, Spells}
+use Rattle.path_header.specs.Spelling.{meta_of, meta_word, info_spelling, hop_spelling, spelling, InfoFits, HopFits, FitsBits, SpellsHeader}
 use Rattle.path_header.proofs.WholeHeader.{length-spelling}
 
 -- the room after its three parts, each written behind the one before
@@ -32,10 +32,10 @@ front_and_rest old new text n len parts =
 
 -- a room with this header in front, and behind it what stood there
 pub record Holds (v : HeaderValue) (old new : List ℕ) : Type 0 where
-  pub spells : Spells (take (header_len v) new) v
+  pub spells : SpellsHeader (take (header_len v) new) v
   pub rest : drop (header_len v) new ≡ drop (header_len v) old
 
-holds_from : (v : HeaderValue) (old new : List ℕ) → IsHeader v → Fits v → new ≡ spelling v ++ drop (header_len v) old → Holds v old new
+holds_from : (v : HeaderValue) (old new : List ℕ) → IsHeader v → FitsBits v → new ≡ spelling v ++ drop (header_len v) old → Holds v old new
 holds_from v old new is fits parts =
     let both = front_and_rest old new (spelling v) (header_len v) (length-spelling v is fits) parts in
     record { spells = record { is_header = is; fits = fits; spelled = both.0 }; rest = both.1 }
@@ -58,5 +58,5 @@ encoded v old first second third meta infos hops i is infos_is hops_is i_is meta
     let parts = three_parts old first second third meta (flat_map info_spelling infos) (flat_map hop_spelling hops) (8 * i) (12 * length hops) meta_len (infos_len ∙ ap (λ (n : ℕ). 8 * n) info_count_is) hops_len first_part second_part third_is in
     let end_is : 4 + 8 * i + 12 * length hops ≡ header_len v = omega (arith, i_is, hop_count_is, is.infos, is.hops) in
     let text : meta ++ (flat_map info_spelling infos ++ flat_map hop_spelling hops) ≡ spelling v = rw (meta_is, infos_is, hops_is) refl in
-    let all_fit : Fits v = record { infos = subst (λ (xs : List InfoField). AllByRecursion InfoFits xs) infos_is infos_fit; hops = subst (λ (xs : List HopField). AllByRecursion HopFits xs) hops_is hops_fit } in
+    let all_fit : FitsBits v = record { infos = subst (λ (xs : List InfoField). AllByRecursion InfoFits xs) infos_is infos_fit; hops = subst (λ (xs : List HopField). AllByRecursion HopFits xs) hops_is hops_fit } in
     holds_from v old third is all_fit (parts ∙ ap (λ (t : List ℕ). t ++ drop (4 + 8 * i + 12 * length hops) old) text ∙ ap (λ (n : ℕ). spelling v ++ drop n old) end_is)

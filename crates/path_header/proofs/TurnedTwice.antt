@@ -7,26 +7,26 @@ use Rattle.path_header.specs.declared.lens.SegLens.{SegLens}
 use Rattle.path_header.specs.declared.fields.InfoField.{InfoField}
 use Rattle.path_header.specs.declared.fields.HopField.{HopField}
 use Rattle.path_header.specs.Value.{HeaderValue, IsHeader, AreLens}
-use Rattle.path_header.specs.Reversal.{turned, reversed_lens, reversed}
+use Rattle.path_header.specs.Reversal.{turned_info, reversed_lens, reversed}
 
 map-reverse : {A B : Type 0} (f : A → B) (xs : List A) → map f (reverse xs) ≡ reverse (map f xs)
 map-reverse f [] = refl
 map-reverse {A} {B} f (x ∷ xs) =
     ap (λ (ys : List A). map f ys) (reverse-append (x ∷ []) xs) ∙ map-append f (reverse xs) (x ∷ []) ∙ ap (λ (ys : List B). ys ++ f x ∷ []) (map-reverse f xs) ∙ sym (reverse-append (f x ∷ []) (map f xs))
 
-turned-turned : (x : InfoField) → turned (turned x) ≡ x
+turned-turned : (x : InfoField) → turned_info (turned_info x) ≡ x
 turned-turned x = same x.construction x.seg_id x.timestamp
   where
     same : (c : Bool) (s t : ℕ) → (let x : InfoField = record { construction = not (not c); seg_id = s; timestamp = t } in let y : InfoField = record { construction = c; seg_id = s; timestamp = t } in x ≡ y)
     same true s t = refl
     same false s t = refl
 
-map-turned-turned : (xs : List InfoField) → map turned (map turned xs) ≡ xs
+map-turned-turned : (xs : List InfoField) → map turned_info (map turned_info xs) ≡ xs
 map-turned-turned [] = refl
 map-turned-turned (x ∷ xs) = rw (turned-turned x, map-turned-turned xs) refl
 
-infos_twice : (xs : List InfoField) → reverse (map turned (reverse (map turned xs))) ≡ xs
-infos_twice xs = ap (λ (ys : List InfoField). reverse ys) (map-reverse turned (map turned xs)) ∙ reverse-reverse (map turned (map turned xs)) ∙ map-turned-turned xs
+infos_twice : (xs : List InfoField) → reverse (map turned_info (reverse (map turned_info xs))) ≡ xs
+infos_twice xs = ap (λ (ys : List InfoField). reverse ys) (map-reverse turned_info (map turned_info xs)) ∙ reverse-reverse (map turned_info (map turned_info xs)) ∙ map-turned-turned xs
 
 abbrev three : ℕ → ℕ → ℕ → SegLens
 three a b c = record { first = a; second = b; third = c }
@@ -56,8 +56,8 @@ header_like : (i i' h h' : ℕ) (l l' : SegLens) (xs xs' : List InfoField) (ys y
     → (let v : HeaderValue = record { curr_inf = i; curr_hf = h; lens = l; infos = xs; hops = ys } in let w : HeaderValue = record { curr_inf = i'; curr_hf = h'; lens = l'; infos = xs'; hops = ys' } in v ≡ w)
 header_like i i' h h' l l' xs xs' ys ys' ei eh el exs eys = cc
 
-info_index_twice : (xs : List InfoField) (i : ℕ) → i < length xs → length (reverse (map turned xs)) - 1 - (length xs - 1 - i) ≡ i
-info_index_twice xs i lt = omega (arith, length-reverse (map turned xs), length-map xs turned)
+info_index_twice : (xs : List InfoField) (i : ℕ) → i < length xs → length (reverse (map turned_info xs)) - 1 - (length xs - 1 - i) ≡ i
+info_index_twice xs i lt = omega (arith, length-reverse (map turned_info xs), length-map xs turned_info)
 
 hop_index_twice : (ys : List HopField) (i : ℕ) → i < length ys → length (reverse ys) - 1 - (length ys - 1 - i) ≡ i
 hop_index_twice ys i lt = omega (arith, length-reverse ys)

@@ -13,7 +13,7 @@ use Rattle.path_header.specs.declared.fields.InfoField.{InfoField}
 use Rattle.path_header.specs.declared.fields.HopField.{HopField}
 use Rattle.path_header.specs.Value.{HeaderValue, IsHeader, info_count, hop_count, header_len, len_for}
 use Rattle.refusal.specs.Refusal.{◌>>=◌}
-use Rattle.path_header.specs.Spelling.{meta_of, meta_word, info_spelling, hop_spelling, spelling, InfoFits, HopFits, Fits, Spells}
+use Rattle.path_header.specs.Spelling.{meta_of, meta_word, info_spelling, hop_spelling, spelling, InfoFits, HopFits, FitsBits, SpellsHeader}
 use Rattle.path_header.specs.Reading.{meta_at, info_at, hop_at, fields_at, header_at, read_at}
 use Rattle.refusal.proofs.Steps.{bind_ok, bind_from, ok_is}
 use Rattle.path_header.proofs.Answered.{AreBytes, AreBytes-drop, passed_last}
@@ -37,7 +37,7 @@ fields_after bytes m = fields_at info_at 8 (info_count m.lens) (drop 4 bytes) >>
 -- these bytes begin with the spelling of this header
 pub record BeginsWith (bytes : List ℕ) (v : HeaderValue) : Type 0 where
   pub long : header_len v ≤ length bytes
-  pub spells : Spells (take (header_len v) bytes) v
+  pub spells : SpellsHeader (take (header_len v) bytes) v
 
 in_parts : (a b : ℕ) (bytes : List ℕ) → take (4 + a + b) bytes ≡ take 4 bytes ++ (take a (drop 4 bytes) ++ take b (drop (4 + a) bytes))
 in_parts a b bytes = take-add (4 + a) b bytes ∙ ap (λ (t : List ℕ). t ++ take b (drop (4 + a) bytes)) (take-add 4 a bytes) ∙ append_assoc (take 4 bytes) (take a (drop 4 bytes)) (take b (drop (4 + a) bytes))
@@ -58,12 +58,12 @@ header_takes bytes v fits e =
     let curr_hf : m.0.curr_hf < length hops.0 = omega (arith, ltb-true m.0.curr_hf (hop_count m.0.lens) below.1, hop_part.1) in
     let text : take (header_len made) bytes ≡ spelling made = in_parts (8 * info_count m.0.lens) (12 * hop_count m.0.lens) bytes ∙ rw (begins.spelled, info_part.0, hop_part.0) refl in
     let is : IsHeader made = record { lens = begins.lens; infos = info_part.1; hops = hop_part.1; curr_inf = curr_inf; curr_hf = curr_hf } in
-    let all_fit : Fits made = record { infos = info_part.2; hops = hop_part.2 } in
+    let all_fit : FitsBits made = record { infos = info_part.2; hops = hop_part.2 } in
     subst (λ (w : HeaderValue). BeginsWith bytes w) (ok_is made v last.1) (record { long = begins.long; spells = record { is_header = is; fits = all_fit; spelled = text } })
 
 -- ---- what spells a header is read as it
 
-pub length-spelling : (v : HeaderValue) → IsHeader v → Fits v → length (spelling v) ≡ header_len v
+pub length-spelling : (v : HeaderValue) → IsHeader v → FitsBits v → length (spelling v) ≡ header_len v
 length-spelling v is fits =
     let meta_part = to_be_bytes w32 (meta_word (meta_of v)) in
     let info_part = flat_map info_spelling v.infos in
@@ -94,7 +94,7 @@ fields_from v bytes infos_on hops_on is at_infos at_hops read_infos read_hops =
     bind_from (fields_at info_at 8 (info_count v.lens) (drop 4 bytes)) (λ infos. hops_after bytes (meta_of v) infos) v.infos (Ok v) first
     (bind_from (fields_at hop_at 12 (hop_count v.lens) (drop (4 + 8 * info_count v.lens) bytes)) (λ hops. checked_indices (meta_of v) v.infos hops) v.hops (Ok v) second third)
 
-pub header_again : (v : HeaderValue) (rest : List ℕ) → IsHeader v → Fits v → header_at (spelling v ++ rest) ≡ Ok v
+pub header_again : (v : HeaderValue) (rest : List ℕ) → IsHeader v → FitsBits v → header_at (spelling v ++ rest) ≡ Ok v
 unfolding header_at
 header_again v rest is fits =
     let meta_part = to_be_bytes w32 (meta_word (meta_of v)) in
@@ -118,7 +118,7 @@ header_again v rest is fits =
 -- ---- both, as a reader answers
 
 abbrev answered : List ℕ → HeaderValue × ℕ → Type 0
-answered bytes r = (r.1 ≤ length bytes) × Spells (take r.1 bytes) r.0
+answered bytes r = (r.1 ≤ length bytes) × SpellsHeader (take r.1 bytes) r.0
 
 pub len_is : (bytes : List ℕ) (r : Result (HeaderValue × ℕ) HeaderFault) → r ≡ read_at bytes → IfOk r (λ r. r.1 ≡ header_len r.0)
 len_is bytes (Ok r) e =
@@ -127,7 +127,7 @@ len_is bytes (Ok r) e =
     subst (λ (x : HeaderValue × ℕ). x.1 ≡ header_len x.0) (ok_is made r b.2) refl
 len_is bytes (Err f) e = tt
 
-pub is_found : (bytes : List ℕ) (r : Result (HeaderValue × ℕ) HeaderFault) → AreBytes bytes → r ≡ read_at bytes → IfOk r (λ r. (r.1 ≤ length bytes) × Spells (take r.1 bytes) r.0)
+pub is_found : (bytes : List ℕ) (r : Result (HeaderValue × ℕ) HeaderFault) → AreBytes bytes → r ≡ read_at bytes → IfOk r (λ r. (r.1 ≤ length bytes) × SpellsHeader (take r.1 bytes) r.0)
 is_found bytes (Ok r) fits e =
     let b = bind_ok (header_at bytes) (λ v. Ok (v, header_len v)) r (sym e) in
     let made : HeaderValue × ℕ = (b.0, header_len b.0) in
@@ -135,14 +135,14 @@ is_found bytes (Ok r) fits e =
     subst (λ (x : HeaderValue × ℕ). answered bytes x) (ok_is made r b.2) (begins.long, begins.spells)
 is_found bytes (Err f) fits e = tt
 
-pub is_only : (bytes : List ℕ) (r : Result (HeaderValue × ℕ) HeaderFault) → r ≡ read_at bytes → (v : HeaderValue) (text rest : List ℕ) → Spells text v → bytes ≡ text ++ rest → r ≡ Ok (v, header_len v)
+pub is_only : (bytes : List ℕ) (r : Result (HeaderValue × ℕ) HeaderFault) → r ≡ read_at bytes → (v : HeaderValue) (text rest : List ℕ) → SpellsHeader text v → bytes ≡ text ++ rest → r ≡ Ok (v, header_len v)
 is_only bytes r e v text rest spells parts =
     let whole : bytes ≡ spelling v ++ rest = parts ∙ ap (λ (t : List ℕ). t ++ rest) spells.spelled in
     let read : header_at bytes ≡ Ok v = ap (λ (t : List ℕ). header_at t) whole ∙ header_again v rest spells.is_header spells.fits in
     e ∙ bind_from (header_at bytes) (λ v. Ok (v, header_len v)) v (Ok (v, header_len v)) read refl
 
 -- two headers of which one's spelling begins the other's are one header, and nothing follows
-pub spelled_once : (v w : HeaderValue) (text more : List ℕ) → Spells text v → Spells (text ++ more) w → (v ≡ w) × (more ≡ [])
+pub spelled_once : (v w : HeaderValue) (text more : List ℕ) → SpellsHeader text v → SpellsHeader (text ++ more) w → (v ≡ w) × (more ≡ [])
 spelled_once v w text more first second =
     let same_bytes : spelling v ++ more ≡ spelling w ++ [] = ap (λ (t : List ℕ). t ++ more) (sym first.spelled) ∙ second.spelled ∙ sym (append-nil (spelling w)) in
     let same : v ≡ w = ok_is v w (sym (header_again v more first.is_header first.fits) ∙ ap (λ (t : List ℕ). header_at t) same_bytes ∙ header_again w [] second.is_header second.fits) in
@@ -153,13 +153,13 @@ spelled_once v w text more first second =
     (same, nil_from_length more (omega (arith, whole, length-append (spelling v) more, len_v, len_w, len_same)))
 
 -- what spells a header is read as it, whatever follows
-pub spelled_is_read : (v : HeaderValue) (text rest : List ℕ) → Spells text v → read_at (text ++ rest) ≡ Ok (v, header_len v)
+pub spelled_is_read : (v : HeaderValue) (text rest : List ℕ) → SpellsHeader text v → read_at (text ++ rest) ≡ Ok (v, header_len v)
 spelled_is_read v text rest spells = is_only (text ++ rest) (read_at (text ++ rest)) refl v text rest spells refl
 
 -- it has the header's length
-pub spelled_is_long : (v : HeaderValue) (text : List ℕ) → Spells text v → length text ≡ header_len v
+pub spelled_is_long : (v : HeaderValue) (text : List ℕ) → SpellsHeader text v → length text ≡ header_len v
 spelled_is_long v text spells = rw spells.spelled (length-spelling v spells.is_header spells.fits)
 
 -- a header whose numbers fit is spelled by its spelling
-pub spelling_spells : (v : HeaderValue) → IsHeader v → Fits v → Spells (spelling v) v
+pub spelling_spells : (v : HeaderValue) → IsHeader v → FitsBits v → SpellsHeader (spelling v) v
 spelling_spells v is fits = record { is_header = is; fits = fits; spelled = refl }

@@ -13,8 +13,8 @@ abbrev pub reversed_lens : SegLens → SegLens
 reversed_lens l = lens_from (reverse (path_lens l))
 
 -- the info field of the same segment, travelled the other way
-abbrev pub turned : InfoField → InfoField
-turned x = record x { construction = not x.construction }
+abbrev pub turned_info : InfoField → InfoField
+turned_info x = record x { construction = not x.construction }
 
 -- the header of the way back: all fields in reverse order, with the packet at the same hop field
 abbrev pub reversed : HeaderValue → HeaderValue
@@ -22,6 +22,6 @@ reversed v = record {
   curr_inf = length v.infos - 1 - v.curr_inf;
   curr_hf = length v.hops - 1 - v.curr_hf;
   lens = reversed_lens v.lens;
-  infos = reverse (map turned v.infos);
+  infos = reverse (map turned_info v.infos);
   hops = reverse v.hops;
 }

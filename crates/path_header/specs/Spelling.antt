@@ -42,12 +42,12 @@ pub record HopFits (x : HopField) : Type 0 where
   pub mac : (i : ℕ) → slice_index x.mac i < 256
 
 -- the numbers of all fields fit into their bits
-pub record Fits (v : HeaderValue) : Type 0 where
+pub record FitsBits (v : HeaderValue) : Type 0 where
   pub infos : AllByRecursion InfoFits v.infos
   pub hops : AllByRecursion HopFits v.hops
 
 -- the grammar: the bytes are the encoding of this header, and nothing follows
-pub record Spells (bytes : List ℕ) (v : HeaderValue) : Type 0 where
+pub record SpellsHeader (bytes : List ℕ) (v : HeaderValue) : Type 0 where
   pub is_header : IsHeader v
-  pub fits : Fits v
+  pub fits : FitsBits v
   pub spelled : bytes ≡ spelling v

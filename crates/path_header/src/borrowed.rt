@@ -1,6 +1,6 @@
 ghost use Rattle.std.specs.Prelude.{◌≡◌, ◌≤◌, true, length, take};
 ghost use Rattle.path_header.specs.Value.{IsHeader, header_len};
-ghost use Rattle.path_header.specs.Spelling.{Spells};
+ghost use Rattle.path_header.specs.Spelling.{SpellsHeader};
 ghost use Rattle.path_header.specs.Shown.{has_header, header_at_front};
 
 use crate::checking::check;
@@ -16,7 +16,7 @@ fn begins(bytes: &[u8])
     requires { has_header bytes.now ≡ true }
     ensures header { IsHeader (header_at_front bytes.now) }
     ensures long { header_len (header_at_front bytes.now) ≤ length bytes.now }
-    ensures spelled { Spells (take (header_len (header_at_front bytes.now)) bytes.now)
+    ensures spelled { SpellsHeader (take (header_len (header_at_front bytes.now)) bytes.now)
         (header_at_front bytes.now) }
 {}
 
@@ -36,7 +36,7 @@ impl<'a> HeaderMut<'a> {
     ghost use Rattle.std.specs.Int.{w16, to_be_bytes};
     ghost use Rattle.refusal.specs.Refusal.{Gives};
     ghost use Rattle.path_header.specs.Value.{IsHeader, IsInSegment, header_len, segment_at};
-    ghost use Rattle.path_header.specs.Spelling.{meta_of, Spells};
+    ghost use Rattle.path_header.specs.Spelling.{meta_of, SpellsHeader};
     ghost use Rattle.path_header.specs.Reading.{header_at};
     ghost use Rattle.path_header.specs.Shown.{judged, has_header};
     ghost use Rattle.path_header.specs.Borrowed.{bytes_of, value_of, rest_of};
@@ -77,7 +77,7 @@ impl<'a> HeaderMut<'a> {
         ensures header { IsHeader (value_of self.now) }
         ensures long { header_len (value_of self.now) ≤ length (bytes_of self.now) }
         ensures spelled { let len = header_len (value_of self.now) in
-            Spells (take len (bytes_of self.now)) (value_of self.now) }
+            SpellsHeader (take len (bytes_of self.now)) (value_of self.now) }
     {
         begins(self.bytes);
     }

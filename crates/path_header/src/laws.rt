@@ -3,17 +3,17 @@
 ghost use Rattle.std.specs.Prelude.{◌≡◌, ℕ, ◌<◌, List, [], ◌++◌, length, Ok};
 ghost use Rattle.path_header.specs.declared.lens.SegLens.{SegLens};
 ghost use Rattle.path_header.specs.Value.{HeaderValue, IsHeader, IsInSegment, header_len, hop_count, segment_at};
-ghost use Rattle.path_header.specs.Spelling.{Fits, Spells, spelling};
+ghost use Rattle.path_header.specs.Spelling.{FitsBits, SpellsHeader, spelling};
 ghost use Rattle.path_header.specs.Reading.{read_at};
 ghost use Rattle.path_header.specs.Reversal.{reversed};
 
 /// Each header has exactly one spelling, no two headers have the same, and no spelling is the
 /// beginning of another.
 pub fn one_spelling()
-    ensures same_text { (v : HeaderValue) (text other : List ℕ) → Spells text v → Spells other v
+    ensures same_text { (v : HeaderValue) (text other : List ℕ) → SpellsHeader text v → SpellsHeader other v
         → text ≡ other }
-    ensures no_prefix { (v w : HeaderValue) (text more : List ℕ) → Spells text v
-        → Spells (text ++ more) w → (v ≡ w) × (more ≡ []) }
+    ensures no_prefix { (v w : HeaderValue) (text more : List ℕ) → SpellsHeader text v
+        → SpellsHeader (text ++ more) w → (v ≡ w) × (more ≡ []) }
 {}
 
 /// Each hop field belongs to exactly one segment; the sums of the lengths before it and up to it
@@ -34,8 +34,8 @@ pub fn reversed_twice()
 /// Reading a spelling of a header gives that header and its length, whatever follows; and
 /// `spelling` spells each header whose numbers fit.
 pub fn spelled_is_read()
-    ensures read { (v : HeaderValue) (text rest : List ℕ) → Spells text v
+    ensures read { (v : HeaderValue) (text rest : List ℕ) → SpellsHeader text v
         → read_at (text ++ rest) ≡ Ok (v, header_len v) }
-    ensures long { (v : HeaderValue) (text : List ℕ) → Spells text v → length text ≡ header_len v }
-    ensures spelled { (v : HeaderValue) → IsHeader v → Fits v → Spells (spelling v) v }
+    ensures long { (v : HeaderValue) (text : List ℕ) → SpellsHeader text v → length text ≡ header_len v }
+    ensures spelled { (v : HeaderValue) → IsHeader v → FitsBits v → SpellsHeader (spelling v) v }
 {}

@@ -1,6 +1,6 @@
 ghost use Rattle.std.specs.Prelude.{◌≡◌, ℕ, ◌+◌, ◌*◌, ◌<◌, ◌≤◌, nat_lt, List, ◌++◌, length, take, drop, Result, Ok, Err, IfOk, MatchResult};
 ghost use Rattle.path_header.specs.Value.{HeaderValue, AreLens, header_len, len_for};
-ghost use Rattle.path_header.specs.Spelling.{Spells};
+ghost use Rattle.path_header.specs.Spelling.{SpellsHeader};
 ghost use Rattle.path_header.specs.Reading.{word_at, reserved_bits, meta_from, meta_at, info_from, info_at, hop_from, hop_at, fields_at, header_at, read_at};
 ghost use Rattle.refusal.specs.Refusal.{Gives};
 
@@ -24,10 +24,10 @@ use isd_as::IfId;
 /// does not exist.
 pub fn decode(bytes: &[u8]) -> Result<(Header, usize), HeaderFault>
     // The bytes up to the returned length are the spelling of the returned header.
-    ensures found { IfOk result (λ r. (r.1 ≤ length bytes.now) × Spells (take r.1 bytes.now) r.0) }
+    ensures found { IfOk result (λ r. (r.1 ≤ length bytes.now) × SpellsHeader (take r.1 bytes.now) r.0) }
     ensures len { IfOk result (λ r. r.1 ≡ header_len r.0) }
     // If the bytes begin with the spelling of a header, it is returned, whatever follows.
-    ensures only { (v : HeaderValue) (text rest : List ℕ) → Spells text v → bytes.now ≡ text ++ rest
+    ensures only { (v : HeaderValue) (text rest : List ℕ) → SpellsHeader text v → bytes.now ≡ text ++ rest
         → result ≡ Ok (v, header_len v) }
     // The exact result, with its refusal.
     ensures exact { result ≡ read_at bytes.now }

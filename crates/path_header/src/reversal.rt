@@ -1,5 +1,5 @@
 ghost use Rattle.std.specs.Prelude.{◌≡◌, map};
-ghost use Rattle.path_header.specs.Reversal.{turned, reversed};
+ghost use Rattle.path_header.specs.Reversal.{turned_info, reversed};
 
 use crate::fields::InfoField;
 use crate::header::Header;
@@ -21,7 +21,7 @@ impl Header {
 
 /// Marks each segment as travelled in the other direction.
 fn turn(infos: &mut [InfoField])
-    ensures { infos.new ≡ map turned infos.old }
+    ensures { infos.new ≡ map turned_info infos.old }
 {
     for info in infos.iter_mut() {
         info.construction = !info.construction;

@@ -2,7 +2,7 @@ ghost use Rattle.std.specs.Prelude.{◌≡◌, ◌+◌, ◌*◌, ◌≤◌, ◌�
 ghost use Rattle.std.specs.Int.{w32, to_be_bytes};
 ghost use Rattle.std.specs.List.{flat_map, AllByRecursion};
 ghost use Rattle.path_header.specs.Value.{header_len};
-ghost use Rattle.path_header.specs.Spelling.{meta_of, meta_word, info_spelling, hop_spelling, InfoFits, HopFits, Spells};
+ghost use Rattle.path_header.specs.Spelling.{meta_of, meta_word, info_spelling, hop_spelling, InfoFits, HopFits, SpellsHeader};
 
 use crate::fault::HeaderFault;
 use crate::fields::{HopField, InfoField};
@@ -15,7 +15,7 @@ use crate::header::Header;
 pub fn encode(header: &Header, room: &mut [u8]) -> Result<usize, HeaderFault>
     ensures fits { IsOk result ↔ (header_len header.now ≤ length room.old) }
     ensures len { IfOk result (λ n. n ≡ header_len header.now) }
-    ensures spelled { IfOk result (λ n. Spells (take n room.new) header.now) }
+    ensures spelled { IfOk result (λ n. SpellsHeader (take n room.new) header.now) }
     ensures rest { IfOk result (λ n. drop n room.new ≡ drop n room.old) }
     ensures err { IfErr result (λ e. (e ≡ HeaderFault.RoomTooSmall) × (room.new ≡ room.old)) }
 {
@@ -30,7 +30,7 @@ pub fn encode(header: &Header, room: &mut [u8]) -> Result<usize, HeaderFault>
 /// Writes the parts of this header to the front of the room, one after another.
 fn put_header(room: &mut [u8], header: &Header)
     requires { header_len header.now ≤ length room.old }
-    ensures spelled { Spells (take (header_len header.now) room.new) header.now }
+    ensures spelled { SpellsHeader (take (header_len header.now) room.new) header.now }
     ensures rest { drop (header_len header.now) room.new ≡ drop (header_len header.now) room.old }
 {
     put(room, 0, &meta_bytes(header));

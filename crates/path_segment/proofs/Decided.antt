@@ -8,11 +8,11 @@ use Rattle.hop_mac.specs.Lifetime.{IsLive, is_live_at}
 use Rattle.path_segment.specs.declared.entry.Entry.{Entry}
 use Rattle.path_segment.specs.declared.kind.SegKind.{SegKind}
 use Rattle.path_segment.specs.declared.kind.SegKind.TheVariants.{Core, Intra}
-use Rattle.path_segment.specs.Chain.{Chain, chain_of, AreLive}
+use Rattle.path_segment.specs.Chain.{Chain, chain_of, IsChainLive}
 use Rattle.path_segment.specs.Tests.{is_live, is_same, same_kind, same_entry, same_entries}
 use Rattle.path_segment.proofs.Same.{same_entry-Decides}
 
-pub is_live-Decides : (now : ℕ) (segment : Chain) → Decides (is_live now segment) (AreLive segment now)
+pub is_live-Decides : (now : ℕ) (segment : Chain) → Decides (is_live now segment) (IsChainLive segment now)
 unfolding is_live
 is_live-Decides now segment =
     let test : Entry → Bool = λ entry. is_live_at segment.timestamp entry.exp_time now in

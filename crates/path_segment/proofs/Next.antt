@@ -9,7 +9,7 @@ use Rattle.std.proofs.lemmas.List.Folds.{list_all-append, list_any-append}
 use Rattle.path_segment.specs.declared.entry.Entry.{Entry}
 use Rattle.path_segment.specs.declared.fault.SegmentFault.{SegmentFault}
 use Rattle.path_segment.specs.declared.fault.SegmentFault.TheVariants as faults
-use Rattle.path_segment.specs.Rules.{has_way_in, has_way_out, begins_well, ends_well, names_twice, next_fault, last_fault, beacon_fault, segment_fault}
+use Rattle.path_segment.specs.Rules.{has_way_in, has_way_out, begins_well, ends_well, names_as_twice, next_fault, last_fault, beacon_fault, segment_fault}
 
 pub guard_none : (b : Bool) (f : SegmentFault) (r : Option SegmentFault) → cond b (Some f) r ≡ None → (b ≡ false) × (r ≡ None)
 guard_none true f r e = absurd cc
@@ -21,7 +21,7 @@ pub record IsFree (entries : List Entry) : Type 0 where
   pub few : length entries ≤ 62
   pub begins : begins_well entries ≡ true
   pub on : list_all has_way_out entries ≡ true
-  pub once : names_twice entries ≡ false
+  pub once : names_as_twice entries ≡ false
 
 pub IsFree-beacon_fault : (es : List Entry) → beacon_fault es ≡ None → IsFree es
 unfolding beacon_fault
@@ -29,7 +29,7 @@ IsFree-beacon_fault es none =
     let a = guard_none (nat_lt (length es) 1) _ _ none in
     let b = guard_none (nat_lt 62 (length es)) _ _ a.1 in
     let c = guard_none (not (begins_well es && list_all has_way_out es)) _ _ b.1 in
-    let d = guard_none (names_twice es) _ _ c.1 in
+    let d = guard_none (names_as_twice es) _ _ c.1 in
     let ends = and_parts (begins_well es) (list_all has_way_out es) (not-false _ c.0) in
     record {
       some = ltb-false _ _ a.0;
@@ -66,10 +66,10 @@ shuffled true b c d e f = absurd cc
 shuffled false true c d e f = rw (← f) refl
 shuffled false false c d e f = rw (← f) refl
 
-twice_push : (es : List Entry) (e : Entry) → names_twice es ≡ false → names_twice (es ++ (e ∷ [])) ≡ list_any (λ other. other.ia == e.ia) es
+twice_push : (es : List Entry) (e : Entry) → names_as_twice es ≡ false → names_as_twice (es ++ (e ∷ [])) ≡ list_any (λ other. other.ia == e.ia) es
 twice_push [] e once = refl
 twice_push (x ∷ xs) e once =
-    let parts = or_parts (list_any (λ other. other.ia == x.ia) xs) (names_twice xs) once in
+    let parts = or_parts (list_any (λ other. other.ia == x.ia) xs) (names_as_twice xs) once in
     rw (list_any-append (λ other. other.ia == x.ia) xs (e ∷ []), twice_push xs e parts.1)
     (shuffled (list_any (λ other. other.ia == x.ia) xs) (e.ia == x.ia) (x.ia == e.ia) (list_any (λ other. other.ia == e.ia) xs) parts.0 (same_back e.ia x.ia))
 

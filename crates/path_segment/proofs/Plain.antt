@@ -5,7 +5,7 @@ use Rattle.std.specs.List.{list_any, list_all}
 use Rattle.std.proofs.lemmas.Bool.{cases_Bool, and_parts, and_from, or_parts, ltb-false, le-ltb, not-true, not-false, eqb-true, eqb-false}
 use Rattle.std.proofs.lemmas.Option.{same_Some}
 use Rattle.path_segment.specs.declared.entry.Entry.{Entry}
-use Rattle.path_segment.specs.Rules.{has_way_in, has_way_out, begins_well, ends_well, names_twice, beacon_fault, segment_fault, AreOfBeacon, AreOfSegment}
+use Rattle.path_segment.specs.Rules.{has_way_in, has_way_out, begins_well, ends_well, names_as_twice, beacon_fault, segment_fault, AreOfBeacon, AreOfSegment}
 use Rattle.path_segment.proofs.Next.{guard_none, IsFree-beacon_fault}
 
 -- ---- tests of each entry
@@ -92,21 +92,21 @@ ends_from (x ∷ y ∷ more) some ways =
 
 -- ---- no AS twice
 
-once_of : (es : List Entry) → names_twice es ≡ false → (j k : ℕ) (d e : Entry) → slice_get es j ≡ Some d → slice_get es k ≡ Some e → d.ia ≡ e.ia → j ≡ k
+once_of : (es : List Entry) → names_as_twice es ≡ false → (j k : ℕ) (d e : Entry) → slice_get es j ≡ Some d → slice_get es k ≡ Some e → d.ia ≡ e.ia → j ≡ k
 once_of [] once j k d e at_j at_k same = absurd cc
 once_of (x ∷ xs) once zero zero d e at_j at_k same = refl
 once_of (x ∷ xs) once zero (suc k) d e at_j at_k same =
     let is : x ≡ d = same_Some x d at_j in
-    let other = none_at (λ o. o.ia == x.ia) xs (or_parts (list_any (λ o. o.ia == x.ia) xs) (names_twice xs) once).0 k e at_k in
+    let other = none_at (λ o. o.ia == x.ia) xs (or_parts (list_any (λ o. o.ia == x.ia) xs) (names_as_twice xs) once).0 k e at_k in
     absurd (eqb-false e.ia x.ia other (sym same ∙ ap (λ (o : Entry). o.ia) (sym is)))
 once_of (x ∷ xs) once (suc j) zero d e at_j at_k same =
     let is : x ≡ e = same_Some x e at_k in
-    let other = none_at (λ o. o.ia == x.ia) xs (or_parts (list_any (λ o. o.ia == x.ia) xs) (names_twice xs) once).0 j d at_j in
+    let other = none_at (λ o. o.ia == x.ia) xs (or_parts (list_any (λ o. o.ia == x.ia) xs) (names_as_twice xs) once).0 j d at_j in
     absurd (eqb-false d.ia x.ia other (same ∙ ap (λ (o : Entry). o.ia) (sym is)))
 once_of (x ∷ xs) once (suc j) (suc k) d e at_j at_k same =
-    ap suc (once_of xs (or_parts (list_any (λ o. o.ia == x.ia) xs) (names_twice xs) once).1 j k d e at_j at_k same)
+    ap suc (once_of xs (or_parts (list_any (λ o. o.ia == x.ia) xs) (names_as_twice xs) once).1 j k d e at_j at_k same)
 
-once_from : (es : List Entry) → ((j k : ℕ) (d e : Entry) → slice_get es j ≡ Some d → slice_get es k ≡ Some e → d.ia ≡ e.ia → j ≡ k) → names_twice es ≡ false
+once_from : (es : List Entry) → ((j k : ℕ) (d e : Entry) → slice_get es j ≡ Some d → slice_get es k ≡ Some e → d.ia ≡ e.ia → j ≡ k) → names_as_twice es ≡ false
 once_from [] once = refl
 once_from (x ∷ xs) once =
     let here : list_any (λ o. o.ia == x.ia) xs ≡ false =
@@ -141,7 +141,7 @@ of_segment es none =
     let a = guard_none (nat_lt (length es) 2) _ _ none in
     let b = guard_none (nat_lt 63 (length es)) _ _ a.1 in
     let c = guard_none (not (begins_well es && ends_well es)) _ _ b.1 in
-    let d = guard_none (names_twice es) _ _ c.1 in
+    let d = guard_none (names_as_twice es) _ _ c.1 in
     let ends = and_parts (begins_well es) (ends_well es) (not-false _ c.0) in
     record {
       rules = record { ways_in = ways_in_of es ends.0; once = once_of es d.0 };

@@ -44,8 +44,8 @@ pub record IsLeastExpiry (timestamp : ℕ) (entries : List Entry) (least : ℕ) 
   pub lower : All (λ entry. least ≤ expiry_of timestamp entry.exp_time) entries
 
 -- every hop is live at this second
-abbrev pub AreLive : Chain → ℕ → Type 0
-AreLive chain now = All (λ entry. IsLive chain.timestamp entry.exp_time now) chain.entries
+abbrev pub IsChainLive : Chain → ℕ → Type 0
+IsChainLive chain now = All (λ entry. IsLive chain.timestamp entry.exp_time now) chain.entries
 
 -- the AS of the entry at a place, or 0 if there is no such entry
 abbrev pub as_at : List Entry → ℕ → ℕ

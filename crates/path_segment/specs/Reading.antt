@@ -17,8 +17,8 @@ use Rattle.path_segment.specs.Chain.{Chain}
 use Rattle.path_segment.specs.Rules.{segment_of}
 
 -- the address in a member; a wildcard is allowed
-unfoldable pub address_in : List ℕ → Data → Option ℕ
-address_in name d = do
+unfoldable pub any_address_in : List ℕ → Data → Option ℕ
+any_address_in name d = do
   text ← text_at name d
   result_ok (address_at text)
 
@@ -29,16 +29,16 @@ mac_at name d = do
   result_ok (decode_sized text 6)
 
 -- the kind in a member: "core" or "intra"
-unfoldable pub kind_at : List ℕ → Data → Option SegKind
-kind_at name d = do
+unfoldable pub segment_kind_at : List ℕ → Data → Option SegKind
+segment_kind_at name d = do
   text ← text_at name d
   if bytes_eq text (codes "core") then Some Core
       else if bytes_eq text (codes "intra") then Some Intra else None
 
 -- the entry of an object, or nothing if a member is missing or out of range
-unfoldable pub entry_at : Data → Option Entry
-entry_at d = do
-  ia ← address_in (codes "ia") d
+unfoldable pub entry_in : Data → Option Entry
+entry_in d = do
+  ia ← any_address_in (codes "ia") d
   cons_ingress ← whole_at 0 65535 (codes "ingress") d
   cons_egress ← whole_at 0 65535 (codes "egress") d
   exp_time ← whole_at 0 255 (codes "exp") d
@@ -54,18 +54,18 @@ entry_at d = do
 -- the chain of an object in this form; the rules of segments are not checked yet
 unfoldable pub chain_at : Data → Option Chain
 chain_at d = do
-  kind ← kind_at (codes "kind") d
+  kind ← segment_kind_at (codes "kind") d
   timestamp ← whole_at 0 4294967295 (codes "timestamp") d
   beta0 ← whole_at 0 65535 (codes "beta0") d
   items ← list_at (codes "entries") d
-  entries ← items_at entry_at items
+  entries ← items_at entry_in items
   Some (record { kind = kind; timestamp = timestamp; beta0 = beta0; entries = entries })
 
 -- the segment: NotJson if the form is wrong, else the first rule that the chain breaks
-abbrev pub judged : Option Chain → Result Chain SegmentFault
-judged None = Err faults.NotJson
-judged (Some chain) = segment_of chain
+abbrev pub chain_or_fault : Option Chain → Result Chain SegmentFault
+chain_or_fault None = Err faults.NotJson
+chain_or_fault (Some chain) = segment_of chain
 
 -- the segment of a text
 abbrev pub segment_in : List ℕ → Result Chain SegmentFault
-segment_in bytes = judged (document_in bytes >>= chain_at)
+segment_in bytes = chain_or_fault (document_in bytes >>= chain_at)

@@ -28,9 +28,9 @@ ends_well (last ∷ []) = not (has_way_out last)
 ends_well (entry ∷ next ∷ later) = has_way_out entry && ends_well (next ∷ later)
 
 -- two entries are of one AS
-abbrev pub names_twice : List Entry → Bool
-names_twice [] = false
-names_twice (entry ∷ later) = list_any (λ other. other.ia == entry.ia) later || names_twice later
+abbrev pub names_as_twice : List Entry → Bool
+names_as_twice [] = false
+names_as_twice (entry ∷ later) = list_any (λ other. other.ia == entry.ia) later || names_as_twice later
 
 -- the first rule that a beacon under way breaks: it has 1 to 62 entries, each has a way out, and
 -- all but the first have a way in; no AS has two entries
@@ -39,7 +39,7 @@ beacon_fault entries =
     if nat_lt (length entries) 1 then Some faults.TooShort
     else if nat_lt 62 (length entries) then Some faults.TooLong
     else if not (begins_well entries && list_all has_way_out entries) then Some faults.BadEnds
-    else if names_twice entries then Some faults.Loop
+    else if names_as_twice entries then Some faults.Loop
     else None
 
 -- the first rule that a segment breaks: it has 2 to 63 entries, ways in for all but the first and
@@ -49,7 +49,7 @@ segment_fault entries =
     if nat_lt (length entries) 2 then Some faults.TooShort
     else if nat_lt 63 (length entries) then Some faults.TooLong
     else if not (begins_well entries && ends_well entries) then Some faults.BadEnds
-    else if names_twice entries then Some faults.Loop
+    else if names_as_twice entries then Some faults.Loop
     else None
 
 -- the first rule that a beacon of this one entry breaks

@@ -9,7 +9,7 @@ use Rattle.path_segment.specs.declared.kind.SegKind.{SegKind}
 use Rattle.path_segment.specs.declared.kind.SegKind.TheVariants.{Core, Intra}
 use Rattle.path_segment.specs.Chain.{Chain}
 
--- `AreLive` as a Boolean: every hop is live at this second
+-- `IsChainLive` as a Boolean: every hop is live at this second
 unfoldable pub is_live : ℕ → Chain → Bool
 is_live now chain = list_all (λ entry. is_live_at chain.timestamp entry.exp_time now) chain.entries
 

@@ -5,7 +5,7 @@ ghost use Rattle.hop_mac.specs.Hop.{beta_after};
 ghost use Rattle.hop_mac.specs.Lifetime.{IsLive};
 ghost use Rattle.path_segment.specs.declared.entry.Entry.{Entry};
 ghost use Rattle.path_segment.specs.declared.kind.SegKind.{SegKind};
-ghost use Rattle.path_segment.specs.Chain.{Chain, with_last, beta_of, IsLeastExpiry, AreLive};
+ghost use Rattle.path_segment.specs.Chain.{Chain, with_last, beta_of, IsLeastExpiry, IsChainLive};
 ghost use Rattle.path_segment.specs.Tests.{is_live, is_same, same_kind};
 ghost use Rattle.path_segment.specs.Rules.{AreOfBeacon, AreOfSegment, beacon_fault, next_fault, last_fault, segment_fault};
 
@@ -38,7 +38,7 @@ pub fn live_up_to_least_expiry()
 
 /// What the tests of liveness and of equality mean.
 pub fn tests_are_plain()
-    ensures live { (now : ℕ) (chain : Chain) → IsTrue (is_live now chain) ↔ AreLive chain now }
+    ensures live { (now : ℕ) (chain : Chain) → IsTrue (is_live now chain) ↔ IsChainLive chain now }
     ensures kind { (one other : SegKind) → IsTrue (same_kind one other) ↔ (one ≡ other) }
     ensures same { (one other : Chain) → IsTrue (is_same one other) ↔ (one ≡ other) }
 {}

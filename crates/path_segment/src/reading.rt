@@ -1,7 +1,7 @@
 ghost use Rattle.std.specs.Prelude.{◌≡◌};
 ghost use Rattle.serde_json.specs.View.{view};
 ghost use Rattle.refusal.specs.Refusal.{Reads};
-ghost use Rattle.path_segment.specs.Reading.{address_in, mac_at, kind_at, entry_at, chain_at, judged, segment_in};
+ghost use Rattle.path_segment.specs.Reading.{any_address_in, mac_at, segment_kind_at, entry_in, chain_at, chain_or_fault, segment_in};
 
 use crate::entry::Entry;
 use crate::fault::{SegmentError, SegmentFault};
@@ -35,7 +35,7 @@ impl Segment {
     /// [`Segment::from_json`].
     #[tactic(auto, unfolding(crate::specs::Reading::chain_at))]
     pub fn from_value(alloc: Global, value: &Value) -> Result<Segment, SegmentError>
-        ensures { Reads (λ s. s) result (judged (chain_at (view value.now))) }
+        ensures { Reads (λ s. s) result (chain_or_fault (chain_at (view value.now))) }
     {
         let kind = kind(value, "kind").ok_or(SegmentFault::NotJson)?;
         let timestamp = whole(value, "timestamp", 0, 4_294_967_295).ok_or(SegmentFault::NotJson)?;
@@ -47,9 +47,9 @@ impl Segment {
 }
 
 /// The entry of a JSON object.
-#[tactic(auto, unfolding(crate::specs::Reading::entry_at))]
+#[tactic(auto, unfolding(crate::specs::Reading::entry_in))]
 fn entry_of(value: &Value) -> Option<Entry>
-    ensures { result ≡ entry_at (view value.now) }
+    ensures { result ≡ entry_in (view value.now) }
 {
     let ia = address(value, "ia")?;
     let cons_ingress = whole(value, "ingress", 0, 65535)?;
@@ -66,9 +66,9 @@ fn entry_of(value: &Value) -> Option<Entry>
 }
 
 /// A member whose value is an address.
-#[tactic(auto, unfolding(crate::specs::Reading::address_in))]
+#[tactic(auto, unfolding(crate::specs::Reading::any_address_in))]
 fn address(value: &Value, name: &str) -> Option<IsdAs>
-    ensures { result ≡ address_in name.now (view value.now) }
+    ensures { result ≡ any_address_in name.now (view value.now) }
 {
     let text = text(value, name)?;
     IsdAs::parse(text).ok()
@@ -84,9 +84,9 @@ fn mac(value: &Value, name: &str) -> Option<[u8; 6]>
 }
 
 /// A member whose value is the name of a kind.
-#[tactic(auto, unfolding(crate::specs::Reading::kind_at))]
+#[tactic(auto, unfolding(crate::specs::Reading::segment_kind_at))]
 fn kind(value: &Value, name: &str) -> Option<SegKind>
-    ensures { result ≡ kind_at name.now (view value.now) }
+    ensures { result ≡ segment_kind_at name.now (view value.now) }
 {
     let text = text(value, name)?;
     match text {

@@ -1,6 +1,6 @@
 ghost use Rattle.std.specs.Prelude.{◌≡◌, ◌==◌, ◌∷◌, [], ◌++◌, None};
 ghost use Rattle.std.specs.List.{list_any, list_all};
-ghost use Rattle.path_segment.specs.Rules.{has_way_in, has_way_out, begins_well, ends_well, names_twice, beacon_fault, first_fault, next_fault, last_fault, segment_fault};
+ghost use Rattle.path_segment.specs.Rules.{has_way_in, has_way_out, begins_well, ends_well, names_as_twice, beacon_fault, first_fault, next_fault, last_fault, segment_fault};
 
 use crate::entry::Entry;
 use crate::fault::SegmentFault;
@@ -142,7 +142,7 @@ fn is_in(entries: &[Entry], ia: IsdAs) -> bool
 
 /// Whether two entries are of one AS.
 fn is_any_named_twice(entries: &[Entry]) -> bool
-    ensures { result ≡ names_twice entries.now }
+    ensures { result ≡ names_as_twice entries.now }
 {
     let mut rest = entries;
     while let Some((entry, later)) = rest.split_first() {

@@ -1,5 +1,5 @@
 ghost use Rattle.std.specs.Prelude.{◌≡◌, ◌<◌, ◌≤◌, ◌↔◌, length, Ok, IfOk, OnOk, IsTrue};
-ghost use Rattle.path_segment.specs.Chain.{chain_of, beta_of, between, first_as, last_as, IsLeastExpiry, AreLive};
+ghost use Rattle.path_segment.specs.Chain.{chain_of, beta_of, between, first_as, last_as, IsLeastExpiry, IsChainLive};
 ghost use Rattle.path_segment.specs.Rules.{AreOfSegment, IsSegment, segment_of};
 ghost use Rattle.path_segment.specs.Tests.{is_live, is_same};
 
@@ -172,7 +172,7 @@ impl Segment {
 
     /// Whether every hop is live at the second `now`.
     pub fn is_live(&self, now: u32) -> bool
-        ensures fact { IsTrue result ↔ AreLive self.now now }
+        ensures fact { IsTrue result ↔ IsChainLive self.now now }
         ensures test { result ≡ is_live now self.now }
     {
         self.is_each_hop_live(now)
@@ -180,7 +180,7 @@ impl Segment {
 
     /// Whether every hop is live at the second `now`.
     fn is_each_hop_live(&self, now: u32) -> bool
-        ensures { IsTrue result ↔ AreLive self.now now }
+        ensures { IsTrue result ↔ IsChainLive self.now now }
     {
         are_live(self.timestamp, &self.entries, now)
     }

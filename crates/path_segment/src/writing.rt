@@ -5,7 +5,7 @@ ghost use Rattle.isd_as.specs.Reading.{address_at};
 ghost use Rattle.serde_json.specs.Data.{array};
 ghost use Rattle.serde_json.specs.View.{view, items_of};
 ghost use Rattle.json_fields.specs.Fields.{items_at};
-ghost use Rattle.path_segment.specs.Reading.{entry_at, chain_at, judged, segment_in};
+ghost use Rattle.path_segment.specs.Reading.{entry_in, chain_at, chain_or_fault, segment_in};
 ghost use Rattle.path_segment.specs.Text.{entry_data, kind_name, segment_data, segment_text};
 
 use crate::entry::Entry;
@@ -65,7 +65,7 @@ fn mac_text(alloc: Global, mac: &[u8]) -> Result<String, AllocError>
 #[tactic(auto, unfolding(crate::specs::Text::entry_data))]
 fn entry_value(alloc: Global, entry: &Entry) -> Result<Value, AllocError>
     ensures value { IfOk result (λ v. view v ≡ entry_data entry.now) }
-    ensures again { IfOk result (λ _. entry_at (entry_data entry.now) ≡ Some entry.now) }
+    ensures again { IfOk result (λ _. entry_in (entry_data entry.now) ≡ Some entry.now) }
 {
     let ia = address_text(alloc, &entry.ia)?;
     let mac = mac_text(alloc, entry.mac.as_slice())?;
@@ -81,7 +81,7 @@ fn entry_value(alloc: Global, entry: &Entry) -> Result<Value, AllocError>
 fn entries_value(alloc: Global, entries: &[Entry]) -> Result<Value, AllocError>
     ensures value { IfOk result (λ v. view v ≡ array (items_of (map entry_data entries.now))) }
     ensures again { IfOk result
-        (λ _. items_at entry_at (items_of (map entry_data entries.now)) ≡ Some entries.now) }
+        (λ _. items_at entry_in (items_of (map entry_data entries.now)) ≡ Some entries.now) }
 {
     let mut values = Vec::with_capacity(alloc, entries.len())?;
     for entry in entries {
@@ -96,7 +96,7 @@ fn entries_value(alloc: Global, entries: &[Entry]) -> Result<Value, AllocError>
 fn value_of(alloc: Global, segment: &Segment) -> Result<Value, AllocError>
     ensures value { IfOk result (λ v. view v ≡ segment_data segment.now) }
     ensures again { IfOk result
-        (λ _. judged (chain_at (segment_data segment.now)) ≡ Ok segment.now) }
+        (λ _. chain_or_fault (chain_at (segment_data segment.now)) ≡ Ok segment.now) }
 {
     let kind = name_of(segment.kind());
     let timestamp = segment.timestamp();

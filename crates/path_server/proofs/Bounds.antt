@@ -12,14 +12,14 @@ use Rattle.path_server.specs.declared.fault.StoreFault.{StoreFault}
 use Rattle.path_server.specs.declared.op.StoreOp.TheVariants.{Register, Sweep}
 use Rattle.path_segment.specs.Tests.{is_live}
 use Rattle.path_server.specs.Segment.{is_alike}
-use Rattle.path_server.specs.Store.{Operation, answer_to, IsAnswer, with_new, registered, swept, after, store_of}
+use Rattle.path_server.specs.Store.{Operation, answer_to, IsRegisterAnswer, with_new, registered, swept, after_operation, store_of}
 use Rattle.path_server.proofs.Plain.{answer_is_plain}
 use Rattle.path_server.proofs.Decided.{is_alike-same}
 
 -- what each operation keeps, all of them keep
-fold_keeps : (P : List Chain → Type 0) → ((segments : List Chain) (operation : Operation) → P segments → P (after segments operation)) → (segments : List Chain) (operations : List Operation) → P segments → P (fold after segments operations)
+fold_keeps : (P : List Chain → Type 0) → ((segments : List Chain) (operation : Operation) → P segments → P (after_operation segments operation)) → (segments : List Chain) (operations : List Operation) → P segments → P (fold after_operation segments operations)
 fold_keeps P step segments [] now = now
-fold_keeps P step segments (operation ∷ operations) now = fold_keeps P step (after segments operation) operations (step segments operation now)
+fold_keeps P step segments (operation ∷ operations) now = fold_keeps P step (after_operation segments operation) operations (step segments operation now)
 
 abbrev IsDistinct : List Chain → Type 0
 IsDistinct segments = AllPairs (λ one other. one ≢ other) segments
@@ -32,12 +32,12 @@ IsBounded segments = (segment : Chain) → count_by (is_alike segment) segments 
 new_is_other : (segments : List Chain) (segment : Chain) → ¬ (Contains segments segment) → (k : ℕ) (d : Chain) → k < length segments → get_or segments k d ≢ segment
 new_is_other segments segment none k d within = λ same. none (subst (Contains segments) same (Contains-get_or segments k d within))
 
-distinct_with : (segments : List Chain) (segment : Chain) (now : ℕ) (answer : Result Bool StoreFault) → IsAnswer segments segment now answer → IsDistinct segments → IsDistinct (with_new answer segments segment)
+distinct_with : (segments : List Chain) (segment : Chain) (now : ℕ) (answer : Result Bool StoreFault) → IsRegisterAnswer segments segment now answer → IsDistinct segments → IsDistinct (with_new answer segments segment)
 distinct_with segments segment now (Ok true) is distinct = all_pairs_push (λ one other. one ≢ other) segments segment distinct (new_is_other segments segment is.1)
 distinct_with segments segment now (Ok false) is distinct = distinct
 distinct_with segments segment now (Err fault) is distinct = distinct
 
-distinct_after : (segments : List Chain) (operation : Operation) → IsDistinct segments → IsDistinct (after segments operation)
+distinct_after : (segments : List Chain) (operation : Operation) → IsDistinct segments → IsDistinct (after_operation segments operation)
 unfolding registered swept
 distinct_after segments (Register segment now) distinct = distinct_with segments segment now (answer_to segments segment now) (answer_is_plain segments segment now) distinct
 distinct_after segments (Sweep now) distinct = AllPairs-filter (λ one other. one ≢ other) (is_live now) segments distinct
@@ -60,12 +60,12 @@ bounded_push segments segment free bounded other =
       | inr unlike ↦ (let few = bounded other in rw pushed (rw unlike (omega arith)))
     ]
 
-bounded_with : (segments : List Chain) (segment : Chain) (now : ℕ) (answer : Result Bool StoreFault) → IsAnswer segments segment now answer → IsBounded segments → IsBounded (with_new answer segments segment)
+bounded_with : (segments : List Chain) (segment : Chain) (now : ℕ) (answer : Result Bool StoreFault) → IsRegisterAnswer segments segment now answer → IsBounded segments → IsBounded (with_new answer segments segment)
 bounded_with segments segment now (Ok true) is bounded = bounded_push segments segment is.2 bounded
 bounded_with segments segment now (Ok false) is bounded = bounded
 bounded_with segments segment now (Err fault) is bounded = bounded
 
-bounded_after : (segments : List Chain) (operation : Operation) → IsBounded segments → IsBounded (after segments operation)
+bounded_after : (segments : List Chain) (operation : Operation) → IsBounded segments → IsBounded (after_operation segments operation)
 unfolding registered swept
 bounded_after segments (Register segment now) bounded = bounded_with segments segment now (answer_to segments segment now) (answer_is_plain segments segment now) bounded
 bounded_after segments (Sweep now) bounded = λ other. (

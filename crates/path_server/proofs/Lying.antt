@@ -11,7 +11,7 @@ use Rattle.path_segment.specs.Tests.{is_live, is_same, same_kind}
 use Rattle.path_segment.proofs.Decided.{is_same-Decides}
 use Rattle.path_server.specs.Segment.{is_alike}
 use Rattle.path_server.specs.Index.{rank_between, rank, lies_between, passes_at, HasAddresses}
-use Rattle.path_server.specs.Lookup.{ends_in}
+use Rattle.path_server.specs.Lookup.{is_intra_to}
 use Rattle.path_server.proofs.Decided.{is_alike-Decides}
 use Rattle.path_server.proofs.Orders.{same_test, same_decided}
 
@@ -95,8 +95,8 @@ in_order false true last there = refl
 in_order false false last there = refl
 
 ending_one : (ia now : ℕ) → ia < 2 ^ 64 → (there : Bool) (o : Option Chain) → ((segment : Chain) → o ≡ Some segment → HasAddresses segment)
-    → (option_map_or (is_live now) o false && ((nat_le (rank_between Intra 0 ia) (option_map_or rank o 0) && nat_le (option_map_or rank o 0) (rank_between Intra 18446744073709551615 ia)) && there)) ≡ (option_map_or (ends_in ia now) o false && there)
-unfolding ends_in
+    → (option_map_or (is_live now) o false && ((nat_le (rank_between Intra 0 ia) (option_map_or rank o 0) && nat_le (option_map_or rank o 0) (rank_between Intra 18446744073709551615 ia)) && there)) ≡ (option_map_or (is_intra_to ia now) o false && there)
+unfolding is_intra_to
 ending_one ia now fits there None addresses = refl
 ending_one ia now fits there (Some s) addresses =
     let bounds = addresses s refl in
@@ -104,5 +104,5 @@ ending_one ia now fits there (Some s) addresses =
     ∙ in_order (is_live now s) (same_kind s.kind Intra) (last_as s == ia) there
 
 -- a live place between the least and the greatest intra ends at a last AS
-pub ending_at : (segments : List Chain) → All HasAddresses segments → (ia now : ℕ) → ia < 2 ^ 64 → (there : Bool) (i : ℕ) → (passes_at (is_live now) segments i && (lies_between segments (rank_between Intra 0 ia) (rank_between Intra 18446744073709551615 ia) i && there)) ≡ (passes_at (ends_in ia now) segments i && there)
+pub ending_at : (segments : List Chain) → All HasAddresses segments → (ia now : ℕ) → ia < 2 ^ 64 → (there : Bool) (i : ℕ) → (passes_at (is_live now) segments i && (lies_between segments (rank_between Intra 0 ia) (rank_between Intra 18446744073709551615 ia) i && there)) ≡ (passes_at (is_intra_to ia now) segments i && there)
 ending_at segments all ia now fits there i = ending_one ia now fits there (slice_get segments i) (addresses_at segments all i)

@@ -15,7 +15,7 @@ use Rattle.path_segment.specs.declared.kind.SegKind.TheVariants.{Intra}
 use Rattle.path_segment.specs.Chain.{Chain}
 use Rattle.path_segment.specs.Tests.{is_live}
 use Rattle.path_server.specs.Index.{HasEachPlace, IsIndex, rank_between, lies_between, live_places, segments_at, passes_at, is_in}
-use Rattle.path_server.specs.Lookup.{ends_in}
+use Rattle.path_server.specs.Lookup.{is_intra_to}
 use Rattle.path_server.proofs.Lying.{ending_at}
 use Rattle.path_server.proofs.Orders.{any_is_kept, filter_on, is_in-filter, range_rises, same_numbers}
 
@@ -102,9 +102,9 @@ is_in-live segments index each now low high i =
     ∙ ap (λ b. passes_at (is_live now) segments i && b) (is_in-filter (lies_between segments low high) index i ∙ ap (λ b. lies_between segments low high i && b) (any_alike segments index each (nat_eq i)))
 
 -- the live segments that end in an AS, found by the index
-pub ending_is_kept : (segments : List Chain) (index places : List ℕ) → IsIndex segments index → (ia now : ℕ) → ia < 2 ^ 64 → IsStrictlyIncreasing places → ((i : ℕ) → is_in places i ≡ is_in (live_places segments index now (rank_between Intra 0 ia) (rank_between Intra 18446744073709551615 ia)) i) → segments_at segments places ≡ filter (ends_in ia now) segments
+pub ending_is_kept : (segments : List Chain) (index places : List ℕ) → IsIndex segments index → (ia now : ℕ) → ia < 2 ^ 64 → IsStrictlyIncreasing places → ((i : ℕ) → is_in places i ≡ is_in (live_places segments index now (rank_between Intra 0 ia) (rank_between Intra 18446744073709551615 ia)) i) → segments_at segments places ≡ filter (is_intra_to ia now) segments
 ending_is_kept segments index places is ia now fits rises just =
-    found_is_kept (ends_in ia now) segments places rises (λ i. just i
+    found_is_kept (is_intra_to ia now) segments places rises (λ i. just i
     ∙ is_in-live segments index is.each now _ _ i
     ∙ ending_at segments is.addresses ia now fits (is_in (range_with_len 0 (length segments)) i) i)
 

@@ -6,23 +6,23 @@ use Rattle.std.proofs.lemmas.Bool.{cond_both, not-true, not-false, leb-true, leb
 use Rattle.std.proofs.lemmas.Bool.Decides.{Decides-and, Decides-or, Decides-eqb, not_from_Decides}
 use Rattle.std.proofs.lemmas.List.Elements.{Contains-append_left, Contains-push_cases}
 use Rattle.path_segment.specs.declared.kind.SegKind.TheVariants.{Core, Intra}
-use Rattle.path_segment.specs.Chain.{Chain, AreLive}
+use Rattle.path_segment.specs.Chain.{Chain, IsChainLive}
 use Rattle.path_server.specs.declared.fault.StoreFault.{StoreFault}
 use Rattle.path_segment.specs.Chain.{first_as, last_as}
 use Rattle.path_segment.specs.Tests.{is_live, is_same}
 use Rattle.path_server.specs.Segment.{is_alike}
-use Rattle.path_server.specs.Store.{answer_to, IsAnswer, with_new, registered, swept, expired_count}
-use Rattle.path_server.specs.Lookup.{ends_in, is_reached, joins, segments_for, LeadsTo, IsReached, LeadsBetween}
+use Rattle.path_server.specs.Store.{answer_to, IsRegisterAnswer, with_new, registered, swept, expired_count}
+use Rattle.path_server.specs.Lookup.{is_intra_to, is_reached, joins, segments_for, LeadsTo, IsReached, LeadsBetween}
 use Rattle.path_server.proofs.Counts.{left_out}
 use Rattle.path_server.proofs.Members.{Contains-filter, is_in-Decides, any-Decides, filter-filter}
 use Rattle.path_segment.proofs.Decided.{is_live-Decides, is_same-Decides, same_kind-Decides}
 
-pub answer_is_plain : (segments : List Chain) (segment : Chain) (now : ℕ) → IsAnswer segments segment now (answer_to segments segment now)
+pub answer_is_plain : (segments : List Chain) (segment : Chain) (now : ℕ) → IsRegisterAnswer segments segment now (answer_to segments segment now)
 unfolding answer_to
 answer_is_plain segments segment now =
     let live = is_live-Decides now segment in
     let there = is_in-Decides is_same is_same-Decides segments segment in
-    let P = IsAnswer segments segment now in
+    let P = IsRegisterAnswer segments segment now in
     cond_both (not (is_live now segment)) _ _ P (λ dead. not_from_Decides _ live (not-true _ dead))
     (λ lives. (let yes = live.0 (not-false _ lives) in
     cond_both (list_any (is_same segment) segments) _ _ P (λ here. (yes, there.0 here))
@@ -51,7 +51,7 @@ Contains-registered_added segments segment now other = with_new-added (answer_to
 
 -- ---- sweeps
 
-pub Contains-swept : (segments : List Chain) (now : ℕ) (segment : Chain) → Contains (swept segments now) segment ↔ (Contains segments segment × AreLive segment now)
+pub Contains-swept : (segments : List Chain) (now : ℕ) (segment : Chain) → Contains (swept segments now) segment ↔ (Contains segments segment × IsChainLive segment now)
 unfolding swept
 Contains-swept segments now segment =
     let there = Contains-filter (is_live now) segments segment in
@@ -71,10 +71,10 @@ expired_count-swept segments now =
 
 -- ---- look-ups
 
-ends_in-plain : (segments : List Chain) (ia now : ℕ) (segment : Chain) → Contains (filter (ends_in ia now) segments) segment ↔ LeadsTo segments ia now segment
-unfolding ends_in
+ends_in-plain : (segments : List Chain) (ia now : ℕ) (segment : Chain) → Contains (filter (is_intra_to ia now) segments) segment ↔ LeadsTo segments ia now segment
+unfolding is_intra_to
 ends_in-plain segments ia now segment =
-    let there = Contains-filter (ends_in ia now) segments segment in
+    let there = Contains-filter (is_intra_to ia now) segments segment in
     let test = Decides-and _ _ (same_kind-Decides segment.kind Intra) (Decides-and _ _ (is_live-Decides now segment) (Decides-eqb (last_as segment) ia)) in (
       λ h. (let is = there.0 h in let facts = test.0 is.1 in record { there = is.0; kind = facts.0; live = facts.1.0; last = facts.1.1 }),
       λ h. there.1 (h.there, test.1 (h.kind, (h.live, h.last))),
@@ -108,5 +108,5 @@ downs_are_plain segments src dst now segment = ends_in-plain segments dst now se
 pub cores_are_plain : (segments : List Chain) (src dst now : ℕ) (segment : Chain) → Contains (segments_for segments src dst now).cores segment ↔ LeadsBetween segments (IsReached src (segments_for segments src dst now).ups) (IsReached dst (segments_for segments src dst now).downs) now segment
 unfolding segments_for
 cores_are_plain segments src dst now segment =
-    joins-plain segments _ _ (IsReached src (filter (ends_in src now) segments)) (IsReached dst (filter (ends_in dst now) segments))
-    (is_reached-Decides src (filter (ends_in src now) segments)) (is_reached-Decides dst (filter (ends_in dst now) segments)) now segment
+    joins-plain segments _ _ (IsReached src (filter (is_intra_to src now) segments)) (IsReached dst (filter (is_intra_to dst now) segments))
+    (is_reached-Decides src (filter (is_intra_to src now) segments)) (is_reached-Decides dst (filter (is_intra_to dst now) segments)) now segment

@@ -15,8 +15,8 @@ kind_number Core = 0
 kind_number Intra = 1
 
 -- ends as a number, by which they are ordered: the kind, then the last AS, then the first AS
-abbrev pub number_of : Ends → ℕ
-number_of ends = kind_number ends.kind * 2 ^ 128 + ends.ases
+abbrev pub ends_number : Ends → ℕ
+ends_number ends = kind_number ends.kind * 2 ^ 128 + ends.ases
 
 -- the number of the ends of a segment of this kind from its first to its last AS
 unfoldable pub rank_between : SegKind → ℕ → ℕ → ℕ

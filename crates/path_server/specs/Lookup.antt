@@ -3,7 +3,7 @@
 use Rattle.std.specs.Prelude.{◌≡◌, ◌⊎◌, ℕ, ◌==◌, ◌&&◌, ◌||◌, Bool, List, filter, Any, Contains}
 use Rattle.std.specs.List.{list_any}
 use Rattle.path_segment.specs.declared.kind.SegKind.TheVariants.{Core, Intra}
-use Rattle.path_segment.specs.Chain.{Chain, AreLive, first_as, last_as}
+use Rattle.path_segment.specs.Chain.{Chain, IsChainLive, first_as, last_as}
 use Rattle.path_segment.specs.Tests.{is_live, same_kind}
 
 -- the segments that a lookup found, and the second for which it was made
@@ -14,8 +14,8 @@ pub record Selection : Type 0 where
   pub moment : ℕ
 
 -- a live intra segment that ends in this AS
-unfoldable pub ends_in : ℕ → ℕ → Chain → Bool
-ends_in ia now segment = same_kind segment.kind Intra && (is_live now segment && (last_as segment == ia))
+unfoldable pub is_intra_to : ℕ → ℕ → Chain → Bool
+is_intra_to ia now segment = same_kind segment.kind Intra && (is_live now segment && (last_as segment == ia))
 
 -- whether the AS is `ia` or one of these segments begins in it
 unfoldable pub is_reached : ℕ → List Chain → ℕ → Bool
@@ -31,8 +31,8 @@ joins near far now segment =
 -- the live segments for a source and a destination, each list in the order of registration
 unfoldable pub segments_for : List Chain → ℕ → ℕ → ℕ → Selection
 segments_for segments src dst now =
-    let ups = filter (ends_in src now) segments in
-    let downs = filter (ends_in dst now) segments in
+    let ups = filter (is_intra_to src now) segments in
+    let downs = filter (is_intra_to dst now) segments in
     record {
       ups = ups;
       cores = filter (joins (is_reached src ups) (is_reached dst downs) now) segments;
@@ -40,11 +40,11 @@ segments_for segments src dst now =
       moment = now;
     }
 
--- `ends_in` without tests: a segment of the list that is intra, live, and ends in this AS
+-- `is_intra_to` without tests: a segment of the list that is intra, live, and ends in this AS
 pub record LeadsTo (segments : List Chain) (ia now : ℕ) (segment : Chain) : Type 0 where
   pub there : Contains segments segment
   pub kind : segment.kind ≡ Intra
-  pub live : AreLive segment now
+  pub live : IsChainLive segment now
   pub last : last_as segment ≡ ia
 
 -- `is_reached` as a type: the AS is `ia`, or one of these segments begins in it
@@ -57,6 +57,6 @@ pub record LeadsBetween (segments : List Chain) (near far : ℕ → Type 0) (now
     (segment : Chain) : Type 0 where
   pub there : Contains segments segment
   pub kind : segment.kind ≡ Core
-  pub live : AreLive segment now
+  pub live : IsChainLive segment now
   pub ends : (near (first_as segment) × far (last_as segment))
       ⊎ (near (last_as segment) × far (first_as segment))

@@ -2,7 +2,7 @@
 -- registration of path segments).
 use Rattle.std.specs.Prelude.{◌≡◌, ℕ, ◌<◌, ◌≤◌, Bool, true, false, not, nat_le, if◌then◌else◌, List, [], ◌∷◌, ◌++◌, filter, count_by, fold, Contains, Result, Ok, Err}
 use Rattle.std.specs.List.{list_any}
-use Rattle.path_segment.specs.Chain.{Chain, AreLive}
+use Rattle.path_segment.specs.Chain.{Chain, IsChainLive}
 use Rattle.path_server.specs.declared.fault.StoreFault.{StoreFault}
 use Rattle.path_server.specs.declared.fault.StoreFault.TheVariants.{Full, Expired}
 use Rattle.path_server.specs.declared.op.StoreOp.{StoreOp}
@@ -20,12 +20,12 @@ answer_to segments segment now =
     else Ok true
 
 -- `answer_to` without tests: which facts each answer means; no two of them hold at once
-abbrev pub IsAnswer : List Chain → Chain → ℕ → Result Bool StoreFault → Type 0
-IsAnswer segments segment now (Err Expired) = ¬ (AreLive segment now)
-IsAnswer segments segment now (Ok false) = AreLive segment now × Contains segments segment
-IsAnswer segments segment now (Err Full) = AreLive segment now × ¬ (Contains segments segment)
+abbrev pub IsRegisterAnswer : List Chain → Chain → ℕ → Result Bool StoreFault → Type 0
+IsRegisterAnswer segments segment now (Err Expired) = ¬ (IsChainLive segment now)
+IsRegisterAnswer segments segment now (Ok false) = IsChainLive segment now × Contains segments segment
+IsRegisterAnswer segments segment now (Err Full) = IsChainLive segment now × ¬ (Contains segments segment)
     × (32 ≤ count_by (is_alike segment) segments)
-IsAnswer segments segment now (Ok true) = AreLive segment now × ¬ (Contains segments segment)
+IsRegisterAnswer segments segment now (Ok true) = IsChainLive segment now × ¬ (Contains segments segment)
     × (count_by (is_alike segment) segments < 32)
 
 -- the list with this segment at its end if it is new, and else the list as it was
@@ -50,9 +50,9 @@ abbrev pub Operation : Type 0
 Operation = StoreOp
 
 -- the list after one operation
-abbrev pub after : List Chain → Operation → List Chain
-after segments (Register segment now) = registered segments segment now
-after segments (Sweep now) = swept segments now
+abbrev pub after_operation : List Chain → Operation → List Chain
+after_operation segments (Register segment now) = registered segments segment now
+after_operation segments (Sweep now) = swept segments now
 
 -- the operation stores a new segment
 abbrev pub TakesIn : Operation → List Chain → Type 0
@@ -61,4 +61,4 @@ TakesIn (Sweep now) segments = ⊥
 
 -- the store after these operations, one after another, from an empty one
 abbrev pub store_of : List Operation → List Chain
-store_of operations = fold after [] operations
+store_of operations = fold after_operation [] operations

@@ -1,6 +1,6 @@
 ghost use Rattle.std.specs.Prelude.{◌≡◌, ◌^◌, ◌<◌, nat_lt};
 ghost use Rattle.std.specs.Ordering.{nat_cmp};
-ghost use Rattle.path_server.specs.Index.{number_of, rank_between, rank, rank_at, order_at, HasAddresses};
+ghost use Rattle.path_server.specs.Index.{ends_number, rank_between, rank, rank_at, order_at, HasAddresses};
 
 use path_segment::{SegKind, Segment};
 use std::cmp::Ordering;
@@ -17,7 +17,7 @@ impl Ends {
     /// The ends of the segments of a kind from one AS to another; both ASes are given as numbers.
     #[tactic(auto, unfolding(crate::specs::Index::rank_between))]
     pub(crate) fn new(kind: SegKind, first: u64, last: u64) -> Ends
-        ensures { number_of result ≡ rank_between kind first last }
+        ensures { ends_number result ≡ rank_between kind first last }
     {
         let ases = u128::from(last) * (1 << 64) + u128::from(first);
         Ends { kind, ases }
@@ -25,7 +25,7 @@ impl Ends {
 
     /// The ends of a segment.
     pub(crate) fn of(segment: &Segment) -> Ends
-        ensures number { number_of result ≡ rank segment.now }
+        ensures number { ends_number result ≡ rank segment.now }
         ensures addresses { HasAddresses segment.now }
     {
         let (first, last) = (segment.first_as().number(), segment.last_as().number());
@@ -34,7 +34,7 @@ impl Ends {
 
     /// The ends of the segment at a place, or the least ends if there is no such segment.
     fn at(segments: &[Segment], place: usize) -> Ends
-        ensures { number_of result ≡ rank_at segments.now place }
+        ensures { ends_number result ≡ rank_at segments.now place }
     {
         match segments.get(place) {
             Some(segment) => Ends::of(segment),
@@ -47,7 +47,7 @@ impl Ends {
 
     /// Whether these ends come before the others.
     fn is_below(self, others: Ends) -> bool
-        ensures { result ≡ nat_lt (number_of self) (number_of others) }
+        ensures { result ≡ nat_lt (ends_number self) (ends_number others) }
     {
         match (self.kind, others.kind) {
             (SegKind::Core, SegKind::Intra) => true,
@@ -59,14 +59,14 @@ impl Ends {
 
 /// Whether the segment at a place has ends below these.
 pub(crate) fn is_below(segments: &[Segment], place: usize, ends: Ends) -> bool
-    ensures { result ≡ nat_lt (rank_at segments.now place) (number_of ends) }
+    ensures { result ≡ nat_lt (rank_at segments.now place) (ends_number ends) }
 {
     Ends::at(segments, place).is_below(ends)
 }
 
 /// Whether the segment at a place has ends above these.
 pub(crate) fn is_above(segments: &[Segment], place: usize, ends: Ends) -> bool
-    ensures { result ≡ nat_lt (number_of ends) (rank_at segments.now place) }
+    ensures { result ≡ nat_lt (ends_number ends) (rank_at segments.now place) }
 {
     ends.is_below(Ends::at(segments, place))
 }

@@ -3,7 +3,7 @@
 ghost use Rattle.std.specs.Prelude.{◌≡◌, ◌≤◌, ◌<◌, ℕ, length, filter, vec_len};
 ghost use Rattle.std.specs.List.{AllWithin, range_with_len};
 ghost use Rattle.std.specs.List.Sorted.{IsNonDecreasingBy};
-ghost use Rattle.path_server.specs.Index.{HasEachPlace, IsIndex, number_of, rank_at, order_at, lies_between};
+ghost use Rattle.path_server.specs.Index.{HasEachPlace, IsIndex, ends_number, rank_at, order_at, lies_between};
 
 use crate::ends::{Ends, in_order, is_above, is_below};
 use path_segment::Segment;
@@ -17,7 +17,7 @@ pub(crate) fn range<'a>(
 ) -> &'a [usize]
     requires { IsIndex segments.now index.now }
     ensures { result.now
-        ≡ filter (lies_between segments.now (number_of low) (number_of high)) index.now }
+        ≡ filter (lies_between segments.now (ends_number low) (ends_number high)) index.now }
 {
     let (_, rest) = index.split_at(start_of(segments, index, low));
     &rest[..end_near(segments, rest, high)]
@@ -27,9 +27,9 @@ pub(crate) fn range<'a>(
 fn start_of(segments: &[Segment], index: &[usize], ends: Ends) -> usize
     requires { IsIndex segments.now index.now }
     ensures within { result ≤ length index.now }
-    ensures below { AllWithin (λ place. rank_at segments.now place < number_of ends)
+    ensures below { AllWithin (λ place. rank_at segments.now place < ends_number ends)
         index.now 0 result }
-    ensures rest { AllWithin (λ place. number_of ends ≤ rank_at segments.now place)
+    ensures rest { AllWithin (λ place. ends_number ends ≤ rank_at segments.now place)
         index.now result (length index.now) }
 {
     index.partition_point(|place| is_below(segments, *place, ends))
@@ -39,9 +39,9 @@ fn start_of(segments: &[Segment], index: &[usize], ends: Ends) -> usize
 pub(crate) fn end_of(segments: &[Segment], index: &[usize], ends: Ends) -> usize
     requires { IsNonDecreasingBy (order_at segments.now) index.now }
     ensures within { result ≤ length index.now }
-    ensures below { AllWithin (λ place. rank_at segments.now place ≤ number_of ends)
+    ensures below { AllWithin (λ place. rank_at segments.now place ≤ ends_number ends)
         index.now 0 result }
-    ensures rest { AllWithin (λ place. number_of ends < rank_at segments.now place)
+    ensures rest { AllWithin (λ place. ends_number ends < rank_at segments.now place)
         index.now result (length index.now) }
 {
     index.partition_point(|place| !is_above(segments, *place, ends))
@@ -51,9 +51,9 @@ pub(crate) fn end_of(segments: &[Segment], index: &[usize], ends: Ends) -> usize
 fn end_near(segments: &[Segment], index: &[usize], ends: Ends) -> usize
     requires { IsNonDecreasingBy (order_at segments.now) index.now }
     ensures within { result ≤ length index.now }
-    ensures below { AllWithin (λ place. rank_at segments.now place ≤ number_of ends)
+    ensures below { AllWithin (λ place. rank_at segments.now place ≤ ends_number ends)
         index.now 0 result }
-    ensures rest { AllWithin (λ place. number_of ends < rank_at segments.now place)
+    ensures rest { AllWithin (λ place. ends_number ends < rank_at segments.now place)
         index.now result (length index.now) }
 {
     match index.first() {

@@ -1,9 +1,9 @@
 //! Laws of path stores: each is the contract of a function that does nothing.
 
 ghost use Rattle.std.specs.Prelude.{◌≡◌, ◌≢◌, ◌↔◌, ◌⊎◌, ℕ, ◌≤◌, List, ◌++◌, AllPairs, Contains, count_by, fold, IsTrue};
-ghost use Rattle.path_segment.specs.Chain.{Chain, AreLive, first_as, last_as};
+ghost use Rattle.path_segment.specs.Chain.{Chain, IsChainLive, first_as, last_as};
 ghost use Rattle.path_server.specs.Segment.{is_alike};
-ghost use Rattle.path_server.specs.Store.{Operation, answer_to, IsAnswer, registered, swept, expired_count, after, store_of};
+ghost use Rattle.path_server.specs.Store.{Operation, answer_to, IsRegisterAnswer, registered, swept, expired_count, after_operation, store_of};
 ghost use Rattle.path_server.specs.Lookup.{segments_for, LeadsTo, IsReached, LeadsBetween};
 
 /// What `is_alike` means: equal kinds, first ASes and last ASes.
@@ -16,7 +16,7 @@ pub fn alike_is_plain()
 /// What the answers of registering mean.
 pub fn answers_are_plain()
     ensures { (segments : List Chain) (segment : Chain) (now : ℕ)
-        → IsAnswer segments segment now (answer_to segments segment now) }
+        → IsRegisterAnswer segments segment now (answer_to segments segment now) }
 {}
 
 /// Registering a segment keeps all that is there and adds nothing else.
@@ -32,7 +32,7 @@ pub fn registering_adds_the_segment_alone()
 pub fn sweeps_keep_the_live()
     ensures kept { (segments : List Chain) (now : ℕ) (segment : Chain)
         → Contains (swept segments now) segment
-        ↔ (Contains segments segment × AreLive segment now) }
+        ↔ (Contains segments segment × IsChainLive segment now) }
     ensures again { (segments : List Chain) (now : ℕ) → swept (swept segments now) now
         ≡ swept segments now }
     ensures none { (segments : List Chain) (now : ℕ) → expired_count (swept segments now) now ≡ 0 }
@@ -50,7 +50,7 @@ pub fn stores_are_bounded()
 /// Further operations start from the store that the operations before made.
 pub fn stores_go_on()
     ensures { (operations more : List Operation) → store_of (operations ++ more)
-        ≡ fold after (store_of operations) more }
+        ≡ fold after_operation (store_of operations) more }
 {}
 
 /// What a lookup returns.

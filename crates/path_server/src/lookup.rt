@@ -5,7 +5,7 @@ ghost use Rattle.std.specs.List.{flat_map};
 ghost use Rattle.std.specs.List.Sorted.{IsStrictlyIncreasing};
 ghost use Rattle.path_segment.specs.Tests.{is_live};
 ghost use Rattle.path_server.specs.Index.{IsIndex, segments_at, passes_at, either_way, is_in};
-ghost use Rattle.path_server.specs.Lookup.{ends_in, is_reached, joins};
+ghost use Rattle.path_server.specs.Lookup.{is_intra_to, is_reached, joins};
 
 use crate::ends::Ends;
 use crate::index::range;
@@ -53,7 +53,7 @@ pub(crate) fn ending_in(
     now: u32,
 ) -> Result<Vec<Segment>, AllocError>
     requires { IsIndex segments.now index.now }
-    ensures { IfOk result (λ found. found.items ≡ filter (ends_in ia now) segments.now) }
+    ensures { IfOk result (λ found. found.items ≡ filter (is_intra_to ia now) segments.now) }
 {
     let last = ia.number();
     let low = Ends::new(SegKind::Intra, 0, last);

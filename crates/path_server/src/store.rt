@@ -2,7 +2,7 @@ ghost use Rattle.std.specs.Prelude.{◌≡◌, ◌↔◌, [], ◌∷◌, ◌++�
 ghost use Rattle.path_segment.specs.Tests.{is_live};
 ghost use Rattle.path_server.specs.Fault.{Registers};
 ghost use Rattle.path_server.specs.Index.{IsIndex};
-ghost use Rattle.path_server.specs.Store.{answer_to, registered, swept, expired_count, after, TakesIn};
+ghost use Rattle.path_server.specs.Store.{answer_to, registered, swept, expired_count, after_operation, TakesIn};
 ghost use Rattle.path_server.specs.Lookup.{segments_for};
 
 use crate::ends::Ends;
@@ -140,7 +140,7 @@ impl PathStore {
     /// Running out of memory is possible only if a new segment was to be stored, since the store
     /// keeps a copy of it.
     pub fn apply(&mut self, alloc: Global, operation: &StoreOp) -> Result<(), AllocError>
-        ensures done { OnOk result (self.new ≡ after self.old operation.now) }
+        ensures done { OnOk result (self.new ≡ after_operation self.old operation.now) }
         ensures kept { OnErr result (self.new ≡ self.old) }
         ensures wanted { OnErr result (TakesIn operation.now self.old) }
     {

@@ -10,7 +10,7 @@ use Rattle.path_segment.specs.declared.entry.Entry.{Entry}
 use Rattle.policy_expr.specs.declared.hop.WalkHop.{WalkHop}
 use Rattle.path_segment.specs.Chain.{as_at}
 use Rattle.path_verifier.specs.Piece.{PieceValue, HasRange, travelled, begins_in, ends_in}
-use Rattle.path_verifier.specs.Walk.{hop_of, hops_of, left_by, entered_by, joined, walk_of}
+use Rattle.path_verifier.specs.Walk.{hop_of, hops_of, left_by, entered_by, walk_with, walk_of}
 use Rattle.path_verifier.specs.Accepted.{DoBeginIn, DoEndIn, MakesPath}
 use Rattle.path_verifier.proofs.Entries.{length_travelled}
 
@@ -32,11 +32,11 @@ ases-entered_by : (way : ℕ) (hops : List WalkHop) → ases (entered_by way hop
 ases-entered_by way [] = refl
 ases-entered_by way (hop ∷ later) = refl
 
-pub joined_none : (hops : List WalkHop) → joined [] hops ≡ hops
+pub joined_none : (hops : List WalkHop) → walk_with [] hops ≡ hops
 joined_none [] = refl
 joined_none (hop ∷ later) = refl
 
-ases-joined : (walk hops : List WalkHop) → 0 < length walk → ases (joined walk hops) ≡ ases walk ++ drop 1 (ases hops)
+ases-joined : (walk hops : List WalkHop) → 0 < length walk → ases (walk_with walk hops) ≡ ases walk ++ drop 1 (ases hops)
 ases-joined walk [] some = sym (append-nil (ases walk))
 ases-joined [] (hop ∷ later) some = absurd (omega arith)
 ases-joined (first ∷ rest) (hop ∷ later) some =
@@ -84,37 +84,37 @@ last_append xs ys two =
     ap (λ k. get_or (xs ++ drop 1 ys) k 0) place ∙ get_or-append-add xs (drop 1 ys) (length ys - 2) 0 ∙ get_or-drop 1 ys (length ys - 2) 0
     ∙ ap (λ k. get_or ys k 0) behind
 
-some_joined : (walk hops : List WalkHop) → 0 < length walk → 0 < length (joined walk hops)
+some_joined : (walk hops : List WalkHop) → 0 < length walk → 0 < length (walk_with walk hops)
 some_joined walk hops some =
-    let same : length (ases (joined walk hops)) ≡ length (ases walk) + length (drop 1 (ases hops)) = rw (ases-joined walk hops some) (length-append (ases walk) (drop 1 (ases hops))) in
+    let same : length (ases (walk_with walk hops)) ≡ length (ases walk) + length (drop 1 (ases hops)) = rw (ases-joined walk hops some) (length-append (ases walk) (drop 1 (ases hops))) in
     let long = length-map walk (λ (h : WalkHop). h.ia) in
-    let longer = length-map (joined walk hops) (λ (h : WalkHop). h.ia) in
+    let longer = length-map (walk_with walk hops) (λ (h : WalkHop). h.ia) in
     omega arith
 
-some_fold : (walk : List WalkHop) (pieces : List PieceValue) → 0 < length walk → 0 < length (ases (fold joined walk (map hops_of pieces)))
+some_fold : (walk : List WalkHop) (pieces : List PieceValue) → 0 < length walk → 0 < length (ases (fold walk_with walk (map hops_of pieces)))
 some_fold walk [] some = rw (length-map walk (λ (h : WalkHop). h.ia)) some
-some_fold walk (piece ∷ pieces) some = some_fold (joined walk (hops_of piece)) pieces (some_joined walk (hops_of piece) some)
+some_fold walk (piece ∷ pieces) some = some_fold (walk_with walk (hops_of piece)) pieces (some_joined walk (hops_of piece) some)
 
-begins_still : (walk : List WalkHop) (pieces : List PieceValue) → 0 < length walk → first_in (ases (fold joined walk (map hops_of pieces))) ≡ first_in (ases walk)
+begins_still : (walk : List WalkHop) (pieces : List PieceValue) → 0 < length walk → first_in (ases (fold walk_with walk (map hops_of pieces))) ≡ first_in (ases walk)
 begins_still walk [] some = refl
 begins_still walk (piece ∷ pieces) some =
     let long = length-map walk (λ (h : WalkHop). h.ia) in
-    begins_still (joined walk (hops_of piece)) pieces (some_joined walk (hops_of piece) some)
+    begins_still (walk_with walk (hops_of piece)) pieces (some_joined walk (hops_of piece) some)
     ∙ ap first_in (ases-joined walk (hops_of piece) some) ∙ first_append (ases walk) (drop 1 (ases (hops_of piece))) (omega arith)
 
 ends_at_last : (walk : List WalkHop) (piece : PieceValue) (pieces : List PieceValue) (dst : ℕ) → 0 < length walk → last_in (ases walk) ≡ ends_in piece
-    → AllByRecursion HasRange pieces → DoEndIn dst (piece ∷ pieces) → last_in (ases (fold joined walk (map hops_of pieces))) ≡ dst
+    → AllByRecursion HasRange pieces → DoEndIn dst (piece ∷ pieces) → last_in (ases (fold walk_with walk (map hops_of pieces))) ≡ dst
 ends_at_last walk piece [] dst some last ranges end = last ∙ end
 ends_at_last walk piece (next ∷ pieces) dst some last ranges end =
-    ends_at_last (joined walk (hops_of next)) next pieces dst (some_joined walk (hops_of next) some)
+    ends_at_last (walk_with walk (hops_of next)) next pieces dst (some_joined walk (hops_of next) some)
     (ap last_in (ases-joined walk (hops_of next) some) ∙ last_append (ases walk) (ases (hops_of next)) (two_ases next ranges.0) ∙ ends next)
     ranges.1 end
 
-ases-walk_of : (pieces : List PieceValue) → ases (walk_of pieces) ≡ ases (fold joined [] (map hops_of pieces))
+ases-walk_of : (pieces : List PieceValue) → ases (walk_of pieces) ≡ ases (fold walk_with [] (map hops_of pieces))
 unfolding walk_of
-ases-walk_of pieces = ases-left_by 0 (entered_by 0 (fold joined [] (map hops_of pieces))) ∙ ases-entered_by 0 (fold joined [] (map hops_of pieces))
+ases-walk_of pieces = ases-left_by 0 (entered_by 0 (fold walk_with [] (map hops_of pieces))) ∙ ases-entered_by 0 (fold walk_with [] (map hops_of pieces))
 
-some_hops : (piece : PieceValue) → HasRange piece → 0 < length (joined [] (hops_of piece))
+some_hops : (piece : PieceValue) → HasRange piece → 0 < length (walk_with [] (hops_of piece))
 some_hops piece range =
     let two = two_ases piece range in
     let long = length-map (hops_of piece) (λ (h : WalkHop). h.ia) in
@@ -123,19 +123,19 @@ some_hops piece range =
 pub walk_begins : (pieces : List PieceValue) (src : ℕ) → AllByRecursion HasRange pieces → DoBeginIn src pieces → first_in (ases (walk_of pieces)) ≡ src
 walk_begins [] src ranges begin = absurd begin
 walk_begins (piece ∷ pieces) src ranges begin =
-    ap first_in (ases-walk_of (piece ∷ pieces)) ∙ begins_still (joined [] (hops_of piece)) pieces (some_hops piece ranges.0)
+    ap first_in (ases-walk_of (piece ∷ pieces)) ∙ begins_still (walk_with [] (hops_of piece)) pieces (some_hops piece ranges.0)
     ∙ ap (λ hops. first_in (ases hops)) (joined_none (hops_of piece)) ∙ begins piece ∙ begin
 
 pub walk_ends : (pieces : List PieceValue) (dst : ℕ) → AllByRecursion HasRange pieces → DoEndIn dst pieces → last_in (ases (walk_of pieces)) ≡ dst
 walk_ends [] dst ranges end = absurd end
 walk_ends (piece ∷ pieces) dst ranges end =
     ap last_in (ases-walk_of (piece ∷ pieces))
-    ∙ ends_at_last (joined [] (hops_of piece)) piece pieces dst (some_hops piece ranges.0) (ap (λ hops. last_in (ases hops)) (joined_none (hops_of piece)) ∙ ends piece) ranges.1 end
+    ∙ ends_at_last (walk_with [] (hops_of piece)) piece pieces dst (some_hops piece ranges.0) (ap (λ hops. last_in (ases hops)) (joined_none (hops_of piece)) ∙ ends piece) ranges.1 end
 
 some_walk : (pieces : List PieceValue) (dst : ℕ) → 0 < length pieces → AllByRecursion HasRange pieces → 0 < length (ases (walk_of pieces))
 some_walk [] dst some ranges = absurd (omega arith)
 some_walk (piece ∷ pieces) dst some ranges =
-    rw (ases-walk_of (piece ∷ pieces)) (some_fold (joined [] (hops_of piece)) pieces (some_hops piece ranges.0))
+    rw (ases-walk_of (piece ∷ pieces)) (some_fold (walk_with [] (hops_of piece)) pieces (some_hops piece ranges.0))
 
 pub path_begins : (pieces : List PieceValue) (src dst now : ℕ) → MakesPath pieces src dst now → slice_get (ases (walk_of pieces)) 0 ≡ Some src
 path_begins pieces src dst now path =

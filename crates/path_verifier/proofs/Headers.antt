@@ -13,7 +13,7 @@ use Rattle.path_verifier.specs.declared.pieces.PieceSlots.{PieceSlots}
 use Rattle.path_verifier.specs.declared.pieces.PieceSlots.TheVariants.{Zero, One, Two, Three}
 use Rattle.path_verifier.specs.PieceSlots.{pieces_in}
 use Rattle.path_verifier.specs.Piece.{PieceValue, HasRange, travelled}
-use Rattle.path_verifier.specs.Header.{field_of, fields_of, info_of, len_of, hop_count, header_of, HaveSixBits}
+use Rattle.path_verifier.specs.Header.{field_of, fields_of, info_of, len_of, total_hops, header_of, HaveSixBits}
 use Rattle.path_verifier.specs.Accepted.{MakesPath}
 use Rattle.path_verifier.proofs.Entries.{length_travelled}
 use Rattle.path_verifier.proofs.Lengths.{path_is_short}
@@ -37,7 +37,7 @@ length-pieces_in (Three a b c) = omega arith
 some_of : (piece : PieceValue) → HasRange piece → 0 < len_of piece
 some_of piece range = let count = length_travelled piece range in let order = range.order in omega arith
 
-pub is_header : (pieces : List PieceValue) → 0 < length pieces → length pieces ≤ 3 → AllByRecursion HasRange pieces → hop_count pieces ≤ 64
+pub is_header : (pieces : List PieceValue) → 0 < length pieces → length pieces ≤ 3 → AllByRecursion HasRange pieces → total_hops pieces ≤ 64
     → HaveSixBits (lens_from (map len_of pieces)) → IsHeader (first_header (lens_from (map len_of pieces)) (map info_of pieces) (flat_map fields_of pieces))
 is_header [] some three ranges few bits = absurd (omega arith)
 is_header (a ∷ []) some three ranges few bits =

@@ -6,7 +6,7 @@ use Rattle.std.proofs.lemmas.Option.{slice_get-map, same_Some}
 use Rattle.path_segment.specs.declared.entry.Entry.{Entry}
 use Rattle.policy_expr.specs.declared.hop.WalkHop.{WalkHop}
 use Rattle.path_verifier.specs.Piece.{PieceValue, travelled}
-use Rattle.path_verifier.specs.Walk.{hop_of, hops_of, left_by, met, joined}
+use Rattle.path_verifier.specs.Walk.{hop_of, hops_of, left_by, met, walk_with}
 use Rattle.path_verifier.specs.Header.{len_of}
 
 pub hop_there : (piece : PieceValue) (i : ℕ) (entry : Entry) (hop : WalkHop) → slice_get (travelled piece) i ≡ Some entry → hop ≡ hop_of piece.along entry
@@ -41,5 +41,5 @@ pub length_later : (walk : List WalkHop) (piece : PieceValue) → length (walk +
 length_later walk piece = simp (length-append, length-drop, length_hops_of) refl
 
 pub joined_from : (walk : List WalkHop) (piece : PieceValue) (hop : WalkHop) → slice_get (hops_of piece) 0 ≡ Some hop
-    → met walk hop ++ drop 1 (hops_of piece) ≡ joined walk (hops_of piece)
+    → met walk hop ++ drop 1 (hops_of piece) ≡ walk_with walk (hops_of piece)
 joined_from walk piece hop there = rw (drop_at (hops_of piece) 0 hop there) refl

@@ -8,15 +8,15 @@ use Rattle.policy_expr.specs.declared.hop.WalkHop.{WalkHop}
 use Rattle.path_verifier.specs.declared.kind.PieceKind.{PieceKind}
 use Rattle.path_verifier.specs.declared.kind.PieceKind.TheVariants.{Up, Core, Down}
 use Rattle.path_verifier.specs.Piece.{PieceValue, HasRange, kind_of}
-use Rattle.path_verifier.specs.Walk.{hops_of, left_by, entered_by, joined, walk_of}
-use Rattle.path_verifier.specs.Header.{len_of, hop_count}
+use Rattle.path_verifier.specs.Walk.{hops_of, left_by, entered_by, walk_with, walk_of}
+use Rattle.path_verifier.specs.Header.{len_of, total_hops}
 use Rattle.path_verifier.specs.Accepted.{MayAdjoin, DoAdjoin, MakesPath}
 use Rattle.path_verifier.proofs.Course.{two_ases, joined_none}
 use Rattle.path_verifier.proofs.Hops.{length_left_by, length_hops_of}
 
 -- ---- at most as many hops as hop fields
 
-length_joined : (walk hops : List WalkHop) → length (joined walk hops) ≤ length walk + length hops
+length_joined : (walk hops : List WalkHop) → length (walk_with walk hops) ≤ length walk + length hops
 length_joined walk [] = omega arith
 length_joined [] (hop ∷ later) = omega arith
 length_joined (first ∷ rest) (hop ∷ later) =
@@ -24,10 +24,10 @@ length_joined (first ∷ rest) (hop ∷ later) =
     let count = length-append (left_by hop.egress (first ∷ rest)) later in
     omega arith
 
-length_folded : (walk : List WalkHop) (pieces : List PieceValue) → length (fold joined walk (map hops_of pieces)) ≤ length walk + hop_count pieces
+length_folded : (walk : List WalkHop) (pieces : List PieceValue) → length (fold walk_with walk (map hops_of pieces)) ≤ length walk + total_hops pieces
 length_folded walk [] = omega arith
 length_folded walk (piece ∷ pieces) =
-    let more = length_folded (joined walk (hops_of piece)) pieces in
+    let more = length_folded (walk_with walk (hops_of piece)) pieces in
     let one = length_joined walk (hops_of piece) in
     let count = length_hops_of piece in
     let total = sum_by-cons len_of piece pieces in
@@ -37,13 +37,13 @@ length_entered : (way : ℕ) (hops : List WalkHop) → length (entered_by way ho
 length_entered way [] = refl
 length_entered way (hop ∷ later) = refl
 
-length_walk_of : (pieces : List PieceValue) → length (walk_of pieces) ≡ length (fold joined [] (map hops_of pieces))
+length_walk_of : (pieces : List PieceValue) → length (walk_of pieces) ≡ length (fold walk_with [] (map hops_of pieces))
 unfolding walk_of
 length_walk_of pieces =
-    let hops = fold joined [] (map hops_of pieces) in
+    let hops = fold walk_with [] (map hops_of pieces) in
     length_left_by 0 (entered_by 0 hops) ∙ length_entered 0 hops
 
-pub walk_is_short : (pieces : List PieceValue) → length (walk_of pieces) ≤ hop_count pieces
+pub walk_is_short : (pieces : List PieceValue) → length (walk_of pieces) ≤ total_hops pieces
 walk_is_short pieces =
     let a = length_walk_of pieces in
     let c = length_folded [] pieces in
@@ -51,7 +51,7 @@ walk_is_short pieces =
 
 -- ---- at least two
 
-longer_joined : (walk hops : List WalkHop) → length walk ≤ length (joined walk hops)
+longer_joined : (walk hops : List WalkHop) → length walk ≤ length (walk_with walk hops)
 longer_joined walk [] = omega arith
 longer_joined [] (hop ∷ later) = omega arith
 longer_joined (first ∷ rest) (hop ∷ later) =
@@ -59,20 +59,20 @@ longer_joined (first ∷ rest) (hop ∷ later) =
     let count = length-append (left_by hop.egress (first ∷ rest)) later in
     omega arith
 
-longer_folded : (walk : List WalkHop) (pieces : List PieceValue) → length walk ≤ length (fold joined walk (map hops_of pieces))
+longer_folded : (walk : List WalkHop) (pieces : List PieceValue) → length walk ≤ length (fold walk_with walk (map hops_of pieces))
 longer_folded walk [] = omega arith
 longer_folded walk (piece ∷ pieces) =
-    let more = longer_folded (joined walk (hops_of piece)) pieces in
+    let more = longer_folded (walk_with walk (hops_of piece)) pieces in
     let one = longer_joined walk (hops_of piece) in
     omega arith
 
-some_pieces : (pieces : List PieceValue) → 0 < length pieces → AllByRecursion HasRange pieces → 2 ≤ length (fold joined [] (map hops_of pieces))
+some_pieces : (pieces : List PieceValue) → 0 < length pieces → AllByRecursion HasRange pieces → 2 ≤ length (fold walk_with [] (map hops_of pieces))
 some_pieces [] some ranges = absurd (omega arith)
 some_pieces (piece ∷ pieces) some ranges =
     let two = two_ases piece ranges.0 in
     let long = length-map (hops_of piece) (λ (h : WalkHop). h.ia) in
     let first = ap (λ (hops : List WalkHop). length hops) (joined_none (hops_of piece)) in
-    let more = longer_folded (joined [] (hops_of piece)) pieces in
+    let more = longer_folded (walk_with [] (hops_of piece)) pieces in
     omega arith
 
 pub walk_is_long : (pieces : List PieceValue) (src dst now : ℕ) → MakesPath pieces src dst now → 2 ≤ length (walk_of pieces)

@@ -3,7 +3,7 @@ use Rattle.std.proofs.Common.{◌≡◌, ◌+◌, ◌≤◌, List, [], ◌∷◌
 use Rattle.std.proofs.lemmas.List.{length-reverse, length-map}
 use Rattle.std.proofs.lemmas.List.Sums.{sum_by-append, sum_by-cons}
 use Rattle.path_verifier.specs.Piece.{PieceValue, HasRange}
-use Rattle.path_verifier.specs.Header.{len_of, hop_count}
+use Rattle.path_verifier.specs.Header.{len_of, total_hops}
 use Rattle.path_verifier.specs.Turned.{turned_piece, turned_pieces}
 use Rattle.path_verifier.proofs.Entries.{length_travelled}
 use Rattle.path_verifier.proofs.Turned.{reverse_cons, len_turned}
@@ -20,14 +20,14 @@ turned_pieces_cons : (piece : PieceValue) (pieces : List PieceValue)
     → turned_pieces (piece ∷ pieces) ≡ turned_pieces pieces ++ turned_piece piece ∷ []
 turned_pieces_cons piece pieces = reverse_cons (turned_piece piece) (map turned_piece pieces)
 
-pub count_turned : (pieces : List PieceValue) → hop_count (turned_pieces pieces) ≡ hop_count pieces
+pub count_turned : (pieces : List PieceValue) → total_hops (turned_pieces pieces) ≡ total_hops pieces
 count_turned [] = refl
 count_turned (piece ∷ pieces) =
-    let split : hop_count (turned_pieces (piece ∷ pieces)) ≡ hop_count
-    (turned_pieces pieces) + hop_count (turned_piece piece ∷ []) =
-    ap hop_count (turned_pieces_cons piece pieces)
+    let split : total_hops (turned_pieces (piece ∷ pieces)) ≡ total_hops
+    (turned_pieces pieces) + total_hops (turned_piece piece ∷ []) =
+    ap total_hops (turned_pieces_cons piece pieces)
     ∙ sum_by-append len_of (turned_pieces pieces) (turned_piece piece ∷ []) in
-    let one : hop_count (turned_piece piece ∷ []) ≡ len_of (turned_piece piece) + 0 =
+    let one : total_hops (turned_piece piece ∷ []) ≡ len_of (turned_piece piece) + 0 =
     sum_by-cons len_of (turned_piece piece) [] in
     let same = len_turned piece in
     let rest = count_turned pieces in

@@ -8,7 +8,7 @@ use Rattle.path_segment.specs.declared.entry.Entry.{Entry}
 use Rattle.policy_expr.specs.declared.hop.WalkHop.{WalkHop}
 use Rattle.path_segment.specs.Chain.{as_at}
 use Rattle.path_verifier.specs.Piece.{PieceValue, travelled, begins_in, ends_in}
-use Rattle.path_verifier.specs.Walk.{hop_of, hops_of, left_by, entered_by, met, joined, walk_of}
+use Rattle.path_verifier.specs.Walk.{hop_of, hops_of, left_by, entered_by, met, walk_with, walk_of}
 use Rattle.path_verifier.specs.Accepted.{DoMeet, NamesOnce}
 use Rattle.path_verifier.proofs.Hops.{length_hops_of, length_left_by}
 use Rattle.path_verifier.specs.Turned.{turned_piece, turned_pieces, turned_hop, turned_walk}
@@ -78,7 +78,7 @@ abbrev first_as : List WalkHop → ℕ
 first_as [] = 0
 first_as (hop ∷ later) = hop.ia
 
-joined_none : (hops : List WalkHop) → joined [] hops ≡ hops
+joined_none : (hops : List WalkHop) → walk_with [] hops ≡ hops
 joined_none [] = refl
 joined_none (hop ∷ later) = refl
 
@@ -97,7 +97,7 @@ first_append [] b some = absurd (omega arith)
 first_append (hop ∷ a) b some = refl
 
 first_joined : (walk hops : List WalkHop) → 0 < length walk
-    → first_as (joined walk hops) ≡ first_as walk
+    → first_as (walk_with walk hops) ≡ first_as walk
 first_joined walk [] some = refl
 first_joined walk (hop ∷ later) some =
     let same = length_left_by hop.egress walk in
@@ -105,11 +105,11 @@ first_joined walk (hop ∷ later) some =
     ap (λ (hs : List WalkHop). first_as (hs ++ later)) (met_some walk hop some)
     ∙ first_append (left_by hop.egress walk) later still ∙ first_left hop.egress walk
 
-some_joined : (walk hops : List WalkHop) → 0 < length walk → 0 < length (joined walk hops)
+some_joined : (walk hops : List WalkHop) → 0 < length walk → 0 < length (walk_with walk hops)
 some_joined walk [] some = some
 some_joined walk (hop ∷ later) some =
     let same = length_left_by hop.egress walk in
-    let is : length (joined walk (hop ∷ later)) ≡ length (left_by hop.egress walk) + length later =
+    let is : length (walk_with walk (hop ∷ later)) ≡ length (left_by hop.egress walk) + length later =
     ap (λ (hs : List WalkHop). length (hs ++ later)) (met_some walk hop some)
     ∙ length-append (left_by hop.egress walk) later in
     omega arith
@@ -120,7 +120,7 @@ meeting x y same = ap (λ ia. record { ia = ia; ingress = y.egress; egress = x.e
 
 turned_joined_at : (walk back later : List WalkHop) (x y : WalkHop) → 0 < length walk
     → turned_walk walk ≡ x ∷ back → x.ia ≡ y.ia
-    → turned_walk (joined walk (y ∷ later)) ≡ joined (turned_walk (y ∷ later)) (turned_walk walk)
+    → turned_walk (walk_with walk (y ∷ later)) ≡ walk_with (turned_walk (y ∷ later)) (turned_walk walk)
 turned_joined_at walk back later x y some is same =
     let front = turned_walk later in
     let count = length-append front (turned_hop y ∷ []) in
@@ -134,18 +134,18 @@ turned_joined_at walk back later x y some is same =
     ∙ ap (λ (hs : List WalkHop). hs ++ back) (sym (left_append x.egress front (turned_hop y) []))
     ∙ ap (λ (hs : List WalkHop). hs ++ back)
     (sym (met_some (front ++ turned_hop y ∷ []) x some_front))
-    ∙ ap (λ (hs : List WalkHop). joined hs (x ∷ back)) (sym (turned_cons y later))
-    ∙ ap (λ (hs : List WalkHop). joined (turned_walk (y ∷ later)) hs) (sym is)
+    ∙ ap (λ (hs : List WalkHop). walk_with hs (x ∷ back)) (sym (turned_cons y later))
+    ∙ ap (λ (hs : List WalkHop). walk_with (turned_walk (y ∷ later)) hs) (sym is)
 
 -- joined hops the other way are the others joined with the ones
 turned_joined : (walk hops : List WalkHop) → 0 < length walk → 0 < length hops
     → first_as (turned_walk walk) ≡ first_as hops
-    → turned_walk (joined walk hops) ≡ joined (turned_walk hops) (turned_walk walk)
+    → turned_walk (walk_with walk hops) ≡ walk_with (turned_walk hops) (turned_walk walk)
 turned_joined walk [] some some_hops same = absurd (omega arith)
 turned_joined walk (y ∷ later) some some_hops same = go (turned_walk walk) refl
   where
     go : (back : List WalkHop) → turned_walk walk ≡ back
-        → turned_walk (joined walk (y ∷ later)) ≡ joined (turned_walk (y ∷ later))
+        → turned_walk (walk_with walk (y ∷ later)) ≡ walk_with (turned_walk (y ∷ later))
         (turned_walk walk)
     go [] is =
         absurd (let count = length_turned walk in let none =
@@ -160,7 +160,7 @@ left_twice p q (h ∷ g ∷ f ∷ later) =
     ap (λ (hs : List WalkHop). h ∷ hs) (left_twice p q (g ∷ f ∷ later))
 
 joined_assoc : (a b c : List WalkHop) → 0 < length a → 0 < length b
-    → joined a (joined b c) ≡ joined (joined a b) c
+    → walk_with a (walk_with b c) ≡ walk_with (walk_with a b) c
 joined_assoc a b [] some_a some_b = refl
 joined_assoc a [] (z ∷ c) some_a some_b = absurd (omega arith)
 joined_assoc a (y ∷ []) (z ∷ c) some_a some_b =
@@ -203,7 +203,7 @@ adjoin piece next meet = ap first_as (sym (hops_turned piece)) ∙ first_hops (t
     ∙ begins_turned piece ∙ meet ∙ sym (first_hops next)
 
 abbrev over : List (List WalkHop) → List WalkHop
-over hops = left_by 0 (entered_by 0 (fold joined [] hops))
+over hops = left_by 0 (entered_by 0 (fold walk_with [] hops))
 
 -- the walk of the pieces of the way back
 pub walk_turned : (pieces : List PieceValue) → length pieces ≤ 3 → AllByRecursion IsLong pieces
@@ -222,10 +222,10 @@ walk_turned (a ∷ b ∷ []) three long meet =
     let both = turned_joined x y (some_hops a long.0) (some_hops b long.1.0) (adjoin a b meet.0) in
     ap (λ (hs : List WalkHop). over (hs ∷ hops_of (turned_piece a) ∷ [])) (hops_turned b)
     ∙ ap (λ (hs : List WalkHop). over (turned_walk y ∷ hs ∷ [])) (hops_turned a)
-    ∙ ap (λ (hs : List WalkHop). left_by 0 (entered_by 0 (joined hs (turned_walk x))))
+    ∙ ap (λ (hs : List WalkHop). left_by 0 (entered_by 0 (walk_with hs (turned_walk x))))
     (joined_none (turned_walk y))
-    ∙ sym (ap (λ (hs : List WalkHop). turned_walk (left_by 0 (entered_by 0 (joined hs y))))
-    (joined_none x) ∙ turned_ends (joined x y)
+    ∙ sym (ap (λ (hs : List WalkHop). turned_walk (left_by 0 (entered_by 0 (walk_with hs y))))
+    (joined_none x) ∙ turned_ends (walk_with x y)
     ∙ ap (λ (hs : List WalkHop). left_by 0 (entered_by 0 hs)) both)
 walk_turned (a ∷ b ∷ c ∷ []) three long meet =
     let x = hops_of a in
@@ -239,12 +239,12 @@ walk_turned (a ∷ b ∷ c ∷ []) three long meet =
     let some_ty : 0 < length (turned_walk y) = omega arith in
     let some_tz : 0 < length (turned_walk z) = omega arith in
     let two = turned_joined x y some_x some_y (adjoin a b meet.0) in
-    let seam : first_as (turned_walk (joined x y)) ≡ first_as z = ap first_as two
+    let seam : first_as (turned_walk (walk_with x y)) ≡ first_as z = ap first_as two
     ∙ first_joined (turned_walk y) (turned_walk x) some_ty ∙ adjoin b c meet.1.0 in
-    let three_joined = turned_joined (joined x y) z (some_joined x y some_x) some_z seam in
-    let whole : turned_walk (joined (joined x y) z) ≡ joined
-    (joined (turned_walk z) (turned_walk y)) (turned_walk x) =
-    three_joined ∙ ap (joined (turned_walk z)) two
+    let three_joined = turned_joined (walk_with x y) z (some_joined x y some_x) some_z seam in
+    let whole : turned_walk (walk_with (walk_with x y) z) ≡ walk_with
+    (walk_with (turned_walk z) (turned_walk y)) (turned_walk x) =
+    three_joined ∙ ap (walk_with (turned_walk z)) two
     ∙ joined_assoc (turned_walk z) (turned_walk y) (turned_walk x) some_tz some_ty in
     ap (λ (hs : List WalkHop). over (hs ∷ hops_of (turned_piece b) ∷ hops_of (turned_piece a) ∷ []))
     (hops_turned c)
@@ -252,11 +252,11 @@ walk_turned (a ∷ b ∷ c ∷ []) three long meet =
     (hops_turned b)
     ∙ ap (λ (hs : List WalkHop). over (turned_walk z ∷ turned_walk y ∷ hs ∷ [])) (hops_turned a)
     ∙ ap (λ (hs : List WalkHop). left_by 0
-    (entered_by 0 (joined (joined hs (turned_walk y)) (turned_walk x))))
+    (entered_by 0 (walk_with (walk_with hs (turned_walk y)) (turned_walk x))))
     (joined_none (turned_walk z))
     ∙ sym (ap
-    (λ (hs : List WalkHop). turned_walk (left_by 0 (entered_by 0 (joined (joined hs y) z))))
-    (joined_none x) ∙ turned_ends (joined (joined x y) z)
+    (λ (hs : List WalkHop). turned_walk (left_by 0 (entered_by 0 (walk_with (walk_with hs y) z))))
+    (joined_none x) ∙ turned_ends (walk_with (walk_with x y) z)
     ∙ ap (λ (hs : List WalkHop). left_by 0 (entered_by 0 hs)) whole)
 walk_turned (a ∷ b ∷ c ∷ d ∷ more) three long meet = absurd (omega arith)
 

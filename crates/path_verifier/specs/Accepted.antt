@@ -13,7 +13,7 @@ use Rattle.path_verifier.specs.declared.fault.VerifyFault.TheVariants.{PieceCoun
 use Rattle.path_verifier.specs.Fault.{code_of}
 use Rattle.path_verifier.specs.Piece.{PieceValue, HasRange, kind_of, entries_of, begins_in, ends_in}
 use Rattle.path_verifier.specs.Walk.{walk_of}
-use Rattle.path_verifier.specs.Header.{hop_count, header_of}
+use Rattle.path_verifier.specs.Header.{total_hops, header_of}
 
 -- the piece is a core piece
 abbrev pub IsCore : PieceValue → Type 0
@@ -78,7 +78,7 @@ pub record MakesPath (pieces : List PieceValue) (src dst now : ℕ) : Type 0 whe
   pub meet : DoMeet pieces
   pub source : DoBeginIn src pieces
   pub destination : DoEndIn dst pieces
-  pub few : hop_count pieces ≤ 64
+  pub few : total_hops pieces ≤ 64
   pub once : NamesOnce (walk_of pieces)
   pub live : AreLive now pieces
 
@@ -112,7 +112,7 @@ Keeps request CutAtCore = AreCutWell request.pieces
 Keeps request NotJoined = DoMeet request.pieces
 Keeps request Source = DoBeginIn request.src request.pieces
 Keeps request Destination = DoEndIn request.dst request.pieces
-Keeps request TooManyHops = hop_count request.pieces ≤ 64
+Keeps request TooManyHops = total_hops request.pieces ≤ 64
 Keeps request Loop = NamesOnce (walk_of request.pieces)
 Keeps request Expired = AreLive request.moment request.pieces
 Keeps request HeaderDiffers = request.header ≡ header_of request.pieces

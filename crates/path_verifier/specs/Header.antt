@@ -28,8 +28,8 @@ abbrev pub len_of : PieceValue → ℕ
 len_of piece = length (travelled piece)
 
 -- the number of hop fields of all pieces together
-abbrev pub hop_count : List PieceValue → ℕ
-hop_count pieces = sum_by len_of pieces
+abbrev pub total_hops : List PieceValue → ℕ
+total_hops pieces = sum_by len_of pieces
 
 -- the header of these pieces, with the packet at the first info and hop field
 unfoldable pub header_of : List PieceValue → HeaderValue

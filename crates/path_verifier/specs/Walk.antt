@@ -38,13 +38,13 @@ met (first ∷ later) hop = left_by hop.egress (first ∷ later)
 
 -- a walk that continues with these hops: the AS in which they meet becomes one hop, with the way in
 -- of the walk and the way out of the first hop
-abbrev pub joined : List WalkHop → List WalkHop → List WalkHop
-joined walk [] = walk
-joined walk (hop ∷ later) = met walk hop ++ later
+abbrev pub walk_with : List WalkHop → List WalkHop → List WalkHop
+walk_with walk [] = walk
+walk_with walk (hop ∷ later) = met walk hop ++ later
 
 -- the hops of all pieces, joined where the pieces meet
 abbrev pub joined_hops : List PieceValue → List WalkHop
-joined_hops pieces = fold joined [] (map hops_of pieces)
+joined_hops pieces = fold walk_with [] (map hops_of pieces)
 
 -- the walk of these pieces; its first way in and its last way out are 0
 unfoldable pub walk_of : List PieceValue → List WalkHop

@@ -4,7 +4,7 @@ ghost use Rattle.path_header.specs.Value.{IsHeader, lens_from};
 ghost use Rattle.path_header.specs.Building.{first_header};
 ghost use Rattle.path_verifier.specs.PieceSlots.{pieces_in};
 ghost use Rattle.path_verifier.specs.Piece.{HasRange};
-ghost use Rattle.path_verifier.specs.Header.{field_of, fields_of, info_of, header_of, len_of, hop_count, HaveSixBits};
+ghost use Rattle.path_verifier.specs.Header.{field_of, fields_of, info_of, header_of, len_of, total_hops, HaveSixBits};
 
 use crate::piece::Piece;
 use crate::pieces::PieceSlots;
@@ -17,7 +17,7 @@ use path_segment::Entry;
 pub(crate) fn header_of(held: &PieceSlots<'_>) -> Header
     requires some { 0 < length (pieces_in held.now) }
     requires ranges { AllByRecursion HasRange (pieces_in held.now) }
-    requires few { hop_count (pieces_in held.now) ≤ 64 }
+    requires few { total_hops (pieces_in held.now) ≤ 64 }
     ensures { result ≡ header_of (pieces_in held.now) }
 {
     built(lens_of(held), &infos_of(held), &fields_of_all(held))
@@ -94,7 +94,7 @@ fn info_of(piece: &Piece<'_>) -> InfoField
 /// The hop fields of all pieces.
 fn fields_of_all(held: &PieceSlots<'_>) -> ArrayVec<HopField, 64>
     requires ranges { AllByRecursion HasRange (pieces_in held.now) }
-    requires few { hop_count (pieces_in held.now) ≤ 64 }
+    requires few { total_hops (pieces_in held.now) ≤ 64 }
     ensures { result.items ≡ flat_map fields_of (pieces_in held.now) }
 {
     let mut fields = ArrayVec::new();

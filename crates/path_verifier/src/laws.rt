@@ -7,7 +7,7 @@ ghost use Rattle.policy_expr.specs.Policy.{Rules};
 ghost use Rattle.path_verifier.specs.declared.fault.VerifyFault.{VerifyFault};
 ghost use Rattle.path_verifier.specs.declared.fault.VerifyFault.TheVariants.{Expired};
 ghost use Rattle.path_verifier.specs.Piece.{PieceValue, HasRange, kind_of, travelled};
-ghost use Rattle.path_verifier.specs.Header.{field_of, fields_of, len_of, header_of, hop_count};
+ghost use Rattle.path_verifier.specs.Header.{field_of, fields_of, len_of, header_of, total_hops};
 ghost use Rattle.path_verifier.specs.Walk.{hop_of, hops_of, walk_of};
 ghost use Rattle.path_verifier.specs.Accepted.{AreLive, IsAccepted, IsExpiry, MakesPath, MayAdjoin, Request, request_of, IsRefused, Keeps};
 ghost use Rattle.path_verifier.specs.Turned.{turned_piece, turned_pieces, turned_walk};
@@ -42,7 +42,7 @@ pub fn live_up_to_expiry()
 pub fn walks_are_short()
     ensures least { (pieces : List PieceValue) (src dst now : ℕ) → MakesPath pieces src dst now
         → 2 ≤ length (walk_of pieces) }
-    ensures most { (pieces : List PieceValue) → length (walk_of pieces) ≤ hop_count pieces }
+    ensures most { (pieces : List PieceValue) → length (walk_of pieces) ≤ total_hops pieces }
 {}
 
 /// A path has at most three pieces. After an up piece comes a core or a down piece, after a core

@@ -8,7 +8,7 @@ ghost use Rattle.path_verifier.specs.declared.fault.VerifyFault.{VerifyFault};
 ghost use Rattle.path_verifier.specs.Fault.{code_of};
 ghost use Rattle.path_verifier.specs.PieceSlots.{pieces_in};
 ghost use Rattle.path_verifier.specs.Piece.{HasRange, kind_of, begins_in, ends_in};
-ghost use Rattle.path_verifier.specs.Header.{hop_count};
+ghost use Rattle.path_verifier.specs.Header.{total_hops};
 ghost use Rattle.path_verifier.specs.Accepted.{AreCutWell, AreLive, DoAdjoin, DoBeginIn, DoEndIn, DoMeet, IsCore, IsExpiry, MayAdjoin, request_of, Keeps, IsRefused};
 
 use crate::fault::VerifyFault;
@@ -29,7 +29,7 @@ pub(crate) fn check_shape(held: &PieceSlots<'_>, src: IsdAs, dst: IsdAs) -> Resu
         → IsRefused (request_of (pieces_in held.now) header src dst now rules) fault) }
     ensures some { OnOk result (0 < length (pieces_in held.now)) }
     ensures ranges { OnOk result (AllByRecursion HasRange (pieces_in held.now)) }
-    ensures few { OnOk result (hop_count (pieces_in held.now) ≤ 64) }
+    ensures few { OnOk result (total_hops (pieces_in held.now) ≤ 64) }
 {
     if held.is_empty() {
         return Err(VerifyFault::PieceCount);
@@ -52,7 +52,7 @@ pub(crate) fn check_shape(held: &PieceSlots<'_>, src: IsdAs, dst: IsdAs) -> Resu
     if !end_in(held, dst) {
         return Err(VerifyFault::Destination);
     }
-    if hop_count(held) > MAX_HOPS {
+    if total_hops(held) > MAX_HOPS {
         return Err(VerifyFault::TooManyHops);
     }
     Ok(())
@@ -219,9 +219,9 @@ fn end_in(held: &PieceSlots<'_>, dst: IsdAs) -> bool
 }
 
 /// The number of hop fields of all pieces together.
-fn hop_count(held: &PieceSlots<'_>) -> usize
+fn total_hops(held: &PieceSlots<'_>) -> usize
     requires { AllByRecursion HasRange (pieces_in held.now) }
-    ensures { result ≡ hop_count (pieces_in held.now) }
+    ensures { result ≡ total_hops (pieces_in held.now) }
 {
     match held {
         PieceSlots::Zero => 0,

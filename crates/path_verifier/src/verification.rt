@@ -4,7 +4,7 @@ ghost use Rattle.path_header.specs.Value.{HeaderValue};
 ghost use Rattle.policy_expr.specs.Policy.{AllowsHops, HasWord, Rules};
 ghost use Rattle.path_verifier.specs.PieceSlots.{pieces_in};
 ghost use Rattle.path_verifier.specs.Piece.{HasRange};
-ghost use Rattle.path_verifier.specs.Header.{header_of, hop_count};
+ghost use Rattle.path_verifier.specs.Header.{header_of, total_hops};
 ghost use Rattle.path_verifier.specs.Walk.{walk_of};
 ghost use Rattle.path_verifier.specs.declared.fault.VerifyFault.{VerifyFault};
 ghost use Rattle.path_verifier.specs.Fault.{code_of};
@@ -167,7 +167,7 @@ fn checked_walk(
         → IsRefused (request_of (pieces_in held.now) header src dst now rules) fault) }
     ensures some { OnOk result (0 < length (pieces_in held.now)) }
     ensures ranges { OnOk result (AllByRecursion HasRange (pieces_in held.now)) }
-    ensures few { OnOk result (hop_count (pieces_in held.now) ≤ 64) }
+    ensures few { OnOk result (total_hops (pieces_in held.now) ≤ 64) }
 {
     check_shape(held, src, dst)?;
     let walk = Walk::of(held);

@@ -2,8 +2,8 @@ ghost use Rattle.std.specs.Prelude.{◌≡◌, ◌↔◌, ◌+◌, ◌<◌, ◌�
 ghost use Rattle.std.specs.List.{AllByRecursion};
 ghost use Rattle.path_verifier.specs.PieceSlots.{pieces_in};
 ghost use Rattle.path_verifier.specs.Piece.{HasRange};
-ghost use Rattle.path_verifier.specs.Walk.{hop_of, hops_of, entered_by, left_by, met, joined, walk_of};
-ghost use Rattle.path_verifier.specs.Header.{len_of, hop_count};
+ghost use Rattle.path_verifier.specs.Walk.{hop_of, hops_of, entered_by, left_by, met, walk_with, walk_of};
+ghost use Rattle.path_verifier.specs.Header.{len_of, total_hops};
 ghost use Rattle.path_verifier.specs.Accepted.{NamesOnce};
 
 use crate::piece::Piece;
@@ -157,7 +157,7 @@ impl Walk {
     fn go_on(&mut self, piece: &Piece<'_>)
         requires range { HasRange piece.now }
         requires few { length self.old + len_of piece.now ≤ 64 }
-        ensures walk { self.new ≡ joined self.old (hops_of piece.now) }
+        ensures walk { self.new ≡ walk_with self.old (hops_of piece.now) }
         ensures few { length self.new ≤ length self.old + len_of piece.now }
     {
         self.meet(hop_at(piece, 0));
@@ -168,7 +168,7 @@ impl Walk {
     #[tactic(auto, unfolding(crate::specs::Walk::walk_of))]
     pub(crate) fn of(held: &PieceSlots<'_>) -> Walk
         requires ranges { AllByRecursion HasRange (pieces_in held.now) }
-        requires few { hop_count (pieces_in held.now) ≤ 64 }
+        requires few { total_hops (pieces_in held.now) ≤ 64 }
         ensures { result ≡ walk_of (pieces_in held.now) }
     {
         let mut walk = Walk::new();

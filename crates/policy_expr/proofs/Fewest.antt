@@ -3,7 +3,7 @@ use Rattle.std.proofs.Common.{◌≡◌, ℕ, ◌+◌, ◌≤◌, Bool, true, fa
 use Rattle.std.proofs.lemmas.Bool.{le-ltb}
 use Rattle.policy_expr.specs.declared.token.Token.{Token}
 use Rattle.policy_expr.specs.declared.token.Token.TheVariants as signs
-use Rattle.policy_expr.specs.Grammar.{Part, following, alternatives, item, Spells, SpellsSequence, predicate, in_parentheses, with_optional, with_repeated, with_once_or_more, one_alternative, one_more, one_part, behind}
+use Rattle.policy_expr.specs.Grammar.{Part, following, alternatives, item, SpellsPart, SpellsSequence, predicate, in_parentheses, with_optional, with_repeated, with_once_or_more, one_alternative, one_more, one_part, behind}
 use Rattle.policy_expr.specs.Printing.{IsSequence, opened, printed}
 use Rattle.policy_expr.specs.Tokens.{tokens}
 use Rattle.policy_expr.specs.Language.{Tree, hop, followed, either, optional, repeated, once_or_more}
@@ -63,7 +63,7 @@ pairs_fewer (repeated a) = omega arith
 pairs_fewer (once_or_more a) = omega arith
 
 -- whatever spells the tree as such a part opens at least as many
-costs : (depth : ℕ) (part : Part) (ts : List Token) (t : Tree) → Spells depth part ts t → cost part t ≤ opened ts
+costs : (depth : ℕ) (part : Part) (ts : List Token) (t : Tree) → SpellsPart depth part ts t → cost part t ≤ opened ts
 costs _ _ _ _ (predicate depth p) = omega arith
 costs _ _ _ _ (in_parentheses depth us t spells) =
     let e = costs depth following us t spells in

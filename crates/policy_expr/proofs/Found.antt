@@ -7,7 +7,7 @@ use Rattle.policy_expr.specs.declared.token.Token.TheVariants as signs
 use Rattle.policy_expr.specs.declared.fault.PolicyFault.{PolicyFault}
 use Rattle.policy_expr.specs.declared.fault.PolicyFault.TheVariants as faults
 use Rattle.policy_expr.specs.Language.{Tree, optional, repeated, once_or_more}
-use Rattle.policy_expr.specs.Grammar.{following, alternatives, item, Spells, predicate, in_parentheses, with_optional, with_repeated, with_once_or_more, one_alternative, one_more, one_part, behind}
+use Rattle.policy_expr.specs.Grammar.{following, alternatives, item, SpellsPart, predicate, in_parentheses, with_optional, with_repeated, with_once_or_more, one_alternative, one_more, one_part, behind}
 use Rattle.policy_expr.specs.Reading.{Level, new_level, whole, node_count, sequence_at, tree_at}
 use Rattle.policy_expr.proofs.Steps.{Reading, with_choices, with_before, wants, took, read_on, ended, item_begun, item_followed, level_closed, tree_is_read, within_size}
 use Rattle.policy_expr.specs.Grammar.{SpellsSequence}
@@ -18,15 +18,15 @@ use Rattle.refusal.specs.Refusal.{◌>>=◌}
 -- the tokens in front spell what an item will follow, and the next ones the alternatives before it
 abbrev IsBefore : ℕ → Option Tree → List Token → Type 0
 IsBefore depth None ts = ts ≡ []
-IsBefore depth (Some a) ts = Spells depth following ts a
+IsBefore depth (Some a) ts = SpellsPart depth following ts a
 
 abbrev IsLeft : ℕ → Option Tree → List Token → Type 0
 IsLeft depth None ts = ts ≡ []
-IsLeft depth (Some a) ts = (us : List Token) × (ts ≡ us ++ (signs.Or ∷ [])) × Spells depth alternatives us a
+IsLeft depth (Some a) ts = (us : List Token) × (ts ≡ us ++ (signs.Or ∷ [])) × SpellsPart depth alternatives us a
 
 abbrev IsItem : ℕ → Option Tree → List Token → Type 0
 IsItem depth None ts = ts ≡ []
-IsItem depth (Some x) ts = Spells depth item ts x
+IsItem depth (Some x) ts = SpellsPart depth item ts x
 
 record IsLevel (depth : ℕ) (level : Level) (ts : List Token) : Type 0 where
   front : List Token
@@ -52,19 +52,19 @@ record IsReading (levels : List Level) (level : Level) (x : Option Tree) (ts : L
   last : IsItem depth x back
 
 -- the alternatives with the item, and all parts with it
-with_choices_spelled : (depth : ℕ) (left : Option Tree) (x : Tree) (ts us : List Token) → IsLeft depth left ts → Spells depth item us x
-    → Spells depth alternatives (ts ++ us) (with_choices left x)
+with_choices_spelled : (depth : ℕ) (left : Option Tree) (x : Tree) (ts us : List Token) → IsLeft depth left ts → SpellsPart depth item us x
+    → SpellsPart depth alternatives (ts ++ us) (with_choices left x)
 with_choices_spelled depth None x ts us kept s = rw kept (one_alternative depth us x s)
 with_choices_spelled depth (Some a) x ts us kept s =
     rw (kept.1, append_assoc kept.0 (signs.Or ∷ []) us) (one_more depth kept.0 us a x kept.2 s)
 
-with_before_spelled : (depth : ℕ) (before : Option Tree) (x : Tree) (ts us : List Token) → IsBefore depth before ts → Spells depth alternatives us x
-    → Spells depth following (ts ++ us) (with_before before x)
+with_before_spelled : (depth : ℕ) (before : Option Tree) (x : Tree) (ts us : List Token) → IsBefore depth before ts → SpellsPart depth alternatives us x
+    → SpellsPart depth following (ts ++ us) (with_before before x)
 with_before_spelled depth None x ts us kept s = rw kept (one_part depth us x s)
 with_before_spelled depth (Some a) x ts us kept s = behind depth ts us a x kept s
 
-whole_spelled : (depth : ℕ) (level : Level) (x : Tree) (ts us : List Token) → IsLevel depth level ts → Spells depth item us x
-    → Spells depth following (ts ++ us) (whole level x)
+whole_spelled : (depth : ℕ) (level : Level) (x : Tree) (ts us : List Token) → IsLevel depth level ts → SpellsPart depth item us x
+    → SpellsPart depth following (ts ++ us) (whole level x)
 whole_spelled depth level x ts us kept s =
     rw (kept.cut, append_assoc kept.front kept.back us)
     (with_before_spelled depth level.before (with_choices level.choices x) kept.front (kept.back ++ us) kept.before
@@ -136,7 +136,7 @@ begun levels level signs.Other ts front middle depth cut outer here = tt
 
 -- a sign stands behind an item
 signed : (levels : List Level) (level : Level) (x y : Tree) (token : Token) (ts : List Token) → IsReading levels level (Some x) ts
-    → ((depth : ℕ) (us : List Token) → Spells depth item us x → Spells depth item (us ++ (token ∷ [])) y)
+    → ((depth : ℕ) (us : List Token) → SpellsPart depth item us x → SpellsPart depth item (us ++ (token ∷ [])) y)
     → IsReading levels level (Some y) (ts ++ (token ∷ []))
 signed levels level x y token ts kept sign = record {
   depth = kept.depth;
@@ -231,7 +231,7 @@ taken levels level (Some x) token ts kept = behind_item levels level x token ts 
 
 -- the end of the text
 finished : (levels : List Level) (level : Level) (x : Option Tree) (ts : List Token) (t : Tree) → IsReading levels level x ts
-    → ended (record { open_levels = levels; level = level; item = x }) ≡ Ok t → Spells 32 following ts t
+    → ended (record { open_levels = levels; level = level; item = x }) ≡ Ok t → SpellsPart 32 following ts t
 unfolding ended
 finished levels level None ts t kept e = absurd cc
 finished [] level (Some x) ts t kept e =
@@ -242,21 +242,21 @@ finished (outer ∷ levels) level (Some x) ts t kept e = absurd cc
 
 -- one step, and then the rest
 step_read : (next : Result Reading PolicyFault) (token : Token) (later ts : List Token) (t : Tree) → IsNext next (ts ++ (token ∷ []))
-    → ((reading : Reading) (us : List Token) (tree : Tree) → IsReading reading.open_levels reading.level reading.item us → read_on reading later ≡ Ok tree → Spells 32 following (us ++ later) tree)
-    → (next >>= (λ reading. read_on reading later)) ≡ Ok t → Spells 32 following (ts ++ (token ∷ later)) t
+    → ((reading : Reading) (us : List Token) (tree : Tree) → IsReading reading.open_levels reading.level reading.item us → read_on reading later ≡ Ok tree → SpellsPart 32 following (us ++ later) tree)
+    → (next >>= (λ reading. read_on reading later)) ≡ Ok t → SpellsPart 32 following (ts ++ (token ∷ later)) t
 unfolding IsNext
 step_read (Ok reading) token later ts t kept rest e = rw (← append_assoc ts (token ∷ []) later) (rest reading (ts ++ (token ∷ [])) t kept e)
 step_read (Err fault) token later ts t kept rest e = absurd cc
 
 -- the rest of the text
 all_read : (later : List Token) (reading : Reading) (ts : List Token) (t : Tree) → IsReading reading.open_levels reading.level reading.item ts
-    → read_on reading later ≡ Ok t → Spells 32 following (ts ++ later) t
+    → read_on reading later ≡ Ok t → SpellsPart 32 following (ts ++ later) t
 unfolding read_on
 all_read [] reading ts t kept e = rw (append-nil ts) (finished reading.open_levels reading.level reading.item ts t kept e)
 all_read (token ∷ later) reading ts t kept e =
     step_read (took reading token) token later ts t (taken reading.open_levels reading.level reading.item token ts kept) (all_read later) e
 
-read_is_spelled : (ts : List Token) (t : Tree) → read_on (wants [] new_level) ts ≡ Ok t → Spells 32 following ts t
+read_is_spelled : (ts : List Token) (t : Tree) → read_on (wants [] new_level) ts ≡ Ok t → SpellsPart 32 following ts t
 read_is_spelled ts t e = all_read ts (wants [] new_level) [] t (record {
   depth = 32;
   front = [];

@@ -13,7 +13,7 @@ use Rattle.policy_expr.specs.declared.token.Token.TheVariants as signs
 use Rattle.policy_expr.specs.Tokens.{tokens}
 use Rattle.policy_expr.specs.Language.{Tree, hop, optional, repeated, once_or_more}
 use Rattle.policy_expr.specs.Grammar.{SpellsSequence}
-use Rattle.policy_expr.specs.Reading.{Level, new_level, whole, next_level, next_choice, read_rest, tree_at, node_count, sequence_at, fault_at, IsRefusal}
+use Rattle.policy_expr.specs.Reading.{Level, new_level, whole, next_level, next_choice, read_rest, tree_at, node_count, sequence_at, fault_at, IsTextRefusal}
 use Rattle.policy_expr.proofs.Steps.{within_size}
 use Rattle.policy_expr.proofs.Found.{sequence_is_spelled, spelled_is_sequence}
 
@@ -105,7 +105,7 @@ module _ (text : List ℕ) where
   found_from (Ok t) e = sequence_is_spelled text t e
   found_from (Err error) e = tt
 
-  pub refused_from : (r : Result Tree (OrMemory PolicyFault)) → Answers (λ s. s) r (sequence_at text) → IfErr r (IsRefusal text)
+  pub refused_from : (r : Result Tree (OrMemory PolicyFault)) → Answers (λ s. s) r (sequence_at text) → IfErr r (IsTextRefusal text)
   refused_from (Ok t) e = tt
   refused_from (Err Memory) e = spelled_there text e
   refused_from (Err (Refused fault)) e = refusal_is text fault e

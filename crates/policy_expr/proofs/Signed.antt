@@ -13,7 +13,7 @@ use Rattle.policy_expr.specs.declared.hop.HopPred.{HopPred}
 use Rattle.policy_expr.specs.declared.hop.Interfaces.{Interfaces}
 use Rattle.policy_expr.specs.declared.acl.AclEntry.{AclEntry}
 use Rattle.policy_expr.specs.Predicate.{hash, comma, predicate_at, SpellsInterfaces, one, two, SpellsPredicate, isd_alone, address, with_interfaces}
-use Rattle.policy_expr.specs.Acl.{entry_of, signed_at, trimmed_at, entry_at, acl_fault, acl_at, IsAcl}
+use Rattle.policy_expr.specs.Acl.{signed_entry, signed_at, trimmed_at, entry_at, acl_fault, acl_at, IsAcl}
 use Rattle.policy_expr.specs.Entries.{sign_of, SpellsEntry, bare, with_predicate}
 use Rattle.policy_expr.proofs.Cutting.{mark_is_no_blank}
 use Rattle.policy_expr.proofs.Texts.{IsMark, all_append, marks_of_plain}
@@ -109,12 +109,12 @@ signed_spelled allows before rest behind [] entry blank_before blank_behind is r
     (bare allows before (rest ++ behind) blank_before blank_behind')
 signed_spelled allows before rest behind (b ∷ more) entry blank_before blank_behind is read =
     let front = fronted rest in
-    let pred = bind_ok (predicate_at (b ∷ more)) (λ (p : HopPred). Ok (entry_of allows p)) entry read in
+    let pred = bind_ok (predicate_at (b ∷ more)) (λ (p : HopPred). Ok (signed_entry allows p)) entry read in
     let parts : rest ++ behind ≡ front.blanks ++ ((b ∷ more) ++ behind) =
     ap (λ (t : List ℕ). t ++ behind) (front.parts ∙ ap (λ (t : List ℕ). front.blanks ++ t) is) ∙ append_assoc front.blanks (b ∷ more) behind in
     let spelled = with_predicate allows before front.blanks (b ∷ more) behind pred.0 blank_before front.all blank_behind (predicate_spelled (b ∷ more) pred.0 pred.1) in
     subst (λ (t : List ℕ). SpellsEntry (before ++ (sign_of allows ∷ t)) entry) (sym parts)
-    (subst (SpellsEntry (before ++ (sign_of allows ∷ (front.blanks ++ ((b ∷ more) ++ behind))))) (ok_is (entry_of allows pred.0) entry pred.2) spelled)
+    (subst (SpellsEntry (before ++ (sign_of allows ∷ (front.blanks ++ ((b ∷ more) ++ behind))))) (ok_is (signed_entry allows pred.0) entry pred.2) spelled)
 
 core_spelled : (before core behind : List ℕ) (entry : AclEntry) → AreBlank before → AreBlank behind
     → trimmed_at core ≡ Ok entry → SpellsEntry (before ++ (core ++ behind)) entry
@@ -170,13 +170,13 @@ marks_in_front [] rest all some = absurd (omega arith)
 marks_in_front (b ∷ marks) rest all some = none_in_front b (marks ++ rest) (mark_is_no_blank b (All-head IsMark b marks all))
 
 read_predicate : (allows : Bool) (text : List ℕ) (pred : HopPred) → SpellsPredicate text pred → 0 < length text
-    → signed_at allows text ≡ Ok (entry_of allows pred)
+    → signed_at allows text ≡ Ok (signed_entry allows pred)
 read_predicate allows [] pred s some = absurd (omega arith)
 read_predicate allows (b ∷ more) pred s some = rw (predicate_read (b ∷ more) pred s) refl
 
 read_signed : (allows : Bool) (before between text behind : List ℕ) (pred : HopPred) → AreBlank before → AreBlank between → AreBlank behind
     → SpellsPredicate text pred → All IsMark text → 0 < length text
-    → trimmed_at (trimmed (before ++ (sign_of allows ∷ (between ++ (text ++ behind))))) ≡ Ok (entry_of allows pred)
+    → trimmed_at (trimmed (before ++ (sign_of allows ∷ (between ++ (text ++ behind))))) ≡ Ok (signed_entry allows pred)
 read_signed allows before between text behind pred blank_before blank_between blank_behind s marks some =
     let sign = sign_of allows in
     let turned_marks = all_turned IsMark text marks in

@@ -6,7 +6,7 @@ use Rattle.policy_expr.specs.declared.hop.HopPred.{HopPred}
 use Rattle.policy_expr.specs.declared.token.Token.{Token}
 use Rattle.policy_expr.specs.declared.token.Token.TheVariants as signs
 use Rattle.policy_expr.specs.Language.{Tree, hop, followed, optional, repeated, once_or_more}
-use Rattle.policy_expr.specs.Grammar.{Part, following, alternatives, item, Spells, predicate, in_parentheses, with_optional, with_repeated, with_once_or_more, one_alternative, one_more, one_part, behind}
+use Rattle.policy_expr.specs.Grammar.{Part, following, alternatives, item, SpellsPart, predicate, in_parentheses, with_optional, with_repeated, with_once_or_more, one_alternative, one_more, one_part, behind}
 use Rattle.policy_expr.specs.Reading.{Level, new_level, whole}
 use Rattle.policy_expr.proofs.Steps.{with_choices, with_before, wants, has, took, read_on, ended}
 
@@ -19,7 +19,7 @@ begins_longer : (ts us : List Token) → Begins ts → Begins (ts ++ us)
 begins_longer _ us (by_hop p ts) = by_hop p (ts ++ us)
 begins_longer _ us (by_open ts) = by_open (ts ++ us)
 
-begins : (depth : ℕ) (part : Part) (ts : List Token) (t : Tree) → Spells depth part ts t → Begins ts
+begins : (depth : ℕ) (part : Part) (ts : List Token) (t : Tree) → SpellsPart depth part ts t → Begins ts
 begins _ _ _ _ (predicate depth p) = by_hop p []
 begins _ _ _ _ (in_parentheses depth ts t s) = by_open (ts ++ signs.Close ∷ [])
 begins _ _ _ _ (with_optional depth ts t s) = begins_longer ts (signs.Optional ∷ []) (begins depth item ts t s)
@@ -106,7 +106,7 @@ has_room : (n depth : ℕ) → n + (depth + 1) ≤ 32 → nat_lt n 32 ≡ true
 has_room n depth fits = lt-ltb n 32 (omega arith)
 
 -- what the grammar spells as a part is read as that part
-reads : (depth : ℕ) (part : Part) (ts : List Token) (t : Tree) → Spells depth part ts t → Goal part depth ts t
+reads : (depth : ℕ) (part : Part) (ts : List Token) (t : Tree) → SpellsPart depth part ts t → Goal part depth ts t
 reads _ _ _ _ (predicate depth p) = λ levels level rest fits. hop_begun levels level p rest
 reads _ _ _ _ (in_parentheses depth ts t s) = λ levels level rest fits.
     let inner = reads depth following ts t s (level ∷ levels) (signs.Close ∷ rest) (omega (arith, fits)) in
@@ -171,7 +171,7 @@ unfolding read_on ended
 ends level x = refl
 
 -- so it is read as the tree
-pub spelled_is_read : (ts : List Token) (t : Tree) → Spells 32 following ts t → read_on (wants [] new_level) ts ≡ Ok t
+pub spelled_is_read : (ts : List Token) (t : Tree) → SpellsPart 32 following ts t → read_on (wants [] new_level) ts ≡ Ok t
 spelled_is_read ts t s =
     let all = reads 32 following ts t s [] [] (omega arith) in
     ap (read_on (wants [] new_level)) (sym (append-nil ts)) ∙ all.reads ∙ ends all.level all.last ∙ ap Ok all.gives

@@ -13,7 +13,7 @@ use Rattle.policy_expr.specs.declared.hop.HopPred.{HopPred}
 use Rattle.policy_expr.specs.declared.hop.Interfaces.{Interfaces}
 use Rattle.policy_expr.specs.declared.hop.Interfaces.TheVariants.{Any}
 use Rattle.refusal.specs.Refusal.{◌>>=◌, or_else}
-use Rattle.policy_expr.specs.Predicate.{hash, comma, one_interface, two_interfaces, interface_at, interfaces_at, ia_at, predicate_at, SpellsInterfaces, one, two, SpellsPredicate, isd_alone, address, with_interfaces}
+use Rattle.policy_expr.specs.Predicate.{hash, comma, one_interface, two_interfaces, interface_number_at, interfaces_at, ia_at, predicate_at, SpellsInterfaces, one, two, SpellsPredicate, isd_alone, address, with_interfaces}
 use Rattle.refusal.proofs.Steps.{bind_ok, ok_is}
 use Rattle.policy_expr.proofs.Texts.{IsPlain, all_append, plain_digits, no_hash_in, no_comma_in}
 
@@ -27,16 +27,16 @@ part_ok (Err d) x e = absurd cc
 
 -- ---- what is read is spelled
 
-one_spelled : (text : List ℕ) (i : Interfaces) → (interface_at text >>= λ n. Ok (one_interface n)) ≡ Ok i → SpellsInterfaces text i
+one_spelled : (text : List ℕ) (i : Interfaces) → (interface_number_at text >>= λ n. Ok (one_interface n)) ≡ Ok i → SpellsInterfaces text i
 one_spelled text i e =
-    let n = bind_ok (interface_at text) (λ m. Ok (one_interface m)) i e in
+    let n = bind_ok (interface_number_at text) (λ m. Ok (one_interface m)) i e in
     subst (SpellsInterfaces text) (ok_is (one_interface n.0) i n.2) (one text n.0 (SpellsIsd-isd_at text n.0 (part_ok (isd_at text) n.0 n.1)))
 
-two_spelled : (front back : List ℕ) (i : Interfaces) → (interface_at front >>= λ m. interface_at back >>= λ n. Ok (two_interfaces m n)) ≡ Ok i
+two_spelled : (front back : List ℕ) (i : Interfaces) → (interface_number_at front >>= λ m. interface_number_at back >>= λ n. Ok (two_interfaces m n)) ≡ Ok i
     → SpellsInterfaces (front ++ (comma ∷ back)) i
 two_spelled front back i e =
-    let m = bind_ok (interface_at front) (λ k. interface_at back >>= λ n. Ok (two_interfaces k n)) i e in
-    let n = bind_ok (interface_at back) (λ k. Ok (two_interfaces m.0 k)) i m.2 in
+    let m = bind_ok (interface_number_at front) (λ k. interface_number_at back >>= λ n. Ok (two_interfaces k n)) i e in
+    let n = bind_ok (interface_number_at back) (λ k. Ok (two_interfaces m.0 k)) i m.2 in
     let spelled = two front back m.0 n.0 (SpellsIsd-isd_at front m.0 (part_ok (isd_at front) m.0 m.1)) (SpellsIsd-isd_at back n.0 (part_ok (isd_at back) n.0 n.1)) in
     subst (SpellsInterfaces (front ++ (comma ∷ back))) (ok_is (two_interfaces m.0 n.0) i n.2) spelled
 

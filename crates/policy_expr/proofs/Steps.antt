@@ -8,13 +8,13 @@ use Rattle.policy_expr.specs.declared.token.Token.TheVariants as signs
 use Rattle.refusal.specs.Refusal.{◌>>=◌}
 use Rattle.policy_expr.specs.Tokens.{tokens}
 use Rattle.policy_expr.specs.Language.{Tree, hop, followed, either, optional, repeated, once_or_more}
-use Rattle.policy_expr.specs.Reading.{Level, new_level, joined, whole, node_count, read_rest, tree_at}
+use Rattle.policy_expr.specs.Reading.{Level, new_level, item_behind, whole, node_count, read_rest, tree_at}
 
 abbrev pub with_choices : Option Tree → Tree → Tree
-with_choices = joined either
+with_choices = item_behind either
 
 abbrev pub with_before : Option Tree → Tree → Tree
-with_before = joined followed
+with_before = item_behind followed
 
 -- how far the reading is: a level for each parenthesis that is open, the last one first, the level
 -- now, and the item at its end, or none where one must come

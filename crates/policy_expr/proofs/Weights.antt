@@ -12,7 +12,7 @@ use Rattle.policy_expr.specs.declared.token.Token.{Token}
 use Rattle.policy_expr.specs.declared.token.Token.TheVariants as signs
 use Rattle.policy_expr.specs.Tokens.{tokens}
 use Rattle.policy_expr.specs.Language.{Tree}
-use Rattle.policy_expr.specs.Grammar.{Part, following, Spells, predicate, in_parentheses, with_optional, with_repeated, with_once_or_more, one_alternative, one_more, one_part, behind}
+use Rattle.policy_expr.specs.Grammar.{Part, following, SpellsPart, predicate, in_parentheses, with_optional, with_repeated, with_once_or_more, one_alternative, one_more, one_part, behind}
 use Rattle.policy_expr.specs.Reading.{tree_at, sequence_at, node_count, fault_at}
 use Rattle.policy_expr.proofs.Steps.{within_size}
 use Rattle.policy_expr.proofs.Found.{tree_is_spelled}
@@ -53,7 +53,7 @@ weights-append [] us = omega arith
 weights-append (token ∷ ts) us = let rest = weights-append ts us in omega arith
 
 -- the tokens of a tree weigh one more than it has nodes
-weights_of_tree : (depth : ℕ) (part : Part) (ts : List Token) (t : Tree) → Spells depth part ts t → weights ts ≡ node_count t + 1
+weights_of_tree : (depth : ℕ) (part : Part) (ts : List Token) (t : Tree) → SpellsPart depth part ts t → weights ts ≡ node_count t + 1
 weights_of_tree _ _ _ _ (predicate depth p) = refl
 weights_of_tree _ _ _ _ (in_parentheses depth ts t s) = let inner = weights_of_tree _ _ _ _ s in let all = weights-append ts (signs.Close ∷ []) in omega arith
 weights_of_tree _ _ _ _ (with_optional depth ts t s) = let inner = weights_of_tree _ _ _ _ s in let all = weights-append ts (signs.Optional ∷ []) in omega arith

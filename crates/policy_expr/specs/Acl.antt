@@ -51,8 +51,8 @@ says_nothing (Either n) = false
 says_nothing (Both m n) = false
 
 -- the entry of a sign and a predicate; a predicate of wildcards alone is dropped
-abbrev pub entry_of : Bool → HopPred → AclEntry
-entry_of allows pred = record {
+abbrev pub signed_entry : Bool → HopPred → AclEntry
+signed_entry allows pred = record {
   allows = allows;
   pred = if (pred.ia == 0) && says_nothing pred.interfaces then None else Some pred;
 }
@@ -62,7 +62,7 @@ abbrev pub signed_at : Bool → List ℕ → Result AclEntry PolicyFault
 signed_at allows [] = Ok (record { allows = allows; pred = None })
 signed_at allows (b ∷ rest) = do
   pred ← predicate_at (b ∷ rest)
-  Ok (entry_of allows pred)
+  Ok (signed_entry allows pred)
 
 abbrev pub trimmed_at : List ℕ → Result AclEntry PolicyFault
 trimmed_at [] = Err faults.BadPredicate

@@ -6,7 +6,7 @@ use Rattle.separators.specs.Blanks.{is_blank}
 use Rattle.policy_expr.specs.declared.hop.HopPred.{HopPred}
 use Rattle.policy_expr.specs.declared.acl.AclEntry.{AclEntry}
 use Rattle.policy_expr.specs.Predicate.{SpellsPredicate}
-use Rattle.policy_expr.specs.Acl.{entry_of}
+use Rattle.policy_expr.specs.Acl.{signed_entry}
 
 -- the sign of an entry: '+' if it allows the hops that it decides, else '-'
 abbrev pub sign_of : Bool → ℕ
@@ -22,4 +22,4 @@ pub data SpellsEntry : List ℕ → AclEntry → Type 0 where
       → AllPass is_blank before → AllPass is_blank between → AllPass is_blank behind
       → SpellsPredicate text pred
       → SpellsEntry (before ++ (sign_of allows ∷ (between ++ (text ++ behind))))
-      (entry_of allows pred)
+      (signed_entry allows pred)

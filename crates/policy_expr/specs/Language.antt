@@ -26,9 +26,9 @@ tree_of (Repeated' p a) = repeated (tree_of a)
 tree_of (OnceOrMore' p a) = once_or_more (tree_of a)
 
 -- these words, one after another, as one word
-abbrev pub joined : List (List WalkHop) → List WalkHop
-joined [] = []
-joined (word ∷ words) = word ++ joined words
+abbrev pub joined_words : List (List WalkHop) → List WalkHop
+joined_words [] = []
+joined_words (word ∷ words) = word ++ joined_words words
 
 -- the words of a sequence. A predicate has the words of one hop that it matches. `followed` has the
 -- words that can be cut into a word of each part. `*` and `+` have any number of words of their
@@ -38,5 +38,5 @@ Lang (hop pred) word = (h : WalkHop) × (word ≡ h ∷ []) × Matches pred h
 Lang (followed a b) word = (front : List WalkHop) × (back : List WalkHop) × (word ≡ front ++ back) × Lang a front × Lang b back
 Lang (either a b) word = Lang a word ⊎ Lang b word
 Lang (optional a) word = (word ≡ []) ⊎ Lang a word
-Lang (repeated a) word = (words : List (List WalkHop)) × (word ≡ joined words) × AllByRecursion (Lang a) words
-Lang (once_or_more a) word = (words : List (List WalkHop)) × (0 < length words) × (word ≡ joined words) × AllByRecursion (Lang a) words
+Lang (repeated a) word = (words : List (List WalkHop)) × (word ≡ joined_words words) × AllByRecursion (Lang a) words
+Lang (once_or_more a) word = (words : List (List WalkHop)) × (0 < length words) × (word ≡ joined_words words) × AllByRecursion (Lang a) words

@@ -44,18 +44,18 @@ pub data SpellsPredicate : List ℕ → HopPred → Type 0 where
       → SpellsPredicate (front ++ (hash ∷ back)) (record { ia = n; interfaces = ways })
 
 -- the number of an interface, read as that of an ISD: decimal digits up to 65535
-abbrev pub interface_at : List ℕ → Result ℕ PolicyFault
-interface_at text = or_else faults.BadPredicate (isd_at text)
+abbrev pub interface_number_at : List ℕ → Result ℕ PolicyFault
+interface_number_at text = or_else faults.BadPredicate (isd_at text)
 
 -- the interfaces of a text: two if it has a ',', else one
 unfoldable pub interfaces_at : List ℕ → Result Interfaces PolicyFault
 interfaces_at text = if list_any (λ b. b == comma) text
     then (do
-      ingress ← interface_at (before_first (λ b. b == comma) text)
-      egress ← interface_at (after_first (λ b. b == comma) text)
+      ingress ← interface_number_at (before_first (λ b. b == comma) text)
+      egress ← interface_number_at (after_first (λ b. b == comma) text)
       Ok (two_interfaces ingress egress))
     else (do
-      n ← interface_at text
+      n ← interface_number_at text
       Ok (one_interface n))
 
 -- the address of a text: ISD and AS if it has a '-', else an ISD alone

@@ -21,13 +21,13 @@ pub record Level : Type 0 where
 abbrev pub new_level : Level
 new_level = record { before = None; choices = None }
 
-abbrev pub joined : (Tree → Tree → Tree) → Option Tree → Tree → Tree
-joined join None item = item
-joined join (Some before) item = join before item
+abbrev pub item_behind : (Tree → Tree → Tree) → Option Tree → Tree → Tree
+item_behind join None item = item
+item_behind join (Some before) item = join before item
 
 -- the tree of all that was read since the last open parenthesis, with this item at its end
 abbrev pub whole : Level → Tree → Tree
-whole level item = joined followed level.before (joined either level.choices item)
+whole level item = item_behind followed level.before (item_behind either level.choices item)
 
 -- the level for the next item: if there is an item already, the next one follows it; after a `|` it
 -- is one more alternative
@@ -37,7 +37,7 @@ next_level level (Some item) = record { before = Some (whole level item); choice
 
 abbrev pub next_choice : Level → Tree → Level
 next_choice level item =
-    record { before = level.before; choices = Some (joined either level.choices item) }
+    record { before = level.before; choices = Some (item_behind either level.choices item) }
 
 -- the result of reading the remaining tokens. `levels` has a level for each open parenthesis, the
 -- innermost first; `level` is the current one. `item` is the item at its end, or none if an item
@@ -103,6 +103,6 @@ fault_at depth true (t ∷ ts) = fault_at depth true ts
 
 -- the error of a text: its first fault, or TooLarge if it has none. Memory can run out only if the
 -- text spells a sequence of at most 256 nodes.
-abbrev pub IsRefusal : List ℕ → OrMemory PolicyFault → Type 0
-IsRefusal text Memory = (tree : Tree) × SpellsSequence text tree × (node_count tree ≤ 256)
-IsRefusal text (Refused fault) = fault ≡ unwrap_or (fault_at 0 false (tokens text)) faults.TooLarge
+abbrev pub IsTextRefusal : List ℕ → OrMemory PolicyFault → Type 0
+IsTextRefusal text Memory = (tree : Tree) × SpellsSequence text tree × (node_count tree ≤ 256)
+IsTextRefusal text (Refused fault) = fault ≡ unwrap_or (fault_at 0 false (tokens text)) faults.TooLarge

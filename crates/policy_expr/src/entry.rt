@@ -2,7 +2,7 @@ ghost use Rattle.std.specs.Prelude.{◌≡◌, map};
 ghost use Rattle.std.specs.Result.{result_map_both};
 ghost use Rattle.std.specs.String.{string_bytes};
 ghost use Rattle.refusal.specs.Refusal.{Reads, each, Judges};
-ghost use Rattle.policy_expr.specs.Acl.{acl_at, entry_at, entry_of, is_bare, says_nothing, signed_at};
+ghost use Rattle.policy_expr.specs.Acl.{acl_at, entry_at, signed_entry, is_bare, says_nothing, signed_at};
 
 use crate::acl::AclEntry;
 use crate::acl_text::AclText;
@@ -94,7 +94,7 @@ fn read_signed(allows: bool, text: &str) -> Result<AclEntry, PolicyFault>
 
 /// The entry of a sign and a predicate; a predicate of wildcards alone is dropped.
 fn of_pred(allows: bool, pred: HopPred) -> AclEntry
-    ensures { result ≡ entry_of allows pred }
+    ensures { result ≡ signed_entry allows pred }
 {
     let is_bare = pred.ia.number() == 0 && pred.interfaces == Interfaces::Any;
     AclEntry {

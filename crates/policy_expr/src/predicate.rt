@@ -1,6 +1,6 @@
 ghost use Rattle.std.specs.Prelude.{◌≡◌, IfOk, Ok};
 ghost use Rattle.policy_expr.specs.declared.hop.HopPred.{HopPred};
-ghost use Rattle.policy_expr.specs.Predicate.{SpellsPredicate, interface_at, interfaces_at, one_interface, ia_at, predicate_at, two_interfaces};
+ghost use Rattle.policy_expr.specs.Predicate.{SpellsPredicate, interface_number_at, interfaces_at, one_interface, ia_at, predicate_at, two_interfaces};
 
 use crate::fault::PolicyFault;
 use crate::hop::{HopPred, Interfaces};
@@ -106,7 +106,7 @@ fn of_two(ingress: IfId, egress: IfId) -> Interfaces
 
 /// Reads an interface: decimal digits up to 65535, as for an ISD.
 fn read_interface(text: &str) -> Result<IfId, PolicyFault>
-    ensures { result ≡ interface_at text.now }
+    ensures { result ≡ interface_number_at text.now }
 {
     let number = Isd::parse(text)?;
     Ok(IfId(number.number()))

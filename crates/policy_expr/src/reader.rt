@@ -2,7 +2,7 @@ ghost use Rattle.std.specs.Prelude.{◌≡◌, [], ◌∷◌, List, None, Some, 
 ghost use Rattle.refusal.specs.Refusal.{Reads};
 ghost use Rattle.policy_expr.specs.declared.token.Token.{Token};
 ghost use Rattle.policy_expr.specs.Language.{either, followed, tree_of};
-ghost use Rattle.policy_expr.specs.Reading.{joined, new_level, read_rest, tree_at, whole};
+ghost use Rattle.policy_expr.specs.Reading.{item_behind, new_level, read_rest, tree_at, whole};
 ghost use Rattle.policy_expr.specs.Views.{GoesOn, gives, level_of, levels_of};
 
 use crate::counting::MAX_OPEN;
@@ -224,7 +224,7 @@ fn join_choices<A: Allocator + Clone>(
     item: SeqNode<A>,
 ) -> Result<SeqNode<A>, AllocError>
     ensures { IfOk result
-        (λ node. tree_of node ≡ joined either (option_map tree_of choices) (tree_of item)) }
+        (λ node. tree_of node ≡ item_behind either (option_map tree_of choices) (tree_of item)) }
 {
     match choices {
         None => Ok(item),
@@ -239,7 +239,7 @@ fn join_before<A: Allocator + Clone>(
     item: SeqNode<A>,
 ) -> Result<SeqNode<A>, AllocError>
     ensures { IfOk result
-        (λ node. tree_of node ≡ joined followed (option_map tree_of before) (tree_of item)) }
+        (λ node. tree_of node ≡ item_behind followed (option_map tree_of before) (tree_of item)) }
 {
     match before {
         None => Ok(item),

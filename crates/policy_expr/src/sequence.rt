@@ -4,7 +4,7 @@ ghost use Rattle.refusal.specs.Refusal.{Answers};
 ghost use Rattle.policy_expr.specs.Language.{Lang, Tree};
 ghost use Rattle.policy_expr.specs.Printing.{IsSequence, printed};
 ghost use Rattle.policy_expr.specs.Grammar.{SpellsSequence};
-ghost use Rattle.policy_expr.specs.Reading.{node_count, sequence_at, IsRefusal};
+ghost use Rattle.policy_expr.specs.Reading.{node_count, sequence_at, IsTextRefusal};
 
 use crate::counting::check_text;
 use crate::fault::PolicyError;
@@ -57,7 +57,7 @@ impl<A: Allocator + Clone> Seq<A> {
         ensures only { (tree : Tree) → SpellsSequence text.now tree → node_count tree ≤ 256
             → Answers (λ s. s) result (Ok tree) }
         // The refusal, if the text is refused.
-        ensures refused { IfErr result (IsRefusal text.now) }
+        ensures refused { IfErr result (IsTextRefusal text.now) }
         // All of this as one equation.
         ensures exact { Answers (λ s. s) result (sequence_at text.now) }
     {

@@ -3,7 +3,7 @@ use Rattle.std.proofs.Common.{◌≡◌, ℕ, ◌+◌, ◌≤◌, List, ◌++◌
 use Rattle.std.proofs.lemmas.List.{take-append-drop, drop-drop, length-drop}
 use Rattle.scion_topology.specs.View.{View}
 use Rattle.path_header.specs.Value.{HeaderValue, header_len}
-use Rattle.path_header.specs.Spelling.{Spells, spelling}
+use Rattle.path_header.specs.Spelling.{SpellsHeader, spelling}
 use Rattle.path_header.specs.Shown.{header_at_front}
 use Rattle.path_header.proofs.WholeHeader.{spelled_is_long}
 use Rattle.router_step.specs.declared.outcome.Outcome.{Outcome}
@@ -20,8 +20,8 @@ pub record StepsBytes (step : HeaderValue → Result (Outcome × HeaderValue) Re
   pub refused : OnErr result (new ≡ old)
   pub lens : (header_at_front new).lens ≡ (header_at_front old).lens
   pub rest : drop (header_len (header_at_front new)) new ≡ drop (header_len (header_at_front old)) old
-  pub before : Spells (take (header_len (header_at_front old)) old) (header_at_front old)
-  pub after : Spells (take (header_len (header_at_front new)) new) (header_at_front new)
+  pub before : SpellsHeader (take (header_len (header_at_front old)) old) (header_at_front old)
+  pub after : SpellsHeader (take (header_len (header_at_front new)) new) (header_at_front new)
   pub long : header_len (header_at_front old) ≤ length old
 
 -- the header that is read behind the addresses
@@ -46,7 +46,7 @@ within packet n long le = omega (arith, length-drop 16 packet)
 
 -- the packet after a step over what stands behind its addresses
 pub made : (packet addresses new : List ℕ) (len : ℕ) (w : HeaderValue) → addresses ≡ take 16 packet
-    → drop (header_len w) new ≡ drop len (drop 16 packet) → Spells (take (header_len w) new) w
+    → drop (header_len w) new ≡ drop len (drop 16 packet) → SpellsHeader (take (header_len w) new) w
     → addresses ++ new ≡ take 16 packet ++ (spelling w ++ drop (16 + len) packet)
 made packet addresses new len w front rest after =
     let whole : new ≡ spelling w ++ drop (16 + len) packet =

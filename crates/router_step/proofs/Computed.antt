@@ -9,9 +9,9 @@ use Rattle.router_step.specs.declared.outcome.Outcome.{Outcome}
 use Rattle.router_step.specs.declared.outcome.Outcome.TheVariants.{ToLink, ToRouter, Deliver}
 use Rattle.router_step.specs.declared.fault.Refusal.{Refusal}
 use Rattle.router_step.specs.declared.fault.Refusal.TheVariants as refusal
-use Rattle.router_step.specs.Place.{info_of, hop_of, is_over_link, way_out, arrived, moved_on, gone}
-use Rattle.router_step.specs.Checks.{is_live, is_mac_right, source_fits, is_last, destination_fits, ends_segment}
-use Rattle.router_step.specs.Step.{passes, admitted, ended, switched, left, step_of}
+use Rattle.router_step.specs.Place.{current_info, current_hop, is_over_link, way_out, arrived, moved_on, gone}
+use Rattle.router_step.specs.Checks.{is_hop_live, is_mac_right, source_fits, is_last, destination_fits, ends_segment}
+use Rattle.router_step.specs.Step.{passes, admitted, at_path_end, switched, left, step_of}
 use Rattle.router_step.specs.Forward.{IsAdmitted, MayLeave, goes}
 
 abbrev done : Outcome → Result Outcome Refusal
@@ -24,13 +24,13 @@ admitted_is : (view : View) (now : ℕ) (arrival : Arrival) (source : ℕ) (head
 unfolding admitted passes
 admitted_is view now arrival source header here is =
     let same = is.here_is in
-    let live : is_live now (info_of (arrived arrival header)) (hop_of header) ≡ true = ap (λ (h : HeaderValue). is_live now (info_of h) (hop_of header)) same ∙ is.live in
-    let mac : is_mac_right view (info_of (arrived arrival header)) (hop_of header) ≡ true = ap (λ (h : HeaderValue). is_mac_right view (info_of h) (hop_of header)) same ∙ is.mac in
+    let live : is_hop_live now (current_info (arrived arrival header)) (current_hop header) ≡ true = ap (λ (h : HeaderValue). is_hop_live now (current_info h) (current_hop header)) same ∙ is.live in
+    let mac : is_mac_right view (current_info (arrived arrival header)) (current_hop header) ≡ true = ap (λ (h : HeaderValue). is_mac_right view (current_info h) (current_hop header)) same ∙ is.mac in
     rw (is.indices, is.way_in, live, mac) (ap admission same)
 
 ended_is : (view : View) (arrival : Arrival) (source destination : ℕ) (header : HeaderValue) (last : Bool) → source_fits view arrival source ≡ true → is_last header ≡ last → destination_fits view destination last ≡ true
-    → ended view arrival source destination header ≡ Ok last
-unfolding ended
+    → at_path_end view arrival source destination header ≡ Ok last
+unfolding at_path_end
 ended_is view arrival source destination header last from is_last fits = rw (from, is_last, fits) refl
 
 leaves_by : (view : View) (out : IfEntry) (way : ℕ) (other : Bool) → out.up ≡ true
@@ -39,17 +39,17 @@ leaves_by view out way true up = refl
 leaves_by view out way false up = rw up refl
 
 left_is : (view : View) (arrival : Arrival) (has_switched : Bool) (header : HeaderValue) (out : IfEntry) → MayLeave view arrival has_switched header out
-    → left view arrival has_switched (info_of header) (hop_of header) ≡ Ok (goes view out header)
+    → left view arrival has_switched (current_info header) (current_hop header) ≡ Ok (goes view out header)
 unfolding left
 left_is view arrival has_switched header out may =
-    rw (may.known, may.kinds) (leaves_by view out (way_out (info_of header) (hop_of header)) (not (out.router == view.router)) may.up)
+    rw (may.known, may.kinds) (leaves_by view out (way_out (current_info header) (current_hop header)) (not (out.router == view.router)) may.up)
 
 pub no_switch : (view : View) (now : ℕ) (arrival : Arrival) (here : HeaderValue) → ends_segment here ≡ false → switched view now arrival here ≡ Ok false
 unfolding switched
 no_switch view now arrival here stays = rw stays refl
 
 pub a_switch : (view : View) (now : ℕ) (arrival : Arrival) (here : HeaderValue) → ends_segment here ≡ true → is_over_link arrival ≡ true
-    → is_live now (info_of (moved_on true here)) (hop_of (moved_on true here)) ≡ true → is_mac_right view (info_of (moved_on true here)) (hop_of (moved_on true here)) ≡ true
+    → is_hop_live now (current_info (moved_on true here)) (current_hop (moved_on true here)) ≡ true → is_mac_right view (current_info (moved_on true here)) (current_hop (moved_on true here)) ≡ true
     → switched view now arrival here ≡ Ok true
 unfolding switched passes
 a_switch view now arrival here ends over live mac = rw (ends, over, live, mac) refl

@@ -9,9 +9,9 @@ use Rattle.router_step.specs.declared.arrival.Arrival.{Arrival}
 use Rattle.router_step.specs.declared.arrival.Arrival.TheVariants.{FromHost, Inside, Link}
 use Rattle.router_step.specs.declared.outcome.Outcome.{Outcome}
 use Rattle.router_step.specs.declared.outcome.Outcome.TheVariants.{ToLink, ToRouter, Deliver}
-use Rattle.router_step.specs.Place.{info_of, hop_of, seg_id_on_leaving, moved_on, gone}
+use Rattle.router_step.specs.Place.{current_info, current_hop, seg_id_on_leaving, moved_on, gone}
 use Rattle.router_step.specs.Checks.{has_no_single, is_start_right, indices_fit, ends_segment}
-use Rattle.router_step.specs.Done.{Situation, Does, on_arrival, at_the_way_out}
+use Rattle.router_step.specs.Done.{Situation, DoesStep, on_arrival, at_the_way_out}
 use Rattle.router_step.proofs.DoneSteps.{not_true, not_false, switched_ok, step_ok, indices_ok}
 use Rattle.router_step.proofs.FieldReads.{info_of-with_seg_id}
 use Rattle.router_step.proofs.StepLaws.{new_header}
@@ -96,7 +96,7 @@ on_its_segment header has_switched h p more either = elim either [
       rw w.1 (subst (λ n. IsMovedOn header.lens n (header.curr_hf + 0)) inf (subst (λ n. IsMovedOn header.lens header.curr_inf n) hf stays))
 ]
 
-goes_on : (at : Situation) (outcome : Outcome) (new : HeaderValue) → IsHeader at.header → Does at outcome new → GoesOn at.header new
+goes_on : (at : Situation) (outcome : Outcome) (new : HeaderValue) → IsHeader at.header → DoesStep at outcome new → GoesOn at.header new
 goes_on at outcome new h e =
     let p : IsPlaced at.header = placed at.arrival at.header (indices_ok at.view at.now at.arrival at.source at.destination at.header new outcome e) in
     let infos : length (on_arrival at).infos ≡ info_count at.header.lens = length-set at.header.infos at.header.curr_inf _ ∙ h.infos in
@@ -118,23 +118,23 @@ goes_on at outcome new h e =
           subst (GoesOn at.header) (sym w.1.1.new_is) (record { header = made.header; lens = made.lens; segment = made.segment })
     ]
 
-pub header_again : (at : Situation) (outcome : Outcome) (new : HeaderValue) → IsHeader at.header → Does at outcome new → IsHeader new
+pub header_again : (at : Situation) (outcome : Outcome) (new : HeaderValue) → IsHeader at.header → DoesStep at outcome new → IsHeader new
 header_again at outcome new h e = (goes_on at outcome new h e).header
 
-pub indices_again : (at : Situation) (outcome : Outcome) (new : HeaderValue) (arrival : Arrival) → IsHeader at.header → Does at outcome new → arrival ≢ FromHost → indices_fit arrival new ≡ true
+pub indices_again : (at : Situation) (outcome : Outcome) (new : HeaderValue) (arrival : Arrival) → IsHeader at.header → DoesStep at outcome new → arrival ≢ FromHost → indices_fit arrival new ≡ true
 indices_again at outcome new arrival h e from_outside =
     let on = goes_on at outcome new h e in
     let p : IsPlaced at.header = placed at.arrival at.header (indices_ok at.view at.now at.arrival at.source at.destination at.header new outcome e) in
     true_and _ _ ((Decides-eqb _ _).1 on.segment)
     (true_and _ _ (ap has_no_single on.lens ∙ p.no_single) (start_is_right arrival new.curr_hf from_outside))
 
-pub leaving : (at : Situation) (interface : ℕ) (new : HeaderValue) → IsHeader at.header → Does at (ToLink interface) new
-    → (info_of (at_the_way_out at)).construction ≡ true → (info_of new).seg_id ≡ beta_after (info_of (at_the_way_out at)).seg_id (hop_of (at_the_way_out at)).mac
+pub leaving : (at : Situation) (interface : ℕ) (new : HeaderValue) → IsHeader at.header → DoesStep at (ToLink interface) new
+    → (current_info (at_the_way_out at)).construction ≡ true → (current_info new).seg_id ≡ beta_after (current_info (at_the_way_out at)).seg_id (current_hop (at_the_way_out at)).mac
 leaving at interface new h e forward =
     let there : HeaderValue = at_the_way_out at in
     let made : new ≡ gone (ToLink interface) there = new_header at (ToLink interface) new e in
     let whole : IsHeader (gone (ToLink interface) there) = subst IsHeader made (header_again at (ToLink interface) new h e) in
     let within : there.curr_inf < length there.infos = rw length-set at whole.curr_inf in
-    ap (λ (n : HeaderValue). (info_of n).seg_id) made
-    ∙ ap (λ (i : InfoField). i.seg_id) (info_of-with_seg_id there (seg_id_on_leaving (info_of there) (hop_of there)) within)
-    ∙ ap (λ b. if b then beta_after (info_of there).seg_id (hop_of there).mac else (info_of there).seg_id) forward
+    ap (λ (n : HeaderValue). (current_info n).seg_id) made
+    ∙ ap (λ (i : InfoField). i.seg_id) (info_of-with_seg_id there (seg_id_on_leaving (current_info there) (current_hop there)) within)
+    ∙ ap (λ b. if b then beta_after (current_info there).seg_id (current_hop there).mac else (current_info there).seg_id) forward

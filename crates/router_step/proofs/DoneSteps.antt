@@ -13,9 +13,9 @@ use Rattle.router_step.specs.declared.outcome.Outcome.TheVariants.{ToLink, ToRou
 use Rattle.router_step.specs.declared.fault.Refusal.{Refusal}
 use Rattle.router_step.specs.declared.fault.Refusal.TheVariants as refusal
 use Rattle.refusal.specs.Refusal.{◌>>=◌, check}
-use Rattle.router_step.specs.Place.{info_of, hop_of, is_over_link, way_out, arrived, moved_on, gone}
-use Rattle.router_step.specs.Checks.{indices_fit, way_in_fits, is_live, is_mac_right, source_fits, is_last, destination_fits, ends_segment, kinds_fit}
-use Rattle.router_step.specs.Step.{passes, admitted, ended, switched, left, step_of}
+use Rattle.router_step.specs.Place.{current_info, current_hop, is_over_link, way_out, arrived, moved_on, gone}
+use Rattle.router_step.specs.Checks.{indices_fit, way_in_fits, is_hop_live, is_mac_right, source_fits, is_last, destination_fits, ends_segment, kinds_fit}
+use Rattle.router_step.specs.Step.{passes, admitted, at_path_end, switched, left, step_of}
 
 bind_ok : {A B : Type 0} (r : Result A Refusal) (f : A → Result B Refusal) (y : B) → (r >>= f) ≡ Ok y → (x : A) × ((r ≡ Ok x) × (f x ≡ Ok y))
 bind_ok (Ok x) f y e = (x, (refl, e))
@@ -39,23 +39,23 @@ done x = Ok x
 pub same_value : {X : Type 0} (x y : X) → done x ≡ done y → x ≡ y
 same_value x y e = cc
 
-pub passes_ok : (view : View) (now : ℕ) (info : InfoField) (hop : HopField) → passes view now info hop ≡ Ok tt → (is_live now info hop ≡ true) × (is_mac_right view info hop ≡ true)
+pub passes_ok : (view : View) (now : ℕ) (info : InfoField) (hop : HopField) → passes view now info hop ≡ Ok tt → (is_hop_live now info hop ≡ true) × (is_mac_right view info hop ≡ true)
 unfolding passes
 passes_ok view now info hop e =
-    let parts = check_bind (is_live now info hop) refusal.Expired (λ _. check (is_mac_right view info hop) refusal.BadMac) tt e in
+    let parts = check_bind (is_hop_live now info hop) refusal.Expired (λ _. check (is_mac_right view info hop) refusal.BadMac) tt e in
     (parts.0, check_ok (is_mac_right view info hop) refusal.BadMac parts.1)
 
 admitted_ok : (view : View) (now : ℕ) (arrival : Arrival) (header here : HeaderValue) → admitted view now arrival header ≡ Ok here
-    → (passes view now (info_of (arrived arrival header)) (hop_of header) ≡ Ok tt) × (arrived arrival header ≡ here)
+    → (passes view now (current_info (arrived arrival header)) (current_hop header) ≡ Ok tt) × (arrived arrival header ≡ here)
 unfolding admitted
 admitted_ok view now arrival header here e =
     let second = check_bind (indices_fit arrival header) refusal.IndexMismatch _ here e in
-    let third = check_bind (way_in_fits view arrival (info_of header) (hop_of header)) refusal.WrongIngress _ here second.1 in
-    let fifth = bind_ok (passes view now (info_of (arrived arrival header)) (hop_of header)) (λ _. Ok (arrived arrival header)) here third.1 in
+    let third = check_bind (way_in_fits view arrival (current_info header) (current_hop header)) refusal.WrongIngress _ here second.1 in
+    let fifth = bind_ok (passes view now (current_info (arrived arrival header)) (current_hop header)) (λ _. Ok (arrived arrival header)) here third.1 in
     (fifth.1.0, same_value _ _ fifth.1.1)
 
-ended_ok : (view : View) (arrival : Arrival) (source destination : ℕ) (header : HeaderValue) (last : Bool) → ended view arrival source destination header ≡ Ok last → is_last header ≡ last
-unfolding ended
+ended_ok : (view : View) (arrival : Arrival) (source destination : ℕ) (header : HeaderValue) (last : Bool) → at_path_end view arrival source destination header ≡ Ok last → is_last header ≡ last
+unfolding at_path_end
 ended_ok view arrival source destination header last e =
     let sixth = check_bind (source_fits view arrival source) refusal.SourceAs _ last e in
     let seventh = check_bind (destination_fits view destination (is_last header)) refusal.DestinationAs (λ _. Ok (is_last header)) last sixth.1 in
@@ -66,14 +66,14 @@ unfolding admitted
 fits_ok view now arrival header here e = (check_bind (indices_fit arrival header) refusal.IndexMismatch _ here e).0
 
 pub switched_ok : (view : View) (now : ℕ) (arrival : Arrival) (header : HeaderValue) (has_switched : Bool) → switched view now arrival header ≡ Ok has_switched
-    → ((ends_segment header ≡ true) × ((has_switched ≡ true) × (passes view now (info_of (moved_on true header)) (hop_of (moved_on true header)) ≡ Ok tt)))
+    → ((ends_segment header ≡ true) × ((has_switched ≡ true) × (passes view now (current_info (moved_on true header)) (current_hop (moved_on true header)) ≡ Ok tt)))
     ⊎ ((ends_segment header ≡ false) × (has_switched ≡ false))
 unfolding switched
 switched_ok view now arrival header has_switched e =
     elim (either (ends_segment header) _ _ (done has_switched) e) [
       | inl w ↦
           let inside = check_bind (is_over_link arrival) refusal.SwitchInside _ has_switched w.1 in
-          let passed = bind_ok (passes view now (info_of (moved_on true header)) (hop_of (moved_on true header))) (λ _. Ok true) has_switched inside.1 in
+          let passed = bind_ok (passes view now (current_info (moved_on true header)) (current_hop (moved_on true header))) (λ _. Ok true) has_switched inside.1 in
           inl (w.0, (sym (same_value _ _ passed.1.1), passed.1.0))
       | inr w ↦ inr (w.0, sym (same_value _ _ w.1))
     ]
@@ -135,7 +135,7 @@ left_ok view arrival has_switched info hop outcome e =
 -- the parts of a step, each from what the ones before it answered
 abbrev after_switch : View → Arrival → HeaderValue → Bool → Result (Outcome × HeaderValue) Refusal
 after_switch view arrival here has_switched =
-    left view arrival has_switched (info_of (moved_on has_switched here)) (hop_of (moved_on has_switched here))
+    left view arrival has_switched (current_info (moved_on has_switched here)) (current_hop (moved_on has_switched here))
     >>= λ outcome. Ok (outcome, gone outcome (moved_on has_switched here))
 
 abbrev after_end : View → ℕ → Arrival → HeaderValue → Bool → Result (Outcome × HeaderValue) Refusal
@@ -144,7 +144,7 @@ after_end view now arrival here last =
 
 abbrev after_admission : View → ℕ → Arrival → ℕ → ℕ → HeaderValue → Result (Outcome × HeaderValue) Refusal
 after_admission view now arrival source destination here =
-    ended view arrival source destination here >>= λ last. after_end view now arrival here last
+    at_path_end view arrival source destination here >>= λ last. after_end view now arrival here last
 
 in_parts : (view : View) (now : ℕ) (arrival : Arrival) (source destination : ℕ) (header : HeaderValue)
     → step_of view now arrival source destination header ≡ (admitted view now arrival header >>= λ here. after_admission view now arrival source destination here)
@@ -154,7 +154,7 @@ in_parts view now arrival source destination header = refl
 -- the packet went on: what the switch and the way out answered, and the header that they make
 pub record WentOn (view : View) (now : ℕ) (arrival : Arrival) (here : HeaderValue) (outcome : Outcome) (new : HeaderValue) (has_switched : Bool) : Type 0 where
   pub switch : switched view now arrival here ≡ Ok has_switched
-  pub leaves : left view arrival has_switched (info_of (moved_on has_switched here)) (hop_of (moved_on has_switched here)) ≡ Ok outcome
+  pub leaves : left view arrival has_switched (current_info (moved_on has_switched here)) (current_hop (moved_on has_switched here)) ≡ Ok outcome
   pub new_is : new ≡ gone outcome (moved_on has_switched here)
 
 went_on : (view : View) (now : ℕ) (arrival : Arrival) (here : HeaderValue) (outcome : Outcome) (new : HeaderValue)
@@ -163,7 +163,7 @@ went_on : (view : View) (now : ℕ) (arrival : Arrival) (here : HeaderValue) (ou
 went_on view now arrival here outcome new e =
     let answer : Outcome × HeaderValue = (outcome, new) in
     let ninth = bind_ok (switched view now arrival here) (λ has_switched. after_switch view arrival here has_switched) answer e in
-    let rest = bind_ok (left view arrival ninth.0 (info_of (moved_on ninth.0 here)) (hop_of (moved_on ninth.0 here))) (λ way. Ok (way, gone way (moved_on ninth.0 here))) answer ninth.1.1 in
+    let rest = bind_ok (left view arrival ninth.0 (current_info (moved_on ninth.0 here)) (current_hop (moved_on ninth.0 here))) (λ way. Ok (way, gone way (moved_on ninth.0 here))) answer ninth.1.1 in
     let both : (rest.0, gone rest.0 (moved_on ninth.0 here)) ≡ answer = same_value _ _ rest.1.1 in
     let same : rest.0 ≡ outcome = ap (λ (a : Outcome × HeaderValue). a.0) both in
     let made : gone rest.0 (moved_on ninth.0 here) ≡ new = ap (λ (a : Outcome × HeaderValue). a.1) both in (
@@ -186,7 +186,7 @@ ends_or_goes_on : (view : View) (now : ℕ) (arrival : Arrival) (source destinat
     ⊎ ((is_last here ≡ false) × ((has_switched : Bool) × WentOn view now arrival here outcome new has_switched))
 ends_or_goes_on view now arrival source destination here outcome new e =
     let answer : Outcome × HeaderValue = (outcome, new) in
-    let ends = bind_ok (ended view arrival source destination here) (λ last. after_end view now arrival here last) answer e in
+    let ends = bind_ok (at_path_end view arrival source destination here) (λ last. after_end view now arrival here last) answer e in
     let is : is_last here ≡ ends.0 = ended_ok view arrival source destination here ends.0 ends.1.0 in
     elim (either ends.0 _ _ (done answer) ends.1.1) [
       | inl w ↦
@@ -196,7 +196,7 @@ ends_or_goes_on view now arrival source destination here outcome new e =
     ]
 
 pub step_ok : (view : View) (now : ℕ) (arrival : Arrival) (source destination : ℕ) (header new : HeaderValue) (outcome : Outcome) → step_of view now arrival source destination header ≡ Ok (outcome, new)
-    → (passes view now (info_of (arrived arrival header)) (hop_of header) ≡ Ok tt)
+    → (passes view now (current_info (arrived arrival header)) (current_hop header) ≡ Ok tt)
     × (((is_last header ≡ true) × Delivered (arrived arrival header) outcome new)
     ⊎ ((is_last header ≡ false) × ((has_switched : Bool) × WentOn view now arrival (arrived arrival header) outcome new has_switched)))
 step_ok view now arrival source destination header new outcome e =

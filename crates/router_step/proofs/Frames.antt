@@ -6,7 +6,7 @@ use Rattle.std.proofs.lemmas.List.{take-append-drop, drop-drop, length-append, l
 use Rattle.refusal.specs.Refusal.{◌>>=◌}
 use Rattle.scion_topology.specs.View.{View}
 use Rattle.path_header.specs.Value.{HeaderValue, header_len}
-use Rattle.path_header.specs.Spelling.{Spells, spelling}
+use Rattle.path_header.specs.Spelling.{SpellsHeader, spelling}
 use Rattle.path_header.specs.Reading.{read_at}
 use Rattle.path_header.proofs.WholeHeader.{spelled_is_read, spelled_is_long}
 use Rattle.router_step.specs.declared.outcome.Outcome.{Outcome}
@@ -16,10 +16,10 @@ use Rattle.router_step.specs.Packet.{source_of, destination_of, as_bad_header, h
 use Rattle.router_step.specs.Step.{step_of}
 
 -- the one text that spells a header spells it
-pub spells_spelling : (text : List ℕ) (header : HeaderValue) → Spells text header → Spells (spelling header) header
-spells_spelling text header s = subst (λ t. Spells t header) s.spelled s
+pub spells_spelling : (text : List ℕ) (header : HeaderValue) → SpellsHeader text header → SpellsHeader (spelling header) header
+spells_spelling text header s = subst (λ t. SpellsHeader t header) s.spelled s
 
-pub length-spelling : (bytes : List ℕ) (count len : ℕ) (header : HeaderValue) → Spells (take count bytes) header → count ≤ length bytes → count ≡ len → length (spelling header) ≡ len
+pub length-spelling : (bytes : List ℕ) (count len : ℕ) (header : HeaderValue) → SpellsHeader (take count bytes) header → count ≤ length bytes → count ≡ len → length (spelling header) ≡ len
 length-spelling bytes count len header s within count_is = sym (ap (length {A = ℕ}) s.spelled) ∙ length-take-le count bytes within ∙ count_is
 
 -- what stands behind the addresses
@@ -32,7 +32,7 @@ in_front packet addresses text rest header f =
     ap (take 16) f.whole ∙ subst (λ n. take n (addresses ++ (text ++ rest)) ≡ addresses) f.two (take-append_seam addresses (text ++ rest))
 
 -- a packet behind whose addresses a header is spelled has one
-pub has_header : (packet : List ℕ) (count : ℕ) (header : HeaderValue) → 16 + count ≤ length packet → Spells (take count (drop 16 packet)) header → HasHeader packet
+pub has_header : (packet : List ℕ) (count : ℕ) (header : HeaderValue) → 16 + count ≤ length packet → SpellsHeader (take count (drop 16 packet)) header → HasHeader packet
 has_header packet count header within s = (
   take 16 packet,
   (
@@ -56,9 +56,9 @@ for_value r x P Q e p = subst (λ s. MatchResult s (λ _. P) Q) (sym e) p
 
 -- a step that was done, in the parts of the packet
 pub turned : (packet addresses text rest after : List ℕ) (header read new : HeaderValue) (count : ℕ) (outcome : Outcome) (step : HeaderValue → Result (Outcome × HeaderValue) Refusal)
-    → IsFrame packet addresses text rest header → read ≡ header → count ≡ header_len read → 16 + count ≤ length packet → Spells (take count (drop 16 packet)) read
+    → IsFrame packet addresses text rest header → read ≡ header → count ≡ header_len read → 16 + count ≤ length packet → SpellsHeader (take count (drop 16 packet)) read
     → step read ≡ Ok (outcome, new) → new.lens ≡ read.lens
-    → Spells (spelling new) new → length (spelling new) ≡ header_len new
+    → SpellsHeader (spelling new) new → length (spelling new) ≡ header_len new
     → after ≡ take 16 packet ++ (spelling new ++ drop (16 + header_len new) packet)
     → StepsFrame (step header) addresses text rest after (Ok outcome)
 turned packet addresses text rest after header read new count outcome step f same count_is within s done lens again long made =

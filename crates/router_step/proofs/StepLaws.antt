@@ -11,10 +11,10 @@ use Rattle.path_header.specs.Value.{HeaderValue, IsHeader}
 use Rattle.router_step.specs.declared.arrival.Arrival.{Arrival}
 use Rattle.router_step.specs.declared.outcome.Outcome.{Outcome}
 use Rattle.router_step.specs.declared.outcome.Outcome.TheVariants.{ToLink, ToRouter, Deliver}
-use Rattle.router_step.specs.Place.{info_of, hop_of, way_out, with_seg_id, is_over_link, seg_id_on_arrival, seg_id_on_leaving, arrived, moved_on, gone}
+use Rattle.router_step.specs.Place.{current_info, current_hop, way_out, with_seg_id, is_over_link, seg_id_on_arrival, seg_id_on_leaving, arrived, moved_on, gone}
 use Rattle.router_step.specs.Checks.{is_last, ends_segment, changes_segment}
 use Rattle.router_step.specs.Step.{passes, switched}
-use Rattle.router_step.specs.Done.{Situation, Does, on_arrival, at_the_way_out, IsOwnHop, IsOwnLink, StaysOnSegment}
+use Rattle.router_step.specs.Done.{Situation, DoesStep, on_arrival, at_the_way_out, IsOwnHop, IsOwnLink, StaysOnSegment}
 use Rattle.router_step.proofs.FieldReads.{info_of-with_seg_id}
 use Rattle.router_step.proofs.DoneSteps.{passes_ok, switched_ok, left_ok, step_ok}
 
@@ -44,19 +44,19 @@ switch_is view now arrival header has_switched on e =
 
 module _ (by_test : (view : View) (mac : List ℕ) (beta timestamp exp_time cons_ingress cons_egress : ℕ) → IsTrue (is_authentic view mac beta timestamp exp_time cons_ingress cons_egress) ↔ IsAuthentic view mac beta timestamp exp_time cons_ingress cons_egress) where
   -- what a check of a hop tells of it
-  own_hop : (view : View) (now : ℕ) (header : HeaderValue) → passes view now (info_of header) (hop_of header) ≡ Ok tt → IsOwnHop view now header
+  own_hop : (view : View) (now : ℕ) (header : HeaderValue) → passes view now (current_info header) (current_hop header) ≡ Ok tt → IsOwnHop view now header
   own_hop view now header e =
-      let held = passes_ok view now (info_of header) (hop_of header) e in
+      let held = passes_ok view now (current_info header) (current_hop header) e in
       record {
         live = leb-true _ _ held.0;
-        authentic = (by_test view (hop_of header).mac (info_of header).seg_id (info_of header).timestamp (hop_of header).exp_time (hop_of header).cons_ingress (hop_of header).cons_egress).0 held.1;
+        authentic = (by_test view (current_hop header).mac (current_info header).seg_id (current_info header).timestamp (current_hop header).exp_time (current_hop header).cons_ingress (current_hop header).cons_egress).0 held.1;
       }
 
-  pub own_here : (at : Situation) (outcome : Outcome) (new : HeaderValue) → Does at outcome new → IsOwnHop at.view at.now (arrived at.arrival at.header)
+  pub own_here : (at : Situation) (outcome : Outcome) (new : HeaderValue) → DoesStep at outcome new → IsOwnHop at.view at.now (arrived at.arrival at.header)
   own_here at outcome new e =
       own_hop at.view at.now (arrived at.arrival at.header) (step_ok at.view at.now at.arrival at.source at.destination at.header new outcome e).0
 
-  pub own_beyond : (at : Situation) (outcome : Outcome) (new : HeaderValue) → Does at outcome new → IsOwnHop at.view at.now (at_the_way_out at)
+  pub own_beyond : (at : Situation) (outcome : Outcome) (new : HeaderValue) → DoesStep at outcome new → IsOwnHop at.view at.now (at_the_way_out at)
   own_beyond at outcome new e =
       let here = own_here at outcome new e in
       let at_same : changes_segment at.header ≡ false → IsOwnHop at.view at.now (moved_on (changes_segment at.header) (arrived at.arrival at.header)) =
@@ -70,7 +70,7 @@ module _ (by_test : (view : View) (mac : List ℕ) (beta timestamp exp_time cons
             ]
       ]
 
-pub new_header : (at : Situation) (outcome : Outcome) (new : HeaderValue) → Does at outcome new
+pub new_header : (at : Situation) (outcome : Outcome) (new : HeaderValue) → DoesStep at outcome new
     → new ≡ gone outcome (at_the_way_out at)
 new_header at outcome new e =
     elim (step_ok at.view at.now at.arrival at.source at.destination at.header new outcome e).1 [
@@ -78,7 +78,7 @@ new_header at outcome new e =
       | inr w ↦ w.1.1.new_is ∙ ap (λ b. gone outcome (moved_on b (arrived at.arrival at.header))) (switch_is at.view at.now at.arrival at.header w.1.0 w.0 w.1.1.switch)
     ]
 
-pub at_the_end : (at : Situation) (new : HeaderValue) → Does at Deliver new
+pub at_the_end : (at : Situation) (new : HeaderValue) → DoesStep at Deliver new
     → (is_last at.header ≡ true) × (new ≡ arrived at.arrival at.header)
 at_the_end at new e =
     elim (step_ok at.view at.now at.arrival at.source at.destination at.header new Deliver e).1 [
@@ -89,15 +89,15 @@ at_the_end at new e =
 -- the later of two accumulators stays
 with_later : (header : HeaderValue) (first second : ℕ) → header.curr_inf < length header.infos → with_seg_id (with_seg_id header first) second ≡ with_seg_id header second
 with_later header first second within =
-    let read : info_of (with_seg_id header first) ≡ record (info_of header) { seg_id = first } = info_of-with_seg_id header first within in
-    ap (λ (i : InfoField). record header { infos = set (set header.infos header.curr_inf (record (info_of header) { seg_id = first })) header.curr_inf (record i { seg_id = second }) }) read
+    let read : current_info (with_seg_id header first) ≡ record (current_info header) { seg_id = first } = info_of-with_seg_id header first within in
+    ap (λ (i : InfoField). record header { infos = set (set header.infos header.curr_inf (record (current_info header) { seg_id = first })) header.curr_inf (record i { seg_id = second }) }) read
     ∙ ap (λ (infos : List InfoField). record header { infos = infos }) (set-set header.infos header.curr_inf _ _)
 
 stays_with : (header : HeaderValue) (seg_id hop : ℕ) → header.curr_inf < length header.infos → StaysOnSegment header (record (with_seg_id header seg_id) { curr_hf = hop })
 stays_with header seg_id hop within = record {
   curr_inf = refl;
   lens = refl;
-  infos = ap (λ (i : InfoField). set header.infos header.curr_inf (record (info_of header) { seg_id = i.seg_id })) (sym (info_of-with_seg_id header seg_id within));
+  infos = ap (λ (i : InfoField). set header.infos header.curr_inf (record (current_info header) { seg_id = i.seg_id })) (sym (info_of-with_seg_id header seg_id within));
   hops = refl;
 }
 
@@ -105,18 +105,18 @@ stays_through : (arrival : Arrival) (header : HeaderValue) (outcome : Outcome) �
 stays_through arrival header (ToLink interface) within =
     let here : HeaderValue = arrived arrival header in
     subst (λ (h : HeaderValue). StaysOnSegment header (record h { curr_hf = header.curr_hf + 1 }))
-    (sym (with_later header (seg_id_on_arrival arrival (info_of header) (hop_of header)) (seg_id_on_leaving (info_of here) (hop_of here)) within))
-    (stays_with header (seg_id_on_leaving (info_of here) (hop_of here)) (header.curr_hf + 1) within)
-stays_through arrival header (ToRouter router) within = stays_with header (seg_id_on_arrival arrival (info_of header) (hop_of header)) header.curr_hf within
-stays_through arrival header Deliver within = stays_with header (seg_id_on_arrival arrival (info_of header) (hop_of header)) header.curr_hf within
+    (sym (with_later header (seg_id_on_arrival arrival (current_info header) (current_hop header)) (seg_id_on_leaving (current_info here) (current_hop here)) within))
+    (stays_with header (seg_id_on_leaving (current_info here) (current_hop here)) (header.curr_hf + 1) within)
+stays_through arrival header (ToRouter router) within = stays_with header (seg_id_on_arrival arrival (current_info header) (current_hop header)) header.curr_hf within
+stays_through arrival header Deliver within = stays_with header (seg_id_on_arrival arrival (current_info header) (current_hop header)) header.curr_hf within
 
 -- the new header where the packet stays on its segment
-on_segment : (at : Situation) (outcome : Outcome) (new : HeaderValue) → Does at outcome new
+on_segment : (at : Situation) (outcome : Outcome) (new : HeaderValue) → DoesStep at outcome new
     → changes_segment at.header ≡ false → new ≡ gone outcome (arrived at.arrival at.header)
 on_segment at outcome new e same =
     new_header at outcome new e ∙ ap (gone outcome) (unmoved at.header (arrived at.arrival at.header) same)
 
-pub stays : (at : Situation) (outcome : Outcome) (new : HeaderValue) → IsHeader at.header → Does at outcome new
+pub stays : (at : Situation) (outcome : Outcome) (new : HeaderValue) → IsHeader at.header → DoesStep at outcome new
     → changes_segment at.header ≡ false → StaysOnSegment at.header new
 stays at outcome new h e same =
     subst (StaysOnSegment at.header) (sym (on_segment at outcome new e same)) (stays_through at.arrival at.header outcome h.curr_inf)
@@ -128,13 +128,13 @@ seg_id_gone (ToRouter router) info hop = info.seg_id
 seg_id_gone Deliver info hop = info.seg_id
 
 new_seg_id : (arrival : Arrival) (header : HeaderValue) (outcome : Outcome) → header.curr_inf < length header.infos
-    → (info_of (gone outcome (arrived arrival header))).seg_id ≡ seg_id_gone outcome (record (info_of header) { seg_id = seg_id_on_arrival arrival (info_of header) (hop_of header) }) (hop_of header)
+    → (current_info (gone outcome (arrived arrival header))).seg_id ≡ seg_id_gone outcome (record (current_info header) { seg_id = seg_id_on_arrival arrival (current_info header) (current_hop header) }) (current_hop header)
 unfolding seg_id_gone
 new_seg_id arrival header (ToLink interface) within =
     let here : HeaderValue = arrived arrival header in
     let within_here : header.curr_inf < length here.infos = rw length-set within in
-    ap (λ (i : InfoField). i.seg_id) (info_of-with_seg_id here (seg_id_on_leaving (info_of here) (hop_of here)) within_here)
-    ∙ ap (λ (i : InfoField). seg_id_on_leaving i (hop_of header)) (info_of-with_seg_id header _ within)
+    ap (λ (i : InfoField). i.seg_id) (info_of-with_seg_id here (seg_id_on_leaving (current_info here) (current_hop here)) within_here)
+    ∙ ap (λ (i : InfoField). seg_id_on_leaving i (current_hop header)) (info_of-with_seg_id header _ within)
 new_seg_id arrival header (ToRouter router) within = ap (λ (i : InfoField). i.seg_id) (info_of-with_seg_id header _ within)
 new_seg_id arrival header Deliver within = ap (λ (i : InfoField). i.seg_id) (info_of-with_seg_id header _ within)
 
@@ -152,16 +152,16 @@ both_true : (b c : Bool) → b ≡ true → c ≡ true → (b && c) ≡ true
 both_true true c d e = e
 both_true false c d e = d
 
-pub along : (at : Situation) (interface : ℕ) (new : HeaderValue) → IsHeader at.header → Does at (ToLink interface) new
-    → changes_segment at.header ≡ false → (info_of at.header).construction ≡ true → (info_of new).seg_id ≡ beta_after (info_of at.header).seg_id (hop_of at.header).mac
+pub along : (at : Situation) (interface : ℕ) (new : HeaderValue) → IsHeader at.header → DoesStep at (ToLink interface) new
+    → changes_segment at.header ≡ false → (current_info at.header).construction ≡ true → (current_info new).seg_id ≡ beta_after (current_info at.header).seg_id (current_hop at.header).mac
 unfolding seg_id_gone
 along at interface new h e same forward =
-    let came : seg_id_on_arrival at.arrival (info_of at.header) (hop_of at.header) ≡ (info_of at.header).seg_id =
-    other (is_over_link at.arrival && not (info_of at.header).construction) _ _ (and_not_true (is_over_link at.arrival) (info_of at.header).construction forward) in
-    ap (λ (n : HeaderValue). (info_of n).seg_id) (on_segment at (ToLink interface) new e same)
+    let came : seg_id_on_arrival at.arrival (current_info at.header) (current_hop at.header) ≡ (current_info at.header).seg_id =
+    other (is_over_link at.arrival && not (current_info at.header).construction) _ _ (and_not_true (is_over_link at.arrival) (current_info at.header).construction forward) in
+    ap (λ (n : HeaderValue). (current_info n).seg_id) (on_segment at (ToLink interface) new e same)
     ∙ new_seg_id at.arrival at.header (ToLink interface) h.curr_inf
-    ∙ chosen (info_of at.header).construction _ _ forward
-    ∙ ap (λ n. beta_after n (hop_of at.header).mac) came
+    ∙ chosen (current_info at.header).construction _ _ forward
+    ∙ ap (λ n. beta_after n (current_hop at.header).mac) came
 
 against_gone : (outcome : Outcome) (info : InfoField) (hop : HopField) → info.construction ≡ false → seg_id_gone outcome info hop ≡ info.seg_id
 unfolding seg_id_gone
@@ -170,20 +170,20 @@ against_gone (ToRouter router) info hop backward = refl
 against_gone Deliver info hop backward = refl
 
 pub against : ((beta : ℕ) (mac : List ℕ) → beta_after (beta_after beta mac) mac ≡ beta)
-    → (at : Situation) (outcome : Outcome) (new : HeaderValue) → IsHeader at.header → Does at outcome new → is_over_link at.arrival ≡ true
-    → changes_segment at.header ≡ false → (info_of at.header).construction ≡ false → beta_after (info_of new).seg_id (hop_of at.header).mac ≡ (info_of at.header).seg_id
+    → (at : Situation) (outcome : Outcome) (new : HeaderValue) → IsHeader at.header → DoesStep at outcome new → is_over_link at.arrival ≡ true
+    → changes_segment at.header ≡ false → (current_info at.header).construction ≡ false → beta_after (current_info new).seg_id (current_hop at.header).mac ≡ (current_info at.header).seg_id
 against undone at outcome new h e by_link same backward =
-    let came : seg_id_on_arrival at.arrival (info_of at.header) (hop_of at.header) ≡ beta_after (info_of at.header).seg_id (hop_of at.header).mac =
-    chosen (is_over_link at.arrival && not (info_of at.header).construction) _ _ (both_true _ _ by_link (ap not backward)) in
-    let gone_is : (info_of new).seg_id ≡ beta_after (info_of at.header).seg_id (hop_of at.header).mac =
-    ap (λ (n : HeaderValue). (info_of n).seg_id) (on_segment at outcome new e same)
+    let came : seg_id_on_arrival at.arrival (current_info at.header) (current_hop at.header) ≡ beta_after (current_info at.header).seg_id (current_hop at.header).mac =
+    chosen (is_over_link at.arrival && not (current_info at.header).construction) _ _ (both_true _ _ by_link (ap not backward)) in
+    let gone_is : (current_info new).seg_id ≡ beta_after (current_info at.header).seg_id (current_hop at.header).mac =
+    ap (λ (n : HeaderValue). (current_info n).seg_id) (on_segment at outcome new e same)
     ∙ new_seg_id at.arrival at.header outcome h.curr_inf
-    ∙ against_gone outcome _ (hop_of at.header) backward
+    ∙ against_gone outcome _ (current_hop at.header) backward
     ∙ came in
-    ap (λ n. beta_after n (hop_of at.header).mac) gone_is ∙ undone (info_of at.header).seg_id (hop_of at.header).mac
+    ap (λ n. beta_after n (current_hop at.header).mac) gone_is ∙ undone (current_info at.header).seg_id (current_hop at.header).mac
 
-pub over_own_link : (at : Situation) (interface : ℕ) (new : HeaderValue) → Does at (ToLink interface) new
-    → (interface ≡ way_out (info_of (at_the_way_out at)) (hop_of (at_the_way_out at))) × ((entry : IfEntry) × IsOwnLink at.view interface entry)
+pub over_own_link : (at : Situation) (interface : ℕ) (new : HeaderValue) → DoesStep at (ToLink interface) new
+    → (interface ≡ way_out (current_info (at_the_way_out at)) (current_hop (at_the_way_out at))) × ((entry : IfEntry) × IsOwnLink at.view interface entry)
 over_own_link at interface new e =
     elim (step_ok at.view at.now at.arrival at.source at.destination at.header new (ToLink interface) e).1 [
       | inl w ↦ absurd (let is = w.1.outcome_is in cc)
@@ -193,13 +193,13 @@ over_own_link at interface new e =
           elim (left_ok at.view at.arrival w.1.0 _ _ (ToLink interface) w.1.1.leaves) [
             | inl d ↦ absurd (let is = d.1.outcome_is in cc)
             | inr d ↦
-                let way : interface ≡ way_out (info_of (moved_on w.1.0 here)) (hop_of (moved_on w.1.0 here)) = let is = d.1.outcome_is in cc in
-                (way ∙ ap (λ h. way_out (info_of h) (hop_of h)) place, (d.0, record { known = ap (entry_of at.view) way ∙ d.1.known; own = d.1.own; up = d.1.up }))
+                let way : interface ≡ way_out (current_info (moved_on w.1.0 here)) (current_hop (moved_on w.1.0 here)) = let is = d.1.outcome_is in cc in
+                (way ∙ ap (λ h. way_out (current_info h) (current_hop h)) place, (d.0, record { known = ap (entry_of at.view) way ∙ d.1.known; own = d.1.own; up = d.1.up }))
           ]
     ]
 
-pub to_owner : (at : Situation) (router : ℕ) (new : HeaderValue) → Does at (ToRouter router) new
-    → (router ≢ at.view.router) × ((entry : IfEntry) × ((entry.router ≡ router) × (entry_of at.view (way_out (info_of (at_the_way_out at)) (hop_of (at_the_way_out at))) ≡ Some entry)))
+pub to_owner : (at : Situation) (router : ℕ) (new : HeaderValue) → DoesStep at (ToRouter router) new
+    → (router ≢ at.view.router) × ((entry : IfEntry) × ((entry.router ≡ router) × (entry_of at.view (way_out (current_info (at_the_way_out at)) (current_hop (at_the_way_out at))) ≡ Some entry)))
 to_owner at router new e =
     elim (step_ok at.view at.now at.arrival at.source at.destination at.header new (ToRouter router) e).1 [
       | inl w ↦ absurd (let is = w.1.outcome_is in cc)
@@ -209,7 +209,7 @@ to_owner at router new e =
           elim (left_ok at.view at.arrival w.1.0 _ _ (ToRouter router) w.1.1.leaves) [
             | inl d ↦
                 let same : router ≡ d.0.router = let is = d.1.outcome_is in cc in
-                (λ own. d.1.another (sym same ∙ own), (d.0, (sym same, ap (λ h. entry_of at.view (way_out (info_of h) (hop_of h))) (sym place) ∙ d.1.known)))
+                (λ own. d.1.another (sym same ∙ own), (d.0, (sym same, ap (λ h. entry_of at.view (way_out (current_info h) (current_hop h))) (sym place) ∙ d.1.known)))
             | inr d ↦ absurd (let is = d.1.outcome_is in cc)
           ]
     ]

@@ -3,16 +3,16 @@ use Rattle.std.proofs.Common.{◌≡◌, ◌≢◌, ℕ, ◌+◌, Bool, true, re
 use Rattle.path_header.specs.Value.{HeaderValue}
 use Rattle.router_step.specs.declared.outcome.Outcome.{Outcome}
 use Rattle.router_step.specs.declared.outcome.Outcome.TheVariants.{ToLink, ToRouter, Deliver}
-use Rattle.router_step.specs.Place.{info_at, info_of, with_seg_id, arrived, moved_on, gone}
+use Rattle.router_step.specs.Place.{info_field_at, current_info, with_seg_id, arrived, moved_on, gone}
 use Rattle.router_step.specs.Checks.{changes_segment}
-use Rattle.router_step.specs.Done.{Situation, Does, at_the_way_out, ChangesSegment}
+use Rattle.router_step.specs.Done.{Situation, DoesStep, at_the_way_out, ChangesSegment}
 use Rattle.router_step.proofs.StepLaws.{new_header}
 
 -- an info field stays where another one's accumulator is set
-kept_beside : (header : HeaderValue) (seg_id index : ℕ) → index ≢ header.curr_inf → info_at (with_seg_id header seg_id) index ≡ info_at header index
+kept_beside : (header : HeaderValue) (seg_id index : ℕ) → index ≢ header.curr_inf → info_field_at (with_seg_id header seg_id) index ≡ info_field_at header index
 kept_beside header seg_id index other = rw get_or-set_other refl
 
-behind_kept : (outcome : Outcome) (here : HeaderValue) → info_at (gone outcome (moved_on true here)) here.curr_inf ≡ info_of here
+behind_kept : (outcome : Outcome) (here : HeaderValue) → info_field_at (gone outcome (moved_on true here)) here.curr_inf ≡ current_info here
 behind_kept (ToLink interface) here =
     let other : here.curr_inf ≢ here.curr_inf + 1 = omega arith in
     kept_beside (moved_on true here) _ here.curr_inf other
@@ -34,7 +34,7 @@ hops_kept (ToLink interface) header = refl
 hops_kept (ToRouter router) header = refl
 hops_kept Deliver header = refl
 
-pub changes_to_next : (at : Situation) (outcome : Outcome) (new : HeaderValue) → Does at outcome new → changes_segment at.header ≡ true → ChangesSegment at new
+pub changes_to_next : (at : Situation) (outcome : Outcome) (new : HeaderValue) → DoesStep at outcome new → changes_segment at.header ≡ true → ChangesSegment at new
 changes_to_next at outcome new done changes =
     let here = arrived at.arrival at.header in
     let out : at_the_way_out at ≡ moved_on true here = ap (λ (b : Bool). moved_on b here) changes in
@@ -45,6 +45,6 @@ changes_to_next at outcome new done changes =
       curr_hf = ap (λ (h : HeaderValue). h.curr_hf) out;
       lens = ap (λ (h : HeaderValue). h.lens) is ∙ lens_kept outcome (moved_on true here);
       hops = ap (λ (h : HeaderValue). h.hops) is ∙ hops_kept outcome (moved_on true here);
-      behind = ap (λ (h : HeaderValue). info_at h at.header.curr_inf) is ∙ behind_kept outcome here;
-      ahead = ap (λ (h : HeaderValue). info_of h) out ∙ kept_beside at.header _ (at.header.curr_inf + 1) other;
+      behind = ap (λ (h : HeaderValue). info_field_at h at.header.curr_inf) is ∙ behind_kept outcome here;
+      ahead = ap (λ (h : HeaderValue). current_info h) out ∙ kept_beside at.header _ (at.header.curr_inf + 1) other;
     }

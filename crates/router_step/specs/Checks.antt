@@ -43,8 +43,8 @@ way_in_fits view (Link interface) info hop =
 way_in_fits view arrival info hop = true
 
 -- step 4: the hop is live
-abbrev pub is_live : ℕ → InfoField → HopField → Bool
-is_live now info hop = is_live_at info.timestamp hop.exp_time now
+abbrev pub is_hop_live : ℕ → InfoField → HopField → Bool
+is_hop_live now info hop = is_live_at info.timestamp hop.exp_time now
 
 -- step 5: the hop's authenticator is right under the info field's accumulator and an accepted key
 abbrev pub is_mac_right : View → InfoField → HopField → Bool

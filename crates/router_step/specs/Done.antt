@@ -6,7 +6,7 @@ use Rattle.scion_topology.specs.View.{View, IsAuthentic, entry_of}
 use Rattle.path_header.specs.Value.{HeaderValue}
 use Rattle.router_step.specs.declared.arrival.Arrival.{Arrival}
 use Rattle.router_step.specs.declared.outcome.Outcome.{Outcome}
-use Rattle.router_step.specs.Place.{info_at, info_of, hop_of, arrived, moved_on}
+use Rattle.router_step.specs.Place.{info_field_at, current_info, current_hop, arrived, moved_on}
 use Rattle.router_step.specs.Checks.{changes_segment}
 use Rattle.router_step.specs.Step.{step_of}
 
@@ -21,8 +21,8 @@ pub record Situation : Type 0 where
   pub header : HeaderValue
 
 -- the step succeeds with this outcome and this new header
-abbrev pub Does : Situation → Outcome → HeaderValue → Type 0
-Does at outcome new =
+abbrev pub DoesStep : Situation → Outcome → HeaderValue → Type 0
+DoesStep at outcome new =
     step_of at.view at.now at.arrival at.source at.destination at.header ≡ Ok (outcome, new)
 
 -- the header after step 5, the change on arrival
@@ -35,9 +35,9 @@ at_the_way_out at = moved_on (changes_segment at.header) (arrived at.arrival at.
 
 -- the current hop is live, and its authenticator is right under a key that the AS accepts
 pub record IsOwnHop (view : View) (now : ℕ) (header : HeaderValue) : Type 0 where
-  pub live : IsLive (info_of header).timestamp (hop_of header).exp_time now
-  pub authentic : IsAuthentic view (hop_of header).mac (info_of header).seg_id (info_of header).timestamp
-      (hop_of header).exp_time (hop_of header).cons_ingress (hop_of header).cons_egress
+  pub live : IsLive (current_info header).timestamp (current_hop header).exp_time now
+  pub authentic : IsAuthentic view (current_hop header).mac (current_info header).seg_id (current_info header).timestamp
+      (current_hop header).exp_time (current_hop header).cons_ingress (current_hop header).cons_egress
 
 -- the new header differs only in the index of its hop field and in the accumulator of the current
 -- segment
@@ -45,7 +45,7 @@ pub record StaysOnSegment (old new : HeaderValue) : Type 0 where
   pub curr_inf : new.curr_inf ≡ old.curr_inf
   pub lens : new.lens ≡ old.lens
   pub infos : new.infos
-      ≡ slice_set old.infos old.curr_inf (record (info_of old) { seg_id = (info_of new).seg_id })
+      ≡ slice_set old.infos old.curr_inf (record (current_info old) { seg_id = (current_info new).seg_id })
   pub hops : new.hops ≡ old.hops
 
 -- the packet goes on in the next segment. The segment behind it keeps the accumulator of its
@@ -56,8 +56,8 @@ pub record ChangesSegment (at : Situation) (new : HeaderValue) : Type 0 where
   pub curr_hf : (at_the_way_out at).curr_hf ≡ at.header.curr_hf + 1
   pub lens : new.lens ≡ at.header.lens
   pub hops : new.hops ≡ at.header.hops
-  pub behind : info_at new at.header.curr_inf ≡ info_of (on_arrival at)
-  pub ahead : info_of (at_the_way_out at) ≡ info_at at.header (at.header.curr_inf + 1)
+  pub behind : info_field_at new at.header.curr_inf ≡ current_info (on_arrival at)
+  pub ahead : current_info (at_the_way_out at) ≡ info_field_at at.header (at.header.curr_inf + 1)
 
 -- the interface belongs to this router, and its link is up
 pub record IsOwnLink (view : View) (interface : ℕ) (entry : IfEntry) : Type 0 where

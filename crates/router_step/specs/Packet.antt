@@ -7,7 +7,7 @@ use Rattle.scion_topology.specs.View.{View}
 use Rattle.path_header.specs.declared.fault.HeaderFault.{HeaderFault}
 use Rattle.path_header.specs.declared.fault.HeaderFault.TheVariants.{Short}
 use Rattle.path_header.specs.Value.{HeaderValue}
-use Rattle.path_header.specs.Spelling.{Spells, spelling}
+use Rattle.path_header.specs.Spelling.{SpellsHeader, spelling}
 use Rattle.path_header.specs.Reading.{read_at}
 use Rattle.router_step.specs.declared.arrival.Arrival.{Arrival}
 use Rattle.router_step.specs.declared.outcome.Outcome.{Outcome}
@@ -59,7 +59,7 @@ IsPacketStepped step old new (Err e) = (step ≡ Err e) × (new ≡ old)
 pub record IsFrame (packet addresses text rest : List ℕ) (header : HeaderValue) : Type 0 where
   pub whole : packet ≡ addresses ++ (text ++ rest)
   pub two : length addresses ≡ 16
-  pub spells : Spells text header
+  pub spells : SpellsHeader text header
 
 -- the packet has a path header
 abbrev pub HasHeader : List ℕ → Type 0

@@ -10,17 +10,17 @@ use Rattle.router_step.specs.declared.outcome.Outcome.{Outcome}
 use Rattle.router_step.specs.declared.outcome.Outcome.TheVariants.{ToLink, ToRouter, Deliver}
 
 -- the info field of this index
-abbrev pub info_at : HeaderValue → ℕ → InfoField
-info_at header index = slice_index_or header.infos index
+abbrev pub info_field_at : HeaderValue → ℕ → InfoField
+info_field_at header index = slice_index_or header.infos index
     (record { construction = false; seg_id = 0; timestamp = 0 })
 
 -- the current info field
-abbrev pub info_of : HeaderValue → InfoField
-info_of header = info_at header header.curr_inf
+abbrev pub current_info : HeaderValue → InfoField
+current_info header = info_field_at header header.curr_inf
 
 -- the current hop field
-abbrev pub hop_of : HeaderValue → HopField
-hop_of header = slice_index_or header.hops header.curr_hf
+abbrev pub current_hop : HeaderValue → HopField
+current_hop header = slice_index_or header.hops header.curr_hf
     (record { exp_time = 0; cons_ingress = 0; cons_egress = 0; mac = [] })
 
 -- the interface by which a packet on this segment enters the hop's AS
@@ -35,7 +35,7 @@ way_out info hop = if info.construction then hop.cons_egress else hop.cons_ingre
 abbrev pub with_seg_id : HeaderValue → ℕ → HeaderValue
 with_seg_id header seg_id =
     record header {
-      infos = slice_set header.infos header.curr_inf (record (info_of header) { seg_id = seg_id });
+      infos = slice_set header.infos header.curr_inf (record (current_info header) { seg_id = seg_id });
     }
 
 -- the packet came over a link
@@ -53,7 +53,7 @@ seg_id_on_arrival arrival info hop =
 -- the header after the arrival: the change of step 5
 abbrev pub arrived : Arrival → HeaderValue → HeaderValue
 arrived arrival header =
-    with_seg_id header (seg_id_on_arrival arrival (info_of header) (hop_of header))
+    with_seg_id header (seg_id_on_arrival arrival (current_info header) (current_hop header))
 
 -- the header after step 9: both indices go on by one if there is a switch to the next segment
 abbrev pub moved_on : Bool → HeaderValue → HeaderValue
@@ -72,7 +72,7 @@ seg_id_on_leaving info hop =
 -- the header after step 13: over a link the packet goes on to the next hop; else nothing changes
 abbrev pub gone : Outcome → HeaderValue → HeaderValue
 gone (ToLink interface) header =
-    record (with_seg_id header (seg_id_on_leaving (info_of header) (hop_of header))) {
+    record (with_seg_id header (seg_id_on_leaving (current_info header) (current_hop header))) {
       curr_hf = header.curr_hf + 1;
     }
 gone outcome header = header

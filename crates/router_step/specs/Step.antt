@@ -12,26 +12,26 @@ use Rattle.router_step.specs.declared.outcome.Outcome.{Outcome}
 use Rattle.router_step.specs.declared.outcome.Outcome.TheVariants.{ToLink, ToRouter, Deliver}
 use Rattle.router_step.specs.declared.fault.Refusal.{Refusal}
 use Rattle.router_step.specs.declared.fault.Refusal.TheVariants as refusal
-use Rattle.router_step.specs.Place.{info_of, hop_of, is_over_link, way_out, arrived, moved_on, gone}
-use Rattle.router_step.specs.Checks.{indices_fit, way_in_fits, is_live, is_mac_right, source_fits, is_last, destination_fits, ends_segment, kinds_fit}
+use Rattle.router_step.specs.Place.{current_info, current_hop, is_over_link, way_out, arrived, moved_on, gone}
+use Rattle.router_step.specs.Checks.{indices_fit, way_in_fits, is_hop_live, is_mac_right, source_fits, is_last, destination_fits, ends_segment, kinds_fit}
 
 -- steps 4 and 5 for this info and hop field
 unfoldable pub passes : View → ℕ → InfoField → HopField → Result (Unit {0}) Refusal
 passes view now info hop = do
-  _ ← check (is_live now info hop) refusal.Expired  -- 4
+  _ ← check (is_hop_live now info hop) refusal.Expired  -- 4
   check (is_mac_right view info hop) refusal.BadMac  -- 5
 
 -- steps 2 to 5: the first refusal, or the header after the arrival
 unfoldable pub admitted : View → ℕ → Arrival → HeaderValue → Result HeaderValue Refusal
 admitted view now arrival header = do
   _ ← check (indices_fit arrival header) refusal.IndexMismatch  -- 2
-  _ ← check (way_in_fits view arrival (info_of header) (hop_of header)) refusal.WrongIngress  -- 3
-  _ ← passes view now (info_of (arrived arrival header)) (hop_of header)  -- 4, 5
+  _ ← check (way_in_fits view arrival (current_info header) (current_hop header)) refusal.WrongIngress  -- 3
+  _ ← passes view now (current_info (arrived arrival header)) (current_hop header)  -- 4, 5
   Ok (arrived arrival header)
 
 -- steps 6 and 7: the first refusal, or whether the packet is at the last hop of its path
-unfoldable pub ended : View → Arrival → ℕ → ℕ → HeaderValue → Result Bool Refusal
-ended view arrival source destination header = do
+unfoldable pub at_path_end : View → Arrival → ℕ → ℕ → HeaderValue → Result Bool Refusal
+at_path_end view arrival source destination header = do
   _ ← check (source_fits view arrival source) refusal.SourceAs  -- 6
   _ ← check (destination_fits view destination (is_last header)) refusal.DestinationAs  -- 7
   Ok (is_last header)
@@ -42,7 +42,7 @@ unfoldable pub switched : View → ℕ → Arrival → HeaderValue → Result Bo
 switched view now arrival header =
     if ends_segment header then (do
       _ ← check (is_over_link arrival) refusal.SwitchInside
-      _ ← passes view now (info_of (moved_on true header)) (hop_of (moved_on true header))
+      _ ← passes view now (current_info (moved_on true header)) (current_hop (moved_on true header))
       Ok true)
     else Ok false
 
@@ -60,11 +60,11 @@ unfoldable pub step_of : View → ℕ → Arrival → ℕ → ℕ → HeaderValu
     → Result (Outcome × HeaderValue) Refusal
 step_of view now arrival source destination header = do
   here ← admitted view now arrival header  -- 2 to 5
-  last ← ended view arrival source destination here  -- 6, 7
+  last ← at_path_end view arrival source destination here  -- 6, 7
   if last then Ok (Deliver, here) else (do  -- 8
     has_switched ← switched view now arrival here  -- 9
     outcome ← left view arrival has_switched
-        (info_of (moved_on has_switched here)) (hop_of (moved_on has_switched here))  -- 10 to 13
+        (current_info (moved_on has_switched here)) (current_hop (moved_on has_switched here))  -- 10 to 13
     Ok (outcome, gone outcome (moved_on has_switched here)))
 
 -- the step succeeds with the outcome and the new header, or is refused and leaves the header as it

@@ -4,7 +4,7 @@
 
 ghost use Rattle.std.specs.Prelude.{◌≡◌};
 ghost use Rattle.router_step.specs.Place.{is_over_link};
-ghost use Rattle.router_step.specs.Checks.{has_no_single, is_start_right, is_owned, way_in_fits, is_live, is_mac_right, source_fits, destination_fits, are_joined, kinds_fit};
+ghost use Rattle.router_step.specs.Checks.{has_no_single, is_start_right, is_owned, way_in_fits, is_hop_live, is_mac_right, source_fits, destination_fits, are_joined, kinds_fit};
 ghost use Rattle.router_step.specs.Step.{passes};
 
 use crate::arrival::Arrival;
@@ -68,8 +68,8 @@ pub fn way_in_fits(
 }
 
 /// Whether the hop is live.
-pub fn is_live(now: u32, info: &InfoField, hop: &HopField) -> bool
-    ensures { result ≡ is_live now info.now hop.now }
+pub fn is_hop_live(now: u32, info: &InfoField, hop: &HopField) -> bool
+    ensures { result ≡ is_hop_live now info.now hop.now }
 {
     hop_is_live(info.timestamp, hop.exp_time, now)
 }
@@ -98,7 +98,7 @@ pub(crate) fn pass(
 ) -> Result<(), Refusal>
     ensures { result ≡ passes view.now now info.now hop.now }
 {
-    if !is_live(now, info, hop) {
+    if !is_hop_live(now, info, hop) {
         return Err(Refusal::Expired);
     }
     if !is_mac_right(view, info, hop) {

@@ -7,11 +7,11 @@ ghost use Rattle.scion_topology.specs.View.{View, entry_of};
 ghost use Rattle.path_header.specs.Value.{HeaderValue, IsHeader};
 ghost use Rattle.router_step.specs.declared.arrival.Arrival.{Arrival};
 ghost use Rattle.router_step.specs.declared.outcome.Outcome.{Outcome};
-ghost use Rattle.router_step.specs.Place.{info_of, hop_of, is_over_link, way_out, moved_on, gone};
-ghost use Rattle.router_step.specs.Checks.{changes_segment, destination_fits, ends_segment, indices_fit, is_last, is_live, is_mac_right};
+ghost use Rattle.router_step.specs.Place.{current_info, current_hop, is_over_link, way_out, moved_on, gone};
+ghost use Rattle.router_step.specs.Checks.{changes_segment, destination_fits, ends_segment, indices_fit, is_last, is_hop_live, is_mac_right};
 ghost use Rattle.router_step.specs.Step.{step_of, switched};
 ghost use Rattle.router_step.specs.Packet.{IsFrame, frame_step, packet_step};
-ghost use Rattle.router_step.specs.Done.{Situation, Does, on_arrival, at_the_way_out, IsOwnHop, IsOwnLink, StaysOnSegment, ChangesSegment};
+ghost use Rattle.router_step.specs.Done.{Situation, DoesStep, on_arrival, at_the_way_out, IsOwnHop, IsOwnLink, StaysOnSegment, ChangesSegment};
 ghost use Rattle.router_step.specs.Forward.{IsAdmitted, MayLeave, goes};
 
 /// A packet that is not refused is at a live hop, whose authenticator is right under a key that
@@ -20,9 +20,9 @@ ghost use Rattle.router_step.specs.Forward.{IsAdmitted, MayLeave, goes};
 /// link or is delivered.
 pub fn own_hops_alone()
     ensures here { (at : Situation) (outcome : Outcome) (new : HeaderValue)
-        → Does at outcome new → IsOwnHop at.view at.now (on_arrival at) }
+        → DoesStep at outcome new → IsOwnHop at.view at.now (on_arrival at) }
     ensures beyond { (at : Situation) (outcome : Outcome) (new : HeaderValue)
-        → Does at outcome new → IsOwnHop at.view at.now (at_the_way_out at) }
+        → DoesStep at outcome new → IsOwnHop at.view at.now (at_the_way_out at) }
 {
     scion_topology::laws::authentic_by_test();
 }
@@ -31,14 +31,14 @@ pub fn own_hops_alone()
 /// to another router only if that router owns the way out.
 pub fn own_links_alone()
     ensures over_link { (at : Situation) (interface : ℕ) (new : HeaderValue)
-        → Does at (Outcome.ToLink interface) new
-        → (interface ≡ way_out (info_of (at_the_way_out at)) (hop_of (at_the_way_out at)))
+        → DoesStep at (Outcome.ToLink interface) new
+        → (interface ≡ way_out (current_info (at_the_way_out at)) (current_hop (at_the_way_out at)))
         × ((entry : IfEntry) × IsOwnLink at.view interface entry) }
     ensures inside { (at : Situation) (router : ℕ) (new : HeaderValue)
-        → Does at (Outcome.ToRouter router) new
+        → DoesStep at (Outcome.ToRouter router) new
         → (router ≢ at.view.router)
         × ((entry : IfEntry) × ((entry.router ≡ router)
-        × (entry_of at.view (way_out (info_of (at_the_way_out at)) (hop_of (at_the_way_out at)))
+        × (entry_of at.view (way_out (current_info (at_the_way_out at)) (current_hop (at_the_way_out at)))
         ≡ Some entry))) }
 {}
 
@@ -46,21 +46,21 @@ pub fn own_links_alone()
 /// path goes on to another segment, and that of the outcome.
 pub fn three_changes()
     ensures all { (at : Situation) (outcome : Outcome) (new : HeaderValue)
-        → Does at outcome new → new ≡ gone outcome (at_the_way_out at) }
+        → DoesStep at outcome new → new ≡ gone outcome (at_the_way_out at) }
 
     // A packet that goes to another router has only the changes of the arrival and of a switch.
     ensures to_router { (at : Situation) (router : ℕ) (new : HeaderValue)
-        → Does at (Outcome.ToRouter router) new → new ≡ at_the_way_out at }
+        → DoesStep at (Outcome.ToRouter router) new → new ≡ at_the_way_out at }
     // A packet is delivered at the last hop of its path, with only the change of the arrival.
     ensures delivered { (at : Situation) (new : HeaderValue)
-        → Does at Outcome.Deliver new → (is_last at.header ≡ true) × (new ≡ on_arrival at) }
+        → DoesStep at Outcome.Deliver new → (is_last at.header ≡ true) × (new ≡ on_arrival at) }
 {}
 
 /// If the path stays on its segment, the new header differs only in the index of its hop field and
 /// in the accumulator of that segment.
 pub fn segment_stays()
     ensures { (at : Situation) (outcome : Outcome) (new : HeaderValue)
-        → IsHeader at.header → Does at outcome new → changes_segment at.header ≡ false
+        → IsHeader at.header → DoesStep at outcome new → changes_segment at.header ≡ false
         → StaysOnSegment at.header new }
 {}
 
@@ -68,7 +68,7 @@ pub fn segment_stays()
 /// arrival, that of the next is unchanged before the packet leaves, and both indices go up by one.
 pub fn segment_changes()
     ensures { (at : Situation) (outcome : Outcome) (new : HeaderValue)
-        → Does at outcome new → changes_segment at.header ≡ true → ChangesSegment at new }
+        → DoesStep at outcome new → changes_segment at.header ≡ true → ChangesSegment at new }
 {}
 
 /// A packet that stays on its segment and leaves over a link in construction direction carries the
@@ -77,20 +77,20 @@ pub fn segment_changes()
 /// to the accumulator with which it came.
 pub fn accumulator_goes_on()
     ensures along { (at : Situation) (interface : ℕ) (new : HeaderValue)
-        → IsHeader at.header → Does at (Outcome.ToLink interface) new
-        → changes_segment at.header ≡ false → (info_of at.header).construction ≡ true
-        → (info_of new).seg_id ≡ beta_after (info_of at.header).seg_id (hop_of at.header).mac }
+        → IsHeader at.header → DoesStep at (Outcome.ToLink interface) new
+        → changes_segment at.header ≡ false → (current_info at.header).construction ≡ true
+        → (current_info new).seg_id ≡ beta_after (current_info at.header).seg_id (current_hop at.header).mac }
     ensures against { (at : Situation) (outcome : Outcome) (new : HeaderValue)
-        → IsHeader at.header → Does at outcome new → is_over_link at.arrival ≡ true
-        → changes_segment at.header ≡ false → (info_of at.header).construction ≡ false
-        → beta_after (info_of new).seg_id (hop_of at.header).mac ≡ (info_of at.header).seg_id }
+        → IsHeader at.header → DoesStep at outcome new → is_over_link at.arrival ≡ true
+        → changes_segment at.header ≡ false → (current_info at.header).construction ≡ false
+        → beta_after (current_info new).seg_id (current_hop at.header).mac ≡ (current_info at.header).seg_id }
     // With a switch, too, a packet that leaves in construction direction carries the next hop's
     // accumulator.
     ensures leaving { (at : Situation) (interface : ℕ) (new : HeaderValue)
-        → IsHeader at.header → Does at (Outcome.ToLink interface) new
-        → (info_of (at_the_way_out at)).construction ≡ true
-        → (info_of new).seg_id
-        ≡ beta_after (info_of (at_the_way_out at)).seg_id (hop_of (at_the_way_out at)).mac }
+        → IsHeader at.header → DoesStep at (Outcome.ToLink interface) new
+        → (current_info (at_the_way_out at)).construction ≡ true
+        → (current_info new).seg_id
+        ≡ beta_after (current_info (at_the_way_out at)).seg_id (current_hop (at_the_way_out at)).mac }
 {
     hop_mac::laws::step_undone();
 }
@@ -99,9 +99,9 @@ pub fn accumulator_goes_on()
 /// of the next router.
 pub fn indices_go_on()
     ensures header { (at : Situation) (outcome : Outcome) (new : HeaderValue)
-        → IsHeader at.header → Does at outcome new → IsHeader new }
+        → IsHeader at.header → DoesStep at outcome new → IsHeader new }
     ensures indices { (at : Situation) (outcome : Outcome) (new : HeaderValue) (arrival : Arrival)
-        → IsHeader at.header → Does at outcome new → arrival ≢ Arrival.FromHost
+        → IsHeader at.header → DoesStep at outcome new → arrival ≢ Arrival.FromHost
         → indices_fit arrival new ≡ true }
 {}
 
@@ -126,8 +126,8 @@ pub fn checks_lead_on()
         → ends_segment here ≡ false → switched view now arrival here ≡ Ok false }
     ensures to_the_next { (view : View) (now : ℕ) (arrival : Arrival) (here : HeaderValue)
         → ends_segment here ≡ true → is_over_link arrival ≡ true
-        → is_live now (info_of (moved_on true here)) (hop_of (moved_on true here)) ≡ true
-        → is_mac_right view (info_of (moved_on true here)) (hop_of (moved_on true here)) ≡ true
+        → is_hop_live now (current_info (moved_on true here)) (current_hop (moved_on true here)) ≡ true
+        → is_mac_right view (current_info (moved_on true here)) (current_hop (moved_on true here)) ≡ true
         → switched view now arrival here ≡ Ok true }
 {}
 

@@ -2,7 +2,7 @@
 
 ghost use Rattle.std.specs.Prelude.{◌≡◌, ℕ, ◌+◌, ◌≤◌, true, List, ◌++◌, length, take, drop, OnOk, OnErr, IfOk, MatchResult};
 ghost use Rattle.path_header.specs.Value.{HeaderValue, header_len};
-ghost use Rattle.path_header.specs.Spelling.{Spells};
+ghost use Rattle.path_header.specs.Spelling.{SpellsHeader};
 ghost use Rattle.path_header.specs.Shown.{has_header, header_at_front};
 ghost use Rattle.refusal.specs.Refusal.{Gives};
 ghost use Rattle.router_step.specs.Step.{step_of, IsStepped};
@@ -100,9 +100,9 @@ fn step_behind(
         ≡ drop (header_len (header_at_front bytes.old)) bytes.old }
     // The bytes begin with a header, before the step and after it.
     ensures before { let header = header_at_front bytes.old
-        in Spells (take (header_len header) bytes.old) header }
+        in SpellsHeader (take (header_len header) bytes.old) header }
     ensures after { let header = header_at_front bytes.new
-        in Spells (take (header_len header) bytes.new) header }
+        in SpellsHeader (take (header_len header) bytes.new) header }
     ensures long { header_len (header_at_front bytes.old) ≤ length bytes.old }
 {
     let mut header = HeaderMut::checked(bytes);
@@ -136,7 +136,7 @@ pub fn read_header(packet: &[u8]) -> Result<(Header, usize), Refusal>
     ensures exact { result ≡ header_in packet.now }
     ensures len { IfOk result (λ front. front.1 ≡ header_len front.0) }
     ensures within { IfOk result (λ front. 16 + front.1 ≤ length packet.now) }
-    ensures found { IfOk result (λ front. Spells (take front.1 (drop 16 packet.now)) front.0) }
+    ensures found { IfOk result (λ front. SpellsHeader (take front.1 (drop 16 packet.now)) front.0) }
     ensures only { (addresses text rest : List ℕ) (header : HeaderValue)
         → IsFrame packet.now addresses text rest header → result ≡ Ok (header, header_len header) }
 {

@@ -2,7 +2,7 @@
 
 ghost use Rattle.std.specs.Prelude.{◌≡◌, ◌+◌, ◌<◌, length, if◌then◌else◌};
 ghost use Rattle.path_header.specs.Borrowed.{value_of, rest_of};
-ghost use Rattle.router_step.specs.Place.{info_of, hop_of, way_in, way_out, with_seg_id, seg_id_on_arrival, arrived, moved_on, seg_id_on_leaving, gone};
+ghost use Rattle.router_step.specs.Place.{current_info, current_hop, way_in, way_out, with_seg_id, seg_id_on_arrival, arrived, moved_on, seg_id_on_leaving, gone};
 
 use crate::arrival::Arrival;
 use crate::outcome::Outcome;
@@ -12,7 +12,7 @@ use path_header::{HeaderMut, HopField, InfoField};
 
 /// The current info field.
 pub(crate) fn info_at(header: &HeaderMut<'_>) -> InfoField
-    ensures field { result ≡ info_of (value_of header.now) }
+    ensures field { result ≡ current_info (value_of header.now) }
     ensures within { (value_of header.now).curr_inf < length (value_of header.now).infos }
 {
     header.current_info()
@@ -20,7 +20,7 @@ pub(crate) fn info_at(header: &HeaderMut<'_>) -> InfoField
 
 /// The current hop field.
 pub(crate) fn hop_at(header: &HeaderMut<'_>) -> HopField
-    ensures { result ≡ hop_of (value_of header.now) }
+    ensures { result ≡ current_hop (value_of header.now) }
 {
     header.current_hop()
 }
@@ -72,7 +72,7 @@ fn seg_id_on_leaving(info: &InfoField, hop: &HopField) -> u16
 
 /// The current info field after the arrival.
 pub(crate) fn info_on_arrival(arrival: &Arrival, header: &HeaderMut<'_>) -> InfoField
-    ensures { result ≡ info_of (arrived arrival.now (value_of header.now)) }
+    ensures { result ≡ current_info (arrived arrival.now (value_of header.now)) }
 {
     let mut info = info_at(header);
     info.seg_id = seg_id_on_arrival(arrival, &info, &hop_at(header));
@@ -83,7 +83,7 @@ pub(crate) fn info_on_arrival(arrival: &Arrival, header: &HeaderMut<'_>) -> Info
 pub(crate) fn info_to_leave(arrival: &Arrival, switched: bool, header: &HeaderMut<'_>) -> InfoField
     requires { let value = value_of header.now
         in value.curr_inf + (if switched then 1 else 0) < length value.infos }
-    ensures { result ≡ info_of (moved_on switched (arrived arrival.now (value_of header.now))) }
+    ensures { result ≡ current_info (moved_on switched (arrived arrival.now (value_of header.now))) }
 {
     if switched {
         header.info(header.curr_inf() + 1)
@@ -96,7 +96,7 @@ pub(crate) fn info_to_leave(arrival: &Arrival, switched: bool, header: &HeaderMu
 pub(crate) fn hop_to_leave(switched: bool, header: &HeaderMut<'_>) -> HopField
     requires { let value = value_of header.now
         in value.curr_hf + (if switched then 1 else 0) < length value.hops }
-    ensures { result ≡ hop_of (moved_on switched (value_of header.now)) }
+    ensures { result ≡ current_hop (moved_on switched (value_of header.now)) }
 {
     if switched {
         header.hop(header.curr_hf() + 1)

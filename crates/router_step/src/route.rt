@@ -6,7 +6,7 @@ ghost use Rattle.path_header.specs.Borrowed.{bytes_of, value_of, rest_of};
 ghost use Rattle.refusal.specs.Refusal.{Gives};
 ghost use Rattle.router_step.specs.Place.{arrived};
 ghost use Rattle.router_step.specs.Checks.{has_no_single, indices_fit};
-ghost use Rattle.router_step.specs.Step.{admitted, ended, switched, left, step_of, IsStepped};
+ghost use Rattle.router_step.specs.Step.{admitted, at_path_end, switched, left, step_of, IsStepped};
 
 use crate::arrival::Arrival;
 use crate::checks::{
@@ -59,7 +59,7 @@ fn admit(
 
 /// Steps 6 and 7: checks both addresses, and returns whether the packet is at the last hop of its
 /// path.
-#[tactic(auto, unfolding(crate::specs::Step::ended))]
+#[tactic(auto, unfolding(crate::specs::Step::at_path_end))]
 fn end(
     view: &RouterView<'_>,
     arrival: &Arrival,
@@ -68,7 +68,7 @@ fn end(
     header: &HeaderMut<'_>,
 ) -> Result<bool, Refusal>
     ensures exact { result
-        ≡ ended view.now arrival.now source destination
+        ≡ at_path_end view.now arrival.now source destination
         (arrived arrival.now (value_of header.now)) }
     ensures more { let value = value_of header.now
         in IfOk result (λ last. last ≡ false → value.curr_hf + 1 < length value.hops) }

@@ -7,7 +7,7 @@ use Rattle.scion_topology.specs.Network.{Network}
 use Rattle.scion_topology.specs.Topology.{owner_in}
 use Rattle.path_verifier.specs.Walk.{walk_of}
 use Rattle.path_verifier.specs.Accepted.{AreLive}
-use Rattle.path_verifier.specs.Header.{hop_count}
+use Rattle.path_verifier.specs.Header.{total_hops}
 use Rattle.forwarding.specs.Frame.{framed}
 use Rattle.forwarding.specs.Turn.{Packet, put_at, after}
 use Rattle.forwarding.specs.Forwardable.{MayForward}
@@ -19,7 +19,7 @@ use Rattle.forwarding.proofs.Made.{sound_is_let_through}
 use Rattle.forwarding.proofs.Journeys.{stands_after, delivered_after}
 use Rattle.network_core.specs.Delivery.{IsRefusedAt, IsAtRouter}
 use Rattle.router_workers.specs.Flight.{SentPacket, IsFlight, put_with, departed, grounded}
-use Rattle.router_workers.specs.Delivery.{IsForwarded, IsSoundIn}
+use Rattle.router_workers.specs.Delivery.{IsFlightForwarded, IsSoundIn}
 
 -- ---- where a flight departs
 
@@ -49,8 +49,8 @@ began n start first (now ∷ later) none is = absurd (omega (arith, none))
 -- ---- after its turns
 
 before : (n : Network) (sent : SentPacket) (total done : ℕ) (packet : Packet) → done < total
-    → total ≤ 2 * hop_count sent.pieces → OnPath n sent.source sent.destination sent.payload sent.pieces (total - done)
-    packet → IsForwarded sent total done packet
+    → total ≤ 2 * total_hops sent.pieces → OnPath n sent.source sent.destination sent.payload sent.pieces (total - done)
+    packet → IsFlightForwarded sent total done packet
 before n sent total done packet early few stands =
     let place = ap (λ (q : Packet). q.place) stands.is in
     let at : IsAtRouter packet.place = subst IsAtRouter (sym place) tt in
@@ -70,7 +70,7 @@ before n sent total done packet early few stands =
 
 behind : (sent : SentPacket) (total done : ℕ) (packet : Packet) → total ≤ done
     → packet ≡ arrived_with sent.source sent.destination sent.payload sent.pieces
-    → IsForwarded sent total done packet
+    → IsFlightForwarded sent total done packet
 behind sent total done packet enough there =
     let place = ap (λ (q : Packet). q.place) there in
     record {
@@ -86,7 +86,7 @@ behind sent total done packet enough there =
 pub delivered : (n : Network) (sent : SentPacket) (start : Packet) (moments : List ℕ)
     → IsFlight (grounded n sent start) → IsSoundIn n sent
     → All (λ now. AreLive now sent.pieces) moments
-    → IsForwarded sent (turns_for n (walk_of sent.pieces)) (length moments)
+    → IsFlightForwarded sent (turns_for n (walk_of sent.pieces)) (length moments)
     (after n start moments)
 delivered n sent start moments flight sound live =
     let path = flight.accepted.path in

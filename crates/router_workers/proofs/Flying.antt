@@ -6,17 +6,17 @@ use Rattle.scion_topology.specs.Network.{Network}
 use Rattle.scion_topology.specs.Topology.{view_in}
 use Rattle.path_header.specs.Value.{HeaderValue}
 use Rattle.path_verifier.specs.Piece.{PieceValue}
-use Rattle.path_verifier.specs.Header.{header_of, hop_count}
+use Rattle.path_verifier.specs.Header.{header_of, total_hops}
 use Rattle.forwarding.specs.declared.location.RouterStop.{RouterStop}
 use Rattle.forwarding.specs.declared.location.PacketLocation.{PacketLocation}
 use Rattle.forwarding.specs.declared.location.PacketLocation.TheVariants.{AtRouter, Delivered, Refused, Lost}
 use Rattle.forwarding.specs.Frame.{framed}
-use Rattle.forwarding.specs.Turn.{Packet, put_at, turn_under, turn_of, turned, after}
+use Rattle.forwarding.specs.Turn.{Packet, put_at, turn_under, turn_of, turned_packet, after}
 use Rattle.forwarding.proofs.Ended.{turn_by_view}
 use Rattle.forwarding.proofs.Reading.{length_fields}
 use Rattle.forwarding.proofs.Bounded.{fewer_before, stops_are_there, owners_are_there}
 use Rattle.network_core.specs.Delivery.{IsAtRouter}
-use Rattle.router_workers.specs.Flight.{FlightValue, IsFlight, IsViewAt, advanced}
+use Rattle.router_workers.specs.Flight.{FlightValue, IsFlight, IsViewAt, advanced_flight}
 use Rattle.router_workers.proofs.Delivered.{departs}
 
 -- ---- while it is at a router it has had fewer than 128 turns
@@ -53,7 +53,7 @@ view_there flight is stop at =
     (rw header is.frame.fits) (at_stop flight is stop at)
 
 hops_of_header : (pieces : List PieceValue) (header : HeaderValue) → header ≡ header_of pieces
-    → length header.hops ≡ hop_count pieces
+    → length header.hops ≡ total_hops pieces
 unfolding header_of
 hops_of_header pieces header same = ap (λ (h : HeaderValue). length h.hops) same
     ∙ length_fields pieces
@@ -71,7 +71,7 @@ turns_left flight is here =
     let fewer = fewer_before n way.source way.destination way.source from.router way.header
     way.payload is.moments stop.0 is.network there
     (rw header is.frame.is_header) (rw header is.frame.fits) at in
-    let hops : length way.header.hops ≡ hop_count way.pieces = hops_of_header way.pieces way.header
+    let hops : length way.header.hops ≡ total_hops way.pieces = hops_of_header way.pieces way.header
     header in
     let few = is.accepted.path.few in
     let count = is.count in
@@ -80,12 +80,12 @@ turns_left flight is here =
 -- ---- a turn more
 
 after_snoc : (n : Network) (packet : Packet) (moments : List ℕ) (now : ℕ)
-    → after n packet (moments ++ now ∷ []) ≡ turned n now (after n packet moments)
+    → after n packet (moments ++ now ∷ []) ≡ turned_packet n now (after n packet moments)
 after_snoc n packet [] now = refl
-after_snoc n packet (first ∷ later) now = after_snoc n (turned n first packet) later now
+after_snoc n packet (first ∷ later) now = after_snoc n (turned_packet n first packet) later now
 
 pub flies_on : (now : ℕ) (flight : FlightValue) → IsFlight flight
-    → IsAtRouter flight.packet.place → IsFlight (advanced now flight)
+    → IsAtRouter flight.packet.place → IsFlight (advanced_flight now flight)
 flies_on now flight is here =
     let left = turns_left flight is here in
     record {
@@ -98,13 +98,13 @@ flies_on now flight is here =
       departs = is.departs;
       moments = is.moments ++ now ∷ [];
       count = (let count = is.count in omega (arith, length-append is.moments (now ∷ [])));
-      is = ap (turned flight.fabric now) is.is ∙ sym (after_snoc flight.fabric is.start is.moments now);
+      is = ap (turned_packet flight.fabric now) is.is ∙ sym (after_snoc flight.fabric is.start is.moments now);
       few = omega arith;
     }
 
 -- the same of the packet that a call leaves
 pub flies_with : (now : ℕ) (flight : FlightValue) (packet : Packet) → IsFlight flight
-    → IsAtRouter flight.packet.place → packet ≡ turned flight.fabric now flight.packet
+    → IsAtRouter flight.packet.place → packet ≡ turned_packet flight.fabric now flight.packet
     → IsFlight (record flight { turns = flight.turns + 1; packet = packet })
 flies_with now flight packet is here left = subst
     (λ (p : Packet). IsFlight (record flight { turns = flight.turns + 1; packet = p })) (sym left)
@@ -129,7 +129,7 @@ same_turn n now packet view Lost at is = absurd is
 turned_by : (now : ℕ) (flight : FlightValue) (view : View) (packet : Packet)
     → IsViewAt flight.fabric flight.packet.place view
     → packet ≡ (turn_under flight.fabric view now flight.packet).1
-    → packet ≡ turned flight.fabric now flight.packet
+    → packet ≡ turned_packet flight.fabric now flight.packet
 turned_by now flight view packet is left =
     left ∙ ap (λ t. t.1) (same_turn flight.fabric now flight.packet view flight.packet.place refl is)
 
@@ -143,7 +143,7 @@ flies_by now flight view packet is at left = flies_with now flight packet is
 pub advanced_by : (now : ℕ) (flight : FlightValue) (view : View) (packet : Packet)
     → IsViewAt flight.fabric flight.packet.place view
     → packet ≡ (turn_under flight.fabric view now flight.packet).1
-    → record flight { turns = flight.turns + 1; packet = packet } ≡ advanced now flight
+    → record flight { turns = flight.turns + 1; packet = packet } ≡ advanced_flight now flight
 advanced_by now flight view packet at left =
     ap (λ (p : Packet). record flight { turns = flight.turns + 1; packet = p })
     (turned_by now flight view packet at left)

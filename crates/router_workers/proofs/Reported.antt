@@ -7,14 +7,14 @@ use Rattle.path_verifier.specs.Walk.{walk_of}
 use Rattle.path_verifier.specs.Accepted.{AreLive}
 use Rattle.forwarding.specs.declared.location.PacketLocation.{PacketLocation}
 use Rattle.forwarding.specs.declared.location.PacketLocation.TheVariants as places
-use Rattle.forwarding.specs.Turn.{Packet, turned, after}
+use Rattle.forwarding.specs.Turn.{Packet, turned_packet, after}
 use Rattle.forwarding.specs.Journey.{turns_for}
 use Rattle.router_workers.specs.declared.end.End.{End}
 use Rattle.router_workers.specs.declared.end.End.TheVariants as ends
 use Rattle.network_core.specs.Delivery.{IsRefusedAt, IsAtRouter}
 use Rattle.router_workers.specs.Flight.{SentPacket, FlightValue, IsFlight, grounded}
-use Rattle.router_workers.specs.Delivery.{IsForwarded, IsSoundIn, IsSoundEnd}
-use Rattle.router_workers.specs.Run.{repeated, place_after, IsEnd, IsReport}
+use Rattle.router_workers.specs.Delivery.{IsFlightForwarded, IsSoundIn, IsSoundEnd}
+use Rattle.router_workers.specs.Run.{repeated, place_after, IsFlightEnd, IsReport}
 use Rattle.router_workers.proofs.Delivered.{delivered}
 
 -- ---- one second, so many times
@@ -34,15 +34,15 @@ all_again P now (suc k) holds zero d within = holds
 all_again P now (suc k) holds (suc j) d within = all_again P now k holds j d (omega (arith, within))
 
 one_before : (n : Network) (now : ℕ) (packet : Packet) (k : ℕ)
-    → repeated n now (turned n now packet) k ≡ turned n now (repeated n now packet k)
+    → repeated n now (turned_packet n now packet) k ≡ turned_packet n now (repeated n now packet k)
 one_before n now packet zero = refl
-one_before n now packet (suc k) = ap (turned n now) (one_before n now packet k)
+one_before n now packet (suc k) = ap (turned_packet n now) (one_before n now packet k)
 
 same_as_after : (n : Network) (now : ℕ) (packet : Packet) (k : ℕ)
     → repeated n now packet k ≡ after n packet (again now k)
 same_as_after n now packet zero = refl
 same_as_after n now packet (suc k) =
-    sym (one_before n now packet k) ∙ same_as_after n now (turned n now packet) k
+    sym (one_before n now packet k) ∙ same_as_after n now (turned_packet n now packet) k
 
 -- ---- a sound flight
 
@@ -62,14 +62,14 @@ module _ (n : Network) (sent : SentPacket) (start : Packet) (now : ℕ)
   abbrev given : FlightValue
   given = grounded n sent start
 
-  forwarded : (k : ℕ) → IsForwarded sent total k (repeated n now start k)
-  forwarded k = subst (λ p. IsForwarded sent total k p) (sym (same_as_after n now start k))
-      (subst (λ m. IsForwarded sent total m (after n start (again now k))) (length_again now k)
+  forwarded : (k : ℕ) → IsFlightForwarded sent total k (repeated n now start k)
+  forwarded k = subst (λ p. IsFlightForwarded sent total k p) (sym (same_as_after n now start k))
+      (subst (λ m. IsFlightForwarded sent total m (after n start (again now k))) (length_again now k)
       (delivered n sent start (again now k) flight sound
       (all_again (λ m. AreLive m sent.pieces) now k live)))
 
   ended : (flights : List FlightValue) (slots : ℕ) (end : End)
-      → IsEnd flights now slots given end → IsSoundEnd total end
+      → IsFlightEnd flights now slots given end → IsSoundEnd total end
   ended flights slots (ends.Delivered turns) is =
       let enough = (forwarded turns).exact.0 is.0 in
       elim (cases_lt total turns) [

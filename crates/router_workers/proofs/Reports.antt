@@ -1,7 +1,7 @@
 -- A report, from the ends of all flights.
 use Rattle.std.proofs.Common.{◌≡◌, ℕ, List, length, subst}
 use Rattle.router_workers.specs.Flight.{FlightValue}
-use Rattle.router_workers.specs.Run.{IsEnd, AreEnds, IsReport}
+use Rattle.router_workers.specs.Run.{IsFlightEnd, AreEnds, IsReport}
 use Rattle.router_workers.specs.declared.end.End.{End}
 
 pub reported : (ends : List End) (flights : List FlightValue) (now slots : ℕ)
@@ -12,5 +12,5 @@ reported ends flights now slots all each = record {
   each = λ i given end at here.
       let e = each i end here in
       let same : e.0 ≡ given = cc (e.1.0, at) in
-      subst (λ (g : FlightValue). IsEnd flights now slots g end) same e.1.1;
+      subst (λ (g : FlightValue). IsFlightEnd flights now slots g end) same e.1.1;
 }

@@ -1,9 +1,9 @@
 -- A carried flight from turn to turn.
 use Rattle.std.proofs.Common.{◌≡◌, ℕ, suc, ◌+◌, List, sym, ap, ◌∙◌, subst, arith, inl, inr}
 use Rattle.std.proofs.lemmas.Bool.{cases_lt}
-use Rattle.forwarding.specs.Turn.{Packet, turned}
+use Rattle.forwarding.specs.Turn.{Packet, turned_packet}
 use Rattle.network_core.specs.Delivery.{IsAtRouter}
-use Rattle.router_workers.specs.Flight.{FlightValue, advanced}
+use Rattle.router_workers.specs.Flight.{FlightValue, advanced_flight}
 use Rattle.router_workers.specs.Run.{repeated, place_after, IsCarried}
 
 -- where the carried flight is
@@ -14,7 +14,7 @@ place_is flights now number turns carried c = ap (λ (p : Packet). p.place) c.is
 
 pub went_on : (flights : List FlightValue) (now number turns : ℕ) (carried : FlightValue)
     → IsCarried flights now number turns carried → IsAtRouter carried.packet.place
-    → IsCarried flights now number (turns + 1) (advanced now carried)
+    → IsCarried flights now number (turns + 1) (advanced_flight now carried)
 went_on flights now number turns carried c here =
     let more : turns + 1 ≡ suc turns = omega arith in
     let at : IsAtRouter (place_after now c.given turns) =
@@ -24,8 +24,8 @@ went_on flights now number turns carried c here =
       there = c.there;
       same = c.same;
       is =
-          ap (λ n. turned n now carried.packet) c.same
-          ∙ ap (λ (p : Packet). turned c.given.fabric now p) c.is
+          ap (λ n. turned_packet n now carried.packet) c.same
+          ∙ ap (λ (p : Packet). turned_packet c.given.fabric now p) c.is
           ∙ ap (repeated c.given.fabric now c.given.packet) (sym more);
       flew = λ k early. elim (cases_lt k turns) [
         | inl before ↦ c.flew k before

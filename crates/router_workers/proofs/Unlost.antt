@@ -11,7 +11,7 @@ use Rattle.router_step.specs.Packet.{packet_step}
 use Rattle.forwarding.specs.declared.location.RouterStop.{RouterStop}
 use Rattle.forwarding.specs.declared.location.PacketLocation.{PacketLocation}
 use Rattle.forwarding.specs.declared.location.PacketLocation.TheVariants.{AtRouter, Delivered, Refused, Lost}
-use Rattle.forwarding.specs.Turn.{Packet, at_owner, over_link, put, stepped, by_view, by_place, turn_of, turned, after}
+use Rattle.forwarding.specs.Turn.{Packet, at_owner, over_link, put, stepped, by_view, by_place, turn_of, turned_packet, after}
 use Rattle.router_workers.specs.Flight.{FlightValue, IsFlight}
 use Rattle.router_workers.proofs.Delivered.{departs}
 
@@ -60,7 +60,7 @@ place_unlost n now packet (Refused ia router refusal) is = is
 place_unlost n now packet Lost is = is
 
 turned_unlost : (n : Network) (now : ℕ) (packet : Packet) → IsUnlost packet.place
-    → IsUnlost (turned n now packet).place
+    → IsUnlost (turned_packet n now packet).place
 unfolding turn_of
 turned_unlost n now packet is = place_unlost n now packet packet.place is
 
@@ -68,7 +68,7 @@ after_unlost : (n : Network) (packet : Packet) (moments : List ℕ) → IsUnlost
     → IsUnlost (after n packet moments).place
 after_unlost n packet [] is = is
 after_unlost n packet (now ∷ later) is =
-    after_unlost n (turned n now packet) later (turned_unlost n now packet is)
+    after_unlost n (turned_packet n now packet) later (turned_unlost n now packet is)
 
 -- so no flight is lost
 pub flight_unlost : (flight : FlightValue) → IsFlight flight → IsUnlost flight.packet.place

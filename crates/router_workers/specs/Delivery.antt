@@ -4,7 +4,7 @@ use Rattle.std.specs.Prelude.{◌≡◌, ◌↔◌, ℕ, ◌*◌, ◌<◌, ◌�
 use Rattle.policy_expr.specs.declared.hop.WalkHop.{WalkHop}
 use Rattle.scion_topology.specs.Network.{Network}
 use Rattle.path_verifier.specs.Walk.{walk_of}
-use Rattle.path_verifier.specs.Header.{hop_count}
+use Rattle.path_verifier.specs.Header.{total_hops}
 use Rattle.forwarding.specs.declared.location.PacketLocation.TheVariants as places
 use Rattle.forwarding.specs.Turn.{Packet}
 use Rattle.forwarding.specs.OnPath.{arrived_with}
@@ -18,13 +18,13 @@ use Rattle.router_workers.specs.declared.end.End.TheVariants as ends
 -- and only if it has had all its turns, and is at a router before. Two turns for each of its hop
 -- fields are enough. When it is delivered it has passed its whole walk, with the header at the end
 -- of all pieces and the payload as it was sent.
-pub record IsForwarded (sent : SentPacket) (total done : ℕ) (packet : Packet) : Type 0 where
+pub record IsFlightForwarded (sent : SentPacket) (total done : ℕ) (packet : Packet) : Type 0 where
   pub unrefused : ¬ (IsRefusedAt packet.place)
   pub rest : List WalkHop
   pub so_far : packet.passed ++ rest ≡ walk_of sent.pieces
   pub exact : packet.place ≡ places.Delivered ↔ (total ≤ done)
   pub waits : done < total → IsAtRouter packet.place
-  pub in_time : 2 * hop_count sent.pieces ≤ done → packet.place ≡ places.Delivered
+  pub in_time : 2 * total_hops sent.pieces ≤ done → packet.place ≡ places.Delivered
   pub whole : packet.place ≡ places.Delivered
       → packet ≡ arrived_with sent.source sent.destination sent.payload sent.pieces
 

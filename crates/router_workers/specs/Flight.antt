@@ -14,7 +14,7 @@ use Rattle.path_verifier.specs.Accepted.{IsAccepted, request_of}
 use Rattle.forwarding.specs.declared.location.PacketLocation.{PacketLocation}
 use Rattle.forwarding.specs.declared.location.PacketLocation.TheVariants as places
 use Rattle.forwarding.specs.Frame.{framed, HasFrame}
-use Rattle.forwarding.specs.Turn.{Packet, put_at, turned, after}
+use Rattle.forwarding.specs.Turn.{Packet, put_at, turned_packet, after}
 use Rattle.forwarding.specs.Journey.{first_out}
 use Rattle.network_core.specs.Value.{Shipment}
 
@@ -57,10 +57,10 @@ abbrev pub grounded : Network → SentPacket → Packet → FlightValue
 grounded n sent start = record { fabric = n; sent = sent; turns = 0; packet = start }
 
 -- the flight after one more turn, at this second
-abbrev pub advanced : ℕ → FlightValue → FlightValue
-advanced now flight = record flight {
+abbrev pub advanced_flight : ℕ → FlightValue → FlightValue
+advanced_flight now flight = record flight {
   turns = flight.turns + 1;
-  packet = turned flight.fabric now flight.packet;
+  packet = turned_packet flight.fabric now flight.packet;
 }
 
 -- the view is the network's view of the router that has the packet

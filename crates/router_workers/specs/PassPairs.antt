@@ -6,7 +6,7 @@ use Rattle.scion_topology.specs.Topology.{info_in}
 use Rattle.forwarding.specs.declared.location.PacketLocation.{PacketLocation}
 use Rattle.forwarding.specs.declared.location.PacketLocation.TheVariants as places
 use Rattle.inbox.specs.Account.{with_put}
-use Rattle.inbox.specs.Inbox.{Opened, Way}
+use Rattle.inbox.specs.Inbox.{Opened, WayThrough}
 use Rattle.router_workers.specs.declared.pass_pairs.PassPair.{PassPair}
 
 -- the passes belong to the inboxes, in their order
@@ -24,16 +24,16 @@ IsNext n workers (places.AtRouter stop) next =
 IsNext n workers place next = Unit {0}
 
 -- a way into an inbox after this flight was put in
-abbrev pub put_in : {T : Type 0} → T → Way T → Way T
+abbrev pub put_in : {T : Type 0} → T → WayThrough T → WayThrough T
 put_in carried way = record way { account = with_put way.account carried }
 
 -- the flight was put in by this way; or it was dropped, and nothing was put in, because there are
 -- more flights than places in an inbox
-abbrev pub IsPutIn : {T : Type 0} → Bool → T → Way T → Way T → Type 0
+abbrev pub IsPutIn : {T : Type 0} → Bool → T → WayThrough T → WayThrough T → Type 0
 IsPutIn crowded carried old new = (new ≡ put_in carried old) ⊎ ((new ≡ old) × (crowded ≡ true))
 
 -- `IsPutIn` for the way of this number; the other ways are as they were
-abbrev pub IsPassedTo : {T : Type 0} → Bool → T → ℕ → List (Way T) → List (Way T) → Type 0
-IsPassedTo crowded carried next old new = (before : Way _) × (after : Way _)
+abbrev pub IsPassedTo : {T : Type 0} → Bool → T → ℕ → List (WayThrough T) → List (WayThrough T) → Type 0
+IsPassedTo crowded carried next old new = (before : WayThrough _) × (after : WayThrough _)
     × (slice_get old next ≡ Some before) × IsPutIn crowded carried before after
     × (new ≡ slice_set old next after)

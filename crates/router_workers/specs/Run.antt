@@ -4,7 +4,7 @@ use Rattle.scion_topology.specs.Network.{Network}
 use Rattle.router_step.specs.declared.fault.Refusal.{Refusal}
 use Rattle.forwarding.specs.declared.location.PacketLocation.{PacketLocation}
 use Rattle.forwarding.specs.declared.location.PacketLocation.TheVariants as places
-use Rattle.forwarding.specs.Turn.{Packet, turned}
+use Rattle.forwarding.specs.Turn.{Packet, turned_packet}
 use Rattle.network_core.specs.Delivery.{IsAtRouter}
 use Rattle.router_workers.specs.Flight.{FlightValue}
 use Rattle.router_workers.specs.declared.end.End.{End}
@@ -13,7 +13,7 @@ use Rattle.router_workers.specs.declared.end.End.TheVariants.{Delivered, Refused
 -- a packet after this number of turns, all at one second
 abbrev pub repeated : Network → ℕ → Packet → ℕ → Packet
 repeated n now packet zero = packet
-repeated n now packet (suc k) = turned n now (repeated n now packet k)
+repeated n now packet (suc k) = turned_packet n now (repeated n now packet k)
 
 -- the place of a flight's packet after this number of turns of the run
 abbrev pub place_after : ℕ → FlightValue → ℕ → PacketLocation
@@ -30,26 +30,26 @@ RefusedAs refusal place = (ia : ℕ) × ((router : ℕ) × (place ≡ places.Ref
 -- the end that a run may report of one of these flights, at this second and with inboxes of `slots`
 -- places. Delivered or refused: after exactly this number of turns. Dropped: it is still at a
 -- router after this number of turns, and there are more flights than places in an inbox.
-abbrev pub IsEnd : List FlightValue → ℕ → ℕ → FlightValue → End → Type 0
-IsEnd flights now slots given (Delivered turns) =
+abbrev pub IsFlightEnd : List FlightValue → ℕ → ℕ → FlightValue → End → Type 0
+IsFlightEnd flights now slots given (Delivered turns) =
     (place_after now given turns ≡ places.Delivered) × FliesUntil now given turns
-IsEnd flights now slots given (Refused refusal turns) =
+IsFlightEnd flights now slots given (Refused refusal turns) =
     RefusedAs refusal (place_after now given turns) × FliesUntil now given turns
-IsEnd flights now slots given (Dropped turns) =
+IsFlightEnd flights now slots given (Dropped turns) =
     IsAtRouter (place_after now given turns) × (slots < length flights)
 
 -- one end for each flight, in the order of the flights
 pub record IsReport (flights : List FlightValue) (now slots : ℕ) (ends : List End) : Type 0 where
   pub all : length ends ≡ length flights
   pub each : (i : ℕ) (given : FlightValue) (end : End) → slice_get flights i ≡ Some given
-      → slice_get ends i ≡ Some end → IsEnd flights now slots given end
+      → slice_get ends i ≡ Some end → IsFlightEnd flights now slots given end
 
 -- ---- what the workers' values keep
 
 -- the end of the flight of this number
-abbrev pub IsEndOf : List FlightValue → ℕ → ℕ → ℕ → End → Type 0
-IsEndOf flights now slots number end = (given : FlightValue)
-    × ((slice_get flights number ≡ Some given) × IsEnd flights now slots given end)
+abbrev pub IsEndOfFlight : List FlightValue → ℕ → ℕ → ℕ → End → Type 0
+IsEndOfFlight flights now slots number end = (given : FlightValue)
+    × ((slice_get flights number ≡ Some given) × IsFlightEnd flights now slots given end)
 
 -- the carried flight is the flight of this number after its turns of the run, and was at a router
 -- before each of them
@@ -64,4 +64,4 @@ pub record IsCarried (flights : List FlightValue) (now number turns : ℕ) (carr
 -- the ends are those of the first flights
 abbrev pub AreEnds : List FlightValue → ℕ → ℕ → List End → Type 0
 AreEnds flights now slots ends =
-    (i : ℕ) (end : End) → slice_get ends i ≡ Some end → IsEndOf flights now slots i end
+    (i : ℕ) (end : End) → slice_get ends i ≡ Some end → IsEndOfFlight flights now slots i end

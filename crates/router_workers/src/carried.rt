@@ -2,7 +2,7 @@
 
 ghost use Rattle.std.specs.Prelude.{◌≡◌, ◌<◌, ◌≤◌, Some, IfOk, IfErr, length, slice_get};
 ghost use Rattle.network_core.specs.Delivery.{IsAtRouter};
-ghost use Rattle.router_workers.specs.Run.{IsEndOf};
+ghost use Rattle.router_workers.specs.Run.{IsEndOfFlight};
 
 use crate::end::End;
 use crate::flight::Flight;
@@ -70,14 +70,14 @@ pub(crate) struct FlightEnd<J: RunFacts> {
 
 impl<J: RunFacts> Model for FlightEnd<J> {
     ghost use Rattle.std.specs.Prelude.{ℕ};
-    ghost use Rattle.router_workers.specs.Run.{IsEndOf};
+    ghost use Rattle.router_workers.specs.Run.{IsEndOfFlight};
     ghost use Rattle.router_workers.specs.declared.end.End.{End};
 
     ghost Value = { ℕ × End };
 
     ghost view = { λ d. (d.number, d.end) };
 
-    ghost invariant = { λ d. IsEndOf J.flights J.now J.slots d.number d.end };
+    ghost invariant = { λ d. IsEndOfFlight J.flights J.now J.slots d.number d.end };
 }
 
 impl<'f, J: RunFacts> CarriedFlight<'f, J> {
@@ -168,7 +168,7 @@ impl<J: RunFacts> FlightEnd<J> {
 
     /// The end of its flight.
     pub(crate) fn end(&self) -> End
-        ensures { IsEndOf J.flights J.now J.slots self.now.0 result }
+        ensures { IsEndOfFlight J.flights J.now J.slots self.now.0 result }
     {
         self.end
     }

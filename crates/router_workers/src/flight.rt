@@ -2,7 +2,7 @@ ghost use Rattle.std.specs.Prelude.{◌≡◌, ◌≤◌, ◌<◌, None, IfOk, I
 ghost use Rattle.refusal.specs.Refusal.{Answers};
 ghost use Rattle.forwarding.specs.Turn.{IsAtNoRouter};
 ghost use Rattle.network_core.specs.Delivery.{IsAtRouter};
-ghost use Rattle.router_workers.specs.Flight.{FlightValue, departed, sent_packet_of, grounded, advanced, IsViewAt, IsFlight};
+ghost use Rattle.router_workers.specs.Flight.{FlightValue, departed, sent_packet_of, grounded, advanced_flight, IsViewAt, IsFlight};
 
 use forwarding::{PacketInFlight, PacketLocation, frame};
 use isd_as::IsdAs;
@@ -123,7 +123,7 @@ impl<'a> Flight<'a> {
     /// delivered, or refused. It takes no memory.
     pub fn advance(self, view: &RouterView<'_>, now: u32) -> Flight<'a>
         requires { IsViewAt self.fabric self.packet.place view.now }
-        ensures { result ≡ advanced now self.entry }
+        ensures { result ≡ advanced_flight now self.entry }
     {
         let mut flight = self;
         let fabric = flight.fabric;
@@ -135,7 +135,7 @@ impl<'a> Flight<'a> {
     /// One turn in place, with the network's view of the router that has the flight.
     pub(crate) fn turn(&mut self, now: u32)
         requires { IsAtRouter self.old.packet.place }
-        ensures { self.new ≡ advanced now self.old }
+        ensures { self.new ≡ advanced_flight now self.old }
     {
         let fabric = self.fabric;
         self.transit.turn(fabric, now);

@@ -8,7 +8,7 @@ ghost use Rattle.forwarding.specs.Turn.{Packet, after};
 ghost use Rattle.forwarding.specs.Journey.{turns_for};
 ghost use Rattle.router_workers.specs.declared.end.End.{End};
 ghost use Rattle.router_workers.specs.Flight.{SentPacket, FlightValue, IsFlight, grounded};
-ghost use Rattle.router_workers.specs.Delivery.{IsForwarded, IsSoundIn, IsSoundEnd};
+ghost use Rattle.router_workers.specs.Delivery.{IsFlightForwarded, IsSoundIn, IsSoundEnd};
 ghost use Rattle.router_workers.specs.Run.{IsReport};
 
 /// A flight without any turns, on pieces that its network issued under keys that are accepted and
@@ -19,7 +19,7 @@ pub fn sound_flights_are_delivered()
     ensures { (n : Network) (sent : SentPacket) (start : Packet) (moments : List ℕ)
         → IsFlight (grounded n sent start) → IsSoundIn n sent
         → All (λ now. AreLive now sent.pieces) moments
-        → IsForwarded sent (turns_for n (walk_of sent.pieces)) (length moments)
+        → IsFlightForwarded sent (turns_for n (walk_of sent.pieces)) (length moments)
         (after n start moments) }
 {}
 

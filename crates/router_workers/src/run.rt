@@ -1,7 +1,7 @@
 //! A run of flights on 1 to 8 workers.
 
 ghost use Rattle.std.specs.Prelude.{◌≡◌, ◌↔◌, ◌⊎◌, ◌<◌, ◌≤◌, IfOk, IfErr, All, length, vec_capacity};
-ghost use Rattle.router_workers.specs.Run.{IsEndOf, AreEnds, IsReport};
+ghost use Rattle.router_workers.specs.Run.{IsEndOfFlight, AreEnds, IsReport};
 
 use crate::carried::{CarriedFlight, FlightEnd, RunFacts};
 use crate::end::End;
@@ -180,7 +180,7 @@ fn collect<J: RunFacts, R: Wait>(
 /// The end of the flight of this number, when it is recorded.
 fn end_of<J: RunFacts, R: Wait>(rt: &R, places: &[OnceLock<FlightEnd<J>>], number: usize) -> End
     requires { number < length places.now }
-    ensures { IsEndOf J.flights J.now J.slots number result }
+    ensures { IsEndOfFlight J.flights J.now J.slots number result }
 {
     for _ in rt.forever() {
         if let Some(done) = places[number].get() {

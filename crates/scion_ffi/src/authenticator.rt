@@ -1,7 +1,7 @@
 //! The authenticator of a hop.
 
 ghost use Rattle.std.specs.Prelude.{◌≡◌};
-ghost use Rattle.scion_topology.specs.Keys.{key_of};
+ghost use Rattle.scion_topology.specs.Keys.{key_from};
 ghost use Rattle.hop_mac.specs.Hop.{authenticator};
 ghost use Rattle.scion_ffi.specs.Authenticator.{IsMacAnswered};
 
@@ -22,7 +22,7 @@ pub extern "C" fn scion_hop_mac(
     cons_egress: u16,
     mac: &mut [u8; 6],
 ) -> ScionAnswer
-    ensures { IsMacAnswered (key_of key.now)
+    ensures { IsMacAnswered (key_from key.now)
         (λ key. authenticator key beta timestamp exp_time cons_ingress cons_egress)
         mac.old mac.new result }
 {

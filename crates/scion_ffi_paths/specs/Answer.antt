@@ -14,8 +14,8 @@ use Rattle.scion_ffi_paths.specs.Asked.{Asked, PathsAsked, paths_asked_in}
 use Rattle.scion_ffi_paths.specs.Text.{fault_text, paths_text}
 
 -- the options under which paths are looked for, or the first cause why none are
-unfoldable pub options_asked : PathsAsked → Result (List WeighedRules) RequestFault
-options_asked request = do
+unfoldable pub options_of_request : PathsAsked → Result (List WeighedRules) RequestFault
+options_of_request request = do
   _ ← check (nat_le 1 request.limit && nat_le request.limit 64) BadLimit
   options ← refused_as Policy (options_at request.asked.options)
   _ ← refused_as Ends (ends_at request.asked.src request.asked.dst)
@@ -45,7 +45,7 @@ AnswersUnder request (Ok options) text =
 AnswersUnder request (Err fault) text = text ≡ fault_text fault
 
 abbrev pub AnswersRequest : Result PathsAsked RequestFault → List ℕ → Type 0
-AnswersRequest (Ok request) text = AnswersUnder request (options_asked request) text
+AnswersRequest (Ok request) text = AnswersUnder request (options_of_request request) text
 AnswersRequest (Err fault) text = text ≡ fault_text fault
 
 -- the text answers what these bytes ask for

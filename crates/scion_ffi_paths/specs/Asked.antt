@@ -5,9 +5,9 @@ use Rattle.refusal.specs.Refusal.{◌>>=◌, refused_as}
 use Rattle.serde_json.specs.Data.{Data, Items, no_items, item}
 use Rattle.json_fields.specs.Fields.{document_in, list_at}
 use Rattle.path_segment.specs.Chain.{Chain}
-use Rattle.path_segment.specs.Reading.{chain_at, judged}
+use Rattle.path_segment.specs.Reading.{chain_at, chain_or_fault}
 use Rattle.policy_expr.specs.Options.{OptionTexts}
-use Rattle.event_lines.specs.Line.{ia_at, long_at, options_in}
+use Rattle.event_lines.specs.Line.{ia_in, long_at, options_in}
 use Rattle.scion_ffi_paths.specs.declared.fault.RequestFault.{RequestFault}
 use Rattle.scion_ffi_paths.specs.declared.fault.RequestFault.TheVariants.{BadRequest}
 use Rattle.scion_ffi_paths.specs.Fault.{of_segment}
@@ -18,8 +18,8 @@ formed None = Err BadRequest
 formed (Some found) = Ok found
 
 -- a segment, or why there is none
-abbrev pub segment_at : Data → Result Chain RequestFault
-segment_at d = refused_as of_segment (judged (chain_at d))
+abbrev pub segment_asked : Data → Result Chain RequestFault
+segment_asked d = refused_as of_segment (chain_or_fault (chain_at d))
 
 -- each item of a list, or the first refusal
 abbrev pub each_item : {A F : Type 0} → (Data → Result A F) → Items → Result (List A) F
@@ -39,14 +39,14 @@ pub record Asked : Type 0 where
   pub segments : List Chain
 
 -- what an object says of these
-unfoldable pub asked_at : Data → Result Asked RequestFault
-asked_at d = do
+unfoldable pub asked_in : Data → Result Asked RequestFault
+asked_in d = do
   options ← formed (options_in d)
-  src ← formed (ia_at (codes "src") d)
-  dst ← formed (ia_at (codes "dst") d)
+  src ← formed (ia_in (codes "src") d)
+  dst ← formed (ia_in (codes "dst") d)
   moment ← formed (long_at (codes "now") d)
   items ← formed (list_at (codes "segments") d)
-  segments ← each_item segment_at items
+  segments ← each_item segment_asked items
   Ok (record {
     src = src;
     dst = dst;
@@ -64,6 +64,6 @@ pub record PathsAsked : Type 0 where
 unfoldable pub paths_asked_in : List ℕ → Result PathsAsked RequestFault
 paths_asked_in bytes = do
   d ← formed (document_in bytes)
-  asked ← asked_at d
+  asked ← asked_in d
   limit ← formed (long_at (codes "limit") d)
   Ok (record { asked = asked; limit = limit })

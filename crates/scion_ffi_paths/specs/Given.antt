@@ -12,7 +12,7 @@ use Rattle.path_verifier.specs.Accepted.{Request, request_of}
 use Rattle.event_lines.specs.Line.{bytes_at}
 use Rattle.scion_ffi_paths.specs.declared.fault.RequestFault.{RequestFault}
 use Rattle.scion_ffi_paths.specs.declared.fault.RequestFault.TheVariants.{BadRequest, Policy, Header, Path}
-use Rattle.scion_ffi_paths.specs.Asked.{Asked, asked_at, formed}
+use Rattle.scion_ffi_paths.specs.Asked.{Asked, asked_in, formed}
 use Rattle.scion_ffi_paths.specs.Stretch.{piece_at}
 
 -- beside what every request says: the pieces in order of travel, and bytes with the header in front
@@ -28,7 +28,7 @@ given_of asked pieces header = record { asked = asked; pieces = pieces; header =
 unfoldable pub given_in : List ℕ → Result Given RequestFault
 given_in bytes = do
   d ← formed (document_in bytes)
-  asked ← asked_at d
+  asked ← asked_in d
   items ← formed (list_at (codes "pieces") d)
   pieces ← formed (items_at (piece_at asked.segments) items)
   header ← formed (bytes_at (codes "header") d)

@@ -14,6 +14,6 @@ IsPut (Some text) old new result =
     × (new ≡ (if nat_le (length text) (length old) then text ++ drop (length text) old else old))
 
 -- the same of a text that answers
-abbrev pub IsAnswered : (List ℕ → Type 0) → List ℕ → List ℕ → ScionText → Type 0
-IsAnswered answers old new result =
+abbrev pub IsAnsweredInRoom : (List ℕ → Type 0) → List ℕ → List ℕ → ScionText → Type 0
+IsAnsweredInRoom answers old new result =
     (text : Option (List ℕ)) × (IfSome text answers × IsPut text old new result)

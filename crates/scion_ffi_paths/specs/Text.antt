@@ -17,9 +17,9 @@ use Rattle.scion_ffi_paths.specs.Expiry.{path_expiry}
 use Rattle.scion_ffi_paths.specs.Fault.{code_of, name_of}
 
 -- the place in a list of the first segment that is this one
-unfoldable pub place_of : Chain → List Chain → ℕ
-place_of segment [] = 0
-place_of segment (one ∷ later) = if is_same one segment then 0 else 1 + place_of segment later
+unfoldable pub place_in_list : Chain → List Chain → ℕ
+place_in_list segment [] = 0
+place_in_list segment (one ∷ later) = if is_same one segment then 0 else 1 + place_in_list segment later
 
 -- true or false
 abbrev pub truth_text : Bool → List ℕ
@@ -31,7 +31,7 @@ unfoldable pub piece_text : List Chain → PieceValue → List ℕ
 piece_text segments piece =
     codes "{\"along\":" ++ (truth_text piece.along
     ++ (codes ",\"from\":" ++ (decimal piece.from
-    ++ (codes ",\"segment\":" ++ (decimal (place_of piece.segment segments)
+    ++ (codes ",\"segment\":" ++ (decimal (place_in_list piece.segment segments)
     ++ (codes ",\"to\":" ++ (decimal piece.to ++ codes "}")))))))
 
 -- the letter of a kind of pieces

@@ -3,7 +3,7 @@
 ghost use Rattle.std.specs.Prelude.{◌≡◌, ◌<◌, [], Ok, IfOk, OnOk};
 ghost use Rattle.refusal.specs.Refusal.{Reads};
 ghost use Rattle.combinator.specs.Fault.{ends_at};
-ghost use Rattle.scion_ffi_paths.specs.Answer.{options_asked, selection_of, stored};
+ghost use Rattle.scion_ffi_paths.specs.Answer.{options_of_request, selection_of, stored};
 
 use crate::fault::{RequestError, RequestFault};
 use crate::request::{PathsRequest, Request};
@@ -19,12 +19,12 @@ use std::alloc::{AllocError, Global};
 const MAX_LIMIT: u32 = 64;
 
 /// The options of a request, or the first cause why it is refused.
-#[tactic(auto, unfolding(crate::specs::Answer::options_asked))]
+#[tactic(auto, unfolding(crate::specs::Answer::options_of_request))]
 pub(crate) fn options(
     alloc: Global,
     request: &PathsRequest,
 ) -> Result<Vec<PolicyOption<Global>>, RequestError>
-    ensures read { Reads (λ options. options.items) result (options_asked request.now) }
+    ensures read { Reads (λ options. options.items) result (options_of_request request.now) }
     ensures some { OnOk result (0 < request.now.limit) }
     ensures ends { OnOk result (ends_at request.now.asked.src request.now.asked.dst ≡ Ok tt) }
 {

@@ -2,8 +2,8 @@
 
 ghost use Rattle.std.specs.Prelude.{IfOk};
 ghost use Rattle.std.specs.String.{string_bytes};
-ghost use Rattle.scion_ffi_paths.specs.Answer.{AnswersPaths, AnswersUnder, options_asked};
-ghost use Rattle.scion_ffi_paths.specs.Room.{IsAnswered};
+ghost use Rattle.scion_ffi_paths.specs.Answer.{AnswersPaths, AnswersUnder, options_of_request};
+ghost use Rattle.scion_ffi_paths.specs.Room.{IsAnsweredInRoom};
 ghost use Rattle.scion_ffi_paths.specs.Told.{Tells};
 
 use crate::answer::{options, selection};
@@ -17,7 +17,7 @@ use std::alloc::{AllocError, Global};
 
 /// What a request is answered.
 fn answer(alloc: Global, request: &PathsRequest) -> Result<String, RequestError>
-    ensures { Tells (AnswersUnder request.now (options_asked request.now)) result }
+    ensures { Tells (AnswersUnder request.now (options_of_request request.now)) result }
 {
     let options = options(alloc, request)?;
     let asked = &request.asked;
@@ -57,7 +57,7 @@ fn text_of(alloc: Global, bytes: &[u8]) -> Result<String, AllocError>
 /// [`combinator::combine`] over a look-up in a store in which each segment was registered at `now`.
 #[unsafe(no_mangle)]
 pub extern "C" fn scion_paths(alloc: Global, request: &[u8], room: &mut [u8]) -> ScionText
-    ensures { IsAnswered (AnswersPaths request.now) room.old room.new result }
+    ensures { IsAnsweredInRoom (AnswersPaths request.now) room.old room.new result }
 {
     let text = text_of(alloc, request).ok();
     put(&text, room)

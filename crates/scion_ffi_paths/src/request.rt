@@ -2,7 +2,7 @@
 
 ghost use Rattle.serde_json.specs.View.{view};
 ghost use Rattle.refusal.specs.Refusal.{Reads};
-ghost use Rattle.scion_ffi_paths.specs.Asked.{asked_at, paths_asked_in};
+ghost use Rattle.scion_ffi_paths.specs.Asked.{asked_in, paths_asked_in};
 
 use crate::fault::{RequestError, RequestFault};
 use crate::segment::segments;
@@ -49,9 +49,9 @@ impl Request {
     /// [`RequestFault::Segment`].
     ///
     /// Takes time and memory for the object.
-    #[tactic(auto, unfolding(crate::specs::Asked::asked_at))]
+    #[tactic(auto, unfolding(crate::specs::Asked::asked_in))]
     pub(crate) fn of(alloc: Global, value: &Value) -> Result<Request, RequestError>
-        ensures { Reads (λ r. r) result (asked_at (view value.now)) }
+        ensures { Reads (λ r. r) result (asked_in (view value.now)) }
     {
         let options = options(alloc, value)?.ok_or(RequestFault::BadRequest)?;
         let src = ia(value, "src").ok_or(RequestFault::BadRequest)?;

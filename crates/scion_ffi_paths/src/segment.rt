@@ -2,7 +2,7 @@
 
 ghost use Rattle.serde_json.specs.View.{view, items_view};
 ghost use Rattle.refusal.specs.Refusal.{Reads};
-ghost use Rattle.scion_ffi_paths.specs.Asked.{each_item, segment_at};
+ghost use Rattle.scion_ffi_paths.specs.Asked.{each_item, segment_asked};
 
 use crate::fault::{RequestError, RequestFault};
 use path_segment::Segment;
@@ -12,7 +12,7 @@ use std::alloc::Global;
 
 /// The segments of a list, or why the first that is none is refused.
 pub(crate) fn segments(alloc: Global, values: &[Value]) -> Result<Vec<Segment>, RequestError>
-    ensures { Reads (λ v. v.items) result (each_item segment_at (items_view values.now)) }
+    ensures { Reads (λ v. v.items) result (each_item segment_asked (items_view values.now)) }
 {
     let mut segments = Vec::new(alloc);
     for value in values {
@@ -23,7 +23,7 @@ pub(crate) fn segments(alloc: Global, values: &[Value]) -> Result<Vec<Segment>, 
 
 /// The segment of a JSON value, or why it is refused.
 fn segment(alloc: Global, value: &Value) -> Result<Segment, RequestError>
-    ensures { Reads (λ s. s) result (segment_at (view value.now)) }
+    ensures { Reads (λ s. s) result (segment_asked (view value.now)) }
 {
     match Segment::from_value(alloc, value) {
         Ok(segment) => Ok(segment),

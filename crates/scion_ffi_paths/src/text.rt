@@ -7,7 +7,7 @@ ghost use Rattle.hex.specs.Hex.{encode_lower};
 ghost use Rattle.path_header.specs.Spelling.{spelling};
 ghost use Rattle.event_lines.specs.Text.{hops_text};
 ghost use Rattle.path_verifier.specs.Piece.{HasRange};
-ghost use Rattle.scion_ffi_paths.specs.Text.{accepted_text, fault_text, kinds_text, letter, path_text, paths_text, piece_text, place_of, truth_text};
+ghost use Rattle.scion_ffi_paths.specs.Text.{accepted_text, fault_text, kinds_text, letter, path_text, paths_text, piece_text, place_in_list, truth_text};
 
 use crate::expiry::{path_expiry, verified_expiry};
 use crate::fault::RequestFault;
@@ -22,9 +22,9 @@ use std::alloc::{AllocError, Global};
 const MAX_HEADER_LEN: usize = 796;
 
 /// The place of the first of these segments that is this one.
-#[tactic(auto, unfolding(crate::specs::Text::place_of))]
-fn place_of(segment: &Segment, segments: &[Segment]) -> usize
-    ensures { result ≡ place_of segment.now segments.now }
+#[tactic(auto, unfolding(crate::specs::Text::place_in_list))]
+fn place_in_list(segment: &Segment, segments: &[Segment]) -> usize
+    ensures { result ≡ place_in_list segment.now segments.now }
 {
     for i in 0..segments.len() {
         if segments[i].is_same(segment) {
@@ -46,7 +46,7 @@ fn truth(is_so: bool) -> &'static str
 fn piece(alloc: Global, segments: &[Segment], piece: &OwnedPiece) -> Result<String, AllocError>
     ensures { IfOk result (λ text. string_bytes text ≡ piece_text segments.now piece.now) }
 {
-    let (along, place) = (truth(piece.along), place_of(&piece.segment, segments));
+    let (along, place) = (truth(piece.along), place_in_list(&piece.segment, segments));
     format!(in alloc;
         "{{\"along\":{},\"from\":{},\"segment\":{},\"to\":{}}}",
         along, piece.from, place, piece.to

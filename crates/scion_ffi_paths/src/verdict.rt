@@ -6,7 +6,7 @@ ghost use Rattle.serde_json.specs.View.{view};
 ghost use Rattle.refusal.specs.Refusal.{Reads};
 ghost use Rattle.event_lines.specs.Line.{bytes_at};
 ghost use Rattle.scion_ffi_paths.specs.Given.{given_of, policy_asked, request_at};
-ghost use Rattle.scion_ffi_paths.specs.Room.{IsAnswered};
+ghost use Rattle.scion_ffi_paths.specs.Room.{IsAnsweredInRoom};
 ghost use Rattle.scion_ffi_paths.specs.Told.{Tells};
 ghost use Rattle.scion_ffi_paths.specs.Verdict.{AnswersVerdict, AnswersVerify};
 
@@ -115,7 +115,7 @@ fn text_of(alloc: Global, bytes: &[u8]) -> Result<String, AllocError>
 /// them `pieces` and `header`. The verdict is that of [`path_verifier::verify`] at `now`.
 #[unsafe(no_mangle)]
 pub extern "C" fn scion_verify(alloc: Global, request: &[u8], room: &mut [u8]) -> ScionText
-    ensures { IsAnswered (AnswersVerify request.now) room.old room.new result }
+    ensures { IsAnsweredInRoom (AnswersVerify request.now) room.old room.new result }
 {
     let text = text_of(alloc, request).ok();
     put(&text, room)

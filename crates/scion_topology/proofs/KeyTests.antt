@@ -3,7 +3,7 @@ use Rattle.std.proofs.Common.{◌≡◌, ℕ, Bool, true, false, cond, List, [],
 use Rattle.std.specs.Prelude.{nat_le}
 use Rattle.std.specs.List.{list_all}
 use Rattle.std.proofs.lemmas.Bool.{and_parts, and_from, leb-true, le-leb, true≢false}
-use Rattle.scion_topology.specs.Keys.{IsKey, AreKeys, is_key, are_keys, accepted, key_of, keys_of, renewed}
+use Rattle.scion_topology.specs.Keys.{IsKey, AreKeys, is_key, are_keys, accepted, key_from, keys_of, renewed}
 use Rattle.scion_topology.specs.declared.fault.TopologyFault.{TopologyFault}
 use Rattle.scion_topology.proofs.Deciding.{All-from_list_all, list_all-from_All}
 
@@ -52,8 +52,8 @@ guard true f new key e = (refl, cc)
 guard false f new key e = absurd cc
 
 -- a key that was made
-pub made_key : (bytes key : List ℕ) → key_of bytes ≡ Ok key → (is_key bytes ≡ true) × (bytes ≡ key)
-unfolding key_of
+pub made_key : (bytes key : List ℕ) → key_from bytes ≡ Ok key → (is_key bytes ≡ true) × (bytes ≡ key)
+unfolding key_from
 made_key bytes key made = guard (is_key bytes) _ bytes key made
 
 guards : (b : Bool) (f : TopologyFault) (new keys : List (List ℕ)) → cond b (Ok new) (Err f) ≡ Ok keys → (b ≡ true) × (new ≡ keys)

@@ -11,7 +11,7 @@ use Rattle.scion_topology.specs.declared.network.End.{End}
 use Rattle.scion_topology.specs.declared.network.Link.{Link}
 use Rattle.scion_topology.specs.declared.network.LinkClass.{LinkClass}
 use Rattle.scion_topology.specs.declared.network.LinkClass.TheVariants.{Core, Child}
-use Rattle.scion_topology.specs.Keys.{is_key, are_keys, key_of, renewed}
+use Rattle.scion_topology.specs.Keys.{is_key, are_keys, key_from, renewed}
 use Rattle.refusal.specs.Refusal.{◌>>=◌}
 use Rattle.scion_topology.specs.Network.{Network, is_wildcard, as_named}
 use Rattle.scion_topology.specs.Causes.{is_as, lists_twice, has_unknown_end, lacks_router, has_no_router, is_core, is_ill_classed, is_ill_joined, cause_of}
@@ -131,7 +131,7 @@ index_from-keyed_at base (suc k) key (one ∷ rest) links x = rw (index_from-key
 
 -- ---- the change
 
-pub rotated-index_in : (ia : ℕ) (key new : List ℕ) (n : Network) (one : AsEntry) (index : IndexValue) → index_in n ia ≡ Ok (one, index) → key_of key ≡ Ok new → rotated ia key n ≡ Ok (rekeyed index.position new n)
+pub rotated-index_in : (ia : ℕ) (key new : List ℕ) (n : Network) (one : AsEntry) (index : IndexValue) → index_in n ia ≡ Ok (one, index) → key_from key ≡ Ok new → rotated ia key n ≡ Ok (rekeyed index.position new n)
 unfolding rotated
 rotated-index_in ia key new n one index found fits =
     let at = bind_ok (known n ia) _ (one, index) found in
@@ -144,7 +144,7 @@ abbrev paired : Network → ℕ → AsEntry → Result (AsEntry × IndexValue) T
 paired n ia one = Ok (one, index_at (position_or_len (λ other. eqb other.ia ia) n.ases) ia n.links)
 
 abbrev made_with : Network → ℕ → List ℕ → AsEntry → Result Network TopologyFault
-made_with n ia key one = key_of key >>= λ new. Ok (record { ases = with_key ia new n.ases; links = n.links })
+made_with n ia key one = key_from key >>= λ new. Ok (record { ases = with_key ia new n.ases; links = n.links })
 
 unknown_both : (r : Result AsEntry TopologyFault) (n : Network) (ia : ℕ) (key : List ℕ) (f : TopologyFault) → (r >>= paired n ia) ≡ Err f → (r >>= made_with n ia key) ≡ Err f
 unknown_both (Ok x) n ia key f e = absurd cc
@@ -154,7 +154,7 @@ pub rotated-unknown : (ia : ℕ) (key : List ℕ) (n : Network) (f : TopologyFau
 unfolding rotated
 rotated-unknown ia key n f none = unknown_both (known n ia) n ia key f none
 
-pub rotated-bad : (ia : ℕ) (key : List ℕ) (n : Network) (one : AsEntry) (index : IndexValue) (f : TopologyFault) → index_in n ia ≡ Ok (one, index) → key_of key ≡ Err f → rotated ia key n ≡ Err f
+pub rotated-bad : (ia : ℕ) (key : List ℕ) (n : Network) (one : AsEntry) (index : IndexValue) (f : TopologyFault) → index_in n ia ≡ Ok (one, index) → key_from key ≡ Err f → rotated ia key n ≡ Err f
 unfolding rotated
 rotated-bad ia key n one index f found bad = let at = bind_ok (known n ia) _ (one, index) found in rw (at.1, bad) refl
 

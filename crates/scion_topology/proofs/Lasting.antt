@@ -12,7 +12,7 @@ use Rattle.scion_topology.specs.declared.fault.TopologyFault.TheVariants as faul
 use Rattle.scion_topology.specs.declared.network.AsEntry.{AsEntry}
 use Rattle.scion_topology.specs.declared.network.End.{End}
 use Rattle.scion_topology.specs.declared.network.Link.{Link}
-use Rattle.scion_topology.specs.Keys.{is_key, key_of, renewed}
+use Rattle.scion_topology.specs.Keys.{is_key, key_from, renewed}
 use Rattle.scion_topology.specs.Network.{Network, as_named, is_end, has_end, link_named, interface_of, with_first, table_of, interface_in}
 use Rattle.scion_topology.specs.Topology.{IsNetwork, known, known_link, near_end, far_end, interface_at, far_end_in, owner_in, with_up, with_key, set_up, rotated}
 use Rattle.scion_topology.specs.Ends.{IsAt, IsShown, at_a, at_b, IsUp, IsStill, IsSame}
@@ -44,14 +44,14 @@ is_linked up x y n m change =
 -- an AS with other keys, in a network of the same links
 pub record IsKeyed (x : ℕ) (key : List ℕ) (n m : Network) : Type 0 where
   pub new : List ℕ
-  pub made : key_of key ≡ Ok new
+  pub made : key_from key ≡ Ok new
   pub is : record n { ases = with_key x new n.ases } ≡ m
 
 pub is_keyed : (x : ℕ) (key : List ℕ) (n m : Network) → rotated x key n ≡ Ok m → IsKeyed x key n m
 unfolding rotated
 is_keyed x key n m change =
     let at = bind_ok (known n x) _ m change in
-    let made = bind_ok (key_of key) _ m at.2 in
+    let made = bind_ok (key_from key) _ m at.2 in
     record { new = made.0; made = made.1; is = ok_is (record n { ases = with_key x made.0 n.ases }) m made.2 }
 
 pub same_ases : (up : Bool) (x y : ℕ) (n m : Network) → set_up up x y n ≡ Ok m → m.ases ≡ n.ases
@@ -62,7 +62,7 @@ same_links x key n m change = sym (ap (λ (k : Network). k.links) (is_keyed x ke
 
 -- ---- a network stays one
 
-fitting : (key new : List ℕ) → key_of key ≡ Ok new → is_key new ≡ true
+fitting : (key new : List ℕ) → key_from key ≡ Ok new → is_key new ≡ true
 fitting key new made = let is = made_key key new made in subst (λ (k : List ℕ). is_key k ≡ true) is.1 is.0
 
 pub rotated_network : (x : ℕ) (key : List ℕ) (n m : Network) → IsNetwork n → rotated x key n ≡ Ok m → IsNetwork m

@@ -10,29 +10,29 @@ use Rattle.scion_topology.specs.declared.fault.TopologyFault.TheVariants as faul
 use Rattle.scion_topology.specs.View.{View, IsRight, entry_of}
 use Rattle.scion_topology.specs.Keys.{IsKey, AreKeys, is_key, accepted}
 use Rattle.scion_topology.specs.Network.{is_wildcard}
-use Rattle.scion_topology.specs.Building.{has_bad_field, is_named, names_twice, view_of}
+use Rattle.scion_topology.specs.Building.{has_bad_field, is_named, numbers_twice, view_of}
 use Rattle.scion_topology.proofs.KeyTests.{is_key-IsKey, AreKeys-accepted}
 use Rattle.scion_topology.proofs.Judging.{IsPlain-is_wildcard, is_wildcard-IsPlain}
 use Rattle.scion_topology.proofs.Deciding.{list_all-from_All, or_false, false_or, apart, apart_test, each_fails}
 
-named_once : (table : List IfEntry) → names_twice table ≡ false → AllPairs (λ one other. one.number ≢ other.number) table
-unfolding names_twice
+named_once : (table : List IfEntry) → numbers_twice table ≡ false → AllPairs (λ one other. one.number ≢ other.number) table
+unfolding numbers_twice
 named_once [] e = λ i j d before below. absurd (omega arith)
 named_once (entry ∷ rest) e =
-    let parts = or_false (is_named entry.number rest) (names_twice rest) e in
+    let parts = or_false (is_named entry.number rest) (numbers_twice rest) e in
     let others : All (λ other. entry.number ≢ other.number) rest = λ k d below same. apart _ _ (each_fails (λ other. other.number == entry.number) rest parts.0 k d below) (sym same) in
     AllPairs-cons (λ one other. one.number ≢ other.number) entry rest others (named_once rest parts.1)
 
-not_named_twice : (table : List IfEntry) → AllPairs (λ one other. one.number ≢ other.number) table → names_twice table ≡ false
-unfolding names_twice
+not_named_twice : (table : List IfEntry) → AllPairs (λ one other. one.number ≢ other.number) table → numbers_twice table ≡ false
+unfolding numbers_twice
 not_named_twice [] once = refl
 not_named_twice (entry ∷ rest) once =
-    false_or (is_named entry.number rest) (names_twice rest)
+    false_or (is_named entry.number rest) (numbers_twice rest)
     (list_any_none (λ other. other.number == entry.number) rest (λ k d below. apart_test _ _ (λ same. once zero (suc k) d (omega arith) (omega arith) (sym same))))
     (not_named_twice rest (λ i j d before below. once (suc i) (suc j) d (omega arith) (omega arith)))
 
 -- parts that pass the tests are right
-pub right : (ia router : ℕ) (keys : List (List ℕ)) (table : List IfEntry) → AreKeys keys → is_wildcard ia ≡ false → is_named 0 table ≡ false → names_twice table ≡ false
+pub right : (ia router : ℕ) (keys : List (List ℕ)) (table : List IfEntry) → AreKeys keys → is_wildcard ia ≡ false → is_named 0 table ≡ false → numbers_twice table ≡ false
     → IsRight (record { ia = ia; router = router; keys = keys; table = table })
 right ia router keys table are plain numbered once = record {
   plain = IsPlain-is_wildcard ia plain;
@@ -52,7 +52,7 @@ pub made_right : (ia router : ℕ) (key : List ℕ) (previous : Option (List ℕ
 unfolding view_of
 made_right ia router key previous table =
     let keys = accepted key previous in
-    by_tests (has_bad_field ia keys table) (names_twice table) (record { ia = ia; router = router; keys = keys; table = table })
+    by_tests (has_bad_field ia keys table) (numbers_twice table) (record { ia = ia; router = router; keys = keys; table = table })
     (λ view. (view ≡ record { ia = ia; router = router; keys = keys; table = table }) × IsRight view)
     (λ fine once. (
     let first = or_false (not (list_all is_key keys)) (is_wildcard ia || is_named 0 table) fine in

@@ -5,7 +5,7 @@ use Rattle.std.proofs.lemmas.Bool.{cases_Bool, or_parts, or_from, and_parts, not
 use Rattle.scion_topology.specs.declared.entry.IfEntry.{IfEntry}
 use Rattle.scion_topology.specs.declared.network.AsEntry.{AsEntry}
 use Rattle.scion_topology.specs.declared.network.Link.{Link}
-use Rattle.scion_topology.specs.Building.{is_named, names_twice}
+use Rattle.scion_topology.specs.Building.{is_named, numbers_twice}
 use Rattle.scion_topology.specs.Keys.{AreKeys}
 use Rattle.scion_topology.specs.Rules.{IsAs}
 use Rattle.scion_topology.specs.Network.{Network, is_wildcard, as_named, has_end, interface_of, with_first, table_of}
@@ -57,18 +57,18 @@ none_there ia number (link ∷ links) apart none =
     named_first number (interface_of ia link) (table_of ia links) (sym (ends_there ia number link parts.0) ∙ ends.0) (none_there ia number links parts.1 ends.1)
 
 -- one more interface, which is not in the table yet
-once_more : (o : Option IfEntry) (table : List IfEntry) → ((e : IfEntry) → o ≡ Some e → is_named e.number table ≡ false) → names_twice table ≡ false → names_twice (with_first o table) ≡ false
-unfolding names_twice
+once_more : (o : Option IfEntry) (table : List IfEntry) → ((e : IfEntry) → o ≡ Some e → is_named e.number table ≡ false) → numbers_twice table ≡ false → numbers_twice (with_first o table) ≡ false
+unfolding numbers_twice
 once_more None table new once = once
-once_more (Some e) table new once = or_from (is_named e.number table) (names_twice table) (new e refl) once
+once_more (Some e) table new once = or_from (is_named e.number table) (numbers_twice table) (new e refl) once
 
 pub entry_is : (x y : Bool) (a b e : IfEntry) → cond x (Some a) (cond y (Some b) None) ≡ Some e → ((x ≡ true) × (a ≡ e)) ⊎ ((y ≡ true) × (b ≡ e))
 entry_is true y a b e h = inl (refl, cc)
 entry_is false true a b e h = inr (refl, cc)
 entry_is false false a b e h = absurd cc
 
-none_twice : (ia : ℕ) (links : List Link) → are_apart links ≡ true → joins_twice links ≡ false → names_twice (table_of ia links) ≡ false
-unfolding names_twice joins_twice
+none_twice : (ia : ℕ) (links : List Link) → are_apart links ≡ true → joins_twice links ≡ false → numbers_twice (table_of ia links) ≡ false
+unfolding numbers_twice joins_twice
 none_twice ia [] apart once = refl
 none_twice ia (link ∷ links) apart once =
     let parts = and_parts (not (eqb link.a.ia link.b.ia)) (are_apart links) apart in
@@ -91,7 +91,7 @@ pub record IsSeen (n : Network) (ia : ℕ) (one : AsEntry) : Type 0 where
   pub plain : is_wildcard ia ≡ false
   pub keys : AreKeys one.keys
   pub numbered : is_named 0 (table_of ia n.links) ≡ false
-  pub once : names_twice (table_of ia n.links) ≡ false
+  pub once : numbers_twice (table_of ia n.links) ≡ false
 
 pub IsSeen-known : (n : Network) (ia : ℕ) (one : AsEntry) → IsNetwork n → known n ia ≡ Ok one → IsSeen n ia one
 IsSeen-known n ia one network found =

@@ -10,7 +10,7 @@ use Rattle.scion_topology.specs.declared.network.End.{End}
 use Rattle.scion_topology.specs.declared.network.Link.{Link}
 use Rattle.scion_topology.specs.Network.{is_end, has_end}
 use Rattle.scion_topology.specs.Causes.{lists_twice, stands, joins_twice}
-use Rattle.scion_topology.specs.Doubled.{HasBits, number_of, numbers_of}
+use Rattle.scion_topology.specs.Doubled.{HasBits, end_number, numbers_of}
 
 -- ---- ASes
 
@@ -22,7 +22,7 @@ lists_twice_is (one ∷ rest) = ap₂ (λ a b. a || b) (named_is (λ other. othe
 -- ---- interfaces
 
 same_end : (one other : End) → one.number < 2 ^ 16 → other.number < 2 ^ 16
-    → nat_eq (number_of one) (number_of other) ≡ is_end other one.ia one.number
+    → nat_eq (end_number one) (end_number other) ≡ is_end other one.ia one.number
 same_end one other small few = same_test _ _
     (λ e. let same = eqb-true _ _ e in
     and_from _ _ (eq-eqb other.ia one.ia (omega (arith, same, small, few)))
@@ -47,22 +47,22 @@ or_again false b = refl
 
 -- a link has an end there where one of its numbers is that of the end
 has_end_is : (end : End) (link : Link) → end.number < 2 ^ 16 → HasBits link
-    → list_any (nat_eq (number_of end)) (numbers_of link) ≡ has_end link end.ia end.number
+    → list_any (nat_eq (end_number end)) (numbers_of link) ≡ has_end link end.ia end.number
 has_end_is end link small bits =
     let a = same_end end link.a small bits.0 in
     let b = same_end end link.b small bits.1 in
-    elim (cases_Bool (nat_eq (number_of link.a) (number_of link.b))) [
-      | inl same ↦ (let one = eqb-true (number_of link.a) (number_of link.b) same in
+    elim (cases_Bool (nat_eq (end_number link.a) (end_number link.b))) [
+      | inl same ↦ (let one = eqb-true (end_number link.a) (end_number link.b) same in
           rw same (or_itself _
-          ∙ ap₂ (λ x y. x || y) a (ap (nat_eq (number_of end)) one ∙ b)))
+          ∙ ap₂ (λ x y. x || y) a (ap (nat_eq (end_number end)) one ∙ b)))
       | inr other ↦ rw other (ap₂ (λ x y. x || y) a (or_none _ ∙ b))
     ]
 
 stands_is : (end : End) (links : List Link) → end.number < 2 ^ 16 → All HasBits links
-    → list_any (nat_eq (number_of end)) (flat_map numbers_of links) ≡ stands links end
+    → list_any (nat_eq (end_number end)) (flat_map numbers_of links) ≡ stands links end
 stands_is end [] small bits = refl
 stands_is end (link ∷ rest) small bits =
-    list_any-append (nat_eq (number_of end)) (numbers_of link) (flat_map numbers_of rest)
+    list_any-append (nat_eq (end_number end)) (numbers_of link) (flat_map numbers_of rest)
     ∙ ap₂ (λ x y. x || y) (has_end_is end link small (bits 0 link (omega arith)))
     (stands_is end rest small (λ k d within. bits (suc k) d (omega arith)))
 
@@ -76,8 +76,8 @@ joins_twice_is (link ∷ rest) bits =
     let a = stands_is link.a rest own.0 later in
     let b = stands_is link.b rest own.1 later in
     let all = joins_twice_is rest later in
-    elim (cases_Bool (nat_eq (number_of link.a) (number_of link.b))) [
-      | inl same ↦ (let one = eqb-true (number_of link.a) (number_of link.b) same in
+    elim (cases_Bool (nat_eq (end_number link.a) (end_number link.b))) [
+      | inl same ↦ (let one = eqb-true (end_number link.a) (end_number link.b) same in
           let ends : stands rest link.a ≡ stands rest link.b =
           sym a ∙ ap (λ n. list_any (nat_eq n) (flat_map numbers_of rest)) one ∙ b in
           rw same (ap₂ (λ x y. x || y) a all ∙ or_again (stands rest link.a) (joins_twice rest)

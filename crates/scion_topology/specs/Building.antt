@@ -18,14 +18,14 @@ has_bad_field ia keys table =
     not (list_all is_key keys) || (is_wildcard ia || is_named 0 table)
 
 -- two interfaces of the table have the same number
-unfoldable pub names_twice : List IfEntry → Bool
-names_twice [] = false
-names_twice (entry ∷ rest) = is_named entry.number rest || names_twice rest
+unfoldable pub numbers_twice : List IfEntry → Bool
+numbers_twice [] = false
+numbers_twice (entry ∷ rest) = is_named entry.number rest || numbers_twice rest
 
 -- the view of a router of an AS, from its key in use, the key before it and its interfaces:
 -- BadField, then DuplicateIf
 unfoldable pub view_of : ℕ → ℕ → List ℕ → Option (List ℕ) → List IfEntry → Result View TopologyFault
 view_of ia router key previous table =
     if has_bad_field ia (accepted key previous) table then Err faults.BadField
-    else if names_twice table then Err faults.DuplicateIf
+    else if numbers_twice table then Err faults.DuplicateIf
     else Ok (record { ia = ia; router = router; keys = accepted key previous; table = table })

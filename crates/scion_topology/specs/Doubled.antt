@@ -4,14 +4,14 @@ use Rattle.scion_topology.specs.declared.network.End.{End}
 use Rattle.scion_topology.specs.declared.network.Link.{Link}
 
 -- an interface as a number: its AS's address, and then its own number
-abbrev pub number_of : End → ℕ
-number_of end = end.ia * 2 ^ 16 + end.number
+abbrev pub end_number : End → ℕ
+end_number end = end.ia * 2 ^ 16 + end.number
 
 -- the numbers of the interfaces at both ends of a link, or one number if they are equal
 abbrev pub numbers_of : Link → List ℕ
 numbers_of link =
-    if number_of link.a == number_of link.b then number_of link.a ∷ []
-    else number_of link.a ∷ number_of link.b ∷ []
+    if end_number link.a == end_number link.b then end_number link.a ∷ []
+    else end_number link.a ∷ end_number link.b ∷ []
 
 -- the interfaces at a link's ends have numbers of 16 bits
 abbrev pub HasBits : Link → Type 0

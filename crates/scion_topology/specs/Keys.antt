@@ -28,8 +28,8 @@ abbrev pub are_keys : List (List ℕ) → Bool
 are_keys keys = nat_le 1 (length keys) && (nat_le (length keys) 2 && list_all is_key keys)
 
 -- the key of these bytes, or BadField
-unfoldable pub key_of : List ℕ → Result (List ℕ) TopologyFault
-key_of bytes = if is_key bytes then Ok bytes else Err faults.BadField
+unfoldable pub key_from : List ℕ → Result (List ℕ) TopologyFault
+key_from bytes = if is_key bytes then Ok bytes else Err faults.BadField
 
 -- the key in use, and the one before it if there is one
 abbrev pub accepted : List ℕ → Option (List ℕ) → List (List ℕ)

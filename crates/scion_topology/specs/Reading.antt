@@ -14,7 +14,7 @@ use Rattle.scion_topology.specs.declared.network.End.{End}
 use Rattle.scion_topology.specs.declared.network.Link.{Link}
 use Rattle.scion_topology.specs.declared.network.LinkClass.{LinkClass}
 use Rattle.scion_topology.specs.declared.network.LinkClass.TheVariants.{Core, Child}
-use Rattle.scion_topology.specs.Keys.{key_of}
+use Rattle.scion_topology.specs.Keys.{key_from}
 use Rattle.scion_topology.specs.Network.{is_wildcard}
 
 -- the address in a member, without a wildcard
@@ -31,11 +31,11 @@ key_at name d = do
   bytes ← if nat_le 2 (length text) && nat_le (length text) 128
       then result_ok (decode_of text)
       else None
-  result_ok (key_of bytes)
+  result_ok (key_from bytes)
 
 -- the AS of an object, with its one key in use
-unfoldable pub as_at : Data → Option AsEntry
-as_at d = do
+unfoldable pub as_entry_at : Data → Option AsEntry
+as_entry_at d = do
   ia ← address_in (codes "ia") d
   core ← truth_at (codes "core") d
   exp_time ← whole_at 0 255 (codes "exp") d

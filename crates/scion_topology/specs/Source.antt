@@ -4,9 +4,9 @@ use Rattle.scion_topology.specs.declared.entry.IfEntry.{IfEntry}
 use Rattle.scion_topology.specs.declared.view.Source.{Source}
 use Rattle.scion_topology.specs.declared.view.Source.TheVariants.{Borrowed, Owned}
 
-abbrev pub keys_in : Source → List (List ℕ)
-keys_in (Borrowed keys table) = keys.now
-keys_in (Owned keys table) = keys
+abbrev pub source_keys : Source → List (List ℕ)
+source_keys (Borrowed keys table) = keys.now
+source_keys (Owned keys table) = keys
 
 abbrev pub table_in : Source → List IfEntry
 table_in (Borrowed keys table) = table.now

@@ -13,11 +13,11 @@ use Rattle.scion_topology.specs.declared.network.AsInfo.{AsInfo}
 use Rattle.scion_topology.specs.declared.network.End.{End}
 use Rattle.scion_topology.specs.declared.network.Link.{Link}
 use Rattle.scion_topology.specs.View.{View}
-use Rattle.scion_topology.specs.Keys.{key_of, renewed}
+use Rattle.scion_topology.specs.Keys.{key_from, renewed}
 use Rattle.scion_topology.specs.Network.{Network, as_named, is_end, has_end, link_named, table_of, interface_in}
 use Rattle.scion_topology.specs.Causes.{cause_of}
 pub use Rattle.scion_topology.specs.Rules.{IsNetwork}
-use Rattle.scion_topology.specs.Reading.{as_at, link_at}
+use Rattle.scion_topology.specs.Reading.{as_entry_at, link_at}
 
 -- ---- reading
 
@@ -26,7 +26,7 @@ unfoldable pub network_of : Data → Result Network TopologyFault
 network_of d = do
   as_items ← ok_or (list_at (codes "ases") d) faults.BadField
   link_items ← ok_or (list_at (codes "links") d) faults.BadField
-  ases ← ok_or (items_at as_at as_items) faults.BadField
+  ases ← ok_or (items_at as_entry_at as_items) faults.BadField
   links ← ok_or (items_at link_at link_items) faults.BadField
   unless (cause_of ases links) (record { ases = ases; links = links })
 
@@ -117,7 +117,7 @@ set_up up ia number n = do
 unfoldable pub rotated : ℕ → List ℕ → Network → Result Network TopologyFault
 rotated ia key n = do
   one ← known n ia
-  new ← key_of key
+  new ← key_from key
   Ok (record n { ases = with_key ia new n.ases })
 
 -- a change is done and gives the new network, or is refused and leaves the network as it was

@@ -4,7 +4,7 @@
 ghost use Rattle.std.specs.Prelude.{◌≡◌, ◌<◌, ◌^◌, ◌++◌, IfOk, OnOk, All, map};
 ghost use Rattle.std.specs.List.{flat_map};
 ghost use Rattle.scion_topology.specs.Causes.{lists_twice, stands, joins_twice};
-ghost use Rattle.scion_topology.specs.Doubled.{HasBits, number_of, numbers_of};
+ghost use Rattle.scion_topology.specs.Doubled.{HasBits, end_number, numbers_of};
 
 use crate::as_lookup::is_listed;
 use crate::network::{AsEntry, End, Link};
@@ -76,7 +76,7 @@ fn push_numbers(numbers: &mut Vec<u128>, link: &Link) -> Result<(), AllocError>
     ensures numbers { OnOk result (numbers.new.items ≡ numbers.old.items ++ numbers_of link.now) }
     ensures bits { HasBits link.now }
 {
-    let (a, b) = (number_of(&link.a), number_of(&link.b));
+    let (a, b) = (end_number(&link.a), end_number(&link.b));
     numbers.push(a)?;
     if a != b {
         numbers.push(b)?;
@@ -85,8 +85,8 @@ fn push_numbers(numbers: &mut Vec<u128>, link: &Link) -> Result<(), AllocError>
 }
 
 /// An interface as a number: its AS's address, and then its own number.
-fn number_of(end: &End) -> u128
-    ensures value { result ≡ number_of end.now }
+fn end_number(end: &End) -> u128
+    ensures value { result ≡ end_number end.now }
     ensures bits { end.now.number < 2 ^ 16 }
 {
     u128::from(end.ia.number()) * (1 << 16) + u128::from(end.number.number())

@@ -4,7 +4,7 @@ ghost use Rattle.serde_json.specs.View.{view};
 ghost use Rattle.scion_topology.specs.Keys.{is_key};
 ghost use Rattle.scion_topology.specs.Network.{is_wildcard};
 ghost use Rattle.scion_topology.specs.Causes.{is_as, is_link};
-ghost use Rattle.scion_topology.specs.Reading.{address_in, key_at, as_at, class_at, end_at, link_at};
+ghost use Rattle.scion_topology.specs.Reading.{address_in, key_at, as_entry_at, class_at, end_at, link_at};
 
 use crate::keys::{Key, Keys, MAX_KEY_LEN};
 use crate::network::{AsEntry, End, Link, LinkClass};
@@ -44,9 +44,9 @@ fn key(value: &Value, name: &str) -> Option<Key>
 }
 
 /// The AS of a JSON object.
-#[tactic(auto, unfolding(crate::specs::Reading::as_at))]
+#[tactic(auto, unfolding(crate::specs::Reading::as_entry_at))]
 pub(crate) fn as_of(value: &Value) -> Option<AsEntry>
-    ensures value { result ≡ as_at (view value.now) }
+    ensures value { result ≡ as_entry_at (view value.now) }
     ensures fits { IfSome result (λ one. IsTrue (is_as one)) }
 {
     let ia = address(value, "ia")?;

@@ -3,7 +3,7 @@ ghost use Rattle.std.specs.List.{list_any};
 ghost use Rattle.std.specs.Option.{option_copied};
 ghost use Rattle.std.specs.Str.{bytes_eq};
 ghost use Rattle.hop_mac.specs.Hop.{authenticator};
-ghost use Rattle.scion_topology.specs.Keys.{accepted, is_key, key_of, key_in_use, keys_of, renewed};
+ghost use Rattle.scion_topology.specs.Keys.{accepted, is_key, key_from, key_in_use, keys_of, renewed};
 
 use crate::fault::TopologyFault;
 use arrayvec::ArrayVec;
@@ -38,9 +38,9 @@ impl Model for Key {
 
 impl Key {
     /// The key of these bytes: [`TopologyFault::BadField`] if there are none or more than 64.
-    #[tactic(auto, unfolding(crate::specs::Keys::key_of))]
+    #[tactic(auto, unfolding(crate::specs::Keys::key_from))]
     pub fn new(bytes: &[u8]) -> Result<Key, TopologyFault>
-        ensures value { result ≡ key_of bytes.now }
+        ensures value { result ≡ key_from bytes.now }
         ensures fits { IfOk result (λ key. is_key key ≡ true) }
     {
         if bytes.is_empty() {
@@ -100,7 +100,7 @@ impl Model for Keys {
 impl Keys {
     /// The keys of an AS, from the key in use and the one before it: [`TopologyFault::BadField`] if
     /// either is empty or has more than 64 bytes.
-    #[tactic(auto, unfolding(crate::specs::Keys::keys_of, crate::specs::Keys::key_of))]
+    #[tactic(auto, unfolding(crate::specs::Keys::keys_of, crate::specs::Keys::key_from))]
     pub fn new(key: &[u8], previous: Option<&[u8]>) -> Result<Keys, TopologyFault>
         ensures { result ≡ keys_of key.now (option_copied previous.entry) }
     {

@@ -2,7 +2,7 @@ ghost use Rattle.std.specs.Prelude.{◌≡◌, ◌↔◌, IsTrue, Some, slice_ge
 ghost use Rattle.std.specs.Option.{option_copied};
 ghost use Rattle.scion_topology.specs.View.{IsAuthentic, IsRight, entry_of, is_authentic};
 ghost use Rattle.scion_topology.specs.Network.{is_wildcard};
-ghost use Rattle.scion_topology.specs.Building.{is_named, names_twice, view_of};
+ghost use Rattle.scion_topology.specs.Building.{is_named, numbers_twice, view_of};
 
 use crate::entry::IfEntry;
 use crate::fault::TopologyFault;
@@ -36,21 +36,21 @@ enum Source<'a> {
 impl<'a> Model for RouterView<'a> {
     ghost use Rattle.std.specs.Prelude.{◌≡◌, All};
     ghost use Rattle.scion_topology.specs.View.{View, IsRight};
-    ghost use Rattle.scion_topology.specs.Source.{keys_in, table_in};
+    ghost use Rattle.scion_topology.specs.Source.{source_keys, table_in};
 
     ghost Value = { View };
 
     ghost view = { λ a. record {
       ia = a.ia;
       router = a.router;
-      keys = keys_in a.source;
+      keys = source_keys a.source;
       table = table_in a.source;
     } };
 
     ghost invariant = { λ a. IsRight (record {
       ia = a.ia;
       router = a.router;
-      keys = keys_in a.source;
+      keys = source_keys a.source;
       table = table_in a.source;
     }) };
 }
@@ -76,7 +76,7 @@ impl<'a> RouterView<'a> {
         if is_wildcard(ia) || is_named(IfId::NONE, table) {
             return Err(TopologyFault::BadField);
         }
-        if names_twice(table) {
+        if numbers_twice(table) {
             return Err(TopologyFault::DuplicateIf);
         }
         Ok(RouterView {
@@ -195,9 +195,9 @@ fn is_wildcard(ia: IsdAs) -> bool
 }
 
 /// Whether two interfaces of the table have the same number.
-#[tactic(auto, unfolding(crate::specs::Building::names_twice))]
-fn names_twice(table: &[IfEntry]) -> bool
-    ensures { result ≡ names_twice table.now }
+#[tactic(auto, unfolding(crate::specs::Building::numbers_twice))]
+fn numbers_twice(table: &[IfEntry]) -> bool
+    ensures { result ≡ numbers_twice table.now }
 {
     let mut rest = table;
     while let Some((entry, others)) = rest.split_first() {

@@ -6,7 +6,7 @@ use mathlib.Core.List.{IsPrefix}
 use Rattle.left_right.specs.declared.writer.Writer.{Writer}
 use Rattle.left_right.specs.Sides.{view}
 use Rattle.logbook.specs.Pages.{Book, Named}
-use Rattle.path_server.specs.Store.{after, store_of}
+use Rattle.path_server.specs.Store.{after_operation, store_of}
 use Rattle.path_server.specs.declared.op.StoreOp.{StoreOp}
 use Rattle.segment_board.specs.declared.edition.Edition.{Edition}
 use Rattle.segment_board.specs.declared.board_state.BoardOp.{BoardOp}
@@ -131,7 +131,7 @@ module _ {P A S : Type 0} {g : _} (w v : Writer BoardValue BoardOp (Option Known
       abbrev pub Kept : Type 0
       Kept = (shown_of u ≡ shown_of v) × (queue_of u ≡ queue_of v) × (view u.desk.place ≡ view v.desk.place)
 
-      shown_next : queue_of v ≡ queue_of w ++ Mark next ∷ [] → Showed → shown_of u ≡ record { store = fold after (shown_of v).store (operations_of (queue_of w)); front = next }
+      shown_next : queue_of v ≡ queue_of w ++ Mark next ∷ [] → Showed → shown_of u ≡ record { store = fold after_operation (shown_of v).store (operations_of (queue_of w)); front = next }
       shown_next queue s = s.0 ∙ (ap (λ q. fold taken (shown_of v) q) queue ∙ fold_mark (shown_of v) (queue_of w) next)
 
       -- once it was shown

@@ -9,7 +9,7 @@ use Rattle.segment_board.specs.declared.fault.BoardFault.{BoardFault}
 use Rattle.segment_board.specs.declared.fault.BoardFault.TheVariants.{NoEntry}
 
 -- the knowledge that is passed to a reader: the board, and operations that were published there
-pub record Known : Type 0 where
+pub record KnownOperations : Type 0 where
   pub board : Book
   pub seen : List StoreOp
 

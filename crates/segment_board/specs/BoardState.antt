@@ -1,7 +1,7 @@
 -- The state of a board.
 use Rattle.std.specs.Prelude.{◌≡◌, List, fold}
 use Rattle.path_segment.specs.Chain.{Chain}
-use Rattle.path_server.specs.Store.{after, store_of}
+use Rattle.path_server.specs.Store.{after_operation, store_of}
 use Rattle.segment_board.specs.History.{KnownHistory, ContinuesFrom, newest}
 use Rattle.segment_board.specs.declared.board_state.BoardOp.{BoardOp}
 use Rattle.segment_board.specs.declared.board_state.BoardOp.TheVariants.{Apply, Mark}
@@ -13,7 +13,7 @@ pub record BoardValue : Type 0 where
 
 -- the state after one operation
 abbrev pub taken : BoardValue → BoardOp → BoardValue
-taken x (Apply op) = record x { store = after x.store op }
+taken x (Apply op) = record x { store = after_operation x.store op }
 taken x (Mark front) = record x { front = front }
 
 -- the store is that of the operations of the newest edition

@@ -64,9 +64,9 @@ pub(crate) struct Published;
 
 impl Protocol<BoardState, Option<HistoryPrefix>> for Published {
     ghost use Rattle.std.specs.Prelude.{None};
-    ghost use Rattle.segment_board.specs.Rule.{Keeps};
+    ghost use Rattle.segment_board.specs.Rule.{KeepsViews};
 
-    ghost holds = { Keeps };
+    ghost holds = { KeepsViews };
 
     ghost first = { None };
 }
@@ -87,9 +87,9 @@ pub(crate) struct Enters;
 impl Outcome<BoardState, Option<HistoryPrefix>> for Enters {
     ghost use Rattle.std.specs.Prelude.{◌≡◌, Some};
     ghost use Rattle.segment_board.specs.BoardState.{IsTied};
-    ghost use Rattle.segment_board.specs.Rule.{Fits};
+    ghost use Rattle.segment_board.specs.Rule.{FitsView};
 
-    ghost then = { λ v x y w. (w ≡ Some x.front) × IsTied x × Fits x v };
+    ghost then = { λ v x y w. (w ≡ Some x.front) × IsTied x × FitsView x v };
 }
 
 /// The writer of the two copies.

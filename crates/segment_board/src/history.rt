@@ -159,9 +159,9 @@ pub struct Told {
 
 impl Model for Told {
     ghost use Rattle.segment_board.specs.History.{newest};
-    ghost use Rattle.segment_board.specs.Board.{Known};
+    ghost use Rattle.segment_board.specs.Board.{KnownOperations};
 
-    ghost Value = { Known };
+    ghost Value = { KnownOperations };
 
     ghost view = { λ t. record {
       board = t.front.board;

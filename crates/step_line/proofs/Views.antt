@@ -6,7 +6,7 @@ use Rattle.scion_topology.specs.declared.entry.IfEntry.{IfEntry}
 use Rattle.scion_topology.specs.declared.fault.TopologyFault.{TopologyFault}
 use Rattle.scion_topology.specs.View.{View}
 use Rattle.scion_topology.specs.Keys.{accepted}
-use Rattle.scion_topology.specs.Building.{view_of, has_bad_field, names_twice}
+use Rattle.scion_topology.specs.Building.{view_of, has_bad_field, numbers_twice}
 use Rattle.router_step.specs.declared.arrival.Arrival.{Arrival}
 use Rattle.step_line.specs.Turn.{Turn, turn_with}
 use Rattle.refusal.specs.Optional.{◌>>=◌, only}
@@ -21,7 +21,7 @@ chosen false false d e v none = refl
 pub view_of_accepts : (ia router : ℕ) (key : List ℕ) (previous : Option (List ℕ)) (table : List IfEntry) → is_err (view_of ia router key previous table) ≡ false
     → view_of ia router key previous table ≡ Ok (record { ia = ia; router = router; keys = accepted key previous; table = table })
 unfolding view_of
-view_of_accepts ia router key previous table none = chosen (has_bad_field ia (accepted key previous) table) (names_twice table) _ _ _ none
+view_of_accepts ia router key previous table none = chosen (has_bad_field ia (accepted key previous) table) (numbers_twice table) _ _ _ none
 
 -- and the turn has it
 pub turn_with_accepted : (ia router : ℕ) (key : List ℕ) (previous : Option (List ℕ)) (now : ℕ) (arrival : Arrival) (table : List IfEntry) → is_err (view_of ia router key previous table) ≡ false

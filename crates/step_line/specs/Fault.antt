@@ -6,7 +6,7 @@ use Rattle.step_line.specs.declared.fault.StepFault.TheVariants.{PacketText, Mem
 
 -- the line of the packet was returned; or the packet's text is no packet; or memory ran out, about
 -- which nothing is claimed
-abbrev pub Prints : {A : Type 0} → Result (String A) StepFault → Option (List ℕ) → Type 0
-Prints (Ok text) line = line ≡ Some (string_bytes text)
-Prints (Err PacketText) line = line ≡ None
-Prints (Err Memory) line = Unit {0}
+abbrev pub PrintsTurn : {A : Type 0} → Result (String A) StepFault → Option (List ℕ) → Type 0
+PrintsTurn (Ok text) line = line ≡ Some (string_bytes text)
+PrintsTurn (Err PacketText) line = line ≡ None
+PrintsTurn (Err Memory) line = Unit {0}

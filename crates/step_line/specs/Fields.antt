@@ -17,18 +17,18 @@ abbrev pub is_decimal : List ℕ → Bool
 is_decimal text = nat_lt 0 (length text) && all_digits 10 text
 
 -- a number from `low` to `high`, in decimal digits
-unfoldable pub number_at : ℕ → ℕ → List ℕ → Option ℕ
-number_at low high text =
+unfoldable pub bounded_number_at : ℕ → ℕ → List ℕ → Option ℕ
+bounded_number_at low high text =
     if is_decimal text && (nat_le low (digits_value 10 text) && nat_le (digits_value 10 text) high)
     then Some (digits_value 10 text) else None
 
 -- bytes in hexadecimal, with letters of either case
-abbrev pub bytes_of : List ℕ → Option (List ℕ)
-bytes_of text = only (decode_of text)
+abbrev pub hex_bytes_of : List ℕ → Option (List ℕ)
+hex_bytes_of text = only (decode_of text)
 
 -- the address of an AS
-abbrev pub ia_at : List ℕ → Option ℕ
-ia_at text = only (address_at text)
+abbrev pub as_address_at : List ℕ → Option ℕ
+as_address_at text = only (address_at text)
 
 -- how the packet came: `host`, `inside`, or the number of the interface
 unfoldable pub arrival_at : List ℕ → Option Arrival
@@ -36,7 +36,7 @@ arrival_at text =
     if bytes_eq text (codes "host") then Some FromHost
     else if bytes_eq text (codes "inside") then Some Inside
     else (do
-      number ← number_at 1 65535 text
+      number ← bounded_number_at 1 65535 text
       Some (Link number))
 
 -- a comma
@@ -44,8 +44,8 @@ abbrev pub comma : ℕ
 comma = 44
 
 -- the kind of a link: what the AS at its far end is
-unfoldable pub kind_at : List ℕ → Option LinkKind
-kind_at text =
+unfoldable pub link_kind_at : List ℕ → Option LinkKind
+link_kind_at text =
     if bytes_eq text (codes "core") then Some Core
     else if bytes_eq text (codes "parent") then Some Parent
     else if bytes_eq text (codes "child") then Some Child
@@ -59,21 +59,21 @@ state_at text =
     else None
 
 -- an interface: `NUMBER,core|parent|child,ROUTER,up|down`
-unfoldable pub interface_at : List ℕ → Option IfEntry
-interface_at text = do
+unfoldable pub table_entry_at : List ℕ → Option IfEntry
+table_entry_at text = do
   first ← cut_at comma text
   second ← cut_at comma first.1
   third ← cut_at comma second.1
-  number ← number_at 1 65535 first.0
-  kind ← kind_at second.0
-  router ← number_at 0 63 third.0
+  number ← bounded_number_at 1 65535 first.0
+  kind ← link_kind_at second.0
+  router ← bounded_number_at 0 63 third.0
   up ← state_at third.1
   Some (record { number = number; kind = kind; router = router; up = up })
 
 -- the interfaces of these texts
-unfoldable pub interfaces_at : List (List ℕ) → Option (List IfEntry)
-interfaces_at [] = Some []
-interfaces_at (text ∷ texts) = do
-  entry ← interface_at text
-  table ← interfaces_at texts
+unfoldable pub table_at : List (List ℕ) → Option (List IfEntry)
+table_at [] = Some []
+table_at (text ∷ texts) = do
+  entry ← table_entry_at text
+  table ← table_at texts
   Some (entry ∷ table)

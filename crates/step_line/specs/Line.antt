@@ -10,7 +10,7 @@ use Rattle.router_step.specs.declared.fault.Refusal.{Refusal}
 use Rattle.router_step.specs.declared.fault.Refusal.TheVariants.{BadHeader}
 use Rattle.router_step.specs.Fault.{code_of, name_of}
 use Rattle.router_step.specs.Packet.{packet_step}
-use Rattle.step_line.specs.Fields.{bytes_of}
+use Rattle.step_line.specs.Fields.{hex_bytes_of}
 use Rattle.step_line.specs.Turn.{Turn}
 
 -- a word, a code and a name: `WORD CODE Name`
@@ -40,4 +40,4 @@ text_of (Err refusal) = refusal_text refusal
 unfoldable pub line_of : Turn → List ℕ → Option (List ℕ)
 line_of turn text =
     option_map (λ packet. text_of (packet_step turn.view turn.moment turn.arrival packet))
-    (bytes_of (trimmed text))
+    (hex_bytes_of (trimmed text))

@@ -6,7 +6,7 @@ use Rattle.scion_topology.specs.Keys.{accepted}
 use Rattle.scion_topology.specs.Building.{view_of}
 use Rattle.router_step.specs.declared.arrival.Arrival.{Arrival}
 use Rattle.refusal.specs.Optional.{◌>>=◌, only}
-use Rattle.step_line.specs.Fields.{ia_at, number_at, bytes_of, arrival_at, interfaces_at}
+use Rattle.step_line.specs.Fields.{as_address_at, bounded_number_at, hex_bytes_of, arrival_at, table_at}
 
 -- the texts of the options, and those of the interfaces
 pub record StepOptions : Type 0 where
@@ -35,19 +35,19 @@ turn_with ia router key previous moment arrival table = do
 abbrev pub previous_of : Option (List ℕ) → Option (Option (List ℕ))
 previous_of None = Some None
 previous_of (Some text) = do
-  key ← bytes_of text
+  key ← hex_bytes_of text
   Some (Some key)
 
 -- the turn of these texts, if all can be read and the parts are a view
-unfoldable pub turn_of : StepOptions → Option Turn
-turn_of texts = do
-  ia ← ia_at texts.ia
-  router ← number_at 0 63 texts.router
-  key ← bytes_of texts.key
+unfoldable pub turn_from : StepOptions → Option Turn
+turn_from texts = do
+  ia ← as_address_at texts.ia
+  router ← bounded_number_at 0 63 texts.router
+  key ← hex_bytes_of texts.key
   previous ← previous_of texts.previous
-  moment ← number_at 0 4294967295 texts.now
+  moment ← bounded_number_at 0 4294967295 texts.now
   arrival ← arrival_at texts.from
-  table ← interfaces_at texts.interfaces
+  table ← table_at texts.interfaces
   turn_with ia router key previous moment arrival table
 
 -- the bytes of a key, if there is one

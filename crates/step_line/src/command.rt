@@ -1,8 +1,8 @@
 ghost use Rattle.std.specs.Prelude.{◌≡◌, IfOk, option_map};
 ghost use Rattle.std.specs.Option.{option_copied};
-ghost use Rattle.step_line.specs.Turn.{items_of, previous_of, turn_of, turn_with};
+ghost use Rattle.step_line.specs.Turn.{items_of, previous_of, turn_from, turn_with};
 ghost use Rattle.step_line.specs.Line.{line_of};
-ghost use Rattle.step_line.specs.Fault.{Prints};
+ghost use Rattle.step_line.specs.Fault.{PrintsTurn};
 
 use crate::fault::StepFault;
 use crate::fields::{arrival, bytes, interfaces, number, number_of_router};
@@ -49,12 +49,12 @@ impl StepCommand {
     /// The turn of these texts, or `None` if one of them can't be read or the parts are no view.
     ///
     /// `AllocError` if memory runs out.
-    #[tactic(auto, unfolding(crate::specs::Turn::turn_of))]
+    #[tactic(auto, unfolding(crate::specs::Turn::turn_from))]
     pub fn from_texts(
         alloc: Global,
         texts: StepArgs<'_, '_>,
     ) -> Result<Option<StepCommand>, AllocError>
-        ensures { IfOk result (λ o. o ≡ turn_of texts.entry) }
+        ensures { IfOk result (λ o. o ≡ turn_from texts.entry) }
     {
         let Ok(ia) = IsdAs::parse(texts.ia) else {
             return Ok(None);
@@ -145,7 +145,7 @@ impl StepCommand {
     /// [`StepFault::PacketText`] if the text is not hexadecimal digits, two for each byte.
     #[tactic(auto, unfolding(crate::specs::Line::line_of))]
     pub fn line(&self, alloc: Global, text: &[u8]) -> Result<String, StepFault>
-        ensures { Prints result (line_of self.now text.now) }
+        ensures { PrintsTurn result (line_of self.now text.now) }
     {
         let Some(mut packet) = bytes(alloc, trim(text))? else {
             return Err(StepFault::PacketText);

@@ -2,7 +2,7 @@
 
 ghost use Rattle.std.specs.Prelude.{◌≡◌, ℕ, ◌≤◌, IfOk, IfSome, List, map, option_map};
 ghost use Rattle.isd_as.specs.Reading.{all_digits};
-ghost use Rattle.step_line.specs.Fields.{arrival_at, bytes_of, interface_at, interfaces_at, kind_at, number_at, state_at};
+ghost use Rattle.step_line.specs.Fields.{arrival_at, hex_bytes_of, table_entry_at, table_at, link_kind_at, bounded_number_at, state_at};
 
 use hex::FromHexError;
 use isd_as::IfId;
@@ -20,9 +20,9 @@ fn is_all_digits(text: &str) -> bool
 
 /// The number from `low` to `high` that the text is in decimal digits, without a sign; `None` if it
 /// is none.
-#[tactic(auto, unfolding(crate::specs::Fields::number_at))]
+#[tactic(auto, unfolding(crate::specs::Fields::bounded_number_at))]
 pub fn number(text: &str, low: u64, high: u64) -> Option<u64>
-    ensures value { result ≡ number_at low high text.now }
+    ensures value { result ≡ bounded_number_at low high text.now }
     ensures low { IfSome result (λ n. low ≤ n) }
     ensures high { IfSome result (λ n. n ≤ high) }
 {
@@ -38,7 +38,7 @@ pub fn number(text: &str, low: u64, high: u64) -> Option<u64>
 /// The bytes that the text is in hexadecimal, with letters of either case; `None` if it is no
 /// hexadecimal.
 pub fn bytes(alloc: Global, text: &[u8]) -> Result<Option<Vec<u8>>, AllocError>
-    ensures { IfOk result (λ o. option_map (λ v. v.items) o ≡ bytes_of text.now) }
+    ensures { IfOk result (λ o. option_map (λ v. v.items) o ≡ hex_bytes_of text.now) }
 {
     match hex::decode(alloc, text) {
         Ok(bytes) => Ok(Some(bytes)),
@@ -63,9 +63,9 @@ pub(crate) fn arrival(text: &str) -> Option<Arrival>
 }
 
 /// The kind of a link: what the AS at its far end is.
-#[tactic(auto, unfolding(crate::specs::Fields::kind_at))]
+#[tactic(auto, unfolding(crate::specs::Fields::link_kind_at))]
 fn kind(text: &str) -> Option<LinkKind>
-    ensures { result ≡ kind_at text.now }
+    ensures { result ≡ link_kind_at text.now }
 {
     match text {
         "core" => Some(LinkKind::Core),
@@ -88,9 +88,9 @@ fn is_up(text: &str) -> Option<bool>
 }
 
 /// An interface, `NUMBER,core|parent|child,ROUTER,up|down`.
-#[tactic(auto, unfolding(crate::specs::Fields::interface_at))]
+#[tactic(auto, unfolding(crate::specs::Fields::table_entry_at))]
 fn interface(text: &str) -> Option<IfEntry>
-    ensures { result ≡ interface_at text.now }
+    ensures { result ≡ table_entry_at text.now }
 {
     let (number_text, rest) = cut(text, ',')?;
     let (kind_text, rest) = cut(rest, ',')?;
@@ -109,17 +109,17 @@ fn interface(text: &str) -> Option<IfEntry>
 
 /// The number of a router in its AS, 0 to 63.
 pub(crate) fn number_of_router(text: &str) -> Option<u8>
-    ensures { result ≡ number_at 0 63 text.now }
+    ensures { result ≡ bounded_number_at 0 63 text.now }
 {
     let number = number(text, 0, 63)?;
     Some(number as u8)
 }
 
 /// The table of these interfaces.
-#[tactic(auto, unfolding(crate::specs::Fields::interfaces_at))]
+#[tactic(auto, unfolding(crate::specs::Fields::table_at))]
 pub(crate) fn interfaces(alloc: Global, texts: &[&str]) -> Result<Option<Vec<IfEntry>>, AllocError>
     ensures { IfOk result
-        (λ o. option_map (λ v. v.items) o ≡ interfaces_at (map (λ t. t.now) texts.now)) }
+        (λ o. option_map (λ v. v.items) o ≡ table_at (map (λ t. t.now) texts.now)) }
 {
     let mut table = Vec::new(alloc);
     for text in texts {

@@ -4,13 +4,13 @@ use Rattle.network_core.specs.Value.{NetValue}
 use Rattle.work_lines.specs.declared.fault.WorkFault.{WorkFault}
 use Rattle.work_lines.specs.declared.fault.WorkFault.TheVariants as faults
 use Rattle.work_lines.specs.Report.{Reports}
-use Rattle.work_lines.specs.Work.{IsNumberOfWorkers, Prepares, Works, Writes}
+use Rattle.work_lines.specs.Work.{IsNumberOfWorkers, Prepares, Works, WritesReport}
 
 -- the report was written, or a beginning of it
 pub worked : (result : Result (Unit {0}) WorkFault) (net : NetValue) (workers slots : ℕ)
     (before after held replied holds : Option (List ℕ)) (text : List ℕ)
     → Prepares net before after held replied → IsNumberOfWorkers workers → Reports net slots text
-    → Writes result text replied holds → Works result workers slots before after held holds
+    → WritesReport result text replied holds → Works result workers slots before after held holds
 worked (Ok done) net workers slots before after held replied holds text prepares number reports writes =
     (net, replied, text, (prepares, (number, (reports, writes))))
 worked (Err faults.Write) net workers slots before after held replied holds text prepares number reports writes =

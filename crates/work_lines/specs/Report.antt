@@ -8,7 +8,7 @@ use Rattle.router_workers.specs.declared.end.End.TheVariants.{Delivered, Refused
 use Rattle.router_workers.specs.Flight.{FlightValue, departed, grounded, sent_packet_of}
 use Rattle.router_workers.specs.Run.{IsReport}
 use Rattle.event_lines.specs.Text.{refusal_text}
-use Rattle.event_lines.specs.Run.{ended}
+use Rattle.event_lines.specs.Run.{ended_lines}
 
 -- a flight of this shipment at its start in this network
 abbrev pub IsFlightOf : Network → Shipment → FlightValue → Type 0
@@ -45,4 +45,4 @@ report_lines number (end ∷ ends) = flight_text number end ∷ report_lines (nu
 abbrev pub Reports : NetValue → ℕ → List ℕ → Type 0
 Reports net slots bytes = (flights : List FlightValue) × (ends : List End)
     × (AreFlights net flights
-    × (IsReport flights net.moment slots ends × (bytes ≡ ended (report_lines 0 ends))))
+    × (IsReport flights net.moment slots ends × (bytes ≡ ended_lines (report_lines 0 ends))))

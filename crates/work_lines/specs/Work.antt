@@ -44,21 +44,21 @@ Works (Err (faults.Lines fault)) workers slots before after held holds =
 
 -- whether the run ended because a read failed, and whether because a write of a reply or of the
 -- report failed
-abbrev pub is_read_fault : Result (Unit {0}) WorkFault → Bool
-is_read_fault (Err (faults.Lines lines.Read)) = true
-is_read_fault result = false
+abbrev pub is_work_read_fault : Result (Unit {0}) WorkFault → Bool
+is_work_read_fault (Err (faults.Lines lines.Read)) = true
+is_work_read_fault result = false
 
-abbrev pub is_write_fault : Result (Unit {0}) WorkFault → Bool
-is_write_fault (Err (faults.Lines lines.Write)) = true
-is_write_fault (Err faults.Write) = true
-is_write_fault result = false
+abbrev pub is_work_write_fault : Result (Unit {0}) WorkFault → Bool
+is_work_write_fault (Err (faults.Lines lines.Write)) = true
+is_work_write_fault (Err faults.Write) = true
+is_work_write_fault result = false
 
 -- ---- words of private calls
 
 -- the fault of the command from that of the run of workers
-abbrev pub of_run : RunFault → WorkFault
-of_run run.Workers = faults.Workers
-of_run run.Memory = faults.Memory
+abbrev pub of_workers : RunFault → WorkFault
+of_workers run.Workers = faults.Workers
+of_workers run.Memory = faults.Memory
 
 -- why flights could not be carried by these workers
 abbrev pub Stops : ℕ → WorkFault → Type 0
@@ -67,11 +67,11 @@ Stops workers faults.Memory = Unit {0}
 Stops workers fault = ⊥
 
 -- the report was written, or a beginning of it
-abbrev pub Writes : Result (Unit {0}) WorkFault → List ℕ → Option (List ℕ) → Option (List ℕ)
+abbrev pub WritesReport : Result (Unit {0}) WorkFault → List ℕ → Option (List ℕ) → Option (List ℕ)
     → Type 0
-Writes (Ok done) text held holds = Appends held holds text
-Writes (Err faults.Write) text held holds = AppendsFront held holds text
-Writes (Err fault) text held holds = ⊥
+WritesReport (Ok done) text held holds = Appends held holds text
+WritesReport (Err faults.Write) text held holds = AppendsFront held holds text
+WritesReport (Err fault) text held holds = ⊥
 
 -- whether the report was not written
 abbrev pub is_unwritten : Result (Unit {0}) WorkFault → Bool

@@ -1,6 +1,6 @@
 ghost use Rattle.std.specs.Prelude.{◌≡◌};
 ghost use Rattle.work_lines.specs.declared.fault.WorkFault.TheVariants as faults;
-ghost use Rattle.work_lines.specs.Work.{of_run};
+ghost use Rattle.work_lines.specs.Work.{of_workers};
 
 use std::alloc::AllocError;
 use thiserror::Error;
@@ -31,7 +31,7 @@ impl From<event_lines::RunFault> for WorkFault {
 }
 
 impl From<router_workers::RunFault> for WorkFault {
-    ghost from_gives = { λ fault e. e ≡ of_run fault };
+    ghost from_gives = { λ fault e. e ≡ of_workers fault };
 
     fn from(fault: router_workers::RunFault) -> WorkFault {
         match fault {

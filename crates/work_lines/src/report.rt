@@ -2,7 +2,7 @@
 
 ghost use Rattle.std.specs.Prelude.{◌≡◌, IfOk};
 ghost use Rattle.std.specs.String.{string_bytes};
-ghost use Rattle.event_lines.specs.Run.{ended};
+ghost use Rattle.event_lines.specs.Run.{ended_lines};
 ghost use Rattle.work_lines.specs.Report.{flight_text, report_lines};
 
 use event_lines::refusal_text;
@@ -25,7 +25,7 @@ fn line(alloc: Global, number: usize, end: End) -> Result<String, AllocError>
 
 /// The lines about the ends of the flights, in their order.
 pub(crate) fn report(alloc: Global, ends: &[End]) -> Result<String, AllocError>
-    ensures { IfOk result (λ text. string_bytes text ≡ ended (report_lines 0 ends.now)) }
+    ensures { IfOk result (λ text. string_bytes text ≡ ended_lines (report_lines 0 ends.now)) }
 {
     let mut text = String::new(alloc);
     for (number, end) in ends.iter().enumerate() {

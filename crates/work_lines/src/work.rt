@@ -4,7 +4,7 @@ ghost use Rattle.std.specs.Prelude.{◌≡◌, ◌<◌, ◌≤◌, ◌||◌, IfO
 ghost use Rattle.std.specs.String.{string_bytes};
 ghost use Rattle.network_core.specs.Delivery.{AllMayDepart};
 ghost use Rattle.work_lines.specs.Report.{Reports};
-ghost use Rattle.work_lines.specs.Work.{IsNumberOfWorkers, Stops, Works, Writes, is_read_fault, is_unwritten, is_write_fault};
+ghost use Rattle.work_lines.specs.Work.{IsNumberOfWorkers, Stops, Works, WritesReport, is_work_read_fault, is_unwritten, is_work_write_fault};
 
 use crate::fault::WorkFault;
 use crate::flights::flights_of;
@@ -48,7 +48,7 @@ fn carry<R: Threads + Wait + Sync>(
 
 /// Writes a report.
 fn write_report<K: Sink>(text: &str, sink: &mut K) -> Result<(), WorkFault>
-    ensures written { Writes result text.now (K.held sink.old) (K.held sink.new) }
+    ensures written { WritesReport result text.now (K.held sink.old) (K.held sink.new) }
     ensures flag { K.failed sink.new ≡ (K.failed sink.old || is_unwritten result) }
 {
     if write_all(sink, text.as_bytes()).is_err() {
@@ -86,8 +86,8 @@ pub fn work_lines<R: Threads + Wait + Sync, S: Source, K: Sink>(
     requires few { slots ≤ 4096 }
     ensures works { Works result workers slots (S.left source.old) (S.left source.new)
         (K.held sink.old) (K.held sink.new) }
-    ensures source { S.failed source.new ≡ (S.failed source.old || is_read_fault result) }
-    ensures sink { K.failed sink.new ≡ (K.failed sink.old || is_write_fault result) }
+    ensures source { S.failed source.new ≡ (S.failed source.old || is_work_read_fault result) }
+    ensures sink { K.failed sink.new ≡ (K.failed sink.old || is_work_write_fault result) }
 {
     let net = listen(alloc, AcceptedLines::Preparing, source, sink)?;
     let text = carry(rt, alloc, &net, workers, slots)?;

@@ -3,7 +3,7 @@ use Rattle.std.proofs.lemmas.Grind.{common_steps}
 use Rattle.std.proofs.lemmas.List.{nil_from_length}
 use Rattle.std.proofs.lemmas.Result.{err_from_is_err_and}
 use Rattle.std.specs.Io.KnownBytes.{IsAtEnd}
-use Rattle.event_lines.specs.Session.{value_of}
+use Rattle.event_lines.specs.Session.{session_value}
 use Rattle.event_lines.proofs.Running.{ends_reached, ends_short, ends_unfinished, ends_unread, ends_too_long, passed_on}
 use Rattle.event_lines.proofs.run.listen.Goals as goal
 
@@ -39,7 +39,7 @@ returns-in_err-exchange-clause-listens g c =
     let p = err_from_is_err_and c.from_residual-in_err-exchange.result c.from_residual-in_err-exchange.ensures.1 in
     rw (p.1, p.2) (ends_short c.args.accepted (g.S.Source.left c.args.source.now) (g.S.Source.left c.loop-bytes.source) (g.S.Source.left c.read_into.new.source)
     (g.K.Sink.held c.args.sink.now) (g.K.Sink.held c.loop-bytes.sink) (g.K.Sink.held c.exchange.new.sink)
-    (value_of c.loop-bytes.session) (value_of c.exchange.new.session) c.in-Some.bytes.now c.in_err-exchange.field-0.0
+    (session_value c.loop-bytes.session) (session_value c.exchange.new.session) c.in-Some.bytes.now c.in_err-exchange.field-0.0
     (IsAtEnd (g.S.Source.left c.read_into.new.source)) c.loop-bytes.invariant.far
     (let fits = c.wanted_after-wanted.ensures.fits (omega (arith, c.loop-bytes.invariant.far.few, c.if-count-eq-MAX_INPUT_LEN.false)) in grind (arith, common_steps, brought.1.1, fits))
     brought.0 c.in_err-exchange.ensures.told)
@@ -57,7 +57,7 @@ loop-bytes-preserved g c =
     record {
       far = passed_on c.args.accepted (g.S.Source.left c.args.source.now) (g.S.Source.left c.loop-bytes.source) (g.S.Source.left c.read_into.new.source)
           (g.K.Sink.held c.args.sink.now) (g.K.Sink.held c.loop-bytes.sink) (g.K.Sink.held c.exchange.new.sink)
-          c.in-Some.bytes.now (value_of c.exchange.new.session) c.loop-bytes.invariant.far brought.0
+          c.in-Some.bytes.now (session_value c.exchange.new.session) c.loop-bytes.invariant.far brought.0
           (let fits = c.wanted_after-wanted.ensures.fits (omega (arith, c.loop-bytes.invariant.far.few, c.if-count-eq-MAX_INPUT_LEN.false)) in grind (arith, common_steps, brought.1.1, fits))
           exchanged.0 exchanged.1.0 exchanged.1.1.0 exchanged.1.1.1;
       source = search rules;

@@ -4,7 +4,7 @@ use Rattle.std.specs.List.Sorted.{IsNonDecreasingBy}
 use Rattle.std.proofs.lemmas.Bool.{and_from, and_left, and_right, le-leb, lt-leb}
 use Rattle.std.proofs.lemmas.List.{length-drop}
 use Rattle.std.proofs.lemmas.List.Sorted.{IsNonDecreasingBy-drop}
-use Rattle.path_server.specs.Index.{number_of, rank_at, order_at, lies_between}
+use Rattle.path_server.specs.Index.{ends_number, rank_at, order_at, lies_between}
 use Rattle.path_server.proofs.Ranks.{part_is_kept, part_behind}
 use Rattle.path_server.proofs.index.range.Goals as goal
 
@@ -22,9 +22,9 @@ returns c =
     let back = c.split_at.ensures.back in
     let long = length-drop from index in
     let short = ap length back in
-    let below = part_behind (λ place. ranks place ≤ number_of c.args.high) index from 0 c.end_near.result (subst (λ rest. AllWithin (λ place. ranks place ≤ number_of c.args.high) rest 0 c.end_near.result) back end.below) in
-    let above = part_behind (λ place. number_of c.args.high < ranks place) index from c.end_near.result (length (drop from index)) (subst (λ rest. AllWithin (λ place. number_of c.args.high < ranks place) rest c.end_near.result (length rest)) back end.rest) in
-    ap (take c.end_near.result) back ∙ part_is_kept (lies_between c.args.segments.now (number_of c.args.low) (number_of c.args.high)) index from c.end_near.result (omega (arith, end.within, start.within))
+    let below = part_behind (λ place. ranks place ≤ ends_number c.args.high) index from 0 c.end_near.result (subst (λ rest. AllWithin (λ place. ranks place ≤ ends_number c.args.high) rest 0 c.end_near.result) back end.below) in
+    let above = part_behind (λ place. ends_number c.args.high < ranks place) index from c.end_near.result (length (drop from index)) (subst (λ rest. AllWithin (λ place. ends_number c.args.high < ranks place) rest c.end_near.result (length rest)) back end.rest) in
+    ap (take c.end_near.result) back ∙ part_is_kept (lies_between c.args.segments.now (ends_number c.args.low) (ends_number c.args.high)) index from c.end_near.result (omega (arith, end.within, start.within))
     (λ k d low high. and_left _ _ (lt-leb _ _ (start.below k d low high)))
     (λ k d low high. and_from _ _ (le-leb _ _ (start.rest k d low (omega (arith, end.within, start.within)))) (le-leb _ _ (below k d (omega arith) high)))
     (λ k d low high. and_right _ _ (lt-leb _ _ (above k d low (omega (arith, start.within)))))

@@ -3,7 +3,7 @@ use Rattle.std.specs.List.Sorted.{IsStrictlyIncreasing}
 use Rattle.std.proofs.lemmas.Result.{IfOk-weaker}
 use Rattle.path_segment.specs.declared.kind.SegKind.TheVariants.{Intra}
 use Rattle.path_segment.specs.Tests.{is_live}
-use Rattle.path_server.specs.Index.{number_of, rank_between, lies_between, passes_at, is_in}
+use Rattle.path_server.specs.Index.{ends_number, rank_between, lies_between, passes_at, is_in}
 use Rattle.path_server.proofs.Places.{ending_is_kept}
 use Rattle.path_server.proofs.lookup.ending_in.Goals as goal
 
@@ -11,10 +11,10 @@ pub returns : goal.returns
 returns c =
     let segments = c.args.segments.now in
     let index = c.args.index.now in
-    let low : number_of c.new-low.result ≡ rank_between Intra 0 c.args.ia = c.new-low.ensures ∙ ap (rank_between Intra 0) c.number-last.ensures.value in
-    let high : number_of c.new-high.result ≡ rank_between Intra 18446744073709551615 c.args.ia = c.new-high.ensures ∙ ap (rank_between Intra 18446744073709551615) c.number-last.ensures.value in
+    let low : ends_number c.new-low.result ≡ rank_between Intra 0 c.args.ia = c.new-low.ensures ∙ ap (rank_between Intra 0) c.number-last.ensures.value in
+    let high : ends_number c.new-high.result ≡ rank_between Intra 18446744073709551615 c.args.ia = c.new-high.ensures ∙ ap (rank_between Intra 18446744073709551615) c.number-last.ensures.value in
     let part = c.range-same_ends.ensures
-    ∙ ap (λ n. filter (lies_between segments n (number_of c.new-high.result)) index) low
+    ∙ ap (λ n. filter (lies_between segments n (ends_number c.new-high.result)) index) low
     ∙ ap (λ n. filter (lies_between segments (rank_between Intra 0 c.args.ia) n) index) high in
     let live = c.in_ok-add_live.ensures
     ∙ ap (λ old. old ++ filter (passes_at (is_live c.args.now) segments) c.range-same_ends.result.now) c.in_ok-places.ensures.items

@@ -1,12 +1,12 @@
 -- Of the bytes a front was heard, line by line.
 use Rattle.std.proofs.Common.{refl}
 use Rattle.std.proofs.lemmas.Result.{err_from_is_err_and}
-use Rattle.event_lines.specs.Session.{stage_of, value_of}
+use Rattle.event_lines.specs.Session.{stage_of, session_value}
 use Rattle.event_lines.proofs.Heard.{heard_none, heard_line, heard_failed, heard_short}
 use Rattle.event_lines.proofs.session.Session.answer_bytes.Goals as goal
 
 pub loop-line-init : goal.loop-line-init
-loop-line-init c = heard_none c.args.accepted c.args.bytes.now (value_of c.args.self.now) c.requires
+loop-line-init c = heard_none c.args.accepted c.args.bytes.now (session_value c.args.self.now) c.requires
 
 pub returns-in_err-end_line : goal.returns-in_err-end_line
 returns-in_err-end_line c =
@@ -14,7 +14,7 @@ returns-in_err-end_line c =
     let cut = c.in-Some.ensures.cut in
     let p = err_from_is_err_and c.from_residual.result c.from_residual.ensures.1 in
     rw (p.1, p.2) (heard_failed c.args.accepted c.args.bytes.now l.left.now c.in-Some.line.now c.in-Some.behind.now
-    (value_of c.args.self.now) (value_of l.self) (value_of c.end_line.new.self) c.in_err-end_line.field-0.0 l.invariant cut
+    (session_value c.args.self.now) (session_value l.self) (session_value c.end_line.new.self) c.in_err-end_line.field-0.0 l.invariant cut
     c.in_err-end_line.ensures.told)
 
 pub loop-line-preserved : goal.loop-line-preserved
@@ -23,9 +23,9 @@ loop-line-preserved c =
     let cut = c.in-Some.ensures.cut in
     let told = c.in_ok-end_line.ensures.told in
     rw (c.in_ok-end_line.ensures.rest refl) (heard_line c.args.accepted c.args.bytes.now l.left.now c.in-Some.line.now c.in-Some.behind.now
-    (value_of c.args.self.now) (value_of l.self) (stage_of c.end_line.new.self.net) _ told.0 l.invariant cut told.1.0 told.1.1)
+    (session_value c.args.self.now) (session_value l.self) (stage_of c.end_line.new.self.net) _ told.0 l.invariant cut told.1.0 told.1.1)
 
 pub returns-in_err-extend_from_slice : goal.returns-in_err-extend_from_slice
 returns-in_err-extend_from_slice c =
     let p = err_from_is_err_and c.from_residual-in_err-extend_from_slice.result c.from_residual-in_err-extend_from_slice.ensures.1 in
-    rw (p.1, p.2) (heard_short c.args.accepted c.args.bytes.now c.loop-line.left.now (value_of c.args.self.now) (value_of c.loop-line.self) (value_of c.loop-line.self) c.loop-line.invariant refl)
+    rw (p.1, p.2) (heard_short c.args.accepted c.args.bytes.now c.loop-line.left.now (session_value c.args.self.now) (session_value c.loop-line.self) (session_value c.loop-line.self) c.loop-line.invariant refl)

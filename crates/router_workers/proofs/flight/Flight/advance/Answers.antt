@@ -1,5 +1,5 @@
 use Rattle.std.proofs.Common.{sym, ap, ◌∙◌, subst}
-use Rattle.router_workers.specs.Flight.{FlightValue, IsViewAt, advanced}
+use Rattle.router_workers.specs.Flight.{FlightValue, IsViewAt, advanced_flight}
 use Rattle.router_workers.proofs.Flying.{flies_by, advanced_by}
 use Rattle.router_workers.proofs.flight.Flight.advance.Goals as goal
 
@@ -16,4 +16,4 @@ returns c =
     (subst (λ (f : FlightValue). IsViewAt f.fabric f.packet.place c.args.view.now)
     (sym c.flight.view_is) c.requires)
     c.turn_under.ensures.packet
-    ∙ ap (advanced c.args.now) c.flight.view_is
+    ∙ ap (advanced_flight c.args.now) c.flight.view_is
