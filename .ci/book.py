@@ -46,7 +46,8 @@ class Module:
     """A file of definitions: its head, its definitions by name, and what its names mean."""
 
     def __init__(self, crate, path):
-        self.crate, self.name = crate, path.stem
+        inside = path.with_suffix("").parts
+        self.crate, self.name = crate, ".".join(inside[inside.index("specs") + 1 :])
         self.head, self.all, self.named, self.imported, self.aliases = [], [], {}, {}, {}
         pending, one, at_head = [], None, True
         for line in self.imports_read(path.read_text().split("\n")):

@@ -10,7 +10,7 @@ use Rattle.path_header.specs.Value.{HeaderValue}
 use Rattle.combinator.specs.Candidate.{Question, PathValue, AreSpelled}
 use Rattle.combinator.specs.Order.{header_and_walk, bytes_cmp, shown_cmp, path_cmp, HaveOneWalk}
 use Rattle.combinator.specs.Answer.{IsBest, IsAnswer}
-use Rattle.combinator.specs.Placed.{Tied, InOrder, Met}
+use Rattle.combinator.specs.inner.Placed.{Tied, InOrder, Met}
 use Rattle.combinator.proofs.Tied.{agree}
 use Rattle.combinator.proofs.Ranks.{bytes_total, path_total, same_header, same_shown, tied_shown}
 

@@ -18,9 +18,9 @@ use Rattle.path_header.specs.Spelling.{SpellsHeader, spelling}
 use Rattle.combinator.specs.Candidate.{Question, IsOf, segments_of, PathValue, IsCandidate, path_with, AreSpelled}
 use Rattle.combinator.specs.Order.{path_cmp, HaveOneWalk}
 use Rattle.combinator.specs.Answer.{IsBest, IsLeftOut, IsAnswer}
-use Rattle.combinator.specs.Placed.{Tied, InOrder, Met}
-use Rattle.combinator.specs.BestByWalk.{by_walk, IsNoWorse, IsMet, AreMatched}
-use Rattle.combinator.specs.UsablePieces.{outer_of, IsCut, IsWhole}
+use Rattle.combinator.specs.inner.Placed.{Tied, InOrder, Met}
+use Rattle.combinator.specs.inner.BestByWalk.{by_walk, IsNoWorse, IsMet, AreMatched}
+use Rattle.combinator.specs.inner.UsablePieces.{outer_of, IsCut, IsWhole}
 use Rattle.combinator.proofs.Ranks.{walks_total, tied_walks, same_shown, tied_shown}
 use Rattle.combinator.proofs.Agreeing.{best_is_one}
 use Rattle.combinator.proofs.Searched.{default_of, stand_before}

@@ -7,7 +7,7 @@ use Rattle.path_server.specs.Lookup.{Selection}
 use Rattle.policy_expr.specs.Options.{WeighedRules}
 use Rattle.combinator.specs.Candidate.{Question, PathValue, HasNone}
 use Rattle.combinator.specs.Answer.{IsAnswer, question_under, GoesBefore, AnswersWith}
-use Rattle.combinator.specs.Choice.{IsUsedBefore, LeaveNone, IsChosen}
+use Rattle.combinator.specs.inner.Choice.{IsUsedBefore, LeaveNone, IsChosen}
 
 -- an answer without a path, where it may have some, says that there is none
 pub none_there : (question : Question) (limit : ℕ) (paths : List PathValue) → 0 < limit → paths ≡ [] → IsAnswer question limit paths → HasNone question

@@ -8,8 +8,8 @@ use Rattle.path_verifier.specs.Piece.{PieceValue, HasRange}
 use Rattle.combinator.specs.Candidate.{Question, PathValue}
 use Rattle.combinator.specs.Order.{path_cmp}
 use Rattle.combinator.specs.Answer.{IsBest}
-use Rattle.combinator.specs.Placed.{Met}
-use Rattle.combinator.specs.UsablePieces.{piece_of, outer_of, IsCut, IsWhole, AreIn}
+use Rattle.combinator.specs.inner.Placed.{Met}
+use Rattle.combinator.specs.inner.UsablePieces.{piece_of, outer_of, IsCut, IsWhole, AreIn}
 
 -- ---- paths taken into an answer one by one
 

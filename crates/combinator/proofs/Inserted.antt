@@ -6,7 +6,7 @@ use Rattle.std.specs.Ordering.{ordering_reverse}
 use Rattle.std.specs.declared.cmp.Ordering.{Ordering}
 use Rattle.std.specs.declared.cmp.Ordering.TheVariants.{Less}
 use Rattle.std.proofs.lemmas.Cmp.{tied_itself, alike_right}
-use Rattle.combinator.specs.Placed.{Tied, InOrder, IsGap, Met}
+use Rattle.combinator.specs.inner.Placed.{Tied, InOrder, IsGap, Met}
 use Rattle.combinator.proofs.Tied.{further}
 
 -- the element belongs at this place: those before it stand before, those from there on behind

@@ -12,8 +12,8 @@ use Rattle.policy_expr.specs.declared.hop.WalkHop.{WalkHop}
 use Rattle.path_verifier.specs.Walk.{walk_of}
 use Rattle.combinator.specs.Candidate.{Question, PathValue, IsCandidate}
 use Rattle.combinator.specs.Order.{walk_cmp, bytes_cmp, HaveOneWalk}
-use Rattle.combinator.specs.Placed.{InOrder, IsGap}
-use Rattle.combinator.specs.BestByWalk.{by_walk, IsNoWorse, IsMet, IsNoWorseThan}
+use Rattle.combinator.specs.inner.Placed.{InOrder, IsGap}
+use Rattle.combinator.specs.inner.BestByWalk.{by_walk, IsNoWorse, IsMet, IsNoWorseThan}
 use Rattle.combinator.proofs.Ranks.{bytes_total, walks_total, same_walk}
 use Rattle.combinator.proofs.Inserted.{placed_of, order_inserted}
 use Rattle.combinator.proofs.Searched.{default_of}

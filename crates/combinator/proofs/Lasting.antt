@@ -13,7 +13,7 @@ use Rattle.path_verifier.specs.Accepted.{IsExpiry}
 use Rattle.std.proofs.lemmas.Cmp.{nat_list_cmp_total}
 use Rattle.combinator.specs.Candidate.{PathValue}
 use Rattle.combinator.specs.Order.{bytes_cmp, LastTo, LastAsLong}
-use Rattle.combinator.specs.BestByWalk.{IsNoWorse}
+use Rattle.combinator.specs.inner.BestByWalk.{IsNoWorse}
 use Rattle.combinator.proofs.Ranks.{bytes_total}
 
 last_to : (pieces : List PieceValue) (least half : ℕ) → IsExpiry pieces least → half ≤ least → LastTo half pieces

@@ -14,7 +14,7 @@ use Rattle.policy_expr.specs.declared.hop.WalkHop.{WalkHop}
 use Rattle.path_verifier.specs.Walk.{walk_of}
 use Rattle.combinator.specs.Candidate.{PathValue}
 use Rattle.combinator.specs.Order.{header_and_walk, hop_cmp, walk_cmp, bytes_cmp, shown_cmp, path_cmp, HaveOneWalk}
-use Rattle.combinator.specs.BestByWalk.{by_walk}
+use Rattle.combinator.specs.inner.BestByWalk.{by_walk}
 
 pub hop_total : IsTotalOrder hop_cmp
 hop_total =

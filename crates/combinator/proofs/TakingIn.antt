@@ -4,7 +4,7 @@ use Rattle.std.proofs.lemmas.List.Elements.{All-append, All-cons, All-take, All-
 use Rattle.combinator.specs.Candidate.{Question, PathValue}
 use Rattle.combinator.specs.Order.{path_cmp}
 use Rattle.combinator.specs.Answer.{IsBest}
-use Rattle.combinator.specs.Placed.{InOrder, IsGap, Met}
+use Rattle.combinator.specs.inner.Placed.{InOrder, IsGap, Met}
 use Rattle.combinator.proofs.Ranks.{path_total}
 use Rattle.combinator.proofs.Inserted as lists
 use Rattle.combinator.proofs.Inserted.{Placed, placed_of}

@@ -6,7 +6,7 @@ use Rattle.path_verifier.specs.Piece.{PieceValue}
 use Rattle.path_verifier.specs.Header.{header_of}
 use Rattle.path_verifier.specs.Accepted.{Request, request_of, IsAccepted}
 use Rattle.combinator.specs.Candidate.{Question, IsOf, PathValue, IsCandidate, path_with}
-use Rattle.combinator.specs.BestByWalk.{IsNoWorseThan, AreMatched}
+use Rattle.combinator.specs.inner.BestByWalk.{IsNoWorseThan, AreMatched}
 
 pub settled_on : (question : Question) (old new : List PathValue) (pieces : List PieceValue) → IsNoWorseThan question old new → AreMatched question old pieces → AreMatched question new pieces
 unfolding AreMatched

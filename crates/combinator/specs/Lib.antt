@@ -3,7 +3,5 @@ pub mod Candidate
 pub mod Order
 pub mod Answer
 pub mod Lasting
-pub mod Placed
-pub mod BestByWalk
-pub mod UsablePieces
 pub mod Choice
+pub mod inner

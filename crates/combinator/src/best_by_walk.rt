@@ -3,8 +3,8 @@
 ghost use Rattle.std.specs.Prelude.{◌≡◌, ◌<◌, ◌≤◌, [], length, slice_index_or, IfErr, IfOk, OnOk};
 ghost use Rattle.combinator.specs.Candidate.{Question, IsCandidate};
 ghost use Rattle.combinator.specs.Order.{HaveOneWalk};
-ghost use Rattle.combinator.specs.Placed.{InOrder, IsGap};
-ghost use Rattle.combinator.specs.BestByWalk.{by_walk, IsMet, IsNoWorseThan};
+ghost use Rattle.combinator.specs.inner.Placed.{InOrder, IsGap};
+ghost use Rattle.combinator.specs.inner.BestByWalk.{by_walk, IsMet, IsNoWorseThan};
 
 use crate::ranked::RankedPath;
 use std::alloc::{AllocError, Allocator, Global};
@@ -22,8 +22,8 @@ pub(crate) struct BestByWalk<'s, 'p, A: Allocator + Clone> {
 impl<'s, 'p, A: Allocator + Clone> Model for BestByWalk<'s, 'p, A> {
     ghost use Rattle.std.specs.Prelude.{List};
     ghost use Rattle.combinator.specs.Candidate.{PathValue};
-    ghost use Rattle.combinator.specs.Placed.{InOrder};
-    ghost use Rattle.combinator.specs.BestByWalk.{by_walk};
+    ghost use Rattle.combinator.specs.inner.Placed.{InOrder};
+    ghost use Rattle.combinator.specs.inner.BestByWalk.{by_walk};
 
     ghost Value = { List PathValue };
 

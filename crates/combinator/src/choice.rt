@@ -1,7 +1,7 @@
 ghost use Rattle.std.specs.Prelude.{◌≡◌, ◌+◌, ◌<◌, List, Some, slice_get, IfOk};
 ghost use Rattle.policy_expr.specs.Options.{WeighedRules};
 ghost use Rattle.combinator.specs.Answer.{AnswersWith};
-ghost use Rattle.combinator.specs.Choice.{IsChosen};
+ghost use Rattle.combinator.specs.inner.Choice.{IsChosen};
 
 use crate::answer::{Paths, paths_between};
 use isd_as::IsdAs;

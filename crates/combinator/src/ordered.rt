@@ -4,7 +4,7 @@ ghost use Rattle.std.specs.Prelude.{◌≤◌, length, All, Contains, IfSome, If
 ghost use Rattle.combinator.specs.Candidate.{Question, PathValue};
 ghost use Rattle.combinator.specs.Order.{path_cmp};
 ghost use Rattle.combinator.specs.Answer.{IsBest};
-ghost use Rattle.combinator.specs.Placed.{Tied, InOrder, IsGap, Met};
+ghost use Rattle.combinator.specs.inner.Placed.{Tied, InOrder, IsGap, Met};
 
 use crate::ranked::RankedPath;
 use std::alloc::{AllocError, Allocator, Global};

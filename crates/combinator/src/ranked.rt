@@ -1,7 +1,7 @@
 ghost use Rattle.std.specs.Prelude.{◌≡◌, ◌⊎◌, IfOk, OnOk, IsTrue};
 ghost use Rattle.path_header.specs.Spelling.{SpellsHeader, spelling};
 ghost use Rattle.combinator.specs.Order.{path_cmp, walk_cmp, hop_cmp};
-ghost use Rattle.combinator.specs.BestByWalk.{by_walk, IsNoWorse};
+ghost use Rattle.combinator.specs.inner.BestByWalk.{by_walk, IsNoWorse};
 
 use path_header::encode;
 use path_verifier::VerifiedPath;

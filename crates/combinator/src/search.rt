@@ -4,7 +4,7 @@ ghost use Rattle.std.specs.Prelude.{◌≡◌, [], ◌∷◌, List, All, Contain
 ghost use Rattle.path_header.specs.Value.{HeaderValue};
 ghost use Rattle.path_verifier.specs.Piece.{PieceValue, begins_in, ends_in};
 ghost use Rattle.combinator.specs.Candidate.{IsOf, PathValue, IsCandidate};
-ghost use Rattle.combinator.specs.BestByWalk.{IsMet, IsNoWorseThan, AreMatched};
+ghost use Rattle.combinator.specs.inner.BestByWalk.{IsMet, IsNoWorseThan, AreMatched};
 
 use crate::best_by_walk::BestByWalk;
 use crate::ranked::RankedPath;
@@ -14,7 +14,7 @@ use path_verifier::{Pieces, accept};
 use std::alloc::{AllocError, Allocator, Global};
 
 /// Keeps the path of these pieces, if it may be sent.
-#[tactic(auto, unfolding(crate::specs::BestByWalk::AreMatched))]
+#[tactic(auto, unfolding(crate::specs::inner::BestByWalk::AreMatched))]
 fn consider<'s, 'p, A: Allocator + Clone>(
     alloc: Global,
     ask: &PathRequest<'s, 'p, A>,

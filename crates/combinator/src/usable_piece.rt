@@ -1,6 +1,6 @@
 ghost use Rattle.std.specs.Prelude.{◌≡◌, ◌<◌, length};
 ghost use Rattle.path_verifier.specs.Piece.{HasRange, begins_in, ends_in};
-ghost use Rattle.combinator.specs.UsablePieces.{piece_of, outer_of};
+ghost use Rattle.combinator.specs.inner.UsablePieces.{piece_of, outer_of};
 
 use isd_as::IsdAs;
 use path_segment::Segment;

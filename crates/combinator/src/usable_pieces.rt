@@ -5,7 +5,7 @@ ghost use Rattle.path_segment.specs.declared.kind.SegKind.TheVariants.{Intra, Co
 ghost use Rattle.path_server.specs.Lookup.{Selection};
 ghost use Rattle.path_verifier.specs.Piece.{PieceValue, kind_in};
 ghost use Rattle.combinator.specs.Candidate.{IsOf, segments_of};
-ghost use Rattle.combinator.specs.UsablePieces.{piece_of, outer_of, IsCut, IsWhole, AreIn};
+ghost use Rattle.combinator.specs.inner.UsablePieces.{piece_of, outer_of, IsCut, IsWhole, AreIn};
 
 use crate::request::PathRequest;
 use crate::usable_piece::UsablePiece;

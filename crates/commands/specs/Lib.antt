@@ -1,3 +1,4 @@
 pub mod Words
 pub mod Fault
 pub mod Run
+pub mod inner

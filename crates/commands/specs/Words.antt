@@ -1,5 +1,5 @@
 -- The command line of `scionet`, as `clap` reads it.
-use Rattle.std.specs.Prelude.{◌≡◌, ◌<◌, ◌≤◌, ℕ, pos, false, true, codes, if◌then◌else◌, List, [], ◌∷◌, Option, Some, None, option_map, unwrap_or}
+use Rattle.std.specs.Prelude.{◌≡◌, ◌<◌, ◌≤◌, ℕ, pos, true, codes, if◌then◌else◌, List, [], ◌∷◌, Option, Some, None, option_map, unwrap_or}
 use Rattle.std.specs.Str.{bytes_eq}
 use Rattle.clap.specs.Words.{App, Row, Rule, Text, all_of, first_of, new_app, new_rule, subcommand_of, with_rule, with_subcommand}
 use Rattle.clap.specs.Kinds.{Kinds}
@@ -7,8 +7,6 @@ use Rattle.clap.specs.Simple.{on_top}
 use Rattle.clap.specs.Faults.{fault_of}
 use Rattle.clap.specs.declared.builder.action.ArgAction.TheVariants.{Append}
 use Rattle.clap.specs.declared.builder.value_parser.ValueParser.TheVariants.{Signed}
-use Rattle.clap.specs.declared.builder.command.Command.{Command}
-use Rattle.clap.specs.declared.builder.command.Command.TheViews.{out-Command}
 use Rattle.refusal.specs.Optional.{◌>>=◌}
 use Rattle.step_line.specs.Fields.{bounded_number_at}
 use Rattle.step_line.specs.Turn.{StepOptions, Turn, turn_from}
@@ -61,10 +59,6 @@ program_app =
       has_version = true;
     }) (new_app (codes "scionet")))
     step_app.top) run_app.top) work_app.top
-
--- no argument of the command is also one of its subcommands
-abbrev pub IsLocal : Command → Type 0
-IsLocal command = (out-Command command).has_globals ≡ false
 
 -- the texts of the options in these matches
 abbrev pub texts_in : List Row → Option StepOptions

@@ -14,7 +14,7 @@ use Rattle.policy_expr.specs.Options.{WeighedRules, options_at}
 use Rattle.combinator.specs.Answer.{AnswerValue}
 use Rattle.combinator.specs.Lasting.{HaveSame, IsSameSet, AreAllLive}
 use Rattle.combinator.proofs.Moments.{options_too}
-use Rattle.daemon_cache.specs.Entry.{HasSegmentsOf, IsOwn}
+use Rattle.daemon_cache.specs.inner.Entry.{HasSegmentsOf, IsOwn}
 use Rattle.segment_board.specs.Board.{Informed}
 use Rattle.daemon_cache.specs.declared.fault.AskFault.{AskFault}
 use Rattle.daemon_cache.specs.declared.fault.AskFault.TheVariants as fault

@@ -1,3 +1,3 @@
 pub mod Fault
 pub mod Request
-pub mod Entry
+pub mod inner

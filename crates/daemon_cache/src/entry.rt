@@ -3,7 +3,7 @@
 ghost use Rattle.std.specs.Prelude.{◌≡◌, ◌↔◌, IfOk, IfSome, IsSome, IsTrue};
 ghost use Rattle.combinator.specs.Lasting.{AreAllLive};
 ghost use Rattle.daemon_cache.specs.Request.{IsAnswerToRequest};
-ghost use Rattle.daemon_cache.specs.Entry.{HasSegmentsOf, IsFor};
+ghost use Rattle.daemon_cache.specs.inner.Entry.{HasSegmentsOf, IsFor};
 
 use crate::request::Request;
 use crate::texts::KeptRequest;
@@ -25,7 +25,7 @@ pub(crate) struct Entry {
 }
 
 impl Model for Entry {
-    ghost use Rattle.daemon_cache.specs.Entry.{CachedAnswer, IsOwn};
+    ghost use Rattle.daemon_cache.specs.inner.Entry.{CachedAnswer, IsOwn};
 
     ghost Value = { CachedAnswer };
 

@@ -4,7 +4,7 @@ use Rattle.std.proofs.lemmas.List.{drop_more, take-append-drop, get_or-take, tak
 use Rattle.std.proofs.lemmas.List.Folds.{list_any_none}
 use Rattle.memchr.specs.Find.{NoneBefore, Nowhere, Passes, is_byte}
 use Rattle.event_lines.specs.Run.{has_line_end, line_end}
-use Rattle.event_lines.specs.Session.{IsLineCut}
+use Rattle.event_lines.specs.inner.Session.{IsLineCut}
 
 -- a test that does not pass fails
 fails : (b : Bool) → ¬ (b ≡ true) → b ≡ false

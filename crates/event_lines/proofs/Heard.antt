@@ -5,9 +5,9 @@ use Rattle.event_lines.specs.declared.fault.RunFault.{RunFault}
 use Rattle.event_lines.specs.declared.fault.RunFault.TheVariants as faults
 use Rattle.event_lines.specs.declared.accepted.AcceptedLines.{AcceptedLines}
 use Rattle.event_lines.specs.Run.{AreLines, ended_lines, has_line_end, line_end}
-use Rattle.event_lines.specs.Replies.{RepliesTo, RepliesToAll}
+use Rattle.event_lines.specs.inner.Replies.{RepliesTo, RepliesToAll}
 use Rattle.event_lines.specs.Answers.{Stage, Closed}
-use Rattle.event_lines.specs.Session.{AnswersLines, AnswersBytes, IsLineCut, SessionValue, RepliesOrFails}
+use Rattle.event_lines.specs.inner.Session.{AnswersLines, AnswersBytes, IsLineCut, SessionValue, RepliesOrFails}
 use Rattle.event_lines.proofs.Lines.{closed, cut_of, ended_more, grown, joined, none_read}
 use Rattle.event_lines.proofs.Telling.{told_append, told_one}
 

@@ -8,9 +8,9 @@ use Rattle.event_lines.specs.declared.fault.RunFault.TheVariants as faults
 use Rattle.event_lines.specs.declared.accepted.AcceptedLines.{AcceptedLines}
 use Rattle.event_lines.specs.Run.{AreAll, AreFirst, AreLines, Ends, Listens, Wrote, WroteSome, all_lines, ended_lines, most_input, most_read}
 use Rattle.network_core.specs.Value.{NetValue}
-use Rattle.event_lines.specs.Replies.{RepliesTo, RepliesToAll}
+use Rattle.event_lines.specs.inner.Replies.{RepliesTo, RepliesToAll}
 use Rattle.event_lines.specs.Answers.{Stage, Unbegun, Open, Closed, RepliesToInput}
-use Rattle.event_lines.specs.Session.{Exchanges, Finishes, Passes, PassesSome, SessionValue, last_after, last_lines}
+use Rattle.event_lines.specs.inner.Session.{Exchanges, Finishes, Passes, PassesSome, SessionValue, last_after, last_lines}
 use Rattle.event_lines.proofs.Lines.{ended_append, joined, none_read}
 use Rattle.event_lines.proofs.Telling.{told_append}
 use Rattle.event_lines.proofs.Ran.{told_as_run}

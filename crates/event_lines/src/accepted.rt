@@ -3,7 +3,7 @@
 ghost use Rattle.std.specs.Prelude.{◌≡◌};
 ghost use Rattle.network_core.specs.Seen as events;
 ghost use Rattle.event_lines.specs.AcceptedLines.{accepts, prepares};
-ghost use Rattle.event_lines.specs.Seen.{line_value};
+ghost use Rattle.event_lines.specs.inner.Seen.{line_value};
 
 use crate::line::Line;
 use network_core::Event;

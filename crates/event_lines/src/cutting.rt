@@ -2,7 +2,7 @@
 
 ghost use Rattle.std.specs.Prelude.{◌≡◌, None, IfSome, false};
 ghost use Rattle.event_lines.specs.Run.{has_line_end};
-ghost use Rattle.event_lines.specs.Session.{IsLineCut};
+ghost use Rattle.event_lines.specs.inner.Session.{IsLineCut};
 
 use memchr::memchr;
 

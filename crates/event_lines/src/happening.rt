@@ -6,8 +6,8 @@ ghost use Rattle.serde_json.specs.View.{view};
 ghost use Rattle.network_core.specs.Seen as events;
 ghost use Rattle.event_lines.specs.AcceptedLines.{accepted_as};
 ghost use Rattle.event_lines.specs.Line.{Happens, ask_in, line_in, said_by, show_in, untexted_event, worded};
-ghost use Rattle.event_lines.specs.Seen.{line_value};
-ghost use Rattle.event_lines.specs.Replies.{Replies};
+ghost use Rattle.event_lines.specs.inner.Seen.{line_value};
+ghost use Rattle.event_lines.specs.inner.Replies.{Replies};
 
 use crate::accepted::AcceptedLines;
 use crate::asked::lend_all;

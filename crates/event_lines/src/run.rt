@@ -3,7 +3,7 @@
 ghost use Rattle.std.specs.Prelude.{◌≡◌, ◌+◌, ◌<◌, ◌≤◌, ◌||◌, [], false, is_none, length, option_map};
 ghost use Rattle.std.specs.String.{string_bytes};
 ghost use Rattle.event_lines.specs.Run.{Listens, Runs, has_line_end, is_read_fault, is_write_fault, most_input};
-ghost use Rattle.event_lines.specs.Session.{Brings, Exchanges, Finishes, WritesRest, stage_of, session_value};
+ghost use Rattle.event_lines.specs.inner.Session.{Brings, Exchanges, Finishes, WritesRest, stage_of, session_value};
 
 use crate::accepted::AcceptedLines;
 use crate::fault::RunFault;

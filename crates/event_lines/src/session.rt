@@ -5,7 +5,7 @@ ghost use Rattle.std.specs.String.{string_bytes};
 ghost use Rattle.network_core.specs.Value.{NetValue};
 ghost use Rattle.event_lines.specs.Run.{has_line_end, line_end};
 ghost use Rattle.event_lines.specs.Answers.{Open, Unbegun};
-ghost use Rattle.event_lines.specs.Session.{AnswersBytes, IsRunDone, RepliesOrFails, last_lines, stage_of, session_value};
+ghost use Rattle.event_lines.specs.inner.Session.{AnswersBytes, IsRunDone, RepliesOrFails, last_lines, stage_of, session_value};
 
 use crate::accepted::AcceptedLines;
 use crate::cutting::cut_line;

@@ -11,7 +11,7 @@ use Rattle.network_core.specs.declared.reply.Reply.TheVariants as replies
 use Rattle.network_core.specs.Value.{Shipment, PacketValue, NetValue}
 use Rattle.network_core.specs.Step.{Made, Leads, departs}
 use Rattle.network_core.specs.Delivery.{HasSentFrame}
-use Rattle.network_core.specs.Doing.{DoesSend, KeepsPacket, ReadiesFrom}
+use Rattle.network_core.specs.inner.Doing.{DoesSend, KeepsPacket, ReadiesFrom}
 
 leads_refused : (made : Made) (fault : EventFault) (old new : NetValue) → made ≡ Err fault
     → new ≡ old → Leads made old (replies.Refused fault) new

@@ -7,4 +7,4 @@ pub mod History
 pub mod Delivery
 pub mod Headline
 pub mod Ran
-pub mod Doing
+pub mod inner

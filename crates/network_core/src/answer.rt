@@ -1,7 +1,7 @@
 ghost use Rattle.std.specs.Prelude.{slice_get};
 ghost use Rattle.std.specs.Option.{ok_or};
 ghost use Rattle.network_core.specs.declared.fault.EventFault.TheVariants as faults;
-ghost use Rattle.network_core.specs.Doing.{JudgesEvent};
+ghost use Rattle.network_core.specs.inner.Doing.{JudgesEvent};
 
 use crate::fault::EventFault;
 use crate::net::EventError;

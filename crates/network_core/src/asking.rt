@@ -6,7 +6,7 @@ ghost use Rattle.refusal.specs.Refusal.{Answers};
 ghost use Rattle.policy_expr.specs.Options.{options_at};
 ghost use Rattle.combinator.specs.Fault.{ends_at};
 ghost use Rattle.network_core.specs.declared.fault.EventFault.TheVariants as faults;
-ghost use Rattle.network_core.specs.Doing.{AnswersTo, DoesAsk, JudgesEvent, KeepsAnswer};
+ghost use Rattle.network_core.specs.inner.Doing.{AnswersTo, DoesAsk, JudgesEvent, KeepsAnswer};
 ghost use Rattle.network_core.specs.Step.{options_asked, rules_used};
 
 use crate::answer::Answer;

@@ -4,7 +4,7 @@ ghost use Rattle.std.specs.Prelude.{◌≡◌, IsOk, Ok, false, true};
 ghost use Rattle.refusal.specs.declared.fault.OrMemory.TheVariants.{Refused};
 ghost use Rattle.scion_topology.specs.Topology.{set_up, rotated};
 ghost use Rattle.network_core.specs.declared.fault.EventFault.TheVariants as faults;
-ghost use Rattle.network_core.specs.Doing.{DoesOrFails, JudgesEvent, error_as};
+ghost use Rattle.network_core.specs.inner.Doing.{DoesOrFails, JudgesEvent, error_as};
 ghost use Rattle.network_core.specs.Step.{ticked, beacon_at, begun, passed_on, ended, originates, extends, terminates, with_beacon, with_segment, with_network, cleared};
 
 use crate::fault::EventFault;

@@ -5,7 +5,7 @@ ghost use Rattle.refusal.specs.Refusal.{check};
 ghost use Rattle.path_verifier.specs.Accepted.{IsAccepted};
 ghost use Rattle.forwarding.specs.Frame.{HasFrame};
 ghost use Rattle.network_core.specs.declared.fault.EventFault.TheVariants as faults;
-ghost use Rattle.network_core.specs.Doing.{DoesSend, JudgesEvent, Readies, ReadiesFrom};
+ghost use Rattle.network_core.specs.inner.Doing.{DoesSend, JudgesEvent, Readies, ReadiesFrom};
 ghost use Rattle.network_core.specs.Event.{BackOf, ByAnswer};
 ghost use Rattle.network_core.specs.Seen.{way_of};
 ghost use Rattle.network_core.specs.Value.{asked_at};

@@ -1,7 +1,7 @@
 //! Turns, losses and changes of packets.
 
 ghost use Rattle.std.specs.Prelude.{◌<◌, IfOk, length};
-ghost use Rattle.network_core.specs.Doing.{DoesOrFails, Flies, JudgesEvent};
+ghost use Rattle.network_core.specs.inner.Doing.{DoesOrFails, Flies, JudgesEvent};
 ghost use Rattle.network_core.specs.Step.{packet_at, turns, loses, alters};
 
 use crate::fault::EventFault;

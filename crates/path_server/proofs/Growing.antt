@@ -11,7 +11,8 @@ use Rattle.std.proofs.lemmas.List.FromFn.{map-range_with_len_more, length-range_
 use Rattle.std.proofs.lemmas.List.Sorted.{IsNonDecreasingBy-insert}
 use Rattle.std.proofs.lemmas.List.Sums.{fold_push, sum_by-insert}
 use Rattle.path_segment.specs.Chain.{Chain}
-use Rattle.path_server.specs.Index.{HasEachPlace, HasAddresses, IsIndex, rank, rank_at, order_at, is_in}
+use Rattle.path_server.specs.Index.{HasEachPlace, HasAddresses, IsIndex, rank, rank_at, order_at}
+use Rattle.path_server.specs.inner.Index.{is_in}
 use Rattle.path_server.proofs.Places.{any_alike}
 
 -- ---- each place

@@ -11,7 +11,8 @@ use Rattle.path_segment.specs.declared.kind.SegKind.TheVariants.{Core}
 use Rattle.path_segment.specs.Chain.{Chain, first_as, last_as}
 use Rattle.path_segment.specs.Tests.{is_live, same_kind}
 use Rattle.path_segment.proofs.Decided.{same_kind-Decides}
-use Rattle.path_server.specs.Index.{IsIndex, HasAddresses, rank_between, rank, live_places, either_way, segments_at, passes_at, is_in}
+use Rattle.path_server.specs.Index.{IsIndex, HasAddresses, rank_between, rank}
+use Rattle.path_server.specs.inner.Index.{live_places, either_way, segments_at, passes_at, is_in}
 use Rattle.path_server.specs.Lookup.{joins, is_reached}
 use Rattle.path_server.proofs.Lying.{lies_exactly, addresses_at}
 use Rattle.path_server.proofs.Orders.{same_test, same_decided, any_none, any_on, any_same, any_or, any_and, any_flat_map}

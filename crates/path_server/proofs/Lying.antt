@@ -10,7 +10,8 @@ use Rattle.path_segment.specs.Chain.{Chain, first_as, last_as}
 use Rattle.path_segment.specs.Tests.{is_live, is_same, same_kind}
 use Rattle.path_segment.proofs.Decided.{is_same-Decides}
 use Rattle.path_server.specs.Segment.{is_alike}
-use Rattle.path_server.specs.Index.{rank_between, rank, lies_between, passes_at, HasAddresses}
+use Rattle.path_server.specs.Index.{rank_between, rank, HasAddresses}
+use Rattle.path_server.specs.inner.Index.{lies_between, passes_at}
 use Rattle.path_server.specs.Lookup.{is_intra_to}
 use Rattle.path_server.proofs.Decided.{is_alike-Decides}
 use Rattle.path_server.proofs.Orders.{same_test, same_decided}

@@ -14,7 +14,8 @@ use Rattle.std.proofs.lemmas.Option.{slice_get-get_or}
 use Rattle.path_segment.specs.declared.kind.SegKind.TheVariants.{Intra}
 use Rattle.path_segment.specs.Chain.{Chain}
 use Rattle.path_segment.specs.Tests.{is_live}
-use Rattle.path_server.specs.Index.{HasEachPlace, IsIndex, rank_between, lies_between, live_places, segments_at, passes_at, is_in}
+use Rattle.path_server.specs.Index.{HasEachPlace, IsIndex, rank_between}
+use Rattle.path_server.specs.inner.Index.{lies_between, live_places, segments_at, passes_at, is_in}
 use Rattle.path_server.specs.Lookup.{is_intra_to}
 use Rattle.path_server.proofs.Lying.{ending_at}
 use Rattle.path_server.proofs.Orders.{any_is_kept, filter_on, is_in-filter, range_rises, same_numbers}

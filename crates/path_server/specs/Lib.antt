@@ -3,3 +3,4 @@ pub mod Segment
 pub mod Store
 pub mod Index
 pub mod Lookup
+pub mod inner

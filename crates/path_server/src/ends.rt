@@ -1,6 +1,7 @@
 ghost use Rattle.std.specs.Prelude.{◌≡◌, ◌^◌, ◌<◌, nat_lt};
 ghost use Rattle.std.specs.Ordering.{nat_cmp};
-ghost use Rattle.path_server.specs.Index.{ends_number, rank_between, rank, rank_at, order_at, HasAddresses};
+ghost use Rattle.path_server.specs.Index.{rank_between, rank, rank_at, order_at, HasAddresses};
+ghost use Rattle.path_server.specs.inner.Index.{ends_number};
 
 use path_segment::{SegKind, Segment};
 use std::cmp::Ordering;

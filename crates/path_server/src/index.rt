@@ -3,7 +3,8 @@
 ghost use Rattle.std.specs.Prelude.{◌≡◌, ◌≤◌, ◌<◌, ℕ, length, filter, vec_len};
 ghost use Rattle.std.specs.List.{AllWithin, range_with_len};
 ghost use Rattle.std.specs.List.Sorted.{IsNonDecreasingBy};
-ghost use Rattle.path_server.specs.Index.{HasEachPlace, IsIndex, ends_number, rank_at, order_at, lies_between};
+ghost use Rattle.path_server.specs.Index.{HasEachPlace, IsIndex, rank_at, order_at};
+ghost use Rattle.path_server.specs.inner.Index.{ends_number, lies_between};
 
 use crate::ends::{Ends, in_order, is_above, is_below};
 use path_segment::Segment;

@@ -4,7 +4,8 @@ ghost use Rattle.std.specs.Prelude.{◌≡◌, ◌++◌, ℕ, filter, IfOk, OnOk
 ghost use Rattle.std.specs.List.{flat_map};
 ghost use Rattle.std.specs.List.Sorted.{IsStrictlyIncreasing};
 ghost use Rattle.path_segment.specs.Tests.{is_live};
-ghost use Rattle.path_server.specs.Index.{IsIndex, segments_at, passes_at, either_way, is_in};
+ghost use Rattle.path_server.specs.Index.{IsIndex};
+ghost use Rattle.path_server.specs.inner.Index.{segments_at, passes_at, either_way, is_in};
 ghost use Rattle.path_server.specs.Lookup.{is_intra_to, is_reached, joins};
 
 use crate::ends::Ends;

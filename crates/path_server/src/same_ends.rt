@@ -3,7 +3,8 @@
 ghost use Rattle.std.specs.Prelude.{◌≡◌, count_by, length};
 ghost use Rattle.std.specs.List.{list_any};
 ghost use Rattle.path_segment.specs.Tests.{is_same};
-ghost use Rattle.path_server.specs.Index.{IsIndex, passes_at};
+ghost use Rattle.path_server.specs.Index.{IsIndex};
+ghost use Rattle.path_server.specs.inner.Index.{passes_at};
 ghost use Rattle.path_server.specs.Segment.{is_alike};
 ghost use Rattle.path_server.specs.Store.{answer_to};
 

@@ -13,7 +13,8 @@ use Rattle.path_verifier.specs.declared.pieces.PieceSlots.{PieceSlots}
 use Rattle.path_verifier.specs.declared.pieces.PieceSlots.TheVariants.{Zero, One, Two, Three}
 use Rattle.path_verifier.specs.PieceSlots.{pieces_in}
 use Rattle.path_verifier.specs.Piece.{PieceValue, HasRange, travelled}
-use Rattle.path_verifier.specs.Header.{field_of, fields_of, info_of, len_of, total_hops, header_of, HaveSixBits}
+use Rattle.path_verifier.specs.Header.{field_of, fields_of, info_of, len_of, total_hops, header_of}
+use Rattle.path_verifier.specs.inner.Header.{HaveSixBits}
 use Rattle.path_verifier.specs.Accepted.{MakesPath}
 use Rattle.path_verifier.proofs.Entries.{length_travelled}
 use Rattle.path_verifier.proofs.Lengths.{path_is_short}

@@ -1,9 +1,8 @@
 -- The header of a path: draft-dekater-scion-dataplane, the SCION path type.
-use Rattle.std.specs.Prelude.{ℕ, ◌<◌, List, length, map, sum_by}
+use Rattle.std.specs.Prelude.{ℕ, List, length, map, sum_by}
 use Rattle.std.specs.List.{flat_map}
 use Rattle.path_segment.specs.declared.entry.Entry.{Entry}
 use Rattle.path_segment.specs.Chain.{beta_of}
-use Rattle.path_header.specs.declared.lens.SegLens.{SegLens}
 use Rattle.path_header.specs.declared.fields.InfoField.{InfoField}
 use Rattle.path_header.specs.declared.fields.HopField.{HopField}
 use Rattle.path_header.specs.Value.{HeaderValue, lens_from}
@@ -34,7 +33,3 @@ total_hops pieces = sum_by len_of pieces
 -- the header of these pieces, with the packet at the first info and hop field
 unfoldable pub header_of : List PieceValue → HeaderValue
 header_of pieces = first_header (lens_from (map len_of pieces)) (map info_of pieces) (flat_map fields_of pieces)
-
--- each length fits into six bits
-abbrev pub HaveSixBits : SegLens → Type 0
-HaveSixBits lens = (lens.first < 64) × (lens.second < 64) × (lens.third < 64)

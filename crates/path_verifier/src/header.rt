@@ -4,7 +4,8 @@ ghost use Rattle.path_header.specs.Value.{IsHeader, lens_from};
 ghost use Rattle.path_header.specs.Building.{first_header};
 ghost use Rattle.path_verifier.specs.PieceSlots.{pieces_in};
 ghost use Rattle.path_verifier.specs.Piece.{HasRange};
-ghost use Rattle.path_verifier.specs.Header.{field_of, fields_of, info_of, header_of, len_of, total_hops, HaveSixBits};
+ghost use Rattle.path_verifier.specs.Header.{field_of, fields_of, info_of, header_of, len_of, total_hops};
+ghost use Rattle.path_verifier.specs.inner.Header.{HaveSixBits};
 
 use crate::piece::Piece;
 use crate::pieces::PieceSlots;

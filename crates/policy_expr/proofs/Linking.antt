@@ -5,8 +5,10 @@ use Rattle.std.proofs.Math.ListN.{length-set}
 use Rattle.policy_expr.specs.declared.hop.WalkHop.{WalkHop}
 use Rattle.policy_expr.specs.declared.table.Line.{Line}
 use Rattle.policy_expr.specs.Hop.{Matches}
-use Rattle.policy_expr.specs.Sets.{Has, IsSplit}
-use Rattle.policy_expr.specs.Table.{MayFollow, MeetsAt, Links}
+use Rattle.policy_expr.specs.Sets.{Has}
+use Rattle.policy_expr.specs.inner.Sets.{IsSplit}
+use Rattle.policy_expr.specs.Table.{MayFollow, MeetsAt}
+use Rattle.policy_expr.specs.inner.Table.{Links}
 use Rattle.policy_expr.proofs.Passes.{IsPast, past_more, sub_more}
 
 -- ---- a list with one line written

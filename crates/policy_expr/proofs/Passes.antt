@@ -7,7 +7,8 @@ use Rattle.policy_expr.specs.declared.hop.WalkHop.{WalkHop}
 use Rattle.policy_expr.specs.declared.ends.Ends.{Ends}
 use Rattle.policy_expr.specs.declared.table.Line.{Line}
 use Rattle.policy_expr.specs.Hop.{Matches}
-use Rattle.policy_expr.specs.Sets.{Has, IsSplit}
+use Rattle.policy_expr.specs.Sets.{Has}
+use Rattle.policy_expr.specs.inner.Sets.{IsSplit}
 use Rattle.policy_expr.specs.Table.{MayFollow, MeetsAt, After, Accepts}
 
 -- ---- visits of a set's predicates, one by one

@@ -6,7 +6,8 @@ use Rattle.policy_expr.specs.declared.ends.Ends.{Ends}
 use Rattle.policy_expr.specs.declared.table.Line.{Line}
 use Rattle.policy_expr.specs.Sets.{Has}
 use Rattle.policy_expr.specs.Language.{Tree, joined_words}
-use Rattle.policy_expr.specs.Table.{MayFollow, MeetsAt, After, Accepts, IsNew, Adds, Links, IsThen}
+use Rattle.policy_expr.specs.Table.{MayFollow, MeetsAt, After, Accepts, IsNew, Adds}
+use Rattle.policy_expr.specs.inner.Table.{Links, IsThen}
 
 -- ---- tests
 

@@ -8,7 +8,8 @@ use Rattle.std.proofs.lemmas.Nat.{pow_pos}
 use Rattle.std.proofs.Math.Nat.{mod-lt}
 use Rattle.std.proofs.Math.Pow.{pow-lt, ones_lt}
 use Rattle.std.proofs.lemmas.Bool.{cases_order, cases_lt}
-use Rattle.policy_expr.specs.Sets.{Has, IsSplit}
+use Rattle.policy_expr.specs.Sets.{Has}
+use Rattle.policy_expr.specs.inner.Sets.{IsSplit}
 
 -- no predicate is in 0
 pub none_has : (k : ℕ) → Has 0 k → ⊥

@@ -10,7 +10,8 @@ use Rattle.policy_expr.specs.Hop.{Matches}
 use Rattle.policy_expr.specs.Language.{Lang, Tree, hop, followed, either, optional, repeated, once_or_more}
 use Rattle.policy_expr.specs.Reading.{node_count}
 use Rattle.policy_expr.specs.Sets.{Has}
-use Rattle.policy_expr.specs.Table.{MayFollow, MeetsAt, Accepts, IsNew, Adds, Links, IsThen}
+use Rattle.policy_expr.specs.Table.{MayFollow, MeetsAt, Accepts, IsNew, Adds}
+use Rattle.policy_expr.specs.inner.Table.{Links, IsThen}
 use Rattle.policy_expr.proofs.Runs.{IsEither, or_nothing, followed_words, either_words, or_nothing_words, repeated_words, once_words}
 
 -- ---- one line more

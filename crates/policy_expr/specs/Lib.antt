@@ -9,8 +9,8 @@ pub mod Printing
 pub mod Acl
 pub mod Entries
 pub mod Policy
-pub mod Views
 pub mod Sets
 pub mod Table
 pub mod Code
 pub mod Options
+pub mod inner

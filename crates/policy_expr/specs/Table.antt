@@ -1,6 +1,6 @@
 -- Sequences as tables: the predicates of a sequence are numbered from left to right. The table says
 -- which may come first, which last, and which right behind which.
-use Rattle.std.specs.Prelude.{◌≡◌, ◌⊎◌, ◌↔◌, ℕ, ◌+◌, ◌*◌, ◌<◌, ◌≤◌, true, ◌&&◌, List, [], ◌∷◌, length, Some, slice_get}
+use Rattle.std.specs.Prelude.{◌≡◌, ◌↔◌, ℕ, ◌+◌, ◌*◌, ◌<◌, ◌≤◌, true, List, [], ◌∷◌, length, Some, slice_get}
 use Rattle.policy_expr.specs.declared.hop.WalkHop.{WalkHop}
 use Rattle.policy_expr.specs.declared.ends.Ends.{Ends}
 use Rattle.policy_expr.specs.declared.table.Line.{Line}
@@ -48,17 +48,3 @@ pub record Adds (tree : Tree) (old new : List Line) (ends : Ends) : Type 0 where
 -- the table has the lines of this tree alone
 abbrev pub IsTableOf : Tree → List Line → Ends → Type 0
 IsTableOf tree lines ends = Adds tree [] lines ends
-
--- each predicate of the set `last` may now also be followed by each of the set `first`
-pub record Links (old new : List Line) (last first : ℕ) : Type 0 where
-  pub count : length new ≡ length old
-  pub meets : (k : ℕ) (h : WalkHop) → MeetsAt new k h ↔ MeetsAt old k h
-  pub next : (j k : ℕ) → MayFollow new j k ↔ (MayFollow old j k ⊎ (Has last j × Has first k))
-
--- the ends of one part followed by another
-pub record IsThen (front back ends : Ends) : Type 0 where
-  pub first : (k : ℕ) → Has ends.first k ↔ (Has front.first k
-      ⊎ ((front.has_empty ≡ true) × Has back.first k))
-  pub last : (k : ℕ) → Has ends.last k
-      ↔ (Has back.last k ⊎ ((back.has_empty ≡ true) × Has front.last k))
-  pub empty : ends.has_empty ≡ (front.has_empty && back.has_empty)

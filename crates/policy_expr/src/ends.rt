@@ -1,6 +1,6 @@
 ghost use Rattle.std.specs.Prelude.{◌≡◌, ◌⊎◌, ◌↔◌, ℕ, ◌||◌, true, false};
 ghost use Rattle.policy_expr.specs.Sets.{Has};
-ghost use Rattle.policy_expr.specs.Table.{IsThen};
+ghost use Rattle.policy_expr.specs.inner.Table.{IsThen};
 
 use crate::pred_set::PredSet;
 

@@ -1,5 +1,6 @@
 ghost use Rattle.std.specs.Prelude.{◌≡◌, ◌⊎◌, ◌↔◌, ℕ, ◌+◌, ◌*◌, ◌^◌, ◌<◌, ◌≤◌, MatchOption};
-ghost use Rattle.policy_expr.specs.Sets.{Has, IsSplit};
+ghost use Rattle.policy_expr.specs.Sets.{Has};
+ghost use Rattle.policy_expr.specs.inner.Sets.{IsSplit};
 
 use std::marker::Model;
 

@@ -3,7 +3,7 @@ ghost use Rattle.refusal.specs.Refusal.{Reads};
 ghost use Rattle.policy_expr.specs.declared.token.Token.{Token};
 ghost use Rattle.policy_expr.specs.Language.{either, followed, tree_of};
 ghost use Rattle.policy_expr.specs.Reading.{item_behind, new_level, read_rest, tree_at, whole};
-ghost use Rattle.policy_expr.specs.Views.{GoesOn, gives, level_of, levels_of};
+ghost use Rattle.policy_expr.specs.inner.Views.{GoesOn, gives, level_of, levels_of};
 
 use crate::counting::MAX_OPEN;
 use crate::fault::{PolicyError, PolicyFault};

@@ -1,6 +1,7 @@
 ghost use Rattle.std.specs.Prelude.{◌≡◌, ℕ, ◌+◌, ◌*◌, ◌≤◌, ◌<◌, ◌⊎◌, ◌↔◌, true, length, vec_len, IfOk, IsTrue};
 ghost use Rattle.policy_expr.specs.Sets.{Has};
-ghost use Rattle.policy_expr.specs.Table.{Accepts, Adds, IsTableOf, IsThen, Links, MayFollow, MeetsAt};
+ghost use Rattle.policy_expr.specs.Table.{Accepts, Adds, IsTableOf, MayFollow, MeetsAt};
+ghost use Rattle.policy_expr.specs.inner.Table.{IsThen, Links};
 ghost use Rattle.policy_expr.specs.Reading.{node_count};
 ghost use Rattle.policy_expr.specs.Language.{tree_of};
 

@@ -10,7 +10,8 @@ use Rattle.router_step.specs.declared.outcome.Outcome.{Outcome}
 use Rattle.router_step.specs.declared.fault.Refusal.{Refusal}
 use Rattle.router_step.specs.declared.arrival.Arrival.{Arrival}
 use Rattle.router_step.specs.Packet.{source_of, destination_of, header_in, packet_step, IsPacketStepped, IsFrame, HasHeader, StepsFrame}
-use Rattle.router_step.specs.Step.{step_of, IsStepped}
+use Rattle.router_step.specs.Step.{step_of}
+use Rattle.router_step.specs.inner.Step.{IsStepped}
 use Rattle.router_step.proofs.DoneSteps.{same_value}
 use Rattle.router_step.proofs.Frames.{has_header, read_in, spells_spelling, turned}
 

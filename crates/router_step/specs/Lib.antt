@@ -5,3 +5,4 @@ pub mod Step
 pub mod Packet
 pub mod Done
 pub mod Forward
+pub mod inner

@@ -1,6 +1,6 @@
 -- One step of a router on the value of a path header: the checks and changes 2 to 13, in this order
 -- (draft-dekater-scion-dataplane). Check 1, that the packet has a header, is in `Packet`.
-use Rattle.std.specs.Prelude.{◌≡◌, ℕ, Bool, true, false, not, ◌==◌, if◌then◌else◌, Result, Ok, Err}
+use Rattle.std.specs.Prelude.{ℕ, Bool, true, false, not, ◌==◌, if◌then◌else◌, Result, Ok}
 use Rattle.std.specs.Option.{ok_or}
 use Rattle.refusal.specs.Refusal.{◌>>=◌, check}
 use Rattle.scion_topology.specs.View.{View, entry_of}
@@ -66,10 +66,3 @@ step_of view now arrival source destination header = do
     outcome ← left view arrival has_switched
         (current_info (moved_on has_switched here)) (current_hop (moved_on has_switched here))  -- 10 to 13
     Ok (outcome, gone outcome (moved_on has_switched here)))
-
--- the step succeeds with the outcome and the new header, or is refused and leaves the header as it
--- was
-abbrev pub IsStepped : Result (Outcome × HeaderValue) Refusal → HeaderValue → HeaderValue
-    → Result Outcome Refusal → Type 0
-IsStepped step old new (Ok outcome) = step ≡ Ok (outcome, new)
-IsStepped step old new (Err e) = (step ≡ Err e) × (new ≡ old)

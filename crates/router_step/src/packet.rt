@@ -5,7 +5,8 @@ ghost use Rattle.path_header.specs.Value.{HeaderValue, header_len};
 ghost use Rattle.path_header.specs.Spelling.{SpellsHeader};
 ghost use Rattle.path_header.specs.Shown.{has_header, header_at_front};
 ghost use Rattle.refusal.specs.Refusal.{Gives};
-ghost use Rattle.router_step.specs.Step.{step_of, IsStepped};
+ghost use Rattle.router_step.specs.Step.{step_of};
+ghost use Rattle.router_step.specs.inner.Step.{IsStepped};
 ghost use Rattle.router_step.specs.Packet.{destination_of, source_of, header_in, packet_step, IsPacketStepped, IsFrame, HasHeader, StepsFrame};
 
 use crate::arrival::Arrival;

@@ -6,7 +6,8 @@ ghost use Rattle.path_header.specs.Borrowed.{bytes_of, value_of, rest_of};
 ghost use Rattle.refusal.specs.Refusal.{Gives};
 ghost use Rattle.router_step.specs.Place.{arrived};
 ghost use Rattle.router_step.specs.Checks.{has_no_single, indices_fit};
-ghost use Rattle.router_step.specs.Step.{admitted, at_path_end, switched, left, step_of, IsStepped};
+ghost use Rattle.router_step.specs.Step.{admitted, at_path_end, switched, left, step_of};
+ghost use Rattle.router_step.specs.inner.Step.{IsStepped};
 
 use crate::arrival::Arrival;
 use crate::checks::{

@@ -4,7 +4,7 @@ use Rattle.std.specs.Prelude.{slice_get}
 use Rattle.std.specs.Result.{is_ok}
 use Rattle.inbox.specs.Inbox.{Opened}
 use Rattle.router_workers.specs.declared.pass_pairs.PassPair.{PassPair}
-use Rattle.router_workers.specs.PassPairs.{ArePassPairs}
+use Rattle.router_workers.specs.inner.PassPairs.{ArePassPairs}
 
 -- what a push that was done leaves
 pub pushed : {X A E : Type 0} (result : Result A E) (done : A) (old new : List X) (x : X)

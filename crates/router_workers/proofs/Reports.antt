@@ -1,7 +1,8 @@
 -- A report, from the ends of all flights.
 use Rattle.std.proofs.Common.{◌≡◌, ℕ, List, length, subst}
 use Rattle.router_workers.specs.Flight.{FlightValue}
-use Rattle.router_workers.specs.Run.{IsFlightEnd, AreEnds, IsReport}
+use Rattle.router_workers.specs.Run.{IsFlightEnd, IsReport}
+use Rattle.router_workers.specs.inner.Run.{AreEnds}
 use Rattle.router_workers.specs.declared.end.End.{End}
 
 pub reported : (ends : List End) (flights : List FlightValue) (now slots : ℕ)

@@ -4,7 +4,8 @@ use Rattle.std.proofs.lemmas.Bool.{cases_lt}
 use Rattle.forwarding.specs.Turn.{Packet, turned_packet}
 use Rattle.network_core.specs.Delivery.{IsAtRouter}
 use Rattle.router_workers.specs.Flight.{FlightValue, advanced_flight}
-use Rattle.router_workers.specs.Run.{repeated, place_after, IsCarried}
+use Rattle.router_workers.specs.Run.{repeated, place_after}
+use Rattle.router_workers.specs.inner.Run.{IsCarried}
 
 -- where the carried flight is
 pub place_is : (flights : List FlightValue) (now number turns : ℕ) (carried : FlightValue)

@@ -1,5 +1,5 @@
 pub mod Flight
 pub mod Delivery
 pub mod Run
-pub mod PassPairs
 pub mod Fault
+pub mod inner

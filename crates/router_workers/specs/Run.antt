@@ -43,25 +43,3 @@ pub record IsReport (flights : List FlightValue) (now slots : ℕ) (ends : List 
   pub all : length ends ≡ length flights
   pub each : (i : ℕ) (given : FlightValue) (end : End) → slice_get flights i ≡ Some given
       → slice_get ends i ≡ Some end → IsFlightEnd flights now slots given end
-
--- ---- what the workers' values keep
-
--- the end of the flight of this number
-abbrev pub IsEndOfFlight : List FlightValue → ℕ → ℕ → ℕ → End → Type 0
-IsEndOfFlight flights now slots number end = (given : FlightValue)
-    × ((slice_get flights number ≡ Some given) × IsFlightEnd flights now slots given end)
-
--- the carried flight is the flight of this number after its turns of the run, and was at a router
--- before each of them
-pub record IsCarried (flights : List FlightValue) (now number turns : ℕ) (carried : FlightValue)
-    : Type 0 where
-  pub given : FlightValue
-  pub there : slice_get flights number ≡ Some given
-  pub same : carried.fabric ≡ given.fabric
-  pub is : carried.packet ≡ repeated given.fabric now given.packet turns
-  pub flew : FliesUntil now given turns
-
--- the ends are those of the first flights
-abbrev pub AreEnds : List FlightValue → ℕ → ℕ → List End → Type 0
-AreEnds flights now slots ends =
-    (i : ℕ) (end : End) → slice_get ends i ≡ Some end → IsEndOfFlight flights now slots i end

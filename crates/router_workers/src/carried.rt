@@ -2,7 +2,7 @@
 
 ghost use Rattle.std.specs.Prelude.{◌≡◌, ◌<◌, ◌≤◌, Some, IfOk, IfErr, length, slice_get};
 ghost use Rattle.network_core.specs.Delivery.{IsAtRouter};
-ghost use Rattle.router_workers.specs.Run.{IsEndOfFlight};
+ghost use Rattle.router_workers.specs.inner.Run.{IsEndOfFlight};
 
 use crate::end::End;
 use crate::flight::Flight;
@@ -49,7 +49,7 @@ pub(crate) struct CarriedFlight<'f, J: RunFacts> {
 impl<'f, J: RunFacts> Model for CarriedFlight<'f, J> {
     ghost use Rattle.std.specs.Prelude.{ℕ, ◌≤◌};
     ghost use Rattle.router_workers.specs.Flight.{FlightValue};
-    ghost use Rattle.router_workers.specs.Run.{IsCarried};
+    ghost use Rattle.router_workers.specs.inner.Run.{IsCarried};
 
     ghost Value = { FlightValue };
 
@@ -70,7 +70,7 @@ pub(crate) struct FlightEnd<J: RunFacts> {
 
 impl<J: RunFacts> Model for FlightEnd<J> {
     ghost use Rattle.std.specs.Prelude.{ℕ};
-    ghost use Rattle.router_workers.specs.Run.{IsEndOfFlight};
+    ghost use Rattle.router_workers.specs.inner.Run.{IsEndOfFlight};
     ghost use Rattle.router_workers.specs.declared.end.End.{End};
 
     ghost Value = { ℕ × End };

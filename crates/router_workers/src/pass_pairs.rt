@@ -1,7 +1,7 @@
 //! The inboxes of a run, and their passes.
 
 ghost use Rattle.std.specs.Prelude.{◌≡◌, ◌<◌, ◌≤◌, IfOk, length};
-ghost use Rattle.router_workers.specs.PassPairs.{ArePassPairs};
+ghost use Rattle.router_workers.specs.inner.PassPairs.{ArePassPairs};
 
 use crate::carried::{CarriedFlight, RunFacts};
 use crate::worker::Worker;

@@ -1,7 +1,8 @@
 //! A run of flights on 1 to 8 workers.
 
 ghost use Rattle.std.specs.Prelude.{◌≡◌, ◌↔◌, ◌⊎◌, ◌<◌, ◌≤◌, IfOk, IfErr, All, length, vec_capacity};
-ghost use Rattle.router_workers.specs.Run.{IsEndOfFlight, AreEnds, IsReport};
+ghost use Rattle.router_workers.specs.Run.{IsReport};
+ghost use Rattle.router_workers.specs.inner.Run.{IsEndOfFlight, AreEnds};
 
 use crate::carried::{CarriedFlight, FlightEnd, RunFacts};
 use crate::end::End;

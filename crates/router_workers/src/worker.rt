@@ -3,7 +3,7 @@
 ghost use Rattle.std.specs.Prelude.{◌≡◌, ◌<◌, ◌%◌, ◌+◌, true, length, IfOk, IfSome, IsOk, Some, None, MatchResult};
 ghost use Rattle.scion_topology.specs.Topology.{info_in};
 ghost use Rattle.network_core.specs.Delivery.{IsAtRouter};
-ghost use Rattle.router_workers.specs.PassPairs.{IsNext, IsPutIn, IsPassedTo};
+ghost use Rattle.router_workers.specs.inner.PassPairs.{IsNext, IsPutIn, IsPassedTo};
 
 use crate::carried::{CarriedFlight, FlightEnd, RunFacts};
 use forwarding::PacketLocation;

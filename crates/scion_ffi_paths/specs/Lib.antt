@@ -4,7 +4,7 @@ pub mod Stretch
 pub mod Given
 pub mod Expiry
 pub mod Text
-pub mod Told
 pub mod Answer
 pub mod Verdict
 pub mod Room
+pub mod inner

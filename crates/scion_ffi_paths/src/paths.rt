@@ -4,7 +4,7 @@ ghost use Rattle.std.specs.Prelude.{IfOk};
 ghost use Rattle.std.specs.String.{string_bytes};
 ghost use Rattle.scion_ffi_paths.specs.Answer.{AnswersPaths, AnswersUnder, options_of_request};
 ghost use Rattle.scion_ffi_paths.specs.Room.{IsAnsweredInRoom};
-ghost use Rattle.scion_ffi_paths.specs.Told.{Tells};
+ghost use Rattle.scion_ffi_paths.specs.inner.Told.{Tells};
 
 use crate::answer::{options, selection};
 use crate::fault::RequestError;

@@ -7,7 +7,7 @@ ghost use Rattle.refusal.specs.Refusal.{Reads};
 ghost use Rattle.event_lines.specs.Line.{bytes_at};
 ghost use Rattle.scion_ffi_paths.specs.Given.{given_of, policy_asked, request_at};
 ghost use Rattle.scion_ffi_paths.specs.Room.{IsAnsweredInRoom};
-ghost use Rattle.scion_ffi_paths.specs.Told.{Tells};
+ghost use Rattle.scion_ffi_paths.specs.inner.Told.{Tells};
 ghost use Rattle.scion_ffi_paths.specs.Verdict.{AnswersVerdict, AnswersVerify};
 
 use crate::fault::{RequestError, RequestFault};

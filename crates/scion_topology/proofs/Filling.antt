@@ -6,7 +6,8 @@ use Rattle.scion_topology.specs.declared.entry.IfEntry.{IfEntry}
 use Rattle.scion_topology.specs.declared.network.AsEntry.{AsEntry}
 use Rattle.scion_topology.specs.declared.network.Link.{Link}
 use Rattle.scion_topology.specs.Network.{interface_of, with_first, table_of}
-use Rattle.scion_topology.specs.Index.{IndexValue, index_at, index_from, places_of, with_link, with_links}
+use Rattle.scion_topology.specs.Index.{IndexValue, index_at, index_from, places_of}
+use Rattle.scion_topology.specs.inner.Index.{with_link, with_links}
 
 table_step : (o : Option IfEntry) (front rest : List IfEntry) → (front ++ with_first o []) ++ rest ≡ front ++ with_first o rest
 table_step None front rest = ap (λ t. t ++ rest) (append-nil front)

@@ -11,7 +11,8 @@ use Rattle.scion_topology.specs.declared.network.AsEntry.{AsEntry}
 use Rattle.scion_topology.specs.declared.network.Link.{Link}
 use Rattle.scion_topology.specs.Network.{Network, as_named}
 use Rattle.scion_topology.specs.Causes.{is_listed}
-use Rattle.scion_topology.specs.Index.{IndexValue, index_at, index_from, index_in}
+use Rattle.scion_topology.specs.Index.{IndexValue, index_at, index_from}
+use Rattle.scion_topology.specs.inner.Index.{index_in}
 
 -- ---- the index of an AS
 

@@ -11,10 +11,11 @@ use Rattle.scion_topology.specs.declared.network.End.{End}
 use Rattle.scion_topology.specs.declared.network.Link.{Link}
 use Rattle.scion_topology.specs.declared.network.LinkClass.{LinkClass}
 use Rattle.scion_topology.specs.declared.network.LinkClass.TheVariants.{Core, Child}
-use Rattle.scion_topology.specs.Keys.{are_keys}
+use Rattle.scion_topology.specs.inner.Keys.{are_keys}
 use Rattle.scion_topology.specs.Network.{Network, IsPlain, is_wildcard, as_named, has_end, is_end}
 use Rattle.scion_topology.specs.Rules.{IsAs, Joins, IsLink, ends_of, AreTwo, IsNetwork, IsNumbered}
-use Rattle.scion_topology.specs.Causes.{is_as, is_link, is_too_many, is_listed, lists_twice, has_unknown_end, lacks_router, has_no_router, is_core, is_ill_classed, is_ill_joined, stands, joins_twice, cause_of}
+use Rattle.scion_topology.specs.Causes.{is_too_many, is_listed, lists_twice, has_unknown_end, lacks_router, has_no_router, is_core, is_ill_classed, is_ill_joined, stands, joins_twice, cause_of}
+use Rattle.scion_topology.specs.inner.Causes.{is_as, is_link}
 use Rattle.scion_topology.proofs.Deciding.{apart, apart_test, each_fails, All-cons, All-rest, All-first, All-from_list_all, list_all-from_All}
 use Rattle.scion_topology.proofs.KeyTests.{AreKeys-are_keys, are_keys-AreKeys}
 

@@ -3,7 +3,8 @@ use Rattle.std.proofs.Common.{◌≡◌, ℕ, Bool, true, false, cond, List, [],
 use Rattle.std.specs.Prelude.{nat_le}
 use Rattle.std.specs.List.{list_all}
 use Rattle.std.proofs.lemmas.Bool.{and_parts, and_from, leb-true, le-leb, true≢false}
-use Rattle.scion_topology.specs.Keys.{IsKey, AreKeys, is_key, are_keys, accepted, key_from, keys_of, renewed}
+use Rattle.scion_topology.specs.Keys.{IsKey, AreKeys, is_key, accepted, key_from, keys_of, renewed}
+use Rattle.scion_topology.specs.inner.Keys.{are_keys}
 use Rattle.scion_topology.specs.declared.fault.TopologyFault.{TopologyFault}
 use Rattle.scion_topology.proofs.Deciding.{All-from_list_all, list_all-from_All}
 

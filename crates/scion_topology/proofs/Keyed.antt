@@ -11,12 +11,15 @@ use Rattle.scion_topology.specs.declared.network.End.{End}
 use Rattle.scion_topology.specs.declared.network.Link.{Link}
 use Rattle.scion_topology.specs.declared.network.LinkClass.{LinkClass}
 use Rattle.scion_topology.specs.declared.network.LinkClass.TheVariants.{Core, Child}
-use Rattle.scion_topology.specs.Keys.{is_key, are_keys, key_from, renewed}
+use Rattle.scion_topology.specs.Keys.{is_key, key_from, renewed}
+use Rattle.scion_topology.specs.inner.Keys.{are_keys}
 use Rattle.refusal.specs.Refusal.{◌>>=◌}
 use Rattle.scion_topology.specs.Network.{Network, is_wildcard, as_named}
-use Rattle.scion_topology.specs.Causes.{is_as, lists_twice, has_unknown_end, lacks_router, has_no_router, is_core, is_ill_classed, is_ill_joined, cause_of}
+use Rattle.scion_topology.specs.Causes.{lists_twice, has_unknown_end, lacks_router, has_no_router, is_core, is_ill_classed, is_ill_joined, cause_of}
+use Rattle.scion_topology.specs.inner.Causes.{is_as}
 use Rattle.scion_topology.specs.Topology.{IsNetwork, known, with_key, rotated}
-use Rattle.scion_topology.specs.Index.{IndexValue, index_at, index_from, index_in, keyed_at}
+use Rattle.scion_topology.specs.Index.{IndexValue, index_at, index_from}
+use Rattle.scion_topology.specs.inner.Index.{index_in, keyed_at}
 use Rattle.refusal.proofs.Steps.{bind_ok, ok_is, ok_or_ok}
 use Rattle.scion_topology.proofs.Judging.{judged, rules_from}
 use Rattle.scion_topology.proofs.KeyTests.{are_keys_renewed}

@@ -16,7 +16,7 @@ use Rattle.scion_topology.specs.Keys.{is_key, key_from, renewed}
 use Rattle.scion_topology.specs.Network.{Network, as_named, is_end, has_end, link_named, interface_of, with_first, table_of, interface_in}
 use Rattle.scion_topology.specs.Topology.{IsNetwork, known, known_link, near_end, far_end, interface_at, far_end_in, owner_in, with_up, with_key, set_up, rotated}
 use Rattle.scion_topology.specs.Ends.{IsAt, IsShown, at_a, at_b, IsUp, IsStill, IsSame}
-use Rattle.scion_topology.specs.Index.{place_in, set_from}
+use Rattle.scion_topology.specs.inner.Index.{place_in, set_from}
 use Rattle.refusal.proofs.Steps.{bind_ok, ok_is, ok_or_ok}
 use Rattle.scion_topology.proofs.Judging.{IsFree-IsNetwork}
 use Rattle.scion_topology.proofs.Places.{is_numbered, are_apart, ends_there, network_apart}

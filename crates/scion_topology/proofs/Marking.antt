@@ -12,10 +12,12 @@ use Rattle.scion_topology.specs.declared.entry.IfEntry.{IfEntry}
 use Rattle.scion_topology.specs.declared.network.AsEntry.{AsEntry}
 use Rattle.scion_topology.specs.declared.network.Link.{Link}
 use Rattle.scion_topology.specs.Network.{has_end, interface_of, with_first, table_of}
-use Rattle.scion_topology.specs.Causes.{is_link, has_unknown_end, has_no_router, is_ill_joined, stands, joins_twice, cause_of}
+use Rattle.scion_topology.specs.Causes.{has_unknown_end, has_no_router, is_ill_joined, stands, joins_twice, cause_of}
+use Rattle.scion_topology.specs.inner.Causes.{is_link}
 use Rattle.scion_topology.specs.Topology.{with_up}
-use Rattle.scion_topology.specs.Table.{marked_table}
-use Rattle.scion_topology.specs.Index.{places_of, set_from}
+use Rattle.scion_topology.specs.inner.Table.{marked_table}
+use Rattle.scion_topology.specs.Index.{places_of}
+use Rattle.scion_topology.specs.inner.Index.{set_from}
 use Rattle.scion_topology.proofs.Places.{are_apart, is_numbered, ends_there}
 use Rattle.scion_topology.proofs.Tables.{position-cons, place_zero, place_suc}
 

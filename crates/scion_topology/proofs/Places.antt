@@ -14,7 +14,8 @@ use Rattle.scion_topology.specs.Network.{Network, has_end, link_named, interface
 use Rattle.scion_topology.specs.Causes.{is_ill_joined}
 use Rattle.refusal.specs.Refusal.{◌>>=◌}
 use Rattle.scion_topology.specs.Topology.{IsNetwork, known, known_link}
-use Rattle.scion_topology.specs.Index.{IndexValue, places_of, index_at, place_beside, index_in, place_in}
+use Rattle.scion_topology.specs.Index.{IndexValue, places_of, index_at}
+use Rattle.scion_topology.specs.inner.Index.{place_beside, index_in, place_in}
 use Rattle.std.proofs.lemmas.Option.{slice_get-get_or}
 use Rattle.scion_topology.proofs.Indexes.{slice_get-past}
 use Rattle.scion_topology.proofs.Tables.{position-cons, place_beside-cons}

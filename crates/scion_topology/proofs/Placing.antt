@@ -5,8 +5,9 @@ use Rattle.std.specs.Option.{option_and_then}
 use Rattle.std.proofs.lemmas.Bool.{cases_eq, eq-eqb, ne_eqb}
 use Rattle.scion_topology.specs.declared.index.AsIndex.{AsIndex}
 use Rattle.scion_topology.specs.declared.network.AsEntry.{AsEntry}
-use Rattle.scion_topology.specs.Placed.{AreOwn}
-use Rattle.scion_topology.specs.Index.{IndexValue, value_of_index, with_first_index, index_at, index_from}
+use Rattle.scion_topology.specs.inner.Placed.{AreOwn}
+use Rattle.scion_topology.specs.Index.{IndexValue, value_of_index, index_at, index_from}
+use Rattle.scion_topology.specs.inner.Index.{with_first_index}
 
 abbrev pub had : List AsIndex → (ℕ → Option ℕ) → ℕ → Option IndexValue
 had list place x = option_map value_of_index (option_and_then (slice_get list) (place x))

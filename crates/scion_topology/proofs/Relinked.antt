@@ -11,8 +11,9 @@ use Rattle.scion_topology.specs.declared.network.Link.{Link}
 use Rattle.scion_topology.specs.Network.{Network, has_end, table_of}
 use Rattle.scion_topology.specs.Causes.{stands, joins_twice}
 use Rattle.scion_topology.specs.Topology.{IsNetwork, known, set_up, with_up}
-use Rattle.scion_topology.specs.Table.{marked_table}
-use Rattle.scion_topology.specs.Index.{IndexValue, index_at, index_from, places_of, place_in, marked, set_from}
+use Rattle.scion_topology.specs.inner.Table.{marked_table}
+use Rattle.scion_topology.specs.Index.{IndexValue, index_at, index_from, places_of}
+use Rattle.scion_topology.specs.inner.Index.{place_in, marked, set_from}
 use Rattle.refusal.proofs.Steps.{bind_ok, ok_or_ok}
 use Rattle.scion_topology.proofs.Judging.{IsFree-IsNetwork, judged, rules_from}
 use Rattle.scion_topology.proofs.Places.{network_apart, are_apart, known_link-place_in, known_link-place_in_err}

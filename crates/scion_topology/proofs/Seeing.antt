@@ -9,7 +9,8 @@ use Rattle.scion_topology.specs.Building.{is_named, numbers_twice}
 use Rattle.scion_topology.specs.Keys.{AreKeys}
 use Rattle.scion_topology.specs.Rules.{IsAs}
 use Rattle.scion_topology.specs.Network.{Network, is_wildcard, as_named, has_end, interface_of, with_first, table_of}
-use Rattle.scion_topology.specs.Causes.{is_as, is_link, stands, joins_twice}
+use Rattle.scion_topology.specs.Causes.{stands, joins_twice}
+use Rattle.scion_topology.specs.inner.Causes.{is_as, is_link}
 use Rattle.scion_topology.specs.Topology.{IsNetwork, known}
 use Rattle.refusal.proofs.Steps.{ok_or_ok}
 use Rattle.scion_topology.proofs.Judging.{IsFree-IsNetwork, judged, listed_of_named}

@@ -7,8 +7,8 @@ use Rattle.std.proofs.lemmas.Bool.{cases_Bool, cases_eq, cases_lt, lt-ltb, le-lt
 use Rattle.std.proofs.lemmas.Option.{slice_get_cases}
 use Rattle.scion_topology.specs.declared.entry.IfEntry.{IfEntry}
 use Rattle.scion_topology.specs.Network.{interface_in}
-use Rattle.scion_topology.specs.Table.{place_in_table, marked_table}
-use Rattle.scion_topology.specs.Index.{place_beside}
+use Rattle.scion_topology.specs.inner.Table.{place_in_table, marked_table}
+use Rattle.scion_topology.specs.inner.Index.{place_beside}
 
 -- the first place in a list, one element at a time
 shifted : (n len : ℕ) → cond (ltb (1 + n) (suc len)) (Some (1 + n)) None ≡ option_map (λ (k : ℕ). 1 + k) (cond (ltb n len) (Some n) None)

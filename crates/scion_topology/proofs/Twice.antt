@@ -10,7 +10,7 @@ use Rattle.scion_topology.specs.declared.network.End.{End}
 use Rattle.scion_topology.specs.declared.network.Link.{Link}
 use Rattle.scion_topology.specs.Network.{is_end, has_end}
 use Rattle.scion_topology.specs.Causes.{lists_twice, stands, joins_twice}
-use Rattle.scion_topology.specs.Doubled.{HasBits, end_number, numbers_of}
+use Rattle.scion_topology.specs.inner.Doubled.{HasBits, end_number, numbers_of}
 
 -- ---- ASes
 

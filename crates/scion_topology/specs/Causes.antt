@@ -1,6 +1,6 @@
 -- Why a list of ASes and a list of links are no network: the first fault, in the order of
 -- `cause_of`.
-use Rattle.std.specs.Prelude.{ℕ, ◌==◌, ◌&&◌, ◌||◌, not, nat_lt, nat_le, Bool, false, if◌then◌else◌, List, [], ◌∷◌, length, Option, Some, None}
+use Rattle.std.specs.Prelude.{ℕ, ◌==◌, ◌||◌, not, nat_lt, nat_le, Bool, false, if◌then◌else◌, List, [], ◌∷◌, length, Option, Some, None}
 use Rattle.std.specs.List.{list_any}
 use Rattle.std.specs.Option.{option_map_or}
 use Rattle.isd_as.specs.Address.{isd_of}
@@ -11,19 +11,7 @@ use Rattle.scion_topology.specs.declared.network.End.{End}
 use Rattle.scion_topology.specs.declared.network.Link.{Link}
 use Rattle.scion_topology.specs.declared.network.LinkClass.{LinkClass}
 use Rattle.scion_topology.specs.declared.network.LinkClass.TheVariants.{Core, Child}
-use Rattle.scion_topology.specs.Keys.{are_keys}
-use Rattle.scion_topology.specs.Network.{is_wildcard, as_named, has_end}
-
--- ---- an AS and a link by themselves
-
--- `IsAs` and `IsNumbered` as Booleans
-abbrev pub is_as : AsEntry → Bool
-is_as one =
-    not (is_wildcard one.ia)
-    && (nat_le 1 one.routers && (nat_le one.routers 64 && are_keys one.keys))
-
-abbrev pub is_link : Link → Bool
-is_link link = nat_lt 0 link.a.number && nat_lt 0 link.b.number
+use Rattle.scion_topology.specs.Network.{as_named, has_end}
 
 -- ---- the whole
 

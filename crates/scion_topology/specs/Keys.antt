@@ -24,9 +24,6 @@ key_in_use keys = unwrap_or (slice_get keys 0) []
 abbrev pub is_key : List ℕ → Bool
 is_key key = nat_le 1 (length key) && nat_le (length key) 64
 
-abbrev pub are_keys : List (List ℕ) → Bool
-are_keys keys = nat_le 1 (length keys) && (nat_le (length keys) 2 && list_all is_key keys)
-
 -- the key of these bytes, or BadField
 unfoldable pub key_from : List ℕ → Result (List ℕ) TopologyFault
 key_from bytes = if is_key bytes then Ok bytes else Err faults.BadField

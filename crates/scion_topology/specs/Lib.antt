@@ -5,11 +5,9 @@ pub mod Rules
 pub mod View
 pub mod Building
 pub mod Causes
-pub mod Doubled
 pub mod Reading
 pub mod Topology
 pub mod Ends
-pub mod Placed
-pub mod Table
 pub mod Index
 pub mod Source
+pub mod inner

@@ -1,6 +1,6 @@
 ghost use Rattle.std.specs.Prelude.{◌≡◌, ◌<◌, true, false, vec_len};
 ghost use Rattle.scion_topology.specs.Topology.{Becomes, set_up, rotated};
-ghost use Rattle.scion_topology.specs.Index.{set_from, keyed_at};
+ghost use Rattle.scion_topology.specs.inner.Index.{set_from, keyed_at};
 
 use crate::fault::TopologyFault;
 use crate::keys::Key;

@@ -4,7 +4,7 @@
 ghost use Rattle.std.specs.Prelude.{◌≡◌, ◌<◌, ◌^◌, ◌++◌, IfOk, OnOk, All, map};
 ghost use Rattle.std.specs.List.{flat_map};
 ghost use Rattle.scion_topology.specs.Causes.{lists_twice, stands, joins_twice};
-ghost use Rattle.scion_topology.specs.Doubled.{HasBits, end_number, numbers_of};
+ghost use Rattle.scion_topology.specs.inner.Doubled.{HasBits, end_number, numbers_of};
 
 use crate::as_lookup::is_listed;
 use crate::network::{AsEntry, End, Link};

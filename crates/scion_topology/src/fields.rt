@@ -3,7 +3,7 @@ ghost use Rattle.std.specs.Str.{bytes_eq};
 ghost use Rattle.serde_json.specs.View.{view};
 ghost use Rattle.scion_topology.specs.Keys.{is_key};
 ghost use Rattle.scion_topology.specs.Network.{is_wildcard};
-ghost use Rattle.scion_topology.specs.Causes.{is_as, is_link};
+ghost use Rattle.scion_topology.specs.inner.Causes.{is_as, is_link};
 ghost use Rattle.scion_topology.specs.Reading.{address_in, key_at, as_entry_at, class_at, end_at, link_at};
 
 use crate::keys::{Key, Keys, MAX_KEY_LEN};

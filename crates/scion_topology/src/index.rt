@@ -1,7 +1,8 @@
 ghost use Rattle.std.specs.Prelude.{◌≡◌, ◌<◌, [], OnOk, vec_len};
 ghost use Rattle.scion_topology.specs.Network.{end_as_interface, kind_at_a, kind_at_b};
-ghost use Rattle.scion_topology.specs.Placed.{IsChanged};
-ghost use Rattle.scion_topology.specs.Index.{value_of_index, added, marked, place_beside};
+ghost use Rattle.scion_topology.specs.inner.Placed.{IsChanged};
+ghost use Rattle.scion_topology.specs.Index.{value_of_index};
+ghost use Rattle.scion_topology.specs.inner.Index.{added, marked, place_beside};
 
 use crate::entry::{IfEntry, LinkKind};
 use crate::network::{End, Link, LinkClass};

@@ -2,7 +2,7 @@ ghost use Rattle.std.specs.Prelude.{◌≡◌, ℕ, ◌==◌, [], None, Some, If
 ghost use Rattle.std.specs.Option.{option_copied};
 ghost use Rattle.std.specs.Ordering.{nat_cmp};
 ghost use Rattle.std.specs.BTreeMap.{get};
-ghost use Rattle.scion_topology.specs.Placed.{AreOwn};
+ghost use Rattle.scion_topology.specs.inner.Placed.{AreOwn};
 
 use crate::entry::IfEntry;
 use crate::hints::HashHints;
@@ -22,7 +22,8 @@ pub struct Indexes {
 }
 
 impl Indexes {
-    ghost use Rattle.scion_topology.specs.Index.{value_of_index, index_at, index_of, index_from, spot_of, added_where, marked_where, with_link, with_links, with_first_index};
+    ghost use Rattle.scion_topology.specs.Index.{value_of_index, index_at, index_of, index_from, spot_of};
+    ghost use Rattle.scion_topology.specs.inner.Index.{added_where, marked_where, with_link, with_links, with_first_index};
 
     /// The index of each AS of a list, without links. An AS that is listed twice has the index of
     /// its first place.

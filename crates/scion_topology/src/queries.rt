@@ -2,7 +2,8 @@ ghost use Rattle.std.specs.Prelude.{◌≡◌, ◌<◌, Some, None, IfOk, MatchR
 ghost use Rattle.scion_topology.specs.Network.{as_named};
 ghost use Rattle.refusal.specs.Refusal.{Gives};
 ghost use Rattle.scion_topology.specs.Topology.{IsNetwork, known, known_link, info_in, interface_at, far_end_in, owner_in, view_in};
-ghost use Rattle.scion_topology.specs.Index.{value_of_index, index_in, place_in};
+ghost use Rattle.scion_topology.specs.Index.{value_of_index};
+ghost use Rattle.scion_topology.specs.inner.Index.{index_in, place_in};
 
 use crate::entry::IfEntry;
 use crate::fault::TopologyFault;

@@ -1,7 +1,7 @@
 ghost use Rattle.std.specs.Prelude.{◌≡◌, ◌<◌, [], ◌∷◌, ◌++◌, OnOk, Some, slice_get, slice_set, vec_len};
 ghost use Rattle.std.specs.Option.{option_copied};
 ghost use Rattle.scion_topology.specs.Network.{interface_in};
-ghost use Rattle.scion_topology.specs.Table.{place_in_table, marked_table};
+ghost use Rattle.scion_topology.specs.inner.Table.{place_in_table, marked_table};
 ghost use Rattle.scion_topology.specs.declared.entry.IfEntry.{IfEntry};
 
 use crate::entry::IfEntry;
@@ -24,7 +24,7 @@ impl Model for InterfaceTable {
     ghost use Rattle.std.specs.Ordering.{nat_cmp};
     ghost use Rattle.std.specs.BTreeMap.{get};
     ghost use Rattle.scion_topology.specs.declared.entry.IfEntry.{IfEntry};
-    ghost use Rattle.scion_topology.specs.Table.{place_in_table};
+    ghost use Rattle.scion_topology.specs.inner.Table.{place_in_table};
 
     ghost Value = { List IfEntry };
 

@@ -2,7 +2,8 @@ ghost use Rattle.std.specs.Prelude.{◌≡◌, Err, IfSome, IsTrue};
 ghost use Rattle.std.specs.List.{list_all};
 ghost use Rattle.serde_json.specs.View.{view};
 ghost use Rattle.refusal.specs.Refusal.{Reads, unless};
-ghost use Rattle.scion_topology.specs.Causes.{is_as, is_link, cause_of};
+ghost use Rattle.scion_topology.specs.Causes.{cause_of};
+ghost use Rattle.scion_topology.specs.inner.Causes.{is_as, is_link};
 ghost use Rattle.scion_topology.specs.Topology.{network_of, network_in};
 
 use crate::as_lookup::AsLookup;

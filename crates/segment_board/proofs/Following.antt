@@ -3,7 +3,8 @@ use Rattle.std.proofs.Common.{◌≡◌, List, [], ◌∷◌, ◌++◌, refl, ap
 use mathlib.Core.List.{IsPrefix}
 use Rattle.path_server.specs.declared.op.StoreOp.{StoreOp}
 use Rattle.segment_board.specs.declared.edition.Edition.{Edition}
-use Rattle.segment_board.specs.History.{KnownHistory, Follows, ContinuesFrom, newest, edition_after}
+use Rattle.segment_board.specs.History.{KnownHistory, newest, edition_after}
+use Rattle.segment_board.specs.inner.History.{Follows, ContinuesFrom}
 use Rattle.segment_board.proofs.Prefixes.{prefix_self, prefix_trans, prefix_back}
 use Rattle.segment_board.proofs.Growing.{newest_last}
 

@@ -11,8 +11,10 @@ use Rattle.path_server.specs.declared.op.StoreOp.{StoreOp}
 use Rattle.segment_board.specs.declared.edition.Edition.{Edition}
 use Rattle.segment_board.specs.declared.board_state.BoardOp.{BoardOp}
 use Rattle.segment_board.specs.declared.board_state.BoardOp.TheVariants.{Apply, Mark}
-use Rattle.segment_board.specs.History.{KnownHistory, newest, opening, head_of}
-use Rattle.segment_board.specs.BoardState.{BoardValue, taken, IsTied, IsReady}
+use Rattle.segment_board.specs.History.{KnownHistory, newest, opening}
+use Rattle.segment_board.specs.inner.History.{head_of}
+use Rattle.segment_board.specs.BoardState.{BoardValue}
+use Rattle.segment_board.specs.inner.BoardState.{taken, IsTied, IsReady}
 use Rattle.segment_board.specs.Board.{Written}
 use Rattle.segment_board.specs.WriterState.{shown_of, queue_of, edition_of, awaited, operations_of}
 use Rattle.segment_board.specs.Writing.{IsInOrder}

@@ -4,9 +4,11 @@ use mathlib.Core.Option.{some, some-ne-none}
 use lib.ListN.{get_elem?}
 use Rattle.left_right.specs.Register.{Admits, TurnsAt, Forks, Merges}
 use Rattle.atomic_table.proofs.Lists.{at_set, at_snoc, set_again}
-use Rattle.segment_board.specs.History.{KnownHistory, ContinuesFrom}
-use Rattle.segment_board.specs.BoardState.{BoardValue, IsTied}
-use Rattle.segment_board.specs.Rule.{FitsView, KeepsViews, opening_only, begun_as}
+use Rattle.segment_board.specs.History.{KnownHistory}
+use Rattle.segment_board.specs.inner.History.{ContinuesFrom}
+use Rattle.segment_board.specs.BoardState.{BoardValue}
+use Rattle.segment_board.specs.inner.BoardState.{IsTied}
+use Rattle.segment_board.specs.inner.Rule.{FitsView, KeepsViews, opening_only, begun_as}
 use Rattle.segment_board.proofs.Following.{goes_self, goes_trans}
 
 fits_on : (x y : BoardValue) (u : Option KnownHistory) → ContinuesFrom x.front y.front → FitsView x u → FitsView y u

@@ -6,8 +6,10 @@ use Rattle.path_server.specs.Store.{after_operation, store_of}
 use Rattle.segment_board.specs.declared.board_state.BoardOp.{BoardOp}
 use Rattle.segment_board.specs.declared.board_state.BoardOp.TheVariants.{Apply, Mark}
 use Rattle.segment_board.specs.declared.edition.Edition.{Edition}
-use Rattle.segment_board.specs.History.{KnownHistory, ContinuesFrom, newest, edition_after}
-use Rattle.segment_board.specs.BoardState.{BoardValue, taken, IsTied, IsReady}
+use Rattle.segment_board.specs.History.{KnownHistory, newest, edition_after}
+use Rattle.segment_board.specs.inner.History.{ContinuesFrom}
+use Rattle.segment_board.specs.BoardState.{BoardValue}
+use Rattle.segment_board.specs.inner.BoardState.{taken, IsTied, IsReady}
 use Rattle.segment_board.specs.WriterState.{operations_of}
 use Rattle.segment_board.proofs.Growing.{newest_last}
 use Rattle.segment_board.proofs.Following.{goes_self, goes_after}

@@ -5,3 +5,4 @@ pub mod Rule
 pub mod WriterState
 pub mod Board
 pub mod Writing
+pub mod inner

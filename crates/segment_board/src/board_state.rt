@@ -40,7 +40,7 @@ pub(crate) enum BoardOp {
 impl Absorb<BoardOp> for BoardState {
     type State = BoardState;
 
-    ghost use Rattle.segment_board.specs.BoardState.{taken};
+    ghost use Rattle.segment_board.specs.inner.BoardState.{taken};
 
     ghost state = { λ s. s };
 
@@ -64,7 +64,7 @@ pub(crate) struct Published;
 
 impl Protocol<BoardState, Option<HistoryPrefix>> for Published {
     ghost use Rattle.std.specs.Prelude.{None};
-    ghost use Rattle.segment_board.specs.Rule.{KeepsViews};
+    ghost use Rattle.segment_board.specs.inner.Rule.{KeepsViews};
 
     ghost holds = { KeepsViews };
 
@@ -86,8 +86,8 @@ pub(crate) struct Enters;
 
 impl Outcome<BoardState, Option<HistoryPrefix>> for Enters {
     ghost use Rattle.std.specs.Prelude.{◌≡◌, Some};
-    ghost use Rattle.segment_board.specs.BoardState.{IsTied};
-    ghost use Rattle.segment_board.specs.Rule.{FitsView};
+    ghost use Rattle.segment_board.specs.inner.BoardState.{IsTied};
+    ghost use Rattle.segment_board.specs.inner.Rule.{FitsView};
 
     ghost then = { λ v x y w. (w ≡ Some x.front) × IsTied x × FitsView x v };
 }
@@ -102,7 +102,7 @@ pub(crate) type StoreReader = Reader<BoardState, Option<HistoryPrefix>, Publishe
 pub(crate) struct Tells;
 
 impl Split<Option<HistoryPrefix>> for Tells {
-    ghost use Rattle.segment_board.specs.Rule.{begun_as};
+    ghost use Rattle.segment_board.specs.inner.Rule.{begun_as};
 
     ghost left = { λ v. v };
 

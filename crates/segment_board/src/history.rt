@@ -3,7 +3,8 @@
 
 ghost use Rattle.std.specs.Prelude.{◌≡◌, ◌+◌, ◌^◌, ◌<◌, [], ◌∷◌, ◌++◌, length, MatchBool};
 ghost use mathlib.Core.List.{IsPrefix};
-ghost use Rattle.segment_board.specs.History.{head_of, newest, opening, Rises};
+ghost use Rattle.segment_board.specs.History.{newest, opening};
+ghost use Rattle.segment_board.specs.inner.History.{head_of, Rises};
 ghost use Rattle.segment_board.specs.WriterState.{awaited};
 
 use crate::board_state::StoreWriter;
@@ -20,7 +21,8 @@ pub struct AppendOnly;
 impl Rule<Edition, u64> for AppendOnly {
     ghost use Rattle.std.specs.Prelude.{[], ◌∷◌};
     ghost use base.Fml.{ftrue};
-    ghost use Rattle.segment_board.specs.History.{IsKept, opening};
+    ghost use Rattle.segment_board.specs.History.{opening};
+    ghost use Rattle.segment_board.specs.inner.History.{IsKept};
 
     ghost holds = { λ cells log. IsKept cells log };
 
@@ -48,7 +50,7 @@ impl Gain<Edition, u64> for Nothing {
 struct Adds;
 
 impl Play<Edition, u64> for Adds {
-    ghost use Rattle.segment_board.specs.History.{Added};
+    ghost use Rattle.segment_board.specs.inner.History.{Added};
 
     ghost then = { Added };
 }
@@ -71,7 +73,8 @@ pub(crate) struct HistoryPrefix {
 
 impl Model for HistoryPrefix {
     ghost use Rattle.std.specs.Prelude.{◌≡◌, length};
-    ghost use Rattle.segment_board.specs.History.{KnownHistory, Rises};
+    ghost use Rattle.segment_board.specs.History.{KnownHistory};
+    ghost use Rattle.segment_board.specs.inner.History.{Rises};
 
     ghost Value = { KnownHistory };
 

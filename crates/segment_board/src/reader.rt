@@ -5,7 +5,8 @@ ghost use mathlib.Core.List.{IsPrefix};
 ghost use Rattle.left_right.specs.Sides.{view as view_of};
 ghost use Rattle.path_server.specs.Store.{store_of};
 ghost use Rattle.path_server.specs.Lookup.{segments_for};
-ghost use Rattle.segment_board.specs.History.{ContinuesFrom, newest};
+ghost use Rattle.segment_board.specs.History.{newest};
+ghost use Rattle.segment_board.specs.inner.History.{ContinuesFrom};
 ghost use Rattle.segment_board.specs.Board.{GivesNothing};
 
 use crate::board_state::{Enters, StoreReader};

@@ -5,7 +5,7 @@ ghost use Rattle.left_right.specs.Sides.{view as view_of};
 ghost use Rattle.path_server.specs.declared.op.StoreOp.TheVariants.{Register, Sweep};
 ghost use Rattle.segment_board.specs.declared.fault.BoardFault.TheVariants.{NoPlace};
 ghost use Rattle.segment_board.specs.declared.board_state.BoardOp.TheVariants.{Apply, Mark};
-ghost use Rattle.segment_board.specs.BoardState.{taken, IsReady};
+ghost use Rattle.segment_board.specs.inner.BoardState.{taken, IsReady};
 ghost use Rattle.segment_board.specs.WriterState.{shown_of, queue_of};
 
 use crate::board_state::{BoardOp, BoardState, Learns, Publishes, StoreWriter, Tells};

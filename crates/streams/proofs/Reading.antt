@@ -5,7 +5,8 @@ use Rattle.std.specs.Io.KnownBytes.{Consumes}
 use Rattle.std.proofs.KnownBytes.{Consumes-trans}
 use Rattle.streams.specs.declared.fault.InputFault.{InputFault}
 use Rattle.streams.specs.declared.fault.InputFault.TheVariants.{Read, TooLong, Memory}
-use Rattle.streams.specs.Streams.{ConsumesSome, ReadsAll, ReadsOn}
+use Rattle.streams.specs.Streams.{ConsumesSome, ReadsAll}
+use Rattle.streams.specs.inner.Streams.{ReadsOn}
 
 -- what was consumed before counts too
 more : (old mid new : Option (List ℕ)) (read : List ℕ) (P Q : ℕ → Type 0)

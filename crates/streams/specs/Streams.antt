@@ -1,5 +1,5 @@
 -- What calls on sources and sinks answer.
-use Rattle.std.specs.Prelude.{◌≡◌, ℕ, ◌+◌, ◌<◌, ◌≤◌, ◌&&◌, ◌==◌, nat_lt, Bool, true, false, List, ◌++◌, length, take, Option, Result, Ok, Err}
+use Rattle.std.specs.Prelude.{◌≡◌, ℕ, ◌+◌, ◌≤◌, ◌&&◌, ◌==◌, nat_lt, Bool, true, false, List, length, take, Option, Result, Ok, Err}
 use Rattle.std.specs.Io.KnownBytes.{Appends, Consumes, IsAtEnd}
 use Rattle.streams.specs.declared.fault.InputFault.{InputFault}
 use Rattle.streams.specs.declared.fault.InputFault.TheVariants.{Read, TooLong}
@@ -30,15 +30,3 @@ ReadsAll items most (Ok bytes) old new =
     (Consumes old new (items bytes) × IsAtEnd new) × (length (items bytes) ≤ most)
 ReadsAll items most (Err TooLong) old new = ConsumesSome old new (λ n. n ≡ most + 1)
 ReadsAll items most (Err fault) old new = ConsumesSome old new (λ n. n ≤ most)
-
--- one read of at most `most` bytes behind those that there are: how many came, none only at the
--- end, or why they are not among them
-abbrev pub ReadsOn : ℕ → ℕ → Result ℕ InputFault → Option (List ℕ) → Option (List ℕ)
-    → List ℕ → List ℕ → Type 0
-ReadsOn most room (Ok n) old new before after = (bytes : List ℕ)
-    × ((Consumes old new bytes × (n ≡ 0 → IsAtEnd new))
-    × ((after ≡ before ++ bytes) × ((length bytes ≡ n) × (length after ≤ most))))
-ReadsOn most room (Err TooLong) old new before after =
-    ConsumesSome old new (λ n. (most < length before + n) × (n ≤ room))
-ReadsOn most room (Err fault) old new before after =
-    ConsumesSome old new (λ n. length before + n ≤ most)

@@ -1,7 +1,8 @@
 //! Reading a source to its end.
 
 ghost use Rattle.std.specs.Prelude.{◌≡◌, ◌||◌, ◌+◌, ◌<◌, ◌≤◌, length, vec_len};
-ghost use Rattle.streams.specs.Streams.{ReadsAll, ReadsOn, is_failed_read};
+ghost use Rattle.streams.specs.Streams.{ReadsAll, is_failed_read};
+ghost use Rattle.streams.specs.inner.Streams.{ReadsOn};
 
 use crate::fault::InputFault;
 use crate::stream::Source;

@@ -4,7 +4,8 @@ use Rattle.network_core.specs.Value.{NetValue}
 use Rattle.work_lines.specs.declared.fault.WorkFault.{WorkFault}
 use Rattle.work_lines.specs.declared.fault.WorkFault.TheVariants as faults
 use Rattle.work_lines.specs.Report.{Reports}
-use Rattle.work_lines.specs.Work.{IsNumberOfWorkers, Prepares, Works, WritesReport}
+use Rattle.work_lines.specs.Work.{IsNumberOfWorkers, Prepares, Works}
+use Rattle.work_lines.specs.inner.Work.{WritesReport}
 
 -- the report was written, or a beginning of it
 pub worked : (result : Result (Unit {0}) WorkFault) (net : NetValue) (workers slots : ℕ)

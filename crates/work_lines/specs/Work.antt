@@ -59,21 +59,3 @@ is_work_write_fault result = false
 abbrev pub of_workers : RunFault → WorkFault
 of_workers run.Workers = faults.Workers
 of_workers run.Memory = faults.Memory
-
--- why flights could not be carried by these workers
-abbrev pub Stops : ℕ → WorkFault → Type 0
-Stops workers faults.Workers = ¬ (IsNumberOfWorkers workers)
-Stops workers faults.Memory = Unit {0}
-Stops workers fault = ⊥
-
--- the report was written, or a beginning of it
-abbrev pub WritesReport : Result (Unit {0}) WorkFault → List ℕ → Option (List ℕ) → Option (List ℕ)
-    → Type 0
-WritesReport (Ok done) text held holds = Appends held holds text
-WritesReport (Err faults.Write) text held holds = AppendsFront held holds text
-WritesReport (Err fault) text held holds = ⊥
-
--- whether the report was not written
-abbrev pub is_unwritten : Result (Unit {0}) WorkFault → Bool
-is_unwritten (Ok done) = false
-is_unwritten (Err fault) = true

@@ -4,7 +4,8 @@ ghost use Rattle.std.specs.Prelude.{◌≡◌, ◌<◌, ◌≤◌, ◌||◌, IfO
 ghost use Rattle.std.specs.String.{string_bytes};
 ghost use Rattle.network_core.specs.Delivery.{AllMayDepart};
 ghost use Rattle.work_lines.specs.Report.{Reports};
-ghost use Rattle.work_lines.specs.Work.{IsNumberOfWorkers, Stops, Works, WritesReport, is_work_read_fault, is_unwritten, is_work_write_fault};
+ghost use Rattle.work_lines.specs.Work.{IsNumberOfWorkers, Works, is_work_read_fault, is_work_write_fault};
+ghost use Rattle.work_lines.specs.inner.Work.{Stops, WritesReport, is_unwritten};
 
 use crate::fault::WorkFault;
 use crate::flights::flights_of;

@@ -3,8 +3,8 @@ use Rattle.path_verifier.specs.Piece.{PieceValue}
 use Rattle.combinator.specs.Candidate.{IsOf, PathValue}
 use Rattle.combinator.specs.Order.{path_cmp}
 use Rattle.combinator.specs.Answer.{IsBest}
-use Rattle.combinator.specs.Placed.{InOrder, Met}
-use Rattle.combinator.specs.BestByWalk.{by_walk}
+use Rattle.combinator.specs.inner.Placed.{InOrder, Met}
+use Rattle.combinator.specs.inner.BestByWalk.{by_walk}
 use Rattle.combinator.proofs.Answering.{all_met, answer}
 use Rattle.combinator.proofs.answer.answered.Goals as goal
 

@@ -1,5 +1,5 @@
 use Rattle.std.proofs.Common.{sym, ◌∙◌, arith}
-use Rattle.combinator.specs.BestByWalk.{by_walk}
+use Rattle.combinator.specs.inner.BestByWalk.{by_walk}
 use Rattle.combinator.proofs.Ranks.{walks_total}
 use Rattle.combinator.proofs.Keeping.{one_walk}
 use Rattle.combinator.proofs.Searched.{less_upto, greater_from}

@@ -2,7 +2,7 @@
 use Rattle.std.proofs.Common.{◌≡◌, ◌-◌, ◌≤◌, length}
 use Rattle.std.specs.List.{AllWithin}
 use Rattle.std.specs.declared.cmp.Ordering.TheVariants.{Less, Greater}
-use Rattle.combinator.specs.BestByWalk.{by_walk}
+use Rattle.combinator.specs.inner.BestByWalk.{by_walk}
 use Rattle.combinator.proofs.best_by_walk.place_of.Given as goal
 
 abbrev pub invariant-loop-low : goal.invariant-loop-low

@@ -1,5 +1,5 @@
 -- The choice among the options before this place.
-use Rattle.combinator.specs.Choice.{IsChosen}
+use Rattle.combinator.specs.inner.Choice.{IsChosen}
 use Rattle.combinator.proofs.choice.paths_with.Given as goal
 
 abbrev pub invariant-loop-place : goal.invariant-loop-place

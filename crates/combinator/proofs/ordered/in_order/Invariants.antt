@@ -4,7 +4,7 @@ use Rattle.std.specs.Prelude.{◌⊎◌}
 use Rattle.combinator.specs.Candidate.{Question, PathValue}
 use Rattle.combinator.specs.Order.{path_cmp}
 use Rattle.combinator.specs.Answer.{IsBest}
-use Rattle.combinator.specs.Placed.{InOrder, Met}
+use Rattle.combinator.specs.inner.Placed.{InOrder, Met}
 use Rattle.combinator.proofs.ordered.in_order.Given as goal
 
 abbrev pub invariant-loop-found : goal.invariant-loop-found

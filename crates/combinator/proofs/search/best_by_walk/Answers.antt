@@ -1,7 +1,7 @@
 use Rattle.std.proofs.Common.{◌≡◌, [], ◌∷◌, Contains, sym, subst}
 use Rattle.path_verifier.specs.Piece.{PieceValue, begins_in, ends_in}
 use Rattle.combinator.specs.Candidate.{IsOf}
-use Rattle.combinator.specs.BestByWalk.{AreMatched}
+use Rattle.combinator.specs.inner.BestByWalk.{AreMatched}
 use Rattle.combinator.proofs.Collected.{by_items, at_end}
 use Rattle.combinator.proofs.Tried.{settled_on}
 use Rattle.combinator.proofs.search.best_by_walk.Goals as goal

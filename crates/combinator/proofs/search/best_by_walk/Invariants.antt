@@ -1,7 +1,7 @@
 use Rattle.std.proofs.Common.{◌≡◌, [], ◌∷◌, take, All, Contains}
 use Rattle.path_verifier.specs.Piece.{PieceValue, begins_in, ends_in}
 use Rattle.combinator.specs.Candidate.{IsCandidate}
-use Rattle.combinator.specs.BestByWalk.{AreMatched}
+use Rattle.combinator.specs.inner.BestByWalk.{AreMatched}
 use Rattle.combinator.proofs.search.best_by_walk.Given as goal
 
 abbrev pub invariant-loop-first : goal.invariant-loop-first

@@ -1,7 +1,7 @@
 use Rattle.std.proofs.Common.{◌≡◌, [], ◌∷◌, Contains, sym, subst}
 use Rattle.path_verifier.specs.Piece.{PieceValue, begins_in, ends_in}
 use Rattle.combinator.specs.Candidate.{IsOf}
-use Rattle.combinator.specs.BestByWalk.{AreMatched}
+use Rattle.combinator.specs.inner.BestByWalk.{AreMatched}
 use Rattle.combinator.proofs.Keeping.{goes_further}
 use Rattle.combinator.proofs.Collected.{by_items, at_end}
 use Rattle.combinator.proofs.Tried.{own_one, settled_on}

@@ -1,6 +1,6 @@
 use Rattle.std.proofs.Common.{◌≡◌, [], ◌∷◌, take, Contains}
 use Rattle.path_verifier.specs.Piece.{PieceValue, begins_in, ends_in}
-use Rattle.combinator.specs.BestByWalk.{IsNoWorseThan, AreMatched}
+use Rattle.combinator.specs.inner.BestByWalk.{IsNoWorseThan, AreMatched}
 use Rattle.combinator.proofs.search.from_second.Given as goal
 
 abbrev pub invariant-loop-third : goal.invariant-loop-third

@@ -1,5 +1,5 @@
 use Rattle.std.proofs.Common.{subst}
-use Rattle.combinator.specs.BestByWalk.{AreMatched}
+use Rattle.combinator.specs.inner.BestByWalk.{AreMatched}
 use Rattle.combinator.proofs.Tried.{own_three}
 use Rattle.combinator.proofs.search.try_third.Goals as goal
 

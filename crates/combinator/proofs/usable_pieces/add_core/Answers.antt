@@ -5,7 +5,7 @@ use Rattle.path_server.specs.Lookup.{Selection}
 use Rattle.path_segment.specs.Chain.{Chain}
 use Rattle.path_verifier.specs.Piece.{kind_in}
 use Rattle.combinator.specs.Candidate.{segments_of}
-use Rattle.combinator.specs.UsablePieces.{piece_of}
+use Rattle.combinator.specs.inner.UsablePieces.{piece_of}
 use Rattle.combinator.proofs.usable_pieces.add_core.Goals as goal
 
 as_core : (set : Selection) (segment : Chain) (along : Bool) → segment.kind ≡ Core → Contains set.cores segment → Contains (segments_of set (kind_in segment.kind along)) segment

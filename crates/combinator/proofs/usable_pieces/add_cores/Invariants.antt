@@ -2,7 +2,7 @@ use Rattle.std.proofs.Common.{take, All, Contains}
 use Rattle.path_server.specs.Lookup.{Selection}
 use Rattle.path_verifier.specs.Piece.{PieceValue}
 use Rattle.combinator.specs.Candidate.{IsOf}
-use Rattle.combinator.specs.UsablePieces.{IsWhole, AreIn}
+use Rattle.combinator.specs.inner.UsablePieces.{IsWhole, AreIn}
 use Rattle.combinator.proofs.usable_pieces.add_cores.Given as goal
 
 abbrev pub invariant-loop-segment : goal.invariant-loop-segment

@@ -3,7 +3,7 @@ use Rattle.path_segment.specs.declared.kind.SegKind.TheVariants.{Intra}
 use Rattle.path_server.specs.Lookup.{Selection}
 use Rattle.path_verifier.specs.Piece.{PieceValue, kind_in}
 use Rattle.combinator.specs.Candidate.{IsOf, segments_of}
-use Rattle.combinator.specs.UsablePieces.{IsCut, AreIn}
+use Rattle.combinator.specs.inner.UsablePieces.{IsCut, AreIn}
 use Rattle.combinator.proofs.usable_pieces.add_cuts.Given as goal
 
 abbrev pub invariant-loop-segment : goal.invariant-loop-segment

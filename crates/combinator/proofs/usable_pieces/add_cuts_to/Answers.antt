@@ -1,7 +1,7 @@
 use Rattle.std.proofs.Common.{◌≡◌, ℕ, Contains, sym, subst}
 use Rattle.path_verifier.specs.Piece.{PieceValue}
 use Rattle.combinator.specs.Candidate.{IsOf}
-use Rattle.combinator.specs.UsablePieces.{piece_of, outer_of}
+use Rattle.combinator.specs.inner.UsablePieces.{piece_of, outer_of}
 use borrow.Author.Count.{below_more}
 use Rattle.combinator.proofs.usable_pieces.add_cuts_to.Goals as goal
 

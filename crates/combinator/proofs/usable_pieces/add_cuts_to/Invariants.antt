@@ -2,7 +2,7 @@ use Rattle.std.proofs.Common.{◌≡◌, ℕ, ◌<◌, All, Contains}
 use Rattle.path_server.specs.Lookup.{Selection}
 use Rattle.path_verifier.specs.Piece.{kind_in}
 use Rattle.combinator.specs.Candidate.{IsOf, segments_of}
-use Rattle.combinator.specs.UsablePieces.{piece_of, outer_of, AreIn}
+use Rattle.combinator.specs.inner.UsablePieces.{piece_of, outer_of, AreIn}
 use Rattle.combinator.proofs.usable_pieces.add_cuts_to.Given as goal
 
 abbrev pub invariant-loop-from : goal.invariant-loop-from

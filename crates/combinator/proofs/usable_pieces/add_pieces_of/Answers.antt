@@ -1,5 +1,5 @@
 use Rattle.std.proofs.Common.{◌≡◌, ℕ, ◌<◌, Contains}
-use Rattle.combinator.specs.UsablePieces.{piece_of, outer_of}
+use Rattle.combinator.specs.inner.UsablePieces.{piece_of, outer_of}
 use borrow.Author.Count.{below_more}
 use Rattle.combinator.proofs.usable_pieces.add_pieces_of.Goals as goal
 

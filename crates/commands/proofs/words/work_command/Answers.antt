@@ -5,7 +5,8 @@ use Rattle.std.proofs.lemmas.Result.{IfOk-weaker}
 use Rattle.clap.specs.Words.{AddsArg, rule_of, with_rule}
 use Rattle.clap.specs.declared.builder.arg.Arg.{Arg}
 use Rattle.clap.specs.declared.builder.command.Command.{Command}
-use Rattle.commands.specs.Words.{IsLocal, number_rule, range_rule}
+use Rattle.commands.specs.Words.{number_rule, range_rule}
+use Rattle.commands.specs.inner.Words.{IsLocal}
 use Rattle.commands.proofs.words.work_command.Goals as goal
 
 pub returns-clause-app : goal.returns-clause-app

@@ -1,5 +1,5 @@
 use Rattle.std.proofs.lemmas.Result.{err_from_is_err_and}
-use Rattle.event_lines.specs.Session.{session_value}
+use Rattle.event_lines.specs.inner.Session.{session_value}
 use Rattle.event_lines.proofs.Writing.{exchange_failed}
 use Rattle.event_lines.proofs.run.exchange.Goals as goal
 

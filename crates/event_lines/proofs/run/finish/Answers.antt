@@ -1,6 +1,6 @@
 use Rattle.std.proofs.Common.{ap, subst, sym}
 use Rattle.std.proofs.lemmas.Result.{err_from_is_err_and}
-use Rattle.event_lines.specs.Session.{Finishes, SessionValue, session_value}
+use Rattle.event_lines.specs.inner.Session.{Finishes, SessionValue, session_value}
 use Rattle.event_lines.proofs.Writing.{finish_failed, finished, nothing_told}
 use Rattle.event_lines.proofs.run.finish.Goals as goal
 

@@ -3,7 +3,7 @@ use Rattle.std.proofs.lemmas.Grind.{common_steps}
 use Rattle.std.proofs.lemmas.List.{nil_from_length}
 use Rattle.std.proofs.lemmas.Result.{err_from_is_err_and}
 use Rattle.std.specs.Io.KnownBytes.{IsAtEnd}
-use Rattle.event_lines.specs.Session.{session_value}
+use Rattle.event_lines.specs.inner.Session.{session_value}
 use Rattle.event_lines.proofs.Running.{ends_reached, ends_short, ends_unfinished, ends_unread, ends_too_long, passed_on}
 use Rattle.event_lines.proofs.run.listen.Goals as goal
 

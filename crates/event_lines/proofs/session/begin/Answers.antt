@@ -1,6 +1,6 @@
 -- The network of the topology that was read.
 use Rattle.std.proofs.Common.{rules, refl, sym, ap, subst}
-use Rattle.event_lines.specs.Replies.{Opens}
+use Rattle.event_lines.specs.inner.Replies.{Opens}
 use Rattle.event_lines.specs.Answers.{Open, begun_text}
 use Rattle.event_lines.proofs.session.begin.Goals as goal
 

@@ -1,7 +1,7 @@
 use Rattle.std.proofs.Common.{arith, sym, ◌∙◌, ◌<◌, ◌^◌}
 use Rattle.std.proofs.lemmas.Bool.{ltb-true}
 use Rattle.std.proofs.lemmas.List.Elements.{All-from_get_or}
-use Rattle.path_server.specs.Index.{ends_number}
+use Rattle.path_server.specs.inner.Index.{ends_number}
 use Rattle.path_server.proofs.Ranks.{all_above, ranks_rise}
 use Rattle.path_server.proofs.index.end_near.Goals as goal
 

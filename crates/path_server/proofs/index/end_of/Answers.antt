@@ -2,7 +2,8 @@ use Rattle.std.proofs.Common.{rules, arith, ltb, not, ◌<◌, ◌^◌}
 use Rattle.std.proofs.lemmas.Bool.{ltb-true, ltb-false, not-true, not-false}
 use Rattle.std.proofs.lemmas.List.Elements.{All-from_get_or}
 use Rattle.std.proofs.lemmas.List.Sorted.{IsPartitionPoint-from_clause}
-use Rattle.path_server.specs.Index.{ends_number, rank_at}
+use Rattle.path_server.specs.Index.{rank_at}
+use Rattle.path_server.specs.inner.Index.{ends_number}
 use Rattle.path_server.proofs.Ranks.{ranks_rise, no_higher_first}
 use Rattle.path_server.proofs.index.end_of.Goals as goal
 

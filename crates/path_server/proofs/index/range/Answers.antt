@@ -4,7 +4,8 @@ use Rattle.std.specs.List.Sorted.{IsNonDecreasingBy}
 use Rattle.std.proofs.lemmas.Bool.{and_from, and_left, and_right, le-leb, lt-leb}
 use Rattle.std.proofs.lemmas.List.{length-drop}
 use Rattle.std.proofs.lemmas.List.Sorted.{IsNonDecreasingBy-drop}
-use Rattle.path_server.specs.Index.{ends_number, rank_at, order_at, lies_between}
+use Rattle.path_server.specs.Index.{rank_at, order_at}
+use Rattle.path_server.specs.inner.Index.{ends_number, lies_between}
 use Rattle.path_server.proofs.Ranks.{part_is_kept, part_behind}
 use Rattle.path_server.proofs.index.range.Goals as goal
 

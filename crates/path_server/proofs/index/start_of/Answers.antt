@@ -2,7 +2,8 @@ use Rattle.std.proofs.Common.{rules, arith, ltb, ◌<◌, ◌^◌}
 use Rattle.std.proofs.lemmas.Bool.{ltb-true, ltb-false}
 use Rattle.std.proofs.lemmas.List.Elements.{All-from_get_or}
 use Rattle.std.proofs.lemmas.List.Sorted.{IsPartitionPoint-from_clause, IsPartitionedBy-ltb}
-use Rattle.path_server.specs.Index.{ends_number, rank_at}
+use Rattle.path_server.specs.Index.{rank_at}
+use Rattle.path_server.specs.inner.Index.{ends_number}
 use Rattle.path_server.proofs.Ranks.{ranks_rise}
 use Rattle.path_server.proofs.index.start_of.Goals as goal
 

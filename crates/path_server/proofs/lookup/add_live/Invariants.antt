@@ -1,7 +1,7 @@
 -- What was added so far is what the front has.
 use Rattle.std.proofs.Common.{◌≡◌, ◌++◌, take, filter}
 use Rattle.path_segment.specs.Tests.{is_live}
-use Rattle.path_server.specs.Index.{passes_at}
+use Rattle.path_server.specs.inner.Index.{passes_at}
 use Rattle.path_server.proofs.lookup.add_live.Given as goal
 
 abbrev pub invariant-loop-place : goal.invariant-loop-place

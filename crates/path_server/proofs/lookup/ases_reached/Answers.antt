@@ -3,7 +3,7 @@ use Rattle.std.proofs.lemmas.List.{take_all}
 use Rattle.std.proofs.lemmas.List.Filters.{dedup_is}
 use Rattle.std.proofs.lemmas.List.Sorted.{list_any-IsPermutation}
 use Rattle.path_segment.specs.Chain.{first_as}
-use Rattle.path_server.specs.Index.{is_in}
+use Rattle.path_server.specs.inner.Index.{is_in}
 use Rattle.path_server.proofs.Joining.{reached_is}
 use Rattle.path_server.proofs.Orders.{any-dedup}
 use Rattle.path_server.proofs.lookup.ases_reached.Goals as goal

@@ -2,7 +2,7 @@ use Rattle.std.proofs.Common.{◌∙◌, ap, sym, get_or, append-nil, Some, [], 
 use Rattle.std.proofs.lemmas.Option.{slice_get-get_or, slice_get_past}
 use Rattle.std.proofs.lemmas.Bool.{ltb-false, ltb-true}
 use Rattle.std.specs.Prelude.{take, option_to_list, ◌++◌}
-use Rattle.path_server.specs.Index.{segments_at}
+use Rattle.path_server.specs.inner.Index.{segments_at}
 use Rattle.path_server.proofs.Places.{segments_at_more}
 use Rattle.path_server.proofs.lookup.clone_segments_at.Goals as goal
 use Rattle.path_server.proofs.lookup.clone_segments_at.Goals.{in-Some+in_ok-try_clone+in_ok-push, in_default}

@@ -1,6 +1,6 @@
 -- The copies so far are those of the front.
 use Rattle.std.proofs.Common.{◌≡◌, take}
-use Rattle.path_server.specs.Index.{segments_at}
+use Rattle.path_server.specs.inner.Index.{segments_at}
 use Rattle.path_server.proofs.lookup.clone_segments_at.Given as goal
 
 abbrev pub invariant-loop-place : goal.invariant-loop-place

@@ -4,7 +4,7 @@ use Rattle.std.specs.List.Sorted.{IsStrictlyIncreasing}
 use Rattle.std.proofs.lemmas.List.{take_all}
 use Rattle.std.proofs.lemmas.List.Elements.{All-from_get_or}
 use Rattle.std.proofs.lemmas.Result.{IfOk-weaker}
-use Rattle.path_server.specs.Index.{is_in, either_way}
+use Rattle.path_server.specs.inner.Index.{is_in, either_way}
 use Rattle.path_server.proofs.Joining.{joining_is_kept}
 use Rattle.path_server.proofs.lookup.core_segments_between.Goals as goal
 

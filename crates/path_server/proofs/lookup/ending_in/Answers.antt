@@ -3,7 +3,8 @@ use Rattle.std.specs.List.Sorted.{IsStrictlyIncreasing}
 use Rattle.std.proofs.lemmas.Result.{IfOk-weaker}
 use Rattle.path_segment.specs.declared.kind.SegKind.TheVariants.{Intra}
 use Rattle.path_segment.specs.Tests.{is_live}
-use Rattle.path_server.specs.Index.{ends_number, rank_between, lies_between, passes_at, is_in}
+use Rattle.path_server.specs.Index.{rank_between}
+use Rattle.path_server.specs.inner.Index.{ends_number, lies_between, passes_at, is_in}
 use Rattle.path_server.proofs.Places.{ending_is_kept}
 use Rattle.path_server.proofs.lookup.ending_in.Goals as goal
 

@@ -3,7 +3,7 @@ use Rattle.std.specs.List.Sorted.{IsStrictlyIncreasing}
 use Rattle.std.proofs.lemmas.List.Filters.{dedup_is}
 use Rattle.std.proofs.lemmas.List.Sorted.{list_any-IsPermutation}
 use Rattle.std.proofs.lemmas.Map.Keys.{IsStrictlyIncreasing-dedup}
-use Rattle.path_server.specs.Index.{is_in}
+use Rattle.path_server.specs.inner.Index.{is_in}
 use Rattle.path_server.proofs.Orders.{any-dedup}
 use Rattle.path_server.proofs.lookup.put_in_order.Goals as goal
 

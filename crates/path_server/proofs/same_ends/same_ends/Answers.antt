@@ -2,7 +2,7 @@ use Rattle.std.proofs.Common.{length, filter, ap, ◌∙◌}
 use Rattle.std.specs.List.{list_any}
 use Rattle.path_segment.specs.Tests.{is_same}
 use Rattle.path_server.specs.Segment.{is_alike}
-use Rattle.path_server.specs.Index.{lies_between, passes_at}
+use Rattle.path_server.specs.inner.Index.{lies_between, passes_at}
 use Rattle.path_server.proofs.Lying.{lies_alike, lies_same}
 use Rattle.path_server.proofs.Orders.{any_filter}
 use Rattle.path_server.proofs.Places.{count_alike, found_alike}

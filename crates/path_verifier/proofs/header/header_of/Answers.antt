@@ -1,6 +1,6 @@
 use Rattle.std.proofs.Common.{subst}
 use Rattle.path_verifier.specs.PieceSlots.{pieces_in}
-use Rattle.path_verifier.specs.Header.{HaveSixBits}
+use Rattle.path_verifier.specs.inner.Header.{HaveSixBits}
 use Rattle.path_verifier.proofs.Headers.{is_header, length-pieces_in}
 use Rattle.path_verifier.proofs.header.header_of.Goals as goal
 

@@ -1,7 +1,7 @@
 use Rattle.std.proofs.Common.{◌≡◌, length}
 use Rattle.policy_expr.specs.Tokens.{tokens}
 use Rattle.policy_expr.specs.Reading.{tree_at}
-use Rattle.policy_expr.specs.Views.{gives}
+use Rattle.policy_expr.specs.inner.Views.{gives}
 use Rattle.policy_expr.proofs.reader.read_tree.Given as goal
 
 -- the rest of the text gives what the whole text gives

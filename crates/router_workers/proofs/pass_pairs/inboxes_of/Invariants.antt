@@ -1,5 +1,5 @@
 use Rattle.std.proofs.Common.{◌≡◌, length}
-use Rattle.router_workers.specs.PassPairs.{ArePassPairs}
+use Rattle.router_workers.specs.inner.PassPairs.{ArePassPairs}
 use Rattle.router_workers.proofs.pass_pairs.inboxes_of.Given as goal
 
 abbrev pub invariant-loop-at : goal.invariant-loop-at

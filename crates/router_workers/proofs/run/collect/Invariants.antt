@@ -1,5 +1,5 @@
 use Rattle.std.proofs.Common.{◌≡◌, ◌≤◌, length, vec_capacity}
-use Rattle.router_workers.specs.Run.{AreEnds}
+use Rattle.router_workers.specs.inner.Run.{AreEnds}
 use Rattle.router_workers.proofs.run.collect.Given as goal
 
 abbrev pub invariant-loop-number : goal.invariant-loop-number

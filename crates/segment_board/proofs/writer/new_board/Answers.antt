@@ -1,6 +1,7 @@
 use Rattle.std.proofs.Common.{◌≡◌, [], ◌∷◌, fold, ap, ◌∙◌}
 use Rattle.segment_board.specs.History.{KnownHistory, opening}
-use Rattle.segment_board.specs.BoardState.{BoardValue, taken}
+use Rattle.segment_board.specs.BoardState.{BoardValue}
+use Rattle.segment_board.specs.inner.BoardState.{taken}
 use Rattle.segment_board.specs.WriterState.{shown_of, queue_of}
 use Rattle.segment_board.proofs.InOrder.{at_ok, opened, tied_first}
 use Rattle.segment_board.proofs.Queues.{ready_alone}

@@ -1,7 +1,7 @@
 -- Of the bytes a front was heard, line by line.
 use Rattle.std.proofs.Common.{refl}
 use Rattle.std.proofs.lemmas.Result.{err_from_is_err_and}
-use Rattle.event_lines.specs.Session.{stage_of, session_value}
+use Rattle.event_lines.specs.inner.Session.{stage_of, session_value}
 use Rattle.event_lines.proofs.Heard.{heard_none, heard_line, heard_failed, heard_short}
 use Rattle.event_lines.proofs.session.Session.answer_bytes.Goals as goal
 

@@ -1,6 +1,6 @@
 -- Of the bytes a front was heard.
 use Rattle.std.proofs.Common.{length}
-use Rattle.event_lines.specs.Session.{session_value}
+use Rattle.event_lines.specs.inner.Session.{session_value}
 use Rattle.event_lines.proofs.Heard.{Heard}
 use Rattle.event_lines.proofs.session.Session.answer_bytes.Given as goal
 

@@ -1,6 +1,6 @@
 -- The indexes without links, to which the links were added, are those of the list.
 use Rattle.std.proofs.Common.{◌∙◌, ap, option_map}
-use Rattle.scion_topology.specs.Index.{with_links}
+use Rattle.scion_topology.specs.inner.Index.{with_links}
 use Rattle.scion_topology.proofs.Filling.{filled}
 use Rattle.scion_topology.proofs.as_lookup.AsLookup.into_indexes.Goals as goal
 

@@ -3,7 +3,7 @@ use Rattle.std.proofs.Common.{sym, arith}
 use Rattle.std.specs.Prelude.{slice_get}
 use Rattle.std.specs.Ordering.{nat_cmp}
 use Rattle.std.specs.BTreeMap.{get}
-use Rattle.scion_topology.specs.Index.{marked}
+use Rattle.scion_topology.specs.inner.Index.{marked}
 use Rattle.scion_topology.proofs.Indexes.{slice_get-bound}
 use Rattle.scion_topology.proofs.Placing.{stands_there, own_changed, value_changed}
 use Rattle.scion_topology.proofs.lookup.Indexes.mark.Goals as goal

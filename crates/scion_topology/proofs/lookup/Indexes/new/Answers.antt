@@ -1,6 +1,7 @@
 -- The AS that comes next has its index, where none before it has its address.
 use Rattle.std.proofs.Common.{◌∙◌, [], eqb, ap, sym}
-use Rattle.scion_topology.specs.Index.{index_at, with_first_index}
+use Rattle.scion_topology.specs.Index.{index_at}
+use Rattle.scion_topology.specs.inner.Index.{with_first_index}
 use Rattle.scion_topology.proofs.Placing.{first_index}
 use Rattle.scion_topology.proofs.lookup.Indexes.new.Goals as goal
 

@@ -2,7 +2,8 @@
 use Rattle.std.proofs.Common.{◌≡◌, ◌∙◌, ℕ, Bool, [], cond, eqb, length, Some, None, ap, ap₂, sym, arith}
 use Rattle.std.specs.Ordering.{nat_cmp}
 use Rattle.std.specs.BTreeMap.{get}
-use Rattle.scion_topology.specs.Index.{IndexValue, index_at, with_first_index}
+use Rattle.scion_topology.specs.Index.{IndexValue, index_at}
+use Rattle.scion_topology.specs.inner.Index.{with_first_index}
 use Rattle.scion_topology.proofs.Marking.{is_at-nat_cmp}
 use Rattle.scion_topology.proofs.Placing.{HasMore, had, kept, none_from, own_grown, value_grown}
 use Rattle.scion_topology.proofs.lookup.Indexes.with_as.Goals as goal

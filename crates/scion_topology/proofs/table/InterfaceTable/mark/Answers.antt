@@ -1,7 +1,7 @@
 -- The interface at the place that was found is marked, and all keep their numbers.
 use Rattle.std.proofs.Common.{◌∙◌, List, sym, ap, arith}
 use Rattle.scion_topology.specs.declared.entry.IfEntry.{IfEntry}
-use Rattle.scion_topology.specs.Table.{place_in_table}
+use Rattle.scion_topology.specs.inner.Table.{place_in_table}
 use Rattle.scion_topology.proofs.Tables.{placed_within, place-marked, marked-none, marked_at_place}
 use Rattle.scion_topology.proofs.table.InterfaceTable.mark.Goals as goal
 

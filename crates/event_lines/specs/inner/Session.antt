@@ -7,7 +7,7 @@ use Rattle.event_lines.specs.declared.session.Session.{Session}
 use Rattle.event_lines.specs.declared.fault.RunFault.{RunFault}
 use Rattle.event_lines.specs.declared.fault.RunFault.TheVariants as faults
 use Rattle.event_lines.specs.declared.accepted.AcceptedLines.{AcceptedLines}
-use Rattle.event_lines.specs.Replies.{RepliesTo, RepliesToAll}
+use Rattle.event_lines.specs.inner.Replies.{RepliesTo, RepliesToAll}
 use Rattle.event_lines.specs.Answers.{Stage, Unbegun, Open, Closed}
 use Rattle.event_lines.specs.Run.{AreLines, ended_lines, has_line_end, line_end}
 

@@ -1,0 +1,7 @@
+-- The header of a path: draft-dekater-scion-dataplane, the SCION path type.
+use Rattle.std.specs.Prelude.{◌<◌, length}
+use Rattle.path_header.specs.declared.lens.SegLens.{SegLens}
+
+-- each length fits into six bits
+abbrev pub HaveSixBits : SegLens → Type 0
+HaveSixBits lens = (lens.first < 64) × (lens.second < 64) × (lens.third < 64)

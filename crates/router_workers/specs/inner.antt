@@ -1,0 +1,3 @@
+-- Words of private functions' contracts alone: no clause of a public call cites one.
+pub mod PassPairs
+pub mod Run

@@ -1,0 +1,4 @@
+-- Words of private functions' contracts alone: no clause of a public call cites one.
+pub mod BoardState
+pub mod History
+pub mod Rule
