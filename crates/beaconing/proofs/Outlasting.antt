@@ -1,4 +1,5 @@
 -- A link that goes up or down and a new key leave what the network has made as it was.
+use Rattle.std.specs.List.{cons_option}
 use Rattle.std.proofs.Common.{◌≡◌, ℕ, zero, suc, ◌<◌, Bool, true, false, cond, eqb, List, [], ◌∷◌, length, get_or, Option, Some, None, Ok, refl, sym, ap, ◌∙◌, arith, inl, inr, ◌⊎◌, Any, option_map}
 use Rattle.std.specs.Option.{option_map_or}
 use Rattle.std.proofs.lemmas.Bool.{cases_Bool}
@@ -9,7 +10,7 @@ use Rattle.scion_topology.specs.declared.fault.TopologyFault.TheVariants as faul
 use Rattle.scion_topology.specs.declared.network.AsEntry.{AsEntry}
 use Rattle.scion_topology.specs.declared.network.Link.{Link}
 use Rattle.scion_topology.specs.Keys.{key_from, renewed}
-use Rattle.scion_topology.specs.Network.{Network, as_named, has_end, interface_of, with_first, table_of, interface_in}
+use Rattle.scion_topology.specs.Network.{Network, as_named, has_end, interface_of, table_of, interface_in}
 use Rattle.scion_topology.specs.Causes.{is_core}
 use Rattle.scion_topology.specs.Topology.{known, known_link, interface_at, with_up, with_key, set_up, rotated}
 use Rattle.refusal.proofs.Steps.{bind_ok, ok_is, ok_or_ok}
@@ -97,7 +98,7 @@ leads_still Intra entry next up link leads = leads
 abbrev kind_in : List IfEntry → ℕ → Option LinkKind
 kind_in table number = option_map (λ (e : IfEntry). e.kind) (interface_in table number)
 
-kind_first : (o : Option IfEntry) (number : ℕ) (t s : List IfEntry) → kind_in t number ≡ kind_in s number → kind_in (with_first o t) number ≡ kind_in (with_first o s) number
+kind_first : (o : Option IfEntry) (number : ℕ) (t s : List IfEntry) → kind_in t number ≡ kind_in s number → kind_in (cons_option o t) number ≡ kind_in (cons_option o s) number
 kind_first None number t s same = same
 kind_first (Some e) number t s same = elim (cases_Bool (eqb e.number number)) [
   | inl here ↦ rw here refl
@@ -110,10 +111,10 @@ kind_changed up number e t = elim (cases_Bool (eqb e.number number)) [
   | inr other ↦ rw other refl
 ]
 
-kind_restated : (up : Bool) (x number : ℕ) (link : Link) (t : List IfEntry) → kind_in (with_first (interface_of x (record link { up = up })) t) number ≡ kind_in (with_first (interface_of x link) t) number
+kind_restated : (up : Bool) (x number : ℕ) (link : Link) (t : List IfEntry) → kind_in (cons_option (interface_of x (record link { up = up })) t) number ≡ kind_in (cons_option (interface_of x link) t) number
 kind_restated up x number link t = go (eqb link.a.ia x) (eqb link.b.ia x) _ _
   where
-    go : (p q : Bool) (a b : IfEntry) → kind_in (with_first (cond p (Some (record a { up = up })) (cond q (Some (record b { up = up })) None)) t) number ≡ kind_in (with_first (cond p (Some a) (cond q (Some b) None)) t) number
+    go : (p q : Bool) (a b : IfEntry) → kind_in (cons_option (cond p (Some (record a { up = up })) (cond q (Some (record b { up = up })) None)) t) number ≡ kind_in (cons_option (cond p (Some a) (cond q (Some b) None)) t) number
     go true q a b = kind_changed up number a t
     go false true a b = kind_changed up number b t
     go false false a b = refl

@@ -1,6 +1,6 @@
 -- Which link a way out leads over, and that no way out of a core AS leads to a parent.
 use Rattle.std.proofs.Common.{◌≡◌, ◌≢◌, ℕ, zero, suc, ◌<◌, Bool, true, false, cond, eqb, List, [], ◌∷◌, length, Option, Some, None, Ok, refl, sym, ap, ◌∙◌, arith, inl, inr, ◌||◌, IfSome, Any}
-use Rattle.std.specs.List.{list_any}
+use Rattle.std.specs.List.{list_any, cons_option}
 use Rattle.std.proofs.lemmas.Bool.{cases_Bool, or_parts, and_parts, eqb-true, eq-eqb, true≢false}
 use Rattle.std.proofs.lemmas.Option.{same_Some}
 use Rattle.scion_topology.specs.declared.entry.IfEntry.{IfEntry}
@@ -11,7 +11,7 @@ use Rattle.scion_topology.specs.declared.network.AsEntry.{AsEntry}
 use Rattle.scion_topology.specs.declared.network.Link.{Link}
 use Rattle.scion_topology.specs.declared.network.LinkClass.{LinkClass}
 use Rattle.scion_topology.specs.declared.network.LinkClass.TheVariants as classes
-use Rattle.scion_topology.specs.Network.{Network, as_named, is_end, has_end, link_named, kind_at_a, kind_at_b, interface_of, with_first, table_of, interface_in}
+use Rattle.scion_topology.specs.Network.{Network, as_named, is_end, has_end, link_named, kind_at_a, kind_at_b, interface_of, table_of, interface_in}
 use Rattle.scion_topology.specs.Network as net
 use Rattle.scion_topology.specs.Causes.{is_core, is_ill_classed, is_ill_joined}
 use Rattle.scion_topology.specs.Topology.{IsNetwork, known, known_link, interface_at, far_end, far_end_in}
@@ -135,7 +135,7 @@ no_parent_of true y a b at_a at_b = at_a
 no_parent_of false true a b at_a at_b = at_b refl
 no_parent_of false false a b at_a at_b = tt
 
-no_parent_first : (o : Option IfEntry) (table : List IfEntry) (number : ℕ) (out : IfEntry) → IfSome o NoParent → (interface_in table number ≡ Some out → NoParent out) → interface_in (with_first o table) number ≡ Some out → NoParent out
+no_parent_first : (o : Option IfEntry) (table : List IfEntry) (number : ℕ) (out : IfEntry) → IfSome o NoParent → (interface_in table number ≡ Some out → NoParent out) → interface_in (cons_option o table) number ≡ Some out → NoParent out
 no_parent_first None table number out first later shown = later shown
 no_parent_first (Some e) table number out first later shown = elim (cases_Bool (eqb e.number number)) [
   | inl here ↦ (let now : cond true (Some e) (interface_in table number) ≡ Some out = rw here at shown in let same : e ≡ out = same_Some e out now in rw (← same) first)

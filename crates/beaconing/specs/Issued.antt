@@ -23,36 +23,37 @@ use Rattle.beaconing.specs.Calls.{last_of, come_to, extended}
 
 -- the entry is of an AS of the network, has the AS's expiry, and is authenticated under this key
 -- and accumulator
-pub record IsEntryOf (n : Network) (timestamp beta : ℕ) (key : List ℕ) (entry : Entry) : Type 0 where
+pub record IsEntryOf (n : Network) (timestamp beta : ℕ) (key : List ℕ) (entry : Entry) : Type 0
+    where
   pub one : AsEntry
   pub named : as_named n.ases entry.ia ≡ Some one
   pub lifetime : entry.exp_time ≡ one.exp_time
-  pub mac : entry.mac ≡ authenticator key beta timestamp entry.exp_time entry.cons_ingress entry.cons_egress
+  pub mac : entry.mac
+      ≡ authenticator key beta timestamp entry.exp_time entry.cons_ingress entry.cons_egress
 
 -- `near` is the entry's way out, and `far` is the way in of the next entry
 abbrev pub AreWays : Entry → Entry → End → End → Type 0
-AreWays entry next near far =
-    (near.ia ≡ entry.ia) × (near.number ≡ entry.cons_egress)
+AreWays entry next near far = (near.ia ≡ entry.ia) × (near.number ≡ entry.cons_egress)
     × (far.ia ≡ next.ia) × (far.number ≡ next.cons_ingress)
 
 -- the link leads from an entry to the next: a core link in either direction, a child link from
 -- parent to child
 abbrev pub LeadsOn : SegKind → Entry → Entry → Link → Type 0
-LeadsOn Core entry next link =
-    (link.class ≡ classes.Core) × (AreWays entry next link.a link.b ⊎ AreWays entry next link.b link.a)
+LeadsOn Core entry next link = (link.class ≡ classes.Core)
+    × (AreWays entry next link.a link.b ⊎ AreWays entry next link.b link.a)
 LeadsOn Intra entry next link = (link.class ≡ classes.Child) × AreWays entry next link.a link.b
 
 -- the network makes these entries, each under the key at its place: the first is of a core AS, and
 -- a link leads from each entry to the next
 pub record IsMade (n : Network) (keys : List (List ℕ)) (chain : Chain) : Type 0 where
   pub keyed : length keys ≡ length chain.entries
-  pub core : (first : Entry) → slice_get chain.entries 0 ≡ Some first → is_core n.ases first.ia ≡ true
+  pub core : (first : Entry) → slice_get chain.entries 0 ≡ Some first
+      → is_core n.ases first.ia ≡ true
   pub entries : (i : ℕ) (key : List ℕ) (entry : Entry)
       → slice_get keys i ≡ Some key → slice_get chain.entries i ≡ Some entry
       → IsEntryOf n chain.timestamp (beta_of chain i) key entry
-  pub joined : (i : ℕ) (entry next : Entry)
-      → slice_get chain.entries i ≡ Some entry → slice_get chain.entries (i + 1) ≡ Some next
-      → Any (LeadsOn chain.kind entry next) n.links
+  pub joined : (i : ℕ) (entry next : Entry) → slice_get chain.entries i ≡ Some entry
+      → slice_get chain.entries (i + 1) ≡ Some next → Any (LeadsOn chain.kind entry next) n.links
 
 -- the entry's way out is an interface over which a beacon of this kind may be sent on
 pub record HasWayOut (n : Network) (kind : SegKind) (entry : Entry) : Type 0 where

@@ -51,8 +51,8 @@ IsOf set piece = Contains (segments_of set (kind_of piece)) piece.segment
 -- second under the policy
 pub record IsCandidate (question : Question) (path : PathValue) : Type 0 where
   pub own : All (IsOf question.set) path.pieces
-  pub accepted : IsAccepted
-      (request_of path.pieces path.header question.src question.dst question.set.moment question.rules)
+  pub accepted : IsAccepted (request_of path.pieces path.header question.src question.dst
+      question.set.moment question.rules)
 
 -- the question has no candidate
 abbrev pub HasNone : Question → Type 0

@@ -17,8 +17,8 @@ header_and_walk path = (path.header, walk_of path.pieces)
 
 -- the order of hops: by AS, then by way in, then by way out
 abbrev pub hop_cmp : WalkHop → WalkHop → Ordering
-hop_cmp one other =
-    ordering_then (nat_cmp one.ia other.ia) (ordering_then (nat_cmp one.ingress other.ingress) (nat_cmp one.egress other.egress))
+hop_cmp one other = ordering_then (nat_cmp one.ia other.ia)
+    (ordering_then (nat_cmp one.ingress other.ingress) (nat_cmp one.egress other.egress))
 
 -- the order of walks, hop by hop
 abbrev pub walk_cmp : List WalkHop → List WalkHop → Ordering
@@ -30,8 +30,8 @@ bytes_cmp one other = slice_cmp nat_cmp (spelling one) (spelling other)
 
 -- the order of headers with walks: by number of hop fields, then by header bytes, then by walk
 unfoldable pub shown_cmp : HeaderValue × List WalkHop → HeaderValue × List WalkHop → Ordering
-shown_cmp one other =
-    ordering_then (nat_cmp (length one.0.hops) (length other.0.hops)) (ordering_then (bytes_cmp one.0 other.0) (walk_cmp one.1 other.1))
+shown_cmp one other = ordering_then (nat_cmp (length one.0.hops) (length other.0.hops))
+    (ordering_then (bytes_cmp one.0 other.0) (walk_cmp one.1 other.1))
 
 -- the order of paths in an answer
 abbrev pub path_cmp : PathValue → PathValue → Ordering
@@ -39,7 +39,8 @@ path_cmp one other = shown_cmp (header_and_walk one) (header_and_walk other)
 
 -- no hop of the pieces expires before this half second
 abbrev pub LastTo : ℕ → List PieceValue → Type 0
-LastTo half pieces = All (λ piece. All (λ entry. half ≤ expiry_of piece.segment.timestamp entry.exp_time) (entries_of piece)) pieces
+LastTo half pieces = All (λ piece. All
+    (λ entry. half ≤ expiry_of piece.segment.timestamp entry.exp_time) (entries_of piece)) pieces
 
 -- the pieces expire no earlier than the others
 abbrev pub LastAsLong : List PieceValue → List PieceValue → Type 0

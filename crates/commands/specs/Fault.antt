@@ -47,7 +47,8 @@ AsksFor (Err words.Memory) asked = Unit {0}
 
 -- the line of the turn in the words was returned; or the words have no turn; or they have one, and
 -- the packet's text is no packet; or memory ran out
-abbrev pub AnswersTurn : {A : Type 0} → Result (String A) CommandFault → Option Turn → List ℕ → Type 0
+abbrev pub AnswersTurn : {A : Type 0} → Result (String A) CommandFault → Option Turn → List ℕ
+    → Type 0
 AnswersTurn (Ok line) asked packet =
     (turn : Turn) × ((asked ≡ Some turn) × (line_of turn packet ≡ Some (string_bytes line)))
 AnswersTurn (Err (Usage text)) asked packet = asked ≡ None

@@ -29,12 +29,9 @@ pub record Change : Type 0 where
 
 -- the change of a stream, from the functions for its bytes and its flag
 abbrev pub change_of : {A : Type 0} → (A → Option (List ℕ)) → (A → Bool) → A → A → Change
-change_of bytes failed before after = record {
-  old = bytes before;
-  new = bytes after;
-  had_failed = failed before;
-  has_failed = failed after;
-}
+change_of bytes failed before after =
+    record { old = bytes before; new = bytes after; had_failed = failed before;
+        has_failed = failed after }
 
 -- the flag is set if and only if it was set before or this is true
 abbrev pub SetsFlag : Change → Bool → Type 0
@@ -63,7 +60,8 @@ whole_line line = line ++ codes "\n"
 -- the line was written; or not all of it, because a write failed; or there is no line; or memory
 -- ran out, and nothing was written
 abbrev pub PrintsLine : {A : Type 0} → Result A CommandFault → Option (List ℕ) → Change → Type 0
-PrintsLine (Ok x) (Some line) sink = Appends sink.old sink.new (whole_line line) × SetsFlag sink false
+PrintsLine (Ok x) (Some line) sink = Appends sink.old sink.new (whole_line line)
+    × SetsFlag sink false
 PrintsLine (Err Write) (Some line) sink =
     AppendsFront sink.old sink.new (whole_line line) × SetsFlag sink true
 PrintsLine (Err PacketText) None sink = IsUntouched sink
@@ -108,7 +106,8 @@ abbrev pub CarriesPackets : Result (Unit {0}) CommandFault → ℕ → ℕ → C
 CarriesPackets answer workers slots source sink = (run : Result (Unit {0}) WorkFault)
     × ((answer ≡ after_work run)
     × (work.Works run workers slots source.old source.new sink.old sink.new
-    × (SetsFlag source (work.is_work_read_fault run) × SetsFlag sink (work.is_work_write_fault run))))
+    × (SetsFlag source (work.is_work_read_fault run)
+        × SetsFlag sink (work.is_work_write_fault run))))
 
 -- ---- the program
 

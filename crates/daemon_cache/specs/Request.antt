@@ -26,7 +26,8 @@ pub record IsAnswerToRequest (request : RequestValue) (set : Selection)
     (answer : AnswerValue) : Type 0 where
   pub options : List WeighedRules
   pub read : options_at request.texts ≡ Ok options
-  pub answers : AnswersWith set request.src request.dst options request.limit answer.used answer.paths
+  pub answers : AnswersWith set request.src request.dst options request.limit answer.used
+      answer.paths
 
 -- the request is lawful, or the first refusal: that of its limit, of its options, of its ends
 unfoldable pub lawful_at : RequestValue → Result (Unit {0}) AskFault

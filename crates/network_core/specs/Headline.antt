@@ -43,8 +43,8 @@ pub record HaveBeginning (start : NetValue) (history : List EventRecord) (sent :
 
 -- the pieces were issued by events from number `begin` on. Since then no AS of their travelled
 -- entries has changed its key twice, and no link between two of these entries was cut.
-pub record Kept (start : NetValue) (history : List EventRecord) (sent : ℕ) (pieces : List PieceValue)
-    : Type 0 where
+pub record Kept (start : NetValue) (history : List EventRecord) (sent : ℕ)
+    (pieces : List PieceValue) : Type 0 where
   pub begin : ℕ
   pub issued : AreIssuedFrom start history begin sent pieces
   pub keys : (i j ia : ℕ) (key other : List ℕ) → begin ≤ i → i < j
@@ -71,8 +71,7 @@ turns_since history sent p k = turns_of p (drop (sent + 1) (take k history))
 -- a reply to the delivered packet goes the way back: from its destination to its source, over its
 -- pieces in reverse order and direction. The verifier accepts this way at each second up to the
 -- expiry of the path; after that the event is refused as Expired.
-pub record IsAnswerable (net : NetValue) (p : ℕ) (sent : Shipment) (payload : List ℕ)
-    : Type 0 where
+pub record IsAnswerable (net : NetValue) (p : ℕ) (sent : Shipment) (payload : List ℕ) : Type 0 where
   pub back : Shipment
   pub replies : shipment_by net (BackOf p) payload ≡ Ok back
   pub source : back.way.source ≡ sent.way.destination
@@ -91,8 +90,7 @@ pub record IsAnswerable (net : NetValue) (p : ℕ) (sent : Shipment) (payload : 
 pub record Headline (start : NetValue) (history : List EventRecord) (number p : ℕ) (sent : Shipment)
     : Type 0 where
   pub accepted : IsAccepted (asked_at (net_at start history number).moment sent.way)
-  pub forwarded : (k : ℕ) → number < k
-      → Undisturbed start (take k history) number p sent.way.pieces
+  pub forwarded : (k : ℕ) → number < k → Undisturbed start (take k history) number p sent.way.pieces
       → IsForwarded (net_at start history k) p
       (turns_for (net_at start history number).network (walk_of sent.way.pieces))
       (turns_since history number p k) sent
@@ -102,9 +100,8 @@ pub record Headline (start : NetValue) (history : List EventRecord) (number p : 
       → (forwarded k after quiet).packet.packet.place ≡ Delivered
   pub answerable : (k : ℕ) → (after : number < k)
       → (quiet : Undisturbed start (take k history) number p sent.way.pieces)
-      → (forwarded k after quiet).packet.packet.place ≡ Delivered
-      → (payload : List ℕ) → length payload ≤ 1024
-      → IsAnswerable (net_at start history k) p sent payload
+      → (forwarded k after quiet).packet.packet.place ≡ Delivered → (payload : List ℕ)
+      → length payload ≤ 1024 → IsAnswerable (net_at start history k) p sent payload
   pub stays : (k j : ℕ) (one : PacketValue) → k ≤ j
       → slice_get (net_at start history k).packets p ≡ Some one
       → one.packet.place ≡ Delivered → slice_get (net_at start history j).packets p ≡ Some one

@@ -23,8 +23,7 @@ pub record EventRecord : Type 0 where
 -- each event is a step from the network that the event before it left
 abbrev pub IsHistory : NetValue → List EventRecord → Type 0
 IsHistory start [] = Unit {0}
-IsHistory start (one ∷ later) =
-    Step start one.event one.reply one.net × IsHistory one.net later
+IsHistory start (one ∷ later) = Step start one.event one.reply one.net × IsHistory one.net later
 
 -- the network after all of these events
 abbrev pub net_after : NetValue → List EventRecord → NetValue
@@ -46,9 +45,8 @@ pub record Occurs (history : List EventRecord) (k : ℕ) (event : EventValue) (r
 -- last of them gives the beacon `last`
 abbrev pub PassOn : List EventRecord → ℕ → List ℕ → ℕ → Type 0
 PassOn history beacon [] last = beacon ≡ last
-PassOn history beacon (k ∷ later) last =
-    (ia egress next : ℕ) × Occurs history k (Extend beacon ia egress) (Begun next)
-    × PassOn history next later last
+PassOn history beacon (k ∷ later) last = (ia egress next : ℕ)
+    × Occurs history k (Extend beacon ia egress) (Begun next) × PassOn history next later last
 
 -- the AS that acts in such an event
 abbrev pub doer : EventValue → ℕ
@@ -66,8 +64,8 @@ key_then start history k = option_map_or
 -- the segment was issued by events of this history: an Originate with number `first`, any number of
 -- Extends, and a Terminate with number `last`. Each acts on the beacon that the event before it
 -- gave. The network makes this segment with the key in use of each AS at its own event.
-pub record IssuedIn (start : NetValue) (history : List EventRecord) (first last : ℕ) (segment : Chain)
-    : Type 0 where
+pub record IssuedIn (start : NetValue) (history : List EventRecord) (first last : ℕ)
+    (segment : Chain) : Type 0 where
   pub ia : ℕ
   pub egress : ℕ
   pub beta0 : ℕ
@@ -105,11 +103,11 @@ pub record IsAskedBefore (start : NetValue) (history : List EventRecord) (k numb
   pub before : at < k
   pub options : List WeighedRules
   pub limit : ℕ
-  pub asked : Occurs history at (Ask one.source one.destination (Ok options) limit) (Answered number)
+  pub asked : Occurs history at (Ask one.source one.destination (Ok options) limit)
+      (Answered number)
   pub is : IsAnswerTo (net_at start history at) one.source one.destination options limit one
-  pub accepted : All
-      (λ path. IsAccepted (asked_at (net_at start history at).moment (way_on one path)))
-      one.answer.paths
+  pub accepted : All (λ path. IsAccepted
+      (asked_at (net_at start history at).moment (way_on one path))) one.answer.paths
   pub issued : All (λ path. All (λ piece. IssuedBefore start history at piece.segment) path.pieces)
       one.answer.paths
 

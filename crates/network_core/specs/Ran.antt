@@ -17,14 +17,13 @@ pub record IsRun (network : Network) (history : List EventRecord) : Type 0 where
   pub issued : AreIssued (new_net network) history
   pub asked : AreAsked (new_net network) history
   pub delivered : (number p : ℕ) (route : RouteValue) (payload : List ℕ)
-      → Occurs history number (Send route payload) (Sent p)
-      → (sent : Shipment)
+      → Occurs history number (Send route payload) (Sent p) → (sent : Shipment)
       × ((shipment_by (net_at (new_net network) history number) route payload ≡ Ok sent)
       × Headline (new_net network) history number p sent)
   pub by_answer : (number p ask path : ℕ) (payload : List ℕ)
-      → Occurs history number (Send (ByAnswer ask path) payload) (Sent p)
-      → (sent : Shipment)
-      × ((shipment_by (net_at (new_net network) history number) (ByAnswer ask path) payload ≡ Ok sent)
+      → Occurs history number (Send (ByAnswer ask path) payload) (Sent p) → (sent : Shipment)
+      × ((shipment_by (net_at (new_net network) history number) (ByAnswer ask path) payload
+          ≡ Ok sent)
       × HaveBeginning (new_net network) history number sent.way.pieces)
 
 -- a run of these events ends with this network

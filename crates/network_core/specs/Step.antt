@@ -91,10 +91,8 @@ terminates net beacon ia = ended net beacon ia >>= with_segment net
 
 -- the network without the stored segments that are not live at the current second
 abbrev pub cleared : NetValue → Made
-cleared net = Ok (
-  Swept (expired_count net.segments net.moment),
-  record net { segments = swept net.segments net.moment },
-)
+cleared net = Ok (Swept (expired_count net.segments net.moment),
+    record net { segments = swept net.segments net.moment })
 
 -- the network with a changed topology, or the refusal of the change
 abbrev pub with_network : NetValue → Result Network TopologyFault → Made
@@ -142,8 +140,7 @@ pub record GivesAnswer (options : List WeighedRules) (src dst limit : ℕ) (old 
 -- the request is answered, or refused without a change
 abbrev pub Asks : Result (List WeighedRules) EventFault → ℕ → ℕ → ℕ → NetValue → Reply → NetValue
     → Type 0
-Asks (Ok options) src dst limit old reply new =
-    GivesAnswer options src dst limit old reply new
+Asks (Ok options) src dst limit old reply new = GivesAnswer options src dst limit old reply new
 Asks (Err fault) src dst limit old reply new = (reply ≡ Refused fault) × (new ≡ old)
 
 -- ---- packets on their way
@@ -172,10 +169,8 @@ with_packet net number one packet =
 abbrev pub turns : NetValue → ℕ → Made
 turns net number = do
   one ← flying_at net number
-  Ok (
-    Turned (turn_of net.network net.moment one.packet).0,
-    with_packet net number one (turn_of net.network net.moment one.packet).1,
-  )
+  Ok (Turned (turn_of net.network net.moment one.packet).0,
+      with_packet net number one (turn_of net.network net.moment one.packet).1)
 
 -- the network after a packet was lost
 abbrev pub loses : NetValue → ℕ → Made
@@ -202,13 +197,9 @@ header_back packet place = Err faults.NotDelivered
 -- the way back of a delivered packet: its source and destination, as its bytes give them,
 -- exchanged; this header; the pieces of its path in reverse order and direction; and no policy
 abbrev pub way_back : PacketValue → HeaderValue → Way
-way_back one header = record {
-  source = destination_of one.packet.bytes;
-  destination = source_of one.packet.bytes;
-  pieces = turned_pieces one.sent.way.pieces;
-  header = header;
-  rules = no_rules;
-}
+way_back one header =
+    record { source = destination_of one.packet.bytes; destination = source_of one.packet.bytes;
+        pieces = turned_pieces one.sent.way.pieces; header = header; rules = no_rules }
 
 -- the way of a route: NoAnswer if there is no such answer or it has no such path; NoPacket,
 -- NotDelivered
@@ -236,10 +227,9 @@ shipment_by net route payload = do
 
 -- the packet of a shipment, at this router of its source
 abbrev pub packet_of : Shipment → ℕ → PacketValue
-packet_of sent router = record {
-  sent = sent;
-  packet = put_at (framed sent.way.source sent.way.destination sent.way.header sent.payload)
-      sent.way.source router;
+packet_of sent router = record { sent = sent;
+    packet = put_at (framed sent.way.source sent.way.destination sent.way.header sent.payload)
+    sent.way.source router;
 }
 
 -- the network with the packet of this shipment, at the router that owns the first way out of its

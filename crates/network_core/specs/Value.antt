@@ -20,8 +20,7 @@ pub record Way : Type 0 where
 
 -- the verifier's request for a way at a second
 abbrev pub asked_at : ℕ → Way → Request
-asked_at moment way =
-    request_of way.pieces way.header way.source way.destination moment way.rules
+asked_at moment way = request_of way.pieces way.header way.source way.destination moment way.rules
 
 -- a shipment: the way and the payload that were accepted for sending
 pub record Shipment : Type 0 where
@@ -42,13 +41,8 @@ pub record KeptAnswer : Type 0 where
 
 -- the way of one path of an answer
 abbrev pub way_on : KeptAnswer → PathValue → Way
-way_on answered path = record {
-  source = answered.source;
-  destination = answered.destination;
-  pieces = path.pieces;
-  header = path.header;
-  rules = answered.rules;
-}
+way_on answered path = record { source = answered.source; destination = answered.destination;
+    pieces = path.pieces; header = path.header; rules = answered.rules }
 
 -- a network: its topology, the current second, the beacons by number, the stored segments in the
 -- order of registration, and the answers and the packets by number
@@ -62,11 +56,5 @@ pub record NetValue : Type 0 where
 
 -- the network of this topology at second 0, with nothing in it
 abbrev pub new_net : Network → NetValue
-new_net network = record {
-  network = network;
-  moment = 0;
-  beacons = [];
-  segments = [];
-  answers = [];
-  packets = [];
-}
+new_net network = record { network = network; moment = 0; beacons = []; segments = []; answers = [];
+    packets = [] }

@@ -16,7 +16,8 @@ use Rattle.network_view.specs.Marks.{is_at, was_passed}
 
 -- the name of a router in the picture: its AS and its number
 unfoldable pub router_name : ℕ → ℕ → List ℕ
-router_name ia router = codes "\"" ++ (canonical ia ++ (codes " " ++ (decimal router ++ codes "\"")))
+router_name ia router = codes "\""
+    ++ (canonical ia ++ (codes " " ++ (decimal router ++ codes "\"")))
 
 -- how a router looks: the one at which the packet is has a colour
 unfoldable pub marked_text : Bool → List ℕ
@@ -26,7 +27,8 @@ marked_text false = codes "]; "
 -- a router, with its number, where the packet is at this one
 unfoldable pub router_text : Option Router → ℕ → ℕ → List ℕ
 router_text at ia router =
-    router_name ia router ++ (codes " [label=" ++ (decimal router ++ marked_text (is_at at ia router)))
+    router_name ia router
+        ++ (codes " [label=" ++ (decimal router ++ marked_text (is_at at ia router)))
 
 -- the routers of an AS, by their number
 unfoldable pub routers_text : Option Router → ℕ → ℕ → List ℕ
@@ -45,7 +47,8 @@ core_text false = codes "\"; style=rounded; "
 -- the box of an ISD, which is the same for each of its ASes
 unfoldable pub isd_text : ℕ → List ℕ
 isd_text isd =
-    codes "subgraph cluster_" ++ (decimal isd ++ (codes " { label=\"ISD " ++ (decimal isd ++ codes "\"; ")))
+    codes "subgraph cluster_"
+        ++ (decimal isd ++ (codes " { label=\"ISD " ++ (decimal isd ++ codes "\"; ")))
 
 -- an AS: a box with its routers, in the box of its ISD
 unfoldable pub as_text : Option Router → AsEntry → List ℕ
@@ -85,7 +88,9 @@ link_text passed link =
 
 -- how the picture is laid out: names below on the left, and the numbers of interfaces small
 abbrev pub layout : List ℕ
-layout = codes "graph network {\nlabelloc=b; labeljust=l; ranksep=1; edge [labeldistance=1.5, fontsize=11];\n"
+layout =
+    codes "graph network {\n"
+    ++ codes "labelloc=b; labeljust=l; ranksep=1; edge [labeldistance=1.5, fontsize=11];\n"
 
 -- each AS in a box and each link on a line, in the order in which the network lists them, with a
 -- packet that has passed these hops and is at this router, if at one

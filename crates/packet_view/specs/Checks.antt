@@ -37,7 +37,8 @@ place_checks at =
     tested (indices_sides at.arrival at.header) (indices_fit at.arrival at.header)
     refusal.IndexMismatch
     ∷ tested (way_in_sides at.view at.arrival (current_info at.header) (current_hop at.header))
-    (way_in_fits at.view at.arrival (current_info at.header) (current_hop at.header)) refusal.WrongIngress
+    (way_in_fits at.view at.arrival (current_info at.header) (current_hop at.header))
+        refusal.WrongIngress
     ∷ []
 
 -- 6 and 7
@@ -88,14 +89,9 @@ checks_at at =
 
 -- the packet at the router of this view, with its path header
 abbrev pub situation_of : View → ℕ → Arrival → List ℕ → HeaderValue → Situation
-situation_of view now arrival packet header = record {
-  view = view;
-  now = now;
-  arrival = arrival;
-  source = source_of packet;
-  destination = destination_of packet;
-  header = header;
-}
+situation_of view now arrival packet header =
+    record { view = view; now = now; arrival = arrival; source = source_of packet;
+        destination = destination_of packet; header = header }
 
 -- 2 to 13 of a packet in which this header was read
 abbrev pub checks_behind : View → ℕ → Arrival → List ℕ → Result (HeaderValue × ℕ) Refusal

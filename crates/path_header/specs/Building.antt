@@ -19,14 +19,13 @@ is_wide l = nat_lt 63 l.first || (nat_lt 63 l.second || nat_lt 63 l.third)
 
 -- the lengths if they are those of a path, and the first refusal otherwise
 abbrev pub checked_lens : SegLens → Result SegLens HeaderFault
-checked_lens l =
-    if has_gap l || is_wide l then Err faults.SegLens
-    else if nat_lt 64 (hop_count l) then Err faults.TooManyHops
-    else Ok l
+checked_lens l = if has_gap l || is_wide l then Err faults.SegLens
+    else if nat_lt 64 (hop_count l) then Err faults.TooManyHops else Ok l
 
 -- the header of these lengths and fields, with the packet at the first info and hop field
 abbrev pub first_header : SegLens → List InfoField → List HopField → HeaderValue
-first_header l infos hops = record { curr_inf = 0; curr_hf = 0; lens = l; infos = infos; hops = hops }
+first_header l infos hops =
+    record { curr_inf = 0; curr_hf = 0; lens = l; infos = infos; hops = hops }
 
 -- the header of these lengths and fields: the lengths are checked first, and then the numbers of
 -- fields

@@ -14,19 +14,23 @@ meta_of v = record { curr_inf = v.curr_inf; curr_hf = v.curr_hf; lens = v.lens }
 -- the meta field as a number of 32 bits: indices of 2 and 6 bits, 6 zero bits, three lengths of 6
 -- bits
 abbrev pub meta_word : Meta → ℕ
-meta_word m = m.curr_inf * 2 ^ 30 + m.curr_hf * 2 ^ 24 + m.lens.first * 2 ^ 12 + m.lens.second * 2 ^ 6 + m.lens.third
+meta_word m = m.curr_inf * 2 ^ 30 + m.curr_hf * 2 ^ 24 + m.lens.first * 2 ^ 12
+    + m.lens.second * 2 ^ 6 + m.lens.third
 
 -- an info field: the flag C, a zero byte, the accumulator, the timestamp
 abbrev pub info_spelling : InfoField → List ℕ
-info_spelling x = (if x.construction then 1 else 0) ∷ 0 ∷ (to_be_bytes w16 x.seg_id ++ to_be_bytes w32 x.timestamp)
+info_spelling x = (if x.construction then 1 else 0) ∷ 0
+    ∷ (to_be_bytes w16 x.seg_id ++ to_be_bytes w32 x.timestamp)
 
 -- a hop field: a zero byte, the expiry, the two interfaces, the authenticator
 abbrev pub hop_spelling : HopField → List ℕ
-hop_spelling x = 0 ∷ x.exp_time ∷ (to_be_bytes w16 x.cons_ingress ++ (to_be_bytes w16 x.cons_egress ++ x.mac))
+hop_spelling x = 0 ∷ x.exp_time
+    ∷ (to_be_bytes w16 x.cons_ingress ++ (to_be_bytes w16 x.cons_egress ++ x.mac))
 
 -- a header: the meta field, the info fields, the hop fields
 abbrev pub spelling : HeaderValue → List ℕ
-spelling v = to_be_bytes w32 (meta_word (meta_of v)) ++ (flat_map info_spelling v.infos ++ flat_map hop_spelling v.hops)
+spelling v = to_be_bytes w32 (meta_word (meta_of v))
+    ++ (flat_map info_spelling v.infos ++ flat_map hop_spelling v.hops)
 
 -- the numbers of an info field fit into their bits
 pub record InfoFits (x : InfoField) : Type 0 where

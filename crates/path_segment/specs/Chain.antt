@@ -18,7 +18,8 @@ pub record Chain : Type 0 where
 
 -- the chain of these parts, in that order
 abbrev pub chain_of : SegKind → ℕ → ℕ → List Entry → Chain
-chain_of kind timestamp beta0 entries = record { kind = kind; timestamp = timestamp; beta0 = beta0; entries = entries }
+chain_of kind timestamp beta0 entries =
+    record { kind = kind; timestamp = timestamp; beta0 = beta0; entries = entries }
 
 -- the chain with one more entry at the end
 abbrev pub with_last : Chain → Entry → Chain

@@ -30,7 +30,8 @@ ends_well (entry ∷ next ∷ later) = has_way_out entry && ends_well (next ∷ 
 -- two entries are of one AS
 abbrev pub names_as_twice : List Entry → Bool
 names_as_twice [] = false
-names_as_twice (entry ∷ later) = list_any (λ other. other.ia == entry.ia) later || names_as_twice later
+names_as_twice (entry ∷ later) = list_any (λ other. other.ia == entry.ia) later
+    || names_as_twice later
 
 -- the first rule that a beacon under way breaks: it has 1 to 62 entries, each has a way out, and
 -- all but the first have a way in; no AS has two entries
@@ -75,8 +76,10 @@ last_fault entries entry =
 -- the rules that beacons and segments share, without tests: the way in is 0 for the first entry and
 -- no other, and no AS has two entries
 pub record KeepsRules (entries : List Entry) : Type 0 where
-  pub ways_in : (k : ℕ) (entry : Entry) → slice_get entries k ≡ Some entry → (entry.cons_ingress ≡ 0) ↔ (k ≡ 0)
-  pub once : (j k : ℕ) (one other : Entry) → slice_get entries j ≡ Some one → slice_get entries k ≡ Some other → one.ia ≡ other.ia → j ≡ k
+  pub ways_in : (k : ℕ) (entry : Entry) → slice_get entries k ≡ Some entry
+      → (entry.cons_ingress ≡ 0) ↔ (k ≡ 0)
+  pub once : (j k : ℕ) (one other : Entry) → slice_get entries j ≡ Some one
+      → slice_get entries k ≡ Some other → one.ia ≡ other.ia → j ≡ k
 
 -- besides `KeepsRules`: a beacon has 1 to 62 entries, each with a way out
 pub record AreOfBeacon (entries : List Entry) : Type 0 where
@@ -91,7 +94,8 @@ pub record AreOfSegment (entries : List Entry) : Type 0 where
   pub rules : KeepsRules entries
   pub longer : 2 ≤ length entries
   pub shorter : length entries ≤ 63
-  pub ways_out : (k : ℕ) (entry : Entry) → slice_get entries k ≡ Some entry → (entry.cons_egress ≡ 0) ↔ (k + 1 ≡ length entries)
+  pub ways_out : (k : ℕ) (entry : Entry) → slice_get entries k ≡ Some entry
+      → (entry.cons_egress ≡ 0) ↔ (k + 1 ≡ length entries)
 
 -- the chain keeps the rules of a beacon under way, as every `Beacon` does
 abbrev pub IsBeacon : Chain → Type 0

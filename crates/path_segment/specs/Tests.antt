@@ -21,9 +21,8 @@ same_kind one other = false
 
 -- the entries are equal in each part
 abbrev pub same_entry : Entry → Entry → Bool
-same_entry a b =
-    (a.ia == b.ia) && ((a.cons_ingress == b.cons_ingress) && ((a.cons_egress == b.cons_egress)
-    && ((a.exp_time == b.exp_time) && bytes_eq a.mac b.mac)))
+same_entry a b = (a.ia == b.ia) && ((a.cons_ingress == b.cons_ingress)
+    && ((a.cons_egress == b.cons_egress) && ((a.exp_time == b.exp_time) && bytes_eq a.mac b.mac)))
 
 -- the lists have equal entries in the same order
 abbrev pub same_entries : List Entry → List Entry → Bool
@@ -31,6 +30,5 @@ same_entries = pointwise same_entry
 
 -- the chains are equal in each part
 unfoldable pub is_same : Chain → Chain → Bool
-is_same a b =
-    same_kind a.kind b.kind && ((a.timestamp == b.timestamp) && ((a.beta0 == b.beta0)
-    && same_entries a.entries b.entries))
+is_same a b = same_kind a.kind b.kind
+    && ((a.timestamp == b.timestamp) && ((a.beta0 == b.beta0) && same_entries a.entries b.entries))

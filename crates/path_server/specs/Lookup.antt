@@ -15,30 +15,29 @@ pub record Selection : Type 0 where
 
 -- a live intra segment that ends in this AS
 unfoldable pub is_intra_to : ℕ → ℕ → Chain → Bool
-is_intra_to ia now segment = same_kind segment.kind Intra && (is_live now segment && (last_as segment == ia))
+is_intra_to ia now segment = same_kind segment.kind Intra
+    && (is_live now segment && (last_as segment == ia))
 
 -- whether the AS is `ia` or one of these segments begins in it
 unfoldable pub is_reached : ℕ → List Chain → ℕ → Bool
-is_reached ia segments other = (other == ia) || list_any (λ segment. first_as segment == other) segments
+is_reached ia segments other = (other == ia)
+    || list_any (λ segment. first_as segment == other) segments
 
 -- a live core segment with one end on the near side and the other end on the far side, in either
 -- direction
 unfoldable pub joins : (ℕ → Bool) → (ℕ → Bool) → ℕ → Chain → Bool
-joins near far now segment =
-    same_kind segment.kind Core && (is_live now segment
-    && ((near (first_as segment) && far (last_as segment)) || (near (last_as segment) && far (first_as segment))))
+joins near far now segment = same_kind segment.kind Core
+    && (is_live now segment && ((near (first_as segment) && far (last_as segment))
+    || (near (last_as segment) && far (first_as segment))))
 
 -- the live segments for a source and a destination, each list in the order of registration
 unfoldable pub segments_for : List Chain → ℕ → ℕ → ℕ → Selection
 segments_for segments src dst now =
     let ups = filter (is_intra_to src now) segments in
     let downs = filter (is_intra_to dst now) segments in
-    record {
-      ups = ups;
-      cores = filter (joins (is_reached src ups) (is_reached dst downs) now) segments;
-      downs = downs;
-      moment = now;
-    }
+    record { ups = ups;
+        cores = filter (joins (is_reached src ups) (is_reached dst downs) now) segments;
+        downs = downs; moment = now }
 
 -- `is_intra_to` without tests: a segment of the list that is intra, live, and ends in this AS
 pub record LeadsTo (segments : List Chain) (ia now : ℕ) (segment : Chain) : Type 0 where

@@ -13,19 +13,20 @@ use Rattle.path_server.specs.Segment.{is_alike}
 -- what registering a segment at this second answers: whether it is new, or the first refusal:
 -- Expired, then Full
 unfoldable pub answer_to : List Chain → Chain → ℕ → Result Bool StoreFault
-answer_to segments segment now =
-    if not (is_live now segment) then Err Expired
+answer_to segments segment now = if not (is_live now segment) then Err Expired
     else if list_any (is_same segment) segments then Ok false
-    else if nat_le 32 (count_by (is_alike segment) segments) then Err Full
-    else Ok true
+    else if nat_le 32 (count_by (is_alike segment) segments) then Err Full else Ok true
 
 -- `answer_to` without tests: which facts each answer means; no two of them hold at once
 abbrev pub IsRegisterAnswer : List Chain → Chain → ℕ → Result Bool StoreFault → Type 0
 IsRegisterAnswer segments segment now (Err Expired) = ¬ (IsChainLive segment now)
-IsRegisterAnswer segments segment now (Ok false) = IsChainLive segment now × Contains segments segment
-IsRegisterAnswer segments segment now (Err Full) = IsChainLive segment now × ¬ (Contains segments segment)
+IsRegisterAnswer segments segment now (Ok false) = IsChainLive segment now
+    × Contains segments segment
+IsRegisterAnswer segments segment now (Err Full) = IsChainLive segment now
+    × ¬ (Contains segments segment)
     × (32 ≤ count_by (is_alike segment) segments)
-IsRegisterAnswer segments segment now (Ok true) = IsChainLive segment now × ¬ (Contains segments segment)
+IsRegisterAnswer segments segment now (Ok true) = IsChainLive segment now
+    × ¬ (Contains segments segment)
     × (count_by (is_alike segment) segments < 32)
 
 -- the list with this segment at its end if it is new, and else the list as it was

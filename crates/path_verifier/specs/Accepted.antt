@@ -35,8 +35,10 @@ DoAdjoin (kind ∷ next ∷ later) = MayAdjoin kind next × DoAdjoin (next ∷ l
 -- with a core piece: that piece is whole, and every other piece begins at the first entry of its
 -- segment; without one: all pieces begin at the first entry, or none does
 pub record AreCutWell (pieces : List PieceValue) : Type 0 where
-  pub with_core : Any IsCore pieces → All (λ piece. (piece.from ≡ 0) × (IsCore piece → piece.to + 1 ≡ length piece.segment.entries)) pieces
-  pub without : ¬ (Any IsCore pieces) → All (λ piece. piece.from ≡ 0) pieces ⊎ All (λ piece. 0 < piece.from) pieces
+  pub with_core : Any IsCore pieces → All (λ piece. (piece.from ≡ 0)
+      × (IsCore piece → piece.to + 1 ≡ length piece.segment.entries)) pieces
+  pub without : ¬ (Any IsCore pieces)
+      → All (λ piece. piece.from ≡ 0) pieces ⊎ All (λ piece. 0 < piece.from) pieces
 
 -- each piece ends in the AS in which the next begins
 abbrev pub DoMeet : List PieceValue → Type 0
@@ -57,17 +59,21 @@ DoEndIn dst (piece ∷ next ∷ later) = DoEndIn dst (next ∷ later)
 
 -- no two hops are of one AS
 abbrev pub NamesOnce : List WalkHop → Type 0
-NamesOnce walk = (j k : ℕ) (one other : WalkHop) → slice_get walk j ≡ Some one → slice_get walk k ≡ Some other → one.ia ≡ other.ia → j ≡ k
+NamesOnce walk = (j k : ℕ) (one other : WalkHop) → slice_get walk j ≡ Some one
+    → slice_get walk k ≡ Some other → one.ia ≡ other.ia → j ≡ k
 
 -- each hop of the pieces is live at this second
 abbrev pub AreLive : ℕ → List PieceValue → Type 0
-AreLive now pieces = All (λ piece. All (λ entry. IsLive piece.segment.timestamp entry.exp_time now) (entries_of piece)) pieces
+AreLive now pieces = All (λ piece. All (λ entry. IsLive piece.segment.timestamp entry.exp_time now)
+    (entries_of piece)) pieces
 
 -- `least` is the earliest expiry of the pieces' hops, in half seconds: one hop expires then, and
 -- none before
 pub record IsExpiry (pieces : List PieceValue) (least : ℕ) : Type 0 where
-  pub reached : Any (λ piece. Any (λ entry. least ≡ expiry_of piece.segment.timestamp entry.exp_time) (entries_of piece)) pieces
-  pub lower : All (λ piece. All (λ entry. least ≤ expiry_of piece.segment.timestamp entry.exp_time) (entries_of piece)) pieces
+  pub reached : Any (λ piece. Any (λ entry. least
+      ≡ expiry_of piece.segment.timestamp entry.exp_time) (entries_of piece)) pieces
+  pub lower : All (λ piece. All (λ entry. least ≤ expiry_of piece.segment.timestamp entry.exp_time)
+      (entries_of piece)) pieces
 
 -- the pieces are a path from `src` to `dst` that is live at this second
 pub record MakesPath (pieces : List PieceValue) (src dst now : ℕ) : Type 0 where
@@ -94,7 +100,8 @@ pub record Request : Type 0 where
 
 abbrev pub request_of : List PieceValue → HeaderValue → ℕ → ℕ → ℕ → Rules → Request
 request_of pieces header src dst moment rules =
-    record { pieces = pieces; header = header; src = src; dst = dst; moment = moment; rules = rules }
+    record { pieces = pieces; header = header; src = src; dst = dst; moment = moment;
+        rules = rules }
 
 -- the path may be sent: the pieces are a path, the header is theirs, and the policy allows the walk
 pub record IsAccepted (request : Request) : Type 0 where

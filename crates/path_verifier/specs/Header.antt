@@ -11,12 +11,14 @@ use Rattle.path_verifier.specs.Piece.{PieceValue, travelled, first_place}
 
 -- the hop field of an entry
 abbrev pub field_of : Entry → HopField
-field_of entry = record { exp_time = entry.exp_time; cons_ingress = entry.cons_ingress; cons_egress = entry.cons_egress; mac = entry.mac }
+field_of entry = record { exp_time = entry.exp_time; cons_ingress = entry.cons_ingress;
+    cons_egress = entry.cons_egress; mac = entry.mac }
 
 -- the info field of a piece: the direction, the accumulator at the first entry travelled, and the
 -- segment's timestamp
 abbrev pub info_of : PieceValue → InfoField
-info_of piece = record { construction = piece.along; seg_id = beta_of piece.segment (first_place piece); timestamp = piece.segment.timestamp }
+info_of piece = record { construction = piece.along;
+    seg_id = beta_of piece.segment (first_place piece); timestamp = piece.segment.timestamp }
 
 -- the hop fields of a piece, in order of travel
 unfoldable pub fields_of : PieceValue → List HopField
@@ -32,4 +34,5 @@ total_hops pieces = sum_by len_of pieces
 
 -- the header of these pieces, with the packet at the first info and hop field
 unfoldable pub header_of : List PieceValue → HeaderValue
-header_of pieces = first_header (lens_from (map len_of pieces)) (map info_of pieces) (flat_map fields_of pieces)
+header_of pieces =
+    first_header (lens_from (map len_of pieces)) (map info_of pieces) (flat_map fields_of pieces)

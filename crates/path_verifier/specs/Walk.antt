@@ -10,11 +10,9 @@ use Rattle.path_verifier.specs.Piece.{PieceValue, travelled}
 -- the hop of an entry: in construction direction it is entered by ConsIngress and left by
 -- ConsEgress, against it the other way round
 unfoldable pub hop_of : Bool → Entry → WalkHop
-hop_of along entry = record {
-  ia = entry.ia;
-  ingress = if along then entry.cons_ingress else entry.cons_egress;
-  egress = if along then entry.cons_egress else entry.cons_ingress;
-}
+hop_of along entry =
+    record { ia = entry.ia; ingress = if along then entry.cons_ingress else entry.cons_egress;
+        egress = if along then entry.cons_egress else entry.cons_ingress }
 
 -- the hops of a piece, in order of travel
 unfoldable pub hops_of : PieceValue → List WalkHop

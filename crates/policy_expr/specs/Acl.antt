@@ -20,29 +20,35 @@ MatchesBy None hop = Unit {0}
 MatchesBy (Some pred) hop = Matches pred hop
 
 -- the entry at this place is the first that matches the hop
-pub record Decides (entries : List AclEntry) (hop : WalkHop) (place : ℕ) (entry : AclEntry) : Type 0 where
+pub record Decides (entries : List AclEntry) (hop : WalkHop) (place : ℕ) (entry : AclEntry) : Type 0
+    where
   pub there : slice_get entries place ≡ Some entry
   pub matches : MatchesBy entry.pred hop
-  pub first : (earlier : ℕ) (other : AclEntry) → earlier < place → slice_get entries earlier ≡ Some other → MatchesBy other.pred hop → ⊥
+  pub first : (earlier : ℕ) (other : AclEntry) → earlier < place
+      → slice_get entries earlier ≡ Some other → MatchesBy other.pred hop → ⊥
 
 -- the first entry that matches the hop allows it
 abbrev pub Allowed : List AclEntry → WalkHop → Type 0
-Allowed entries hop = (place : ℕ) × (entry : AclEntry) × Decides entries hop place entry × (entry.allows ≡ true)
+Allowed entries hop = (place : ℕ) × (entry : AclEntry) × Decides entries hop place entry
+    × (entry.allows ≡ true)
 
 -- the entry at this place is the first that matches the hop, and it denies the hop
 abbrev pub DeniedAt : List AclEntry → WalkHop → ℕ → Type 0
-DeniedAt entries hop place = (entry : AclEntry) × Decides entries hop place entry × (entry.allows ≡ false)
+DeniedAt entries hop place = (entry : AclEntry) × Decides entries hop place entry
+    × (entry.allows ≡ false)
 
 -- each hop of the walk is allowed
 abbrev pub AllowsWalk : List AclEntry → List WalkHop → Type 0
-AllowsWalk entries walk = (k : ℕ) (hop : WalkHop) → slice_get walk k ≡ Some hop → Allowed entries hop
+AllowsWalk entries walk = (k : ℕ) (hop : WalkHop) → slice_get walk k ≡ Some hop
+    → Allowed entries hop
 
 -- the first denied hop of the walk, and the place of the entry that denies it
 pub record IsDenial (entries : List AclEntry) (walk : List WalkHop) (denied : Denied) : Type 0 where
   pub hop : WalkHop
   pub there : slice_get walk denied.hop ≡ Some hop
   pub by : DeniedAt entries hop denied.entry
-  pub before : (k : ℕ) (other : WalkHop) → k < denied.hop → slice_get walk k ≡ Some other → Allowed entries other
+  pub before : (k : ℕ) (other : WalkHop) → k < denied.hop → slice_get walk k ≡ Some other
+      → Allowed entries other
 
 -- whether interfaces are wildcards alone, and so match every hop
 abbrev pub says_nothing : Interfaces → Bool
@@ -52,10 +58,8 @@ says_nothing (Both m n) = false
 
 -- the entry of a sign and a predicate; a predicate of wildcards alone is dropped
 abbrev pub signed_entry : Bool → HopPred → AclEntry
-signed_entry allows pred = record {
-  allows = allows;
-  pred = if (pred.ia == 0) && says_nothing pred.interfaces then None else Some pred;
-}
+signed_entry allows pred = record { allows = allows;
+    pred = if (pred.ia == 0) && says_nothing pred.interfaces then None else Some pred }
 
 -- the entry of a sign and of the text after it: a predicate, or nothing
 abbrev pub signed_at : Bool → List ℕ → Result AclEntry PolicyFault
@@ -66,10 +70,8 @@ signed_at allows (b ∷ rest) = do
 
 abbrev pub trimmed_at : List ℕ → Result AclEntry PolicyFault
 trimmed_at [] = Err faults.BadPredicate
-trimmed_at (sign ∷ rest) =
-    if sign == 43 then signed_at true (after_blanks rest)
-    else if sign == 45 then signed_at false (after_blanks rest)
-    else Err faults.BadPredicate
+trimmed_at (sign ∷ rest) = if sign == 43 then signed_at true (after_blanks rest)
+    else if sign == 45 then signed_at false (after_blanks rest) else Err faults.BadPredicate
 
 -- the entry of a text: '+' or '-', and then a predicate or nothing; blanks around both are ignored
 unfoldable pub entry_at : List ℕ → Result AclEntry PolicyFault
@@ -83,10 +85,8 @@ is_bare entry = is_none entry.pred
 -- other has one
 abbrev pub default_fault : List AclEntry → Option PolicyFault
 default_fault [] = Some faults.NoDefault
-default_fault (last ∷ others) =
-    if not (is_bare last) then Some faults.NoDefault
-    else if list_any is_bare others then Some faults.AfterDefault
-    else None
+default_fault (last ∷ others) = if not (is_bare last) then Some faults.NoDefault
+    else if list_any is_bare others then Some faults.AfterDefault else None
 
 -- the first rule that a list of entries breaks: at most 256 entries, and then those of
 -- `default_fault`

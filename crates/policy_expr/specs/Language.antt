@@ -35,8 +35,11 @@ joined_words (word ∷ words) = word ++ joined_words words
 -- item in a row, `+` at least one.
 abbrev pub Lang : Tree → List WalkHop → Type 0
 Lang (hop pred) word = (h : WalkHop) × (word ≡ h ∷ []) × Matches pred h
-Lang (followed a b) word = (front : List WalkHop) × (back : List WalkHop) × (word ≡ front ++ back) × Lang a front × Lang b back
+Lang (followed a b) word = (front : List WalkHop) × (back : List WalkHop) × (word ≡ front ++ back)
+    × Lang a front × Lang b back
 Lang (either a b) word = Lang a word ⊎ Lang b word
 Lang (optional a) word = (word ≡ []) ⊎ Lang a word
-Lang (repeated a) word = (words : List (List WalkHop)) × (word ≡ joined_words words) × AllByRecursion (Lang a) words
-Lang (once_or_more a) word = (words : List (List WalkHop)) × (0 < length words) × (word ≡ joined_words words) × AllByRecursion (Lang a) words
+Lang (repeated a) word = (words : List (List WalkHop)) × (word ≡ joined_words words)
+    × AllByRecursion (Lang a) words
+Lang (once_or_more a) word = (words : List (List WalkHop)) × (0 < length words)
+    × (word ≡ joined_words words) × AllByRecursion (Lang a) words

@@ -49,8 +49,7 @@ interface_number_at text = or_else faults.BadPredicate (isd_at text)
 
 -- the interfaces of a text: two if it has a ',', else one
 unfoldable pub interfaces_at : List ℕ → Result Interfaces PolicyFault
-interfaces_at text = if list_any (λ b. b == comma) text
-    then (do
+interfaces_at text = if list_any (λ b. b == comma) text then (do
       ingress ← interface_number_at (before_first (λ b. b == comma) text)
       egress ← interface_number_at (after_first (λ b. b == comma) text)
       Ok (two_interfaces ingress egress))
@@ -68,8 +67,7 @@ ia_at text =
 -- the predicate of a text, or BadPredicate: an address and interfaces if it has a '#', else an
 -- address
 unfoldable pub predicate_at : List ℕ → Result HopPred PolicyFault
-predicate_at text = if list_any (λ b. b == hash) text
-    then (do
+predicate_at text = if list_any (λ b. b == hash) text then (do
       ia ← or_else faults.BadPredicate (address_at (before_first (λ b. b == hash) text))
       interfaces ← interfaces_at (after_first (λ b. b == hash) text)
       Ok (record { ia = ia; interfaces = interfaces }))

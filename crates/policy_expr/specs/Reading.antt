@@ -105,4 +105,5 @@ fault_at depth true (t ∷ ts) = fault_at depth true ts
 -- text spells a sequence of at most 256 nodes.
 abbrev pub IsTextRefusal : List ℕ → OrMemory PolicyFault → Type 0
 IsTextRefusal text Memory = (tree : Tree) × SpellsSequence text tree × (node_count tree ≤ 256)
-IsTextRefusal text (Refused fault) = fault ≡ unwrap_or (fault_at 0 false (tokens text)) faults.TooLarge
+IsTextRefusal text (Refused fault) = fault
+    ≡ unwrap_or (fault_at 0 false (tokens text)) faults.TooLarge

@@ -10,9 +10,8 @@ use Rattle.policy_expr.specs.Predicate.{predicate_at}
 
 -- a character of predicates: a digit, a letter from a to f of either case, '-', ':', '#' or ','
 abbrev pub is_mark : ℕ → Bool
-is_mark b =
-    (nat_le 48 b && nat_le b 57) || ((nat_le 97 b && nat_le b 102) || ((nat_le 65 b && nat_le b 70)
-    || ((b == 45) || ((b == 58) || ((b == 35) || (b == 44))))))
+is_mark b = (nat_le 48 b && nat_le b 57) || ((nat_le 97 b && nat_le b 102)
+    || ((nat_le 65 b && nat_le b 70) || ((b == 45) || ((b == 58) || ((b == 35) || (b == 44))))))
 
 -- whether the text begins with a character of predicates
 abbrev pub begins_with_mark : List ℕ → Bool
@@ -28,8 +27,7 @@ lengthened b (first ∷ later) = (b ∷ first) ∷ later
 -- is no blank
 unfoldable pub token_texts : List ℕ → List (List ℕ)
 token_texts [] = []
-token_texts (b ∷ rest) =
-    if is_blank b then token_texts rest
+token_texts (b ∷ rest) = if is_blank b then token_texts rest
     else if is_mark b && begins_with_mark rest then lengthened b (token_texts rest)
     else (b ∷ []) ∷ token_texts rest
 

@@ -26,8 +26,7 @@ is_start_right arrival hop = true
 -- step 2: the current hop field belongs to the current info field's segment, no segment has a
 -- single hop field, and a packet from a host is at the first hop field
 abbrev pub indices_fit : Arrival → HeaderValue → Bool
-indices_fit arrival header =
-    (header.curr_inf == segment_at header.lens header.curr_hf)
+indices_fit arrival header = (header.curr_inf == segment_at header.lens header.curr_hf)
     && (has_no_single header.lens && is_start_right arrival header.curr_hf)
 
 -- this router owns the interface
@@ -48,8 +47,8 @@ is_hop_live now info hop = is_live_at info.timestamp hop.exp_time now
 
 -- step 5: the hop's authenticator is right under the info field's accumulator and an accepted key
 abbrev pub is_mac_right : View → InfoField → HopField → Bool
-is_mac_right view info hop =
-    is_authentic view hop.mac info.seg_id info.timestamp hop.exp_time hop.cons_ingress hop.cons_egress
+is_mac_right view info hop = is_authentic view hop.mac info.seg_id info.timestamp hop.exp_time
+    hop.cons_ingress hop.cons_egress
 
 -- step 6: a packet from a host has this AS as its source, and one that came over a link has another
 abbrev pub source_fits : View → Arrival → ℕ → Bool

@@ -36,8 +36,10 @@ at_the_way_out at = moved_on (changes_segment at.header) (arrived at.arrival at.
 -- the current hop is live, and its authenticator is right under a key that the AS accepts
 pub record IsOwnHop (view : View) (now : ℕ) (header : HeaderValue) : Type 0 where
   pub live : IsLive (current_info header).timestamp (current_hop header).exp_time now
-  pub authentic : IsAuthentic view (current_hop header).mac (current_info header).seg_id (current_info header).timestamp
-      (current_hop header).exp_time (current_hop header).cons_ingress (current_hop header).cons_egress
+  pub authentic : IsAuthentic view (current_hop header).mac (current_info header).seg_id
+      (current_info header).timestamp
+      (current_hop header).exp_time (current_hop header).cons_ingress
+          (current_hop header).cons_egress
 
 -- the new header differs only in the index of its hop field and in the accumulator of the current
 -- segment
@@ -45,7 +47,8 @@ pub record StaysOnSegment (old new : HeaderValue) : Type 0 where
   pub curr_inf : new.curr_inf ≡ old.curr_inf
   pub lens : new.lens ≡ old.lens
   pub infos : new.infos
-      ≡ slice_set old.infos old.curr_inf (record (current_info old) { seg_id = (current_info new).seg_id })
+      ≡ slice_set old.infos old.curr_inf
+          (record (current_info old) { seg_id = (current_info new).seg_id })
   pub hops : new.hops ≡ old.hops
 
 -- the packet goes on in the next segment. The segment behind it keeps the accumulator of its

@@ -30,8 +30,8 @@ as_bad_header (Err fault) = Err (BadHeader fault)
 
 -- the path header behind the addresses, and its length in bytes
 abbrev pub header_in : List ℕ → Result (HeaderValue × ℕ) Refusal
-header_in packet =
-    if nat_lt (length packet) 16 then Err (BadHeader Short) else as_bad_header (read_at (drop 16 packet))
+header_in packet = if nat_lt (length packet) 16 then Err (BadHeader Short)
+    else as_bad_header (read_at (drop 16 packet))
 
 -- all steps on a packet's bytes: the first refusal, or the outcome and the new packet; only the
 -- bytes of the header change

@@ -25,7 +25,8 @@ passes view now info hop = do
 unfoldable pub admitted : View → ℕ → Arrival → HeaderValue → Result HeaderValue Refusal
 admitted view now arrival header = do
   _ ← check (indices_fit arrival header) refusal.IndexMismatch  -- 2
-  _ ← check (way_in_fits view arrival (current_info header) (current_hop header)) refusal.WrongIngress  -- 3
+  _ ← check (way_in_fits view arrival (current_info header) (current_hop header))
+      refusal.WrongIngress  -- 3
   _ ← passes view now (current_info (arrived arrival header)) (current_hop header)  -- 4, 5
   Ok (arrived arrival header)
 
@@ -39,8 +40,7 @@ at_path_end view arrival source destination header = do
 -- step 9: whether there is a switch to the next segment. Only a packet that came over a link may
 -- switch, and the next hop has to pass steps 4 and 5.
 unfoldable pub switched : View → ℕ → Arrival → HeaderValue → Result Bool Refusal
-switched view now arrival header =
-    if ends_segment header then (do
+switched view now arrival header = if ends_segment header then (do
       _ ← check (is_over_link arrival) refusal.SwitchInside
       _ ← passes view now (current_info (moved_on true header)) (current_hop (moved_on true header))
       Ok true)
@@ -64,5 +64,6 @@ step_of view now arrival source destination header = do
   if last then Ok (Deliver, here) else (do  -- 8
     has_switched ← switched view now arrival here  -- 9
     outcome ← left view arrival has_switched
-        (current_info (moved_on has_switched here)) (current_hop (moved_on has_switched here))  -- 10 to 13
+        (current_info (moved_on has_switched here))
+        (current_hop (moved_on has_switched here))  -- 10 to 13
     Ok (outcome, gone outcome (moved_on has_switched here)))

@@ -47,13 +47,7 @@ asked_in d = do
   moment ← formed (long_at (codes "now") d)
   items ← formed (list_at (codes "segments") d)
   segments ← each_item segment_asked items
-  Ok (record {
-    src = src;
-    dst = dst;
-    options = options;
-    moment = moment;
-    segments = segments;
-  })
+  Ok (record { src = src; dst = dst; options = options; moment = moment; segments = segments })
 
 -- a request for paths: the most paths beside them
 pub record PathsAsked : Type 0 where

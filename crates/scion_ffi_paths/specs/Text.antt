@@ -19,7 +19,8 @@ use Rattle.scion_ffi_paths.specs.Fault.{code_of, name_of}
 -- the place in a list of the first segment that is this one
 unfoldable pub place_in_list : Chain → List Chain → ℕ
 place_in_list segment [] = 0
-place_in_list segment (one ∷ later) = if is_same one segment then 0 else 1 + place_in_list segment later
+place_in_list segment (one ∷ later) = if is_same one segment then 0
+    else 1 + place_in_list segment later
 
 -- true or false
 abbrev pub truth_text : Bool → List ℕ

@@ -1,6 +1,6 @@
 -- The two ends of a link: which is far, who owns them, and as what they see each other.
 use Rattle.std.proofs.Common.{◌≡◌, ℕ, ◌<◌, Bool, true, false, cond, eqb, not, List, [], ◌∷◌, Option, Some, None, Result, Ok, refl, sym, ap, ◌∙◌, inl, inr, ◌⊎◌, ◌||◌, IfSome, IsSome}
-use Rattle.std.specs.List.{list_any}
+use Rattle.std.specs.List.{list_any, cons_option}
 use Rattle.std.proofs.lemmas.Bool.{cases_Bool, or_parts, or_cases, and_parts, and_from, or_left, or_right, not-false, eqb-true, eq-eqb, true≢false}
 use Rattle.scion_topology.specs.declared.entry.IfEntry.{IfEntry}
 use Rattle.scion_topology.specs.declared.fault.TopologyFault.{TopologyFault}
@@ -9,7 +9,7 @@ use Rattle.scion_topology.specs.declared.network.AsEntry.{AsEntry}
 use Rattle.scion_topology.specs.declared.network.Link.{Link}
 use Rattle.scion_topology.specs.declared.network.LinkClass.{LinkClass}
 use Rattle.scion_topology.specs.declared.network.LinkClass.TheVariants.{Core, Child}
-use Rattle.scion_topology.specs.Network.{Network, as_named, is_end, has_end, link_named, kind_at_a, kind_at_b, end_as_interface, interface_of, with_first, table_of, mirrored, interface_in}
+use Rattle.scion_topology.specs.Network.{Network, as_named, is_end, has_end, link_named, kind_at_a, kind_at_b, end_as_interface, interface_of, table_of, mirrored, interface_in}
 use Rattle.scion_topology.specs.Causes.{is_listed, has_unknown_end, lacks_router, has_no_router, is_ill_joined, stands, joins_twice}
 use Rattle.scion_topology.specs.Topology.{IsNetwork, known, known_link, near_end, far_end, far_end_in, owner_in}
 use Rattle.refusal.proofs.Steps.{bind_ok, ok_is, ok_or_ok}
@@ -180,11 +180,11 @@ owner_below n ia number router one network found is_known =
 
 -- ---- as what the two ends see each other
 
-in_table : (number : ℕ) (o : Option IfEntry) (table : List IfEntry) → is_numbered number o ≡ true → interface_in (with_first o table) number ≡ o
+in_table : (number : ℕ) (o : Option IfEntry) (table : List IfEntry) → is_numbered number o ≡ true → interface_in (cons_option o table) number ≡ o
 in_table number None table numbered = absurd cc
 in_table number (Some e) table numbered = rw numbered refl
 
-past_table : (number : ℕ) (o : Option IfEntry) (table : List IfEntry) → is_numbered number o ≡ false → interface_in (with_first o table) number ≡ interface_in table number
+past_table : (number : ℕ) (o : Option IfEntry) (table : List IfEntry) → is_numbered number o ≡ false → interface_in (cons_option o table) number ≡ interface_in table number
 past_table number None table other = refl
 past_table number (Some e) table other = rw other refl
 

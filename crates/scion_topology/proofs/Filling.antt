@@ -1,15 +1,16 @@
 -- The indexes of ASes, to which the links are added one by one.
 use Rattle.std.proofs.Common.{◌≡◌, ℕ, ◌+◌, Bool, true, false, cond, eqb, List, [], ◌∷◌, ◌++◌, drop, Option, Some, None, refl, ap, ap₂, append_assoc, option_map}
 use Rattle.std.specs.Prelude.{is_some}
+use Rattle.std.specs.List.{cons_option}
 use Rattle.std.proofs.lemmas.List.{append-nil}
 use Rattle.scion_topology.specs.declared.entry.IfEntry.{IfEntry}
 use Rattle.scion_topology.specs.declared.network.AsEntry.{AsEntry}
 use Rattle.scion_topology.specs.declared.network.Link.{Link}
-use Rattle.scion_topology.specs.Network.{interface_of, with_first, table_of}
+use Rattle.scion_topology.specs.Network.{interface_of, table_of}
 use Rattle.scion_topology.specs.Index.{IndexValue, index_at, index_from, places_of}
 use Rattle.scion_topology.specs.inner.Index.{with_link, with_links}
 
-table_step : (o : Option IfEntry) (front rest : List IfEntry) → (front ++ with_first o []) ++ rest ≡ front ++ with_first o rest
+table_step : (o : Option IfEntry) (front rest : List IfEntry) → (front ++ cons_option o []) ++ rest ≡ front ++ cons_option o rest
 table_step None front rest = ap (λ t. t ++ rest) (append-nil front)
 table_step (Some e) front rest = append_assoc front (e ∷ []) rest
 

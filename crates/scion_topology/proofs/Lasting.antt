@@ -1,7 +1,7 @@
 -- What outlasts a link that goes up or down, and a new key.
 use Rattle.std.proofs.Common.{◌≡◌, ◌≢◌, ℕ, zero, suc, ◌+◌, ◌<◌, Bool, true, false, cond, eqb, not, ◌||◌, List, [], ◌∷◌, length, get_or, Contains, Option, Some, None, Result, Ok, Err, refl, sym, ap, ◌∙◌, subst, arith, inl, inr}
 use Rattle.std.specs.Prelude.{position}
-use Rattle.std.specs.List.{position_or_len}
+use Rattle.std.specs.List.{position_or_len, cons_option}
 use Rattle.std.specs.Option.{ok_or}
 use Rattle.std.proofs.lemmas.Bool.{cases_Bool, or_cases, and_parts, eqb-true, ne_eqb, true≢false, false_from_ne_true}
 use Rattle.std.proofs.lemmas.Option.{same_Some}
@@ -13,7 +13,7 @@ use Rattle.scion_topology.specs.declared.network.AsEntry.{AsEntry}
 use Rattle.scion_topology.specs.declared.network.End.{End}
 use Rattle.scion_topology.specs.declared.network.Link.{Link}
 use Rattle.scion_topology.specs.Keys.{is_key, key_from, renewed}
-use Rattle.scion_topology.specs.Network.{Network, as_named, is_end, has_end, link_named, interface_of, with_first, table_of, interface_in}
+use Rattle.scion_topology.specs.Network.{Network, as_named, is_end, has_end, link_named, interface_of, table_of, interface_in}
 use Rattle.scion_topology.specs.Topology.{IsNetwork, known, known_link, near_end, far_end, interface_at, far_end_in, owner_in, with_up, with_key, set_up, rotated}
 use Rattle.scion_topology.specs.Ends.{IsAt, IsShown, at_a, at_b, IsUp, IsStill, IsSame}
 use Rattle.scion_topology.specs.inner.Index.{place_in, set_from}
@@ -239,18 +239,18 @@ some_first e t s number entry up later shown = elim (cases_Bool (eqb e.number nu
       (r.0, rw other r.1))
 ]
 
-some_here : (up : Bool) (ia number : ℕ) (link : Link) (t : List IfEntry) (entry : IfEntry) → interface_in (with_first (interface_of ia link) t) number ≡ Some entry → SomeState (with_first (interface_of ia (record link { up = up })) t) number entry
+some_here : (up : Bool) (ia number : ℕ) (link : Link) (t : List IfEntry) (entry : IfEntry) → interface_in (cons_option (interface_of ia link) t) number ≡ Some entry → SomeState (cons_option (interface_of ia (record link { up = up })) t) number entry
 some_here up ia number link t entry shown = go (eqb link.a.ia ia) (eqb link.b.ia ia) _ _ shown
   where
     same : interface_in t number ≡ Some entry → SomeState t number entry
     same found = (entry.up, found)
 
-    go : (p q : Bool) (a b : IfEntry) → interface_in (with_first (cond p (Some a) (cond q (Some b) None)) t) number ≡ Some entry → SomeState (with_first (cond p (Some (record a { up = up })) (cond q (Some (record b { up = up })) None)) t) number entry
+    go : (p q : Bool) (a b : IfEntry) → interface_in (cons_option (cond p (Some a) (cond q (Some b) None)) t) number ≡ Some entry → SomeState (cons_option (cond p (Some (record a { up = up })) (cond q (Some (record b { up = up })) None)) t) number entry
     go true q a b found = some_first a t t number entry up same found
     go false true a b found = some_first b t t number entry up same found
     go false false a b found = same found
 
-some_past : (o : Option IfEntry) (t s : List IfEntry) (number : ℕ) (entry : IfEntry) → (interface_in t number ≡ Some entry → SomeState s number entry) → interface_in (with_first o t) number ≡ Some entry → SomeState (with_first o s) number entry
+some_past : (o : Option IfEntry) (t s : List IfEntry) (number : ℕ) (entry : IfEntry) → (interface_in t number ≡ Some entry → SomeState s number entry) → interface_in (cons_option o t) number ≡ Some entry → SomeState (cons_option o s) number entry
 some_past None t s number entry later shown = later shown
 some_past (Some e) t s number entry later shown = some_first e t s number entry e.up later shown
 
@@ -335,7 +335,7 @@ abbrev AreOthers : ℕ → ℕ → ℕ → ℕ → List Link → Type 0
 AreOthers x y ia m [] = Unit {0}
 AreOthers x y ia m (link ∷ links) = (is_numbered m (interface_of ia link) ≡ true → has_end link x y ≡ false) × AreOthers x y ia m links
 
-unnumbered : (o : Option IfEntry) (t : List IfEntry) (m : ℕ) → is_numbered m o ≡ false → interface_in (with_first o t) m ≡ interface_in t m
+unnumbered : (o : Option IfEntry) (t : List IfEntry) (m : ℕ) → is_numbered m o ≡ false → interface_in (cons_option o t) m ≡ interface_in t m
 unnumbered None t m e = refl
 unnumbered (Some x) t m e = rw e refl
 
@@ -347,7 +347,7 @@ same_number up ia m link = go (eqb link.a.ia ia) (eqb link.b.ia ia) _ _
     go false true a b = refl
     go false false a b = refl
 
-first_same : (o : Option IfEntry) (t s : List IfEntry) (m : ℕ) → interface_in t m ≡ interface_in s m → interface_in (with_first o t) m ≡ interface_in (with_first o s) m
+first_same : (o : Option IfEntry) (t s : List IfEntry) (m : ℕ) → interface_in t m ≡ interface_in s m → interface_in (cons_option o t) m ≡ interface_in (cons_option o s) m
 first_same None t s m same = same
 first_same (Some e) t s m same = elim (cases_Bool (eqb e.number m)) [
   | inl here ↦ rw here refl
@@ -429,15 +429,15 @@ kept_first e t s number entry up later shown = elim (cases_Bool (eqb e.number nu
   | inr other ↦ (let past : cond false (Some e) (interface_in t number) ≡ Some entry = rw other at shown in rw other (later past))
 ]
 
-kept_here : (ia number : ℕ) (link : Link) (t : List IfEntry) (entry : IfEntry) → entry.up ≡ true → KeptUp (with_first (interface_of ia link) t) (with_first (interface_of ia (record link { up = true })) t) number entry
+kept_here : (ia number : ℕ) (link : Link) (t : List IfEntry) (entry : IfEntry) → entry.up ≡ true → KeptUp (cons_option (interface_of ia link) t) (cons_option (interface_of ia (record link { up = true })) t) number entry
 kept_here ia number link t entry up = go (eqb link.a.ia ia) (eqb link.b.ia ia) _ _
   where
-    go : (p q : Bool) (a b : IfEntry) → KeptUp (with_first (cond p (Some a) (cond q (Some b) None)) t) (with_first (cond p (Some (record a { up = true })) (cond q (Some (record b { up = true })) None)) t) number entry
+    go : (p q : Bool) (a b : IfEntry) → KeptUp (cons_option (cond p (Some a) (cond q (Some b) None)) t) (cons_option (cond p (Some (record a { up = true })) (cond q (Some (record b { up = true })) None)) t) number entry
     go true q a b = kept_first a t t number entry up (λ shown. shown)
     go false true a b = kept_first b t t number entry up (λ shown. shown)
     go false false a b = λ shown. shown
 
-kept_past : (o : Option IfEntry) (t s : List IfEntry) (number : ℕ) (entry : IfEntry) → KeptUp t s number entry → KeptUp (with_first o t) (with_first o s) number entry
+kept_past : (o : Option IfEntry) (t s : List IfEntry) (number : ℕ) (entry : IfEntry) → KeptUp t s number entry → KeptUp (cons_option o t) (cons_option o s) number entry
 kept_past None t s number entry later shown = later shown
 kept_past (Some e) t s number entry later shown = elim (cases_Bool (eqb e.number number)) [
   | inl here ↦ (let now : cond true (Some e) (interface_in t number) ≡ Some entry = rw here at shown in rw here now)

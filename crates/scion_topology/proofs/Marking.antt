@@ -3,7 +3,7 @@
 use Rattle.std.proofs.Common.{◌≡◌, ℕ, zero, suc, ◌+◌, ◌<◌, Bool, true, false, cond, eqb, not, List, [], ◌∷◌, length, Option, Some, None, refl, sym, ap, ◌∙◌, arith, inl, inr, ◌||◌, option_map, get_or}
 use Rattle.std.proofs.lemmas.Option.{slice_get-get_or}
 use Rattle.std.specs.Prelude.{is_some, position, slice_get, slice_set}
-use Rattle.std.specs.List.{list_all, list_any}
+use Rattle.std.specs.List.{list_all, list_any, cons_option}
 use Rattle.std.proofs.lemmas.Bool.{cases_Bool, eq-eqb, eqb-true, ne_eqb, and_parts}
 use Rattle.std.specs.Ordering.{nat_cmp}
 use Rattle.std.specs.BTreeMap.{is_at}
@@ -11,7 +11,7 @@ use Rattle.std.proofs.lemmas.Bool.Decides.{nat_tests}
 use Rattle.scion_topology.specs.declared.entry.IfEntry.{IfEntry}
 use Rattle.scion_topology.specs.declared.network.AsEntry.{AsEntry}
 use Rattle.scion_topology.specs.declared.network.Link.{Link}
-use Rattle.scion_topology.specs.Network.{has_end, interface_of, with_first, table_of}
+use Rattle.scion_topology.specs.Network.{has_end, interface_of, table_of}
 use Rattle.scion_topology.specs.Causes.{has_unknown_end, has_no_router, is_ill_joined, stands, joins_twice, cause_of}
 use Rattle.scion_topology.specs.inner.Causes.{is_link}
 use Rattle.scion_topology.specs.Topology.{with_up}
@@ -69,11 +69,11 @@ table_of-misses base x place up (link ∷ links) misses =
 
 -- ---- the interface of a number is that of the link which ends there
 
-here_step : (number : ℕ) (up : Bool) (o : Option IfEntry) (table : List IfEntry) → is_numbered number o ≡ true → with_first (option_map (restated true up) o) table ≡ marked_table number up (with_first o table)
+here_step : (number : ℕ) (up : Bool) (o : Option IfEntry) (table : List IfEntry) → is_numbered number o ≡ true → cons_option (option_map (restated true up) o) table ≡ marked_table number up (cons_option o table)
 here_step number up None table here = absurd cc
 here_step number up (Some e) table here = rw here refl
 
-other_step : (number : ℕ) (up : Bool) (o : Option IfEntry) (table : List IfEntry) → is_numbered number o ≡ false → with_first o (marked_table number up table) ≡ marked_table number up (with_first o table)
+other_step : (number : ℕ) (up : Bool) (o : Option IfEntry) (table : List IfEntry) → is_numbered number o ≡ false → cons_option o (marked_table number up table) ≡ marked_table number up (cons_option o table)
 other_step number up None table other = refl
 other_step number up (Some e) table other = rw other refl
 

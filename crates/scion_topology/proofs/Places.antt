@@ -1,7 +1,7 @@
 -- The link at an interface is the one whose place stands beside the interface in its AS's table.
 use Rattle.std.proofs.Common.{◌≡◌, ℕ, ◌+◌, ◌<◌, Bool, true, false, cond, eqb, ltb, not, List, [], ◌∷◌, length, Option, Some, None, Result, Ok, Err, refl, sym, ap, ◌∙◌, arith, inl, inr, ◌&&◌, ◌||◌, find, option_map, get_or, IfOk}
 use Rattle.std.specs.Prelude.{is_some, position}
-use Rattle.std.specs.List.{position_or_len, list_all, list_any}
+use Rattle.std.specs.List.{position_or_len, list_all, list_any, cons_option}
 use Rattle.std.specs.Option.{ok_or}
 use Rattle.std.proofs.lemmas.Bool.{cases_Bool, lt-ltb, le-ltb, cases_lt, or_parts, and_parts, eqb-true, eq-eqb, not-true}
 use Rattle.std.proofs.lemmas.List.Folds.{find_at}
@@ -10,7 +10,7 @@ use Rattle.scion_topology.specs.declared.fault.TopologyFault.{TopologyFault}
 use Rattle.scion_topology.specs.declared.fault.TopologyFault.TheVariants as faults
 use Rattle.scion_topology.specs.declared.network.AsEntry.{AsEntry}
 use Rattle.scion_topology.specs.declared.network.Link.{Link}
-use Rattle.scion_topology.specs.Network.{Network, has_end, link_named, interface_of, with_first, table_of}
+use Rattle.scion_topology.specs.Network.{Network, has_end, link_named, interface_of, table_of}
 use Rattle.scion_topology.specs.Causes.{is_ill_joined}
 use Rattle.refusal.specs.Refusal.{◌>>=◌}
 use Rattle.scion_topology.specs.Topology.{IsNetwork, known, known_link}
@@ -63,7 +63,7 @@ moved : (base : ℕ) (o : Option ℕ) → option_map (λ (k : ℕ). base + 1 + k
 moved base None = refl
 moved base (Some k) = ap Some (omega arith)
 
-place_step : (number base : ℕ) (o : Option IfEntry) (h : Bool) (table : List IfEntry) (places : List ℕ) (first : Option ℕ) → h ≡ is_numbered number o → place_beside number table places ≡ option_map (λ k. base + 1 + k) first → place_beside number (with_first o table) (cond (is_some o) (base ∷ places) places) ≡ option_map (λ k. base + k) (cond h (Some 0) (option_map (λ k. 1 + k) first))
+place_step : (number base : ℕ) (o : Option IfEntry) (h : Bool) (table : List IfEntry) (places : List ℕ) (first : Option ℕ) → h ≡ is_numbered number o → place_beside number table places ≡ option_map (λ k. base + 1 + k) first → place_beside number (cons_option o table) (cond (is_some o) (base ∷ places) places) ≡ option_map (λ k. base + k) (cond h (Some 0) (option_map (λ k. 1 + k) first))
 place_step number base None h table places first is rest = rw is (rest ∙ moved base first)
 place_step number base (Some e) h table places first is rest = elim (cases_Bool (eqb e.number number)) [
   | inl here ↦ (let at : base + 0 ≡ base = omega arith in rw (place_beside-cons number e table base places, is, here, at) refl)

@@ -1,6 +1,6 @@
 -- What a router sees of a network is a view: no wildcard, and each interface named once, none 0.
 use Rattle.std.proofs.Common.{◌≡◌, ℕ, Bool, true, false, cond, eqb, ltb, not, List, [], ◌∷◌, Option, Some, None, Ok, refl, sym, ap, ◌∙◌, subst, arith, inl, inr, ◌⊎◌, ◌||◌}
-use Rattle.std.specs.List.{list_all, list_any}
+use Rattle.std.specs.List.{list_all, list_any, cons_option}
 use Rattle.std.proofs.lemmas.Bool.{cases_Bool, or_parts, or_from, and_parts, not-true, eqb-true, ltb-true, ne_eqb}
 use Rattle.scion_topology.specs.declared.entry.IfEntry.{IfEntry}
 use Rattle.scion_topology.specs.declared.network.AsEntry.{AsEntry}
@@ -8,7 +8,7 @@ use Rattle.scion_topology.specs.declared.network.Link.{Link}
 use Rattle.scion_topology.specs.Building.{is_named, numbers_twice}
 use Rattle.scion_topology.specs.Keys.{AreKeys}
 use Rattle.scion_topology.specs.Rules.{IsAs}
-use Rattle.scion_topology.specs.Network.{Network, is_wildcard, as_named, has_end, interface_of, with_first, table_of}
+use Rattle.scion_topology.specs.Network.{Network, is_wildcard, as_named, has_end, interface_of, table_of}
 use Rattle.scion_topology.specs.Causes.{stands, joins_twice}
 use Rattle.scion_topology.specs.inner.Causes.{is_as, is_link}
 use Rattle.scion_topology.specs.Topology.{IsNetwork, known}
@@ -39,7 +39,7 @@ some_number ia link some =
     go false true a b p q = q
     go false false a b p q = refl
 
-named_first : (number : ℕ) (o : Option IfEntry) (table : List IfEntry) → is_numbered number o ≡ false → is_named number table ≡ false → is_named number (with_first o table) ≡ false
+named_first : (number : ℕ) (o : Option IfEntry) (table : List IfEntry) → is_numbered number o ≡ false → is_named number table ≡ false → is_named number (cons_option o table) ≡ false
 named_first number None table a b = b
 named_first number (Some e) table a b = or_from (eqb e.number number) (is_named number table) a b
 
@@ -58,7 +58,7 @@ none_there ia number (link ∷ links) apart none =
     named_first number (interface_of ia link) (table_of ia links) (sym (ends_there ia number link parts.0) ∙ ends.0) (none_there ia number links parts.1 ends.1)
 
 -- one more interface, which is not in the table yet
-once_more : (o : Option IfEntry) (table : List IfEntry) → ((e : IfEntry) → o ≡ Some e → is_named e.number table ≡ false) → numbers_twice table ≡ false → numbers_twice (with_first o table) ≡ false
+once_more : (o : Option IfEntry) (table : List IfEntry) → ((e : IfEntry) → o ≡ Some e → is_named e.number table ≡ false) → numbers_twice table ≡ false → numbers_twice (cons_option o table) ≡ false
 unfolding numbers_twice
 once_more None table new once = once
 once_more (Some e) table new once = or_from (is_named e.number table) (numbers_twice table) (new e refl) once

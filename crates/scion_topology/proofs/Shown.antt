@@ -1,6 +1,6 @@
 -- What a network shows of its links: each at both ends, and each interface as an end of one.
 use Rattle.std.proofs.Common.{◌≡◌, ℕ, zero, suc, ◌<◌, Bool, true, false, cond, eqb, ◌||◌, List, [], ◌∷◌, length, get_or, Contains, Option, Some, None, Ok, refl, sym, ap, ◌∙◌, subst, inl, inr, ◌⊎◌, arith}
-use Rattle.std.specs.List.{list_any}
+use Rattle.std.specs.List.{list_any, cons_option}
 use Rattle.std.proofs.lemmas.Bool.{cases_Bool, or_parts, or_cases, and_parts, and_from, eqb-true, eq-eqb, true≢false}
 use Rattle.std.proofs.lemmas.Option.{same_Some}
 use Rattle.std.proofs.lemmas.List.Folds.{list_any-from_Any}
@@ -8,7 +8,7 @@ use Rattle.scion_topology.specs.declared.entry.IfEntry.{IfEntry}
 use Rattle.scion_topology.specs.declared.fault.TopologyFault.TheVariants as faults
 use Rattle.scion_topology.specs.declared.network.AsEntry.{AsEntry}
 use Rattle.scion_topology.specs.declared.network.Link.{Link}
-use Rattle.scion_topology.specs.Network.{Network, as_named, is_end, has_end, link_named, interface_of, with_first, table_of, interface_in}
+use Rattle.scion_topology.specs.Network.{Network, as_named, is_end, has_end, link_named, interface_of, table_of, interface_in}
 use Rattle.scion_topology.specs.Rules.{IsAs, IsLink}
 use Rattle.scion_topology.specs.Causes.{stands, joins_twice}
 use Rattle.scion_topology.specs.Topology.{IsNetwork, known, known_link, far_end, interface_at, far_end_in, owner_in}
@@ -124,7 +124,7 @@ later_of first rest ia number entry of =
     let below : of.listed.0 < length rest = of.listed.1 in
     record { link = of.link; listed = (suc of.listed.0, omega arith, of.listed.2); by = of.by; number_is = of.number_is }
 
-first_of_two : (first : Link) (rest : List Link) (ia number : ℕ) (entry : IfEntry) (o : Option IfEntry) → interface_of ia first ≡ o → interface_in (with_first o (table_of ia rest)) number ≡ Some entry → (interface_in (table_of ia rest) number ≡ Some entry → IsOf rest ia number entry) → IsOf (first ∷ rest) ia number entry
+first_of_two : (first : Link) (rest : List Link) (ia number : ℕ) (entry : IfEntry) (o : Option IfEntry) → interface_of ia first ≡ o → interface_in (cons_option o (table_of ia rest)) number ≡ Some entry → (interface_in (table_of ia rest) number ≡ Some entry → IsOf rest ia number entry) → IsOf (first ∷ rest) ia number entry
 first_of_two first rest ia number entry None is shown later = later_of first rest ia number entry (later shown)
 first_of_two first rest ia number entry (Some e) is shown later = elim (cases_Bool (eqb e.number number)) [
   | inl here ↦ (

@@ -1,5 +1,5 @@
 -- A network: its ASes and its links (draft-dekater-scion-controlplane, topology).
-use Rattle.std.specs.Prelude.{◌≢◌, ℕ, ◌==◌, ◌&&◌, ◌||◌, Bool, List, [], ◌∷◌, Option, Some, None, find, if◌then◌else◌}
+use Rattle.std.specs.Prelude.{◌≢◌, ℕ, ◌==◌, ◌&&◌, ◌||◌, Bool, List, Option, Some, None, find, filter_map, if◌then◌else◌}
 use Rattle.isd_as.specs.Address.{isd_of, as_number_of}
 use Rattle.scion_topology.specs.declared.entry.IfEntry.{IfEntry}
 use Rattle.scion_topology.specs.declared.entry.LinkKind.{LinkKind}
@@ -59,14 +59,9 @@ interface_of ia link =
     else if link.b.ia == ia then Some (end_as_interface link.b (kind_at_b link.class) link.up)
     else None
 
-abbrev pub with_first : Option IfEntry → List IfEntry → List IfEntry
-with_first None table = table
-with_first (Some entry) table = entry ∷ table
-
 -- the interfaces of an AS, in the order of the links
 abbrev pub table_of : ℕ → List Link → List IfEntry
-table_of ia [] = []
-table_of ia (link ∷ links) = with_first (interface_of ia link) (table_of ia links)
+table_of ia links = filter_map (interface_of ia) links
 
 -- the kind of a link as seen from its other end
 abbrev pub mirrored : LinkKind → LinkKind

@@ -52,12 +52,8 @@ known_link n ia number = known n ia >>= λ _. ok_or (link_named n.links ia numbe
 unfoldable pub info_in : Network → ℕ → Result AsInfo TopologyFault
 info_in n ia = do
   one ← known n ia
-  Ok (record {
-    position = position_or_len (λ other. other.ia == ia) n.ases;
-    core = one.core;
-    exp = one.exp_time;
-    routers = one.routers;
-  })
+  Ok (record { position = position_or_len (λ other. other.ia == ia) n.ases; core = one.core;
+      exp = one.exp_time; routers = one.routers })
 
 -- the interface of this number of an AS: UnknownAs, then NoLink
 abbrev pub interface_at : Network → ℕ → ℕ → Result IfEntry TopologyFault
@@ -96,8 +92,7 @@ view_in n ia router = do
 -- the links with the link at this interface up or down
 abbrev pub with_up : Bool → ℕ → ℕ → List Link → List Link
 with_up up ia number [] = []
-with_up up ia number (link ∷ links) =
-    if has_end link ia number then record link { up = up } ∷ links
+with_up up ia number (link ∷ links) = if has_end link ia number then record link { up = up } ∷ links
     else link ∷ with_up up ia number links
 
 -- the ASes with this key in use for the AS of this address

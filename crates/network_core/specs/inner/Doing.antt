@@ -17,7 +17,8 @@ use Rattle.path_verifier.specs.Accepted.{IsAccepted, IsRefused}
 
 -- the call did what was to be made, or returns its refusal or that memory ran out, and changed
 -- nothing
-abbrev pub DoesOrFails : Made → Type 0 → NetValue → NetValue → Result Reply (OrMemory EventFault) → Type 0
+abbrev pub DoesOrFails : Made → Type 0 → NetValue → NetValue → Result Reply (OrMemory EventFault)
+    → Type 0
 DoesOrFails made takes old new (Ok reply) = made ≡ Ok (reply, new)
 DoesOrFails made takes old new (Err (Refused fault)) = (made ≡ Err fault) × (new ≡ old)
 DoesOrFails made takes old new (Err Memory) = takes × (new ≡ old)
@@ -72,10 +73,8 @@ abbrev pub Readies : {X : Type 0} → (X → PacketValue) → NetValue → Shipm
 Readies view net sent (Ok packet) =
     IsAccepted (asked_at net.moment sent.way)
     × ((departs net sent
-    ≡ Ok (
-      replies.Sent (length net.packets),
-      record net { packets = net.packets ++ view packet ∷ [] },
-    ))
+    ≡ Ok (replies.Sent (length net.packets),
+        record net { packets = net.packets ++ view packet ∷ [] }))
     × HasFrame (view packet).sent.way.source (view packet).sent.way.destination
     (view packet).sent.way.pieces)
 Readies view net sent (Err Memory) =
@@ -99,7 +98,8 @@ JudgesEvent view (Err (Refused fault)) wanted = wanted ≡ Err fault
 JudgesEvent view (Err Memory) wanted = ⊥
 
 -- the call added the packet at the end of the list, or memory ran out
-abbrev pub KeepsPacket : PacketValue → NetValue → NetValue → Result Reply (OrMemory EventFault) → Type 0
+abbrev pub KeepsPacket : PacketValue → NetValue → NetValue → Result Reply (OrMemory EventFault)
+    → Type 0
 KeepsPacket packet old new (Ok reply) =
     (reply ≡ replies.Sent (length old.packets))
     × (new ≡ record old { packets = old.packets ++ packet ∷ [] })

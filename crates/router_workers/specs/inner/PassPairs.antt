@@ -33,7 +33,8 @@ abbrev pub IsPutIn : {T : Type 0} → Bool → T → WayThrough T → WayThrough
 IsPutIn crowded carried old new = (new ≡ put_in carried old) ⊎ ((new ≡ old) × (crowded ≡ true))
 
 -- `IsPutIn` for the way of this number; the other ways are as they were
-abbrev pub IsPassedTo : {T : Type 0} → Bool → T → ℕ → List (WayThrough T) → List (WayThrough T) → Type 0
+abbrev pub IsPassedTo : {T : Type 0} → Bool → T → ℕ → List (WayThrough T) → List (WayThrough T)
+    → Type 0
 IsPassedTo crowded carried next old new = (before : WayThrough _) × (after : WayThrough _)
     × (slice_get old next ≡ Some before) × IsPutIn crowded carried before after
     × (new ≡ slice_set old next after)
