@@ -23,8 +23,13 @@ key_in n ia = option_map_or key_of (as_named n.ases ia) []
 -- this accumulator
 abbrev pub entry_by : AsEntry → ℕ → ℕ → ℕ → ℕ → Entry
 entry_by one timestamp beta ingress egress =
-    record { ia = one.ia; cons_ingress = ingress; cons_egress = egress; exp_time = one.exp_time;
-        mac = authenticator (key_of one) beta timestamp one.exp_time ingress egress }
+    record {
+      ia = one.ia;
+      cons_ingress = ingress;
+      cons_egress = egress;
+      exp_time = one.exp_time;
+      mac = authenticator (key_of one) beta timestamp one.exp_time ingress egress;
+    }
 
 -- the entry that an AS adds to a beacon, under the accumulator after all earlier entries
 abbrev pub added_by : AsEntry → Chain → ℕ → ℕ → Entry

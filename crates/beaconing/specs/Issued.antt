@@ -24,12 +24,12 @@ use Rattle.beaconing.specs.Calls.{last_of, come_to, extended}
 -- the entry is of an AS of the network, has the AS's expiry, and is authenticated under this key
 -- and accumulator
 pub record IsEntryOf (n : Network) (timestamp beta : ℕ) (key : List ℕ) (entry : Entry) : Type 0
-    where
-  pub one : AsEntry
-  pub named : as_named n.ases entry.ia ≡ Some one
-  pub lifetime : entry.exp_time ≡ one.exp_time
-  pub mac : entry.mac
-      ≡ authenticator key beta timestamp entry.exp_time entry.cons_ingress entry.cons_egress
+  where
+    pub one : AsEntry
+    pub named : as_named n.ases entry.ia ≡ Some one
+    pub lifetime : entry.exp_time ≡ one.exp_time
+    pub mac : entry.mac
+        ≡ authenticator key beta timestamp entry.exp_time entry.cons_ingress entry.cons_egress
 
 -- `near` is the entry's way out, and `far` is the way in of the next entry
 abbrev pub AreWays : Entry → Entry → End → End → Type 0

@@ -36,7 +36,8 @@ pub fn ended_is_issued()
 pub fn made_is_issued()
     ensures { (n : Network) (ia egress timestamp beta0 : ℕ) (hops : List (ℕ × ℕ)) (last : ℕ)
         (begun beacon segment : Chain) → IsNetwork n
-        → originated n ia egress timestamp beta0 ≡ Ok begun → passed_through n begun hops ≡ Ok beacon
+        → originated n ia egress timestamp beta0 ≡ Ok begun
+        → passed_through n begun hops ≡ Ok beacon
         → terminated n beacon last ≡ Ok segment → IsIssued n (keys_in_use n segment) segment }
 {}
 

@@ -7,13 +7,26 @@ use streams::{Reader, Writer};
 
 /// Three ASes in a row, a core AS, its child and the child of that, up to an answer of one path.
 fn start() -> &'static str {
-    r#"{"ases":[{"ia":"1-ff00:0:110","core":true,"exp":63,"key":"6130","routers":1},{"ia":"1-ff00:0:111","core":false,"exp":63,"key":"6131","routers":1},{"ia":"1-ff00:0:112","core":false,"exp":63,"key":"6132","routers":1}],"links":[{"kind":"child","a":{"ia":"1-ff00:0:110","if":1,"router":0},"b":{"ia":"1-ff00:0:111","if":1,"router":0}},{"kind":"child","a":{"ia":"1-ff00:0:111","if":2,"router":0},"b":{"ia":"1-ff00:0:112","if":1,"router":0}}]}
-{"do":"tick","now":1000}
-{"do":"originate","ia":"1-ff00:0:110","egress":1,"beta0":4660}
-{"do":"extend","beacon":0,"ia":"1-ff00:0:111","egress":2}
-{"do":"terminate","beacon":1,"ia":"1-ff00:0:112"}
-{"do":"ask","src":"1-ff00:0:112","dst":"1-ff00:0:110","limit":4}
-"#
+    concat!(
+        r#"{"ases":[{"ia":"1-ff00:0:110","core":true,"exp":63,"key":"6130","routers":1},"#,
+        r#"{"ia":"1-ff00:0:111","core":false,"exp":63,"key":"6131","routers":1},"#,
+        r#"{"ia":"1-ff00:0:112","core":false,"exp":63,"key":"6132","routers":1}],"#,
+        r#""links":[{"kind":"child","a":{"ia":"1-ff00:0:110","if":1,"router":0},"#,
+        r#""b":{"ia":"1-ff00:0:111","if":1,"router":0}},"#,
+        r#"{"kind":"child","a":{"ia":"1-ff00:0:111","if":2,"router":0},"#,
+        r#""b":{"ia":"1-ff00:0:112","if":1,"router":0}}]}"#,
+        "\n",
+        r#"{"do":"tick","now":1000}"#,
+        "\n",
+        r#"{"do":"originate","ia":"1-ff00:0:110","egress":1,"beta0":4660}"#,
+        "\n",
+        r#"{"do":"extend","beacon":0,"ia":"1-ff00:0:111","egress":2}"#,
+        "\n",
+        r#"{"do":"terminate","beacon":1,"ia":"1-ff00:0:112"}"#,
+        "\n",
+        r#"{"do":"ask","src":"1-ff00:0:112","dst":"1-ff00:0:110","limit":4}"#,
+        "\n",
+    )
 }
 
 /// What the lines of a work are about.
@@ -49,8 +62,11 @@ fn sending() -> &'static str {
 
 /// A request under a policy.
 fn asking() -> &'static str {
-    r#"{"do":"ask","src":"1-ff00:0:112","dst":"1-ff00:0:110","limit":4,"acl":["- 2","+"],"sequence":"0* 1-ff00:0:110"}
-"#
+    concat!(
+        r#"{"do":"ask","src":"1-ff00:0:112","dst":"1-ff00:0:110","limit":4,"acl":["- 2","+"],"#,
+        r#""sequence":"0* 1-ff00:0:110"}"#,
+        "\n",
+    )
 }
 
 /// Several turns of a packet, which is then shown.

@@ -53,7 +53,8 @@ impl<'s, 'p, A: Allocator + Clone> RankedPath<'s, 'p, A> {
     ) -> Result<RankedPath<'s, 'p, A>, AllocError>
         ensures value { IfOk result
             (λ f. f ≡ record { pieces = path.entry.pieces; header = path.entry.header }) }
-        ensures spelled { OnOk result (SpellsHeader (spelling path.entry.header) path.entry.header) }
+        ensures spelled { OnOk result
+            (SpellsHeader (spelling path.entry.header) path.entry.header) }
     {
         let mut room = [0; MAX_BYTES];
         let Ok(len) = encode(path.header(), &mut room) else {

@@ -30,8 +30,12 @@ pub record Change : Type 0 where
 -- the change of a stream, from the functions for its bytes and its flag
 abbrev pub change_of : {A : Type 0} → (A → Option (List ℕ)) → (A → Bool) → A → A → Change
 change_of bytes failed before after =
-    record { old = bytes before; new = bytes after; had_failed = failed before;
-        has_failed = failed after }
+    record {
+      old = bytes before;
+      new = bytes after;
+      had_failed = failed before;
+      has_failed = failed after;
+    }
 
 -- the flag is set if and only if it was set before or this is true
 abbrev pub SetsFlag : Change → Bool → Type 0
@@ -107,7 +111,7 @@ CarriesPackets answer workers slots source sink = (run : Result (Unit {0}) WorkF
     × ((answer ≡ after_work run)
     × (work.Works run workers slots source.old source.new sink.old sink.new
     × (SetsFlag source (work.is_work_read_fault run)
-        × SetsFlag sink (work.is_work_write_fault run))))
+    × SetsFlag sink (work.is_work_write_fault run))))
 
 -- ---- the program
 

@@ -37,7 +37,7 @@ interface_rule = record (new_rule (codes "interface")) { value_names = 1; action
 abbrev pub step_app : App
 step_app =
     with_rule
-        (with_rule (with_rule (with_rule (with_rule (with_rule (with_rule (new_app (codes "step"))
+    (with_rule (with_rule (with_rule (with_rule (with_rule (with_rule (new_app (codes "step"))
     (option_rule (codes "ia"))) (number_rule 63 (codes "router"))) (option_rule (codes "key")))
     (optional_rule (codes "previous"))) (number_rule 4294967295 (codes "now")))
     (option_rule (codes "from"))) interface_rule
@@ -55,8 +55,10 @@ work_app = with_rule (with_rule (new_app (codes "work")) (number_rule 4294967295
 abbrev pub program_app : App
 program_app =
     with_subcommand (with_subcommand (with_subcommand
-    (on_top (λ shape. record shape { no_binary_name = true;
-        has_version = true }) (new_app (codes "scionet")))
+    (on_top (λ shape. record shape {
+      no_binary_name = true;
+      has_version = true;
+    }) (new_app (codes "scionet")))
     step_app.top) run_app.top) work_app.top
 
 -- the texts of the options in these matches
@@ -67,8 +69,15 @@ texts_in rows = do
   key ← first_of (codes "key") rows
   now ← first_of (codes "now") rows
   from ← first_of (codes "from") rows
-  Some (record { ia = ia; router = router; key = key; previous = first_of (codes "previous") rows;
-      now = now; from = from; interfaces = unwrap_or (all_of (codes "interface") rows) [] })
+  Some (record {
+    ia = ia;
+    router = router;
+    key = key;
+    previous = first_of (codes "previous") rows;
+    now = now;
+    from = from;
+    interfaces = unwrap_or (all_of (codes "interface") rows) [];
+  })
 
 -- the turn of these matches
 abbrev pub turn_in_rows : List Row → Option Turn

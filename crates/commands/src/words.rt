@@ -231,8 +231,8 @@ fn step_command<'a>(alloc: Global) -> Result<Command<'a>, AllocError>
         alloc,
         "from",
         "host|inside|IF",
-        "How the packet came: from a host, from inside the AS, or over the link of interface IF, 1 to \
-         65535",
+        "How the packet came: from a host, from inside the AS, or over the link of interface IF, \
+         1 to 65535",
     );
     let interface = interface_argument(alloc);
     Command::new(alloc, "step")

@@ -255,8 +255,12 @@ fn shortcut(rt: HostRuntime) -> Result<(), Fail> {
 }
 
 /// Two ASes, a core AS and its child.
-const TWO: &str =
-    r#"{"ases":[{"ia":"1-ff00:0:110","core":true,"exp":63,"key":"6130","routers":1},{"ia":"1-ff00:0:111","core":false,"exp":63,"key":"6131","routers":1}],"links":[{"kind":"child","a":{"ia":"1-ff00:0:110","if":1,"router":0},"b":{"ia":"1-ff00:0:111","if":2,"router":0}}]}"#;
+const TWO: &str = concat!(
+    r#"{"ases":[{"ia":"1-ff00:0:110","core":true,"exp":63,"key":"6130","routers":1},"#,
+    r#"{"ia":"1-ff00:0:111","core":false,"exp":63,"key":"6131","routers":1}],"#,
+    r#""links":[{"kind":"child","a":{"ia":"1-ff00:0:110","if":1,"router":0},"#,
+    r#""b":{"ia":"1-ff00:0:111","if":2,"router":0}}]}"#,
+);
 
 /// A packet made under a key goes on after its AS took another key into use, and not after one
 /// more.

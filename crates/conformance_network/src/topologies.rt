@@ -57,8 +57,15 @@ fn refuses(rt: HostRuntime) {
 }
 
 /// Three ASes in a row, one router each: a core AS, its child, and the child of that.
-const THREE: &str =
-    r#"{"ases":[{"ia":"1-ff00:0:110","core":true,"exp":63,"key":"6130","routers":1},{"ia":"1-ff00:0:111","core":false,"exp":63,"key":"6131","routers":1},{"ia":"1-ff00:0:112","core":false,"exp":63,"key":"6132","routers":1}],"links":[{"kind":"child","a":{"ia":"1-ff00:0:110","if":1,"router":0},"b":{"ia":"1-ff00:0:111","if":1,"router":0}},{"kind":"child","a":{"ia":"1-ff00:0:111","if":2,"router":0},"b":{"ia":"1-ff00:0:112","if":1,"router":0}}]}"#;
+const THREE: &str = concat!(
+    r#"{"ases":[{"ia":"1-ff00:0:110","core":true,"exp":63,"key":"6130","routers":1},"#,
+    r#"{"ia":"1-ff00:0:111","core":false,"exp":63,"key":"6131","routers":1},"#,
+    r#"{"ia":"1-ff00:0:112","core":false,"exp":63,"key":"6132","routers":1}],"#,
+    r#""links":[{"kind":"child","a":{"ia":"1-ff00:0:110","if":1,"router":0},"#,
+    r#""b":{"ia":"1-ff00:0:111","if":1,"router":0}},"#,
+    r#"{"kind":"child","a":{"ia":"1-ff00:0:111","if":2,"router":0},"#,
+    r#""b":{"ia":"1-ff00:0:112","if":1,"router":0}}]}"#,
+);
 
 const TOP: u64 = 0x0001_ff00_0000_0110;
 
@@ -252,7 +259,8 @@ fn ring(rt: &HostRuntime, ases: u32, links: u32) -> Result<String, Fail>
         let one = link % ases + 1;
         let other = one % ases + 1;
         let row = format!(in alloc;
-            r#"{comma}{{"kind":"core","a":{{"ia":"1-{one}","if":{link},"router":0}},"b":{{"ia":"1-{other}","if":{},"router":0}}}}"#,
+            "{comma}{{\"kind\":\"core\",\"a\":{{\"ia\":\"1-{one}\",\"if\":{link},\"router\":0}},\
+             \"b\":{{\"ia\":\"1-{other}\",\"if\":{},\"router\":0}}}}",
             10_000 + link % 50_000
         )?;
         text.push_str(row.as_str())?;

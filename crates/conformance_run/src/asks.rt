@@ -24,11 +24,17 @@ fn other_ends_of_the_row(rt: HostRuntime) -> Result<(), Fail> {
                 "no 85 SameAs",
             ),
             (
-                r#"{"do":"ask","src":"1-ff00:0:112","dst":"1-ff00:0:110","limit":4,"acl":["- 1-ff00:0:111","+"]}"#,
+                concat!(
+                    r#"{"do":"ask","src":"1-ff00:0:112","dst":"1-ff00:0:110","limit":4,"#,
+                    r#""acl":["- 1-ff00:0:111","+"]}"#,
+                ),
                 "ask 3 0",
             ),
             (
-                r#"{"do":"ask","src":"1-ff00:0:112","dst":"1-ff00:0:110","limit":4,"sequence":"0* 1-ff00:0:110"}"#,
+                concat!(
+                    r#"{"do":"ask","src":"1-ff00:0:112","dst":"1-ff00:0:110","limit":4,"#,
+                    r#""sequence":"0* 1-ff00:0:110"}"#,
+                ),
                 "ask 4 1; 1-ff00:0:112#0,1 1-ff00:0:111#2,1 1-ff00:0:110#1,0",
             ),
         ],
@@ -43,7 +49,10 @@ fn options_of_a_policy(rt: HostRuntime) -> Result<(), Fail> {
         &row_sent(),
         &[
             (
-                r#"{"do":"ask","src":"1-ff00:0:112","dst":"1-ff00:0:110","limit":4,"options":[{"weight":1},{"weight":5,"acl":["- 1-ff00:0:111","+"]}]}"#,
+                concat!(
+                    r#"{"do":"ask","src":"1-ff00:0:112","dst":"1-ff00:0:110","limit":4,"#,
+                    r#""options":[{"weight":1},{"weight":5,"acl":["- 1-ff00:0:111","+"]}]}"#,
+                ),
                 "ask 1 1; 1-ff00:0:112#0,1 1-ff00:0:111#2,1 1-ff00:0:110#1,0",
             ),
             (
@@ -51,11 +60,17 @@ fn options_of_a_policy(rt: HostRuntime) -> Result<(), Fail> {
                 "no 67 OptionCount",
             ),
             (
-                r#"{"do":"ask","src":"1-ff00:0:112","dst":"1-ff00:0:110","limit":4,"options":[{"weight":0,"sequence":"1 |"}]}"#,
+                concat!(
+                    r#"{"do":"ask","src":"1-ff00:0:112","dst":"1-ff00:0:110","limit":4,"#,
+                    r#""options":[{"weight":0,"sequence":"1 |"}]}"#,
+                ),
                 "no 60 UnexpectedEnd",
             ),
             (
-                r#"{"do":"ask","src":"1-ff00:0:112","dst":"1-ff00:0:110","limit":4,"options":[{"weight":0}],"sequence":"0*"}"#,
+                concat!(
+                    r#"{"do":"ask","src":"1-ff00:0:112","dst":"1-ff00:0:110","limit":4,"#,
+                    r#""options":[{"weight":0}],"sequence":"0*"}"#,
+                ),
                 "no 140 BadLine",
             ),
         ],

@@ -51,7 +51,10 @@ fn no_objects_of_the_table(rt: HostRuntime) -> Result<(), Fail> {
                 "no 140 BadLine",
             ),
             (
-                r#"{"do":"ask","src":"1-ff00:0:112","dst":"1-ff00:0:110","limit":4,"options":[{}]}"#,
+                concat!(
+                    r#"{"do":"ask","src":"1-ff00:0:112","dst":"1-ff00:0:110","limit":4,"#,
+                    r#""options":[{}]}"#,
+                ),
                 "no 140 BadLine",
             ),
             (

@@ -44,7 +44,8 @@ pub(crate) fn pair_sent() -> [Row; 12] {
         ),
         (
             r#"{"do":"ask","src":"1-ff00:0:112","dst":"2-ff00:0:212","limit":8}"#,
-            "ask 0 1; 1-ff00:0:112#0,1 1-ff00:0:111#2,1 1-ff00:0:110#1,2 2-ff00:0:210#1,2 2-ff00:0:211#1,2 2-ff00:0:212#1,0",
+            "ask 0 1; 1-ff00:0:112#0,1 1-ff00:0:111#2,1 1-ff00:0:110#1,2 2-ff00:0:210#1,\
+            2 2-ff00:0:211#1,2 2-ff00:0:212#1,0",
         ),
         (r#"{"do":"send","ask":0,"path":0,"payload":""}"#, "packet 0"),
     ]
@@ -52,12 +53,34 @@ pub(crate) fn pair_sent() -> [Row; 12] {
 
 /// A core AS, its child, and two children of that, with one router each.
 fn narrow_fork() -> &'static str {
-    r#"{"ases":[{"ia":"1-ff00:0:110","core":true,"exp":63,"key":"6b","routers":1},{"ia":"1-ff00:0:111","core":false,"exp":63,"key":"6b","routers":1},{"ia":"1-ff00:0:112","core":false,"exp":63,"key":"6b","routers":1},{"ia":"1-ff00:0:113","core":false,"exp":63,"key":"6b","routers":1}],"links":[{"kind":"child","a":{"ia":"1-ff00:0:110","if":1,"router":0},"b":{"ia":"1-ff00:0:111","if":1,"router":0}},{"kind":"child","a":{"ia":"1-ff00:0:111","if":2,"router":0},"b":{"ia":"1-ff00:0:112","if":1,"router":0}},{"kind":"child","a":{"ia":"1-ff00:0:111","if":3,"router":0},"b":{"ia":"1-ff00:0:113","if":1,"router":0}}]}"#
+    concat!(
+        r#"{"ases":[{"ia":"1-ff00:0:110","core":true,"exp":63,"key":"6b","routers":1},"#,
+        r#"{"ia":"1-ff00:0:111","core":false,"exp":63,"key":"6b","routers":1},"#,
+        r#"{"ia":"1-ff00:0:112","core":false,"exp":63,"key":"6b","routers":1},"#,
+        r#"{"ia":"1-ff00:0:113","core":false,"exp":63,"key":"6b","routers":1}],"#,
+        r#""links":[{"kind":"child","a":{"ia":"1-ff00:0:110","if":1,"router":0},"#,
+        r#""b":{"ia":"1-ff00:0:111","if":1,"router":0}},"#,
+        r#"{"kind":"child","a":{"ia":"1-ff00:0:111","if":2,"router":0},"#,
+        r#""b":{"ia":"1-ff00:0:112","if":1,"router":0}},"#,
+        r#"{"kind":"child","a":{"ia":"1-ff00:0:111","if":3,"router":0},"#,
+        r#""b":{"ia":"1-ff00:0:113","if":1,"router":0}}]}"#,
+    )
 }
 
 /// The same with two routers in the middle AS, of which the second has the way to the last.
 pub(crate) fn wide_fork() -> &'static str {
-    r#"{"ases":[{"ia":"1-ff00:0:110","core":true,"exp":63,"key":"6b","routers":1},{"ia":"1-ff00:0:111","core":false,"exp":63,"key":"6b","routers":2},{"ia":"1-ff00:0:112","core":false,"exp":63,"key":"6b","routers":1},{"ia":"1-ff00:0:113","core":false,"exp":63,"key":"6b","routers":1}],"links":[{"kind":"child","a":{"ia":"1-ff00:0:110","if":1,"router":0},"b":{"ia":"1-ff00:0:111","if":1,"router":0}},{"kind":"child","a":{"ia":"1-ff00:0:111","if":2,"router":0},"b":{"ia":"1-ff00:0:112","if":1,"router":0}},{"kind":"child","a":{"ia":"1-ff00:0:111","if":3,"router":1},"b":{"ia":"1-ff00:0:113","if":1,"router":0}}]}"#
+    concat!(
+        r#"{"ases":[{"ia":"1-ff00:0:110","core":true,"exp":63,"key":"6b","routers":1},"#,
+        r#"{"ia":"1-ff00:0:111","core":false,"exp":63,"key":"6b","routers":2},"#,
+        r#"{"ia":"1-ff00:0:112","core":false,"exp":63,"key":"6b","routers":1},"#,
+        r#"{"ia":"1-ff00:0:113","core":false,"exp":63,"key":"6b","routers":1}],"#,
+        r#""links":[{"kind":"child","a":{"ia":"1-ff00:0:110","if":1,"router":0},"#,
+        r#""b":{"ia":"1-ff00:0:111","if":1,"router":0}},"#,
+        r#"{"kind":"child","a":{"ia":"1-ff00:0:111","if":2,"router":0},"#,
+        r#""b":{"ia":"1-ff00:0:112","if":1,"router":0}},"#,
+        r#"{"kind":"child","a":{"ia":"1-ff00:0:111","if":3,"router":1},"#,
+        r#""b":{"ia":"1-ff00:0:113","if":1,"router":0}}]}"#,
+    )
 }
 
 /// A packet from one of the children to the other, over this topology, up to its sending.

@@ -28,11 +28,13 @@ const BEHIND: &str = "003f00000001a1a2a3a4a5a6";
 
 /// The same packet with a wrong authenticator.
 const WRONG: &str =
-    "0001ff00000001100001ff0000000111000020000000b39600000064003f00020000b1b2b3b4b5b6003f00000001a1a2a3a4a5a6";
+    "0001ff00000001100001ff0000000111000020000000b39600000064003f00020000b1b2b3b4b5b6003f00000001a1\
+    a2a3a4a5a6";
 
 /// The same packet cut off by a byte.
 const CUT: &str =
-    "0001ff00000001100001ff0000000111000020000000b39600000064003f00020000b1b2b3b4b5b6003f00000001a1a2a3a4a5";
+    "0001ff00000001100001ff0000000111000020000000b39600000064003f00020000b1b2b3b4b5b6003f00000001a1\
+    a2a3a4a5";
 
 /// The words of a turn at this second.
 pub(crate) fn words<'a>(now: &'a str, from: &'a str, interface: &'a str) -> [&'a str; 12] {
@@ -132,7 +134,8 @@ fn bad_packets(rt: HostRuntime) -> Result<(), Fail> {
 
 /// A key of 65 bytes, one too many.
 fn long_key() -> &'static str {
-    "6b6b6b6b6b6b6b6b6b6b6b6b6b6b6b6b6b6b6b6b6b6b6b6b6b6b6b6b6b6b6b6b6b6b6b6b6b6b6b6b6b6b6b6b6b6b6b6b6b6b6b6b6b6b6b6b6b6b6b6b6b6b6b6b6b"
+    "6b6b6b6b6b6b6b6b6b6b6b6b6b6b6b6b6b6b6b6b6b6b6b6b6b6b6b6b6b6b6b6b6b6b6b6b6b6b6b6b6b6b6b6b6b6b6b\
+    6b6b6b6b6b6b6b6b6b6b6b6b6b6b6b6b6b6b"
 }
 
 /// Whether the words are refused.

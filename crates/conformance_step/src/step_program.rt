@@ -27,7 +27,8 @@ fn words<'a>(now: &'a str) -> [&'a str; 12] {
 
 /// A packet of two hops that expired at second 21700, in hexadecimal.
 fn late_packet() -> &'static [u8] {
-    b"0001ff00000001100001ff0000000111000020000000b39600000064003f00020000b1b2b3b4b5b6003f00000001a1a2a3a4a5a6\n"
+    b"0001ff00000001100001ff0000000111000020000000b39600000064003f00020000b1b2b3b4b5b6003f0000\
+      0001a1a2a3a4a5a6\n"
 }
 
 /// A reader that a signal interrupts before it gives these bytes.

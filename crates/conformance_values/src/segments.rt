@@ -7,12 +7,17 @@ use std::test::Fail;
 
 /// The text of the worked segment.
 fn text() -> &'static str {
-    "{\"beta0\":4660,\"entries\":[{\"egress\":1,\"exp\":63,\"ia\":\"1-ff00:0:110\",\"ingress\":0,\"mac\":\"a1a2a3a4a5a6\"},{\"egress\":0,\"exp\":63,\"ia\":\"1-ff00:0:111\",\"ingress\":2,\"mac\":\"b1b2b3b4b5b6\"}],\"kind\":\"intra\",\"timestamp\":100}"
+    "{\"beta0\":4660,\"entries\":[{\"egress\":1,\"exp\":63,\"ia\":\"1-ff00:0:110\",\"ingress\":0,\
+    \"mac\":\"a1a2a3a4a5a6\"},{\"egress\":0,\"exp\":63,\"ia\":\"1-ff00:0:111\",\"ingress\":2,\
+    \"mac\":\"b1b2b3b4b5b6\"}],\"kind\":\"intra\",\"timestamp\":100}"
 }
 
 /// The same in another spacing, another order of names, capital digits and with other members.
 fn other_text() -> &'static str {
-    " {\"timestamp\" : 100,\n\"more\":[1.5, null], \"kind\":\"intra\", \"entries\":[ {\"ia\":\"1-FF00:0:0110\", \"mac\":\"A1a2A3a4A5a6\",\"ingress\":0, \"egress\":1, \"exp\":63, \"x\":{}},\t{\"mac\":\"B1B2B3B4B5B6\",\"exp\":63,\"egress\":0,\"ingress\":2,\"ia\":\"1-ff00:0:111\"} ], \"beta0\":4660 }\r\n"
+    " {\"timestamp\" : 100,\n\"more\":[1.5, null], \"kind\":\"intra\", \
+    \"entries\":[ {\"ia\":\"1-FF00:0:0110\", \"mac\":\"A1a2A3a4A5a6\",\"ingress\":0, \"egress\":1, \
+    \"exp\":63, \"x\":{}},\t{\"mac\":\"B1B2B3B4B5B6\",\"exp\":63,\"egress\":0,\"ingress\":2,\
+    \"ia\":\"1-ff00:0:111\"} ], \"beta0\":4660 }\r\n"
 }
 
 fn entry(ia: u64, cons_ingress: u16, cons_egress: u16, mac: [u8; 6]) -> Entry {

@@ -7,83 +7,224 @@ use std::process::Abort;
 use std::test::Fail;
 
 /// A core AS, its child, and the child of that.
-const ROW: &str =
-    r#"{"ases":[{"ia":"1-ff00:0:110","core":true,"exp":63,"key":"6130","routers":1},{"ia":"1-ff00:0:111","core":false,"exp":63,"key":"6131","routers":1},{"ia":"1-ff00:0:112","core":false,"exp":63,"key":"6132","routers":1}],"links":[{"kind":"child","a":{"ia":"1-ff00:0:110","if":1,"router":0},"b":{"ia":"1-ff00:0:111","if":1,"router":0}},{"kind":"child","a":{"ia":"1-ff00:0:111","if":2,"router":0},"b":{"ia":"1-ff00:0:112","if":1,"router":0}}]}"#;
+const ROW: &str = concat!(
+    r#"{"ases":[{"ia":"1-ff00:0:110","core":true,"exp":63,"key":"6130","routers":1},"#,
+    r#"{"ia":"1-ff00:0:111","core":false,"exp":63,"key":"6131","routers":1},"#,
+    r#"{"ia":"1-ff00:0:112","core":false,"exp":63,"key":"6132","routers":1}],"#,
+    r#""links":[{"kind":"child","a":{"ia":"1-ff00:0:110","if":1,"router":0},"#,
+    r#""b":{"ia":"1-ff00:0:111","if":1,"router":0}},"#,
+    r#"{"kind":"child","a":{"ia":"1-ff00:0:111","if":2,"router":0},"#,
+    r#""b":{"ia":"1-ff00:0:112","if":1,"router":0}}]}"#,
+);
 
 /// Two ISDs, each with a core AS, its child and the child of that, in which each AS has two
 /// routers.
-const PAIR: &str =
-    r#"{"ases":[{"ia":"1-ff00:0:110","core":true,"exp":63,"key":"6b","routers":2},{"ia":"1-ff00:0:111","core":false,"exp":63,"key":"6b","routers":2},{"ia":"1-ff00:0:112","core":false,"exp":63,"key":"6b","routers":2},{"ia":"2-ff00:0:210","core":true,"exp":63,"key":"6b","routers":2},{"ia":"2-ff00:0:211","core":false,"exp":63,"key":"6b","routers":2},{"ia":"2-ff00:0:212","core":false,"exp":63,"key":"6b","routers":2}],"links":[{"kind":"child","a":{"ia":"1-ff00:0:110","if":1,"router":0},"b":{"ia":"1-ff00:0:111","if":1,"router":0}},{"kind":"child","a":{"ia":"1-ff00:0:111","if":2,"router":1},"b":{"ia":"1-ff00:0:112","if":1,"router":0}},{"kind":"core","a":{"ia":"1-ff00:0:110","if":2,"router":1},"b":{"ia":"2-ff00:0:210","if":1,"router":0}},{"kind":"child","a":{"ia":"2-ff00:0:210","if":2,"router":1},"b":{"ia":"2-ff00:0:211","if":1,"router":0}},{"kind":"child","a":{"ia":"2-ff00:0:211","if":2,"router":1},"b":{"ia":"2-ff00:0:212","if":1,"router":0}}]}"#;
+const PAIR: &str = concat!(
+    r#"{"ases":[{"ia":"1-ff00:0:110","core":true,"exp":63,"key":"6b","routers":2},"#,
+    r#"{"ia":"1-ff00:0:111","core":false,"exp":63,"key":"6b","routers":2},"#,
+    r#"{"ia":"1-ff00:0:112","core":false,"exp":63,"key":"6b","routers":2},"#,
+    r#"{"ia":"2-ff00:0:210","core":true,"exp":63,"key":"6b","routers":2},"#,
+    r#"{"ia":"2-ff00:0:211","core":false,"exp":63,"key":"6b","routers":2},"#,
+    r#"{"ia":"2-ff00:0:212","core":false,"exp":63,"key":"6b","routers":2}],"#,
+    r#""links":[{"kind":"child","a":{"ia":"1-ff00:0:110","if":1,"router":0},"#,
+    r#""b":{"ia":"1-ff00:0:111","if":1,"router":0}},"#,
+    r#"{"kind":"child","a":{"ia":"1-ff00:0:111","if":2,"router":1},"#,
+    r#""b":{"ia":"1-ff00:0:112","if":1,"router":0}},"#,
+    r#"{"kind":"core","a":{"ia":"1-ff00:0:110","if":2,"router":1},"#,
+    r#""b":{"ia":"2-ff00:0:210","if":1,"router":0}},"#,
+    r#"{"kind":"child","a":{"ia":"2-ff00:0:210","if":2,"router":1},"#,
+    r#""b":{"ia":"2-ff00:0:211","if":1,"router":0}},"#,
+    r#"{"kind":"child","a":{"ia":"2-ff00:0:211","if":2,"router":1},"#,
+    r#""b":{"ia":"2-ff00:0:212","if":1,"router":0}}]}"#,
+);
 
 /// A core AS, its child with two routers, and two children of that.
-const FORK: &str =
-    r#"{"ases":[{"ia":"1-ff00:0:110","core":true,"exp":63,"key":"6b","routers":1},{"ia":"1-ff00:0:111","core":false,"exp":63,"key":"6b","routers":2},{"ia":"1-ff00:0:112","core":false,"exp":63,"key":"6b","routers":1},{"ia":"1-ff00:0:113","core":false,"exp":63,"key":"6b","routers":1}],"links":[{"kind":"child","a":{"ia":"1-ff00:0:110","if":1,"router":0},"b":{"ia":"1-ff00:0:111","if":1,"router":0}},{"kind":"child","a":{"ia":"1-ff00:0:111","if":2,"router":0},"b":{"ia":"1-ff00:0:112","if":1,"router":0}},{"kind":"child","a":{"ia":"1-ff00:0:111","if":3,"router":1},"b":{"ia":"1-ff00:0:113","if":1,"router":0}}]}"#;
+const FORK: &str = concat!(
+    r#"{"ases":[{"ia":"1-ff00:0:110","core":true,"exp":63,"key":"6b","routers":1},"#,
+    r#"{"ia":"1-ff00:0:111","core":false,"exp":63,"key":"6b","routers":2},"#,
+    r#"{"ia":"1-ff00:0:112","core":false,"exp":63,"key":"6b","routers":1},"#,
+    r#"{"ia":"1-ff00:0:113","core":false,"exp":63,"key":"6b","routers":1}],"#,
+    r#""links":[{"kind":"child","a":{"ia":"1-ff00:0:110","if":1,"router":0},"#,
+    r#""b":{"ia":"1-ff00:0:111","if":1,"router":0}},"#,
+    r#"{"kind":"child","a":{"ia":"1-ff00:0:111","if":2,"router":0},"#,
+    r#""b":{"ia":"1-ff00:0:112","if":1,"router":0}},"#,
+    r#"{"kind":"child","a":{"ia":"1-ff00:0:111","if":3,"router":1},"#,
+    r#""b":{"ia":"1-ff00:0:113","if":1,"router":0}}]}"#,
+);
 
-const ROW_DRAWN: &str = r#"graph network {
-labelloc=b; labeljust=l; ranksep=1; edge [labeldistance=1.5, fontsize=11];
-subgraph cluster_1 { label="ISD 1"; subgraph "cluster_1-ff00:0:110" { label="1-ff00:0:110 core"; style=bold; "1-ff00:0:110 0" [label=0]; } }
-subgraph cluster_1 { label="ISD 1"; subgraph "cluster_1-ff00:0:111" { label="1-ff00:0:111"; style=rounded; "1-ff00:0:111 0" [label=0]; } }
-subgraph cluster_1 { label="ISD 1"; subgraph "cluster_1-ff00:0:112" { label="1-ff00:0:112"; style=rounded; "1-ff00:0:112 0" [label=0]; } }
-"1-ff00:0:110 0" -- "1-ff00:0:111 0" [taillabel=1, headlabel=1, dir=forward];
-"1-ff00:0:111 0" -- "1-ff00:0:112 0" [taillabel=2, headlabel=1, dir=forward];
-}
-"#;
+const ROW_DRAWN: &str = concat!(
+    "graph network {",
+    "\n",
+    "labelloc=b; labeljust=l; ranksep=1; edge [labeldistance=1.5, fontsize=11];",
+    "\n",
+    r#"subgraph cluster_1 { label="ISD 1"; "#,
+    r#"subgraph "cluster_1-ff00:0:110" { label="1-ff00:0:110 core"; style=bold; "#,
+    r#""1-ff00:0:110 0" [label=0]; } }"#,
+    "\n",
+    r#"subgraph cluster_1 { label="ISD 1"; "#,
+    r#"subgraph "cluster_1-ff00:0:111" { label="1-ff00:0:111"; style=rounded; "#,
+    r#""1-ff00:0:111 0" [label=0]; } }"#,
+    "\n",
+    r#"subgraph cluster_1 { label="ISD 1"; "#,
+    r#"subgraph "cluster_1-ff00:0:112" { label="1-ff00:0:112"; style=rounded; "#,
+    r#""1-ff00:0:112 0" [label=0]; } }"#,
+    "\n",
+    r#""1-ff00:0:110 0" -- "1-ff00:0:111 0" [taillabel=1, headlabel=1, dir=forward];"#,
+    "\n",
+    r#""1-ff00:0:111 0" -- "1-ff00:0:112 0" [taillabel=2, headlabel=1, dir=forward];"#,
+    "\n",
+    "}",
+    "\n",
+);
 
-const PAIR_DRAWN: &str = r#"graph network {
-labelloc=b; labeljust=l; ranksep=1; edge [labeldistance=1.5, fontsize=11];
-subgraph cluster_1 { label="ISD 1"; subgraph "cluster_1-ff00:0:110" { label="1-ff00:0:110 core"; style=bold; "1-ff00:0:110 0" [label=0]; "1-ff00:0:110 1" [label=1]; } }
-subgraph cluster_1 { label="ISD 1"; subgraph "cluster_1-ff00:0:111" { label="1-ff00:0:111"; style=rounded; "1-ff00:0:111 0" [label=0]; "1-ff00:0:111 1" [label=1]; } }
-subgraph cluster_1 { label="ISD 1"; subgraph "cluster_1-ff00:0:112" { label="1-ff00:0:112"; style=rounded; "1-ff00:0:112 0" [label=0]; "1-ff00:0:112 1" [label=1]; } }
-subgraph cluster_2 { label="ISD 2"; subgraph "cluster_2-ff00:0:210" { label="2-ff00:0:210 core"; style=bold; "2-ff00:0:210 0" [label=0]; "2-ff00:0:210 1" [label=1]; } }
-subgraph cluster_2 { label="ISD 2"; subgraph "cluster_2-ff00:0:211" { label="2-ff00:0:211"; style=rounded; "2-ff00:0:211 0" [label=0]; "2-ff00:0:211 1" [label=1]; } }
-subgraph cluster_2 { label="ISD 2"; subgraph "cluster_2-ff00:0:212" { label="2-ff00:0:212"; style=rounded; "2-ff00:0:212 0" [label=0]; "2-ff00:0:212 1" [label=1]; } }
-"1-ff00:0:110 0" -- "1-ff00:0:111 0" [taillabel=1, headlabel=1, dir=forward];
-"1-ff00:0:111 1" -- "1-ff00:0:112 0" [taillabel=2, headlabel=1, dir=forward];
-"1-ff00:0:110 1" -- "2-ff00:0:210 0" [taillabel=2, headlabel=1, penwidth=3];
-"2-ff00:0:210 1" -- "2-ff00:0:211 0" [taillabel=2, headlabel=1, dir=forward];
-"2-ff00:0:211 1" -- "2-ff00:0:212 0" [taillabel=2, headlabel=1, dir=forward];
-}
-"#;
+const PAIR_DRAWN: &str = concat!(
+    "graph network {",
+    "\n",
+    "labelloc=b; labeljust=l; ranksep=1; edge [labeldistance=1.5, fontsize=11];",
+    "\n",
+    r#"subgraph cluster_1 { label="ISD 1"; "#,
+    r#"subgraph "cluster_1-ff00:0:110" { label="1-ff00:0:110 core"; style=bold; "#,
+    r#""1-ff00:0:110 0" [label=0]; "1-ff00:0:110 1" [label=1]; } }"#,
+    "\n",
+    r#"subgraph cluster_1 { label="ISD 1"; "#,
+    r#"subgraph "cluster_1-ff00:0:111" { label="1-ff00:0:111"; style=rounded; "#,
+    r#""1-ff00:0:111 0" [label=0]; "1-ff00:0:111 1" [label=1]; } }"#,
+    "\n",
+    r#"subgraph cluster_1 { label="ISD 1"; "#,
+    r#"subgraph "cluster_1-ff00:0:112" { label="1-ff00:0:112"; style=rounded; "#,
+    r#""1-ff00:0:112 0" [label=0]; "1-ff00:0:112 1" [label=1]; } }"#,
+    "\n",
+    r#"subgraph cluster_2 { label="ISD 2"; "#,
+    r#"subgraph "cluster_2-ff00:0:210" { label="2-ff00:0:210 core"; style=bold; "#,
+    r#""2-ff00:0:210 0" [label=0]; "2-ff00:0:210 1" [label=1]; } }"#,
+    "\n",
+    r#"subgraph cluster_2 { label="ISD 2"; "#,
+    r#"subgraph "cluster_2-ff00:0:211" { label="2-ff00:0:211"; style=rounded; "#,
+    r#""2-ff00:0:211 0" [label=0]; "2-ff00:0:211 1" [label=1]; } }"#,
+    "\n",
+    r#"subgraph cluster_2 { label="ISD 2"; "#,
+    r#"subgraph "cluster_2-ff00:0:212" { label="2-ff00:0:212"; style=rounded; "#,
+    r#""2-ff00:0:212 0" [label=0]; "2-ff00:0:212 1" [label=1]; } }"#,
+    "\n",
+    r#""1-ff00:0:110 0" -- "1-ff00:0:111 0" [taillabel=1, headlabel=1, dir=forward];"#,
+    "\n",
+    r#""1-ff00:0:111 1" -- "1-ff00:0:112 0" [taillabel=2, headlabel=1, dir=forward];"#,
+    "\n",
+    r#""1-ff00:0:110 1" -- "2-ff00:0:210 0" [taillabel=2, headlabel=1, penwidth=3];"#,
+    "\n",
+    r#""2-ff00:0:210 1" -- "2-ff00:0:211 0" [taillabel=2, headlabel=1, dir=forward];"#,
+    "\n",
+    r#""2-ff00:0:211 1" -- "2-ff00:0:212 0" [taillabel=2, headlabel=1, dir=forward];"#,
+    "\n",
+    "}",
+    "\n",
+);
 
-const FORK_DRAWN: &str = r#"graph network {
-labelloc=b; labeljust=l; ranksep=1; edge [labeldistance=1.5, fontsize=11];
-subgraph cluster_1 { label="ISD 1"; subgraph "cluster_1-ff00:0:110" { label="1-ff00:0:110 core"; style=bold; "1-ff00:0:110 0" [label=0]; } }
-subgraph cluster_1 { label="ISD 1"; subgraph "cluster_1-ff00:0:111" { label="1-ff00:0:111"; style=rounded; "1-ff00:0:111 0" [label=0]; "1-ff00:0:111 1" [label=1]; } }
-subgraph cluster_1 { label="ISD 1"; subgraph "cluster_1-ff00:0:112" { label="1-ff00:0:112"; style=rounded; "1-ff00:0:112 0" [label=0]; } }
-subgraph cluster_1 { label="ISD 1"; subgraph "cluster_1-ff00:0:113" { label="1-ff00:0:113"; style=rounded; "1-ff00:0:113 0" [label=0]; } }
-"1-ff00:0:110 0" -- "1-ff00:0:111 0" [taillabel=1, headlabel=1, dir=forward];
-"1-ff00:0:111 0" -- "1-ff00:0:112 0" [taillabel=2, headlabel=1, dir=forward];
-"1-ff00:0:111 1" -- "1-ff00:0:113 0" [taillabel=3, headlabel=1, dir=forward];
-}
-"#;
+const FORK_DRAWN: &str = concat!(
+    "graph network {",
+    "\n",
+    "labelloc=b; labeljust=l; ranksep=1; edge [labeldistance=1.5, fontsize=11];",
+    "\n",
+    r#"subgraph cluster_1 { label="ISD 1"; "#,
+    r#"subgraph "cluster_1-ff00:0:110" { label="1-ff00:0:110 core"; style=bold; "#,
+    r#""1-ff00:0:110 0" [label=0]; } }"#,
+    "\n",
+    r#"subgraph cluster_1 { label="ISD 1"; "#,
+    r#"subgraph "cluster_1-ff00:0:111" { label="1-ff00:0:111"; style=rounded; "#,
+    r#""1-ff00:0:111 0" [label=0]; "1-ff00:0:111 1" [label=1]; } }"#,
+    "\n",
+    r#"subgraph cluster_1 { label="ISD 1"; "#,
+    r#"subgraph "cluster_1-ff00:0:112" { label="1-ff00:0:112"; style=rounded; "#,
+    r#""1-ff00:0:112 0" [label=0]; } }"#,
+    "\n",
+    r#"subgraph cluster_1 { label="ISD 1"; "#,
+    r#"subgraph "cluster_1-ff00:0:113" { label="1-ff00:0:113"; style=rounded; "#,
+    r#""1-ff00:0:113 0" [label=0]; } }"#,
+    "\n",
+    r#""1-ff00:0:110 0" -- "1-ff00:0:111 0" [taillabel=1, headlabel=1, dir=forward];"#,
+    "\n",
+    r#""1-ff00:0:111 0" -- "1-ff00:0:112 0" [taillabel=2, headlabel=1, dir=forward];"#,
+    "\n",
+    r#""1-ff00:0:111 1" -- "1-ff00:0:113 0" [taillabel=3, headlabel=1, dir=forward];"#,
+    "\n",
+    "}",
+    "\n",
+);
 
 /// The row with its upper link cut, and a packet that has come up over the lower one.
-const CUT_DRAWN: &str = r#"graph network {
-labelloc=b; labeljust=l; ranksep=1; edge [labeldistance=1.5, fontsize=11];
-subgraph cluster_1 { label="ISD 1"; subgraph "cluster_1-ff00:0:110" { label="1-ff00:0:110 core"; style=bold; "1-ff00:0:110 0" [label=0]; } }
-subgraph cluster_1 { label="ISD 1"; subgraph "cluster_1-ff00:0:111" { label="1-ff00:0:111"; style=rounded; "1-ff00:0:111 0" [label=0, style=filled, fillcolor=red]; } }
-subgraph cluster_1 { label="ISD 1"; subgraph "cluster_1-ff00:0:112" { label="1-ff00:0:112"; style=rounded; "1-ff00:0:112 0" [label=0]; } }
-"1-ff00:0:110 0" -- "1-ff00:0:111 0" [taillabel=1, headlabel=1, dir=forward, style=dashed];
-"1-ff00:0:111 0" -- "1-ff00:0:112 0" [taillabel=2, headlabel=1, dir=forward, color=red, penwidth=5];
-}
-"#;
+const CUT_DRAWN: &str = concat!(
+    "graph network {",
+    "\n",
+    "labelloc=b; labeljust=l; ranksep=1; edge [labeldistance=1.5, fontsize=11];",
+    "\n",
+    r#"subgraph cluster_1 { label="ISD 1"; "#,
+    r#"subgraph "cluster_1-ff00:0:110" { label="1-ff00:0:110 core"; style=bold; "#,
+    r#""1-ff00:0:110 0" [label=0]; } }"#,
+    "\n",
+    r#"subgraph cluster_1 { label="ISD 1"; "#,
+    r#"subgraph "cluster_1-ff00:0:111" { label="1-ff00:0:111"; style=rounded; "#,
+    r#""1-ff00:0:111 0" [label=0, style=filled, fillcolor=red]; } }"#,
+    "\n",
+    r#"subgraph cluster_1 { label="ISD 1"; "#,
+    r#"subgraph "cluster_1-ff00:0:112" { label="1-ff00:0:112"; style=rounded; "#,
+    r#""1-ff00:0:112 0" [label=0]; } }"#,
+    "\n",
+    r#""1-ff00:0:110 0" -- "1-ff00:0:111 0" [taillabel=1, headlabel=1, dir=forward, "#,
+    "style=dashed];",
+    "\n",
+    r#""1-ff00:0:111 0" -- "1-ff00:0:112 0" [taillabel=2, headlabel=1, dir=forward, color=red, "#,
+    "penwidth=5];",
+    "\n",
+    "}",
+    "\n",
+);
 
 /// The pair, and a packet from the end of the first ISD that has come into the second one.
-const ACROSS_DRAWN: &str = r#"graph network {
-labelloc=b; labeljust=l; ranksep=1; edge [labeldistance=1.5, fontsize=11];
-subgraph cluster_1 { label="ISD 1"; subgraph "cluster_1-ff00:0:110" { label="1-ff00:0:110 core"; style=bold; "1-ff00:0:110 0" [label=0]; "1-ff00:0:110 1" [label=1]; } }
-subgraph cluster_1 { label="ISD 1"; subgraph "cluster_1-ff00:0:111" { label="1-ff00:0:111"; style=rounded; "1-ff00:0:111 0" [label=0]; "1-ff00:0:111 1" [label=1]; } }
-subgraph cluster_1 { label="ISD 1"; subgraph "cluster_1-ff00:0:112" { label="1-ff00:0:112"; style=rounded; "1-ff00:0:112 0" [label=0]; "1-ff00:0:112 1" [label=1]; } }
-subgraph cluster_2 { label="ISD 2"; subgraph "cluster_2-ff00:0:210" { label="2-ff00:0:210 core"; style=bold; "2-ff00:0:210 0" [label=0, style=filled, fillcolor=red]; "2-ff00:0:210 1" [label=1]; } }
-subgraph cluster_2 { label="ISD 2"; subgraph "cluster_2-ff00:0:211" { label="2-ff00:0:211"; style=rounded; "2-ff00:0:211 0" [label=0]; "2-ff00:0:211 1" [label=1]; } }
-subgraph cluster_2 { label="ISD 2"; subgraph "cluster_2-ff00:0:212" { label="2-ff00:0:212"; style=rounded; "2-ff00:0:212 0" [label=0]; "2-ff00:0:212 1" [label=1]; } }
-"1-ff00:0:110 0" -- "1-ff00:0:111 0" [taillabel=1, headlabel=1, dir=forward, color=red, penwidth=5];
-"1-ff00:0:111 1" -- "1-ff00:0:112 0" [taillabel=2, headlabel=1, dir=forward, color=red, penwidth=5];
-"1-ff00:0:110 1" -- "2-ff00:0:210 0" [taillabel=2, headlabel=1, penwidth=3, color=red, penwidth=5];
-"2-ff00:0:210 1" -- "2-ff00:0:211 0" [taillabel=2, headlabel=1, dir=forward];
-"2-ff00:0:211 1" -- "2-ff00:0:212 0" [taillabel=2, headlabel=1, dir=forward];
-}
-"#;
+const ACROSS_DRAWN: &str = concat!(
+    "graph network {",
+    "\n",
+    "labelloc=b; labeljust=l; ranksep=1; edge [labeldistance=1.5, fontsize=11];",
+    "\n",
+    r#"subgraph cluster_1 { label="ISD 1"; "#,
+    r#"subgraph "cluster_1-ff00:0:110" { label="1-ff00:0:110 core"; style=bold; "#,
+    r#""1-ff00:0:110 0" [label=0]; "1-ff00:0:110 1" [label=1]; } }"#,
+    "\n",
+    r#"subgraph cluster_1 { label="ISD 1"; "#,
+    r#"subgraph "cluster_1-ff00:0:111" { label="1-ff00:0:111"; style=rounded; "#,
+    r#""1-ff00:0:111 0" [label=0]; "1-ff00:0:111 1" [label=1]; } }"#,
+    "\n",
+    r#"subgraph cluster_1 { label="ISD 1"; "#,
+    r#"subgraph "cluster_1-ff00:0:112" { label="1-ff00:0:112"; style=rounded; "#,
+    r#""1-ff00:0:112 0" [label=0]; "1-ff00:0:112 1" [label=1]; } }"#,
+    "\n",
+    r#"subgraph cluster_2 { label="ISD 2"; "#,
+    r#"subgraph "cluster_2-ff00:0:210" { label="2-ff00:0:210 core"; style=bold; "#,
+    r#""2-ff00:0:210 0" [label=0, style=filled, fillcolor=red]; "2-ff00:0:210 1" [label=1]; } }"#,
+    "\n",
+    r#"subgraph cluster_2 { label="ISD 2"; "#,
+    r#"subgraph "cluster_2-ff00:0:211" { label="2-ff00:0:211"; style=rounded; "#,
+    r#""2-ff00:0:211 0" [label=0]; "2-ff00:0:211 1" [label=1]; } }"#,
+    "\n",
+    r#"subgraph cluster_2 { label="ISD 2"; "#,
+    r#"subgraph "cluster_2-ff00:0:212" { label="2-ff00:0:212"; style=rounded; "#,
+    r#""2-ff00:0:212 0" [label=0]; "2-ff00:0:212 1" [label=1]; } }"#,
+    "\n",
+    r#""1-ff00:0:110 0" -- "1-ff00:0:111 0" [taillabel=1, headlabel=1, dir=forward, color=red, "#,
+    "penwidth=5];",
+    "\n",
+    r#""1-ff00:0:111 1" -- "1-ff00:0:112 0" [taillabel=2, headlabel=1, dir=forward, color=red, "#,
+    "penwidth=5];",
+    "\n",
+    r#""1-ff00:0:110 1" -- "2-ff00:0:210 0" [taillabel=2, headlabel=1, penwidth=3, color=red, "#,
+    "penwidth=5];",
+    "\n",
+    r#""2-ff00:0:210 1" -- "2-ff00:0:211 0" [taillabel=2, headlabel=1, dir=forward];"#,
+    "\n",
+    r#""2-ff00:0:211 1" -- "2-ff00:0:212 0" [taillabel=2, headlabel=1, dir=forward];"#,
+    "\n",
+    "}",
+    "\n",
+);
 
 /// A hop.
 fn hop(ia: &str, ingress: u16, egress: u16) -> Result<WalkHop, Fail> {

@@ -6,15 +6,18 @@ use step_line::{StepArgs, StepCommand, StepFault};
 
 /// A packet of two hops from 1-ff00:0:111 to 1-ff00:0:110, at its first hop.
 const RIGHT: &str =
-    "0001ff00000001100001ff0000000111000020000000b39600000064003f00020000110e4c1d3dad003f00000001a1a2a3a4a5a6";
+    "0001ff00000001100001ff0000000111000020000000b39600000064003f00020000110e4c1d3dad003f00000001a1\
+    a2a3a4a5a6";
 
 /// The same packet with a wrong authenticator.
 const WRONG: &str =
-    "0001ff00000001100001ff0000000111000020000000b39600000064003f00020000b1b2b3b4b5b6003f00000001a1a2a3a4a5a6";
+    "0001ff00000001100001ff0000000111000020000000b39600000064003f00020000b1b2b3b4b5b6003f00000001a1\
+    a2a3a4a5a6";
 
 /// The same packet cut off by a byte.
 const CUT: &str =
-    "0001ff00000001100001ff0000000111000020000000b39600000064003f00020000b1b2b3b4b5b6003f00000001a1a2a3a4a5";
+    "0001ff00000001100001ff0000000111000020000000b39600000064003f00020000b1b2b3b4b5b6003f00000001a1\
+    a2a3a4a5";
 
 /// What is shown of the right packet where a host gives it to its router at second 100.
 const SHOWN: &str = "0001ff0000000110 destination 1-ff00:0:110\n\
@@ -35,7 +38,8 @@ const SHOWN: &str = "0001ff0000000110 destination 1-ff00:0:110\n\
      0001 hop 1 construction egress 1\n\
      a1a2a3a4a5a6 hop 1 authenticator\n\
      1 header: a packet of 52 bytes: ok\n\
-     2 indices: at info field 0, hop field 0 of segment 0; segments of 2, 0 and 0 hop fields; from a host: ok\n\
+     2 indices: at info field 0, hop field 0 of segment 0; segments of 2, \
+     0 and 0 hop fields; from a host: ok\n\
      3 way in: from a host; the way in is interface 0 of no router, this is router 0: ok\n\
      4 live: expires at 21700, now 100: ok\n\
      5 authenticator: packet 110e4c1d3dad, right under the key in use: 110e4c1d3dad: ok\n\
@@ -45,7 +49,8 @@ const SHOWN: &str = "0001ff0000000110 destination 1-ff00:0:110\n\
      11 link kinds: from a host to parent: ok\n\
      12 owner: router 0, this is router 0: ok\n\
      13 link: up: ok\n\
-     link 2 0001ff00000001100001ff0000000111010020000000b39600000064003f00020000110e4c1d3dad003f00000001a1a2a3a4a5a6";
+     link 2 0001ff00000001100001ff0000000111010020000000b39600000064003f00020000110e4c1d3dad003f000\
+     00001a1a2a3a4a5a6";
 
 /// The turn of router 0 of 1-ff00:0:111, at this second and with this key before `6b`, over a
 /// packet of a host.

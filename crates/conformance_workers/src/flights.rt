@@ -18,8 +18,12 @@ static ELSEWHERE: &str =
     r#"{"ases":[{"ia":"1-9","core":true,"exp":63,"key":"61","routers":1}],"links":[]}"#;
 
 /// The row's last link, at another interface of the last AS.
-static RENUMBERED: &str =
-    r#"{"ases":[{"ia":"1-ff00:0:111","core":false,"exp":63,"key":"6131","routers":1},{"ia":"1-ff00:0:112","core":false,"exp":63,"key":"6132","routers":1}],"links":[{"kind":"child","a":{"ia":"1-ff00:0:111","if":2,"router":0},"b":{"ia":"1-ff00:0:112","if":9,"router":0}}]}"#;
+static RENUMBERED: &str = concat!(
+    r#"{"ases":[{"ia":"1-ff00:0:111","core":false,"exp":63,"key":"6131","routers":1},"#,
+    r#"{"ia":"1-ff00:0:112","core":false,"exp":63,"key":"6132","routers":1}],"#,
+    r#""links":[{"kind":"child","a":{"ia":"1-ff00:0:111","if":2,"router":0},"#,
+    r#""b":{"ia":"1-ff00:0:112","if":9,"router":0}}]}"#,
+);
 
 /// The flight after one turn more under the view of its place; as it is where that has none.
 pub(crate) fn after_turn<'a>(flight: Flight<'a>) -> Flight<'a>

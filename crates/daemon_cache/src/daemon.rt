@@ -156,7 +156,8 @@ impl Daemon {
         ensures board { reader.new.board ≡ reader.old.board }
         ensures later { IsPrefix reader.old.seen reader.new.seen }
         // The answer is one to the request over what the reader has then seen.
-        ensures found { IfOk result (λ given. IsAnswerToRequest (request_value src dst options.now limit)
+        ensures found { IfOk result
+            (λ given. IsAnswerToRequest (request_value src dst options.now limit)
             (segments_for (store_of reader.new.seen) src dst now) given.0) }
         // An answer is returned only to a lawful request.
         ensures lawful { OnOk result (lawful_at (request_value src dst options.now limit) ≡ Ok tt) }

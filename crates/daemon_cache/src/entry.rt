@@ -89,7 +89,8 @@ impl Entry {
         requires { AreAllLive set.now set.now.moment }
         ensures own { IsSome result ↔ IsFor self.now request.now set.now }
         ensures same { IfSome result (λ given. IfOk given (λ paths. paths ≡ self.now.answer)) }
-        ensures answers { IfSome result (λ given. IfOk given (IsAnswerToRequest request.now set.now)) }
+        ensures answers { IfSome result
+            (λ given. IfOk given (IsAnswerToRequest request.now set.now)) }
     {
         if !self.request.is_of(request) || !are_of_one(&self.set, set) {
             return None;

@@ -60,7 +60,7 @@ most_input = 67108864
 abbrev pub Wrote : AcceptedLines → List (List ℕ) → List ℕ → Stage → Type 0
 Wrote accepted lines went stage =
     (texts : List (List ℕ))
-        × (RepliesToInput accepted lines texts stage × (went ≡ ended_lines texts))
+    × (RepliesToInput accepted lines texts stage × (went ≡ ended_lines texts))
 
 -- a beginning of the replies to these lines was written
 abbrev pub WroteSome : AcceptedLines → List (List ℕ) → List ℕ → Type 0

@@ -70,7 +70,8 @@ fn exchange<K: Sink>(
 ) -> Result<(), RunFault>
     requires whole { has_line_end session.old.rest.items ≡ false }
     requires written { string_bytes session.old.replies ≡ [] }
-    ensures told { Exchanges accepted result bytes.now (session_value session.old) (session_value session.new)
+    ensures told { Exchanges accepted result bytes.now (session_value session.old)
+        (session_value session.new)
         (K.held sink.old) (K.held sink.new) }
     ensures flag { K.failed sink.new ≡ (K.failed sink.old || is_write_fault result) }
 {

@@ -110,7 +110,8 @@ impl Session {
     /// Whether the run has begun and no bytes follow the last end of a line.
     pub(crate) fn is_done(&self) -> bool
         ensures done { result ≡ true → (net : NetValue) × IsRunDone (session_value self.now) net }
-        ensures more { result ≡ false → last_lines (session_value self.now) ≡ self.now.rest.items ∷ [] }
+        ensures more { result ≡ false
+            → last_lines (session_value self.now) ≡ self.now.rest.items ∷ [] }
     {
         match &self.net {
             Some(_) => self.rest.is_empty(),
@@ -177,7 +178,8 @@ impl Session {
         bytes: &[u8],
     ) -> Result<(), RunFault>
         requires { has_line_end self.old.rest.items ≡ false }
-        ensures { AnswersBytes accepted result bytes.now (session_value self.old) (session_value self.new) }
+        ensures { AnswersBytes accepted result bytes.now (session_value self.old)
+            (session_value self.new) }
     {
         let mut left = bytes;
         while let Some((line, behind)) = cut_line(left) {

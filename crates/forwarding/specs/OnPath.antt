@@ -26,9 +26,16 @@ header_on (Link interface) spot = header_coming spot
 -- a packet at a router of this entry's AS
 abbrev pub at_spot : ℕ → ℕ → List ℕ → PathPosition → Entry → Arrival → ℕ → ℕ → List WalkHop → Packet
 at_spot source destination payload spot entry arrival router came_in_by passed =
-    record { bytes = framed source destination (header_on arrival spot) payload;
-        place = AtRouter (record { ia = entry.ia; router = router; arrival = arrival;
-        came_in_by = came_in_by }); passed = passed }
+    record {
+      bytes = framed source destination (header_on arrival spot) payload;
+      place = AtRouter (record {
+        ia = entry.ia;
+        router = router;
+        arrival = arrival;
+        came_in_by = came_in_by;
+      });
+      passed = passed;
+    }
 
 -- the router that has the packet fits how it arrived. From a host: at the beginning of the path, at
 -- the owner of the way out. From inside: at the owner of the way out. Over a link: at the owner of
@@ -73,8 +80,11 @@ pub record ComesNearer (n : Network) (now source destination : ℕ) (payload : L
 -- sent, and the whole walk passed
 abbrev pub arrived_with : ℕ → ℕ → List ℕ → List PieceValue → Packet
 arrived_with source destination payload pieces =
-    record { bytes = framed source destination (header_behind pieces) payload; place = Delivered;
-        passed = walk_of pieces }
+    record {
+      bytes = framed source destination (header_behind pieces) payload;
+      place = Delivered;
+      passed = walk_of pieces;
+    }
 
 -- the last turn delivers the packet
 pub record Arrives (n : Network) (now source destination : ℕ) (payload : List ℕ)

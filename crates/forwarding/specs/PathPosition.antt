@@ -48,10 +48,13 @@ info_left piece = info_with piece (beta_at piece (len_of piece - 1))
 -- the header at a place, with this accumulator in the info field of the current piece
 unfoldable pub header_with : PathPosition → ℕ → HeaderValue
 header_with spot seg_id =
-    record { curr_inf = length spot.past; curr_hf = total_hops spot.past + spot.reached;
-        lens = lens_from (map len_of (pieces_at spot));
-        infos = map info_left spot.past ++ info_with spot.piece seg_id ∷ map info_of spot.later;
-        hops = flat_map fields_of (pieces_at spot) }
+    record {
+      curr_inf = length spot.past;
+      curr_hf = total_hops spot.past + spot.reached;
+      lens = lens_from (map len_of (pieces_at spot));
+      infos = map info_left spot.past ++ info_with spot.piece seg_id ∷ map info_of spot.later;
+      hops = flat_map fields_of (pieces_at spot);
+    }
 
 -- the header of a packet at a place, after its arrival
 abbrev pub header_there : PathPosition → HeaderValue

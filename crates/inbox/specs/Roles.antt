@@ -29,8 +29,14 @@ module _ {T : Type 0} where
 
   -- these roles, and the values that were put in or taken out in them
   abbrev pub roles : Bool → Bool → Bool → List T → List T → List T → Roles T
-  roles one two takes first second taken = record { one = one; two = two; takes = takes;
-      first = first; second = second; taken = taken }
+  roles one two takes first second taken = record {
+    one = one;
+    two = two;
+    takes = takes;
+    first = first;
+    second = second;
+    taken = taken;
+  }
 
   -- a pass with a role is at the port of that role, and its list has the values put in or taken out
   -- in it

@@ -23,7 +23,7 @@ pub record IsRun (network : Network) (history : List EventRecord) : Type 0 where
   pub by_answer : (number p ask path : ℕ) (payload : List ℕ)
       → Occurs history number (Send (ByAnswer ask path) payload) (Sent p) → (sent : Shipment)
       × ((shipment_by (net_at (new_net network) history number) (ByAnswer ask path) payload
-          ≡ Ok sent)
+      ≡ Ok sent)
       × HaveBeginning (new_net network) history number sent.way.pieces)
 
 -- a run of these events ends with this network

@@ -8,8 +8,13 @@ use Rattle.network_core.specs.Event.{ByAnswer, ByWay, BackOf, EventValue, Tick, 
 
 -- the value of a given path
 abbrev pub way_of : Given → Way
-way_of given = record { source = given.source; destination = given.destination;
-    pieces = given.pieces.now; header = given.header.now; rules = given.policy.now }
+way_of given = record {
+  source = given.source;
+  destination = given.destination;
+  pieces = given.pieces.now;
+  header = given.header.now;
+  rules = given.policy.now;
+}
 
 -- the value of an event
 abbrev pub event_value : Event → EventValue

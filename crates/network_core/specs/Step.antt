@@ -91,8 +91,10 @@ terminates net beacon ia = ended net beacon ia >>= with_segment net
 
 -- the network without the stored segments that are not live at the current second
 abbrev pub cleared : NetValue → Made
-cleared net = Ok (Swept (expired_count net.segments net.moment),
-    record net { segments = swept net.segments net.moment })
+cleared net = Ok (
+  Swept (expired_count net.segments net.moment),
+  record net { segments = swept net.segments net.moment },
+)
 
 -- the network with a changed topology, or the refusal of the change
 abbrev pub with_network : NetValue → Result Network TopologyFault → Made
@@ -169,8 +171,10 @@ with_packet net number one packet =
 abbrev pub turns : NetValue → ℕ → Made
 turns net number = do
   one ← flying_at net number
-  Ok (Turned (turn_of net.network net.moment one.packet).0,
-      with_packet net number one (turn_of net.network net.moment one.packet).1)
+  Ok (
+    Turned (turn_of net.network net.moment one.packet).0,
+    with_packet net number one (turn_of net.network net.moment one.packet).1,
+  )
 
 -- the network after a packet was lost
 abbrev pub loses : NetValue → ℕ → Made
@@ -198,8 +202,13 @@ header_back packet place = Err faults.NotDelivered
 -- exchanged; this header; the pieces of its path in reverse order and direction; and no policy
 abbrev pub way_back : PacketValue → HeaderValue → Way
 way_back one header =
-    record { source = destination_of one.packet.bytes; destination = source_of one.packet.bytes;
-        pieces = turned_pieces one.sent.way.pieces; header = header; rules = no_rules }
+    record {
+      source = destination_of one.packet.bytes;
+      destination = source_of one.packet.bytes;
+      pieces = turned_pieces one.sent.way.pieces;
+      header = header;
+      rules = no_rules;
+    }
 
 -- the way of a route: NoAnswer if there is no such answer or it has no such path; NoPacket,
 -- NotDelivered
@@ -227,9 +236,10 @@ shipment_by net route payload = do
 
 -- the packet of a shipment, at this router of its source
 abbrev pub packet_of : Shipment → ℕ → PacketValue
-packet_of sent router = record { sent = sent;
-    packet = put_at (framed sent.way.source sent.way.destination sent.way.header sent.payload)
-    sent.way.source router;
+packet_of sent router = record {
+  sent = sent;
+  packet = put_at (framed sent.way.source sent.way.destination sent.way.header sent.payload)
+      sent.way.source router;
 }
 
 -- the network with the packet of this shipment, at the router that owns the first way out of its

@@ -41,8 +41,13 @@ pub record KeptAnswer : Type 0 where
 
 -- the way of one path of an answer
 abbrev pub way_on : KeptAnswer → PathValue → Way
-way_on answered path = record { source = answered.source; destination = answered.destination;
-    pieces = path.pieces; header = path.header; rules = answered.rules }
+way_on answered path = record {
+  source = answered.source;
+  destination = answered.destination;
+  pieces = path.pieces;
+  header = path.header;
+  rules = answered.rules;
+}
 
 -- a network: its topology, the current second, the beacons by number, the stored segments in the
 -- order of registration, and the answers and the packets by number
@@ -56,5 +61,11 @@ pub record NetValue : Type 0 where
 
 -- the network of this topology at second 0, with nothing in it
 abbrev pub new_net : Network → NetValue
-new_net network = record { network = network; moment = 0; beacons = []; segments = []; answers = [];
-    packets = [] }
+new_net network = record {
+  network = network;
+  moment = 0;
+  beacons = [];
+  segments = [];
+  answers = [];
+  packets = [];
+}

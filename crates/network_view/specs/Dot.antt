@@ -28,7 +28,7 @@ marked_text false = codes "]; "
 unfoldable pub router_text : Option Router → ℕ → ℕ → List ℕ
 router_text at ia router =
     router_name ia router
-        ++ (codes " [label=" ++ (decimal router ++ marked_text (is_at at ia router)))
+    ++ (codes " [label=" ++ (decimal router ++ marked_text (is_at at ia router)))
 
 -- the routers of an AS, by their number
 unfoldable pub routers_text : Option Router → ℕ → ℕ → List ℕ
@@ -48,7 +48,7 @@ core_text false = codes "\"; style=rounded; "
 unfoldable pub isd_text : ℕ → List ℕ
 isd_text isd =
     codes "subgraph cluster_"
-        ++ (decimal isd ++ (codes " { label=\"ISD " ++ (decimal isd ++ codes "\"; ")))
+    ++ (decimal isd ++ (codes " { label=\"ISD " ++ (decimal isd ++ codes "\"; ")))
 
 -- an AS: a box with its routers, in the box of its ISD
 unfoldable pub as_text : Option Router → AsEntry → List ℕ

@@ -38,7 +38,7 @@ place_checks at =
     refusal.IndexMismatch
     ∷ tested (way_in_sides at.view at.arrival (current_info at.header) (current_hop at.header))
     (way_in_fits at.view at.arrival (current_info at.header) (current_hop at.header))
-        refusal.WrongIngress
+    refusal.WrongIngress
     ∷ []
 
 -- 6 and 7
@@ -90,8 +90,14 @@ checks_at at =
 -- the packet at the router of this view, with its path header
 abbrev pub situation_of : View → ℕ → Arrival → List ℕ → HeaderValue → Situation
 situation_of view now arrival packet header =
-    record { view = view; now = now; arrival = arrival; source = source_of packet;
-        destination = destination_of packet; header = header }
+    record {
+      view = view;
+      now = now;
+      arrival = arrival;
+      source = source_of packet;
+      destination = destination_of packet;
+      header = header;
+    }
 
 -- 2 to 13 of a packet in which this header was read
 abbrev pub checks_behind : View → ℕ → Arrival → List ℕ → Result (HeaderValue × ℕ) Refusal

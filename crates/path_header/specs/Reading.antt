@@ -22,8 +22,11 @@ reserved_bits n = n / 2 ^ 18 % 64
 
 -- the meta field as its number of 32 bits encodes it
 abbrev pub meta_from : ℕ → Meta
-meta_from n = record { curr_inf = n / 2 ^ 30; curr_hf = n / 2 ^ 24 % 64;
-    lens = record { first = n / 2 ^ 12 % 64; second = n / 2 ^ 6 % 64; third = n % 64 } }
+meta_from n = record {
+  curr_inf = n / 2 ^ 30;
+  curr_hf = n / 2 ^ 24 % 64;
+  lens = record { first = n / 2 ^ 12 % 64; second = n / 2 ^ 6 % 64; third = n % 64 };
+}
 
 -- the meta field if its lengths are those of a path and the bytes are long enough for all fields
 abbrev pub announced : List ℕ → Meta → Result Meta HeaderFault
@@ -39,10 +42,11 @@ meta_at bytes = if nat_lt (length bytes) 4 then Err Short
 
 -- the values in the info field at the front, without checks
 abbrev pub info_from : List ℕ → InfoField
-info_from bytes = record { construction = slice_index bytes 0 == 1;
-    seg_id = from_be_bytes w16 (slice_index bytes 2 ∷ slice_index bytes 3 ∷ []);
-    timestamp = from_be_bytes w32
-    (slice_index bytes 4 ∷ slice_index bytes 5 ∷ slice_index bytes 6 ∷ slice_index bytes 7 ∷ []);
+info_from bytes = record {
+  construction = slice_index bytes 0 == 1;
+  seg_id = from_be_bytes w16 (slice_index bytes 2 ∷ slice_index bytes 3 ∷ []);
+  timestamp = from_be_bytes w32
+      (slice_index bytes 4 ∷ slice_index bytes 5 ∷ slice_index bytes 6 ∷ slice_index bytes 7 ∷ []);
 }
 
 -- the info field at the front: PeerFlag if the flag P is set, Reserved if any bit but the flag C is
@@ -54,11 +58,12 @@ info_at bytes = if nat_lt 0 (bit_and (slice_index bytes 0) 2) then Err PeerFlag
 
 -- the values in the hop field at the front, without checks
 abbrev pub hop_from : List ℕ → HopField
-hop_from bytes = record { exp_time = slice_index bytes 1;
-    cons_ingress = from_be_bytes w16 (slice_index bytes 2 ∷ slice_index bytes 3 ∷ []);
-    cons_egress = from_be_bytes w16 (slice_index bytes 4 ∷ slice_index bytes 5 ∷ []);
-    mac = slice_index bytes 6 ∷ slice_index bytes 7 ∷ slice_index bytes 8 ∷ slice_index bytes 9
-    ∷ slice_index bytes 10 ∷ slice_index bytes 11 ∷ [];
+hop_from bytes = record {
+  exp_time = slice_index bytes 1;
+  cons_ingress = from_be_bytes w16 (slice_index bytes 2 ∷ slice_index bytes 3 ∷ []);
+  cons_egress = from_be_bytes w16 (slice_index bytes 4 ∷ slice_index bytes 5 ∷ []);
+  mac = slice_index bytes 6 ∷ slice_index bytes 7 ∷ slice_index bytes 8 ∷ slice_index bytes 9
+      ∷ slice_index bytes 10 ∷ slice_index bytes 11 ∷ [];
 }
 
 -- the hop field at the front: AlertFlag if a router alert is set, Reserved if another bit is
@@ -83,8 +88,13 @@ header_at bytes = do
   infos ← fields_at info_at 8 (info_count m.lens) (drop 4 bytes)
   hops ← fields_at hop_at 12 (hop_count m.lens) (drop (4 + 8 * info_count m.lens) bytes)
   if nat_lt m.curr_inf (info_count m.lens) && nat_lt m.curr_hf (hop_count m.lens)
-      then Ok (record { curr_inf = m.curr_inf; curr_hf = m.curr_hf; lens = m.lens; infos = infos;
-          hops = hops })
+      then Ok (record {
+        curr_inf = m.curr_inf;
+        curr_hf = m.curr_hf;
+        lens = m.lens;
+        infos = infos;
+        hops = hops;
+      })
       else Err BadIndex
 
 -- the header at the front, and its length in bytes

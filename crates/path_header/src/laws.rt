@@ -10,7 +10,8 @@ ghost use Rattle.path_header.specs.Reversal.{reversed};
 /// Each header has exactly one spelling, no two headers have the same, and no spelling is the
 /// beginning of another.
 pub fn one_spelling()
-    ensures same_text { (v : HeaderValue) (text other : List ℕ) → SpellsHeader text v → SpellsHeader other v
+    ensures same_text { (v : HeaderValue) (text other : List ℕ) → SpellsHeader text v
+        → SpellsHeader other v
         → text ≡ other }
     ensures no_prefix { (v w : HeaderValue) (text more : List ℕ) → SpellsHeader text v
         → SpellsHeader (text ++ more) w → (v ≡ w) × (more ≡ []) }
@@ -36,6 +37,7 @@ pub fn reversed_twice()
 pub fn spelled_is_read()
     ensures read { (v : HeaderValue) (text rest : List ℕ) → SpellsHeader text v
         → read_at (text ++ rest) ≡ Ok (v, header_len v) }
-    ensures long { (v : HeaderValue) (text : List ℕ) → SpellsHeader text v → length text ≡ header_len v }
+    ensures long { (v : HeaderValue) (text : List ℕ) → SpellsHeader text v
+        → length text ≡ header_len v }
     ensures spelled { (v : HeaderValue) → IsHeader v → FitsBits v → SpellsHeader (spelling v) v }
 {}

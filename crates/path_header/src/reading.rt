@@ -24,10 +24,12 @@ use isd_as::IfId;
 /// does not exist.
 pub fn decode(bytes: &[u8]) -> Result<(Header, usize), HeaderFault>
     // The bytes up to the returned length are the spelling of the returned header.
-    ensures found { IfOk result (λ r. (r.1 ≤ length bytes.now) × SpellsHeader (take r.1 bytes.now) r.0) }
+    ensures found { IfOk result
+        (λ r. (r.1 ≤ length bytes.now) × SpellsHeader (take r.1 bytes.now) r.0) }
     ensures len { IfOk result (λ r. r.1 ≡ header_len r.0) }
     // If the bytes begin with the spelling of a header, it is returned, whatever follows.
-    ensures only { (v : HeaderValue) (text rest : List ℕ) → SpellsHeader text v → bytes.now ≡ text ++ rest
+    ensures only { (v : HeaderValue) (text rest : List ℕ) → SpellsHeader text v
+        → bytes.now ≡ text ++ rest
         → result ≡ Ok (v, header_len v) }
     // The exact result, with its refusal.
     ensures exact { result ≡ read_at bytes.now }

@@ -43,8 +43,13 @@ entry_in d = do
   cons_egress ← whole_at 0 65535 (codes "egress") d
   exp_time ← whole_at 0 255 (codes "exp") d
   mac ← mac_at (codes "mac") d
-  Some (record { ia = ia; cons_ingress = cons_ingress; cons_egress = cons_egress;
-      exp_time = exp_time; mac = mac })
+  Some (record {
+    ia = ia;
+    cons_ingress = cons_ingress;
+    cons_egress = cons_egress;
+    exp_time = exp_time;
+    mac = mac;
+  })
 
 -- the chain of an object in this form; the rules of segments are not checked yet
 unfoldable pub chain_at : Data → Option Chain

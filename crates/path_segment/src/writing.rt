@@ -72,8 +72,9 @@ fn entry_value(alloc: Global, entry: &Entry) -> Result<Value, AllocError>
     let ingress = entry.cons_ingress.number();
     let egress = entry.cons_egress.number();
     let exp = entry.exp_time;
-    let value =
-        json!(in alloc; {"egress": egress, "exp": exp, "ia": &ia, "ingress": ingress, "mac": &mac})?;
+    let value = json!(in alloc;
+        {"egress": egress, "exp": exp, "ia": &ia, "ingress": ingress, "mac": &mac}
+    )?;
     Ok(value)
 }
 
@@ -102,7 +103,8 @@ fn value_of(alloc: Global, segment: &Segment) -> Result<Value, AllocError>
     let timestamp = segment.timestamp();
     let beta0 = segment.beta0();
     let entries = entries_value(alloc, segment.entries())?;
-    let value =
-        json!(in alloc; {"beta0": beta0, "entries": entries, "kind": kind, "timestamp": timestamp})?;
+    let value = json!(in alloc;
+        {"beta0": beta0, "entries": entries, "kind": kind, "timestamp": timestamp}
+    )?;
     Ok(value)
 }

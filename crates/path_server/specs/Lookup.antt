@@ -35,9 +35,12 @@ unfoldable pub segments_for : List Chain → ℕ → ℕ → ℕ → Selection
 segments_for segments src dst now =
     let ups = filter (is_intra_to src now) segments in
     let downs = filter (is_intra_to dst now) segments in
-    record { ups = ups;
-        cores = filter (joins (is_reached src ups) (is_reached dst downs) now) segments;
-        downs = downs; moment = now }
+    record {
+      ups = ups;
+      cores = filter (joins (is_reached src ups) (is_reached dst downs) now) segments;
+      downs = downs;
+      moment = now;
+    }
 
 -- `is_intra_to` without tests: a segment of the list that is intra, live, and ends in this AS
 pub record LeadsTo (segments : List Chain) (ia now : ℕ) (segment : Chain) : Type 0 where

@@ -100,8 +100,14 @@ pub record Request : Type 0 where
 
 abbrev pub request_of : List PieceValue → HeaderValue → ℕ → ℕ → ℕ → Rules → Request
 request_of pieces header src dst moment rules =
-    record { pieces = pieces; header = header; src = src; dst = dst; moment = moment;
-        rules = rules }
+    record {
+      pieces = pieces;
+      header = header;
+      src = src;
+      dst = dst;
+      moment = moment;
+      rules = rules;
+    }
 
 -- the path may be sent: the pieces are a path, the header is theirs, and the policy allows the walk
 pub record IsAccepted (request : Request) : Type 0 where

@@ -11,14 +11,21 @@ use Rattle.path_verifier.specs.Piece.{PieceValue, travelled, first_place}
 
 -- the hop field of an entry
 abbrev pub field_of : Entry → HopField
-field_of entry = record { exp_time = entry.exp_time; cons_ingress = entry.cons_ingress;
-    cons_egress = entry.cons_egress; mac = entry.mac }
+field_of entry = record {
+  exp_time = entry.exp_time;
+  cons_ingress = entry.cons_ingress;
+  cons_egress = entry.cons_egress;
+  mac = entry.mac;
+}
 
 -- the info field of a piece: the direction, the accumulator at the first entry travelled, and the
 -- segment's timestamp
 abbrev pub info_of : PieceValue → InfoField
-info_of piece = record { construction = piece.along;
-    seg_id = beta_of piece.segment (first_place piece); timestamp = piece.segment.timestamp }
+info_of piece = record {
+  construction = piece.along;
+  seg_id = beta_of piece.segment (first_place piece);
+  timestamp = piece.segment.timestamp;
+}
 
 -- the hop fields of a piece, in order of travel
 unfoldable pub fields_of : PieceValue → List HopField

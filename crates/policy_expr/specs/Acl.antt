@@ -21,11 +21,11 @@ MatchesBy (Some pred) hop = Matches pred hop
 
 -- the entry at this place is the first that matches the hop
 pub record Decides (entries : List AclEntry) (hop : WalkHop) (place : ℕ) (entry : AclEntry) : Type 0
-    where
-  pub there : slice_get entries place ≡ Some entry
-  pub matches : MatchesBy entry.pred hop
-  pub first : (earlier : ℕ) (other : AclEntry) → earlier < place
-      → slice_get entries earlier ≡ Some other → MatchesBy other.pred hop → ⊥
+  where
+    pub there : slice_get entries place ≡ Some entry
+    pub matches : MatchesBy entry.pred hop
+    pub first : (earlier : ℕ) (other : AclEntry) → earlier < place
+        → slice_get entries earlier ≡ Some other → MatchesBy other.pred hop → ⊥
 
 -- the first entry that matches the hop allows it
 abbrev pub Allowed : List AclEntry → WalkHop → Type 0
@@ -58,8 +58,10 @@ says_nothing (Both m n) = false
 
 -- the entry of a sign and a predicate; a predicate of wildcards alone is dropped
 abbrev pub signed_entry : Bool → HopPred → AclEntry
-signed_entry allows pred = record { allows = allows;
-    pred = if (pred.ia == 0) && says_nothing pred.interfaces then None else Some pred }
+signed_entry allows pred = record {
+  allows = allows;
+  pred = if (pred.ia == 0) && says_nothing pred.interfaces then None else Some pred;
+}
 
 -- the entry of a sign and of the text after it: a predicate, or nothing
 abbrev pub signed_at : Bool → List ℕ → Result AclEntry PolicyFault

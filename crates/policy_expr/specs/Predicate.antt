@@ -50,9 +50,9 @@ interface_number_at text = or_else faults.BadPredicate (isd_at text)
 -- the interfaces of a text: two if it has a ',', else one
 unfoldable pub interfaces_at : List ℕ → Result Interfaces PolicyFault
 interfaces_at text = if list_any (λ b. b == comma) text then (do
-      ingress ← interface_number_at (before_first (λ b. b == comma) text)
-      egress ← interface_number_at (after_first (λ b. b == comma) text)
-      Ok (two_interfaces ingress egress))
+  ingress ← interface_number_at (before_first (λ b. b == comma) text)
+  egress ← interface_number_at (after_first (λ b. b == comma) text)
+  Ok (two_interfaces ingress egress))
     else (do
       n ← interface_number_at text
       Ok (one_interface n))
@@ -68,9 +68,9 @@ ia_at text =
 -- address
 unfoldable pub predicate_at : List ℕ → Result HopPred PolicyFault
 predicate_at text = if list_any (λ b. b == hash) text then (do
-      ia ← or_else faults.BadPredicate (address_at (before_first (λ b. b == hash) text))
-      interfaces ← interfaces_at (after_first (λ b. b == hash) text)
-      Ok (record { ia = ia; interfaces = interfaces }))
+  ia ← or_else faults.BadPredicate (address_at (before_first (λ b. b == hash) text))
+  interfaces ← interfaces_at (after_first (λ b. b == hash) text)
+  Ok (record { ia = ia; interfaces = interfaces }))
     else (do
       ia ← ia_at text
       Ok (record { ia = ia; interfaces = Any }))

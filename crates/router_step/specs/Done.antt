@@ -39,7 +39,7 @@ pub record IsOwnHop (view : View) (now : ℕ) (header : HeaderValue) : Type 0 wh
   pub authentic : IsAuthentic view (current_hop header).mac (current_info header).seg_id
       (current_info header).timestamp
       (current_hop header).exp_time (current_hop header).cons_ingress
-          (current_hop header).cons_egress
+      (current_hop header).cons_egress
 
 -- the new header differs only in the index of its hop field and in the accumulator of the current
 -- segment
@@ -48,7 +48,7 @@ pub record StaysOnSegment (old new : HeaderValue) : Type 0 where
   pub lens : new.lens ≡ old.lens
   pub infos : new.infos
       ≡ slice_set old.infos old.curr_inf
-          (record (current_info old) { seg_id = (current_info new).seg_id })
+      (record (current_info old) { seg_id = (current_info new).seg_id })
   pub hops : new.hops ≡ old.hops
 
 -- the packet goes on in the next segment. The segment behind it keeps the accumulator of its

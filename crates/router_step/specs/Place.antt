@@ -33,8 +33,10 @@ way_out info hop = if info.construction then hop.cons_egress else hop.cons_ingre
 
 -- the header with this accumulator in its current info field
 abbrev pub with_seg_id : HeaderValue → ℕ → HeaderValue
-with_seg_id header seg_id = record header { infos =
-    slice_set header.infos header.curr_inf (record (current_info header) { seg_id = seg_id }) }
+with_seg_id header seg_id = record header {
+  infos =
+      slice_set header.infos header.curr_inf (record (current_info header) { seg_id = seg_id });
+}
 
 -- the packet came over a link
 abbrev pub is_over_link : Arrival → Bool
@@ -55,8 +57,10 @@ arrived arrival header =
 
 -- the header after step 9: both indices go on by one if there is a switch to the next segment
 abbrev pub moved_on : Bool → HeaderValue → HeaderValue
-moved_on switched header = record header { curr_inf = header.curr_inf + (if switched then 1 else 0);
-    curr_hf = header.curr_hf + (if switched then 1 else 0) }
+moved_on switched header = record header {
+  curr_inf = header.curr_inf + (if switched then 1 else 0);
+  curr_hf = header.curr_hf + (if switched then 1 else 0);
+}
 
 -- the accumulator on leaving over a link: in construction direction, this hop's authenticator is
 -- put in by exclusive or; else unchanged

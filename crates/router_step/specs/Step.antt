@@ -41,9 +41,9 @@ at_path_end view arrival source destination header = do
 -- switch, and the next hop has to pass steps 4 and 5.
 unfoldable pub switched : View → ℕ → Arrival → HeaderValue → Result Bool Refusal
 switched view now arrival header = if ends_segment header then (do
-      _ ← check (is_over_link arrival) refusal.SwitchInside
-      _ ← passes view now (current_info (moved_on true header)) (current_hop (moved_on true header))
-      Ok true)
+  _ ← check (is_over_link arrival) refusal.SwitchInside
+  _ ← passes view now (current_info (moved_on true header)) (current_hop (moved_on true header))
+  Ok true)
     else Ok false
 
 -- steps 10 to 13: the first refusal, or the outcome

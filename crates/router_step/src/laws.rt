@@ -38,7 +38,8 @@ pub fn own_links_alone()
         → DoesStep at (Outcome.ToRouter router) new
         → (router ≢ at.view.router)
         × ((entry : IfEntry) × ((entry.router ≡ router)
-        × (entry_of at.view (way_out (current_info (at_the_way_out at)) (current_hop (at_the_way_out at)))
+        × (entry_of at.view
+        (way_out (current_info (at_the_way_out at)) (current_hop (at_the_way_out at)))
         ≡ Some entry))) }
 {}
 
@@ -79,18 +80,21 @@ pub fn accumulator_goes_on()
     ensures along { (at : Situation) (interface : ℕ) (new : HeaderValue)
         → IsHeader at.header → DoesStep at (Outcome.ToLink interface) new
         → changes_segment at.header ≡ false → (current_info at.header).construction ≡ true
-        → (current_info new).seg_id ≡ beta_after (current_info at.header).seg_id (current_hop at.header).mac }
+        → (current_info new).seg_id
+        ≡ beta_after (current_info at.header).seg_id (current_hop at.header).mac }
     ensures against { (at : Situation) (outcome : Outcome) (new : HeaderValue)
         → IsHeader at.header → DoesStep at outcome new → is_over_link at.arrival ≡ true
         → changes_segment at.header ≡ false → (current_info at.header).construction ≡ false
-        → beta_after (current_info new).seg_id (current_hop at.header).mac ≡ (current_info at.header).seg_id }
+        → beta_after (current_info new).seg_id (current_hop at.header).mac
+        ≡ (current_info at.header).seg_id }
     // With a switch, too, a packet that leaves in construction direction carries the next hop's
     // accumulator.
     ensures leaving { (at : Situation) (interface : ℕ) (new : HeaderValue)
         → IsHeader at.header → DoesStep at (Outcome.ToLink interface) new
         → (current_info (at_the_way_out at)).construction ≡ true
         → (current_info new).seg_id
-        ≡ beta_after (current_info (at_the_way_out at)).seg_id (current_hop (at_the_way_out at)).mac }
+        ≡ beta_after (current_info (at_the_way_out at)).seg_id
+        (current_hop (at_the_way_out at)).mac }
 {
     hop_mac::laws::step_undone();
 }
@@ -126,8 +130,10 @@ pub fn checks_lead_on()
         → ends_segment here ≡ false → switched view now arrival here ≡ Ok false }
     ensures to_the_next { (view : View) (now : ℕ) (arrival : Arrival) (here : HeaderValue)
         → ends_segment here ≡ true → is_over_link arrival ≡ true
-        → is_hop_live now (current_info (moved_on true here)) (current_hop (moved_on true here)) ≡ true
-        → is_mac_right view (current_info (moved_on true here)) (current_hop (moved_on true here)) ≡ true
+        → is_hop_live now (current_info (moved_on true here)) (current_hop (moved_on true here))
+        ≡ true
+        → is_mac_right view (current_info (moved_on true here)) (current_hop (moved_on true here))
+        ≡ true
         → switched view now arrival here ≡ Ok true }
 {}
 

@@ -137,7 +137,8 @@ pub fn read_header(packet: &[u8]) -> Result<(Header, usize), Refusal>
     ensures exact { result ≡ header_in packet.now }
     ensures len { IfOk result (λ front. front.1 ≡ header_len front.0) }
     ensures within { IfOk result (λ front. 16 + front.1 ≤ length packet.now) }
-    ensures found { IfOk result (λ front. SpellsHeader (take front.1 (drop 16 packet.now)) front.0) }
+    ensures found { IfOk result
+        (λ front. SpellsHeader (take front.1 (drop 16 packet.now)) front.0) }
     ensures only { (addresses text rest : List ℕ) (header : HeaderValue)
         → IsFrame packet.now addresses text rest header → result ≡ Ok (header, header_len header) }
 {

@@ -83,7 +83,8 @@ pub(crate) fn info_on_arrival(arrival: &Arrival, header: &HeaderMut<'_>) -> Info
 pub(crate) fn info_to_leave(arrival: &Arrival, switched: bool, header: &HeaderMut<'_>) -> InfoField
     requires { let value = value_of header.now
         in value.curr_inf + (if switched then 1 else 0) < length value.infos }
-    ensures { result ≡ current_info (moved_on switched (arrived arrival.now (value_of header.now))) }
+    ensures { result
+        ≡ current_info (moved_on switched (arrived arrival.now (value_of header.now))) }
 {
     if switched {
         header.info(header.curr_inf() + 1)

@@ -29,8 +29,13 @@ pub record SentPacket : Type 0 where
 -- a shipment of a network without its policy
 abbrev pub sent_packet_of : Shipment → SentPacket
 sent_packet_of sent =
-    record { source = sent.way.source; destination = sent.way.destination; pieces = sent.way.pieces;
-        header = sent.way.header; payload = sent.payload }
+    record {
+      source = sent.way.source;
+      destination = sent.way.destination;
+      pieces = sent.way.pieces;
+      header = sent.way.header;
+      payload = sent.payload;
+    }
 
 -- a flight: its network, what was sent, the number of its turns, and the packet after them
 pub record FlightValue : Type 0 where
@@ -55,8 +60,10 @@ grounded n sent start = record { fabric = n; sent = sent; turns = 0; packet = st
 -- the flight after one more turn, at this second
 abbrev pub advanced_flight : ℕ → FlightValue → FlightValue
 advanced_flight now flight =
-    record flight { turns = flight.turns + 1;
-        packet = turned_packet flight.fabric now flight.packet }
+    record flight {
+      turns = flight.turns + 1;
+      packet = turned_packet flight.fabric now flight.packet;
+    }
 
 -- the view is the network's view of the router that has the packet
 abbrev pub IsViewAt : Network → PacketLocation → View → Type 0

@@ -52,8 +52,12 @@ known_link n ia number = known n ia >>= λ _. ok_or (link_named n.links ia numbe
 unfoldable pub info_in : Network → ℕ → Result AsInfo TopologyFault
 info_in n ia = do
   one ← known n ia
-  Ok (record { position = position_or_len (λ other. other.ia == ia) n.ases; core = one.core;
-      exp = one.exp_time; routers = one.routers })
+  Ok (record {
+    position = position_or_len (λ other. other.ia == ia) n.ases;
+    core = one.core;
+    exp = one.exp_time;
+    routers = one.routers;
+  })
 
 -- the interface of this number of an AS: UnknownAs, then NoLink
 abbrev pub interface_at : Network → ℕ → ℕ → Result IfEntry TopologyFault

@@ -19,8 +19,8 @@ Example: at second 100, a packet of a host leaves 1-ff00:0:111 over interface 2,
 
 /// What stands at the end of the long help of `network`.
 static NETWORK_HELP: &str = "\
-Standard input has the lines of 'scionet run'. The picture is that of the network after the last of \
-them, in the language DOT: 'dot -Tsvg' of graphviz draws it. With --packet the links that this \
+Standard input has the lines of 'scionet run'. The picture is that of the network after the last \
+of them, in the language DOT: 'dot -Tsvg' of graphviz draws it. With --packet the links that this \
 packet has passed are red, and so is the router at which it is or which refused it; 'no 130 \
 NoPacket' is printed where there is no such packet.
 
@@ -31,10 +31,10 @@ Example: a network of one AS
 
 /// What stands at the end of the long help of `path`.
 static PATH_HELP: &str = "\
-Standard input has the lines of 'scionet run'. Of the packet, as it is after the last of them, each \
-piece of its path is on a line, 'piece N up|core|down from IA to IA'; then its walk, hop by hop, each \
-as 'IA#IN,OUT'; the last second at which all of its hops are live; and its fields as 'packet' \
-prints them. 'no 130 NoPacket' is printed where there is no such packet.
+Standard input has the lines of 'scionet run'. Of the packet, as it is after the last of them, \
+each piece of its path is on a line, 'piece N up|core|down from IA to IA'; then its walk, hop by \
+hop, each as 'IA#IN,OUT'; the last second at which all of its hops are live; and its fields as \
+'packet' prints them. 'no 130 NoPacket' is printed where there is no such packet.
 
 Example: a packet from an AS to its parent
   printf '%s\\n' \\

@@ -12,8 +12,10 @@ const NETWORK: &str = r#"{"ases":[
 {"ia":"1-ff00:0:111","core":false,"exp":63,"key":"6131","routers":1},
 {"ia":"1-ff00:0:112","core":false,"exp":63,"key":"6132","routers":1}],
 "links":[
-{"kind":"child","a":{"ia":"1-ff00:0:110","if":1,"router":0},"b":{"ia":"1-ff00:0:111","if":1,"router":0}},
-{"kind":"child","a":{"ia":"1-ff00:0:111","if":2,"router":0},"b":{"ia":"1-ff00:0:112","if":1,"router":0}}]}"#;
+{"kind":"child","a":{"ia":"1-ff00:0:110","if":1,"router":0},
+ "b":{"ia":"1-ff00:0:111","if":1,"router":0}},
+{"kind":"child","a":{"ia":"1-ff00:0:111","if":2,"router":0},
+ "b":{"ia":"1-ff00:0:112","if":1,"router":0}}]}"#;
 
 /// When the segment is made, in seconds.
 const NOW: u32 = 1000;

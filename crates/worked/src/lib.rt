@@ -15,12 +15,37 @@ use std::test::Fail;
 
 /// A core AS, its child, and the child of that, with one router each.
 pub fn row() -> &'static str {
-    r#"{"ases":[{"ia":"1-ff00:0:110","core":true,"exp":63,"key":"6130","routers":1},{"ia":"1-ff00:0:111","core":false,"exp":63,"key":"6131","routers":1},{"ia":"1-ff00:0:112","core":false,"exp":63,"key":"6132","routers":1}],"links":[{"kind":"child","a":{"ia":"1-ff00:0:110","if":1,"router":0},"b":{"ia":"1-ff00:0:111","if":1,"router":0}},{"kind":"child","a":{"ia":"1-ff00:0:111","if":2,"router":0},"b":{"ia":"1-ff00:0:112","if":1,"router":0}}]}"#
+    concat!(
+        r#"{"ases":[{"ia":"1-ff00:0:110","core":true,"exp":63,"key":"6130","routers":1},"#,
+        r#"{"ia":"1-ff00:0:111","core":false,"exp":63,"key":"6131","routers":1},"#,
+        r#"{"ia":"1-ff00:0:112","core":false,"exp":63,"key":"6132","routers":1}],"#,
+        r#""links":[{"kind":"child","a":{"ia":"1-ff00:0:110","if":1,"router":0},"#,
+        r#""b":{"ia":"1-ff00:0:111","if":1,"router":0}},"#,
+        r#"{"kind":"child","a":{"ia":"1-ff00:0:111","if":2,"router":0},"#,
+        r#""b":{"ia":"1-ff00:0:112","if":1,"router":0}}]}"#,
+    )
 }
 
 /// Two core ASes with a link between them, each with a child, and that with another.
 pub fn pair() -> &'static str {
-    r#"{"ases":[{"ia":"1-ff00:0:110","core":true,"exp":63,"key":"6b","routers":2},{"ia":"1-ff00:0:111","core":false,"exp":63,"key":"6b","routers":2},{"ia":"1-ff00:0:112","core":false,"exp":63,"key":"6b","routers":2},{"ia":"2-ff00:0:210","core":true,"exp":63,"key":"6b","routers":2},{"ia":"2-ff00:0:211","core":false,"exp":63,"key":"6b","routers":2},{"ia":"2-ff00:0:212","core":false,"exp":63,"key":"6b","routers":2}],"links":[{"kind":"child","a":{"ia":"1-ff00:0:110","if":1,"router":0},"b":{"ia":"1-ff00:0:111","if":1,"router":0}},{"kind":"child","a":{"ia":"1-ff00:0:111","if":2,"router":1},"b":{"ia":"1-ff00:0:112","if":1,"router":0}},{"kind":"core","a":{"ia":"1-ff00:0:110","if":2,"router":1},"b":{"ia":"2-ff00:0:210","if":1,"router":0}},{"kind":"child","a":{"ia":"2-ff00:0:210","if":2,"router":1},"b":{"ia":"2-ff00:0:211","if":1,"router":0}},{"kind":"child","a":{"ia":"2-ff00:0:211","if":2,"router":1},"b":{"ia":"2-ff00:0:212","if":1,"router":0}}]}"#
+    concat!(
+        r#"{"ases":[{"ia":"1-ff00:0:110","core":true,"exp":63,"key":"6b","routers":2},"#,
+        r#"{"ia":"1-ff00:0:111","core":false,"exp":63,"key":"6b","routers":2},"#,
+        r#"{"ia":"1-ff00:0:112","core":false,"exp":63,"key":"6b","routers":2},"#,
+        r#"{"ia":"2-ff00:0:210","core":true,"exp":63,"key":"6b","routers":2},"#,
+        r#"{"ia":"2-ff00:0:211","core":false,"exp":63,"key":"6b","routers":2},"#,
+        r#"{"ia":"2-ff00:0:212","core":false,"exp":63,"key":"6b","routers":2}],"#,
+        r#""links":[{"kind":"child","a":{"ia":"1-ff00:0:110","if":1,"router":0},"#,
+        r#""b":{"ia":"1-ff00:0:111","if":1,"router":0}},"#,
+        r#"{"kind":"child","a":{"ia":"1-ff00:0:111","if":2,"router":1},"#,
+        r#""b":{"ia":"1-ff00:0:112","if":1,"router":0}},"#,
+        r#"{"kind":"core","a":{"ia":"1-ff00:0:110","if":2,"router":1},"#,
+        r#""b":{"ia":"2-ff00:0:210","if":1,"router":0}},"#,
+        r#"{"kind":"child","a":{"ia":"2-ff00:0:210","if":2,"router":1},"#,
+        r#""b":{"ia":"2-ff00:0:211","if":1,"router":0}},"#,
+        r#"{"kind":"child","a":{"ia":"2-ff00:0:211","if":2,"router":1},"#,
+        r#""b":{"ia":"2-ff00:0:212","if":1,"router":0}}]}"#,
+    )
 }
 
 /// The address of this ISD and AS number, of three groups, the first of them ff00.

@@ -43,8 +43,11 @@ pub record SessionValue : Type 0 where
 -- the value of a session
 abbrev pub session_value : Session → SessionValue
 session_value session =
-    record { stage = stage_of session.net; rest = session.rest.items;
-        replies = string_bytes session.replies }
+    record {
+      stage = stage_of session.net;
+      rest = session.rest.items;
+      replies = string_bytes session.replies;
+    }
 
 -- these lines were answered after the earlier ones, and these replies are not written yet
 pub record AnswersLines (accepted : AcceptedLines) (lines : List (List ℕ)) (old : SessionValue)

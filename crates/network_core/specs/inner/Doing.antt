@@ -73,8 +73,10 @@ abbrev pub Readies : {X : Type 0} → (X → PacketValue) → NetValue → Shipm
 Readies view net sent (Ok packet) =
     IsAccepted (asked_at net.moment sent.way)
     × ((departs net sent
-    ≡ Ok (replies.Sent (length net.packets),
-        record net { packets = net.packets ++ view packet ∷ [] }))
+    ≡ Ok (
+      replies.Sent (length net.packets),
+      record net { packets = net.packets ++ view packet ∷ [] },
+    ))
     × HasFrame (view packet).sent.way.source (view packet).sent.way.destination
     (view packet).sent.way.pieces)
 Readies view net sent (Err Memory) =

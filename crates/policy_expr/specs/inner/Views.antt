@@ -22,7 +22,7 @@ levels_of levels = map level_of (reverse levels)
 abbrev pub gives : {A : _} → Reader A → List Token → Result Tree PolicyFault
 gives reader rest =
     read_rest (levels_of reader.levels.items) (level_of reader.level)
-        (option_map tree_of reader.item) rest
+    (option_map tree_of reader.item) rest
 
 -- the step of a reader is right: for all remaining tokens, the result is the same before and after
 -- it

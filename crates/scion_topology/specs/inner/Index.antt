@@ -39,8 +39,11 @@ place_in n ia number =
 -- the index with one more interface, and with the place of its link
 abbrev pub added : IfEntry → ℕ → IndexValue → IndexValue
 added entry place index =
-    record { position = index.position; table = index.table ++ entry ∷ [];
-        places = index.places ++ place ∷ [] }
+    record {
+      position = index.position;
+      table = index.table ++ entry ∷ [];
+      places = index.places ++ place ∷ [];
+    }
 
 -- `added` if this is the interface's AS, and else the index as it was
 abbrev pub added_where : Bool → IfEntry → ℕ → Option IndexValue → Option IndexValue
@@ -49,8 +52,11 @@ added_where here entry place index = if here then option_map (added entry place)
 -- the index of an AS with these links added, whose places begin at `base`
 abbrev pub with_links : ℕ → ℕ → List Link → IndexValue → IndexValue
 with_links base ia links index =
-    record { position = index.position; table = index.table ++ table_of ia links;
-        places = index.places ++ places_of base ia links }
+    record {
+      position = index.position;
+      table = index.table ++ table_of ia links;
+      places = index.places ++ places_of base ia links;
+    }
 
 abbrev pub with_link : ℕ → ℕ → Link → IndexValue → IndexValue
 with_link place ia link index = with_links place ia (link ∷ []) index
