@@ -1,13 +1,13 @@
-//! Numbers that stand twice in a list, found by putting it in order.
+//! Numbers that occur twice in a list, found by sorting it.
 #![tactic(auto)]
 
 ghost use Rattle.std.specs.Prelude.{◌≡◌};
 ghost use Rattle.std.specs.List.Sorted.{IsNonDecreasing, IsPermutation};
 ghost use Rattle.doubles.specs.Doubles.{has_double, begins_with};
 
-/// Whether a number stands at two places of a list, which is put in order for it.
+/// Whether a number is at two places of a list; the call sorts the list.
 ///
-/// It takes no memory, and for n numbers some n log n comparisons.
+/// It takes no memory, and about n log n comparisons for n numbers.
 pub fn has_double(numbers: &mut [u128]) -> bool
     ensures value { result ≡ has_double numbers.old }
     // The numbers are the same, in another order.
@@ -17,7 +17,7 @@ pub fn has_double(numbers: &mut [u128]) -> bool
     has_neighbours(numbers)
 }
 
-/// The same of a list that is in order: whether two numbers beside each other are one.
+/// Whether a sorted list has two equal numbers next to each other.
 fn has_neighbours(numbers: &[u128]) -> bool
     requires { IsNonDecreasing numbers.now }
     ensures { result ≡ has_double numbers.now }

@@ -1,5 +1,5 @@
--- Reading the fields of a JSON object, which has the named members and any others, in any order. A
--- whole number is one that is written as such.
+-- Reading the members of a JSON object; other members may be there, in any order. A whole number is
+-- written without fraction and exponent.
 use Rattle.std.specs.Prelude.{ℕ, ◌≡◌, ◌&&◌, nat_le, Bool, IfSome, IsTrue, if◌then◌else◌, List, [], ◌∷◌, Option, Some, None, option_and_then}
 use Rattle.std.specs.Fn.{FnReturnsAt}
 use Rattle.std.specs.Str.{is_utf8}
@@ -12,36 +12,36 @@ use Rattle.serde_json.specs.View.{view}
 use Rattle.serde_json.specs.declared.value.Value.{Value}
 use Rattle.refusal.specs.Optional.{◌>>=◌}
 
--- the value that a text says; bytes that are not UTF-8 say none
+-- the value of a JSON text, or nothing if the bytes are not UTF-8 or no JSON
 unfoldable pub document_in : List ℕ → Option Data
 document_in bytes = if is_utf8 bytes then read bytes else None
 
--- a text
+-- a member that is a text
 unfoldable pub text_at : List ℕ → Data → Option (List ℕ)
 text_at name d = do
   v ← get name d
   as_str v
 
--- true or false
+-- a member that is true or false
 unfoldable pub truth_at : List ℕ → Data → Option Bool
 truth_at name d = do
   v ← get name d
   as_bool v
 
--- a whole number from low to high
+-- a member that is a whole number from `low` to `high`
 unfoldable pub whole_at : ℕ → ℕ → List ℕ → Data → Option ℕ
 whole_at low high name d = do
   v ← get name d
   n ← option_and_then as_u64 (as_number v)
   if nat_le low n && nat_le n high then Some n else None
 
--- the items of a list
+-- the items of a member that is a list
 unfoldable pub list_at : List ℕ → Data → Option Items
 list_at name d = do
   v ← get name d
   as_array v
 
--- each item of a list
+-- the items of a list, each as `one` reads it, or nothing if `one` fails on any
 abbrev pub items_at : {A : Type 0} → (Data → Option A) → Items → Option (List A)
 items_at one no_items = Some []
 items_at one (item d ds) = do
@@ -49,13 +49,13 @@ items_at one (item d ds) = do
   xs ← items_at one ds
   Some (x ∷ xs)
 
--- what each call of one answers is what this reader says of the value
+-- each call of `one` returns what `reader` says about the value
 abbrev pub IsReader : {F A : Type 0} → Shared F (Bor Value × Unit {0}) (Option A) → F
     → (Data → Option A) → Type 0
 IsReader {F} {A} calls one reader =
     (v : Value) (found : Option A) → FnReturnsAt calls one v found → found ≡ reader (view v)
 
--- what each call of one gives passes this test
+-- if a call of `one` returns something, it passes this test
 abbrev pub GivesPassing : {F A : Type 0} → Shared F (Bor Value × Unit {0}) (Option A) → F
     → (A → Bool) → Type 0
 GivesPassing {F} {A} calls one test =

@@ -7,7 +7,7 @@ ghost use Rattle.json_fields.specs.Fields.{items_at, IsReader, GivesPassing};
 use serde_json::Value;
 use std::alloc::{AllocError, Global};
 
-/// Each value of a list as `one` reads it: `None` if it reads one of them as nothing.
+/// The values of a list, each as `one` reads it: `None` if `one` returns `None` for any of them.
 ///
 /// [`AllocError`] if memory ran out.
 pub fn items<T: Drop, F: Fn(&Value) -> Option<T>>(

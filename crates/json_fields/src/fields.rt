@@ -5,14 +5,14 @@ ghost use Rattle.json_fields.specs.Fields.{text_at, truth_at, whole_at, list_at}
 
 use serde_json::Value;
 
-/// The member of this name: `None` if there is none, or where the value is no object.
+/// The member of this name: `None` if there is none or the value is no object.
 pub fn member<'a>(value: &'a Value, name: &str) -> Option<&'a Value>
     ensures { option_map (λ v. view v.now) result ≡ get name.now (view value.now) }
 {
     value.get(name)
 }
 
-/// The text at this name: `None` if there is no such member, or none that is a text.
+/// The text at this name: `None` if there is no such member or it is no text.
 #[tactic(auto, unfolding(crate::specs::Fields::text_at))]
 pub fn text<'a>(value: &'a Value, name: &str) -> Option<&'a str>
     ensures { option_map (λ t. t.now) result ≡ text_at name.now (view value.now) }
@@ -21,7 +21,7 @@ pub fn text<'a>(value: &'a Value, name: &str) -> Option<&'a str>
     member.as_str()
 }
 
-/// True or false at this name: `None` if there is no such member, or none that is either.
+/// The Boolean at this name: `None` if there is no such member or it is neither true nor false.
 #[tactic(auto, unfolding(crate::specs::Fields::truth_at))]
 pub fn truth(value: &Value, name: &str) -> Option<bool>
     ensures { result ≡ truth_at name.now (view value.now) }
@@ -30,8 +30,8 @@ pub fn truth(value: &Value, name: &str) -> Option<bool>
     member.as_bool()
 }
 
-/// The whole number at this name: `None` if there is no such member, or none that is written as
-/// a whole number from `low` to `high`, both included.
+/// The whole number at this name: `None` if there is no such member, or it is not written as a
+/// whole number from `low` to `high`, both included.
 #[tactic(auto, unfolding(crate::specs::Fields::whole_at))]
 pub fn whole(value: &Value, name: &str, low: u64, high: u64) -> Option<u64>
     ensures value { result ≡ whole_at low high name.now (view value.now) }
@@ -47,14 +47,13 @@ pub fn whole(value: &Value, name: &str, low: u64, high: u64) -> Option<u64>
     }
 }
 
-/// The values of the list at this name: `None` if there is no such member, or none that is a
-/// list.
+/// The values of the list at this name: `None` if there is no such member or it is no list.
 #[tactic(auto, unfolding(crate::specs::Fields::list_at))]
 pub fn list<'a>(value: &'a Value, name: &str) -> Option<&'a [Value]>
     ensures { option_map (λ vs. items_view vs.now) result ≡ list_at name.now (view value.now) }
 {
     let member = member(value, name)?;
-    // The list is lent as a slice, which `as_array()` alone is not.
+    // The list is borrowed as a slice, which `as_array()` alone does not give.
     match member.as_array() {
         Some(values) => Some(values),
         None => None,

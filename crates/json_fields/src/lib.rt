@@ -1,8 +1,8 @@
 //! Reading the fields of a JSON object, each of the type that the caller wants.
 //!
-//! Every reader answers `None` if the value is no object, where it has no member of that name,
-//! or where the member is of another type. What such a value is refused with is the caller's to
-//! say. Members beside those that are asked for are ignored.
+//! Every reader returns `None` if the value is no object, has no member of that name, or has a
+//! member of another type. The caller chooses the refusal for such a value. Other members are
+//! ignored.
 #![tactic(auto)]
 
 mod each;

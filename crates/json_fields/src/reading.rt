@@ -5,7 +5,7 @@ ghost use Rattle.json_fields.specs.Fields.{document_in};
 use serde_json::Value;
 use std::alloc::{AllocError, Global};
 
-/// The value that a JSON text says: `None` if the bytes are not UTF-8 or no JSON.
+/// The value of a JSON text: `None` if the bytes are not UTF-8 or no JSON.
 ///
 /// [`AllocError`] if memory ran out.
 pub fn document(alloc: Global, bytes: &[u8]) -> Result<Option<Value>, AllocError>

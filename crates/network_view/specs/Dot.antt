@@ -1,4 +1,4 @@
--- A network as a picture in the language DOT of graphviz.
+-- A network as a picture in DOT, the language of graphviz.
 use Rattle.std.specs.Prelude.{ℕ, zero, suc, codes, Bool, true, false, List, [], ◌++◌, flat_map, Option}
 use Rattle.std.specs.Fmt.{decimal}
 use Rattle.isd_as.specs.Address.{canonical, isd_of}
@@ -19,18 +19,18 @@ unfoldable pub router_name : ℕ → ℕ → List ℕ
 router_name ia router = codes "\""
     ++ (canonical ia ++ (codes " " ++ (decimal router ++ codes "\"")))
 
--- how a router looks: the one at which the packet is has a colour
+-- the look of a router: the one that has the packet is coloured
 unfoldable pub marked_text : Bool → List ℕ
 marked_text true = codes ", style=filled, fillcolor=red]; "
 marked_text false = codes "]; "
 
--- a router, with its number, where the packet is at this one
+-- a router with its number; it is marked if it has the packet
 unfoldable pub router_text : Option Router → ℕ → ℕ → List ℕ
 router_text at ia router =
     router_name ia router
     ++ (codes " [label=" ++ (decimal router ++ marked_text (is_at at ia router)))
 
--- the routers of an AS, by their number
+-- the routers of an AS with numbers below this one
 unfoldable pub routers_text : Option Router → ℕ → ℕ → List ℕ
 routers_text at ia zero = []
 routers_text at ia (suc router) = routers_text at ia router ++ router_text at ia router
@@ -39,12 +39,12 @@ routers_text at ia (suc router) = routers_text at ia router ++ router_text at ia
 unfoldable pub box_name : ℕ → List ℕ
 box_name ia = codes "\"cluster_" ++ (canonical ia ++ codes "\"")
 
--- how the box of an AS looks: a core AS has a bold line
+-- the look of the box of an AS: a core AS has a bold line
 unfoldable pub core_text : Bool → List ℕ
 core_text true = codes " core\"; style=bold; "
 core_text false = codes "\"; style=rounded; "
 
--- the box of an ISD, which is the same for each of its ASes
+-- the opening of the box of an ISD, which is the same for all its ASes
 unfoldable pub isd_text : ℕ → List ℕ
 isd_text isd =
     codes "subgraph cluster_"
@@ -63,17 +63,17 @@ as_text at one =
 abbrev pub end_name : End → List ℕ
 end_name end = router_name end.ia end.router
 
--- the kind of a link: between core ASes a thick line, to a child an arrow
+-- the look of a link by its class: thick between core ASes, an arrow to a child
 unfoldable pub class_text : LinkClass → List ℕ
 class_text Core = codes "penwidth=3"
 class_text Child = codes "dir=forward"
 
--- a link that the packet has passed has a colour and the thickest line
+-- the look of a link that the packet has passed: coloured, with the thickest line
 unfoldable pub passed_text : Bool → List ℕ
 passed_text true = codes ", color=red, penwidth=5"
 passed_text false = []
 
--- a link that is cut is dashed
+-- the look of a link that is cut: dashed
 unfoldable pub state_text : Bool → List ℕ
 state_text true = codes "];\n"
 state_text false = codes ", style=dashed];\n"
@@ -86,14 +86,14 @@ link_text passed link =
 
 -- ---- the network
 
--- how the picture is laid out: names below on the left, and the numbers of interfaces small
+-- the layout of the picture: names at the lower left, and small numbers of interfaces
 abbrev pub layout : List ℕ
 layout =
     codes "graph network {\n"
     ++ codes "labelloc=b; labeljust=l; ranksep=1; edge [labeldistance=1.5, fontsize=11];\n"
 
--- each AS in a box and each link on a line, in the order in which the network lists them, with a
--- packet that has passed these hops and is at this router, if at one
+-- the picture of a network: a box for each AS and a line for each link, in the order of the
+-- network's lists, with a packet that has passed these hops and is at this router, if at any
 unfoldable pub dot_of : Network → List WalkHop → Option Router → List ℕ
 dot_of network passed at =
     layout ++ (flat_map (as_text at) network.ases

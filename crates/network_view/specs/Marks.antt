@@ -1,4 +1,4 @@
--- What is marked of a packet in the picture of its network.
+-- The marks of a packet in the picture of its network.
 use Rattle.std.specs.Prelude.{ℕ, ◌==◌, ◌&&◌, ◌||◌, Bool, false, List, Option, Some, None}
 use Rattle.std.specs.List.{list_any}
 use Rattle.policy_expr.specs.declared.hop.WalkHop.{WalkHop}
@@ -7,15 +7,15 @@ use Rattle.scion_topology.specs.declared.network.Link.{Link}
 use Rattle.scion_topology.specs.Network.{is_end}
 use Rattle.network_view.specs.declared.marks.Router.{Router}
 
--- the packet is at this router of this AS
+-- whether the packet is at this router of this AS
 abbrev pub is_at : Option Router → ℕ → ℕ → Bool
 is_at None ia number = false
 is_at (Some router) ia number = (router.ia == ia) && (router.number == number)
 
--- the hop leaves its AS by the interface of this end
+-- whether the hop leaves its AS by the interface of this end
 abbrev pub leaves_by : End → WalkHop → Bool
 leaves_by end hop = is_end end hop.ia hop.egress
 
--- a packet that has passed these hops has passed the link: it left an AS by an end of it
+-- whether a packet that has passed these hops has passed the link: it left an AS by one of its ends
 abbrev pub was_passed : List WalkHop → Link → Bool
 was_passed passed link = list_any (λ hop. leaves_by link.a hop || leaves_by link.b hop) passed

@@ -9,7 +9,7 @@ use policy_expr::WalkHop;
 use scion_topology::{AsEntry, End, Link, LinkClass};
 use std::alloc::{AllocError, Global};
 
-/// How the picture is laid out: names below on the left, and the numbers of interfaces small.
+/// The layout of the picture: names at the lower left, and small numbers of interfaces.
 static LAYOUT: &str = "\
 graph network {
 labelloc=b; labeljust=l; ranksep=1; edge [labeldistance=1.5, fontsize=11];
@@ -23,7 +23,7 @@ fn router_name(alloc: Global, ia: IsdAs, router: u8) -> Result<String, AllocErro
     format!(in alloc; "\"{ia} {router}\"")
 }
 
-/// How a router looks.
+/// The look of a router.
 #[tactic(auto, unfolding(crate::specs::Dot::marked_text))]
 fn marked_text(marked: bool) -> &'static str
     ensures { result.now ≡ marked_text marked }
@@ -50,7 +50,7 @@ fn router_text(
     format!(in alloc; "{} [label={router}{look}", name.as_str())
 }
 
-/// The routers of an AS, by their number.
+/// The routers of an AS, in the order of their numbers.
 #[tactic(auto, unfolding(crate::specs::Dot::routers_text))]
 fn routers_text(
     alloc: Global,
@@ -75,7 +75,7 @@ fn box_name(alloc: Global, ia: IsdAs) -> Result<String, AllocError>
     format!(in alloc; "\"cluster_{ia}\"")
 }
 
-/// How the box of an AS looks.
+/// The look of the box of an AS.
 #[tactic(auto, unfolding(crate::specs::Dot::core_text))]
 fn core_text(core: bool) -> &'static str
     ensures { result.now ≡ core_text core }
@@ -87,7 +87,7 @@ fn core_text(core: bool) -> &'static str
     }
 }
 
-/// The box of an ISD, which is the same for each of its ASes.
+/// The opening of the box of an ISD, which is the same for all its ASes.
 #[tactic(auto, unfolding(crate::specs::Dot::isd_text))]
 fn isd_text(alloc: Global, isd: Isd) -> Result<String, AllocError>
     ensures { IfOk result (λ text. string_bytes text ≡ isd_text isd) }
@@ -120,7 +120,7 @@ fn end_name(alloc: Global, end: &End) -> Result<String, AllocError>
     router_name(alloc, end.ia, end.router)
 }
 
-/// The kind of a link.
+/// The look of a link by its class.
 #[tactic(auto, unfolding(crate::specs::Dot::class_text))]
 fn class_text(class: LinkClass) -> &'static str
     ensures { result.now ≡ class_text class }
@@ -131,7 +131,7 @@ fn class_text(class: LinkClass) -> &'static str
     }
 }
 
-/// Whether the packet has passed a link.
+/// The look of a link that the packet has passed.
 #[tactic(auto, unfolding(crate::specs::Dot::passed_text))]
 fn passed_text(passed: bool) -> &'static str
     ensures { result.now ≡ passed_text passed }
@@ -143,7 +143,7 @@ fn passed_text(passed: bool) -> &'static str
     }
 }
 
-/// Whether a link is cut.
+/// The end of a link's line, with the look of a link that is cut.
 #[tactic(auto, unfolding(crate::specs::Dot::state_text))]
 fn state_text(up: bool) -> &'static str
     ensures { result.now ≡ state_text up }
@@ -151,7 +151,7 @@ fn state_text(up: bool) -> &'static str
     if up { "];\n" } else { ", style=dashed];\n" }
 }
 
-/// The interfaces of a link, each at its end.
+/// The interfaces of a link, each at its end of the line.
 #[tactic(auto, unfolding(crate::specs::inner::Dot::interfaces_text))]
 fn interfaces_text(alloc: Global, link: &Link) -> Result<String, AllocError>
     ensures { IfOk result (λ text. string_bytes text ≡ interfaces_text link.now) }
@@ -204,8 +204,8 @@ fn lines(alloc: Global, passed: &[WalkHop], links: &[Link]) -> Result<String, Al
 }
 
 /// The picture of the network of these ASes and links: a box for each AS and a line for each link,
-/// in their order. The links by which a packet has left these hops are drawn as passed, and the
-/// router at which it is, if it is at one, is marked.
+/// in their order. The links by which a packet has left these hops are drawn as passed. The router
+/// that has the packet, if there is one, is marked.
 ///
 /// `AllocError` if memory runs out. It takes time for each pair of a link and a hop.
 #[tactic(auto, unfolding(crate::specs::Dot::dot_of))]

@@ -5,8 +5,8 @@ ghost use Rattle.scion_topology.specs.Network.{Network};
 ghost use Rattle.scion_topology.specs.Rules.{AreTwo, IsNetwork, ends_of};
 ghost use Rattle.network_view.specs.Dot.{box_name};
 
-/// No two addresses have a box of one name. So in a network each AS has a box of its own, and no
-/// two ends of lines are one interface of an AS.
+/// The boxes of two addresses have different names. So each AS of a network has a box of its own,
+/// and no two ends of lines are at one interface.
 pub fn named_once()
     ensures names { (one other : ℕ) → one < 2 ^ 64 → other < 2 ^ 64
         → box_name one ≡ box_name other → one ≡ other }

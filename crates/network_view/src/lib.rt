@@ -1,10 +1,10 @@
-//! A network as a picture: text in the language DOT, which graphviz draws.
+//! A network as a picture: text in DOT, the language that graphviz draws.
 //!
 //! Each ISD is a box, each of its ASes a box in it with the AS's routers, and each link a line with
 //! the numbers of its interfaces at its ends. A core AS has a bold box, a link between core ASes is
-//! thick, one to a child is an arrow, and one that is cut is dashed. Of a packet the links that it
-//! has passed and the router at which it is are marked. The text has some hundred bytes for each
-//! router and each link.
+//! thick, a link to a child is an arrow, and a link that is cut is dashed. For a packet, the links
+//! that it has passed and the router that has it are marked. The text has some hundred bytes for
+//! each router and each link.
 #![tactic(auto)]
 
 mod dot;

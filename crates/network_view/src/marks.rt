@@ -1,4 +1,4 @@
-//! What is marked of a packet.
+//! The marks of a packet in the picture.
 
 ghost use Rattle.std.specs.Prelude.{◌≡◌};
 ghost use Rattle.network_view.specs.Marks.{is_at, leaves_by, was_passed};

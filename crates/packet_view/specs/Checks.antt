@@ -1,4 +1,4 @@
--- The checks that a router makes of a packet, in their order, each with both sides and its verdict.
+-- The checks of a router on a packet, in their order; each has its two sides and its verdict.
 use Rattle.std.specs.Prelude.{ℕ, ◌==◌, Bool, true, if◌then◌else◌, List, [], ◌∷◌, ◌++◌, Option, Some, None, Result, Ok, Err}
 use Rattle.refusal.specs.Refusal.{◌>>=◌, check}
 use Rattle.scion_topology.specs.declared.entry.IfEntry.{IfEntry}
@@ -16,22 +16,22 @@ use Rattle.router_step.specs.Done.{Situation, on_arrival}
 use Rattle.router_step.specs.Packet.{destination_of, source_of, header_in}
 use Rattle.packet_view.specs.Sides.{header_sides, indices_sides, way_in_sides, live_sides, mac_sides, source_sides, destination_sides, switch_sides, way_out_sides, kinds_sides, owner_sides, link_sides}
 
--- what a check compares, and whether it holds or is the packet's refusal
+-- a check: the sides that it compares, and whether it succeeds or gives the packet's refusal
 pub record CheckValue : Type 0 where
   pub sides : List ℕ
   pub verdict : Result (Unit {0}) Refusal
 
--- the router's test of this outcome, with these sides
+-- the check with these sides, which succeeds if `holds` and else gives this refusal
 abbrev pub tested : List ℕ → Bool → Refusal → CheckValue
 tested sides holds refusal = record { sides = sides; verdict = check holds refusal }
 
--- 4 and 5: the hop is live, and its authenticator right
+-- checks 4 and 5: the hop is live, and its authenticator is right
 unfoldable pub pass_checks : ℕ → ℕ → View → ℕ → InfoField → HopField → List CheckValue
 pass_checks four five view now info hop =
     tested (live_sides four now info hop) (is_hop_live now info hop) refusal.Expired
     ∷ tested (mac_sides five view info hop) (is_mac_right view info hop) refusal.BadMac ∷ []
 
--- 2 and 3
+-- checks 2 and 3
 unfoldable pub place_checks : Situation → List CheckValue
 place_checks at =
     tested (indices_sides at.arrival at.header) (indices_fit at.arrival at.header)
@@ -41,7 +41,7 @@ place_checks at =
     refusal.WrongIngress
     ∷ []
 
--- 6 and 7
+-- checks 6 and 7
 unfoldable pub end_checks : Situation → List CheckValue
 end_checks at =
     tested (source_sides at.view at.arrival at.source) (source_fits at.view at.arrival at.source)
@@ -49,7 +49,7 @@ end_checks at =
     ∷ tested (destination_sides at.view at.destination at.header)
     (destination_fits at.view at.destination (is_last at.header)) refusal.DestinationAs ∷ []
 
--- 9: at the last hop of a segment, with 4 and 5 once more, on the first hop of the next
+-- check 9: at the last hop of a segment, also checks 4 and 5 on the first hop of the next segment
 unfoldable pub switch_checks : Situation → List CheckValue
 switch_checks at =
     if ends_segment at.header
@@ -58,7 +58,8 @@ switch_checks at =
     (current_hop (moved_on true at.header))
     else []
 
--- 10 to 13, from this info and hop field, and with this interface of the way out
+-- checks 10 to 13, from this info and hop field, and with the interface of the way out if there is
+-- one
 unfoldable pub leave_checks : View → Arrival → Bool → InfoField → HopField → Option IfEntry
     → List CheckValue
 leave_checks view arrival switched info hop None =
@@ -71,7 +72,7 @@ leave_checks view arrival switched info hop (Some out) =
     ∷ (if out.router == view.router then tested (link_sides out.up) out.up refusal.LinkDown ∷ []
     else [])
 
--- the same where the packet stands after its arrival, and after a switch if there is one
+-- checks 10 to 13 after the arrival, and after a switch if there is one
 abbrev pub way_out_checks : Situation → List CheckValue
 way_out_checks at =
     let switched = ends_segment at.header in
@@ -79,7 +80,7 @@ way_out_checks at =
     let hop = current_hop (moved_on switched at.header) in
     leave_checks at.view at.arrival switched info hop (entry_of at.view (way_out info hop))
 
--- 2 to 13; 8 is the end of the path, behind which there are no more
+-- checks 2 to 13; at the end of the path (8) there are none after check 7
 unfoldable pub checks_at : Situation → List CheckValue
 checks_at at =
     place_checks at
@@ -87,7 +88,7 @@ checks_at at =
     ++ (end_checks at
     ++ (if is_last at.header then [] else switch_checks at ++ way_out_checks at)))
 
--- the packet at the router of this view, with its path header
+-- the packet at the router of this view, with this path header
 abbrev pub situation_of : View → ℕ → Arrival → List ℕ → HeaderValue → Situation
 situation_of view now arrival packet header =
     record {
@@ -99,14 +100,14 @@ situation_of view now arrival packet header =
       header = header;
     }
 
--- 2 to 13 of a packet in which this header was read
+-- checks 2 to 13 of a packet whose header was read, and none without a header
 abbrev pub checks_behind : View → ℕ → Arrival → List ℕ → Result (HeaderValue × ℕ) Refusal
     → List CheckValue
 checks_behind view now arrival packet (Ok front) =
     checks_at (situation_of view now arrival packet front.0)
 checks_behind view now arrival packet (Err refusal) = []
 
--- all checks: that there is a path header, and those behind it
+-- all checks: that there is a path header, and the checks 2 to 13
 unfoldable pub checks_of : View → ℕ → Arrival → List ℕ → List CheckValue
 checks_of view now arrival packet =
     record { sides = header_sides packet; verdict = judged (header_in packet) }

@@ -1,4 +1,4 @@
--- The fields of a packet, each on a line: its bytes in hexadecimal, and what they say.
+-- The fields of a packet, each on a line: its bytes in hexadecimal, and their meaning.
 use Rattle.std.specs.Prelude.{ℕ, zero, suc, ◌+◌, ◌*◌, ◌/◌, ◌-◌, codes, nat_lt, if◌then◌else◌, List, [], ◌++◌, length, take, drop, Result, Ok, Err}
 use Rattle.std.specs.Fmt.{decimal}
 use Rattle.hex.specs.Hex.{encode_lower}
@@ -12,12 +12,12 @@ use Rattle.router_step.specs.declared.fault.Refusal.{Refusal}
 use Rattle.router_step.specs.Place.{info_field_at, current_hop}
 use Rattle.router_step.specs.Packet.{destination_of, source_of, header_in}
 
--- a number of bytes from a place of the packet on, and what they say
+-- the line of `len` bytes from this place of the packet on, with their meaning
 unfoldable pub field_text : List ℕ → ℕ → ℕ → List ℕ → List ℕ
 field_text packet start len says =
     encode_lower (take len (drop start packet)) ++ (codes " " ++ (says ++ codes "\n"))
 
--- a field of an info or a hop field that says a number: `KIND INDEX NAME VALUE`
+-- the line of a number in an info or a hop field: `KIND INDEX NAME VALUE`
 unfoldable pub number_text : List ℕ → ℕ → ℕ → List ℕ → ℕ → List ℕ → ℕ → List ℕ
 number_text packet start len kind index name value =
     field_text packet start len (kind ++ (codes " " ++ (decimal index ++ (codes " " ++ (name
@@ -25,7 +25,7 @@ number_text packet start len kind index name value =
 
 -- ---- addresses and meta field
 
--- an address
+-- the line of an address, and the lines of both addresses
 unfoldable pub address_text : List ℕ → ℕ → List ℕ → ℕ → List ℕ
 address_text packet start name address =
     field_text packet start 8 (name ++ (codes " " ++ canonical address))
@@ -35,7 +35,7 @@ addresses_text packet =
     address_text packet 0 (codes "destination") (destination_of packet)
     ++ address_text packet 8 (codes "source") (source_of packet)
 
--- where the packet stands on its path
+-- the place of the packet on its path
 unfoldable pub place_text : HeaderValue → List ℕ
 place_text header =
     codes "at info field " ++ (decimal header.curr_inf ++ (codes ", hop field "
@@ -53,11 +53,11 @@ meta_text packet header =
 
 -- ---- info and hop fields
 
--- whether the segment is travelled in the direction in which it was made
+-- 1 if the segment is travelled in construction direction, else 0
 abbrev pub flag_of : InfoField → ℕ
 flag_of info = if info.construction then 1 else 0
 
--- the info field of this index, which stands at this place
+-- the lines of the info field of this index, at this place of the packet
 unfoldable pub info_text : List ℕ → ℕ → ℕ → InfoField → List ℕ
 info_text packet start index info =
     number_text packet start 2 (codes "info") index (codes "construction direction") (flag_of info)
@@ -65,16 +65,17 @@ info_text packet start index info =
     ++ number_text packet (start + 4) 4 (codes "info") index (codes "made at second")
     info.timestamp)
 
--- the last second at which a hop is live whose segment has this timestamp
+-- the last second at which a hop of a segment with this timestamp is live
 abbrev pub last_live : ℕ → HopField → ℕ
 last_live timestamp hop = expiry_of timestamp hop.exp_time / 2
 
--- the authenticator of the hop field of this index
+-- the line of the authenticator in the hop field of this index
 unfoldable pub mac_text : List ℕ → ℕ → ℕ → List ℕ
 mac_text packet start index =
     field_text packet start 6 (codes "hop " ++ (decimal index ++ codes " authenticator"))
 
--- the hop field of this index, which stands at this place, on a segment of this timestamp
+-- the lines of the hop field of this index, at this place of the packet, on a segment with this
+-- timestamp
 unfoldable pub hop_text : List ℕ → ℕ → ℕ → ℕ → HopField → List ℕ
 hop_text packet start index timestamp hop =
     number_text packet start 1 (codes "hop") index (codes "flags") 0
@@ -86,7 +87,7 @@ hop_text packet start index timestamp hop =
     hop.cons_egress
     ++ mac_text packet (start + 6) index)))
 
--- the lines of each index below this one
+-- the lines of all indices below this one
 unfoldable pub each_below : (ℕ → List ℕ) → ℕ → List ℕ
 each_below one zero = []
 each_below one (suc n) = each_below one n ++ one n
@@ -106,13 +107,13 @@ hops_text packet header count =
 
 -- ---- the packet
 
--- what follows the header, if anything
+-- the line of the payload, if there is one
 unfoldable pub payload_text : List ℕ → ℕ → List ℕ
 payload_text packet start =
     if nat_lt start (length packet)
     then field_text packet start (length packet - start) (codes "payload") else []
 
--- what stands behind the addresses: a path header and a payload
+-- the lines after the addresses: of a path header and a payload
 unfoldable pub behind_text : List ℕ → Result (HeaderValue × ℕ) Refusal → List ℕ
 behind_text packet (Ok front) =
     meta_text packet front.0 ++ (infos_text packet front.0 (length front.0.infos)
@@ -120,7 +121,7 @@ behind_text packet (Ok front) =
 behind_text packet (Err refusal) =
     field_text packet 16 (length packet - 16) (codes "no path header")
 
--- all fields of a packet
+-- the lines of all fields of a packet
 unfoldable pub fields_text : List ℕ → List ℕ
 fields_text packet =
     if nat_lt (length packet) 16 then field_text packet 0 (length packet) (codes "no addresses")

@@ -1,4 +1,4 @@
--- What `scionet_view packet` prints: the packet's fields, the checks, and the line of the turn.
+-- The output of `scionet_view packet`: the packet's fields, the checks, and the line of the turn.
 use Rattle.std.specs.Prelude.{ℕ, codes, if◌then◌else◌, List, [], ◌∷◌, ◌++◌, Option, Some, Result, Ok, Err, is_ok}
 use Rattle.separators.specs.Blanks.{trimmed}
 use Rattle.refusal.specs.Optional.{◌>>=◌}
@@ -9,26 +9,26 @@ use Rattle.step_line.specs.Line.{line_of, refusal_text}
 use Rattle.packet_view.specs.Fields.{fields_text}
 use Rattle.packet_view.specs.Checks.{CheckValue, checks_of}
 
--- that a check holds, or the refusal
+-- `ok` if a check succeeds, else its refusal
 abbrev pub verdict_text : Result (Unit {0}) Refusal → List ℕ
 verdict_text (Ok done) = codes "ok"
 verdict_text (Err refusal) = refusal_text refusal
 
--- a check, on a line
+-- the line of a check
 unfoldable pub check_text : CheckValue → List ℕ
 check_text one = one.sides ++ (codes ": " ++ (verdict_text one.verdict ++ codes "\n"))
 
--- the checks up to the first that fails
+-- the lines of the checks up to the first that fails
 unfoldable pub checks_text : List CheckValue → List ℕ
 checks_text [] = []
 checks_text (one ∷ later) = check_text one ++ (if is_ok one.verdict then checks_text later else [])
 
--- the lines in front of that of the turn
+-- the lines before that of the turn
 abbrev pub lines_before : Turn → List ℕ → List ℕ
 lines_before turn packet =
     fields_text packet ++ checks_text (checks_of turn.view turn.moment turn.arrival packet)
 
--- all lines; the last one is that of the turn, and has no end
+-- all lines; the last is that of the turn, and has no line end
 unfoldable pub lines_of : Turn → List ℕ → Option (List ℕ)
 lines_of turn text = do
   packet ← hex_bytes_of (trimmed text)

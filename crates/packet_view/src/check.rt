@@ -4,8 +4,8 @@ ghost use Rattle.packet_view.specs.Checks.{tested};
 use router_step::Refusal;
 use std::marker::Model;
 
-/// A check that a router makes of a packet: what it compares, and whether it holds or is the
-/// packet's refusal.
+/// A check of a router on a packet: the sides that it compares, and whether it succeeds or gives
+/// the packet's refusal.
 #[derive(Drop)]
 pub(crate) struct Check {
     pub(crate) sides: String,
@@ -24,7 +24,7 @@ impl Model for Check {
 impl Check {
     ghost use Rattle.std.specs.String.{string_bytes};
 
-    /// The router's test of this outcome.
+    /// The check with these sides, which succeeds if `holds` and else gives this refusal.
     pub(crate) fn tested(sides: String, holds: bool, refusal: Refusal) -> Check
         ensures { result ≡ tested (string_bytes sides) holds refusal }
     {

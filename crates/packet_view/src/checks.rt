@@ -1,4 +1,4 @@
-//! The checks that a router makes of a packet, in their order.
+//! The checks of a router on a packet, in their order.
 
 ghost use Rattle.std.specs.Prelude.{◌≡◌, ◌+◌, ◌<◌, ◌++◌, IfOk, OnOk, length};
 ghost use Rattle.scion_topology.specs.View.{entry_of};
@@ -19,7 +19,7 @@ use router_step::{Arrival, Refusal, destination_in, read_header, source_in, way_
 use scion_topology::RouterView;
 use std::alloc::{AllocError, Global};
 
-/// Adds the checks of where the packet stands and came in.
+/// Adds the checks of the packet's place and way in.
 #[tactic(auto, unfolding(crate::specs::Checks::place_checks))]
 fn add_place(alloc: Global, at: &Situation<'_>, checks: &mut Vec<Check>) -> Result<(), AllocError>
     ensures { OnOk result (checks.new.items ≡ checks.old.items ++ place_checks at.entry.now) }
@@ -35,7 +35,7 @@ fn add_place(alloc: Global, at: &Situation<'_>, checks: &mut Vec<Check>) -> Resu
     Ok(())
 }
 
-/// Adds the checks of a hop: that it is live, and its authenticator right.
+/// Adds the checks of a hop: that it is live, and that its authenticator is right.
 #[tactic(auto, unfolding(crate::specs::Checks::pass_checks))]
 fn add_pass(
     alloc: Global,
@@ -139,7 +139,7 @@ fn add_checks(alloc: Global, at: &Situation<'_>, checks: &mut Vec<Check>) -> Res
     add_leave(alloc, at, switched, &info, &hop, checks)
 }
 
-/// The checks that a router of this view makes at the second `now` of a packet that came to it by
+/// The checks that a router with this view makes at the second `now` on a packet that came to it by
 /// `arrival`.
 #[tactic(auto, unfolding(crate::specs::Checks::checks_of))]
 pub(crate) fn checks_of(

@@ -1,4 +1,4 @@
-//! The fields of a packet, each on a line: where its bytes stand, and what they say.
+//! The fields of a packet, each on a line: its bytes in hexadecimal, and their meaning.
 
 ghost use Rattle.std.specs.Prelude.{◌≡◌, ◌+◌, ◌≤◌, length, IfOk};
 ghost use Rattle.std.specs.String.{string_bytes};
@@ -12,10 +12,10 @@ use path_header::{Header, HopField, InfoField, SegLens};
 use router_step::{destination_in, read_header, source_in};
 use std::alloc::{AllocError, Global};
 
-/// The bytes in front of the path header: two addresses.
+/// The length of the addresses in front of the path header.
 const ADDRESSES_LEN: usize = 16;
 
-/// The `len` bytes of the packet from place `at` on, and what they say.
+/// The line of `len` bytes of the packet from this place on, with their meaning.
 #[tactic(auto, unfolding(crate::specs::Fields::field_text))]
 fn field_text(
     alloc: Global,
@@ -33,7 +33,7 @@ fn field_text(
     format!(in alloc; "{} {says}\n", digits.as_str())
 }
 
-/// A field of an info or a hop field that says a number.
+/// The line of a number in an info or a hop field.
 #[tactic(auto, unfolding(crate::specs::Fields::number_text))]
 fn number_text(
     alloc: Global,
@@ -80,14 +80,14 @@ fn mac_text(alloc: Global, packet: &[u8], start: usize, index: usize) -> Result<
     field_text(alloc, packet, start, 6, says.as_str())
 }
 
-/// Whether the segment is travelled in the direction in which it was made, as a number.
+/// 1 if the segment is travelled in construction direction, else 0.
 fn flag_of(info: &InfoField) -> u64
     ensures { result ≡ flag_of info.now }
 {
     if info.construction { 1 } else { 0 }
 }
 
-/// Where the packet stands on its path.
+/// The place of the packet on its path.
 #[tactic(auto, unfolding(crate::specs::Fields::place_text))]
 pub(crate) fn place_text(alloc: Global, header: &Header) -> Result<String, AllocError>
     ensures { IfOk result (λ text. string_bytes text ≡ place_text header.now) }
@@ -108,14 +108,14 @@ pub(crate) fn lens_text(alloc: Global, lens: SegLens) -> Result<String, AllocErr
     )
 }
 
-/// The last second at which a hop is live whose segment has this timestamp.
+/// The last second at which a hop of a segment with this timestamp is live.
 pub(crate) fn last_live(timestamp: u32, hop: &HopField) -> u64
     ensures { result ≡ last_live timestamp hop.now }
 {
     expiry(timestamp, hop.exp_time) / 2
 }
 
-/// The info field of this index, which stands at this place.
+/// The lines of the info field of this index, at this place of the packet.
 #[tactic(auto, unfolding(crate::specs::Fields::info_text))]
 fn info_text(
     alloc: Global,
@@ -169,7 +169,8 @@ fn info_text(
     )
 }
 
-/// The hop field of this index, which stands at this place, on a segment of this timestamp.
+/// The lines of the hop field of this index, at this place of the packet, on a segment with this
+/// timestamp.
 #[tactic(auto, unfolding(crate::specs::Fields::hop_text))]
 fn hop_text(
     alloc: Global,
@@ -288,7 +289,7 @@ fn meta_text(alloc: Global, packet: &[u8], header: &Header) -> Result<String, Al
     format!(in alloc; "{}{}", place.as_str(), lens.as_str())
 }
 
-/// What follows the header, if anything.
+/// The line of the payload, if there is one.
 #[tactic(auto, unfolding(crate::specs::Fields::payload_text))]
 fn payload_text(alloc: Global, packet: &[u8], start: usize) -> Result<String, AllocError>
     requires { start ≤ length packet.now }
@@ -301,7 +302,7 @@ fn payload_text(alloc: Global, packet: &[u8], start: usize) -> Result<String, Al
     }
 }
 
-/// What stands behind the addresses: a path header and a payload.
+/// The lines after the addresses: of a path header and a payload.
 #[tactic(auto, unfolding(crate::specs::Fields::behind_text))]
 fn behind_text(alloc: Global, packet: &[u8]) -> Result<String, AllocError>
     requires { 16 ≤ length packet.now }
@@ -325,9 +326,9 @@ fn behind_text(alloc: Global, packet: &[u8]) -> Result<String, AllocError>
     )
 }
 
-/// The fields of a packet, each on a line with its bytes in hexadecimal: addresses, meta, info and
-/// hop fields and payload; of a packet without addresses or without a path header as far as it has
-/// them. `AllocError` if memory runs out.
+/// The fields of a packet, each on a line with its bytes in hexadecimal: addresses, meta field,
+/// info fields, hop fields and payload. If the packet has no addresses or no path header, the lines
+/// say so. `AllocError` if memory runs out.
 #[tactic(auto, unfolding(crate::specs::Fields::fields_text))]
 pub fn fields_text(alloc: Global, packet: &[u8]) -> Result<String, AllocError>
     ensures { IfOk result (λ text. string_bytes text ≡ fields_text packet.now) }

@@ -1,9 +1,9 @@
-//! A packet at a router as text: each of its fields, each check that the router makes of it with
-//! both sides, and what becomes of it.
+//! A packet at a router as text: each of its fields, each check of the router with both its sides,
+//! and the result of the step.
 //!
 //! The checks are those of [`router_step::step`], up to the first that fails, and the last line is
-//! the one that `scionet step` prints. The text has some 20 bytes for each of the packet's, and a
-//! kilobyte or two beside; each byte is read a few times.
+//! the one that `scionet step` prints. The text has about 20 bytes for each byte of the packet, and
+//! one or two kilobytes more; each byte is read a few times.
 #![tactic(auto)]
 
 mod check;

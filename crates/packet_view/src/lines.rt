@@ -1,4 +1,4 @@
-//! What `scionet_view packet` prints of a packet.
+//! The output of `scionet_view packet` about a packet.
 
 ghost use Rattle.std.specs.Prelude.{◌≡◌, IfOk};
 ghost use Rattle.std.specs.String.{string_bytes};
@@ -27,7 +27,7 @@ fn checks_text(alloc: Global, checks: &[Check]) -> Result<String, AllocError>
     Ok(text)
 }
 
-/// A check, on a line.
+/// The line of a check.
 #[tactic(auto, unfolding(crate::specs::Lines::check_text))]
 fn check_text(alloc: Global, check: &Check) -> Result<String, AllocError>
     ensures { IfOk result (λ text. string_bytes text ≡ check_text check.now) }
@@ -41,9 +41,10 @@ fn check_text(alloc: Global, check: &Check) -> Result<String, AllocError>
     }
 }
 
-/// The lines of the packet that the text writes in hexadecimal, letters of either case, with
-/// blanks at both ends, at the router whose turn this is: each field of the packet, each check up
-/// to the first that fails, and the line of [`StepCommand::line`], which has no end.
+/// The lines about the packet that the text gives in hexadecimal, at the router of this turn.
+/// Letters may be of either case, and blanks around the digits are ignored. The lines are the
+/// fields of the packet, the checks up to the first that fails, and the line of
+/// [`StepCommand::line`], which has no line end.
 ///
 /// [`StepFault::PacketText`] if the text is not hexadecimal digits, two for each byte;
 /// [`StepFault::Memory`] if memory runs out.

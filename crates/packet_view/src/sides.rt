@@ -26,7 +26,7 @@ fn arrival_text(alloc: Global, arrival: Arrival) -> Result<String, AllocError>
     }
 }
 
-/// What the AS at the far end of a link is.
+/// The kind of a link: what the AS at its far end is.
 #[tactic(auto, unfolding(crate::specs::Sides::kind_text))]
 fn kind_text(kind: LinkKind) -> &'static str
     ensures { result.now ≡ kind_text kind }
@@ -38,7 +38,7 @@ fn kind_text(kind: LinkKind) -> &'static str
     }
 }
 
-/// The router of an interface, if the AS has it.
+/// The router that owns an interface, if the AS has the interface.
 #[tactic(auto, unfolding(crate::specs::Sides::owner_text))]
 fn owner_text(alloc: Global, entry: Option<&IfEntry>) -> Result<String, AllocError>
     ensures { IfOk result (λ text. string_bytes text ≡ owner_text (option_copied entry.entry)) }
@@ -49,7 +49,7 @@ fn owner_text(alloc: Global, entry: Option<&IfEntry>) -> Result<String, AllocErr
     }
 }
 
-/// How long the packet is.
+/// The length of the packet.
 #[tactic(auto, unfolding(crate::specs::Sides::header_sides))]
 pub(crate) fn header_sides(alloc: Global, packet: &[u8]) -> Result<String, AllocError>
     ensures { IfOk result (λ text. string_bytes text ≡ header_sides packet.now) }
@@ -57,7 +57,7 @@ pub(crate) fn header_sides(alloc: Global, packet: &[u8]) -> Result<String, Alloc
     format!(in alloc; "1 header: a packet of {} bytes", packet.len())
 }
 
-/// The router of the way out, and this one.
+/// The router that owns the way out, and this one.
 #[tactic(auto, unfolding(crate::specs::Sides::owner_sides))]
 pub(crate) fn owner_sides(
     alloc: Global,
@@ -78,7 +78,7 @@ pub(crate) fn link_sides(alloc: Global, up: bool) -> Result<String, AllocError>
     String::from_str(alloc, if up { "13 link: up" } else { "13 link: down" })
 }
 
-/// Where the packet stands, and the segment of that hop field.
+/// The place of the packet, and the segment of its current hop field.
 #[tactic(auto, unfolding(crate::specs::Sides::position_text))]
 fn position_text(alloc: Global, at: &Situation<'_>) -> Result<String, AllocError>
     ensures { IfOk result (λ text. string_bytes text ≡ position_text at.entry.now.header) }
@@ -88,7 +88,7 @@ fn position_text(alloc: Global, at: &Situation<'_>) -> Result<String, AllocError
     format!(in alloc; "{} of segment {segment}", place.as_str())
 }
 
-/// The packet's place, the lengths, and how it came.
+/// The packet's place, the segment lengths, and how the packet came.
 #[tactic(auto, unfolding(crate::specs::Sides::indices_sides))]
 pub(crate) fn indices_sides(alloc: Global, at: &Situation<'_>) -> Result<String, AllocError>
     ensures { IfOk result (λ text. string_bytes text
@@ -127,7 +127,7 @@ pub(crate) fn way_in_sides(
     )
 }
 
-/// The last second at which the hop is live, and the moment.
+/// The last second at which the hop is live, and the current second.
 #[tactic(auto, unfolding(crate::specs::Sides::live_sides))]
 pub(crate) fn live_sides(
     alloc: Global,
@@ -165,7 +165,7 @@ fn mac_under(
     hex::encode(alloc, mac.as_slice())
 }
 
-/// The same under the key before, if there is one.
+/// The authenticator under the key before, if there is one.
 #[tactic(auto, unfolding(crate::specs::Sides::before_text))]
 fn before_text(
     alloc: Global,
@@ -184,7 +184,7 @@ fn before_text(
     format!(in alloc; ", under the one before: {}", mac.as_str())
 }
 
-/// The authenticators that are right.
+/// The right authenticators, under all accepted keys.
 #[tactic(auto, unfolding(crate::specs::Sides::right_text))]
 fn right_text(
     alloc: Global,
@@ -204,7 +204,7 @@ fn right_text(
     )
 }
 
-/// The packet's authenticator, and those that are right.
+/// The packet's authenticator, and the right ones.
 #[tactic(auto, unfolding(crate::specs::Sides::mac_sides))]
 pub(crate) fn mac_sides(
     alloc: Global,
@@ -240,7 +240,7 @@ pub(crate) fn source_sides(alloc: Global, at: &Situation<'_>) -> Result<String, 
     )
 }
 
-/// The destination, this AS, and where on the path the packet stands.
+/// The destination, this AS, and the packet's place on its path.
 #[tactic(auto, unfolding(crate::specs::Sides::destination_sides))]
 pub(crate) fn destination_sides(alloc: Global, at: &Situation<'_>) -> Result<String, AllocError>
     ensures { IfOk result (λ text. string_bytes text
@@ -255,7 +255,7 @@ pub(crate) fn destination_sides(alloc: Global, at: &Situation<'_>) -> Result<Str
     )
 }
 
-/// The segment of the packet, that of the next hop, and how the packet came.
+/// The segment of the packet, that of its next hop, and how the packet came.
 #[tactic(auto, unfolding(crate::specs::Sides::switch_sides))]
 pub(crate) fn switch_sides(alloc: Global, at: &Situation<'_>) -> Result<String, AllocError>
     requires { at.now.header.curr_hf + 1 < length at.now.header.hops }
@@ -271,7 +271,7 @@ pub(crate) fn switch_sides(alloc: Global, at: &Situation<'_>) -> Result<String, 
     )
 }
 
-/// The way out, and its router.
+/// The way out, and the router that owns it.
 #[tactic(auto, unfolding(crate::specs::Sides::way_out_sides))]
 pub(crate) fn way_out_sides(
     alloc: Global,

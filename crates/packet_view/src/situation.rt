@@ -1,4 +1,4 @@
-//! A packet at a router, and what the router asks of it.
+//! A packet at a router, with the values that the router's checks need.
 
 ghost use Rattle.std.specs.Prelude.{◌≡◌, ◌+◌, ◌<◌, ◌≤◌, false, length};
 ghost use Rattle.scion_topology.specs.Keys.{key_in_use};
@@ -14,8 +14,8 @@ use router_step::{Arrival, seg_id_on_arrival};
 use scion_topology::RouterView;
 use std::marker::Model;
 
-/// A packet at a router: what the router knows of its AS, the second at which it works, how the
-/// packet came, the addresses that it names, and its path header.
+/// A packet at a router: the router's view, the second of its step, how the packet came, its
+/// addresses, and its path header.
 #[derive(Drop)]
 pub(crate) struct Situation<'a> {
     pub(crate) view: RouterView<'a>,
@@ -49,7 +49,7 @@ impl Situation<'_> {
         &self.header
     }
 
-    /// The info field at which the packet stands.
+    /// The current info field.
     pub(crate) fn info(&self) -> InfoField
         ensures field { result ≡ current_info self.entry.now.header }
         ensures within { let header = self.entry.now.header
@@ -59,15 +59,15 @@ impl Situation<'_> {
         self.header.current_info()
     }
 
-    /// The hop field at which the packet stands.
+    /// The current hop field.
     pub(crate) fn hop(&self) -> HopField
         ensures { result ≡ current_hop self.entry.now.header }
     {
         self.header.current_hop()
     }
 
-    /// The info field, as it is after the arrival: over a link and against construction direction
-    /// with the accumulator of one hop back.
+    /// The info field after the arrival. Over a link against construction direction, this hop's
+    /// authenticator is taken out of its accumulator.
     pub(crate) fn info_on_arrival(&self) -> InfoField
         ensures { result ≡ current_info (on_arrival self.entry.now) }
     {
@@ -76,7 +76,7 @@ impl Situation<'_> {
         info
     }
 
-    /// The segment of the hop field at which the packet stands.
+    /// The segment of the current hop field.
     pub(crate) fn segment(&self) -> usize
         ensures { let header = self.entry.now.header
             in result ≡ segment_at header.lens header.curr_hf }
@@ -93,7 +93,7 @@ impl Situation<'_> {
         self.view.key()
     }
 
-    /// Whether the indices fit the segment lengths and how the packet came.
+    /// Whether the indices fit the segment lengths and the way in which the packet came.
     pub(crate) fn has_right_indices(&self) -> bool
         ensures { result ≡ indices_fit self.entry.now.arrival self.entry.now.header }
     {
@@ -102,7 +102,7 @@ impl Situation<'_> {
             && is_start_right(&self.arrival, self.header.curr_hf())
     }
 
-    /// Whether the packet stands at the path's last hop.
+    /// Whether the packet is at the last hop of its path.
     pub(crate) fn is_last(&self) -> bool
         ensures value { result ≡ is_last self.entry.now.header }
         ensures more { let header = self.entry.now.header
@@ -119,7 +119,7 @@ impl Situation<'_> {
         self.header.segment_of(self.header.curr_hf() + 1) != self.header.curr_inf()
     }
 
-    /// The info field from which the packet leaves, after the arrival and a switch if there is one.
+    /// The info field with which the packet leaves, after the arrival and a switch if there is one.
     pub(crate) fn info_to_leave(&self, switched: bool) -> InfoField
         ensures { result ≡ current_info (moved_on switched (on_arrival self.entry.now)) }
     {
@@ -134,7 +134,7 @@ impl Situation<'_> {
         }
     }
 
-    /// The hop field from which the packet leaves, after a switch if there is one.
+    /// The hop field with which the packet leaves, after a switch if there is one.
     pub(crate) fn hop_to_leave(&self, switched: bool) -> HopField
         requires { self.now.header.curr_hf + 1 < length self.now.header.hops }
         ensures { result ≡ current_hop (moved_on switched self.entry.now.header) }

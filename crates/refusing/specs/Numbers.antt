@@ -1,9 +1,9 @@
--- Some of the allocations that are asked for, which are counted from 1.
+-- Sets of allocations, by their numbers from 1 on.
 use Rattle.std.specs.Prelude.{◌≡◌, ℕ, ◌≤◌}
 use Rattle.refusing.specs.declared.Allocations.{Allocations}
 use Rattle.refusing.specs.declared.Allocations.TheVariants.{None, One, AllFrom}
 
--- the allocation of this number is one of them
+-- the set has the allocation of this number
 abbrev pub Includes : Allocations → ℕ → Type 0
 Includes None number = ⊥
 Includes (One only) number = number ≡ only

@@ -1,8 +1,8 @@
-//! For tests: an allocator that refuses some allocations and counts all, and what a test may be
-//! answered where one is refused.
+//! For tests: an allocator that refuses some allocations and counts all, and the answers that a
+//! test has to accept if one is refused.
 //!
 //! The allocator passes each call that it does not refuse to another one. A `&` to it is an
-//! allocator too, which is copied freely and counts with it.
+//! allocator too; copies of it count together.
 #![tactic(auto)]
 
 ghost use Rattle.std.specs.Prelude.{◌↔◌, IsTrue};
@@ -14,18 +14,18 @@ pub use shortage::Shortage;
 use std::alloc::{AllocError, Allocator};
 use std::cell::Cell;
 
-/// Some of the allocations that are asked for, by their numbers. The first one has the number 1.
+/// A set of allocations, by their numbers from 1 on.
 #[derive(Clone, Copy, Debug, PartialEq, Eq)]
 pub enum Allocations {
     None,
-    /// The one of this number.
+    /// Only the allocation of this number.
     One(u64),
-    /// The one of this number, and all after it.
+    /// The allocation of this number, and all after it.
     AllFrom(u64),
 }
 
 impl Allocations {
-    /// Whether the allocation of this number is one of them.
+    /// Whether the set has the allocation of this number.
     pub fn includes(self, number: u64) -> bool
         ensures { IsTrue result ↔ Includes self number }
     {
@@ -37,8 +37,8 @@ impl Allocations {
     }
 }
 
-/// Which allocations are refused, how many were asked for, and how many of those that were not
-/// refused were not given back.
+/// Which allocations are refused; how many were requested; and how many were not refused and not
+/// given back.
 #[derive(Clone, Copy)]
 struct Plan {
     refused: Allocations,
@@ -46,14 +46,14 @@ struct Plan {
     out: u64,
 }
 
-/// An allocator that refuses some of the allocations that it is asked for.
+/// An allocator that refuses some of the allocations requested from it.
 pub struct Refusing<B: Allocator> {
     inner: B,
     plan: Cell<Plan>,
 }
 
 impl<B: Allocator> Refusing<B> {
-    /// Refuses nothing, and passes all to this allocator.
+    /// An allocator that refuses nothing, and passes all calls to this one.
     pub fn new(inner: B) -> Refusing<B> {
         Refusing {
             inner,
@@ -65,7 +65,7 @@ impl<B: Allocator> Refusing<B> {
         }
     }
 
-    /// Refuses these from now on, where the next allocation has the number 1.
+    /// Refuses these from now on; the next allocation has the number 1.
     pub fn refuse(&self, refused: Allocations) {
         let out = self.out();
         self.plan.set(Plan {
@@ -75,13 +75,13 @@ impl<B: Allocator> Refusing<B> {
         });
     }
 
-    /// How many allocations were asked for since the last call of `refuse`.
+    /// The number of allocations requested since the last call of `refuse`.
     pub fn asked(&self) -> u64 {
         self.plan.get().asked
     }
 
-    /// How many allocations were not refused and were not given back. One that the other allocator
-    /// refused is counted too.
+    /// The number of allocations that were not refused and not given back. Those that the other
+    /// allocator refused are counted too.
     pub fn out(&self) -> u64 {
         self.plan.get().out
     }
@@ -93,7 +93,7 @@ impl<B: Allocator> Drop for Refusing<B> {
     }
 }
 
-/// Counts an allocation, and says whether it is refused.
+/// Counts an allocation, and returns whether it is refused.
 fn is_refused(plan: &Cell<Plan>) -> bool {
     let mut plan_now = plan.get();
     plan_now.asked = plan_now.asked.saturating_add(1);
@@ -105,7 +105,7 @@ fn is_refused(plan: &Cell<Plan>) -> bool {
     is_refused
 }
 
-/// Counts a block that is given back.
+/// Counts a block that was given back.
 fn count_back(plan: &Cell<Plan>) {
     let mut plan_now = plan.get();
     plan_now.out = plan_now.out.saturating_sub(1);

@@ -1,4 +1,4 @@
--- What a host is answered: the codes of a C library's calls.
+-- The answers of the calls of a C library.
 use Rattle.std.specs.Prelude.{ℕ}
 use Rattle.scion_topology.specs.declared.fault.TopologyFault.{TopologyFault}
 use Rattle.scion_topology.specs.Fault as topology
@@ -15,25 +15,25 @@ use Rattle.scion_ffi.specs.declared.answer.ScionAnswer.{ScionAnswer}
 abbrev pub answer : ℕ → ℕ → ScionAnswer
 answer code number = record { code = code; number = number }
 
--- the call's numbers say nothing
+-- the answer to a call with a number that has no meaning
 abbrev pub bad_call : ScionAnswer
 bad_call = answer 9 0
 
--- where a packet goes: over a link, to another router of the AS, or to its host
+-- the answer about a packet's outcome: over a link, to another router of the AS, or to its host
 abbrev pub outcome_answer : Outcome → ScionAnswer
 outcome_answer (ToLink interface) = answer 0 interface
 outcome_answer (ToRouter router) = answer 1 router
 outcome_answer Deliver = answer 2 0
 
--- why a router refuses it, with the header's refusal where there is no path header
+-- the answer about a refused packet, with the header's refusal if there is no path header
 abbrev pub refusal_answer : Refusal → ScionAnswer
 refusal_answer (BadHeader fault) = answer 90 (header.code_of fault)
 refusal_answer refusal = answer (code_of refusal) 0
 
--- why there is no router of these parts
+-- the answer about parts that are no router
 abbrev pub view_answer : TopologyFault → ScionAnswer
 view_answer fault = answer (topology.code_of fault) 0
 
--- why there is no path header
+-- the answer about bytes without a path header
 abbrev pub header_answer : HeaderFault → ScionAnswer
 header_answer fault = answer (header.code_of fault) 0

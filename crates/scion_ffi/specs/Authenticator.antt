@@ -1,10 +1,10 @@
--- What a host is answered of an authenticator.
+-- The answers about an authenticator.
 use Rattle.std.specs.Prelude.{◌≡◌, ℕ, List, Result, Ok, Err}
 use Rattle.scion_topology.specs.declared.fault.TopologyFault.{TopologyFault}
 use Rattle.scion_ffi.specs.declared.answer.ScionAnswer.{ScionAnswer}
 use Rattle.scion_ffi.specs.Answer.{answer, view_answer}
 
--- the authenticator under this key was written; or there is no such key, and no byte is another
+-- the authenticator under this key was written; or there is no such key, and no byte has changed
 abbrev pub IsMacAnswered : Result (List ℕ) TopologyFault → (List ℕ → List ℕ) → List ℕ → List ℕ
     → ScionAnswer → Type 0
 IsMacAnswered (Ok key) mac_under old new result = (result ≡ answer 0 0) × (new ≡ mac_under key)

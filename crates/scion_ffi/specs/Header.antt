@@ -1,4 +1,4 @@
--- What a host is answered of a path header.
+-- The answers about a path header.
 use Rattle.std.specs.Prelude.{◌≡◌, ℕ, List, ◌++◌, drop, Result, Ok, Err}
 use Rattle.path_header.specs.declared.fault.HeaderFault.{HeaderFault}
 use Rattle.path_header.specs.Value.{HeaderValue}
@@ -7,12 +7,12 @@ use Rattle.path_header.specs.Reversal.{reversed}
 use Rattle.scion_ffi.specs.declared.answer.ScionAnswer.{ScionAnswer}
 use Rattle.scion_ffi.specs.Answer.{answer, header_answer}
 
--- the length of the header that was read, or why there is none
+-- the answer about a header: its length, or why there is none
 abbrev pub read_answer : Result (HeaderValue × ℕ) HeaderFault → ScionAnswer
 read_answer (Ok read) = answer 0 read.1
 read_answer (Err fault) = header_answer fault
 
--- the way back is spelled in the header's place; or there is no header, and no byte is another
+-- the reversed header has replaced the header; or there is no header, and no byte has changed
 abbrev pub IsTurnedRound : Result (HeaderValue × ℕ) HeaderFault → List ℕ → List ℕ → Type 0
 IsTurnedRound (Ok read) old new = new ≡ spelling (reversed read.0) ++ drop read.1 old
 IsTurnedRound (Err fault) old new = new ≡ old

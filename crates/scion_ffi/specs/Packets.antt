@@ -1,4 +1,4 @@
--- The steps of a router over many packets.
+-- The steps of a router on many packets.
 use Rattle.std.specs.Prelude.{◌≡◌, ℕ, List, map, Result, Ok, Err}
 use Rattle.refusal.specs.Refusal.{◌>>=◌}
 use Rattle.scion_topology.specs.View.{View}
@@ -9,24 +9,24 @@ use Rattle.scion_ffi.specs.declared.records.ScionPacket.{ScionPacket}
 use Rattle.scion_ffi.specs.Answer.{answer, outcome_answer}
 use Rattle.scion_ffi.specs.Step.{step_at, view_told}
 
--- a packet with the answer to its step; its bytes are others where the step was done
+-- a packet with the answer to its step; its bytes change only if the step succeeds
 abbrev pub with_answer : Result (Outcome × List ℕ) ScionAnswer → ScionPacket → ScionPacket
 with_answer (Ok done) packet =
     record packet { answer = outcome_answer done.0; bytes = record packet.bytes { now = done.1 } }
 with_answer (Err refused) packet = record packet { answer = refused }
 
--- a packet after the step over it
+-- a packet after the step on it
 unfoldable pub packet_after : View → ℕ → ScionPacket → ScionPacket
 packet_after view now packet =
     with_answer (step_at view now packet.came packet.interface packet.bytes.now) packet
 
--- all of them, in their order
+-- the packets after a step on each, in their order, or why there is no such router
 abbrev pub packets_told : ScionRouter → ℕ → List ScionPacket → Result (List ScionPacket) ScionAnswer
 packets_told router now packets = do
   view ← view_told router
   Ok (map (packet_after view now) packets)
 
--- the steps were done; or there is no such router, and the packets are as they were
+-- each packet has had its step; or there is no such router, and the packets are as they were
 abbrev pub AreStepsAnswered : Result (List ScionPacket) ScionAnswer → List ScionPacket
     → List ScionPacket → ScionAnswer → Type 0
 AreStepsAnswered (Ok packets) old new result = (result ≡ answer 0 0) × (new ≡ packets)

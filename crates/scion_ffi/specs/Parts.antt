@@ -1,4 +1,4 @@
--- What a host tells, as the values of this network.
+-- The arguments of a host's calls, as values of this network.
 use Rattle.std.specs.Prelude.{ℕ, ◌==◌, Bool, true, false, if◌then◌else◌, nat_lt, List, [], ◌∷◌, length, Option, Some, None}
 use Rattle.refusal.specs.Optional.{◌>>=◌}
 use Rattle.scion_topology.specs.declared.entry.IfEntry.{IfEntry}
@@ -8,24 +8,24 @@ use Rattle.router_step.specs.declared.arrival.Arrival.{Arrival}
 use Rattle.router_step.specs.declared.arrival.Arrival.TheVariants.{FromHost, Inside, Link}
 use Rattle.scion_ffi.specs.declared.records.ScionInterface.{ScionInterface}
 
--- what the AS at the far end of a link is
+-- the kind of a link from its number, or nothing
 abbrev pub kind_told : ℕ → Option LinkKind
 kind_told number =
     if number == 0 then Some Core else if number == 1 then Some Parent
     else if number == 2 then Some Child else None
 
--- whether a link is up
+-- the state of a link from its number, or nothing
 abbrev pub state_told : ℕ → Option Bool
 state_told number = if number == 0 then Some false else if number == 1 then Some true else None
 
--- an interface
+-- an interface of the AS
 unfoldable pub entry_told : ScionInterface → Option IfEntry
 entry_told interface = do
   kind ← kind_told interface.kind
   up ← state_told interface.up
   Some (record { number = interface.number; kind = kind; router = interface.router; up = up })
 
--- each of them, in their order
+-- the interfaces, in their order
 unfoldable pub entries_told : List ScionInterface → Option (List IfEntry)
 entries_told [] = Some []
 entries_told (interface ∷ interfaces) = do
@@ -33,16 +33,16 @@ entries_told (interface ∷ interfaces) = do
   table ← entries_told interfaces
   Some (entry ∷ table)
 
--- at most 256 of them
+-- the interfaces, if there are at most 256
 abbrev pub table_told : List ScionInterface → Option (List IfEntry)
 table_told interfaces =
     if nat_lt 256 (length interfaces) then None else entries_told interfaces
 
--- the key before, if it has a byte
+-- the key before, if it has any bytes
 abbrev pub previous_told : List ℕ → Option (List ℕ)
 previous_told key = if length key == 0 then None else Some key
 
--- how a packet came
+-- how a packet came, from its number
 abbrev pub arrival_told : ℕ → ℕ → Option Arrival
 arrival_told came interface =
     if came == 0 then Some FromHost else if came == 1 then Some Inside

@@ -1,4 +1,4 @@
--- The step of a router that a host tells.
+-- The step of a router whose parts a host gives.
 use Rattle.std.specs.Prelude.{◌≡◌, ℕ, List, Option, Some, None, Result, Ok, Err}
 use Rattle.refusal.specs.Refusal.{◌>>=◌, refused_as}
 use Rattle.scion_topology.specs.View.{View}
@@ -10,32 +10,32 @@ use Rattle.scion_ffi.specs.declared.records.ScionRouter.{ScionRouter}
 use Rattle.scion_ffi.specs.Answer.{bad_call, outcome_answer, refusal_answer, view_answer}
 use Rattle.scion_ffi.specs.Parts.{arrival_told, previous_told, table_told}
 
--- what a host's numbers say, or the answer that they say nothing
+-- the value, or the answer to a call with a number that has no meaning
 abbrev pub or_bad_call : {A : Type 0} → Option A → Result A ScionAnswer
 or_bad_call None = Err bad_call
 or_bad_call (Some value) = Ok value
 
--- what a router of these parts knows of its AS
+-- the view of a router of these parts
 abbrev pub view_told : ScionRouter → Result View ScionAnswer
 view_told router = do
   table ← or_bad_call (table_told router.interfaces.now)
   refused_as view_answer
       (view_of router.ia router.router router.key.now (previous_told router.previous.now) table)
 
--- the step of the router of this view, over a packet that came so
+-- the step of a router with this view, on a packet that came in this way
 abbrev pub step_at : View → ℕ → ℕ → ℕ → List ℕ → Result (Outcome × List ℕ) ScionAnswer
 step_at view now came interface packet = do
   arrival ← or_bad_call (arrival_told came interface)
   refused_as refusal_answer (packet_step view now arrival packet)
 
--- the same, of the router of these parts
+-- the step of a router of these parts
 abbrev pub step_told : ScionRouter → ℕ → ℕ → ℕ → List ℕ → Result (Outcome × List ℕ) ScionAnswer
 step_told router now came interface packet = do
   view ← view_told router
   step_at view now came interface packet
 
--- the step was done, and the answer says where the packet goes; or the answer is the refusal, and
--- the packet is as it was
+-- the step succeeds, and the answer is the outcome; or the answer is the refusal, and the packet is
+-- as it was
 abbrev pub IsStepAnswered : Result (Outcome × List ℕ) ScionAnswer → List ℕ → List ℕ
     → ScionAnswer → Type 0
 IsStepAnswered (Ok done) old new result = (result ≡ outcome_answer done.0) × (new ≡ done.1)

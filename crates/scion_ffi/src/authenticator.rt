@@ -11,7 +11,7 @@ use scion_topology::Key;
 
 /// Writes the authenticator of a hop of these values under this key to `mac`.
 ///
-/// `code` is 11, and `mac` as before, where the key has no byte or more than 64.
+/// If the key is empty or has more than 64 bytes, `code` is 11 and `mac` is as before.
 #[unsafe(no_mangle)]
 pub extern "C" fn scion_hop_mac(
     key: &[u8],

@@ -1,4 +1,4 @@
-//! Reading a path header, and turning it round.
+//! Checking a path header, and reversing it.
 
 ghost use Rattle.std.specs.Prelude.{◌≡◌};
 ghost use Rattle.path_header.specs.Value.{header_len};
@@ -21,8 +21,8 @@ fn len_answer(header: &Header) -> ScionAnswer
     }
 }
 
-/// Whether a path header stands at the front of these bytes. `number` is its length in bytes, at
-/// most 796; or `code` says why there is none (20 to 26).
+/// Whether these bytes begin with a path header. If they do, `number` is its length in bytes, at
+/// most 796; else `code` says why not (20 to 26).
 #[unsafe(no_mangle)]
 pub extern "C" fn scion_header_check(bytes: &[u8]) -> ScionAnswer
     ensures { result ≡ read_answer (read_at bytes.now) }
@@ -33,9 +33,9 @@ pub extern "C" fn scion_header_check(bytes: &[u8]) -> ScionAnswer
     }
 }
 
-/// Puts the header of the way back in the place of the path header at the front of these bytes,
-/// which has as many. The answer is that of [`scion_header_check`]. Every byte behind the header is
-/// as before, and where there is no header, every byte.
+/// Replaces the path header at the front of these bytes by the header of the way back, which has
+/// the same length. The answer is that of [`scion_header_check`]. Every byte after the header is as
+/// before; if there is no header, every byte is.
 #[unsafe(no_mangle)]
 #[tactic(auto, using(crate::proofs::Turning::reversed_len))]
 pub extern "C" fn scion_header_reverse(bytes: &mut [u8]) -> ScionAnswer

@@ -1,9 +1,9 @@
-//! The router and the path header of this network for hosts that are written in C, Rust, Python or
-//! JavaScript: a static library.
+//! The router and the path header of this network as a static library, for hosts written in C,
+//! Rust, Python or JavaScript.
 //!
 //! Each call takes numbers, records and slices of bytes, and no memory of its own. To a host a
-//! slice is a pointer and a length; no call keeps one. A call asks no more of its arguments than
-//! these types say, and answers all of them, by [`ScionAnswer`].
+//! slice is a pointer and a length; no call keeps one. A call has no demands on its arguments
+//! beyond these types, and answers all of them with a [`ScionAnswer`].
 #![tactic(auto)]
 
 mod answer;

@@ -1,4 +1,4 @@
-//! The steps of a router over many packets, for which what it knows is read once.
+//! The steps of a router on many packets; its parts are read once for all of them.
 
 ghost use Rattle.std.specs.Prelude.{◌≡◌, map};
 ghost use Rattle.scion_topology.specs.View.{View};
@@ -10,7 +10,7 @@ use crate::records::{ScionPacket, ScionRouter};
 use crate::router::step_packet;
 use scion_topology::RouterView;
 
-/// One step over a packet, which takes the answer along.
+/// One step on a packet, whose answer is written into its record.
 #[tactic(auto, unfolding(crate::specs::Packets::packet_after))]
 fn step_one(view: &RouterView<'_>, now: u32, packet: &mut ScionPacket<'_>)
     ensures { packet.new ≡ packet_after view.now now packet.old }
@@ -18,7 +18,7 @@ fn step_one(view: &RouterView<'_>, now: u32, packet: &mut ScionPacket<'_>)
     packet.answer = step_packet(view, now, packet.came, packet.interface, packet.bytes);
 }
 
-/// One step over each packet, in their order.
+/// One step on each packet, in their order.
 fn step_each(view: &RouterView<'_>, now: u32, packets: &mut [ScionPacket<'_>])
     ensures { packets.new ≡ map (packet_after view.now now) packets.old }
 {
@@ -27,11 +27,11 @@ fn step_each(view: &RouterView<'_>, now: u32, packets: &mut [ScionPacket<'_>])
     }
 }
 
-/// One step of the router over each packet, with an answer each, as of [`crate::scion_step`].
+/// One step of the router on each packet, each with an answer as of [`crate::scion_step`].
 ///
 /// The router's keys are hashed once for all packets, so that a step costs two compressions of a
-/// hash in place of four. The answer of the call is 0 where the steps were done; or it says why
-/// there is no such router (9, 11 or 13), and then every packet is as before, its answer too.
+/// hash instead of four. The answer of the call is 0 if the steps were done. Else it says why there
+/// is no such router (9, 11 or 13); then every packet is as before, also its answer.
 #[unsafe(no_mangle)]
 pub extern "C" fn scion_step_all(
     router: &ScionRouter<'_>,

@@ -1,4 +1,4 @@
-//! What a host tells, as the values of this network.
+//! The arguments of a host's calls, as values of this network.
 
 ghost use Rattle.std.specs.Prelude.{◌≡◌, ◌≤◌, length, take, Some, None, if◌then◌else◌};
 ghost use Rattle.std.specs.Option.{option_copied};
@@ -11,13 +11,13 @@ use isd_as::{IfId, IsdAs};
 use router_step::Arrival;
 use scion_topology::{IfEntry, LinkKind, RouterView};
 
-/// The most interfaces that a router may be told of.
+/// The largest number of interfaces of a router.
 const MAX_INTERFACES: usize = 256;
 
 /// Room for the interfaces of an AS.
 pub(crate) type Room = [IfEntry; MAX_INTERFACES];
 
-/// An entry that stands where no interface was told.
+/// An entry that fills the room where there is no interface.
 const BLANK: IfEntry = IfEntry {
     number: IfId::NONE,
     kind: LinkKind::Core,
@@ -25,12 +25,12 @@ const BLANK: IfEntry = IfEntry {
     up: false,
 };
 
-/// Room in which no interface stands yet.
+/// Room without interfaces.
 pub(crate) fn room() -> Room {
     [BLANK; MAX_INTERFACES]
 }
 
-/// What the AS at the far end of a link is.
+/// The kind of a link from its number.
 fn kind(number: u8) -> Option<LinkKind>
     ensures { result ≡ kind_told number }
 {
@@ -42,7 +42,7 @@ fn kind(number: u8) -> Option<LinkKind>
     }
 }
 
-/// Whether a link is up.
+/// The state of a link from its number.
 fn is_up(number: u8) -> Option<bool>
     ensures { result ≡ state_told number }
 {
@@ -68,7 +68,8 @@ fn entry(interface: &ScionInterface) -> Option<IfEntry>
     })
 }
 
-/// Writes the interfaces to the front of the room, in their order; `false` if one says nothing.
+/// Writes the interfaces to the front of the room, in their order; `false` if a number of one has
+/// no meaning.
 #[tactic(auto, unfolding(crate::specs::Parts::entries_told))]
 fn fill(room: &mut [IfEntry], interfaces: &[ScionInterface]) -> bool
     requires { length interfaces.now ≤ length room.old }
@@ -95,14 +96,14 @@ fn table<'r>(room: &'r mut Room, interfaces: &[ScionInterface]) -> Option<&'r [I
     Some(&room[..interfaces.len()])
 }
 
-/// The key before, none where it has no byte.
+/// The key before, or none if it has no bytes.
 fn previous(bytes: &[u8]) -> Option<&[u8]>
     ensures { option_copied result ≡ previous_told bytes.now }
 {
     if bytes.is_empty() { None } else { Some(bytes) }
 }
 
-/// What the router knows of its AS; its interfaces stand in the room.
+/// The view of the router; its interfaces are in the room.
 pub(crate) fn view<'r>(
     room: &'r mut Room,
     router: &ScionRouter<'_>,

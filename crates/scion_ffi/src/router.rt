@@ -1,4 +1,4 @@
-//! The step of a router over a packet that lies with the host.
+//! The step of a router on a packet in the host's memory.
 
 ghost use Rattle.std.specs.Prelude.{◌≡◌};
 ghost use Rattle.scion_topology.specs.View.{View};
@@ -10,7 +10,7 @@ use crate::records::ScionRouter;
 use router_step::step;
 use scion_topology::RouterView;
 
-/// One step of the router of this view over a packet that came so.
+/// One step of the router with this view on a packet that came in this way.
 pub(crate) fn step_packet(
     view: &RouterView<'_>,
     now: u32,
@@ -30,15 +30,15 @@ pub(crate) fn step_packet(
     }
 }
 
-/// One step of this router at the second `now`, over a packet, in place.
+/// One step of this router at the second `now` on a packet, in place.
 ///
-/// `came` is 0 for a packet from a host of the AS, 1 for one from another router of it, and 2 for
-/// one that came over the link at `interface`. The answer says where the packet goes; then no byte
-/// of it is another but those of its path header, which has as many as before. Or it says, in this
-/// order, that there is no such kind or state, or too many interfaces (9), why there is no such
-/// router (11 or 13), that there is no such way in (9), or why the router refuses the packet (90 to
-/// 100): then every byte is as before. Time is bounded by the 256 interfaces and the 64 hop fields
-/// that there may be.
+/// `came` is 0 for a packet from a host of the AS, 1 for one from another router of the AS, and 2
+/// for one that came over the link at `interface`. The answer says where the packet goes; then only
+/// bytes of its path header have changed, and its length has not. Else it is the first of these
+/// refusals, and every byte is as before: there is no such kind or state, or there are too many
+/// interfaces (9); there is no such router (11 or 13); there is no such way in (9); the router
+/// refuses the packet (90 to 100). The time is bounded, since there are at most 256 interfaces and
+/// 64 hop fields.
 #[unsafe(no_mangle)]
 pub extern "C" fn scion_step(
     router: &ScionRouter<'_>,

@@ -1,4 +1,4 @@
--- What a request for paths is answered.
+-- The answers to requests for paths.
 use Rattle.std.specs.Prelude.{◌≡◌, ℕ, ◌&&◌, nat_le, List, [], Result, Ok, Err}
 use Rattle.std.specs.List.{fold}
 use Rattle.refusal.specs.Refusal.{◌>>=◌, check, refused_as}
@@ -13,7 +13,7 @@ use Rattle.scion_ffi_paths.specs.declared.fault.RequestFault.TheVariants.{BadLim
 use Rattle.scion_ffi_paths.specs.Asked.{Asked, PathsAsked, paths_asked_in}
 use Rattle.scion_ffi_paths.specs.Text.{fault_text, paths_text}
 
--- the options under which paths are looked for, or the first cause why none are
+-- the options of a request, or its first refusal
 unfoldable pub options_of_request : PathsAsked → Result (List WeighedRules) RequestFault
 options_of_request request = do
   _ ← check (nat_le 1 request.limit && nat_le request.limit 64) BadLimit
@@ -21,23 +21,23 @@ options_of_request request = do
   _ ← refused_as Ends (ends_at request.asked.src request.asked.dst)
   Ok options
 
--- a store in which each of these segments was registered, in their order
+-- the store after each of these segments was registered, in their order
 abbrev pub stored : ℕ → List Chain → List Chain → List Chain
 stored moment store segments =
     fold (λ known segment. registered known segment moment) store segments
 
--- what a look-up in it gives
+-- the lookup in a store of the request's segments
 abbrev pub selection_of : Asked → Selection
 selection_of asked =
     segments_for (stored asked.moment [] asked.segments) asked.src asked.dst asked.moment
 
--- these paths answer it under these options
+-- the answer is one to the request under these options
 abbrev pub AreAnswer : PathsAsked → List WeighedRules → AnswerValue → Type 0
 AreAnswer request options answer =
     AnswersWith (selection_of request.asked) request.asked.src request.asked.dst options
     request.limit answer.used answer.paths
 
--- the text has the paths that answer, or the refusal
+-- the text has the paths of an answer, or the refusal of the request
 abbrev pub AnswersUnder : PathsAsked → Result (List WeighedRules) RequestFault → List ℕ → Type 0
 AnswersUnder request (Ok options) text =
     (answer : AnswerValue) × (AreAnswer request options answer
@@ -48,6 +48,6 @@ abbrev pub AnswersRequest : Result PathsAsked RequestFault → List ℕ → Type
 AnswersRequest (Ok request) text = AnswersUnder request (options_of_request request) text
 AnswersRequest (Err fault) text = text ≡ fault_text fault
 
--- the text answers what these bytes ask for
+-- the text answers the request in these bytes
 abbrev pub AnswersPaths : List ℕ → List ℕ → Type 0
 AnswersPaths bytes text = AnswersRequest (paths_asked_in bytes) text

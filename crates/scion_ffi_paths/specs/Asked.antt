@@ -1,5 +1,5 @@
--- What a request asks for: an object of JSON with members of a line `ask`, and beside them `now`
--- and the list `segments`, each in the form in which segments are printed.
+-- Requests: JSON objects with members of a line `ask`, and with `now` and the list `segments`, each
+-- in the form in which segments are printed.
 use Rattle.std.specs.Prelude.{ℕ, codes, List, [], ◌∷◌, Option, Some, None, Result, Ok, Err}
 use Rattle.refusal.specs.Refusal.{◌>>=◌, refused_as}
 use Rattle.serde_json.specs.Data.{Data, Items, no_items, item}
@@ -12,16 +12,16 @@ use Rattle.scion_ffi_paths.specs.declared.fault.RequestFault.{RequestFault}
 use Rattle.scion_ffi_paths.specs.declared.fault.RequestFault.TheVariants.{BadRequest}
 use Rattle.scion_ffi_paths.specs.Fault.{of_segment}
 
--- what was found; where nothing was, the request has another form
+-- the value, or BadRequest if nothing was found
 abbrev pub formed : {A : Type 0} → Option A → Result A RequestFault
 formed None = Err BadRequest
 formed (Some found) = Ok found
 
--- a segment, or why there is none
+-- the segment of a JSON value, or why it is refused
 abbrev pub segment_asked : Data → Result Chain RequestFault
 segment_asked d = refused_as of_segment (chain_or_fault (chain_at d))
 
--- each item of a list, or the first refusal
+-- the results of `one` for the items of a list, or the first refusal
 abbrev pub each_item : {A F : Type 0} → (Data → Result A F) → Items → Result (List A) F
 each_item one no_items = Ok []
 each_item one (item d later) = do
@@ -29,8 +29,8 @@ each_item one (item d later) = do
   xs ← each_item one later
   Ok (x ∷ xs)
 
--- what every request says: the ends, the texts of its policy options, the second that is asked for,
--- and the segments that are known
+-- the common part of requests: the ends, the texts of the policy options, the second, and the known
+-- segments
 pub record Asked : Type 0 where
   pub src : ℕ
   pub dst : ℕ
@@ -38,7 +38,7 @@ pub record Asked : Type 0 where
   pub moment : ℕ
   pub segments : List Chain
 
--- what an object says of these
+-- the common part of a request, from its object
 unfoldable pub asked_in : Data → Result Asked RequestFault
 asked_in d = do
   options ← formed (options_in d)
@@ -49,12 +49,12 @@ asked_in d = do
   segments ← each_item segment_asked items
   Ok (record { src = src; dst = dst; options = options; moment = moment; segments = segments })
 
--- a request for paths: the most paths beside them
+-- a request for paths: also with the largest number of paths
 pub record PathsAsked : Type 0 where
   pub asked : Asked
   pub limit : ℕ
 
--- what the bytes of a request for paths ask for
+-- the request for paths in these bytes
 unfoldable pub paths_asked_in : List ℕ → Result PathsAsked RequestFault
 paths_asked_in bytes = do
   d ← formed (document_in bytes)

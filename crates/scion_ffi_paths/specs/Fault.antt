@@ -26,7 +26,7 @@ code_of refusal = (code_and_name refusal).0
 abbrev pub name_of : RequestFault → List ℕ
 name_of refusal = (code_and_name refusal).1
 
--- of a segment that is refused: where it has another form, so does the request
+-- the refusal of a request because of a segment; a segment of the wrong form makes the request one
 abbrev pub of_segment : SegmentFault → RequestFault
 of_segment NotJson = BadRequest
 of_segment broken = Segment broken

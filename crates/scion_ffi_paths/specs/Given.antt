@@ -1,4 +1,4 @@
--- What a request to verify a path gives, and what is asked of the verifier then.
+-- Requests to verify a path, and what the verifier checks for them.
 use Rattle.std.specs.Prelude.{ℕ, codes, List, [], ◌∷◌, length, nat_le, Result, Ok, Err}
 use Rattle.refusal.specs.Refusal.{◌>>=◌, check, refused_as}
 use Rattle.json_fields.specs.Fields.{document_in, list_at, items_at}
@@ -15,7 +15,8 @@ use Rattle.scion_ffi_paths.specs.declared.fault.RequestFault.TheVariants.{BadReq
 use Rattle.scion_ffi_paths.specs.Asked.{Asked, asked_in, formed}
 use Rattle.scion_ffi_paths.specs.Stretch.{piece_at}
 
--- beside what every request says: the pieces in order of travel, and bytes with the header in front
+-- a request to verify: the common part, the pieces in order of travel, and bytes that begin with
+-- the header
 pub record Given : Type 0 where
   pub asked : Asked
   pub pieces : List PieceValue
@@ -24,7 +25,7 @@ pub record Given : Type 0 where
 abbrev pub given_of : Asked → List PieceValue → List ℕ → Given
 given_of asked pieces header = record { asked = asked; pieces = pieces; header = header }
 
--- what the bytes of a request give
+-- the request to verify in these bytes
 unfoldable pub given_in : List ℕ → Result Given RequestFault
 given_in bytes = do
   d ← formed (document_in bytes)
@@ -34,14 +35,14 @@ given_in bytes = do
   header ← formed (bytes_at (codes "header") d)
   Ok (given_of asked pieces header)
 
--- the policy: of options there is one, and its weight plays no part
+-- the policy of the request: that of its only option; the weight has no effect
 abbrev pub policy_asked : List OptionTexts → Result Rules RequestFault
 policy_asked [] = Err BadRequest
 policy_asked (texts ∷ []) =
     refused_as (λ fault. Policy (Unread fault)) (policy_at texts.acl texts.sequence)
 policy_asked (texts ∷ other ∷ later) = Err BadRequest
 
--- what is asked of the verifier, or the first cause why nothing is: it takes at most three pieces
+-- the request to the verifier, or the first refusal before it; a path has at most three pieces
 unfoldable pub request_at : Given → Result Request RequestFault
 request_at given = do
   rules ← policy_asked given.asked.options

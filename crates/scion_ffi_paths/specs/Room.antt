@@ -1,19 +1,20 @@
--- What is written into a host's room.
+-- Writing an answer into a host's room.
 use Rattle.std.specs.Prelude.{◌≡◌, ℕ, nat_le, if◌then◌else◌, List, ◌++◌, drop, length, Option, Some, None, IfSome}
 use Rattle.scion_ffi_paths.specs.declared.room.ScionText.{ScionText}
 
 abbrev pub text_answer : ℕ → ℕ → ScionText
 text_answer status len = record { status = status; len = len }
 
--- the text stands at the front of the room, and behind it all is as before; or the room is too
--- small, which says the length that is needed, or memory ran out, and the room is as it was
+-- the text is at the front of the room, and the bytes after it are as before; or the room is too
+-- small, and the answer has the needed length; or memory ran out. In both of these cases the room
+-- is as it was.
 abbrev pub IsPut : Option (List ℕ) → List ℕ → List ℕ → ScionText → Type 0
 IsPut None old new result = (result ≡ text_answer 2 0) × (new ≡ old)
 IsPut (Some text) old new result =
     (result ≡ text_answer (if nat_le (length text) (length old) then 0 else 1) (length text))
     × (new ≡ (if nat_le (length text) (length old) then text ++ drop (length text) old else old))
 
--- the same of a text that answers
+-- `IsPut` for some text that is an answer
 abbrev pub IsAnsweredInRoom : (List ℕ → Type 0) → List ℕ → List ℕ → ScionText → Type 0
 IsAnsweredInRoom answers old new result =
     (text : Option (List ℕ)) × (IfSome text answers × IsPut text old new result)

@@ -1,4 +1,4 @@
--- A piece of a request: a stretch of one of its segments.
+-- The pieces in a request: each is a piece of one of its segments.
 use Rattle.std.specs.Prelude.{codes, List, Option, Some, slice_get}
 use Rattle.refusal.specs.Optional.{◌>>=◌}
 use Rattle.serde_json.specs.Data.{Data}
@@ -7,7 +7,7 @@ use Rattle.path_segment.specs.Chain.{Chain}
 use Rattle.path_verifier.specs.Piece.{PieceValue}
 use Rattle.event_lines.specs.Line.{long_at}
 
--- a piece of the segment at a place of the list
+-- a piece of the segment at a place of the request's list
 unfoldable pub piece_at : List Chain → Data → Option PieceValue
 piece_at segments d = do
   place ← long_at (codes "segment") d

@@ -1,4 +1,4 @@
--- The text of an answer: JSON without blanks, the names in ascending order.
+-- The text of an answer: JSON without white space, with the names in ascending order.
 use Rattle.std.specs.Prelude.{ℕ, ◌+◌, codes, List, [], ◌∷◌, ◌++◌, flat_map, Bool, true, false, if◌then◌else◌}
 use Rattle.std.specs.List.{join_by}
 use Rattle.std.specs.Fmt.{decimal}
@@ -16,7 +16,7 @@ use Rattle.scion_ffi_paths.specs.declared.fault.RequestFault.{RequestFault}
 use Rattle.scion_ffi_paths.specs.Expiry.{path_expiry}
 use Rattle.scion_ffi_paths.specs.Fault.{code_of, name_of}
 
--- the place in a list of the first segment that is this one
+-- the place in the list of the first segment that equals this one
 unfoldable pub place_in_list : Chain → List Chain → ℕ
 place_in_list segment [] = 0
 place_in_list segment (one ∷ later) = if is_same one segment then 0
@@ -27,7 +27,7 @@ abbrev pub truth_text : Bool → List ℕ
 truth_text true = codes "true"
 truth_text false = codes "false"
 
--- a piece: its segment's place in the request, the places of its entries, and its direction
+-- a piece: the place of its segment in the request, the places of its entries, and its direction
 unfoldable pub piece_text : List Chain → PieceValue → List ℕ
 piece_text segments piece =
     codes "{\"along\":" ++ (truth_text piece.along
@@ -35,18 +35,18 @@ piece_text segments piece =
     ++ (codes ",\"segment\":" ++ (decimal (place_in_list piece.segment segments)
     ++ (codes ",\"to\":" ++ (decimal piece.to ++ codes "}")))))))
 
--- the letter of a kind of pieces
+-- the letter for a kind of piece
 abbrev pub letter : PieceKind → List ℕ
 letter Up = codes "U"
 letter Core = codes "C"
 letter Down = codes "D"
 
--- the letters of the kinds of pieces
+-- the letters for the kinds of these pieces
 abbrev pub kinds_text : List PieceValue → List ℕ
 kinds_text pieces = flat_map (λ piece. letter (kind_of piece)) pieces
 
 -- a path: the half second at which it expires, its header in hexadecimal, the letters of its
--- pieces and these themselves in order of travel, and its walk
+-- pieces, the pieces in order of travel, and its walk
 unfoldable pub path_text : List Chain → PathValue → List ℕ
 path_text segments path =
     codes "{\"expiry\":" ++ (decimal (path_expiry path.pieces)
@@ -55,7 +55,7 @@ path_text segments path =
     ++ (codes "\",\"pieces\":[" ++ (join_by (piece_text segments) (codes ",") path.pieces
     ++ (codes "],\"walk\":\"" ++ (hops_text (walk_of path.pieces) ++ codes "\"}")))))))))
 
--- the paths that are answered, best first
+-- the paths of an answer, best first
 unfoldable pub paths_text : List Chain → List PathValue → List ℕ
 paths_text segments paths =
     codes "{\"paths\":[" ++ (join_by (path_text segments) (codes ",") paths ++ codes "]}")
@@ -67,7 +67,7 @@ accepted_text pieces =
     ++ (codes ",\"kind\":\"" ++ (kinds_text pieces
     ++ (codes "\",\"walk\":\"" ++ (hops_text (walk_of pieces) ++ codes "\"}")))))
 
--- a refusal, by its number and its name
+-- a refusal: its number and its name
 unfoldable pub fault_text : RequestFault → List ℕ
 fault_text fault =
     codes "{\"code\":" ++ (decimal (code_of fault)

@@ -1,4 +1,4 @@
--- What a request to verify a path is answered.
+-- The answers to requests to verify a path.
 use Rattle.std.specs.Prelude.{◌≡◌, ◌⊎◌, ℕ, List, Result, Ok, Err}
 use Rattle.refusal.specs.Refusal.{◌>>=◌}
 use Rattle.path_verifier.specs.declared.fault.VerifyFault.{VerifyFault}
@@ -8,18 +8,18 @@ use Rattle.scion_ffi_paths.specs.declared.fault.RequestFault.TheVariants.{Path}
 use Rattle.scion_ffi_paths.specs.Given.{given_in, request_at}
 use Rattle.scion_ffi_paths.specs.Text.{accepted_text, fault_text}
 
--- the path may be sent, and the text tells of it; or it may not, and the text has the first rule
--- that it breaks
+-- the path may be sent, and the text describes it; or it may not, and the text has the fault of the
+-- first rule that it breaks
 abbrev pub IsJudged : Request → List ℕ → Type 0
 IsJudged request text =
     (IsAccepted request × (text ≡ accepted_text request.pieces))
     ⊎ ((fault : VerifyFault) × (IsRefused request fault × (text ≡ fault_text (Path fault))))
 
--- the same of what is asked of the verifier, or the text has the cause why nothing is
+-- the verifier has judged the request; or the text has the refusal before it
 abbrev pub AnswersVerdict : Result Request RequestFault → List ℕ → Type 0
 AnswersVerdict (Ok request) text = IsJudged request text
 AnswersVerdict (Err fault) text = text ≡ fault_text fault
 
--- the text answers what these bytes ask of the verifier
+-- the text answers the request to verify in these bytes
 abbrev pub AnswersVerify : List ℕ → List ℕ → Type 0
 AnswersVerify bytes text = AnswersVerdict (given_in bytes >>= request_at) text

@@ -1,4 +1,4 @@
-//! The paths that a request is answered.
+//! The paths in the answer to a request.
 
 ghost use Rattle.std.specs.Prelude.{◌≡◌, ◌<◌, [], Ok, IfOk, OnOk};
 ghost use Rattle.refusal.specs.Refusal.{Reads};
@@ -15,10 +15,10 @@ use policy_expr::PolicyOption;
 use refusal::OrMemory;
 use std::alloc::{AllocError, Global};
 
-/// The most paths that a request may ask for.
+/// The largest number of paths that a request may ask for.
 const MAX_LIMIT: u32 = 64;
 
-/// The options of a request, or the first cause why it is refused.
+/// The options of a request, or its first refusal.
 #[tactic(auto, unfolding(crate::specs::Answer::options_of_request))]
 pub(crate) fn options(
     alloc: Global,
@@ -45,7 +45,7 @@ pub(crate) fn options(
     Ok(options)
 }
 
-/// A store in which each segment was registered, in their order.
+/// The store after each segment was registered, in their order.
 fn store_of(alloc: Global, segments: &[Segment], moment: u32) -> Result<PathStore, AllocError>
     ensures { IfOk result (λ store. store ≡ stored moment [] segments.now) }
 {
@@ -57,7 +57,7 @@ fn store_of(alloc: Global, segments: &[Segment], moment: u32) -> Result<PathStor
     Ok(store)
 }
 
-/// What a look-up gives for a request.
+/// The lookup for a request.
 pub(crate) fn selection(alloc: Global, request: &Request) -> Result<SegmentSet, AllocError>
     ensures { IfOk result (λ set. set ≡ selection_of request.now) }
 {

@@ -1,4 +1,4 @@
-//! The moment at which a path expires.
+//! The half second at which a path expires.
 
 ghost use Rattle.std.specs.Prelude.{◌≡◌, ◌≤◌, All, length};
 ghost use Rattle.path_verifier.specs.Piece.{HasRange};
@@ -32,7 +32,7 @@ pub(crate) fn path_expiry(pieces: &[OwnedPiece]) -> u64
     }
 }
 
-/// The half second at which the first hop of a path expires that may be sent.
+/// The half second at which the first hop of a verified path expires.
 pub(crate) fn verified_expiry(path: &VerifiedPath<'_, '_, Global>) -> u64
     ensures { result ≡ path_expiry path.entry.now.pieces }
 {

@@ -13,7 +13,7 @@ use thiserror::Error;
 /// Why a request is refused.
 #[derive(Clone, Copy, Debug, PartialEq, Eq, Error)]
 pub enum RequestFault {
-    /// The bytes are no object of a request's form.
+    /// The bytes are no object in the form of a request.
     #[error("the request is of another form")]
     BadRequest,
     /// A segment breaks the rules of segments.
@@ -25,10 +25,10 @@ pub enum RequestFault {
     /// The policy options can't be read.
     #[error("the policy is refused: {0}")]
     Policy(OptionFault),
-    /// The ends are not two ASes.
+    /// Both ends are the same AS.
     #[error("the ends are refused: {0}")]
     Ends(CombineFault),
-    /// There is no path header.
+    /// The bytes of the header do not begin with a path header.
     #[error("the header is refused: {0}")]
     Header(HeaderFault),
     /// The path may not be sent.
@@ -37,7 +37,7 @@ pub enum RequestFault {
 }
 
 impl RequestFault {
-    /// Why a request is refused of which a segment is.
+    /// The refusal of a request because one of its segments is refused.
     pub(crate) fn of_segment(fault: SegmentFault) -> RequestFault
         ensures { result ≡ of_segment fault }
     {
@@ -78,7 +78,7 @@ impl RequestFault {
     }
 }
 
-/// Why a call that takes memory gave nothing: running out of memory, or a refusal.
+/// Why a call that takes memory returned nothing: memory ran out, or a refusal.
 pub(crate) type RequestError = OrMemory<RequestFault>;
 
 impl From<RequestFault> for OrMemory<RequestFault> {

@@ -1,7 +1,7 @@
-//! The paths of this network for hosts that are written in C, Rust or Python: a static library over
-//! requests and answers of JSON.
+//! The paths of this network as a static library, for hosts written in C, Rust or Python: requests
+//! and answers are JSON.
 //!
-//! A call takes memory while it runs and gives all of it up before it returns.
+//! A call frees all memory that it takes before it returns.
 #![tactic(auto)]
 
 mod answer;

@@ -15,7 +15,7 @@ use combinator::combine;
 use refusal::OrMemory;
 use std::alloc::{AllocError, Global};
 
-/// What a request is answered.
+/// The answer to a request.
 fn answer(alloc: Global, request: &PathsRequest) -> Result<String, RequestError>
     ensures { Tells (AnswersUnder request.now (options_of_request request.now)) result }
 {
@@ -30,7 +30,7 @@ fn answer(alloc: Global, request: &PathsRequest) -> Result<String, RequestError>
     }
 }
 
-/// What the bytes of a request are answered.
+/// The answer to the request in these bytes.
 fn answer_bytes(alloc: Global, bytes: &[u8]) -> Result<String, RequestError>
     ensures { Tells (AnswersPaths bytes.now) result }
 {
@@ -38,7 +38,7 @@ fn answer_bytes(alloc: Global, bytes: &[u8]) -> Result<String, RequestError>
     answer(alloc, &request)
 }
 
-/// The text that a request is answered, which may be a refusal.
+/// The text of the answer to the request in these bytes, which may be a refusal.
 fn text_of(alloc: Global, bytes: &[u8]) -> Result<String, AllocError>
     ensures { IfOk result (λ text. AnswersPaths bytes.now (string_bytes text)) }
 {
@@ -49,12 +49,13 @@ fn text_of(alloc: Global, bytes: &[u8]) -> Result<String, AllocError>
     }
 }
 
-/// Writes the paths that answer a request into the room, best first: for each when it expires, its
-/// header, its kind, its pieces and its walk; or why there is no answer, by a number and a name.
+/// Writes the paths that answer a request into the room, best first. For each it writes when it
+/// expires, its header, its kind, its pieces and its walk. If the request is refused, it writes the
+/// number and the name of the refusal.
 ///
-/// A request is an object of JSON with the members of a line `ask` (`src`, `dst`, `limit`, and a
-/// policy), and beside them `now` and the list `segments`. The paths are those of
-/// [`combinator::combine`] over a look-up in a store in which each segment was registered at `now`.
+/// A request is a JSON object with the members of a line `ask` (`src`, `dst`, `limit`, and a
+/// policy), and with `now` and the list `segments`. The paths are those of [`combinator::combine`]
+/// over a lookup in a store in which each segment was registered at `now`.
 #[unsafe(no_mangle)]
 pub extern "C" fn scion_paths(alloc: Global, request: &[u8], room: &mut [u8]) -> ScionText
     ensures { IsAnsweredInRoom (AnswersPaths request.now) room.old room.new result }

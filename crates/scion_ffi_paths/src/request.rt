@@ -1,4 +1,4 @@
-//! What a request asks for.
+//! Requests, as values.
 
 ghost use Rattle.serde_json.specs.View.{view};
 ghost use Rattle.refusal.specs.Refusal.{Reads};
@@ -15,18 +15,18 @@ use serde_json::Value;
 use std::alloc::Global;
 use std::marker::Model;
 
-/// What every request says.
+/// The common part of all requests.
 #[derive(Drop)]
 pub(crate) struct Request {
-    /// The AS in which paths begin.
+    /// The source AS of the paths.
     pub(crate) src: IsdAs,
-    /// The AS in which they end.
+    /// The destination AS of the paths.
     pub(crate) dst: IsdAs,
     /// The policy options.
     pub(crate) options: Vec<OwnedOptionText>,
-    /// The second that is asked for.
+    /// The second for which paths are wanted.
     pub(crate) moment: u32,
-    /// The segments that are known.
+    /// The known segments.
     pub(crate) segments: Vec<Segment>,
 }
 
@@ -45,10 +45,10 @@ impl Model for Request {
 }
 
 impl Request {
-    /// What an object says; [`RequestFault::BadRequest`] if it has another form, or
-    /// [`RequestFault::Segment`].
+    /// The common part of a request from its JSON object: [`RequestFault::BadRequest`] if it has
+    /// another form, [`RequestFault::Segment`] if a segment breaks a rule.
     ///
-    /// Takes time and memory for the object.
+    /// It takes time and memory in proportion to the object.
     #[tactic(auto, unfolding(crate::specs::Asked::asked_in))]
     pub(crate) fn of(alloc: Global, value: &Value) -> Result<Request, RequestError>
         ensures { Reads (λ r. r) result (asked_in (view value.now)) }
@@ -72,9 +72,9 @@ impl Request {
 /// A request for paths.
 #[derive(Drop)]
 pub(crate) struct PathsRequest {
-    /// What every request says.
+    /// The common part of all requests.
     pub(crate) asked: Request,
-    /// The most paths.
+    /// The largest number of paths.
     pub(crate) limit: u32,
 }
 
@@ -87,7 +87,7 @@ impl Model for PathsRequest {
 }
 
 impl PathsRequest {
-    /// What the bytes of a request ask for, with the refusals of [`Request::of`].
+    /// The request for paths in these bytes, with the refusals of [`Request::of`].
     #[tactic(auto, unfolding(crate::specs::Asked::paths_asked_in))]
     pub(crate) fn read(alloc: Global, bytes: &[u8]) -> Result<PathsRequest, RequestError>
         ensures { Reads (λ r. r) result (paths_asked_in bytes.now) }

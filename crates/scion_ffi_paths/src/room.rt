@@ -4,18 +4,18 @@ ghost use Rattle.std.specs.Prelude.{option_map};
 ghost use Rattle.std.specs.String.{string_bytes};
 ghost use Rattle.scion_ffi_paths.specs.Room.{IsPut};
 
-/// What became of an answer: `status` is 0 where its `len` bytes were written, 1 where the room has
-/// fewer than the `len` bytes that it needs, and 2 where memory ran out.
+/// What happened to an answer. `status` is 0 if its `len` bytes were written, 1 if the room has
+/// fewer than the `len` bytes that it needs, and 2 if memory ran out.
 #[repr(C)]
 #[derive(Clone, Copy, Debug, PartialEq, Eq)]
 pub struct ScionText {
-    /// What became of it.
+    /// Whether it was written.
     pub status: u16,
     /// The length of the answer in bytes.
     pub len: usize,
 }
 
-/// Writes a text into the room, where there is one and it fits.
+/// Writes a text into the room, if there is one and it fits.
 pub(crate) fn put(text: &Option<String>, room: &mut [u8]) -> ScionText
     ensures { IsPut (option_map string_bytes text.now) room.old room.new result }
 {

@@ -10,7 +10,7 @@ use refusal::OrMemory;
 use serde_json::Value;
 use std::alloc::Global;
 
-/// The segments of a list, or why the first that is none is refused.
+/// The segments of a list, or the refusal of the first value that is no segment.
 pub(crate) fn segments(alloc: Global, values: &[Value]) -> Result<Vec<Segment>, RequestError>
     ensures { Reads (λ v. v.items) result (each_item segment_asked (items_view values.now)) }
 {

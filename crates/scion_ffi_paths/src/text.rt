@@ -18,10 +18,10 @@ use path_segment::Segment;
 use path_verifier::{PieceKind, Pieces, VerifiedPath, lend_all};
 use std::alloc::{AllocError, Global};
 
-/// The most bytes that a header has.
+/// The largest number of bytes of a header.
 const MAX_HEADER_LEN: usize = 796;
 
-/// The place of the first of these segments that is this one.
+/// The place of the first of these segments that equals this one.
 #[tactic(auto, unfolding(crate::specs::Text::place_in_list))]
 fn place_in_list(segment: &Segment, segments: &[Segment]) -> usize
     ensures { result ≡ place_in_list segment.now segments.now }
@@ -53,7 +53,7 @@ fn piece(alloc: Global, segments: &[Segment], piece: &OwnedPiece) -> Result<Stri
     )
 }
 
-/// Adds pieces, with a comma between two.
+/// Adds pieces, separated by commas.
 fn push_pieces(
     alloc: Global,
     text: &mut String,
@@ -74,7 +74,7 @@ fn push_pieces(
     Ok(())
 }
 
-/// Pieces, with a comma between two.
+/// Pieces, separated by commas.
 fn pieces(alloc: Global, segments: &[Segment], pieces: &[OwnedPiece]) -> Result<String, AllocError>
     ensures { IfOk result (λ text. string_bytes text
         ≡ join_by (piece_text segments.now) (codes ",") pieces.now) }
@@ -96,7 +96,7 @@ fn header(alloc: Global, header: &Header) -> Result<String, AllocError>
     }
 }
 
-/// The letter of a kind of pieces.
+/// The letter for a kind of piece.
 fn letter(kind: PieceKind) -> &'static str
     ensures { result.now ≡ letter kind }
 {
@@ -107,7 +107,7 @@ fn letter(kind: PieceKind) -> &'static str
     }
 }
 
-/// The letters of the kinds of pieces.
+/// The letters for the kinds of these pieces.
 fn kinds(alloc: Global, pieces: &Pieces<'_>) -> Result<String, AllocError>
     ensures { IfOk result (λ text. string_bytes text ≡ kinds_text pieces.now) }
 {
@@ -142,7 +142,7 @@ fn path(alloc: Global, segments: &[Segment], path: &Path) -> Result<String, Allo
     )
 }
 
-/// Adds paths, with a comma between two.
+/// Adds paths, separated by commas.
 fn push_paths(
     alloc: Global,
     text: &mut String,
@@ -164,7 +164,7 @@ fn push_paths(
     Ok(())
 }
 
-/// The paths that are answered.
+/// The paths of an answer.
 #[tactic(auto, unfolding(crate::specs::Text::paths_text))]
 pub(crate) fn paths(
     alloc: Global,

@@ -25,7 +25,7 @@ use refusal::OrMemory;
 use serde_json::Value;
 use std::alloc::{AllocError, Global};
 
-/// The bytes that a member has in hexadecimal.
+/// A member that is bytes in hexadecimal.
 #[tactic(auto, unfolding(event_lines::specs::Line::bytes_at))]
 fn bytes(alloc: Global, value: &Value, name: &str) -> Result<Option<Vec<u8>>, AllocError>
     ensures { IfOk result (λ o. option_map (λ v. v.items) o ≡ bytes_at name.now (view value.now)) }
@@ -40,7 +40,7 @@ fn bytes(alloc: Global, value: &Value, name: &str) -> Result<Option<Vec<u8>>, Al
     }
 }
 
-/// The policy of the one option.
+/// The policy of the only option.
 fn policy(alloc: Global, options: &[OwnedOptionText]) -> Result<Policy<Global>, RequestError>
     ensures { Reads (λ p. p) result (policy_asked options.now) }
 {
@@ -57,7 +57,7 @@ fn policy(alloc: Global, options: &[OwnedOptionText]) -> Result<Policy<Global>, 
     }
 }
 
-/// What is answered on a path of these pieces, whose header stands at the front of the bytes.
+/// The answer about a path of these pieces, whose header is at the front of the bytes.
 #[tactic(auto, unfolding(crate::specs::Given::request_at))]
 fn judged(
     alloc: Global,
@@ -84,7 +84,7 @@ fn judged(
     }
 }
 
-/// What the bytes of a request are answered.
+/// The answer to the request in these bytes.
 #[tactic(auto, unfolding(crate::specs::Given::given_in))]
 fn verdict(alloc: Global, bytes: &[u8]) -> Result<String, RequestError>
     ensures { Tells (AnswersVerify bytes.now) result }
@@ -97,7 +97,7 @@ fn verdict(alloc: Global, bytes: &[u8]) -> Result<String, RequestError>
     judged(alloc, &request, &pieces, &header)
 }
 
-/// The text that a request is answered, which may be a refusal.
+/// The text of the answer to the request in these bytes, which may be a refusal.
 fn text_of(alloc: Global, bytes: &[u8]) -> Result<String, AllocError>
     ensures { IfOk result (λ text. AnswersVerify bytes.now (string_bytes text)) }
 {
@@ -108,11 +108,11 @@ fn text_of(alloc: Global, bytes: &[u8]) -> Result<String, AllocError>
     }
 }
 
-/// Writes into the room whether a path may be sent: when it expires, its kind and its walk; or the
-/// first cause why not, by a number and a name.
+/// Writes into the room whether a path may be sent. If so, it writes when the path expires, its
+/// kind and its walk; else the number and the name of the first refusal.
 ///
-/// A request is an object of JSON with the members of a request for paths but its limit, and beside
-/// them `pieces` and `header`. The verdict is that of [`path_verifier::verify`] at `now`.
+/// A request is a JSON object with the members of a request for paths without `limit`, and with
+/// `pieces` and `header`. The verdict is that of [`path_verifier::verify`] at `now`.
 #[unsafe(no_mangle)]
 pub extern "C" fn scion_verify(alloc: Global, request: &[u8], room: &mut [u8]) -> ScionText
     ensures { IsAnsweredInRoom (AnswersVerify request.now) room.old room.new result }

@@ -1,7 +1,7 @@
-//! `scionet`: hands the process's words and streams to the commands.
+//! `scionet`: passes the process's words and streams to the commands.
 //!
-//! The status is 0 when the command was done, 2 when the words are refused or ask for help, and 1
-//! after any other fault; the text of a fault goes to standard error.
+//! The exit status is 0 if the command was carried out, 2 if the words are refused or ask for help,
+//! and 1 after any other fault. The message about a fault goes to standard error.
 #![tactic(auto)]
 
 use commands::{CommandFault, Status, WordsFault, end, run};
@@ -11,7 +11,7 @@ use std::sync::Wait;
 use std::thread::Threads;
 use streams::{Reader, Writer};
 
-/// The words behind the program's name.
+/// The words after the program's name.
 fn words_behind(rt: &HostRuntime) -> Result<Vec<String>, CommandFault> {
     let args = match env::args(rt) {
         Ok(args) => args,
@@ -24,8 +24,8 @@ fn words_behind(rt: &HostRuntime) -> Result<Vec<String>, CommandFault> {
     Ok(words)
 }
 
-/// Runs the program's command with its words and its streams, and with this leave to start threads
-/// and to wait for them.
+/// Runs the program's command with its words and its streams; `T` lets it start threads and wait
+/// for them.
 fn run_command<T: Threads + Wait + Sync>(
     rt: &HostRuntime,
     threads: &T,

@@ -1,4 +1,4 @@
--- What is shown of the network that the lines of a source lead to.
+-- The output about the network after the lines of a source.
 use Rattle.std.specs.Prelude.{◌⊎◌, ◌≡◌, ℕ, List, Option, None, Result, Ok, Err, String}
 use Rattle.std.specs.String.{string_bytes}
 use Rattle.network_core.specs.Value.{NetValue}
@@ -7,8 +7,8 @@ use Rattle.event_lines.specs.declared.fault.RunFault.TheVariants.{Memory}
 use Rattle.event_lines.specs.declared.accepted.AcceptedLines.TheVariants.{All}
 use Rattle.event_lines.specs.Run.{Listens}
 
--- the text tells so of the network to which the lines lead of a source that had these bytes left
--- before and has those after; or the lines led to none; or memory ran out
+-- the text is the one wanted about the network after the lines of the source, whose contents before
+-- and after are these; or the lines gave no network; or memory ran out
 abbrev pub Shows : {A : Type 0} → (NetValue → List ℕ → Type 0) → Result (String A) RunFault
     → Option (List ℕ) → Option (List ℕ) → Type 0
 Shows tells (Ok text) before after = (net : NetValue)

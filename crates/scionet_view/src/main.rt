@@ -1,9 +1,9 @@
-//! `scionet_view`: shows a packet as a router sees it, field by field and check by check; a network
+//! `scionet_view` shows a packet as a router sees it, field by field and check by check; a network
 //! as a picture; and the path of a packet in it.
 //!
-//! The packet, the lines of a network, the faults and the status are those of `scionet`: 0 when it
-//! was shown, 2 when the words are refused or ask for help, and 1 after any other fault, whose text
-//! goes to standard error.
+//! The packet, the lines of a network, the faults and the exit status are those of `scionet`. The
+//! status is 0 if something was shown, 2 if the words are refused or ask for help, and 1 after any
+//! other fault, whose message goes to standard error.
 #![tactic(auto)]
 
 mod network;
@@ -21,7 +21,7 @@ use std::process::ExitCode;
 use streams::{Reader, Sink, Source, Writer, read_all, write_all};
 use words::{View, asked};
 
-/// The words behind the program's name.
+/// The words after the program's name.
 fn words_behind(rt: &HostRuntime) -> Result<Vec<String>, CommandFault> {
     let args = match env::args(rt) {
         Ok(args) => args,
@@ -34,7 +34,7 @@ fn words_behind(rt: &HostRuntime) -> Result<Vec<String>, CommandFault> {
     Ok(words)
 }
 
-/// Shows what these words ask for, of what the source gives.
+/// Shows what the words ask for, from the bytes of the source.
 fn show<'a, S: Source, K: Sink>(
     alloc: Global,
     words: &'a [&'a str],

@@ -1,4 +1,4 @@
-//! The network that lines lead to, as a picture.
+//! The network after some lines, as a picture.
 
 ghost use Rattle.std.specs.Prelude.{◌≡◌, ◌||◌, IfOk, option_map};
 ghost use Rattle.std.specs.String.{string_bytes};
@@ -15,14 +15,14 @@ use scion_topology::Topology;
 use std::alloc::{AllocError, Global};
 use streams::Source;
 
-/// That there is no packet of a number, as lines are told of it.
+/// The line that says that there is no packet of this number, as a run answers it.
 pub(crate) fn no_packet(alloc: Global) -> Result<String, AllocError>
     ensures { IfOk result (λ text. string_bytes text ≡ no_packet) }
 {
     String::from_str(alloc, "no 130 NoPacket\n")
 }
 
-/// The router at which a packet is, or which refused it.
+/// The router that has a packet, or that refused it.
 fn router_at(place: &PacketLocation) -> Option<Router>
     ensures { result ≡ router_at place.now }
 {
@@ -36,7 +36,7 @@ fn router_at(place: &PacketLocation) -> Option<Router>
     }
 }
 
-/// The picture of a network with this packet marked, or that it is not there.
+/// The picture of a network with this packet marked, or the line that there is no such packet.
 fn marked(alloc: Global, topology: &Topology, packet: Option<&Packet>) -> Result<String, AllocError>
     ensures { IfOk result (λ text. string_bytes text
         ≡ marked topology.now (option_map (λ p. p.now) packet.entry)) }
@@ -56,7 +56,7 @@ fn marked(alloc: Global, topology: &Topology, packet: Option<&Packet>) -> Result
     }
 }
 
-/// The picture of a network, with the packet of this number marked where one is asked for.
+/// The picture of a network, with the packet of this number marked if a number is given.
 fn picture(alloc: Global, net: &Net, number: Option<u32>) -> Result<String, AllocError>
     ensures { IfOk result (λ text. string_bytes text ≡ picture_of net.now number) }
 {
@@ -67,11 +67,11 @@ fn picture(alloc: Global, net: &Net, number: Option<u32>) -> Result<String, Allo
     }
 }
 
-/// The picture of the network that the lines of a source lead to, with the packet of this number
-/// marked where one is asked for; the line `no 130 NoPacket` if there is no such packet.
+/// The picture of the network after the lines of a source, with the packet of this number marked if
+/// a number is given; the line `no 130 NoPacket` if there is no such packet.
 ///
-/// The faults are those of [`listen`](event_lines::listen), of which [`RunFault::Write`] does not
-/// come; [`RunFault::Memory`] also if memory runs out for the picture.
+/// The faults are those of [`listen`](event_lines::listen) without [`RunFault::Write`];
+/// [`RunFault::Memory`] also if memory runs out for the picture.
 pub(crate) fn network_picture<S: Source>(
     alloc: Global,
     source: &mut S,

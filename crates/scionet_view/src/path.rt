@@ -1,4 +1,4 @@
-//! The path of a packet of the network that lines lead to, as text.
+//! The path of a packet of the network after some lines, as text.
 
 ghost use Rattle.std.specs.Prelude.{◌≡◌, ◌||◌, IfOk, IfSome, length, option_map};
 ghost use Rattle.std.specs.String.{string_bytes};
@@ -16,7 +16,7 @@ use path_verifier::{Piece, PieceKind, VerifiedPath, lend_all, verify};
 use std::alloc::{AllocError, Global};
 use streams::Source;
 
-/// What a piece is.
+/// The name of a kind of piece.
 #[tactic(auto, unfolding(crate::specs::Path::kind_text))]
 fn kind_text(kind: PieceKind) -> &'static str
     ensures { result.now ≡ kind_text kind }
@@ -28,7 +28,7 @@ fn kind_text(kind: PieceKind) -> &'static str
     }
 }
 
-/// A piece of this number: its kind, and the ASes in which it begins and ends.
+/// The line of the piece of this number: its kind, and the ASes in which it begins and ends.
 #[tactic(auto, unfolding(crate::specs::Path::piece_text))]
 fn piece_text(alloc: Global, number: usize, piece: &Piece<'_>) -> Result<String, AllocError>
     requires { HasRange piece.now }
@@ -40,7 +40,7 @@ fn piece_text(alloc: Global, number: usize, piece: &Piece<'_>) -> Result<String,
     format!(in alloc; "piece {number} {kind} from {from} to {to}\n")
 }
 
-/// The same, if there is one.
+/// The line of the piece, if there is one.
 fn piece_line(alloc: Global, number: usize, piece: Option<&Piece<'_>>) -> Result<String, AllocError>
     requires { IfSome (option_map (λ p. p.now) piece) HasRange }
     ensures { IfOk result (λ text. string_bytes text
@@ -67,8 +67,8 @@ fn pieces_text(alloc: Global, path: &VerifiedPath<'_, '_, Global>) -> Result<Str
     Ok(text)
 }
 
-/// The pieces of a path, its walk, and the last second at which all of its hops are live, the first
-/// of which expires at this half second; and then the fields of a packet of these bytes.
+/// The pieces of a path, its walk, and the last second at which all its hops are live, from the
+/// half second at which the first of them expires; then the fields of a packet of these bytes.
 fn path_text(
     alloc: Global,
     path: &VerifiedPath<'_, '_, Global>,
@@ -87,13 +87,13 @@ fn path_text(
     )
 }
 
-/// The path on which something was sent.
+/// The path of a shipment.
 fn path_of(sent: &Sent) -> VerifiedPath<'_, '_, Global>
     ensures { result ≡ asked_at 0 sent.now.way }
 {
     sent.known();
     let pieces = lend_all(sent.pieces());
-    // It was accepted at some second, so at second 0 too: a hop has no earliest moment.
+    // It was accepted at some second, and so at second 0: no hop is refused for being too early.
     let verified = verify(
         &pieces,
         sent.header(),
@@ -108,7 +108,7 @@ fn path_of(sent: &Sent) -> VerifiedPath<'_, '_, Global>
     }
 }
 
-/// The path of a packet and then its fields, or that it is not there.
+/// The path of a packet and then its fields, or the line that there is no such packet.
 fn packet_text(alloc: Global, packet: Option<&Packet>) -> Result<String, AllocError> {
     let Some(packet) = packet else {
         return no_packet(alloc);
@@ -117,12 +117,12 @@ fn packet_text(alloc: Global, packet: Option<&Packet>) -> Result<String, AllocEr
     path_text(alloc, &path, path.expiry(), packet.bytes())
 }
 
-/// The path of the packet of this number, in the network that the lines of a source lead to: its
-/// pieces, its walk, the last second at which all of its hops are live, and the fields of the
-/// packet as it is then; the line `no 130 NoPacket` if there is no such packet.
+/// The path of the packet of this number, in the network after the lines of a source: its pieces,
+/// its walk, the last second at which all its hops are live, and the fields of the packet as it is
+/// then; the line `no 130 NoPacket` if there is no such packet.
 ///
-/// The faults are those of [`listen`](event_lines::listen), of which [`RunFault::Write`] does not
-/// come; [`RunFault::Memory`] also if memory runs out for the text.
+/// The faults are those of [`listen`](event_lines::listen) without [`RunFault::Write`];
+/// [`RunFault::Memory`] also if memory runs out for the text.
 pub(crate) fn packet_path<S: Source>(
     alloc: Global,
     source: &mut S,

@@ -1,4 +1,4 @@
-//! The network that lines lead to.
+//! The network after some lines.
 
 ghost use Rattle.std.specs.Prelude.{◌≡◌, ◌||◌, None};
 ghost use Rattle.event_lines.specs.declared.accepted.AcceptedLines.TheVariants.{All};
@@ -10,9 +10,9 @@ use std::alloc::Global;
 use std::io;
 use streams::{Source, Writer};
 
-/// The network that the lines of a source lead to, whose answers are kept nowhere.
+/// The network after the lines of a source, whose replies are dropped.
 ///
-/// The faults are those of [`listen`], of which [`RunFault::Write`] does not come.
+/// The faults are those of [`listen`] without [`RunFault::Write`].
 pub(crate) fn reached<S: Source>(alloc: Global, source: &mut S) -> Result<Net, RunFault>
     ensures listens { Listens All result (S.left source.old) (S.left source.new) None None }
     ensures flag { S.failed source.new ≡ (S.failed source.old || is_read_fault result) }

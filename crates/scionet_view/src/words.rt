@@ -6,7 +6,7 @@ use commands::{VERSION, WordsFault, explained, turn};
 use std::alloc::{AllocError, Global};
 use step_line::{StepCommand, number};
 
-/// What stands at the end of the long help of `packet`.
+/// The end of the long help of `packet`.
 static PACKET_HELP: &str = "\
 The words and the packet are those of 'scionet step'. Each field of the packet is on a line, its \
 bytes in hexadecimal and what they say; then each check that the router makes, with both sides, up \
@@ -17,7 +17,7 @@ Example: at second 100, a packet of a host leaves 1-ff00:0:111 over interface 2,
 110e4c1d3dad003f00000001a1a2a3a4a5a6 |
   scionet_view packet --ia 1-ff00:0:111 --router 0 --key 6b --now 100 --from host 2,parent,0,up";
 
-/// What stands at the end of the long help of `network`.
+/// The end of the long help of `network`.
 static NETWORK_HELP: &str = "\
 Standard input has the lines of 'scionet run'. The picture is that of the network after the last \
 of them, in the language DOT: 'dot -Tsvg' of graphviz draws it. With --packet the links that this \
@@ -29,7 +29,7 @@ Example: a network of one AS
     '{\"ases\":[{\"ia\":\"1-ff00:0:110\",\"core\":true,\"exp\":63,\"key\":\"6b\",\"routers\":1}],\
 \"links\":[]}' | scionet_view network | dot -Tsvg > network.svg";
 
-/// What stands at the end of the long help of `path`.
+/// The end of the long help of `path`.
 static PATH_HELP: &str = "\
 Standard input has the lines of 'scionet run'. Of the packet, as it is after the last of them, \
 each piece of its path is on a line, 'piece N up|core|down from IA to IA'; then its walk, hop by \
@@ -53,12 +53,12 @@ which begins with
   walk 1-ff00:0:111#0,2 1-ff00:0:110#1,0
   live up to second 22600";
 
-/// What the words of the command line ask to see.
+/// The view that the words of the command line ask for.
 #[derive(Drop)]
 pub(crate) enum View {
     /// `packet`: the packet on standard input, at the router whose turn this is.
     Packet(StepCommand),
-    /// `network`: the network that the lines on standard input lead to.
+    /// `network`: the network after the lines on standard input.
     Network {
         /// The number of the packet that is marked, if one is.
         packet: Option<u32>,
@@ -191,19 +191,19 @@ fn program<'a>(alloc: Global) -> Result<Command<'a>, AllocError> {
         .subcommand(path_command(alloc)?)
 }
 
-/// The fault of words that `clap` accepts and that ask for nothing.
+/// The fault of words that `clap` accepts and that are no command.
 fn usage(alloc: Global) -> Result<WordsFault, AllocError> {
     let text = String::from_str(alloc, "scionet_view: usage\n")?;
     Ok(WordsFault::Usage(text))
 }
 
-/// The number of a packet that a text writes.
+/// The number of a packet from its text.
 fn packet_number(text: &str) -> Option<u32> {
     let number = number(text, 0, u64::from(u32::MAX))?;
     Some(number as u32)
 }
 
-/// What the matches of `network` ask to see, where their number can be read.
+/// The view of the matches of `network`, if their number can be read.
 fn network(matches: &ArgMatches<'_>) -> Option<View> {
     let packet = match matches.get_str("packet") {
         Some(text) => Some(packet_number(text)?),
@@ -212,13 +212,13 @@ fn network(matches: &ArgMatches<'_>) -> Option<View> {
     Some(View::Network { packet })
 }
 
-/// What the matches of `path` ask to see, where their number can be read.
+/// The view of the matches of `path`, if their number can be read.
 fn path(matches: &ArgMatches<'_>) -> Option<View> {
     let packet = packet_number(matches.get_str("packet")?)?;
     Some(View::Path { packet })
 }
 
-/// What the matches ask to see, where they ask for anything.
+/// The view of the matches, if there is one.
 fn view_asked(alloc: Global, matches: &ArgMatches<'_>) -> Result<Option<View>, AllocError> {
     let Some((name, given)) = matches.subcommand() else {
         return Ok(None);
@@ -235,11 +235,11 @@ fn view_asked(alloc: Global, matches: &ArgMatches<'_>) -> Result<Option<View>, A
     }
 }
 
-/// What the words behind the program's name ask to see.
+/// The view of the words after the program's name.
 ///
-/// [`WordsFault::Usage`] if `clap` refuses them or they ask for help, with its text, and where
-/// they describe no turn or a number can't be read, with the text `scionet_view: usage`;
-/// [`WordsFault::Memory`] if memory runs out.
+/// [`WordsFault::Usage`] with the text of `clap`, if it refuses the words or they ask for help. The
+/// same fault with the text `scionet_view: usage`, if the words give no turn or a number can't be
+/// read. [`WordsFault::Memory`] if memory runs out.
 pub(crate) fn asked<'a>(alloc: Global, words: &'a [&'a str]) -> Result<View, WordsFault> {
     let matches = match program(alloc)?.try_get_matches_from(words) {
         Ok(matches) => matches,

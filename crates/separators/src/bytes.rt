@@ -1,18 +1,18 @@
-//! Blanks round bytes.
+//! Blanks around bytes.
 
 ghost use Rattle.std.specs.Prelude.{◌≡◌, reverse};
 ghost use Rattle.separators.specs.Blanks.{after_blanks, trimmed};
 
 use crate::is_blank;
 
-/// The bytes without blanks at both ends, in time linear in the blanks taken off.
+/// The bytes without blanks at both ends. Its time is linear in the blanks removed.
 pub fn trim(bytes: &[u8]) -> &[u8]
     ensures { result.now ≡ trimmed bytes.now }
 {
     trim_end(trim_start(bytes))
 }
 
-/// The bytes from the first that is no blank, in time linear in the blanks taken off.
+/// The bytes from the first on that is no blank. Its time is linear in the blanks removed.
 #[tactic(auto, unfolding(crate::specs::Blanks::after_blanks))]
 pub fn trim_start(bytes: &[u8]) -> &[u8]
     ensures { result.now ≡ after_blanks bytes.now }
@@ -27,7 +27,7 @@ pub fn trim_start(bytes: &[u8]) -> &[u8]
     rest
 }
 
-/// The bytes up to the last that is no blank, in time linear in the blanks taken off.
+/// The bytes up to the last that is no blank. Its time is linear in the blanks removed.
 #[tactic(auto, unfolding(crate::specs::Blanks::after_blanks))]
 pub fn trim_end(bytes: &[u8]) -> &[u8]
     ensures { result.now ≡ reverse (after_blanks (reverse bytes.now)) }

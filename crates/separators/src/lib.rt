@@ -1,7 +1,7 @@
-//! What parts a text: blanks round what it says, which are spaces, tabs, CR and LF and no other
-//! white space, and a sign between what it says.
+//! Separators in a text: blanks around it, which are spaces, tabs, CR and LF and no other white
+//! space, and a sign between its parts.
 //!
-//! [`bytes`] takes blanks off bytes, [`text`] off text, and [`sign`] cuts a text.
+//! [`bytes`] removes blanks from bytes, [`text`] from text, and [`sign`] cuts a text.
 #![tactic(auto)]
 
 pub mod bytes;

@@ -1,10 +1,10 @@
-//! A sign that cuts a text.
+//! Cutting a text at a sign.
 
 ghost use Rattle.std.specs.Prelude.{◌≡◌, ◌==◌, ◌<◌, false, true, MatchOption};
 ghost use Rattle.std.specs.List.{after_first, before_first, list_any};
 
-/// What stands before the first such sign, which is an ASCII character, and what behind it; nothing
-/// where the text lacks the sign. In time linear in the text.
+/// The text before the first such sign, which is an ASCII character, and the text after it; `None`
+/// if the text does not have the sign. Its time is linear in the text.
 pub fn cut(text: &str, sign: char) -> Option<(&str, &str)>
     requires { sign < 128 }
     ensures { MatchOption result (list_any (λ b. b == sign) text.now ≡ false)

@@ -1,18 +1,18 @@
-//! Blanks round text.
+//! Blanks around text.
 
 ghost use Rattle.std.specs.Prelude.{◌≡◌, reverse};
 ghost use Rattle.separators.specs.Blanks.{after_blanks, trimmed};
 
 use crate::is_blank;
 
-/// The text without blanks at both ends, in time linear in the blanks taken off.
+/// The text without blanks at both ends. Its time is linear in the blanks removed.
 pub fn trim(text: &str) -> &str
     ensures { result.now ≡ trimmed text.now }
 {
     trim_end(trim_start(text))
 }
 
-/// The text from its first character that is no blank, in time linear in the blanks taken off.
+/// The text from its first character on that is no blank. Its time is linear in the blanks removed.
 #[tactic(auto, unfolding(crate::specs::Blanks::after_blanks))]
 pub fn trim_start(text: &str) -> &str
     ensures { result.now ≡ after_blanks text.now }
@@ -27,7 +27,7 @@ pub fn trim_start(text: &str) -> &str
     rest
 }
 
-/// The text up to its last character that is no blank, in time linear in the blanks taken off.
+/// The text up to its last character that is no blank. Its time is linear in the blanks removed.
 #[tactic(auto, unfolding(crate::specs::Blanks::after_blanks))]
 pub fn trim_end(text: &str) -> &str
     ensures { result.now ≡ reverse (after_blanks (reverse text.now)) }

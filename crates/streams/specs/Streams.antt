@@ -1,10 +1,10 @@
--- What calls on sources and sinks answer.
+-- The results of calls on sources and sinks.
 use Rattle.std.specs.Prelude.{◌≡◌, ℕ, ◌+◌, ◌≤◌, ◌&&◌, ◌==◌, nat_lt, Bool, true, false, List, length, take, Option, Result, Ok, Err}
 use Rattle.std.specs.Io.KnownBytes.{Appends, Consumes, IsAtEnd}
 use Rattle.streams.specs.declared.fault.InputFault.{InputFault}
 use Rattle.streams.specs.declared.fault.InputFault.TheVariants.{Read, TooLong}
 
--- whether a write failed: it answered a fault, or took none of some bytes
+-- whether a write failed: it returned a fault, or wrote none of at least one byte
 abbrev pub is_failed_write : {E : Type 0} → Result ℕ E → List ℕ → Bool
 is_failed_write (Ok n) bytes = (n == 0) && nat_lt 0 (length bytes)
 is_failed_write (Err error) bytes = true
@@ -18,12 +18,12 @@ abbrev pub is_failed_read : {A : Type 0} → Result A InputFault → Bool
 is_failed_read (Err Read) = true
 is_failed_read result = false
 
--- as many bytes were consumed as the fact says
+-- some bytes were consumed, and their number fulfils this
 abbrev pub ConsumesSome : Option (List ℕ) → Option (List ℕ) → (ℕ → Type 0) → Type 0
 ConsumesSome old new fits = (bytes : List ℕ) × (Consumes old new bytes × fits (length bytes))
 
--- all bytes up to the end were read, at most `most`; or one more than that, or not more, were
--- consumed
+-- all bytes up to the end were read, at most `most`; or, if there were too many, one more than that
+-- was consumed; or, after another fault, at most `most`
 abbrev pub ReadsAll : {A : Type 0} → (A → List ℕ) → ℕ → Result A InputFault
     → Option (List ℕ) → Option (List ℕ) → Type 0
 ReadsAll items most (Ok bytes) old new =

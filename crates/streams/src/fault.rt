@@ -26,7 +26,7 @@ impl From<AllocError> for InputFault {
     }
 }
 
-/// A write of the sink failed, or took none of some bytes.
+/// A write of the sink failed, or wrote none of at least one byte.
 #[derive(Clone, Copy, Debug, PartialEq, Eq, Error)]
 #[error("write failed")]
 pub struct WriteFailed;

@@ -8,11 +8,11 @@ use crate::fault::InputFault;
 use crate::stream::Source;
 use std::alloc::Global;
 
-/// The most bytes that one read asks for.
+/// The largest number of bytes of one read.
 const ROOM_LEN: usize = 8_192;
 
-/// One read, into the front of `room` and from there behind the bytes: how many came, none only at
-/// the end.
+/// One read into the front of `room`, from where the bytes are added to those before. It returns
+/// their number, which is 0 only at the end.
 fn read_on<S: Source>(
     source: &mut S,
     most: u64,
@@ -35,11 +35,10 @@ fn read_on<S: Source>(
     Ok(count)
 }
 
-/// All bytes that the source has left, at most `most`.
+/// All bytes that the source still has, at most `most`.
 ///
-/// [`InputFault::TooLong`] if it has more, found where byte `most + 1` is read;
-/// [`InputFault::Read`] if a read fails; [`InputFault::Memory`] if there is no room for what
-/// was read.
+/// [`InputFault::TooLong`] if it has more, which is found when byte `most + 1` is read;
+/// [`InputFault::Read`] if a read fails; [`InputFault::Memory`] if memory runs out for the bytes.
 pub fn read_all<S: Source>(alloc: Global, source: &mut S, most: u64) -> Result<Vec<u8>, InputFault>
     ensures bytes { ReadsAll (λ bytes. bytes.items) most result
         (S.left source.old) (S.left source.new) }

@@ -1,8 +1,9 @@
 //! Streams of bytes that a program reads from and writes to, and that remember whether they failed.
 //!
-//! A [`Source`] is read and a [`Sink`] is written. Contracts speak of the bytes of one where the
-//! device tells them, and of its flag `failed`: a call sets it exactly where it answers a fault, or
-//! writes none of some bytes. [`Reader`] and [`Writer`] make them of std's readers and writers.
+//! A [`Source`] is read and a [`Sink`] is written. Contracts speak of the bytes of a stream, if the
+//! device makes them known, and of its flag `failed`. A call sets the flag if and only if it
+//! returns a fault, or writes none of at least one byte. [`Reader`] and [`Writer`] are streams over
+//! std's readers and writers.
 #![tactic(auto)]
 
 mod fault;

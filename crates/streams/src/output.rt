@@ -1,4 +1,4 @@
-//! Writing all of some bytes.
+//! Writing all bytes of a slice.
 
 ghost use Rattle.std.specs.Prelude.{◌≡◌, ◌||◌, OnOk, is_err};
 ghost use Rattle.std.specs.Io.KnownBytes.{Appends};
@@ -7,9 +7,10 @@ ghost use Rattle.streams.specs.Streams.{AppendsFront};
 use crate::fault::WriteFailed;
 use crate::stream::Sink;
 
-/// Writes all of the bytes, in as many writes as that takes, at most one for each byte.
+/// Writes all of the bytes, in at most one write for each byte.
 ///
-/// [`WriteFailed`] if a write fails or takes none of some bytes; those before it stay written.
+/// [`WriteFailed`] if a write fails or writes none of at least one byte; the bytes before it stay
+/// written.
 pub fn write_all<K: Sink>(sink: &mut K, bytes: &[u8]) -> Result<(), WriteFailed>
     ensures written { OnOk result (Appends (K.held sink.old) (K.held sink.new) bytes.now) }
     ensures front { AppendsFront (K.held sink.old) (K.held sink.new) bytes.now }

@@ -15,7 +15,7 @@ pub struct Reader<R> {
 }
 
 impl<R> Reader<R> {
-    /// The source of this reader, of which no read has failed.
+    /// The source over this reader, without a failed read.
     pub fn new(inner: R) -> Reader<R>
         ensures reader { reader_behind result ≡ inner }
         ensures flag { reader_failed result ≡ false }
@@ -33,7 +33,7 @@ impl<R> Reader<R> {
         self.failed
     }
 
-    /// The reader, as it stands.
+    /// The reader, in its present state.
     pub fn into_inner(self) -> R
         ensures { result ≡ reader_behind self }
     {
@@ -41,7 +41,7 @@ impl<R> Reader<R> {
     }
 }
 
-/// A read, tried again where a signal interrupts it.
+/// A read that is tried again if a signal interrupts it.
 fn read_retrying<R: Read>(reader: &mut R, room: &mut [u8]) -> io::Result<usize>
     ensures bound { ReadsAtMost result room.new }
     ensures bytes { ReadConsumes (R.remaining reader.old) (R.remaining reader.new) result room.new }

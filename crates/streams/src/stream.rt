@@ -5,16 +5,16 @@ ghost use Rattle.streams.specs.Streams.{is_failed_write};
 
 use std::io;
 
-/// What bytes are read from.
+/// A stream that bytes are read from.
 pub trait Source {
-    /// The bytes that reads will give from here on, where the device tells them.
+    /// The bytes that later reads will give, if the device makes them known.
     ghost left: { Self → Option (List ℕ) } = { λ _. None };
 
     /// Whether a read has failed.
     ghost failed: { Self → Bool };
 
-    /// Reads some bytes into the front of `room` and answers how many: none only at the end, or
-    /// where there is no room.
+    /// Reads some bytes into the front of `room` and returns their number. It is 0 only at the end,
+    /// or if the room is empty.
     ///
     /// A fault sets the flag, and consumes nothing.
     fn read(&mut self, room: &mut [u8]) -> io::Result<usize>
@@ -23,23 +23,24 @@ pub trait Source {
         ensures flag { failed self.new ≡ (failed self.old || is_err result) };
 }
 
-/// What bytes are written to.
+/// A stream that bytes are written to.
 pub trait Sink {
-    /// The bytes that were written, where the device tells them.
+    /// The bytes that were written, if the device makes them known.
     ghost held: { Self → Option (List ℕ) } = { λ _. None };
 
     /// Whether a write or a flush has failed.
     ghost failed: { Self → Bool };
 
-    /// Writes some bytes of the front of `bytes`, and answers how many.
+    /// Writes some bytes from the front of `bytes`, and returns their number.
     ///
-    /// A fault sets the flag, and writes nothing; so does an answer of none where there are bytes.
+    /// A fault sets the flag, and writes nothing; the flag is also set if no byte of at least one
+    /// was written.
     fn write(&mut self, bytes: &[u8]) -> io::Result<usize>
         ensures bound { WritesAtMost result bytes.now }
         ensures bytes { WriteAppends (held self.old) (held self.new) result bytes.now }
         ensures flag { failed self.new ≡ (failed self.old || is_failed_write result bytes.now) };
 
-    /// Hands on what was written to where it belongs.
+    /// Passes what was written on to the device.
     ///
     /// A fault sets the flag.
     fn flush(&mut self) -> io::Result<()>

@@ -16,7 +16,7 @@ pub struct Writer<W> {
 }
 
 impl<W> Writer<W> {
-    /// The sink of this writer, of which no call has failed.
+    /// The sink over this writer, without a failed call.
     pub fn new(inner: W) -> Writer<W>
         ensures writer { writer_behind result ≡ inner }
         ensures flag { writer_failed result ≡ false }
@@ -34,7 +34,7 @@ impl<W> Writer<W> {
         self.failed
     }
 
-    /// The writer, as it stands.
+    /// The writer, in its present state.
     pub fn into_inner(self) -> W
         ensures { result ≡ writer_behind self }
     {
@@ -42,7 +42,7 @@ impl<W> Writer<W> {
     }
 }
 
-/// A write, tried again where a signal interrupts it.
+/// A write that is tried again if a signal interrupts it.
 fn write_retrying<W: Write>(writer: &mut W, bytes: &[u8]) -> io::Result<usize>
     ensures bound { WritesAtMost result bytes.now }
     ensures bytes { WriteAppends (W.contents writer.old) (W.contents writer.new) result bytes.now }
@@ -57,7 +57,7 @@ fn write_retrying<W: Write>(writer: &mut W, bytes: &[u8]) -> io::Result<usize>
     Err(Error::from(ErrorKind::TimedOut))
 }
 
-/// A flush, tried again where a signal interrupts it.
+/// A flush that is tried again if a signal interrupts it.
 fn flush_retrying<W: Write>(writer: &mut W) -> io::Result<()>
     ensures { Keeps (W.contents writer.old) (W.contents writer.new) }
 {
@@ -71,7 +71,7 @@ fn flush_retrying<W: Write>(writer: &mut W) -> io::Result<()>
     Err(Error::from(ErrorKind::TimedOut))
 }
 
-/// Whether a write failed: it answered a fault, or took none of some bytes.
+/// Whether a write failed: it returned a fault, or wrote none of at least one byte.
 fn is_failed(answer: &io::Result<usize>, bytes: &[u8]) -> bool
     ensures { result ≡ is_failed_write answer.now bytes.now }
 {

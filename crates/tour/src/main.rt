@@ -1,4 +1,4 @@
-//! Makes the path segment of three ASes in a row and prints it as JSON.
+//! Makes the path segment of three ASes in a row, and prints it as JSON.
 #![tactic(auto)]
 
 use anyhow::Result;
@@ -6,7 +6,7 @@ use beaconing::{extend, originate, terminate};
 use isd_as::{IfId, IsdAs};
 use scion_topology::Topology;
 
-/// A core AS, its child, and the child of that, each with one router.
+/// A core AS, its child, and the child's child, each with one router.
 const NETWORK: &str = r#"{"ases":[
 {"ia":"1-ff00:0:110","core":true,"exp":63,"key":"6130","routers":1},
 {"ia":"1-ff00:0:111","core":false,"exp":63,"key":"6131","routers":1},

@@ -1,5 +1,4 @@
-//! Worked examples that tests of several crates share: topologies, addresses, and paths in their
-//! parts.
+//! Worked examples for the tests of several crates: topologies, addresses, and paths in parts.
 #![tactic(auto)]
 
 ghost use Rattle.std.specs.Prelude.{◌≡◌, ◌+◌};
@@ -13,7 +12,7 @@ use policy_expr::{AclText, Policy, PolicyText, WalkHop};
 use std::alloc::Global;
 use std::test::Fail;
 
-/// A core AS, its child, and the child of that, with one router each.
+/// A core AS, its child, and the child's child, each with one router.
 pub fn row() -> &'static str {
     concat!(
         r#"{"ases":[{"ia":"1-ff00:0:110","core":true,"exp":63,"key":"6130","routers":1},"#,
@@ -26,7 +25,7 @@ pub fn row() -> &'static str {
     )
 }
 
-/// Two core ASes with a link between them, each with a child, and that with another.
+/// Two core ASes with a link between them, each with a child and a child's child.
 pub fn pair() -> &'static str {
     concat!(
         r#"{"ases":[{"ia":"1-ff00:0:110","core":true,"exp":63,"key":"6b","routers":2},"#,
@@ -48,7 +47,8 @@ pub fn pair() -> &'static str {
     )
 }
 
-/// The address of this ISD and AS number, of three groups, the first of them ff00.
+/// The address with this ISD, and an AS number of three groups whose first is ff00 and last is
+/// `last`.
 pub fn at(isd: u16, last: u16) -> IsdAs
     ensures { result ≡ address_of isd (0xff00_0000_0000 + last) }
 {
@@ -78,7 +78,7 @@ pub fn piece(segment: &Segment, from: usize, to: usize, along: bool) -> Piece<'_
     }
 }
 
-/// Pieces that are each from a place of a segment to its end, in a direction.
+/// Pieces from a place of a segment to its end, each in a direction.
 pub fn pieces_of<'s>(parts: &[(&'s Segment, usize, bool)]) -> Result<Pieces<'s>, Fail> {
     let mut pieces = Pieces::new();
     for (segment, from, along) in parts {
@@ -88,7 +88,7 @@ pub fn pieces_of<'s>(parts: &[(&'s Segment, usize, bool)]) -> Result<Pieces<'s>,
     Ok(pieces)
 }
 
-/// The header of pieces that are each from a place of a segment to its end, in a direction.
+/// The header of pieces from a place of a segment to its end, each in a direction.
 pub fn header_of(
     alloc: Global,
     lens: [u8; 3],
@@ -123,8 +123,7 @@ pub fn header_of(
     Ok(Header::new(lens, &infos, &hops)?)
 }
 
-/// The policy of a list of texts, none where there are none, and of a sequence, none where it is
-/// blank.
+/// The policy of these texts; an empty list is no list, and a blank sequence is no sequence.
 pub fn policy(alloc: Global, acl: &[&str], sequence: &str) -> Result<Policy<Global>, Fail> {
     let mut texts = AclText::new(alloc);
     for text in acl {

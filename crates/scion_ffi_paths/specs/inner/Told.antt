@@ -1,5 +1,5 @@
--- A text that is answered, or a refusal that is still to be told (a word of private functions'
--- contracts).
+-- An answer that is a text, or a refusal that is not written as a text yet (a word of private
+-- functions' contracts).
 use Rattle.std.specs.Prelude.{ℕ, List, Result, Ok, Err, String}
 use Rattle.std.specs.declared.alloc.Global.{Global}
 use Rattle.std.specs.String.{string_bytes}
@@ -8,7 +8,7 @@ use Rattle.refusal.specs.declared.fault.OrMemory.TheVariants.{Memory, Refused}
 use Rattle.scion_ffi_paths.specs.declared.fault.RequestFault.{RequestFault}
 use Rattle.scion_ffi_paths.specs.Text.{fault_text}
 
--- told as a text it answers; nothing is said where memory ran out
+-- the text, or that of the refusal, is an answer; if memory ran out, nothing is claimed
 abbrev pub Tells : (List ℕ → Type 0) → Result (String Global) (OrMemory RequestFault)
     → Type 0
 Tells answers (Ok text) = answers (string_bytes text)

@@ -5,8 +5,8 @@ use Rattle.streams.specs.declared.fault.InputFault.{InputFault}
 use Rattle.streams.specs.declared.fault.InputFault.TheVariants.{TooLong}
 use Rattle.streams.specs.Streams.{ConsumesSome}
 
--- one read of at most `most` bytes behind those that there are: how many came, none only at the
--- end, or why they are not among them
+-- one read, whose bytes are added to those before, up to `most` in all: the number of bytes read, 0
+-- only at the end; or why they were not added
 abbrev pub ReadsOn : ℕ → ℕ → Result ℕ InputFault → Option (List ℕ) → Option (List ℕ)
     → List ℕ → List ℕ → Type 0
 ReadsOn most room (Ok n) old new before after = (bytes : List ℕ)
