@@ -10,10 +10,10 @@ use path_server::{PathStore, SegmentSet};
 use policy_expr::{Policy, PolicyOption};
 use std::alloc::Global;
 
-/// How many segments of each kind there are.
+/// The number of segments of each kind.
 const SEGMENTS: u32 = 32;
 
-/// The second at which all is made and asked.
+/// The second at which all is made and requested.
 const NOW: u32 = 1000;
 
 /// An AS of an ISD.
@@ -21,12 +21,12 @@ fn address(isd: u16, number: u32) -> IsdAs {
     IsdAs::from_number(u64::from(isd) << 48 | u64::from(number))
 }
 
-/// The AS from which the paths go.
+/// The AS in which the paths begin.
 fn source() -> IsdAs {
     address(1, 5000)
 }
 
-/// The AS to which they go.
+/// The AS in which the paths end.
 fn destination() -> IsdAs {
     address(2, 5000)
 }
@@ -51,7 +51,7 @@ fn segment(alloc: Global, kind: SegKind, number: u16, ases: [IsdAs; 3]) -> Resul
     Ok(Segment::new(kind, timestamp, number, entries)?)
 }
 
-/// Takes a segment in.
+/// Registers a segment.
 fn put(store: &mut PathStore, segment: Segment) -> Result<()> {
     match store.register(segment, NOW) {
         Ok(_) => Ok(()),
@@ -95,7 +95,7 @@ fn sum_of(list: &PathList) -> u64 {
     sum
 }
 
-/// Asks `count` times for at most `limit` paths, and sums what is answered.
+/// Asks `count` times for at most `limit` paths, and sums the answers.
 pub(crate) fn answers(alloc: Global, cores: u32, limit: usize, count: u32) -> Result<u64>
     requires { 0 < limit }
 {

@@ -1,5 +1,5 @@
-//! A published board: six segments between two ASes, of which eight paths can be made, and look-ups
-//! of them while the board's writer publishes others.
+//! A published board: six segments between two ASes, which give eight paths, and lookups of them
+//! while the board's writer publishes others.
 
 ghost use Rattle.std.specs.Prelude.{◌<◌, ◌≤◌};
 
@@ -20,7 +20,7 @@ const BEFORE: u32 = NOW - 900;
 /// The second at which that segment has expired, and the six have not.
 const LATER: u32 = NOW + 21_000;
 
-/// How often a reader that could not enter asks again.
+/// How often a reader that could not enter tries again.
 pub(crate) const TRIES: u32 = 1000;
 
 /// The AS from which the segments lead.
@@ -33,12 +33,12 @@ pub(crate) fn destination() -> IsdAs {
     address(2, 5000)
 }
 
-/// Where threads count what they did.
+/// Counters of what threads did.
 #[derive(Drop)]
 pub(crate) struct Tally {
     /// The sum of all that was found.
     pub(crate) sum: AtomicU64,
-    /// How many threads have ended.
+    /// The number of threads that have ended.
     pub(crate) ended: AtomicUsize,
 }
 
@@ -51,14 +51,14 @@ impl Tally {
         }
     }
 
-    /// Counts what a thread found, which ends.
+    /// Counts what a thread found that now ends.
     pub(crate) fn end(&self, sum: u64) {
         self.sum.fetch_add(sum, Ordering::SeqCst);
         self.ended.fetch_add(1, Ordering::SeqCst);
     }
 }
 
-/// Puts a segment with what is pending; or memory runs out.
+/// Adds a segment to the pending operations, unless memory runs out.
 fn put(
     alloc: Global,
     board: &mut BoardWriter,
@@ -104,8 +104,8 @@ pub(crate) fn seated(
     Ok(seats)
 }
 
-/// Publishes a segment between other ASes, and then a sweep that takes it out again, until `count`
-/// threads have ended.
+/// Publishes a segment between other ASes and then a sweep that removes it, again and again, until
+/// `count` threads have ended.
 fn publish_others<R: Wait>(
     rt: &R,
     alloc: Global,
@@ -127,7 +127,7 @@ fn publish_others<R: Wait>(
     Ok(())
 }
 
-/// How many segments a look-up finds; none where memory ran out.
+/// The number of segments that a lookup finds; 0 if memory ran out.
 fn found(alloc: Global, reader: &mut BoardReader) -> u64 {
     for _ in 0..TRIES {
         if let Ok(set) = reader.lookup(alloc, source(), destination(), NOW) {
@@ -139,7 +139,7 @@ fn found(alloc: Global, reader: &mut BoardReader) -> u64 {
     0
 }
 
-/// Looks the segments up `count` times, and counts what is found.
+/// Looks the segments up `count` times, and counts those found.
 fn look_up(alloc: Global, mut reader: BoardReader, tally: &Tally, count: u32) {
     let mut sum = 0u64;
     for _ in 0..count {
@@ -148,7 +148,8 @@ fn look_up(alloc: Global, mut reader: BoardReader, tally: &Tally, count: u32) {
     tally.end(sum);
 }
 
-/// Looks the segments up `count` times by each of these readers, while the writer publishes others.
+/// Looks the segments up `count` times with each of these readers, while the writer publishes
+/// others.
 fn looked_up<R: Threads + Wait + Sync>(
     rt: &R,
     alloc: Global,
@@ -174,8 +175,8 @@ fn looked_up<R: Threads + Wait + Sync>(
     Ok(tally.sum.load(Ordering::SeqCst))
 }
 
-/// Looks six segments up `count` times by each of several readers of one board, while its writer
-/// publishes others, and counts what is found.
+/// Looks six segments up `count` times with each of several readers of one board, while its writer
+/// publishes others, and counts those found.
 pub(crate) fn look_ups<R: Threads + Wait + Sync>(
     rt: &R,
     alloc: Global,

@@ -1,4 +1,4 @@
-//! Packets on a path of 64 hop fields, carried by the largest network: up a line of children to
+//! Packets on a path of 64 hop fields, carried by the largest network: up one line of children to
 //! their core AS, and down another.
 
 use crate::network;
@@ -10,8 +10,8 @@ use router_step::Outcome;
 use std::alloc::{AllocError, Global};
 use streams::{Reader, Writer};
 
-/// Adds the lines of a segment from AS 1 over its interface of this number, down the line of
-/// children whose numbers follow on it. `count` beacons were made before.
+/// Adds the events of a segment from AS 1 over its interface of this number, down the line of
+/// children whose numbers follow. `count` beacons were made before.
 fn push_segment(
     alloc: Global,
     text: &mut String,
@@ -55,7 +55,7 @@ fn network(alloc: Global) -> Result<Net> {
     Ok(listen(alloc, AcceptedLines::Preparing, &mut source, &mut sink)?)
 }
 
-/// A packet is sent by the answer's path.
+/// The event that sends a packet by the answer's path.
 fn sending<'x>() -> Option<Event<'x>> {
     Some(Event::Send {
         ask: 0,
@@ -64,7 +64,7 @@ fn sending<'x>() -> Option<Event<'x>> {
     })
 }
 
-/// The router at which a packet stands makes one step.
+/// The event of one step of the router that has the packet.
 fn turning<'x>(packet: u32) -> Option<Event<'x>> {
     Some(Event::Turn { packet })
 }
@@ -74,7 +74,7 @@ fn is_delivery(outcome: Outcome) -> bool {
     outcome == Outcome::Deliver
 }
 
-/// What an event is answered counts for 1 where a packet is delivered.
+/// Does an event; its reply counts 1 if a packet is delivered.
 fn worth(alloc: Global, net: &mut Net, event: &Event<'_>) -> Result<u64> {
     let reply = net.step(alloc, event)?;
     if let Reply::Turned(TurnReply::Went(outcome)) = reply {
@@ -99,7 +99,7 @@ fn turn(alloc: Global, net: &mut Net, packet: u32) -> Result<u64> {
     }
 }
 
-/// Sends `count` packets, has each several turns, and counts those that are delivered.
+/// Sends `count` packets, makes several turns of each, and counts those that are delivered.
 pub(crate) fn carried(alloc: Global, turns: u32, count: u32) -> Result<u64> {
     let mut net = network(alloc)?;
     let mut sum = 0u64;

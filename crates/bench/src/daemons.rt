@@ -1,4 +1,5 @@
-//! A daemon that threads ask: for paths that its cache serves, or for paths that it has to make.
+//! A daemon that several threads ask, for paths that its cache has or for paths that it has to
+//! make.
 
 ghost use Rattle.std.specs.Prelude.{◌<◌, ◌≤◌};
 
@@ -14,19 +15,19 @@ use std::sync::atomic::Ordering;
 use std::thread;
 use std::thread::Threads;
 
-/// How many answers the cache has room for.
+/// The number of answers for which the cache has room.
 const CAPACITY: usize = 64;
 
 /// Whether requests are all the same, or all different.
 #[derive(Clone, Copy, PartialEq, Eq)]
 pub(crate) enum Asking {
-    /// The cache serves them.
+    /// The cache has their answer.
     Same,
-    /// It serves none.
+    /// The cache has none of their answers.
     Different,
 }
 
-/// One thread's requests: from which weight on, and how many.
+/// The requests of one thread: the first weight, and the number of requests.
 #[derive(Clone, Copy)]
 struct Round {
     asking: Asking,
@@ -34,8 +35,8 @@ struct Round {
     count: u32,
 }
 
-/// Asks for the paths under an option of this weight: how many there are, and whether the cache
-/// served them.
+/// Asks for the paths under an option of this weight; returns their number, and whether they came
+/// from the cache.
 fn ask<R: Wait>(
     rt: &R,
     alloc: Global,
@@ -58,8 +59,7 @@ fn ask<R: Wait>(
     None
 }
 
-/// Asks `count` times, and counts the paths of the answers that come from where they are to come
-/// from.
+/// Asks `count` times, and counts the paths of the answers that came from where they should.
 fn ask_all<R: Wait>(
     rt: &R,
     alloc: Global,
@@ -83,8 +83,8 @@ fn ask_all<R: Wait>(
     tally.end(sum);
 }
 
-/// Asks `count` times by each of the readers, once the cache has the answer to requests of weight
-/// 0.
+/// Asks `count` times with each of the readers, after the cache has the answer to requests of
+/// weight 0.
 fn answered<R: Threads + Wait + Sync>(
     rt: &R,
     alloc: Global,
@@ -125,8 +125,8 @@ fn answered<R: Threads + Wait + Sync>(
     Ok(tally.sum.load(Ordering::SeqCst))
 }
 
-/// Asks `count` times by each of several threads for eight paths, and counts those that the cache
-/// served, or those that it did not.
+/// Asks `count` times in each of several threads for eight paths, and counts those that came from
+/// the cache, or those that did not.
 pub(crate) fn asks<R: Threads + Wait + Sync>(
     rt: &R,
     alloc: Global,

@@ -1,5 +1,5 @@
-//! Flights over two core ASes and their children, there and back: eight hop fields, and ten turns
-//! each.
+//! Flights over two core ASes and their children, in both directions: eight hop fields, and ten
+//! turns each.
 
 ghost use Rattle.std.specs.Prelude.{◌≡◌, ◌<◌, ◌≤◌, All, IfOk};
 
@@ -13,10 +13,10 @@ use std::thread::Threads;
 use streams::{Reader, Writer};
 use worked::pair;
 
-/// How many flights a run carries, each second one of them back.
+/// The number of flights of a run; every second one goes back.
 const FLIGHTS: u32 = 1000;
 
-/// The lines behind the topology, up to a packet from one end to the other and one back.
+/// The lines after the topology, up to a packet from one end to the other and one back.
 static LINES: &str = r#"
 {"do":"tick","now":1000}
 {"do":"originate","ia":"1-ff00:0:110","egress":1,"beta0":1}
@@ -41,7 +41,7 @@ fn network(alloc: Global) -> Result<Net> {
     Ok(listen(alloc, AcceptedLines::Preparing, &mut source, &mut sink)?)
 }
 
-/// The flights of both packets by turns.
+/// The flights of both packets in turn.
 fn flights_of<'n>(
     alloc: Global,
     net: &'n Net,
@@ -59,7 +59,7 @@ fn flights_of<'n>(
     Ok(flights)
 }
 
-/// The turns that a flight had, if it was delivered.
+/// The number of turns of a flight, if it was delivered.
 fn worth(end: End) -> u64 {
     match end {
         End::Delivered(turns) => u64::from(turns),

@@ -1,4 +1,4 @@
-//! What work is done on, from standard input: lines of a tag and a text.
+//! The input of works, from standard input: lines of a tag and a text.
 
 use anyhow::{Context, Result, bail};
 use isd_as::{IfId, IsdAs};
@@ -7,7 +7,8 @@ use router_step::Arrival;
 use std::alloc::Global;
 use std::io;
 
-/// A piece of a path: from one entry of a segment to another, along it or against it.
+/// A piece of a path: from one entry of a segment to another, in construction direction or against
+/// it.
 #[derive(Drop)]
 pub(crate) struct Stretch {
     pub(crate) segment: Segment,
@@ -16,12 +17,12 @@ pub(crate) struct Stretch {
     pub(crate) along: bool,
 }
 
-/// What the lines tell: a network, a packet on its way in it, its path, and a sequence.
+/// The values of the lines: a network, a packet on its way in it, its path, and a sequence.
 #[derive(Drop)]
 pub(crate) struct Input {
     pub(crate) topology: String,
     pub(crate) packet: Vec<u8>,
-    /// The routers on the packet's way, each with how the packet comes to it.
+    /// The routers on the packet's way, each with the packet's arrival.
     pub(crate) stops: Vec<(IsdAs, u8, Arrival)>,
     pub(crate) source: IsdAs,
     pub(crate) destination: IsdAs,
@@ -32,7 +33,7 @@ pub(crate) struct Input {
 }
 
 impl Input {
-    /// What the lines of standard input tell.
+    /// The values of the lines of standard input.
     pub(crate) fn read<R: io::Input>(rt: &R, alloc: Global) -> Result<Input> {
         let mut input = Input {
             topology: String::new(alloc),
@@ -51,7 +52,7 @@ impl Input {
         Ok(input)
     }
 
-    /// Takes in what a line tells.
+    /// Reads one line into these values.
     fn take(&mut self, alloc: Global, line: &str) -> Result<()> {
         let (tag, text) = line.split_once(' ').context("a line has a tag and a text")?;
         match tag {
@@ -69,7 +70,7 @@ impl Input {
         Ok(())
     }
 
-    /// Takes in `IA ROUTER host`, `.. inside`, or `.. INTERFACE`.
+    /// Reads a stop: `IA ROUTER host`, `.. inside`, or `.. INTERFACE`.
     fn take_stop(&mut self, text: &str) -> Result<()> {
         let (ia, rest) = text.split_once(' ').context("a stop has an AS")?;
         let (router, way) = rest.split_once(' ').context("a stop has a router")?;
@@ -80,7 +81,7 @@ impl Input {
     }
 }
 
-/// How a packet comes: from a host, from inside the AS, or by the interface of a number.
+/// How a packet came: from a host, from inside the AS, or by the interface of this number.
 fn arrival_of(text: &str) -> Result<Arrival> {
     match text {
         "host" => Ok(Arrival::FromHost),
@@ -92,7 +93,7 @@ fn arrival_of(text: &str) -> Result<Arrival> {
     }
 }
 
-/// `FROM TO true SEGMENT`, or `.. false ..`.
+/// A piece: `FROM TO true SEGMENT`, or `.. false ..`.
 fn stretch_of(alloc: Global, text: &str) -> Result<Stretch> {
     let (from, rest) = text.split_once(' ').context("a piece has a first entry")?;
     let (to, rest) = rest.split_once(' ').context("a piece has a last entry")?;

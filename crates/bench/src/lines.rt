@@ -1,11 +1,11 @@
-//! A network given as lines: whole commands, from the bytes of the lines to those of the replies.
+//! A network given as lines: whole commands, from the bytes of lines to the bytes of replies.
 
 use anyhow::Result;
 use event_lines::run_lines;
 use std::alloc::Global;
 use streams::{Reader, Writer};
 
-/// Three ASes in a row, a core AS, its child and the child of that, up to an answer of one path.
+/// Three ASes in a row, a core AS, its child and the child's child, up to an answer of one path.
 fn start() -> &'static str {
     concat!(
         r#"{"ases":[{"ia":"1-ff00:0:110","core":true,"exp":63,"key":"6130","routers":1},"#,
@@ -29,22 +29,22 @@ fn start() -> &'static str {
     )
 }
 
-/// What the lines of a work are about.
+/// The subject of a work's lines.
 #[derive(Clone, Copy)]
 pub(crate) enum About {
-    /// A packet that is sent, turned four times and shown, behind a request for paths, a beacon
-    /// that is ended again, a tick of the clock, and a line that asks for nothing: ten lines.
+    /// Ten lines: a request for paths, a beacon that is begun and ended, a tick of the clock and a
+    /// bad line, and then a packet that is sent, turned four times and shown.
     All,
     /// A packet that is sent, has its three turns and is shown: five lines.
     Packets,
-    /// A beacon that is begun, passed on and ended, after the segment before has expired and is
-    /// swept: five lines.
+    /// Five lines: a beacon that is begun, passed on and ended, after the segment before has
+    /// expired and was swept.
     Beacons,
     /// A request for paths under an access list and a sequence: one line.
     Requests,
 }
 
-/// The lines of a packet that do not name it, among others.
+/// Lines of a packet's work that do not name the packet.
 fn around() -> &'static str {
     r#"{"do":"ask","src":"1-ff00:0:112","dst":"1-ff00:0:110","limit":4,"sequence":"0* 1-ff00:0:110"}
 {"do":"terminate","beacon":1,"ia":"1-ff00:0:112"}
@@ -80,8 +80,8 @@ fn push_turns(alloc: Global, text: &mut String, number: u32, count: u8) -> Resul
     Ok(())
 }
 
-/// A beacon through the three ASes, of which the numbers are the next two, at a second at which the
-/// segment before has expired.
+/// A beacon through the three ASes; its numbers are the next two, and at its second the segment
+/// before has expired.
 fn push_beacon(alloc: Global, text: &mut String, number: u32) -> Result<()> {
     let first = number.saturating_mul(2).saturating_add(2);
     let second = first.saturating_add(1);
@@ -120,7 +120,7 @@ fn push_lines(alloc: Global, text: &mut String, about: About, number: u32) -> Re
 }
 
 /// Runs a network over the lines of `count` packets, beacons or requests, and sums the bytes of the
-/// answers.
+/// replies.
 pub(crate) fn lines(alloc: Global, about: About, count: u32) -> Result<u64> {
     let mut text = String::from_str(alloc, start())?;
     for number in 0..count {

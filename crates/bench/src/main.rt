@@ -1,8 +1,8 @@
 //! Named pieces of work, each done a number of times: `bench NAME COUNT`.
 //!
-//! Works on a packet, a path or a sequence have it from standard input; the folder `inputs` has
-//! some. It prints what it did, a count and a checksum, and never a time, so that it prints the
-//! same on every machine; take the time from outside, or count instructions.
+//! Works on a packet, a path or a sequence read it from standard input; the folder `inputs` has
+//! some. The program prints a count and a checksum and no time, and so the same on every machine.
+//! Measure the time from outside, or count instructions.
 #![tactic(auto)]
 
 ghost use Rattle.std.specs.Prelude.{◌<◌};
@@ -31,7 +31,7 @@ use std::sync::Wait;
 use std::thread::Threads;
 use std::{env, io};
 
-/// The address of the AS of this number in the network that is measured.
+/// The address of the AS of this number in the measured network.
 fn address(number: u32) -> IsdAs {
     match AsNumber::new(u64::from(number)) {
         Some(as_number) => IsdAs::new(Isd(1), as_number),
@@ -86,7 +86,7 @@ fn views(alloc: Global, count: u32) -> Result<u64> {
     Ok(sum)
 }
 
-/// Does a work on what standard input tells, `count` times.
+/// Does a work on the input from standard input, `count` times.
 fn work_on_input<R: io::Input>(rt: &R, alloc: Global, name: &str, count: u32) -> Result<u64> {
     let input = Input::read(rt, alloc)?;
     match name {
@@ -102,13 +102,12 @@ fn work_on_input<R: io::Input>(rt: &R, alloc: Global, name: &str, count: u32) ->
     }
 }
 
-/// Does the work of this name `count` times; of lines there are ten for each of `lines`, five for
-/// each packet or beacon and one for each request, and segments that are made or registered are ten
-/// thousand times as many. Answers are of up to a number of paths, the first three of 32
-/// paths that there are and the others of 2048. Packets are sent in a network over 64 hop fields,
-/// and carried there by 63 turns each. Flights are a thousand times as many, on several workers.
-/// Look-ups on a board are as many by each of several readers, and requests to a daemon by each of
-/// several threads.
+/// Does the work of this name `count` times, with these factors: ten lines for each of `lines`,
+/// five for each packet or beacon, and one for each request; ten thousand segments that are made or
+/// registered; a thousand flights, on several workers; a lookup by each of several readers of a
+/// board; a request by each of several threads to a daemon. The first three works on answers have
+/// 32 paths to choose from, and the others 2048. Packets are sent in a network over 64 hop fields,
+/// and carried there by 63 turns each.
 fn work<R: Threads + Wait + Sync + io::Input>(
     rt: &R,
     alloc: Global,

@@ -1,17 +1,17 @@
-//! The largest networks that a topology takes, of 1,024 ASes and 4,096 links: a ring of core ASes,
-//! and two lines of children of one AS beside a ring.
+//! The largest networks that a topology may have, with 1,024 ASes and 4,096 links: a ring of core
+//! ASes; and two lines of children of one AS next to a ring.
 
 ghost use Rattle.std.specs.Prelude.{◌<◌, ◌≤◌, ◌^◌};
 
 use std::alloc::{AllocError, Global};
 
-/// How many ASes a network has, numbered from 1.
+/// The number of ASes of a network; they are numbered from 1.
 pub(crate) const ASES: u32 = 1024;
 
-/// How many links it has, numbered from 0.
+/// The number of links of a network; they are numbered from 0.
 pub(crate) const LINKS: u32 = 4096;
 
-/// How many ASes each of the two lines has, the core AS 1 included.
+/// The number of ASes of each of the two lines, with the core AS 1.
 pub(crate) const LINE: u32 = 32;
 
 /// The last AS of the first line.
@@ -20,7 +20,7 @@ pub(crate) const FIRST_END: u32 = LINE;
 /// The last AS of the second line.
 pub(crate) const SECOND_END: u32 = 2 * LINE - 1;
 
-/// The first AS of the ring beside them.
+/// The first AS of the ring next to the lines.
 const RING: u32 = 2 * LINE;
 
 /// The AS at the first end of a link of the ring.
@@ -55,7 +55,7 @@ pub(crate) fn text(alloc: Global) -> Result<String, AllocError> {
 }
 
 /// Two lines of children of AS 1, and a ring of the other ASes, as JSON. The links of the lines
-/// come first, each at the parent's interface of one number more than its own.
+/// come first; a link's interface at the parent has a number one larger than its own.
 pub(crate) fn lines(alloc: Global) -> Result<String, AllocError> {
     let mut text = String::from_str(alloc, r#"{"ases":["#)?;
     for one in 1..=ASES {

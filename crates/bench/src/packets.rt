@@ -1,4 +1,4 @@
-//! Packets: authenticators, headers that are read, and turns of the routers on their way.
+//! Packets: authenticators, headers that are read, and turns of routers.
 
 use crate::input::Input;
 use anyhow::{Context, Result, bail};
@@ -11,23 +11,23 @@ use std::alloc::Global;
 /// The key under which authenticators are made.
 const KEY: [u8; 16] = *b"0123456789abcdef";
 
-/// Where a path's accumulator has its second byte in a packet: behind the addresses, the meta field
-/// and three bytes more.
+/// The place in a packet of the second byte of a path's accumulator: after the addresses, the meta
+/// field and three more bytes.
 const ACCUMULATOR: usize = 23;
 
-/// Where a packet over one segment has its first authenticator.
+/// The place in a packet over one segment of the first authenticator.
 const AUTHENTICATOR: usize = 34;
 
-/// What is wrong with a packet.
+/// The flaw of a packet.
 #[derive(Clone, Copy)]
 pub(crate) enum Flaw {
-    /// Its first authenticator is another, on a path of one segment.
+    /// Its first authenticator is wrong, on a path of one segment.
     Authenticator,
     /// It ends within the header.
     Cut,
 }
 
-/// Makes `count` authenticators under a key that stands, each from the one before.
+/// Makes `count` authenticators under the same key, each from the one before.
 pub(crate) fn macs(count: u32) -> u64 {
     let key = MacKey::new(&KEY);
     let mut beta = 0u16;
@@ -74,7 +74,7 @@ pub(crate) fn decodes(input: &Input, count: u32) -> Result<u64> {
     Ok(sum)
 }
 
-/// What an answer counts for.
+/// The value that an answer adds to the sum.
 fn worth<T: Drop>(answer: &Result<Outcome, T>) -> u64 {
     match answer {
         Ok(Outcome::ToLink(number)) => u64::from(number.number()),
@@ -84,8 +84,8 @@ fn worth<T: Drop>(answer: &Result<Outcome, T>) -> u64 {
     }
 }
 
-/// Has a packet pass the first few routers on its way, `count` times, as it was at first each
-/// time, and sums what they answer.
+/// Lets a packet pass the first few routers on its way, `count` times and each time from its start,
+/// and sums their answers.
 pub(crate) fn ways(alloc: Global, input: &Input, most: usize, count: u32) -> Result<u64> {
     let topology = Topology::from_json(alloc, input.topology.as_bytes())?;
     let mut views: Vec<(RouterView<'_>, Arrival)> = Vec::new(alloc);
@@ -105,8 +105,8 @@ pub(crate) fn ways(alloc: Global, input: &Input, most: usize, count: u32) -> Res
     Ok(sum)
 }
 
-/// Has a packet with a flaw come to its first router `count` times, with another accumulator each
-/// time, and counts what is refused.
+/// Gives a packet with a flaw to its first router `count` times, with another accumulator each
+/// time, and counts the refusals.
 pub(crate) fn flawed(alloc: Global, input: &Input, flaw: Flaw, count: u32) -> Result<u64> {
     let topology = Topology::from_json(alloc, input.topology.as_bytes())?;
     let (ia, router, arrival) = input.stops.first().context("the packet has no way")?;

@@ -8,11 +8,11 @@ use path_verifier::{Piece, Pieces, verify};
 use policy_expr::{Policy, Seq, WalkHop};
 use std::alloc::Global;
 
-/// The AS number of a walk's first hop, the others counting on from it.
+/// The AS number of a walk's first hop; those of the others follow it.
 const FIRST_HOP: u64 = 100;
 
-/// Matches a sequence `count` times with a walk of 64 hops of ISD 1, of which the first goes in at
-/// one interface and another by turns, and counts the words.
+/// Matches a sequence `count` times with a walk of 64 hops of ISD 1, and counts the words. The
+/// first hop's way in is one interface or another in turn.
 pub(crate) fn matches(alloc: Global, input: &Input, count: u32) -> Result<u64> {
     let sequence = Seq::parse(alloc, input.sequence.as_str())?;
     let mut walk = [WalkHop {
@@ -45,8 +45,8 @@ pub(crate) fn parses(alloc: Global, input: &Input, count: u32) -> Result<u64> {
     Ok(sum)
 }
 
-/// Verifies a path `count` times, at one second and the next by turns, and sums the hops of those
-/// that are accepted.
+/// Verifies a path `count` times, in turn at one second and at the next, and sums the hops of those
+/// accepted.
 pub(crate) fn verifies(input: &Input, count: u32) -> Result<u64> {
     let mut pieces = Pieces::new();
     for stretch in input.stretches.iter() {

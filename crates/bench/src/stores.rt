@@ -1,4 +1,4 @@
-//! Stores of many segments: making and registering them, and look-ups among them.
+//! Stores of many segments: making and registering them, and lookups among them.
 
 use anyhow::Result;
 use isd_as::{IfId, IsdAs};
@@ -6,10 +6,10 @@ use path_segment::{Entry, SegKind, Segment};
 use path_server::{PathStore, SegmentSet};
 use std::alloc::Global;
 
-/// How many segments beside those that are looked up there are.
+/// The number of segments besides those that are looked up.
 const OTHERS: u32 = 10_000;
 
-/// How many segments up, between core ASes and down are looked up.
+/// The number of segments up, between core ASes, and down that are looked up.
 const FOUND: u16 = 32;
 
 /// The second at which all is made.
@@ -20,7 +20,7 @@ pub(crate) fn address(isd: u16, number: u32) -> IsdAs {
     IsdAs::from_number(u64::from(isd) << 48 | u64::from(number))
 }
 
-/// The interface of an AS to this one.
+/// The interface of an AS for this address.
 fn port(ia: IsdAs) -> IfId {
     IfId((ia.number() % 0x1_0000_0000_0000 % 60_000) as u16 + 1)
 }
@@ -53,8 +53,8 @@ pub(crate) fn segment(
     Ok(Segment::new(kind, timestamp, beta0, entries)?)
 }
 
-/// The other segment of this number: of four three are intra, from fifty ASes to one further AS for
-/// each eight of them.
+/// The other segment of this number. Three of four are intra. They begin in fifty ASes, and eight
+/// of them end in each of many.
 fn other(alloc: Global, number: u32) -> Result<Segment> {
     let kind = if number % 4 == 3 {
         SegKind::Core
@@ -69,7 +69,7 @@ fn other(alloc: Global, number: u32) -> Result<Segment> {
     segment(alloc, kind, NOW, (number % 65_536) as u16, ases)
 }
 
-/// Takes a segment in, and says how many are new.
+/// Registers a segment, and returns the number of new ones.
 fn put(store: &mut PathStore, segment: Segment) -> u64 {
     match store.register(segment, NOW) {
         Ok(true) => 1,
@@ -88,7 +88,7 @@ pub(crate) fn make(alloc: Global, count: u32) -> Result<u64> {
     Ok(sum)
 }
 
-/// Makes and registers the other segments `count` times, and counts those that are taken in.
+/// Makes and registers the other segments `count` times, and counts those that are new.
 pub(crate) fn register(alloc: Global, count: u32) -> Result<u64> {
     let mut sum = 0u64;
     for _ in 0..count {
@@ -124,15 +124,15 @@ fn store(alloc: Global, src: IsdAs, dst: IsdAs) -> Result<PathStore> {
     Ok(store)
 }
 
-/// How many segments a look-up found.
+/// The number of segments that a lookup found.
 fn found(set: &SegmentSet) -> u64 {
     (set.ups().len() as u64)
         .wrapping_add(set.cores().len() as u64)
         .wrapping_add(set.downs().len() as u64)
 }
 
-/// Looks 32 segments up, 32 between core ASes and 32 down up among the others, `count` times, and
-/// counts what is found.
+/// Looks up 32 segments up, 32 between core ASes and 32 down among the others, `count` times, and
+/// counts those found.
 pub(crate) fn look_up(alloc: Global, count: u32) -> Result<u64> {
     let (src, dst) = (address(1, 5000), address(2, 5000));
     let store = store(alloc, src, dst)?;
@@ -144,8 +144,8 @@ pub(crate) fn look_up(alloc: Global, count: u32) -> Result<u64> {
     Ok(sum)
 }
 
-/// Copies what such a look-up finds `count` times, and counts what is copied. A look-up returns
-/// copies, so this is the part of its work that is no search.
+/// Copies what such a lookup finds `count` times, and counts the copies. A lookup returns copies,
+/// so this is its work without the search.
 pub(crate) fn copy(alloc: Global, count: u32) -> Result<u64> {
     let (src, dst) = (address(1, 5000), address(2, 5000));
     let set = store(alloc, src, dst)?.segments_for(alloc, src, dst, NOW)?;

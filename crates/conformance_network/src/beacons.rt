@@ -9,7 +9,7 @@ use std::process::Abort;
 use std::test::Fail;
 use worked::{at, pair, row};
 
-/// The refusal of a call, where it was refused.
+/// The refusal of a call, if it was refused.
 fn refusal<T: Drop>(answer: Result<T, BeaconError>) -> Option<BeaconFault> {
     match answer {
         Err(OrMemory::Refused(fault)) => Some(fault),
@@ -17,7 +17,7 @@ fn refusal<T: Drop>(answer: Result<T, BeaconError>) -> Option<BeaconFault> {
     }
 }
 
-/// An entry that is wanted: its AS, the AS's key, and its interfaces.
+/// An expected entry: its AS, the AS's key, and its interfaces.
 #[derive(Drop)]
 struct Wanted {
     ia: IsdAs,
@@ -35,7 +35,7 @@ fn entry_of(isd: u16, last: u16, key: &'static [u8], ingress: u16, egress: u16) 
     }
 }
 
-/// Whether the entries are those that are wanted, each authenticated under its AS's key and the
+/// Whether the entries are the expected ones, each authenticated under its AS's key and the
 /// accumulator of the entries before.
 fn are_wanted(segment: &Segment, all: &[Wanted]) -> bool {
     let mut beta = segment.beta0();
@@ -56,7 +56,7 @@ fn are_wanted(segment: &Segment, all: &[Wanted]) -> bool {
     same
 }
 
-/// The segment of a beacon that begins and goes on at these ASes by these interfaces, and ends in
+/// The segment of a beacon that these ASes begin and pass on by these interfaces, and that ends in
 /// the last AS.
 fn issued(
     alloc: Global,
@@ -101,7 +101,7 @@ fn makes_a_segment(rt: HostRuntime) -> Result<(), Fail> {
     Ok(())
 }
 
-/// Whether the segment from the core AS of an ISD down to the child of its child is as wanted.
+/// Whether the segment from the core AS of an ISD down to its child's child is the expected one.
 fn goes_down(
     alloc: Global,
     topology: &Topology,
@@ -115,7 +115,7 @@ fn goes_down(
     Ok(is_issued(&segment, SegKind::Intra, beta0, ends))
 }
 
-/// A segment to the children of each of two core ASes, and one between these.
+/// A segment from each of two core ASes to its child's child, and one between the core ASes.
 #[test]
 fn makes_three_segments(rt: HostRuntime) -> Result<(), Fail> {
     let alloc = rt.alloc();
@@ -214,7 +214,7 @@ fn refuses_in_a_row(rt: HostRuntime) -> Result<(), Fail> {
     Ok(())
 }
 
-/// A beacon between core ASes goes back to the first and no further, and never to a child.
+/// A core beacon goes back to the first AS and no further, and never to a child.
 #[test]
 fn core_beacons(rt: HostRuntime) -> Result<(), Fail> {
     let alloc = rt.alloc();
@@ -251,7 +251,7 @@ fn long_beacon(alloc: Global) -> Result<Beacon, Fail> {
     Ok(beacon)
 }
 
-/// A beacon of 62 entries is not passed on, though it would be refused for the interface too.
+/// A beacon of 62 entries is not passed on: that refusal comes before the one about the interface.
 #[test]
 fn longest_beacon(rt: HostRuntime) -> Result<(), Fail> {
     let alloc = rt.alloc();

@@ -1,7 +1,8 @@
 //! Tests of networks: topologies, beacons and routers, and the sentences of their refusals.
 //!
-//! Outside vectors, worked rows and sentences: what no clause says. Tests stand in crates of their
-//! own, over public calls alone, since a crate with tests is proved twice.
+//! They are test vectors from outside, worked examples and sentences, of which no clause speaks.
+//! Tests have crates of their own and use public calls only, since a crate with tests is proved
+//! twice.
 #![tactic(auto)]
 
 #[cfg(test)]

@@ -8,14 +8,14 @@ use std::alloc::Global;
 use std::fmt::Display;
 use std::test::Fail;
 
-/// Whether this is the sentence of a refusal, alone and beside running out of memory.
+/// Whether this is the sentence of a refusal, both by itself and in `OrMemory`.
 fn is_sentence<F: Copy + Display>(alloc: Global, fault: F, sentence: &str) -> Result<bool, Fail> {
     let alone = format!(in alloc; "{fault}")?;
     let beside = format!(in alloc; "{}", OrMemory::Refused(fault))?;
     Ok(alone.as_str() == sentence && beside.as_str() == sentence)
 }
 
-/// Running out of memory has a sentence of its own.
+/// Running out of memory has its own sentence.
 #[test]
 fn want_of_memory(rt: HostRuntime) -> Result<(), Fail> {
     let memory: OrMemory<AddrFault> = OrMemory::Memory;

@@ -9,7 +9,7 @@ use std::test::Fail;
 /// The key of every AS of these tests.
 const KEY: &[u8] = b"k";
 
-/// The moment at which their segments are made, and at which their packets travel.
+/// The second at which the segments are made, and at which the packets travel.
 const NOW: u32 = 1000;
 
 /// A packet of two hops from 1-ff00:0:111 to 1-ff00:0:110, against construction direction.
@@ -29,12 +29,13 @@ fn entry(number: u16, kind: LinkKind, router: u8) -> IfEntry {
     }
 }
 
-/// The address of this AS number of three groups, the first of them ff00, in this ISD.
+/// The address with this ISD, and an AS number of three groups whose first is ff00 and last is
+/// `last`.
 fn address(isd: u64, last: u64) -> IsdAs {
     IsdAs::from_number((isd % 4 << 48) + 0xff00_0000_0000 + last % 0x1_0000)
 }
 
-/// Asserts what a packet of a host is refused by, and that it stays as it is.
+/// Asserts by what a host's packet is refused, and that it stays as it is.
 fn expect_refused(
     rt: &impl Abort,
     view: &RouterView<'_>,
@@ -80,7 +81,7 @@ fn two_hops(rt: HostRuntime) -> Result<(), Fail> {
 }
 
 /// Makes the hop fields of a segment from the interfaces of its ASes, in construction direction,
-/// and gives the accumulators of the last two.
+/// and returns the accumulators of the last two.
 fn make(hops: &mut [HopField], interfaces: &[(u16, u16)], beta: u16) -> (u16, u16) {
     let mut before = beta;
     let mut last = beta;
@@ -120,17 +121,17 @@ fn header_of_three() -> Result<Header, HeaderFault> {
     Header::new([3, 2, 3], &infos, &hops)
 }
 
-/// Onto the link of this interface.
+/// The outcome of leaving over the link at this interface.
 fn to_link(number: u16) -> Outcome {
     Outcome::ToLink(IfId(number))
 }
 
-/// From the link of this interface.
+/// The arrival over the link at this interface.
 fn from_link(number: u16) -> Arrival {
     Arrival::Link(IfId(number))
 }
 
-/// Asserts what a turn of a router of an AS over a packet leads to.
+/// Asserts the outcome of a turn of an AS's router with a packet.
 fn expect_turn(
     rt: &impl Abort,
     (ia, router): (IsdAs, u8),
@@ -185,7 +186,7 @@ fn three_segments(rt: HostRuntime) -> Result<(), Fail> {
     Ok(())
 }
 
-/// The packet of a host of the one child of an AS to one of the other, by a shortcut at that AS.
+/// The packet of a host in one child of an AS to the other child, by a shortcut at that AS.
 fn over_a_shortcut() -> Result<[u8; 84], HeaderFault> {
     let mut up = [HopField::default(); 3];
     let mut down = [HopField::default(); 3];
@@ -201,7 +202,7 @@ fn over_a_shortcut() -> Result<[u8; 84], HeaderFault> {
     Ok(packet)
 }
 
-/// A shortcut at a common AS of an up and a down segment, with one router there and with two.
+/// A shortcut at the AS common to an up and a down segment, with one router there and with two.
 #[test]
 fn shortcut(rt: HostRuntime) -> Result<(), Fail> {
     let leaf = [entry(1, LinkKind::Parent, 0)];
@@ -262,8 +263,8 @@ const TWO: &str = concat!(
     r#""b":{"ia":"1-ff00:0:111","if":2,"router":0}}]}"#,
 );
 
-/// A packet made under a key goes on after its AS took another key into use, and not after one
-/// more.
+/// A packet made under a key goes on after its AS changed its key once, and not after a second
+/// change.
 #[test]
 fn keys_overlap(rt: HostRuntime) -> Result<(), Fail> {
     let own = address(1, 0x111);

@@ -19,7 +19,7 @@ fn entry(number: u16, kind: LinkKind, router: u8) -> IfEntry {
     }
 }
 
-/// A view shows what it was made of, and knows the authenticators that its key makes.
+/// A view has the parts that it was built from, and accepts the authenticators of its key.
 #[test]
 fn shows(rt: HostRuntime) -> Result<(), Fail> {
     let table = [entry(2, LinkKind::Child, 1), entry(1, LinkKind::Parent, 0)];
@@ -35,7 +35,7 @@ fn shows(rt: HostRuntime) -> Result<(), Fail> {
     Ok(())
 }
 
-/// Each cause of a refusal, and the first of two.
+/// Each refusal, and which of two comes first.
 #[test]
 fn refuses(rt: HostRuntime) {
     let with_none = [entry(1, LinkKind::Core, 0), entry(0, LinkKind::Core, 0)];
@@ -56,7 +56,7 @@ fn refuses(rt: HostRuntime) {
     assert_eq!(rt; TopologyFault::DuplicateIf.name(), "DuplicateIf");
 }
 
-/// Three ASes in a row, one router each: a core AS, its child, and the child of that.
+/// Three ASes in a row, one router each: a core AS, its child, and the child's child.
 const THREE: &str = concat!(
     r#"{"ases":[{"ia":"1-ff00:0:110","core":true,"exp":63,"key":"6130","routers":1},"#,
     r#"{"ia":"1-ff00:0:111","core":false,"exp":63,"key":"6131","routers":1},"#,
@@ -77,13 +77,13 @@ fn at(number: u64) -> IsdAs {
     IsdAs::from_number(number)
 }
 
-/// The text with one change, at the first place where `old` stands in it.
+/// The text with `old` replaced by `new` at its first place.
 fn changed(alloc: Global, old: &str, new: &str) -> Result<String, Fail> {
     let (front, back) = THREE.split_once(old).ok_or("the text to change is there")?;
     Ok(format!(in alloc; "{front}{new}{back}")?)
 }
 
-/// Asserts what the text is refused by with one change.
+/// Asserts by what the text is refused after one change.
 fn expect_cause(
     rt: &impl Abort,
     alloc: Global,
@@ -99,12 +99,12 @@ fn expect_cause(
     Ok(())
 }
 
-/// Asserts what a change of a field to one that is not as it must be is refused by.
+/// Asserts that a wrong value of a field is refused as BadField.
 fn expect_bad_field(rt: &impl Abort, alloc: Global, old: &str, new: &str) -> Result<(), Fail> {
     expect_cause(rt, alloc, old, new, TopologyFault::BadField, 11)
 }
 
-/// One change each, and the refusal that it leads to.
+/// One change at a time, and its refusal.
 #[test]
 fn first_cause_is_reported(rt: HostRuntime) -> Result<(), Fail> {
     let alloc = rt.alloc();
@@ -138,7 +138,7 @@ fn first_cause_is_reported(rt: HostRuntime) -> Result<(), Fail> {
     Ok(())
 }
 
-/// No proper front of the text is a topology.
+/// No beginning of the text is a topology, except the whole.
 #[test]
 fn fronts_are_not_json(rt: HostRuntime) {
     let bytes = THREE.as_bytes();
@@ -148,7 +148,7 @@ fn fronts_are_not_json(rt: HostRuntime) {
     }
 }
 
-/// Asserts which ends of links the three ASes have.
+/// Asserts the ends of the links of the three ASes.
 fn expect_ends(rt: &impl Abort, topology: &Topology) {
     let ends = [
         (at(TOP), IfId(1), Ok((at(MIDDLE), IfId(1)))),
@@ -162,7 +162,7 @@ fn expect_ends(rt: &impl Abort, topology: &Topology) {
     assert!(rt; topology.owner(at(TOP), IfId(2)) == Err(TopologyFault::NoLink));
 }
 
-/// Asserts what the view of the middle AS shows.
+/// Asserts the values of the middle AS's view.
 fn expect_view(rt: &impl Abort, view: &RouterView<'_>) {
     assert!(rt; view.key() == b"a1".as_slice());
     assert!(rt; view.entry(IfId(1)) == Some(&entry(1, LinkKind::Parent, 0)));
@@ -171,7 +171,7 @@ fn expect_view(rt: &impl Abort, view: &RouterView<'_>) {
     assert!(rt; view.authenticates(&mac, 7, 100, 63, IfId(1), IfId(2)));
 }
 
-/// What is asked of the three ASes.
+/// The queries of the three ASes.
 #[test]
 fn answers_what_was_read(rt: HostRuntime) -> Result<(), Fail> {
     let topology = Topology::from_json(rt.alloc(), THREE.as_bytes())?;
@@ -191,13 +191,13 @@ fn answers_what_was_read(rt: HostRuntime) -> Result<(), Fail> {
     Ok(())
 }
 
-/// Whether the link at an interface of an AS is up, where the AS has it.
+/// Whether the link at an interface of an AS is up, if the AS has the interface.
 fn is_up(topology: &Topology, ia: u64, number: u16) -> Result<Option<bool>, TopologyFault> {
     let view = topology.view(at(ia), 0)?;
     Ok(view.entry(IfId(number)).map(|entry| entry.up))
 }
 
-/// Whether an AS has this key, and the other before it.
+/// Whether an AS has this key in use, and the other one before it.
 fn has_keys(
     topology: &Topology,
     ia: u64,
@@ -208,14 +208,14 @@ fn has_keys(
     Ok(view.key() == key && view.previous() == before)
 }
 
-/// Asserts what changes are refused by.
+/// Asserts the refusals of changes.
 fn expect_no_change(rt: &impl Abort, topology: &mut Topology) {
     assert!(rt; topology.cut_link(at(TOP), IfId(0)) == Err(TopologyFault::NoLink));
     assert!(rt; topology.rotate_key(at(LEAF), b"") == Err(TopologyFault::BadField));
     assert!(rt; topology.rotate_key(at(1), b"") == Err(TopologyFault::UnknownAs));
 }
 
-/// A cut and a mend, named by either end, and another key.
+/// A cut and a mend, each named by either end, and a new key.
 #[test]
 fn changes_what_is_named(rt: HostRuntime) -> Result<(), Fail> {
     let mut topology = Topology::from_json(rt.alloc(), THREE.as_bytes())?;
@@ -269,7 +269,7 @@ fn ring(rt: &HostRuntime, ases: u32, links: u32) -> Result<String, Fail>
     Ok(text)
 }
 
-/// The most ASes and links are read, and one more of either is not.
+/// The largest numbers of ASes and links are read, and one more of either is not.
 #[test]
 fn limits_are_exact(rt: HostRuntime) -> Result<(), Fail> {
     let most = ring(&rt, 1024, 4096)?;
@@ -324,7 +324,7 @@ fn sentences(rt: HostRuntime) -> Result<(), Fail> {
     Ok(())
 }
 
-/// The largest network with one double, each at the very end.
+/// The largest network with one duplicate, each time at the very end.
 #[test]
 fn last_double_is_found(rt: HostRuntime) -> Result<(), Fail> {
     let most = ring(&rt, 1024, 4096)?;

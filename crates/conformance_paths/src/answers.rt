@@ -14,7 +14,7 @@ use worked::{at, policy};
 /// An entry: its AS, its ways in and out, and the digits of its authenticator.
 type Row = (IsdAs, u16, u16, u64);
 
-/// The segment of these entries, each with the lifetime 63.
+/// The segment of these entries, each with the expiry 63.
 fn segment(
     alloc: Global,
     kind: SegKind,
@@ -36,7 +36,7 @@ fn segment(
     Ok(Segment::new(kind, timestamp, beta0, entries)?)
 }
 
-/// What a store of copies of these segments, registered one after another, has for two ends.
+/// The lookup for two ends in a store of copies of these segments, registered one after another.
 fn set_of(
     alloc: Global,
     segments: &[Segment],
@@ -53,7 +53,7 @@ fn set_of(
     Ok(store.segments_for(alloc, src, dst, now)?)
 }
 
-/// Adds a walk as lines of text print it.
+/// Adds a walk in the form of reply lines.
 fn add_walk(alloc: Global, told: &mut String, walk: &[WalkHop]) -> Result<(), Fail> {
     let mut front = "; ";
     for hop in walk {
@@ -64,7 +64,7 @@ fn add_walk(alloc: Global, told: &mut String, walk: &[WalkHop]) -> Result<(), Fa
     Ok(())
 }
 
-/// An answer as lines of text print it: how many paths there are, and the walk of each.
+/// An answer in the form of reply lines: the number of paths, and the walk of each.
 fn told_of(alloc: Global, list: &PathList) -> Result<String, Fail> {
     let mut told = format!(in alloc; "{}", list.len())?;
     for place in 0..list.len() {
@@ -75,7 +75,7 @@ fn told_of(alloc: Global, list: &PathList) -> Result<String, Fail> {
     Ok(told)
 }
 
-/// The answer of up to 8 paths under one policy, or its refusal, as lines of text print it.
+/// The answer of up to 8 paths under one policy, or its refusal, in the form of reply lines.
 fn ask(
     alloc: Global,
     set: &SegmentSet,
@@ -95,14 +95,14 @@ fn ask(
     }
 }
 
-/// The digits of the header of a path.
+/// The header of a path in hexadecimal digits.
 fn digits_of(alloc: Global, path: &Path) -> Result<String, Fail> {
     let mut room = [0; 796];
     let len = encode(path.header(), &mut room)?;
     Ok(hex::encode(alloc, &room[..len])?)
 }
 
-/// The digits of these fields of a header.
+/// These fields of a header, joined.
 fn joined(alloc: Global, fields: &[&str]) -> Result<String, Fail> {
     let mut digits = String::new(alloc);
     for field in fields {
@@ -111,7 +111,8 @@ fn joined(alloc: Global, fields: &[&str]) -> Result<String, Fail> {
     Ok(digits)
 }
 
-/// The digits of the header of the one path of an answer, of copies of the answer and of the path.
+/// The header of the only path of an answer, in digits, taken from copies of the answer and of the
+/// path.
 fn header_of_one(alloc: Global, list: &PathList) -> Result<String, Fail> {
     let copy = list.try_clone(alloc)?;
     if copy.len() != 1 {
@@ -123,7 +124,7 @@ fn header_of_one(alloc: Global, list: &PathList) -> Result<String, Fail> {
     digits_of(alloc, &path.try_clone(alloc)?)
 }
 
-/// The header of the only path over these segments under no policy.
+/// The header of the only path over these segments, without a policy.
 fn only_header(
     alloc: Global,
     segments: &[Segment],
@@ -138,7 +139,8 @@ fn only_header(
     header_of_one(alloc, &list)
 }
 
-/// Asserts the header of the only path over these segments at a second, by its fields' digits.
+/// Asserts the header of the only path over these segments at a second, by the digits of its
+/// fields.
 fn expect_header(
     rt: &impl Abort,
     alloc: Global,
@@ -161,7 +163,7 @@ fn two_ases(alloc: Global, timestamp: u32, beta0: u16) -> Result<Segment, Fail> 
     segment(alloc, SegKind::Intra, timestamp, beta0, &rows)
 }
 
-/// Two segments of the worked walk, each made at a second with a first accumulator.
+/// Two segments of the worked walk, made at these seconds with these first accumulators.
 fn twice(alloc: Global, first: (u32, u16), second: (u32, u16)) -> Result<Vec<Segment>, Fail> {
     Ok(vec![in alloc;
         two_ases(alloc, first.0, first.1)?,
@@ -169,8 +171,8 @@ fn twice(alloc: Global, first: (u32, u16), second: (u32, u16)) -> Result<Vec<Seg
     ]?)
 }
 
-/// Of two segments of one walk the later one stands for it, and of two that expire at one moment
-/// the one with the lesser bytes, in either order of registration.
+/// Of two segments of one walk, the later one gives the path; if both expire at the same time, the
+/// one with smaller header bytes, in either order of registration.
 #[test]
 fn one_header_for_a_walk(rt: HostRuntime) -> Result<(), Fail> {
     let rows = [
@@ -266,14 +268,14 @@ fn two_isds(alloc: Global) -> Result<Vec<Segment>, Fail> {
     ]?)
 }
 
-/// The answer over these segments, under no policy, between ASes that are given by their texts.
+/// The answer over these segments without a policy, between ASes given as texts.
 fn ask_plainly(alloc: Global, segments: &[Segment], src: &str, dst: &str) -> Result<String, Fail> {
     let (src, dst) = (IsdAs::parse(src)?, IsdAs::parse(dst)?);
     let set = set_of(alloc, segments, src, dst, 1000)?;
     ask(alloc, &set, src, dst, &[], "")
 }
 
-/// Asserts that answer, by its parts.
+/// Asserts that answer, given in parts.
 fn expect_told(
     rt: &impl Abort,
     alloc: Global,
@@ -287,7 +289,8 @@ fn expect_told(
     Ok(())
 }
 
-/// Paths of one core segment either way, beside an up and a down segment, and between both.
+/// Paths over one core segment in either direction, next to an up or a down segment, and between
+/// both.
 #[test]
 fn two_core_ases(rt: HostRuntime) -> Result<(), Fail> {
     let alloc = rt.alloc();
@@ -351,8 +354,8 @@ fn to_two_children(alloc: Global) -> Result<Vec<Segment>, Fail> {
     ]?)
 }
 
-/// Two children of one AS: the path between them turns there, and not in the core AS, where its
-/// walk would name that AS twice.
+/// Two children of one AS: the path between them turns there. It does not turn in the core AS,
+/// where its walk would pass the common AS twice.
 #[test]
 fn two_children(rt: HostRuntime) -> Result<(), Fail> {
     let alloc = rt.alloc();
@@ -372,8 +375,8 @@ fn two_children(rt: HostRuntime) -> Result<(), Fail> {
     expect_header(&rt, alloc, &segments, ends, 1000, &fields)
 }
 
-/// Of the three ASes in a row a segment over each of two links between the first two, whose first
-/// accumulators are these or those.
+/// Two segments of the three ASes in a row, over two links between the first two. If `turned`, both
+/// first accumulators are 4660, else they are 1 and 2.
 fn two_links(alloc: Global, turned: bool) -> Result<Vec<Segment>, Fail> {
     let (core, middle, leaf) = (at(1, 0x110), at(1, 0x111), at(1, 0x112));
     let (beta0, other) = if turned { (4660, 4660) } else { (1, 2) };
@@ -398,8 +401,8 @@ fn two_links(alloc: Global, turned: bool) -> Result<Vec<Segment>, Fail> {
     ]?)
 }
 
-/// Paths over two links stand in the order of their headers' bytes, whatever their walks and in
-/// whichever order their segments came.
+/// Paths over two links come in the order of their headers' bytes, whatever their walks and the
+/// order of their segments.
 #[test]
 fn order_of_two_links(rt: HostRuntime) -> Result<(), Fail> {
     let alloc = rt.alloc();
@@ -416,7 +419,7 @@ fn order_of_two_links(rt: HostRuntime) -> Result<(), Fail> {
     Ok(())
 }
 
-/// The answer of one path over two links, as lines of text print it.
+/// The answer of one path over two links, in the form of reply lines.
 fn first_told(alloc: Global, turned: bool) -> Result<String, Fail> {
     let (src, dst) = (at(1, 0x112), at(1, 0x110));
     let segments = two_links(alloc, turned)?;
@@ -427,7 +430,7 @@ fn first_told(alloc: Global, turned: bool) -> Result<String, Fail> {
     told_of(alloc, &list)
 }
 
-/// A limit of 1 leaves the path that stands first.
+/// With a limit of 1, the path that comes first is left.
 #[test]
 fn first_of_two_links(rt: HostRuntime) -> Result<(), Fail> {
     assert_eq!(rt; first_told(rt.alloc(), false)?.as_str(), way_up());
@@ -455,8 +458,8 @@ pub(crate) fn combine_in_a_row(alloc: Global, texts: &[OptionText<'_>]) -> Resul
     combine_in_arena(alloc, &set, src, dst, texts)
 }
 
-/// A heavier option that denies an AS of every path gives way to a lighter one; and an answer stays
-/// when the arena of the options is gone.
+/// An option of larger weight that denies an AS of every path gives way to one of smaller weight.
+/// The answer stays when the arena of the options is gone.
 #[test]
 fn lighter_option(rt: HostRuntime) -> Result<(), Fail> {
     let acl = without_the_middle(rt.alloc())?;
@@ -478,8 +481,8 @@ pub(crate) fn option_of<'a>(acl: Option<&'a AclText>, weight: u32) -> OptionText
     }
 }
 
-/// The answer under options that are read in an arena and dropped with it; the same as that which
-/// lends its segments.
+/// The answer under options that are read into an arena and dropped with it; it equals the one that
+/// borrows its segments.
 fn combine_in_arena(
     alloc: Global,
     set: &SegmentSet,

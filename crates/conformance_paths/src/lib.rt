@@ -1,7 +1,8 @@
-//! Tests of policies, of paths, and of what is answered to requests for paths.
+//! Tests of policies, of paths, and of answers to requests for paths.
 //!
-//! Outside vectors, worked rows and sentences: what no clause says. Tests stand in crates of their
-//! own, over public calls alone, since a crate with tests is proved twice.
+//! They are test vectors from outside, worked examples and sentences, of which no clause speaks.
+//! Tests have crates of their own and use public calls only, since a crate with tests is proved
+//! twice.
 #![tactic(auto)]
 
 #[cfg(test)]

@@ -8,7 +8,7 @@ use std::process::Abort;
 use std::slice;
 use std::test::Fail;
 
-/// The texts of options of these sequences, each as heavy as its place says.
+/// The texts of options with these sequences; the weight of each is its place.
 fn texts_of<'a>(alloc: Global, sequences: &[&'a str]) -> Result<Vec<OptionText<'a>>, AllocError> {
     let mut texts = Vec::new(alloc);
     let mut weight = 0;
@@ -25,7 +25,7 @@ fn texts_of<'a>(alloc: Global, sequences: &[&'a str]) -> Result<Vec<OptionText<'
     Ok(texts)
 }
 
-/// What a refusal of options is reported by, 1 if memory runs out, and their number where there is
+/// The code of a refusal of options, 1 if memory ran out, and the number of options if there is
 /// none.
 fn told_of<A: Allocator + Clone>(
     answer: Result<Vec<PolicyOption<A>, A>, OptionError>,
@@ -37,7 +37,7 @@ fn told_of<A: Allocator + Clone>(
     }
 }
 
-/// Options are counted before any is read, and the first that can't be read is the refusal, under
+/// Options are counted before any is read, and the first that can't be read gives the refusal, in
 /// either allocator.
 #[test]
 fn options_are_counted_and_read(rt: HostRuntime) -> Result<(), Fail> {
@@ -81,7 +81,7 @@ fn refusals_of_options(rt: HostRuntime) -> Result<(), Fail> {
     Ok(())
 }
 
-/// Of two options of one weight that both leave a path, the first in the list is used.
+/// Of two options of equal weight that both leave a path, the first in the list is used.
 #[test]
 fn first_of_equal_options(rt: HostRuntime) -> Result<(), Fail> {
     let mut acl = AclText::new(rt.alloc());

@@ -44,7 +44,7 @@ fn worked_header(seg_id: [u8; 2]) -> Result<Header, Fail> {
     Ok(header)
 }
 
-/// What a path is refused by, and 0 where it is accepted.
+/// The code of the refusal of a path, or 0 if it is accepted.
 fn code_of(
     pieces: &Pieces<'_>,
     header: &Header,
@@ -59,8 +59,8 @@ fn code_of(
     }
 }
 
-/// What the worked path is, where it is accepted: how many pieces it has, whether it has its header
-/// and its walk, and when it expires.
+/// The worked path, if it is accepted: the number of its pieces, whether it has its header and its
+/// walk, and when it expires.
 fn accepted(
     alloc: Global,
     pieces: &Pieces<'_>,
@@ -90,8 +90,9 @@ fn one_piece(rt: HostRuntime) -> Result<(), Fail> {
     Ok(())
 }
 
-/// What the worked path is refused by with one change, and under a copy of its policy: with so many
-/// pieces up to this place, to this AS, at this second, with this accumulator, under this policy.
+/// The code of the refusal of the worked path after one change, also under a copy of its policy.
+/// The changes are the number of pieces, their last place, the destination, the second, the
+/// accumulator and the policy.
 fn changed(
     alloc: Global,
     count: usize,
@@ -115,8 +116,8 @@ fn changed(
     ])
 }
 
-/// The worked path with one change is refused by each fault that can come of it, and so under a
-/// copy of its policy.
+/// One change of the worked path gives each fault that it can have, also under a copy of its
+/// policy.
 #[test]
 fn one_change(rt: HostRuntime) -> Result<(), Fail> {
     let alloc = rt.alloc();
@@ -154,7 +155,7 @@ fn denied(alloc: Global, acl: &[&str]) -> Result<Option<Denied>, Fail> {
     }
 }
 
-/// The first hop that is denied is reported, with the entry that decides it.
+/// The first denied hop is reported, with the entry that denies it.
 #[test]
 fn denied_hop(rt: HostRuntime) -> Result<(), Fail> {
     let denied = denied(rt.alloc(), &["- 1-ff00:0:110", "+"])?;
@@ -167,7 +168,7 @@ fn is_kind(pieces: &Pieces<'_>, place: usize, kind: PieceKind) -> bool {
     pieces.get(place).is_some_and(|piece| piece.kind() == kind)
 }
 
-/// A fourth piece is not taken.
+/// A fourth piece is refused.
 #[test]
 fn three_pieces(rt: HostRuntime) -> Result<(), Fail> {
     let segment = worked_segment(rt.alloc())?;
@@ -195,10 +196,10 @@ fn segment_of(alloc: Global, kind: SegKind, ases: &[(IsdAs, u16, u16)]) -> Resul
     Ok(Segment::new(kind, 1000, 7, entries)?)
 }
 
-/// A part of a path: a segment from a place to its end, along it or against it.
+/// A part of a path: a segment from a place to its end, in construction direction or against it.
 type Part<'s> = (&'s Segment, usize, bool);
 
-/// The segments of a path up, over a core link and down.
+/// The segments of a path up, over a core link, and down.
 #[derive(Drop)]
 struct Way {
     up: Segment,
@@ -207,7 +208,7 @@ struct Way {
 }
 
 impl Way {
-    /// The segments from 1-ff00:0:112 by the core ASes of both ISDs to 2-ff00:0:212.
+    /// The segments from 1-ff00:0:112 over the core ASes of both ISDs to 2-ff00:0:212.
     fn new(alloc: Global) -> Result<Way, Fail> {
         let (near, far) = (ia(1, 0x110), ia(2, 0x210));
         let up = [(near, 0, 1), (ia(1, 0x111), 1, 2), (ia(1, 0x112), 1, 0)];
@@ -219,8 +220,8 @@ impl Way {
         })
     }
 
-    /// The parts of the path, of which the first ends at this place of its segment, and the second
-    /// goes this way.
+    /// The parts of the path; the first ends at this place of its segment, and the second goes in
+    /// this direction.
     fn parts(&self, place: usize, along: bool) -> [Part<'_>; 3] {
         [
             (&self.up, place, false),
@@ -230,8 +231,8 @@ impl Way {
     }
 }
 
-/// Asserts what a path of these parts is refused by at the second 1000, with this header between
-/// these ASes; 0 where it is accepted.
+/// Asserts the code of the refusal of a path with these parts and this header between these ASes at
+/// second 1000, or 0 if it is accepted.
 fn expect_code(
     rt: &impl Abort,
     alloc: Global,
@@ -274,7 +275,7 @@ fn has_walk(
     Ok(path.walk() == walk)
 }
 
-/// A path up, over a core link and down, and what is left of it with one change each.
+/// A path up, over a core link and down, and the same with one change at a time.
 #[test]
 fn up_core_down(rt: HostRuntime) -> Result<(), Fail> {
     let alloc = rt.alloc();
@@ -309,7 +310,7 @@ fn two_children(alloc: Global) -> Result<(Segment, Segment), Fail> {
     Ok((up, segment_of(alloc, SegKind::Intra, &down)?))
 }
 
-/// A shortcut at a common AS, which a path by the core would name twice.
+/// A shortcut at a common AS, which a path over the core AS would pass twice.
 #[test]
 fn shortcut(rt: HostRuntime) -> Result<(), Fail> {
     let alloc = rt.alloc();
@@ -329,7 +330,7 @@ fn shortcut(rt: HostRuntime) -> Result<(), Fail> {
     expect_code(&rt, alloc, &half, &header, ends, 73)
 }
 
-/// A segment of so many ASes below 1-ff00:0:1, the first of them with this number.
+/// A segment of this many ASes below 1-ff00:0:1, whose first has this number.
 fn long(alloc: Global, first: u16, count: u16) -> Result<Segment, Fail> {
     let mut ases = vec![in alloc; (ia(1, 1), 0, 2)]?;
     for place in 1..count {
@@ -339,8 +340,8 @@ fn long(alloc: Global, first: u16, count: u16) -> Result<Segment, Fail> {
     segment_of(alloc, SegKind::Intra, &ases)
 }
 
-/// Asserts what a path is refused by of one segment of 32 ASes up and one of so many down, the last
-/// of them with this number, with the header of 32 and 32 hop fields.
+/// Asserts the code of the refusal of a path with 32 ASes up and this many down, whose last AS has
+/// this number, with the header of 32 and 32 hop fields.
 fn expect_most(
     rt: &impl Abort,
     alloc: Global,
@@ -369,7 +370,7 @@ fn most_hop_fields(rt: HostRuntime) -> Result<(), Fail> {
     expect_most(&rt, rt.alloc(), 33, 0x220, 77)
 }
 
-/// Asserts by which number, name and sentence a refusal is reported.
+/// Asserts the number, the name and the sentence of a refusal.
 fn expect_report(
     rt: &impl Abort,
     alloc: Global,

@@ -31,7 +31,7 @@ fn in_isds(alloc: Global, isds: &[u16]) -> Result<Vec<WalkHop>, AllocError> {
     Ok(walk)
 }
 
-/// What a refusal is reported by, 0 where there is none, 1 if memory runs out.
+/// The code of a refusal, 0 if there is none, and 1 if memory ran out.
 fn code_of<T: Drop>(answer: Result<T, PolicyError>) -> u16 {
     match answer {
         Ok(_) => 0,
@@ -40,7 +40,7 @@ fn code_of<T: Drop>(answer: Result<T, PolicyError>) -> u16 {
     }
 }
 
-/// Whether a sequence prints so, has the one walk and not the other.
+/// Whether a sequence prints in this way, has the first walk as a word, and not the second.
 fn does<A: Allocator + Clone>(
     alloc: Global,
     sequence: &Seq<A>,
@@ -52,7 +52,7 @@ fn does<A: Allocator + Clone>(
     Ok(text.as_str() == printed && sequence.matches(word) && !sequence.matches(other))
 }
 
-/// Whether the same holds of its clone under another allocator.
+/// The same for its clone in another allocator.
 fn does_its_clone<A: Allocator + Clone, B: Allocator + Clone>(
     alloc: Global,
     sequence: &Seq<A>,
@@ -65,7 +65,7 @@ fn does_its_clone<A: Allocator + Clone, B: Allocator + Clone>(
     does(alloc, &clone, printed, word, other)
 }
 
-/// Whether the same holds of its clone in an arena, and of that clone's clone.
+/// The same for its clone in an arena, and for that clone's clone.
 fn do_clones(
     alloc: Global,
     sequence: &Seq<Global>,
@@ -79,7 +79,7 @@ fn do_clones(
     Ok(is_placed && does_its_clone(alloc, &placed, alloc, printed, word, other)?)
 }
 
-/// Whether the same holds of a text, of its clone in an arena, and of that clone's clone.
+/// The same for a text, for its clone in an arena, and for that clone's clone.
 fn does_here(
     alloc: Global,
     text: &str,
@@ -92,7 +92,7 @@ fn does_here(
     Ok(is_read && do_clones(alloc, &sequence, printed, word, other)?)
 }
 
-/// Whether the same holds of a text that is read in an arena.
+/// The same for a text that is read into an arena.
 fn does_there(
     alloc: Global,
     text: &str,
@@ -105,8 +105,8 @@ fn does_there(
     Ok(does(alloc, &sequence, printed, word, other)?)
 }
 
-/// Asserts the same of a sequence's text, of its clone in an arena, of that clone's clone, and of
-/// the text read in the arena.
+/// Asserts the same for a sequence's text, its clone in an arena, that clone's clone, and the text
+/// read into the arena.
 fn expect_sequence(
     rt: &impl Abort,
     alloc: Global,
@@ -120,12 +120,12 @@ fn expect_sequence(
     Ok(())
 }
 
-/// A hop in which walks may end.
+/// A hop at which walks may end.
 fn last_hop() -> WalkHop {
     hop(0xff00_0000_0111, 2, 0)
 }
 
-/// Any hops and then one AS.
+/// Any hops, and then one AS.
 #[test]
 fn ends_in_one_as(rt: HostRuntime) -> Result<(), Fail> {
     let text = "(0 *)  1-FF00:0:111#0";
@@ -152,7 +152,7 @@ fn binds_either_tighter(rt: HostRuntime) -> Result<(), Fail> {
     expect_sequence(&rt, rt.alloc(), "0", "0", &one, &two)
 }
 
-/// Each sign, and a repetition that has to leave a hop to what follows it.
+/// Each sign, and a repetition that has to leave a hop to the part after it.
 #[test]
 fn repeats_and_goes_back(rt: HostRuntime) -> Result<(), Fail> {
     let none: [WalkHop; 0] = [];
@@ -166,8 +166,8 @@ fn repeats_and_goes_back(rt: HostRuntime) -> Result<(), Fail> {
     expect_sequence(&rt, rt.alloc(), "1|(2|3)", "1|(2|3)", &one, &none)
 }
 
-/// Asserts that a repetition of an item that may be left out, and one more behind it, have the one
-/// word of ISDs and not the other.
+/// Asserts that two repetitions, one after the other, of an item that may be absent have the first
+/// word of ISDs and not the second.
 fn expect_word(rt: &impl Abort, alloc: Global, word: &[u16], other: &[u16]) -> Result<(), Fail> {
     let text = "(1? 2)+ 1*";
     let word = in_isds(alloc, word)?;
@@ -175,7 +175,7 @@ fn expect_word(rt: &impl Abort, alloc: Global, word: &[u16], other: &[u16]) -> R
     expect_sequence(rt, alloc, text, text, &word, &other)
 }
 
-/// A repetition of an item that may be left out, and one more behind it: words by their ISDs.
+/// Two repetitions, one after the other, of an item that may be absent: words by their ISDs.
 #[test]
 fn has_words(rt: HostRuntime) -> Result<(), Fail> {
     let alloc = rt.alloc();
@@ -185,7 +185,7 @@ fn has_words(rt: HostRuntime) -> Result<(), Fail> {
     expect_word(&rt, alloc, &[2, 2, 1, 1], &[2, 1, 1, 2])
 }
 
-/// A word of the 32 levels: 32 hops of one AS, and then one of each level's.
+/// A word of the 32 levels: 32 hops of one AS, and then one hop of each level's AS.
 fn levels_word() -> [WalkHop; 64] {
     let mut word = [hop(100, 0, 0); 64];
     let mut as_number = 100;
@@ -196,7 +196,7 @@ fn levels_word() -> [WalkHop; 64] {
     word
 }
 
-/// Repetitions inside one another: 64 hops are answered at once.
+/// Nested repetitions: 64 hops are answered at once.
 #[test]
 fn repeats_repetitions(rt: HostRuntime) -> Result<(), Fail> {
     let alloc = rt.alloc();
@@ -219,12 +219,12 @@ fn repeats_repetitions(rt: HostRuntime) -> Result<(), Fail> {
     )
 }
 
-/// Asserts what a text that is no sequence is refused by.
+/// Asserts the code of the refusal of a text that is no sequence.
 fn expect_refusal(rt: &impl Abort, alloc: Global, text: &str, code: u16) {
     assert_eq!(rt; code_of(Seq::parse(alloc, text)), code, "{text}");
 }
 
-/// The number of nodes and of open parentheses, each at its limit, and each refusal of a sequence.
+/// The numbers of nodes and of open parentheses at their limits, and each refusal of a sequence.
 #[test]
 fn refuses_sequences(rt: HostRuntime) -> Result<(), Fail> {
     let alloc = rt.alloc();
@@ -253,7 +253,8 @@ fn acl_text(alloc: Global, texts: &[&str]) -> Result<AclText, AllocError> {
     Ok(list)
 }
 
-/// Whether a list denies the second hop of the one walk by its first entry, and allows the other.
+/// Whether a list denies the second hop of the first walk by its first entry, and allows the second
+/// walk.
 fn decides<A: Allocator + Clone>(acl: &Acl<A>) -> bool {
     let denied = [hop(0xff00_0000_0133, 1, 2), hop(0xff00_0000_0133, 2, 1)];
     let allowed = [hop(0xff00_0000_0133, 1, 2), hop(0xff00_0000_0134, 2, 1)];
@@ -263,7 +264,7 @@ fn decides<A: Allocator + Clone>(acl: &Acl<A>) -> bool {
         && entries == 2
 }
 
-/// Whether its clone under another allocator does.
+/// The same for its clone in another allocator.
 fn its_clone_decides<A: Allocator + Clone, B: Allocator + Clone>(
     acl: &Acl<A>,
     place: B,
@@ -272,27 +273,28 @@ fn its_clone_decides<A: Allocator + Clone, B: Allocator + Clone>(
     Ok(decides(&clone))
 }
 
-/// Whether its clone in an arena does, and that clone's clone.
+/// The same for its clone in an arena, and for that clone's clone.
 fn clones_decide(alloc: Global, acl: &Acl<Global>) -> Result<bool, AllocError> {
     let bump = Bump::new(alloc);
     let placed = acl.clone_in(&bump)?;
     Ok(decides(&placed) && its_clone_decides(&placed, alloc)?)
 }
 
-/// Whether the list of a text does, and its clones.
+/// The same for the list of a text, and for its clones.
 fn decides_here(alloc: Global, text: &AclText) -> Result<bool, PolicyError> {
     let acl = Acl::parse(alloc, text)?;
     Ok(decides(&acl) && clones_decide(alloc, &acl)?)
 }
 
-/// Whether a text does that is read in an arena.
+/// The same for a text that is read into an arena.
 fn decides_there(alloc: Global, text: &AclText) -> Result<bool, PolicyError> {
     let bump = Bump::new(alloc);
     let acl = Acl::parse(&bump, text)?;
     Ok(decides(&acl))
 }
 
-/// One interface wanted, on a list, on its clone in an arena, and on that clone's clone.
+/// A list that decides about one interface; the same for its clone in an arena, and for that
+/// clone's clone.
 #[test]
 fn decides_by_first_entry(rt: HostRuntime) -> Result<(), Fail> {
     let text = acl_text(rt.alloc(), &["- 1-ff00:0:133#2,0", " + "])?;
@@ -302,13 +304,13 @@ fn decides_by_first_entry(rt: HostRuntime) -> Result<(), Fail> {
     Ok(())
 }
 
-/// What the list of these texts is refused by, and 0 where there is none.
+/// The code of the refusal of these texts as a list, or 0 if there is none.
 fn code_of_list(alloc: Global, texts: &[&str]) -> Result<u16, AllocError> {
     let list = acl_text(alloc, texts)?;
     Ok(code_of(Acl::parse(alloc, &list)))
 }
 
-/// What a list of 255 entries and so many defaults is refused by.
+/// The code of the refusal of a list of 255 entries and this many defaults.
 fn code_of_long_list(alloc: Global, defaults: usize) -> Result<u16, AllocError> {
     let mut list = AclText::new(alloc);
     for _ in 0..255 {
@@ -337,8 +339,8 @@ fn refuses_lists(rt: HostRuntime) -> Result<(), Fail> {
     Ok(())
 }
 
-/// Whether a policy denies the one walk at its first hop, has the second as a word, and allows the
-/// third, which is no word.
+/// Whether a policy denies the first walk at its first hop, has the second as a word, and allows
+/// the third, which is no word.
 fn judges<A: Allocator + Clone>(policy: &Policy<A>) -> bool {
     let other = [hop(1, 0, 0), hop(3, 0, 0)];
     policy.verdict(&[hop(2, 0, 0)]) == Err(Denied { hop: 0, entry: 0 })
@@ -347,7 +349,7 @@ fn judges<A: Allocator + Clone>(policy: &Policy<A>) -> bool {
         && !policy.matches(&other)
 }
 
-/// Whether its clone under another allocator does.
+/// The same for its clone in another allocator.
 fn its_clone_judges<A: Allocator + Clone, B: Allocator + Clone>(
     policy: &Policy<A>,
     place: B,
@@ -356,27 +358,27 @@ fn its_clone_judges<A: Allocator + Clone, B: Allocator + Clone>(
     Ok(judges(&clone))
 }
 
-/// Whether its clone in an arena does, and that clone's clone.
+/// The same for its clone in an arena, and for that clone's clone.
 fn clones_judge(alloc: Global, policy: &Policy<Global>) -> Result<bool, AllocError> {
     let bump = Bump::new(alloc);
     let placed = policy.clone_in(&bump)?;
     Ok(judges(&placed) && its_clone_judges(&placed, alloc)?)
 }
 
-/// Whether the policy of a text does, and its clones.
+/// The same for the policy of a text, and for its clones.
 fn judges_here(alloc: Global, text: &PolicyText<'_>) -> Result<bool, PolicyError> {
     let policy = Policy::parse(alloc, text)?;
     Ok(judges(&policy) && clones_judge(alloc, &policy)?)
 }
 
-/// Whether a text does that is read in an arena.
+/// The same for a text that is read into an arena.
 fn judges_there(alloc: Global, text: &PolicyText<'_>) -> Result<bool, PolicyError> {
     let bump = Bump::new(alloc);
     let policy = Policy::parse(&bump, text)?;
     Ok(judges(&policy))
 }
 
-/// Whether a policy of blanks allows a walk, which is a word of it.
+/// Whether a policy of blanks allows a walk and has it as a word.
 fn blanks_are_open(alloc: Global) -> Result<bool, PolicyError> {
     let blank = PolicyText {
         acl: None,
@@ -387,7 +389,7 @@ fn blanks_are_open(alloc: Global) -> Result<bool, PolicyError> {
     Ok(open.verdict(&walk) == Ok(()) && open.matches(&walk))
 }
 
-/// What a policy of this list and this sequence is refused by, and 0 where there is none.
+/// The code of the refusal of a policy of this list and this sequence, or 0 if there is none.
 fn code_of_both(alloc: Global, list: &[&str], sequence: &str) -> Result<u16, AllocError> {
     let list = acl_text(alloc, list)?;
     let text = PolicyText {
@@ -412,7 +414,7 @@ fn policies(rt: HostRuntime) -> Result<(), Fail> {
     Ok(())
 }
 
-/// Whether the predicate says this of interfaces.
+/// Whether the predicate has these interfaces.
 fn says(pred: &HopPred, interfaces: Interfaces) -> bool {
     pred.interfaces == interfaces
 }
@@ -437,7 +439,7 @@ fn predicates(rt: HostRuntime) -> Result<(), Fail> {
     Ok(())
 }
 
-/// Asserts by which number, name and sentence a refusal is reported.
+/// Asserts the number, the name and the sentence of a refusal.
 fn expect_report(
     rt: &impl Abort,
     alloc: Global,
@@ -453,7 +455,7 @@ fn expect_report(
     Ok(())
 }
 
-/// What refusals of sequences are reported by.
+/// The reports of the refusals of sequences.
 #[test]
 fn reports_sequences(rt: HostRuntime) -> Result<(), Fail> {
     let alloc = rt.alloc();
@@ -471,7 +473,7 @@ fn reports_sequences(rt: HostRuntime) -> Result<(), Fail> {
     expect_report(&rt, alloc, PolicyFault::TooLarge, 64, "TooLarge", text)
 }
 
-/// What refusals of lists, and running out of memory, are reported by.
+/// The reports of the refusals of lists, and of running out of memory.
 #[test]
 fn reports_lists(rt: HostRuntime) -> Result<(), Fail> {
     let alloc = rt.alloc();

@@ -11,8 +11,8 @@ fn times(alloc: Global, text: &str, count: usize) -> Result<String, AllocError> 
     Ok(all)
 }
 
-/// `0* 1-100`, repeated and followed by `1-101`, the whole of it repeated and followed by `1-102`,
-/// and so on.
+/// `0* 1-100`, repeated and followed by `1-101`, all of that repeated and followed by `1-102`, and
+/// so on.
 pub(crate) fn levels_text(alloc: Global, levels: u64) -> Result<String, AllocError> {
     let mut text = "0* 1-100".to_string(alloc)?;
     for level in 0..levels {
@@ -35,7 +35,7 @@ pub(crate) fn stars(alloc: Global) -> Result<String, AllocError> {
     format!(in alloc; "{open}1-100{closed}")
 }
 
-/// What that is printed as.
+/// The printed text of `stars`.
 pub(crate) fn printed_stars(alloc: Global) -> Result<String, AllocError> {
     let signs = times(alloc, "*", 32)?;
     format!(in alloc; "1-100{signs}")

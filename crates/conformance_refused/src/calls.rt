@@ -1,4 +1,4 @@
-//! Calls that take an allocator, and whether what they give is right.
+//! Calls that take an allocator, and checks of their results.
 
 use isd_as::{IfId, IsdAs};
 use policy_expr::{
@@ -7,7 +7,7 @@ use policy_expr::{
 };
 use std::alloc::{AllocError, Allocator, Global};
 
-/// What a call gave.
+/// The result of a call.
 #[derive(Clone, Copy, Debug, PartialEq, Eq)]
 pub(crate) enum Gift {
     /// The one right value.
@@ -18,7 +18,7 @@ pub(crate) enum Gift {
     Wrong,
 }
 
-/// The text of a sequence, what that prints, a walk that is a word of it, and one that is none.
+/// The text of a sequence, its printed text, a walk that is a word of it, and a walk that is none.
 #[derive(Clone, Copy)]
 pub(crate) struct SequenceRow<'a> {
     pub(crate) text: &'a str,
@@ -27,9 +27,9 @@ pub(crate) struct SequenceRow<'a> {
     pub(crate) other: &'a [WalkHop],
 }
 
-/// A call that takes an allocator. Lists have two entries, the first of which denies the way in by
-/// interface 2 alone; policies have such a list and a sequence of two hops; there are two options
-/// of such policies, of the weights 1 and 5.
+/// A call that takes an allocator. Lists have two entries; the first denies only the way in by
+/// interface 2. Policies have such a list and a sequence of two hops. There are two options of such
+/// policies, with the weights 1 and 5.
 #[derive(Clone, Copy)]
 pub(crate) enum Call<'a> {
     ReadSequence(SequenceRow<'a>),
@@ -51,12 +51,12 @@ pub(crate) fn hop(ingress: u16, egress: u16) -> WalkHop {
     }
 }
 
-/// Right where it holds, and else wrong.
+/// `Right` if this holds, and else `Wrong`.
 fn judged(is_right: bool) -> Gift {
     if is_right { Gift::Right } else { Gift::Wrong }
 }
 
-/// Whether no value is running out of memory.
+/// The result of a call without a policy: `Memory` if memory ran out, else `Wrong`.
 fn without_policy(error: PolicyError) -> Gift {
     match error {
         PolicyError::Memory => Gift::Memory,
@@ -64,7 +64,7 @@ fn without_policy(error: PolicyError) -> Gift {
     }
 }
 
-/// The same of options.
+/// The result of a call without options: `Memory` if memory ran out, else `Wrong`.
 fn without_options(error: OptionError) -> Gift {
     match error {
         OptionError::Memory => Gift::Memory,
@@ -72,7 +72,7 @@ fn without_options(error: OptionError) -> Gift {
     }
 }
 
-/// Whether a sequence prints as its row says, and has the one walk and not the other.
+/// Whether a sequence prints as its row says, has the first walk as a word, and not the second.
 fn of_sequence<A: Allocator + Clone>(
     alloc: Global,
     sequence: &Seq<A>,
@@ -187,7 +187,7 @@ fn clone_option<A: Allocator + Clone>(place: A, option: &PolicyOption<Global>) -
 }
 
 impl Call<'_> {
-    /// Makes the call at a place. What it gives is looked at with ample memory, and let go.
+    /// Makes the call in an allocator. Its result is checked with enough memory, and dropped.
     pub(crate) fn at<A: Allocator + Clone>(
         &self,
         alloc: Global,

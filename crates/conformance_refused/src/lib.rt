@@ -1,9 +1,9 @@
-//! Tests in which each allocation is refused in turn: of sequences, access control lists, policies
+//! Tests in which each allocation is refused in turn, for sequences, access control lists, policies
 //! and their options, which take any allocator.
 //!
-//! A call is answered with running out of memory exactly where one of its allocations was refused,
-//! else with its one right value; it has that value when it is made again with ample memory; and it
-//! keeps no block of what it gave up.
+//! A call runs out of memory if and only if one of its allocations was refused; else it returns its
+//! one right value. Made again with enough memory, it returns that value. It keeps no block after
+//! its value was dropped.
 #![tactic(auto)]
 
 #[cfg(test)]

@@ -1,4 +1,4 @@
-//! Calls at allocators that refuse.
+//! Calls in allocators that refuse.
 
 use crate::calls::{Call, Gift};
 use bumpalo::Bump;
@@ -7,14 +7,14 @@ use std::alloc::{AllocError, Allocator, Global};
 use std::process::Abort;
 use std::test::Fail;
 
-/// More allocations, and chunks of an arena, than a call of these tests wants.
+/// More than the number of allocations, or of an arena's chunks, in a call of these tests.
 const MANY: u64 = 2_000;
 
-/// More bytes than a call of these tests wants.
+/// More than the number of bytes in a call of these tests.
 const MANY_BYTES: usize = 32_000;
 
-/// What a call gave where some allocations were refused, how many it asked for, what it gave again
-/// where none was, and how many blocks both left.
+/// The result of a call while some allocations were refused, the number that it requested, its
+/// result when none was refused, and the number of blocks left after both.
 #[derive(Clone, Copy, Debug, PartialEq, Eq)]
 struct Trial {
     given: Gift,
@@ -44,9 +44,9 @@ fn tried<B: Allocator>(
 }
 
 /// Refuses each allocation of a call in turn, alone or with all after it, until none is refused,
-/// and tells how many there were.
+/// and returns their number.
 ///
-/// The call runs out of memory exactly where one was refused, gives its value again with ample
+/// The call runs out of memory if and only if one was refused, returns its value with enough
 /// memory, and leaves no block.
 fn expect_each<B: Allocator>(
     rt: &impl Abort,
@@ -79,8 +79,8 @@ fn expect_each<B: Allocator>(
     Ok(0)
 }
 
-/// The same on the heap and in an arena, each with the one allocation refused and with all from it
-/// on. The call asks for at least that many each time.
+/// `expect_each` on the heap and in an arena, each with one allocation refused and with all from it
+/// on. The call requests at least this many each time.
 fn expect_here_and_there(
     rt: &impl Abort,
     alloc: Global,
@@ -99,7 +99,7 @@ fn expect_here_and_there(
     Ok(())
 }
 
-/// What a call gives in a new arena over this allocator.
+/// The result of a call in a new arena over this allocator.
 fn given_over(
     alloc: Global,
     chunks: &Refusing<Global>,
@@ -109,8 +109,8 @@ fn given_over(
     call.at(alloc, &arena)
 }
 
-/// Arenas that are refused each chunk from one on, until none is refused: the call runs out of
-/// memory exactly where one was, and no chunk is left.
+/// Arenas for which each chunk from one on is refused, until none is: the call runs out of memory
+/// if and only if one was refused, and no chunk is left.
 fn expect_chunks(rt: &impl Abort, alloc: Global, call: &Call<'_>) -> Result<(), Fail> {
     let chunks = Refusing::new(alloc);
     for number in 1..MANY {
@@ -133,15 +133,15 @@ fn expect_chunks(rt: &impl Abort, alloc: Global, call: &Call<'_>) -> Result<(), 
     Ok(())
 }
 
-/// What a call gives in a new arena of at most `limit` bytes.
+/// The result of a call in a new arena of at most this many bytes.
 fn given_within(alloc: Global, bytes: usize, call: &Call<'_>) -> Result<Gift, AllocError> {
     let arena = Bump::new(alloc);
     arena.set_allocation_limit(Some(bytes));
     call.at(alloc, &arena)
 }
 
-/// Arenas of more and more bytes: the call runs out of memory in the small ones, and from one on
-/// gives its value in each.
+/// Arenas of growing size: the call runs out of memory in the small ones, and from one size on
+/// returns its value in each.
 fn expect_limits(rt: &impl Abort, alloc: Global, call: &Call<'_>) -> Result<(), Fail> {
     let mut last = Gift::Memory;
     for bytes in (0..MANY_BYTES).step_by(32) {
@@ -157,7 +157,7 @@ fn expect_limits(rt: &impl Abort, alloc: Global, call: &Call<'_>) -> Result<(), 
     Ok(())
 }
 
-/// All of that.
+/// All of these checks.
 pub(crate) fn expect_all(
     rt: &impl Abort,
     alloc: Global,

@@ -1,11 +1,11 @@
-//! Texts that are refused: running out of memory never stands for a refusal.
+//! Texts that are refused: running out of memory never hides a refusal.
 
 use policy_expr::{Acl, AclText, PolicyError, PolicyFault, Seq};
 use refusing::{Allocations, Refusing};
 use std::alloc::{AllocError, Global};
 use std::test::Fail;
 
-/// The refusal, where there is one.
+/// The refusal, if there is one.
 fn refusal<T: Drop>(answer: Result<T, PolicyError>) -> Option<PolicyFault> {
     match answer {
         Err(PolicyError::Refused(fault)) => Some(fault),
@@ -31,7 +31,7 @@ fn zeros(alloc: Global, count: usize) -> Result<String, AllocError> {
     Ok(text)
 }
 
-/// Each refusal of a sequence where all allocations are refused.
+/// Each refusal of a sequence when all allocations are refused.
 #[test]
 fn sequences_without_memory(rt: HostRuntime) -> Result<(), Fail> {
     let alloc = rt.alloc();
@@ -52,7 +52,7 @@ fn sequences_without_memory(rt: HostRuntime) -> Result<(), Fail> {
     Ok(())
 }
 
-/// Each refusal of a list where all allocations are refused.
+/// Each refusal of a list when all allocations are refused.
 #[test]
 fn lists_without_memory(rt: HostRuntime) -> Result<(), Fail> {
     let alloc = rt.alloc();

@@ -7,7 +7,7 @@ use policy_expr::{Acl, AclText, OptionText, Policy, PolicyOption, PolicyText, Se
 use std::alloc::{AllocError, Global};
 use std::test::Fail;
 
-/// A hop of this AS of ISD 1, in which no interface is told.
+/// A hop of this AS of ISD 1, without interfaces.
 fn within(as_number: u64) -> WalkHop {
     WalkHop {
         ia: IsdAs::from_number(0x0001_ff00_0000_0000 | as_number),
@@ -25,8 +25,8 @@ fn pairs(alloc: Global, count: usize) -> Result<String, AllocError> {
     Ok(text)
 }
 
-/// Any hops and then one AS; one of two hops by AS or ISD; one hop; and sixteen, each of an ISD or
-/// any, whose tree and table grow several times.
+/// Sequences: any hops and then one AS; two hops by AS or ISD; one hop; and sixteen hops, each of
+/// an ISD or any, whose tree and table grow several times.
 #[test]
 fn sequences(rt: HostRuntime) -> Result<(), Fail> {
     let alloc = rt.alloc();
@@ -59,7 +59,7 @@ fn sequences(rt: HostRuntime) -> Result<(), Fail> {
     Ok(())
 }
 
-/// The text of a list that denies the way in by interface 2 of one AS alone.
+/// The text of a list that denies only the way in by interface 2 of one AS.
 pub(crate) fn list_text(alloc: Global) -> Result<AclText, AllocError> {
     let mut text = AclText::new(alloc);
     text.push(alloc, "- 1-ff00:0:133#2,0")?;
@@ -67,7 +67,7 @@ pub(crate) fn list_text(alloc: Global) -> Result<AclText, AllocError> {
     Ok(text)
 }
 
-/// Its text and that of a sequence of two hops.
+/// The texts of that list and of a sequence of two hops.
 fn policy_text(list: &AclText) -> PolicyText<'_> {
     PolicyText {
         acl: Some(list),

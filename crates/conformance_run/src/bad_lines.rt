@@ -1,4 +1,4 @@
-//! Lines that ask for nothing, and first lines that are no topology.
+//! Bad lines, and first lines that are no topology.
 
 use crate::row::row_sent;
 use crate::table::{answers_of, expect_talk, lines_of, told};
@@ -78,7 +78,7 @@ fn a_line_keeps_its_carriage_return(rt: HostRuntime) -> Result<(), Fail> {
     )
 }
 
-/// Whether a run with this first line ends at it, after this answer.
+/// Whether a run with this first line ends after it, with this reply.
 fn ends_at(alloc: Global, line: &str, answer: &str) -> Result<bool, Fail> {
     let mut input = String::from_str(alloc, line)?;
     input.push_str("\n{\"do\":\"sweep\"}\n")?;
@@ -99,7 +99,7 @@ fn no_topologies(rt: HostRuntime) -> Result<(), Fail> {
     Ok(())
 }
 
-/// Whether a run over these bytes answers that they are no JSON, and ends.
+/// Whether a run over these bytes replies that they are no JSON, and ends.
 fn is_no_json(alloc: Global, input: &[u8]) -> bool {
     let (result, output) = told(alloc, input);
     result == Err(RunFault::Topology) && output.as_slice() == "topology no 10 NotJson\n".as_bytes()

@@ -1,5 +1,5 @@
-//! Packets on whose way something happens: each premise of the delivery theorem left out, and the
-//! same happening beside a packet that keeps them all.
+//! Packets whose way is disturbed: each premise of the delivery theorem is left out once, next to a
+//! packet that is not affected.
 
 use crate::row::{row_sent, row_turns};
 use crate::scripts::{fork, pair_sent, wide_fork};

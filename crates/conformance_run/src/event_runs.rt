@@ -12,8 +12,8 @@ use std::alloc::{AllocError, Global};
 use std::test::Fail;
 use worked::{at, hop, row};
 
-/// The events: a segment is made and registered, a path is asked for, a packet is sent by it and
-/// has its three turns, and a fourth that finds it delivered.
+/// The events: a segment is made and registered, a path is asked for, and a packet is sent by it.
+/// It has its three turns, and a fourth turn finds it delivered.
 fn events<'x>(options: &'x [OptionText<'x>]) -> [Event<'x>; 10] {
     [
         Event::Tick { now: 1000 },
@@ -63,8 +63,8 @@ fn topology(alloc: Global, shortage: &Shortage) -> Option<Topology> {
     }
 }
 
-/// The network after the events. Where memory runs out at one of them, that one and all behind it
-/// happen in the network that is returned.
+/// The network after the events. If memory runs out at one of them, that event and all later ones
+/// are done again in the network that was returned.
 fn network(alloc: Global, shortage: &Shortage) -> Option<Net> {
     let any = [OptionText {
         text: PolicyText {

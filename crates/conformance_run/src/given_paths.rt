@@ -1,5 +1,5 @@
-//! Packets that are sent by a way that is given: over a segment that the network issued, and over
-//! one that nobody issued.
+//! Packets that are sent by a given way: over a segment that the network issued, and over one that
+//! nobody issued.
 
 use crate::row::authenticators;
 use forwarding::TurnReply;
@@ -58,7 +58,7 @@ fn sending<'x>(
     Some(Event::SendGiven { way, payload })
 }
 
-/// Where a packet went, as a number.
+/// The code of a router's outcome.
 fn code_of_outcome(outcome: Outcome) -> u16 {
     match outcome {
         Outcome::ToLink(_) => 1,
@@ -67,8 +67,8 @@ fn code_of_outcome(outcome: Outcome) -> u16 {
     }
 }
 
-/// What an event is answered, as a number: 0 where it was done or sent a packet, 4 where the packet
-/// was nowhere, or the code of the refusal, of the event or by a router.
+/// The code of a reply: 0 if the event was done or sent a packet, 4 if the packet was at no router,
+/// or the code of the refusal, by the event or by a router.
 fn code_of(reply: Reply) -> u16 {
     match reply {
         Reply::Refused(fault) => fault.code(),
@@ -78,8 +78,8 @@ fn code_of(reply: Reply) -> u16 {
     }
 }
 
-/// The number of what an event is answered: 1 where the packet went over a link, 2 to a router of
-/// its AS, and 3 where it was delivered; else that of [`code_of`].
+/// Does an event and returns the code of its reply: 1 if the packet went over a link, 2 if it went
+/// to a router of its AS, 3 if it was delivered; else that of [`code_of`].
 pub(crate) fn step(alloc: Global, net: &mut Net, event: &Event<'_>) -> Result<u16, AllocError> {
     let reply = net.step(alloc, event)?;
     if let Reply::Turned(TurnReply::Went(outcome)) = reply {
@@ -95,8 +95,8 @@ fn set_first(header: &mut Header, seg_id: u16) {
     }
 }
 
-/// The answers to a packet that is sent over this segment, with this accumulator in place of its
-/// own where one is given, and to three turns of it.
+/// The codes of the replies to sending a packet over this segment and to its three turns; the
+/// header has this accumulator in place of its own, if one is given.
 fn answers(alloc: Global, segment: &Segment, other: Option<u16>) -> Result<[u16; 4], Fail> {
     let topology = Topology::from_json(alloc, row().as_bytes())?;
     let mut net = Net::new(alloc, topology);

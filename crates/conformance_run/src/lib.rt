@@ -1,8 +1,7 @@
-//! Tests of whole networks: of `run_lines` and `scionet work`, told as lines of text, and of the
-//! network core by its own calls, for what can't be told as a line.
+//! Tests of `run_lines`: whole networks, given as lines of text.
 //!
-//! Tests stand in crates of their own, over public calls alone, since a crate with tests is proved
-//! twice.
+//! Each test is a table of lines and their replies. Tests have crates of their own and use public
+//! calls only, since a crate with tests is proved twice.
 #![tactic(auto)]
 
 #[cfg(test)]

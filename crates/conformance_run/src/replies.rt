@@ -1,4 +1,4 @@
-//! Answers to packets that were delivered.
+//! Replies to delivered packets, sent by the way back.
 
 use crate::row::row_sent;
 use crate::table::expect_talk;

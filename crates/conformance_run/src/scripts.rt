@@ -4,8 +4,8 @@ use crate::row::{row_sent, row_turns};
 use crate::table::{Row, expect_talk};
 use std::test::Fail;
 
-/// Two core ASes, each with a child, and that with another, two routers each, up to a packet from
-/// one end to the other.
+/// Two core ASes, each with a child and a child's child, two routers each, up to a packet from one
+/// end to the other.
 pub(crate) fn pair_sent() -> [Row; 12] {
     [
         (worked::pair(), "topology ok"),
@@ -67,7 +67,7 @@ fn narrow_fork() -> &'static str {
     )
 }
 
-/// The same with two routers in the middle AS, of which the second has the way to the last.
+/// The same with two routers in the middle AS; the second one owns the way to the last AS.
 pub(crate) fn wide_fork() -> &'static str {
     concat!(
         r#"{"ases":[{"ia":"1-ff00:0:110","core":true,"exp":63,"key":"6b","routers":1},"#,
@@ -83,7 +83,7 @@ pub(crate) fn wide_fork() -> &'static str {
     )
 }
 
-/// A packet from one of the children to the other, over this topology, up to its sending.
+/// A packet from one of the children to the other over this topology, up to its sending.
 pub(crate) fn fork(topology: &'static str) -> [Row; 9] {
     [
         (topology, "topology ok"),

@@ -10,7 +10,7 @@ use std::io::{Read, Write};
 use std::test::Fail;
 use streams::{Reader, Writer};
 
-/// A reader that gives at most so many bytes a read, and whose reads fail after so many.
+/// A reader that gives at most this many bytes a read, and whose reads fail after this number.
 #[derive(Drop)]
 struct Slow<'a> {
     bytes: &'a [u8],
@@ -29,8 +29,8 @@ impl<'a> Read for Slow<'a> {
     }
 }
 
-/// A writer that takes at most so many bytes a write, and whose writes and flushes fail after so
-/// many of each.
+/// A writer that takes at most this many bytes a write, and whose writes and flushes fail after
+/// these numbers.
 #[derive(Drop)]
 struct Narrow {
     bytes: Vec<u8>,
@@ -40,7 +40,7 @@ struct Narrow {
 }
 
 impl Narrow {
-    /// A writer of nothing yet, with these limits.
+    /// A writer with these limits, to which nothing was written.
     fn new(alloc: Global, at_most: usize, writes: u32, flushes: u32) -> Self {
         Narrow {
             bytes: Vec::new(alloc),
@@ -70,7 +70,7 @@ impl Write for Narrow {
     }
 }
 
-/// A reader that gives one line a read, each only once the answers to all lines before it were
+/// A reader that gives one line a read, and only after the replies to all lines before it were
 /// flushed; else its read fails.
 #[derive(Drop)]
 struct Patient<'a> {
@@ -95,7 +95,7 @@ impl<'a> Read for Patient<'a> {
     }
 }
 
-/// A writer that tells how many lines of it were flushed.
+/// A writer that counts the lines that were flushed.
 #[derive(Drop)]
 struct Flushed<'a> {
     bytes: Vec<u8>,
@@ -129,13 +129,13 @@ impl<'a> Read for Endless<'a> {
     }
 }
 
-/// How many lines end among the bytes.
+/// The number of line ends among the bytes.
 fn ends_in(bytes: &[u8]) -> usize {
     bytes.iter().filter(|byte| **byte == b'\n').count()
 }
 
-/// How a run over these streams ends, and its writer. Fails where the run blames a stream that did
-/// not fail, or does not blame one that did.
+/// How a run over these streams ends, and its writer. Fails if the run blames a stream that did not
+/// fail, or does not blame one that did.
 fn ran<R: Read + Drop, W: Write + Drop>(
     alloc: Global,
     reader: R,
@@ -168,8 +168,8 @@ fn reads_of_one_byte(rt: HostRuntime) -> Result<(), Fail> {
     Ok(())
 }
 
-/// Whether a run whose reads give at most so many bytes, and fail after so many, answers exactly
-/// the lines that were read whole.
+/// Whether a run answers exactly the lines that were read whole, if its reads give at most this
+/// many bytes and fail after this number.
 fn answers_what_was_read(alloc: Global, at_most: usize, reads: u32) -> Result<bool, Fail> {
     let (input, wanted) = row_told(alloc)?;
     let reader = Slow {
@@ -197,8 +197,8 @@ fn each_read_fails(rt: HostRuntime) -> Result<(), Fail> {
     Ok(())
 }
 
-/// Whether a run that is given little at a time ends without a fault after all answers, or with
-/// this writer's fault after a front of them.
+/// Whether a run whose reads give little at a time ends without a fault after all replies, or with
+/// this writer's fault after a beginning of them.
 fn writes_a_front(alloc: Global, writer: Narrow) -> Result<bool, Fail> {
     let (input, wanted) = row_told(alloc)?;
     let reader = Slow {

@@ -1,4 +1,4 @@
-//! Tables of lines and their answers.
+//! Tables of lines and their replies.
 
 use event_lines::{RunFault, run_lines};
 use std::alloc::Global;
@@ -6,10 +6,10 @@ use std::process::Abort;
 use std::test::Fail;
 use streams::{Reader, Writer};
 
-/// A line, and what it is answered.
+/// A line and its reply.
 pub(crate) type Row = (&'static str, &'static str);
 
-/// What a run over this input writes, and how it ends.
+/// The output of a run over this input, and how the run ends.
 pub(crate) fn told(alloc: Global, input: &[u8]) -> (Result<(), RunFault>, Vec<u8>) {
     let mut source = Reader::new(input);
     let mut sink = Writer::new(Vec::new(alloc));
@@ -29,7 +29,7 @@ pub(crate) fn lines_of(alloc: Global, tables: &[&[Row]]) -> Result<String, Fail>
     Ok(text)
 }
 
-/// The answers of tables, one table behind the other, each with its end.
+/// The replies of these tables, one table after the other, each with its line end.
 pub(crate) fn answers_of(alloc: Global, tables: &[&[Row]]) -> Result<String, Fail> {
     let mut text = String::new(alloc);
     for table in tables {
@@ -41,8 +41,8 @@ pub(crate) fn answers_of(alloc: Global, tables: &[&[Row]]) -> Result<String, Fai
     Ok(text)
 }
 
-/// What a run over the lines of these tables answers, one table behind the other, and what it was
-/// to answer. Fails where the run does.
+/// The output of a run over the lines of these two tables, and the expected output. Fails if the
+/// run does.
 fn talk(alloc: Global, first: &[Row], then: &[Row]) -> Result<(String, String), Fail> {
     let tables = [first, then];
     let input = lines_of(alloc, &tables)?;
@@ -53,8 +53,8 @@ fn talk(alloc: Global, first: &[Row], then: &[Row]) -> Result<(String, String), 
     Ok((answers, wanted))
 }
 
-/// Asserts that a run over the lines of these tables, one table behind the other, answers what it
-/// was to answer.
+/// Asserts that a run over the lines of these two tables, one after the other, gives the expected
+/// replies.
 pub(crate) fn expect_talk(
     rt: &impl Abort,
     alloc: Global,

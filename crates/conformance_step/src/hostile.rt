@@ -1,4 +1,4 @@
-//! Packets that were cut or changed on their way, as a router's turn answers them.
+//! Packets that were cut or changed on their way, and the line of a router's turn with each.
 
 use crate::step::{UP, expect_line, up_packet, words};
 use hex::{decode, encode};
@@ -7,9 +7,9 @@ use std::alloc::Global;
 use std::process::Abort;
 use std::test::Fail;
 
-/// The packet of a host that a router of 1-ff00:0:111 sends over its link, as 52 bytes: two
-/// addresses, the meta field from byte 16 on, the info field from 20 on, and hop fields from 28 and
-/// 40 on.
+/// A host's packet, which a router of 1-ff00:0:111 sends over its link: 52 bytes, with two
+/// addresses, the meta field from byte 16, the info field from byte 20, and hop fields from bytes
+/// 28 and 40.
 fn right_packet(alloc: Global) -> Result<Vec<u8>, Fail> {
     let mac = hop_mac(b"k", 0xb396, 100, 63, 2, 0);
     Ok(decode(alloc, up_packet(alloc, UP, mac)?)?)
@@ -24,7 +24,7 @@ fn changed(packet: &Vec<u8>, at: usize, xor: u8) -> Result<Vec<u8>, Fail> {
     Ok(packet)
 }
 
-/// Asserts that this packet of a host is answered with this line.
+/// Asserts that the turn with this packet of a host prints this line.
 fn expect_answer(rt: &impl Abort, alloc: Global, packet: &[u8], line: &str) -> Result<(), Fail> {
     let own = words("100", "host", "2,parent,0,up");
     expect_line(rt, alloc, &own, encode(alloc, packet)?.as_str(), line)
@@ -78,8 +78,8 @@ fn a_changed_authenticator_is_refused(rt: HostRuntime) -> Result<(), Fail> {
     Ok(())
 }
 
-/// Each other value of each byte of the hop field behind, but for its flags and its expiry, at
-/// which a router does not look before the packet stands there.
+/// Each other value of each byte of the second hop field, without its flags and its expiry. A
+/// router reads none of them before the packet is at that hop.
 #[test]
 fn the_hop_behind_is_not_looked_at(rt: HostRuntime) -> Result<(), Fail> {
     let alloc = rt.alloc();

@@ -5,7 +5,7 @@ use std::alloc::{AllocError, Global};
 use std::process::Abort;
 use std::test::Fail;
 
-/// The words of a router of 1-ff00:0:111 and a packet of a host, but for the second and the
+/// The first words for a router of 1-ff00:0:111 and a packet of a host, without the second and the
 /// interface.
 const FRONT: [&str; 7] = [
     "step",
@@ -44,7 +44,7 @@ pub(crate) fn words<'a>(now: &'a str, from: &'a str, interface: &'a str) -> [&'a
     ]
 }
 
-/// Asserts that a turn with these words over this packet prints this line.
+/// Asserts that a turn with these words and this packet prints this line.
 pub(crate) fn expect_line(
     rt: &impl Abort,
     alloc: Global,
@@ -56,7 +56,7 @@ pub(crate) fn expect_line(
     Ok(())
 }
 
-/// Each form of a refusal, and what a packet's text may look like.
+/// Each form of a refusal, and the forms that a packet's text may have.
 #[test]
 fn refusals(rt: HostRuntime) -> Result<(), Fail> {
     let late = words("21701", "host", "2,parent,0,up");
@@ -74,7 +74,7 @@ fn refusals(rt: HostRuntime) -> Result<(), Fail> {
     Ok(())
 }
 
-/// The packet with this front, up to the first hop's authenticator, and that authenticator.
+/// The packet that begins in this way up to the first hop's authenticator, with this authenticator.
 pub(crate) fn up_packet(alloc: Global, front: &str, mac: [u8; 6]) -> Result<String, AllocError> {
     let digits = encode(alloc, mac.as_slice())?;
     format!(in alloc; "{front}{}{BEHIND}", digits.as_str())
@@ -146,7 +146,7 @@ fn is_refused(rt: &HostRuntime, words: &[&str]) -> bool {
     )
 }
 
-/// Each way in which a word can be wrong; the words come before the packet.
+/// Each way in which a word can be wrong; the words are checked before the packet.
 #[test]
 fn bad_words(rt: HostRuntime) -> Result<(), Fail> {
     for now in ["4294967296", "-1", "x", "", "+5", "1.0"] {
@@ -214,8 +214,8 @@ fn bad_words(rt: HostRuntime) -> Result<(), Fail> {
     Ok(())
 }
 
-/// A key before the one in use: under which the authenticator is right, another one, and one that
-/// can't be read.
+/// A key before the one in use: one under which the authenticator is right, another one, and one
+/// that can't be read.
 #[test]
 fn previous_key(rt: HostRuntime) -> Result<(), Fail> {
     let alloc = rt.alloc();

@@ -7,7 +7,7 @@ use std::test::Fail;
 use std::thread::Threads;
 use streams::{Reader, Writer};
 
-/// The words of a router's turn over a packet of a host, with this second.
+/// The words of a router's turn with a packet of a host, at this second.
 fn words<'a>(now: &'a str) -> [&'a str; 12] {
     [
         "step",
@@ -82,7 +82,7 @@ impl Write for Full {
     }
 }
 
-/// How a run ended, and what it wrote.
+/// How a run ended, and its output.
 #[derive(Drop)]
 struct Ended {
     status: Status,
@@ -248,7 +248,7 @@ fn bad_streams(rt: HostRuntime) -> Result<(), Fail> {
     Ok(())
 }
 
-/// As much input as is taken, which is blank and so a packet of no bytes, and a byte more.
+/// The largest input, which is blank and so a packet of no bytes, and one byte more.
 #[test]
 fn long_input(rt: HostRuntime) -> Result<(), Fail> {
     let longest = ran(
@@ -281,7 +281,7 @@ fn tried_again(rt: HostRuntime) -> Result<(), Fail> {
     Ok(())
 }
 
-/// Faults that come before a run, told of or not.
+/// Faults before a run, with and without a message.
 #[test]
 fn faults_before(rt: HostRuntime) -> Result<(), Fail> {
     let unreadable = io::Error::from(io::ErrorKind::InvalidData);

@@ -1,6 +1,6 @@
-//! Calls that are made again where that is allowed: at most 1,000 times where a reader found no
-//! place or could not enter, and once where memory was wanted for the first time in a test. Each
-//! other answer is none.
+//! Calls that are repeated if that is allowed: up to 1,000 times if a reader found no place or
+//! could not enter, and once if memory ran out for the first time in a test. Any other failure
+//! counts as none.
 
 ghost use Rattle.std.specs.Prelude.{◌≡◌, ◌<◌, ◌≤◌, IfSome};
 
@@ -19,7 +19,7 @@ use std::alloc::Global;
 use std::sync::Wait;
 use std::thread;
 
-/// How often a call is made that a reader may make again.
+/// How often a reader's call is repeated.
 const TIMES: usize = 1_000;
 
 /// A board with room for `readers` readers.
@@ -56,7 +56,7 @@ pub(crate) fn seated(board: &mut BoardWriter) -> Option<BoardReader>
     None
 }
 
-/// Adds the registration of the worked segment, made at this second, to what is pending.
+/// Adds the registration of the worked segment, made at this second, to the pending operations.
 pub(crate) fn registers(
     alloc: Global,
     board: &mut BoardWriter,
@@ -78,7 +78,7 @@ pub(crate) fn registers(
     None
 }
 
-/// The worked segment, which was not to be had before.
+/// The worked segment, after memory ran out for it.
 fn again(alloc: Global, timestamp: u32, shortage: &Shortage) -> Option<Segment> {
     if shortage.may_want() {
         return worked(alloc, timestamp);
@@ -86,7 +86,7 @@ fn again(alloc: Global, timestamp: u32, shortage: &Shortage) -> Option<Segment> 
     None
 }
 
-/// Adds a sweep at this second to what is pending.
+/// Adds a sweep at this second to the pending operations.
 pub(crate) fn sweeps(board: &mut BoardWriter, now: u32, shortage: &Shortage) -> Option<()>
     ensures { board.new.board ≡ board.old.board }
 {
@@ -99,7 +99,7 @@ pub(crate) fn sweeps(board: &mut BoardWriter, now: u32, shortage: &Shortage) -> 
     None
 }
 
-/// Publishes what is pending.
+/// Publishes the pending operations.
 pub(crate) fn publishes<R: Wait>(rt: &R, board: &mut BoardWriter, shortage: &Shortage) -> Option<()>
     ensures { board.new.board ≡ board.old.board }
 {
@@ -112,7 +112,7 @@ pub(crate) fn publishes<R: Wait>(rt: &R, board: &mut BoardWriter, shortage: &Sho
     None
 }
 
-/// What a look-up at this second finds between the ends of the worked segment.
+/// What a lookup at this second finds between the ends of the worked segment.
 pub(crate) fn found(
     reader: &mut BoardReader,
     alloc: Global,
@@ -161,8 +161,8 @@ fn any<'a>() -> OptionText<'a> {
     }
 }
 
-/// What is answered between these ends at the second 100, and whether the cache served it; or why
-/// nothing is.
+/// The answer between these ends at second 100, and whether the cache gave it; or why there is
+/// none.
 fn asked_once<R: Wait>(
     rt: &R,
     alloc: Global,
@@ -180,7 +180,7 @@ fn asked_once<R: Wait>(
     }
 }
 
-/// The same, asked for again where that is allowed.
+/// The same, repeated if that is allowed.
 pub(crate) fn asked<R: Wait>(
     rt: &R,
     alloc: Global,
@@ -207,7 +207,7 @@ pub(crate) fn asked<R: Wait>(
     None
 }
 
-/// What a daemon with an empty cache would answer up the worked segment, made without one.
+/// The answer up the worked segment that a daemon with an empty cache gives, made without a daemon.
 pub(crate) fn made(alloc: Global, reader: &mut BoardReader, shortage: &Shortage) -> Option<Answer> {
     if let Some(answer) = made_once(alloc, reader) {
         return Some(answer);
@@ -218,7 +218,7 @@ pub(crate) fn made(alloc: Global, reader: &mut BoardReader, shortage: &Shortage)
     None
 }
 
-/// The same; none where something is refused.
+/// The same without a repetition; none if something is refused.
 fn made_once(alloc: Global, reader: &mut BoardReader) -> Option<Answer> {
     let Ok(set) = reader.lookup(alloc, ia(0x111), ia(0x110), 100) else {
         return None;
@@ -226,7 +226,7 @@ fn made_once(alloc: Global, reader: &mut BoardReader) -> Option<Answer> {
     made_of(alloc, &set)
 }
 
-/// The same of what was looked up.
+/// The same from a lookup's set.
 fn made_of(alloc: Global, set: &SegmentSet) -> Option<Answer> {
     let arena = Bump::new(alloc);
     let texts = [any()];

@@ -1,4 +1,4 @@
-//! A published board: what is published is found, by readers in other threads too.
+//! A published board: readers find what is published, also in other threads.
 
 ghost use Rattle.std.specs.Prelude.{◌≡◌};
 
@@ -12,7 +12,7 @@ use std::test::Fail;
 use std::thread;
 use std::thread::{Threads, join};
 
-/// What is found before the segment is published, after it, at a second at which it has expired,
+/// What is found before the segment is published, after that, at a second at which it has expired,
 /// and after it was swept. The reader learns what was published.
 fn row<R: Wait>(
     rt: &R,
@@ -46,8 +46,8 @@ fn what_is_published_is_found(rt: HostRuntime) -> Result<(), Fail> {
     Ok(())
 }
 
-/// What is found after three operations are published at once: two registrations, and the sweep of
-/// the first of both.
+/// What is found after three operations were published at once: two registrations, and the sweep of
+/// the first segment.
 fn at_once<R: Wait>(
     rt: &R,
     alloc: Global,
@@ -76,7 +76,7 @@ fn all_that_is_pending_is_published(rt: HostRuntime) -> Result<(), Fail> {
     Ok(())
 }
 
-/// Whether two look-ups of a reader, which learns what was published, both find this.
+/// Whether two lookups of a reader that learns what was published both find this.
 fn finds_twice(
     alloc: Global,
     board: &BoardWriter,
@@ -93,8 +93,8 @@ fn finds_twice(
     first == Some(finding) && second == Some(finding)
 }
 
-/// Whether each of two readers finds the segment twice once it is published, and twice nothing once
-/// it is swept, five times over.
+/// Whether, five times, each of two readers finds the segment twice after its publication, and
+/// twice nothing after it was swept.
 fn in_rounds<R: Wait>(
     rt: &R,
     alloc: Global,
@@ -129,7 +129,7 @@ fn ten_publishes_are_found_by_two_readers(rt: HostRuntime) -> Result<(), Fail> {
     Ok(())
 }
 
-/// How many readers a board gives at once, at most nine.
+/// The number of readers that a board gives at once, at most nine.
 fn places(board: &mut BoardWriter, alloc: Global, shortage: &Shortage) -> Option<usize> {
     let mut readers = match Vec::with_capacity(alloc, 9) {
         Ok(readers) => readers,
@@ -162,8 +162,7 @@ fn a_board_has_the_places_that_were_asked_for(rt: HostRuntime) -> Result<(), Fai
     Ok(())
 }
 
-/// What a third reader of a board of two is answered, each time: the codes of the refusals, 0 where
-/// there was none.
+/// The codes of two requests for a third reader of a board for two, 0 if there was no refusal.
 fn third(board: &mut BoardWriter) -> Option<(u16, u16)> {
     let _one = seated(board)?;
     let _two = seated(board)?;
@@ -191,7 +190,7 @@ fn a_third_reader_finds_no_place(rt: HostRuntime) -> Result<(), Fail> {
     Ok(())
 }
 
-/// Whether look-ups find nothing, and then the segment.
+/// Whether lookups find nothing at first, and then the segment.
 fn awaits(mut reader: BoardReader, alloc: Global, shortage: &Shortage) -> bool {
     for _ in 0..1_000_000 {
         match found(&mut reader, alloc, 100, shortage) {
@@ -202,8 +201,8 @@ fn awaits(mut reader: BoardReader, alloc: Global, shortage: &Shortage) -> bool {
     false
 }
 
-/// Whether two readers in threads of their own find what a third thread publishes. Where a thread
-/// can't be made, its part is done behind the other one, so that what is awaited stands last.
+/// Whether two readers in threads of their own find what a third thread publishes. If a thread
+/// can't be started, its part is done after the other one, so that the awaited part comes last.
 fn apart<R: Threads + Wait + Sync>(
     rt: &R,
     alloc: Global,

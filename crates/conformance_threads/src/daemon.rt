@@ -1,4 +1,4 @@
-//! A daemon: its cache changes no answer, whoever asks.
+//! A daemon: its cache changes no answer, whichever thread asks.
 
 ghost use Rattle.std.specs.Prelude.{◌≡◌, IfSome};
 
@@ -43,8 +43,8 @@ fn published<R: Wait>(
     Some(reader)
 }
 
-/// Whether this is the answer, and the cache served it or not, as is told here; or it is otherwise
-/// since there was no memory to keep an answer before.
+/// Whether this is the answer, and whether the cache gave it as expected. The latter may differ if
+/// memory ran out when an answer was to be kept.
 fn is(given: Option<(Answer, bool)>, answer: Answer, is_served: bool, shortage: &Shortage) -> bool {
     match given {
         Some((found, flag)) => found == answer && (flag == is_served || shortage.may_miss()),
@@ -52,8 +52,8 @@ fn is(given: Option<(Answer, bool)>, answer: Answer, is_served: bool, shortage: 
     }
 }
 
-/// Whether the path is answered, then served by the cache, and not answered once its segment is
-/// swept.
+/// Whether the path is answered, then given by the cache, and no longer answered after its segment
+/// was swept.
 fn row<R: Wait>(
     rt: &R,
     alloc: Global,
@@ -87,7 +87,7 @@ fn an_answer_is_served_while_its_segments_stay(rt: HostRuntime) -> Result<(), Fa
     Ok(())
 }
 
-/// What a reader of what was published is answered: by a daemon with an empty cache, or without it.
+/// The answer to a reader of what was published: from a daemon with an empty cache, or without one.
 fn once<R: Wait>(
     rt: &R,
     alloc: Global,
@@ -104,8 +104,9 @@ fn once<R: Wait>(
     made(alloc, &mut reader, shortage)
 }
 
-/// An answer by a daemon runs out of memory in no more cases than one without it, so none for
-/// keeping it: those who refuse the allocations count the cases of this test and of the next.
+/// An answer of a daemon runs out of memory in no more cases than one without a daemon, and so
+/// never for keeping it. Those who refuse the allocations compare the cases of this test and of the
+/// next.
 #[test]
 fn an_answer_is_asked_for(rt: HostRuntime) -> Result<(), Fail> {
     let shortage = Shortage::new();
@@ -143,8 +144,8 @@ fn both<R: Wait>(
     is(above, Answer::Up, false, shortage) && is(below, Answer::Down, false, shortage)
 }
 
-/// Whether a cache with room for one answer is asked for both directions in turn, three times each,
-/// and gives the same each time, of which it serves none.
+/// Whether a cache with room for one answer, asked for both directions in turn three times each,
+/// gives the same each time and none from the cache.
 fn in_turn<R: Wait>(
     rt: &R,
     alloc: Global,
@@ -170,7 +171,7 @@ fn a_cache_of_one_serves_neither_of_two(rt: HostRuntime) -> Result<(), Fail> {
     Ok(())
 }
 
-/// Whether a cache with room for more serves both directions, once it was asked for each.
+/// Whether a cache with room for more gives both directions, after each was asked for once.
 fn both_served<R: Wait>(
     rt: &R,
     alloc: Global,
@@ -198,8 +199,9 @@ fn a_cache_of_four_serves_both_of_two(rt: HostRuntime) -> Result<(), Fail> {
     Ok(())
 }
 
-/// Asks until a letter comes, to which the answers are no path or the one path; learns what it
-/// tells, and asks once more: whether all was so, and that is the one path.
+/// Asks until a letter comes; until then the answer may be no path or the one path. Then it learns
+/// what the letter says and asks again. Returns whether all answers were such, and the last was the
+/// one path.
 fn learns_and_asks<B: OneBoard, R: Wait>(
     rt: &R,
     alloc: Global,
@@ -224,7 +226,7 @@ fn learns_and_asks<B: OneBoard, R: Wait>(
     false
 }
 
-/// Whether one of both is answered, from the cache or not.
+/// Whether the answer is one of these two, from the cache or not.
 fn is_either(given: Option<(Answer, bool)>, one: Answer, other: Answer) -> bool {
     match given {
         Some((answer, _)) => answer == one || answer == other,
@@ -249,7 +251,7 @@ fn publishes_and_writes<B: OneBoard, R: Wait>(
     Some(())
 }
 
-/// What two threads come to that each wait for a letter of its own.
+/// The result of two threads that each wait for a letter of their own.
 fn both_learn_and_ask<B: OneBoard + Send + Sync, R: Threads + Wait + Sync>(
     rt: &R,
     alloc: Global,
@@ -267,9 +269,9 @@ fn both_learn_and_ask<B: OneBoard + Send + Sync, R: Threads + Wait + Sync>(
     )
 }
 
-/// Whether two threads, with a reader each, that ask one daemon while a third thread publishes the
-/// segment get its path once each has learnt what it was told after that. Where a thread can't be
-/// made, its part is done behind the other one, so that what is awaited stands last.
+/// Two threads with a reader each ask one daemon while a third thread publishes the segment.
+/// Returns whether each gets the path after it has learnt from its letter. If a thread can't be
+/// started, its part is done after the other one, so that the awaited part comes last.
 fn apart<B: OneBoard + Send + Sync, R: Threads + Wait + Sync>(
     rt: &R,
     alloc: Global,

@@ -1,4 +1,4 @@
-//! What a board's writer told, on its way to a reader in another thread.
+//! Letters from a board's writer to a reader in another thread.
 
 ghost use Rattle.std.specs.Prelude.{◌≡◌, IfSome};
 
@@ -6,7 +6,7 @@ use segment_board::{BoardReader, Told};
 use std::marker::{Brand, PhantomData};
 use std::sync::{Mutex, Wait};
 
-/// One board. No value has it; it stands in the types of letters.
+/// One board. No value has this type; it occurs as a parameter of the types of letters.
 pub(crate) trait OneBoard {
     ghost use Rattle.logbook.specs.Pages.{Book};
 
@@ -17,7 +17,7 @@ impl OneBoard for Brand {
     ghost board = { record { number = 0; log_name = 0; cells_name = 0 } };
 }
 
-/// What the writer of one board told.
+/// What the writer of one board has published, for a reader to learn.
 #[derive(Drop)]
 pub(crate) struct Letter<B: OneBoard> {
     told: Told,
@@ -35,7 +35,7 @@ impl<B: OneBoard> Letter<B> {
         }
     }
 
-    /// What was told.
+    /// The content of the letter.
     pub(crate) fn open(self) -> Told
         ensures { result.board ≡ B.board }
     {
@@ -69,7 +69,7 @@ impl<B: OneBoard> Seat<B> {
     }
 }
 
-/// A place for a letter, which one thread puts in and another takes out.
+/// A place for a letter; one thread puts it in, and another takes it out.
 #[derive(Drop)]
 pub(crate) struct LetterBox<B: OneBoard> {
     letter: Mutex<Option<Letter<B>>>,

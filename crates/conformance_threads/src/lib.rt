@@ -1,9 +1,9 @@
 //! Tests of what threads share, over the crates below: what the contracts leave to tests, and
-//! worked rows.
+//! worked examples.
 //!
-//! Each call may run out of memory, and is then made once more; but only one call of a test may. So
-//! these tests pass where any one allocation of theirs is refused, each in turn, and a test tells
-//! on standard output what wanted memory. The sentences of refusals stand apart from that.
+//! Each call may run out of memory, and is then repeated; but only one call of a test may. So these
+//! tests pass if any one of their allocations is refused, each in turn, and a test prints on
+//! standard output what ran out of memory. The sentences of refusals are tested separately.
 #![tactic(auto)]
 
 #[cfg(test)]

@@ -11,10 +11,10 @@ use std::alloc::Global;
 /// The second at which the worked segment was made.
 pub(crate) const EARLY: u32 = 100;
 
-/// The second at which the later one was.
+/// The second at which the later segment was made.
 pub(crate) const LATE: u32 = 200;
 
-/// The second at which the worked segment has expired, and the later one has not.
+/// A second at which the worked segment has expired, and the later one has not.
 pub(crate) const AFTER_EARLY: u32 = 21_701;
 
 /// An AS of ISD 1: `110` stands for `1-ff00:0:110`.
@@ -22,7 +22,7 @@ pub(crate) fn ia(number: u64) -> IsdAs {
     IsdAs::from_number(0x0001_ff00_0000_0000 | number)
 }
 
-/// One entry, of an AS that its beacon comes into and leaves by these interfaces.
+/// An entry of an AS, with its ways in and out.
 fn entry(ia: IsdAs, cons_ingress: u16, cons_egress: u16, mac: [u8; 6]) -> Entry {
     Entry {
         ia,
@@ -47,7 +47,7 @@ pub(crate) fn worked(alloc: Global, timestamp: u32) -> Option<Segment> {
     Segment::new(SegKind::Intra, timestamp, 4660, entries).ok()
 }
 
-/// What a look-up finds between the ends of the worked segment.
+/// The result of a lookup between the ends of the worked segment.
 #[derive(Clone, Copy, Debug, PartialEq, Eq)]
 pub(crate) enum Finding {
     Nothing,
@@ -56,7 +56,7 @@ pub(crate) enum Finding {
     Other,
 }
 
-/// What stands in a set.
+/// The finding of a lookup's set.
 pub(crate) fn finding_in(set: &SegmentSet) -> Finding {
     if !set.cores().is_empty() || !set.downs().is_empty() {
         return Finding::Other;
@@ -75,13 +75,13 @@ fn is_worked(segment: &Segment) -> bool {
         && segment.entries() == entries().as_slice()
 }
 
-/// What is answered between the ends of the worked segment.
+/// The answer between the ends of the worked segment.
 #[derive(Clone, Copy, Debug, PartialEq, Eq)]
 pub(crate) enum Answer {
     Nothing,
-    /// The one path up the worked segment.
+    /// Only the path up the worked segment.
     Up,
-    /// The one path down it.
+    /// Only the path down the worked segment.
     Down,
     Other,
 }
@@ -93,7 +93,7 @@ const UP: [u8; 36] = [
     0xa3, 0xa4, 0xa5, 0xa6,
 ];
 
-/// The header of the path down: made in this direction, with the accumulator 1234.
+/// The header of the path down: in construction direction, with the accumulator 1234.
 const DOWN: [u8; 36] = [
     0x00, 0x00, 0x20, 0x00, 0x01, 0x00, 0x12, 0x34, 0x00, 0x00, 0x00, 0x64, 0x00, 0x3f, 0x00, 0x00,
     0x00, 0x01, 0xa1, 0xa2, 0xa3, 0xa4, 0xa5, 0xa6, 0x00, 0x3f, 0x00, 0x02, 0x00, 0x00, 0xb1, 0xb2,

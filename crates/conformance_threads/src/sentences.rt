@@ -21,7 +21,7 @@ fn option(sequence: Option<&str>) -> OptionText<'_> {
     }
 }
 
-/// The code of the refusal of a request from 1-ff00:0:111, and 0 where it is none.
+/// The code of the refusal of a request from 1-ff00:0:111, or 0 if there is none.
 fn code_of<R: Wait>(
     rt: &R,
     alloc: Global,
@@ -40,7 +40,7 @@ fn code_of<R: Wait>(
     )
 }
 
-/// The refusals of requests that have one cause after another taken away.
+/// The refusals of requests from which one cause after another is removed.
 fn refusals<R: Wait>(rt: &R, alloc: Global, board: &mut BoardWriter) -> Option<[u16; 5]> {
     let mut reader = board.reader().ok()?;
     let same = ia(0x111);

@@ -3,7 +3,7 @@ use std::alloc::{AllocError, Global};
 use std::process::Abort;
 use std::test::Fail;
 
-/// Asserts that an address prints so, and that no byte behind its text is written.
+/// Asserts the printed text of an address, and that no byte after it is written.
 fn expect_text(
     rt: &impl Abort,
     alloc: Global,
@@ -52,7 +52,7 @@ fn other_spellings_print_canonically(rt: HostRuntime) -> Result<(), Fail> {
     Ok(())
 }
 
-/// Asserts by which fault, number and name a text is refused.
+/// Asserts the fault, the number and the name by which a text is refused.
 fn expect_refusal(rt: &impl Abort, text: &str, fault: AddrFault, code: u16, name: &str) {
     assert_eq!(rt; IsdAs::parse(text), Err(fault), "{text}");
     assert!(rt; fault.code() == code && fault.name() == name, "{text}");
@@ -83,14 +83,14 @@ fn the_first_refusal_is_given(rt: HostRuntime) {
     expect_bad_digit(&rt, "99999999999999999999999x-1");
     expect_bad_digit(&rt, "1-99999999999999999999999x");
     expect_bad_groups(&rt, "1-xyz:0:00000");
-    // A group has 1 to 4 characters, however many bytes they take.
+    // A group has 1 to 4 characters, of any number of bytes.
     expect_bad_digit(&rt, "1-ééé:0:0");
     expect_bad_groups(&rt, "1-0::0");
     expect_bad_groups(&rt, "1-0:0:0:0");
     expect_bad_digit(&rt, "+1-1");
 }
 
-/// Whether an address is more than the one and less than the other.
+/// Whether an address is greater than `low` and less than `high`.
 fn is_between(address: IsdAs, low: &str, high: &str) -> Result<bool, AddrFault> {
     let (low, high) = (IsdAs::parse(low)?, IsdAs::parse(high)?);
     Ok(low < address && address < high)

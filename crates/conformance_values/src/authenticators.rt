@@ -51,7 +51,7 @@ fn rfc_4231(rt: HostRuntime) {
     }
 }
 
-/// A hop's authenticator, what it is computed over, and the accumulator after it.
+/// A hop's authenticator, its input, and the accumulator after it.
 #[test]
 fn hops(rt: HostRuntime) {
     let input = [0, 0, 0x12, 0x34, 0, 0, 0, 0x64, 0, 0x3f, 0, 1, 0, 2, 0, 0];
@@ -62,7 +62,7 @@ fn hops(rt: HostRuntime) {
     assert_eq!(rt; MacKey::new(b"k").hop_mac(0xb396, 100, 63, 2, 0), mac);
 }
 
-/// Hops with timestamp 1000 at the last second of their life and at the one after it.
+/// Hops with timestamp 1000, at the last second at which they are live and at the one after it.
 #[test]
 fn lifetimes(rt: HostRuntime) {
     for (exp_time, last) in [(0, 1337), (255, 87_400)] {

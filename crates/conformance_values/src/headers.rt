@@ -44,7 +44,7 @@ const CORE_HOP: HopField = HopField {
     mac: [0xa1, 0xa2, 0xa3, 0xa4, 0xa5, 0xa6],
 };
 
-/// What a refusal is reported by, and 0 where there is none.
+/// The code of a refusal, or 0 if there is none.
 fn code_of<T: Drop>(answer: Result<T, HeaderFault>) -> u16 {
     match answer {
         Ok(_) => 0,
@@ -52,7 +52,7 @@ fn code_of<T: Drop>(answer: Result<T, HeaderFault>) -> u16 {
     }
 }
 
-/// What the header is refused by, some of its bytes set to others, and cut to a length.
+/// The code of the refusal of the header with some bytes changed, and cut to a length.
 fn code_of_changed(header: &[u8], changes: &[(usize, u8)], len: usize) -> u16 {
     let mut bytes = [0; 48];
     for (byte, value) in bytes.iter_mut().zip(header) {
@@ -89,7 +89,7 @@ fn first_refusal_is_reported(rt: HostRuntime) {
         ),
         (&[(1, 0x03), (2, 0xf0), (3, 0x40)], 4, 20),
         (&[(0, 0xff), (4, 0x02), (5, 0x01), (12, 0x01)], 35, 20),
-        // the fields in order, and the indices behind them
+        // the fields in order, and the indices after them
         (&[(4, 0x02)], 36, 22),
         (&[(4, 0x86), (5, 0x01)], 36, 22),
         (&[(0, 0x3f), (4, 0x03), (12, 0x02)], 36, 22),
@@ -166,7 +166,7 @@ fn meta_fields_are_spelled(rt: HostRuntime) -> Result<(), Fail> {
     Ok(())
 }
 
-/// Asserts what the header of [`WORKED`] shows.
+/// Asserts the values of the header of [`WORKED`].
 fn expect_worked(rt: &impl Abort, header: &Header) {
     assert!(rt; header.curr_inf() == 0 && header.curr_hf() == 1);
     assert!(rt; header.seg_lens().first == 2);
@@ -175,7 +175,7 @@ fn expect_worked(rt: &impl Abort, header: &Header) {
     assert!(rt; header.current_hop() == LEAF_HOP);
 }
 
-/// Asserts that a header is written as [`BACK`], and not at all where the room is too small.
+/// Asserts that a header is written as [`BACK`], and not at all if the room is too small.
 fn expect_back(rt: &impl Abort, header: &Header) -> Result<(), HeaderFault> {
     let mut room = [0xee; 36];
     assert_eq!(rt; code_of(encode(header, &mut room[..35])), 27);
@@ -237,7 +237,7 @@ fn accumulator_is_set_where_it_stands(rt: HostRuntime) -> Result<(), Fail> {
     Ok(())
 }
 
-/// Each refusal of a header: its bytes are lent for writing, and no contract says that they stay.
+/// Each refusal of a header in borrowed bytes: the bytes stay as they were, which no contract says.
 #[test]
 fn refused_bytes_stay(rt: HostRuntime) {
     let refused: [(&[(usize, u8)], u16); 7] = [

@@ -12,7 +12,7 @@ fn text() -> &'static str {
     \"mac\":\"b1b2b3b4b5b6\"}],\"kind\":\"intra\",\"timestamp\":100}"
 }
 
-/// The same in another spacing, another order of names, capital digits and with other members.
+/// The same segment with other spacing, another order of names, capital digits and more members.
 fn other_text() -> &'static str {
     " {\"timestamp\" : 100,\n\"more\":[1.5, null], \"kind\":\"intra\", \
     \"entries\":[ {\"ia\":\"1-FF00:0:0110\", \"mac\":\"A1a2A3a4A5a6\",\"ingress\":0, \"egress\":1, \
@@ -48,7 +48,7 @@ fn last_entry() -> Entry {
     )
 }
 
-/// What a refusal is reported by, 0 where there is none, 1 if memory runs out.
+/// The code of a refusal, 0 if there is none, and 1 if memory ran out.
 fn code_of<T: Drop>(answer: Result<T, SegmentError>) -> u16 {
     match answer {
         Ok(_) => 0,
@@ -57,7 +57,7 @@ fn code_of<T: Drop>(answer: Result<T, SegmentError>) -> u16 {
     }
 }
 
-/// Asserts what the worked segment shows in calls.
+/// Asserts the values of the worked segment.
 fn expect_worked(rt: &impl Abort, segment: &Segment) {
     assert!(rt; segment.kind() == SegKind::Intra && segment.timestamp() == 100);
     assert!(rt; segment.beta0() == 4660 && segment.entries().len() == 2);
@@ -72,7 +72,7 @@ fn is_text_of(alloc: Global, segment: &Segment, text: &str) -> Result<bool, Fail
     Ok(Segment::from_json(alloc, text.as_bytes())?.is_same(segment))
 }
 
-/// The worked segment shows what it should, in calls and as text, and is read again.
+/// The worked segment has the right values and the right text, and is read from it again.
 #[test]
 fn worked(rt: HostRuntime) -> Result<(), Fail> {
     let alloc = rt.alloc();
@@ -86,7 +86,7 @@ fn worked(rt: HostRuntime) -> Result<(), Fail> {
     Ok(())
 }
 
-/// The beacon of the worked segment's first entry, and the segment that it ends as.
+/// The beacon of the worked segment's first entry, and the segment that it becomes.
 #[test]
 fn under_way(rt: HostRuntime) -> Result<(), Fail> {
     let alloc = rt.alloc();
@@ -99,7 +99,7 @@ fn under_way(rt: HostRuntime) -> Result<(), Fail> {
     Ok(())
 }
 
-/// Entries of as many ASes, which are a segment where they are neither too few nor too many.
+/// This number of entries, which are a segment if there are neither too few nor too many.
 fn entries_of(alloc: Global, count: u16) -> Result<Vec<Entry>, Fail> {
     let mut entries = Vec::new(alloc);
     for i in 0..count {
@@ -109,7 +109,7 @@ fn entries_of(alloc: Global, count: u16) -> Result<Vec<Entry>, Fail> {
     Ok(entries)
 }
 
-/// What a core segment of as many entries is refused by.
+/// The code of the refusal of a core segment with this number of entries.
 fn code_of_length(alloc: Global, count: u16) -> Result<u16, Fail> {
     let segment = Segment::new(SegKind::Core, 0, 0, entries_of(alloc, count)?);
     Ok(segment.err().map_or(0, SegmentFault::code))
@@ -120,7 +120,7 @@ fn short_beacon(alloc: Global) -> Result<Beacon, Fail> {
     Ok(Beacon::first(alloc, SegKind::Core, 0, 0, entry(0, 0, 1, [0; 6]))?)
 }
 
-/// A beacon of 62 entries, the most.
+/// A beacon of 62 entries, the largest number.
 fn long_beacon(alloc: Global) -> Result<Beacon, Fail> {
     let mut beacon = short_beacon(alloc)?;
     for i in 1..62 {
@@ -129,7 +129,7 @@ fn long_beacon(alloc: Global) -> Result<Beacon, Fail> {
     Ok(beacon)
 }
 
-/// Asserts that the longest beacon takes no further entry but its segment's last.
+/// Asserts that the longest beacon takes no further entry but the last of its segment.
 fn expect_longest(rt: &impl Abort, alloc: Global, beacon: &Beacon) -> Result<(), Fail> {
     assert_eq!(rt; beacon.entries().len(), 62);
     let longer = beacon.with_entry(alloc, entry(0, 0, 0, [0; 6]));
@@ -139,13 +139,13 @@ fn expect_longest(rt: &impl Abort, alloc: Global, beacon: &Beacon) -> Result<(),
     Ok(())
 }
 
-/// Asserts by which number and name a refusal is reported.
+/// Asserts the number and the name of a refusal.
 fn expect_named(rt: &impl Abort, fault: SegmentFault, code: u16, name: &str) {
     assert!(rt; fault.code() == code && fault.name() == name);
 }
 
-/// What an entry of these interfaces is refused by as the first of a beacon, behind a beacon's
-/// first, and as a segment's last behind that.
+/// The codes of the refusals of an entry with these interfaces: as the first of a beacon, as its
+/// second, and as the last of a segment.
 fn codes_of_ends(
     alloc: Global,
     beacon: &Beacon,
@@ -189,7 +189,7 @@ fn rules(rt: HostRuntime) -> Result<(), Fail> {
     Ok(())
 }
 
-/// What the worked text is refused by, one part of it exchanged for another.
+/// The code of the refusal of the worked text with one part replaced.
 fn code_of_changed(alloc: Global, part: &str, other: &str) -> Result<u16, Fail> {
     match text().split_once(part) {
         Some((front, back)) => {
@@ -200,7 +200,7 @@ fn code_of_changed(alloc: Global, part: &str, other: &str) -> Result<u16, Fail> 
     }
 }
 
-/// A part of the worked text, what is put in its place, and what the text is then refused by.
+/// A part of the worked text, its replacement, and the code of the refusal.
 fn changes() -> [(&'static str, &'static str, u16); 34] {
     [
         ("{\"beta0\"", "\"beta0\"", 34),
@@ -241,7 +241,7 @@ fn changes() -> [(&'static str, &'static str, u16); 34] {
     ]
 }
 
-/// Texts of another form, members that are absent, of another type or out of range, and the rules.
+/// Texts of another form; members that are absent, of another type or out of range; and the rules.
 #[test]
 fn refused_texts(rt: HostRuntime) -> Result<(), Fail> {
     let alloc = rt.alloc();

@@ -41,8 +41,8 @@ fn worked(alloc: Global, beta0: u16) -> Result<Segment, Fail> {
     segment(alloc, SegKind::Intra, beta0, ia(0x110), ia(0x111))
 }
 
-/// What registering a copy of a segment answers: 1 where it is new, 0 where it is known, or the
-/// code of the refusal; 2 where memory ran out, and 3 where another segment is returned.
+/// The code of registering a copy of a segment: 1 if it is new, 0 if it is known, or the code of
+/// the refusal; 2 if memory ran out, and 3 if another segment was returned.
 fn answer_to(
     alloc: Global,
     store: &mut PathStore,
@@ -66,7 +66,7 @@ fn are_same(segments: &[Segment], others: &[&Segment]) -> bool {
             .all(|(segment, other)| segment.is_same(other))
 }
 
-/// Whether a look-up between these ASes at a second finds these segments up and down, and no core
+/// Whether a lookup between these ASes at a second finds these segments up and down, and no core
 /// segment.
 fn looks_up(
     alloc: Global,
@@ -81,14 +81,14 @@ fn looks_up(
     Ok(is_told && are_same(set.ups(), ups) && are_same(set.downs(), downs))
 }
 
-/// Whether a copy of what is found from the worked segment's last AS has that segment.
+/// Whether a copy of a lookup from the worked segment's last AS has that segment.
 fn copies(alloc: Global, store: &PathStore, worked: &Segment) -> Result<bool, AllocError> {
     let set = store.segments_for(alloc, ia(0x111), ia(0x110), 100)?;
     let copy = set.try_clone(alloc)?;
     Ok(are_same(copy.ups(), &[worked]) && copy.now() == 100)
 }
 
-/// What registering a segment answers at first, once more, and when it has expired.
+/// The codes of registering a segment at first, a second time, and after it has expired.
 fn answers_to(
     alloc: Global,
     store: &mut PathStore,
@@ -99,7 +99,7 @@ fn answers_to(
     Ok([first, again, answer_to(alloc, store, segment, 21_701)?])
 }
 
-/// The worked segment is taken in once, found from its last AS, and swept when it has expired.
+/// The worked segment is stored once, found from its last AS, and swept after it has expired.
 #[test]
 fn one_segment(rt: HostRuntime) -> Result<(), Fail> {
     let alloc = rt.alloc();
@@ -131,7 +131,7 @@ fn store_of(alloc: Global, count: u16) -> Result<PathStore, Fail> {
     Ok(store)
 }
 
-/// Of one kind and ends 32 segments are taken in, and of others still more.
+/// At most 32 segments of one kind and ends are stored, and more of others.
 #[test]
 fn thirty_two_segments(rt: HostRuntime) -> Result<(), Fail> {
     let alloc = rt.alloc();
@@ -152,7 +152,7 @@ fn thirty_two_segments(rt: HostRuntime) -> Result<(), Fail> {
     Ok(())
 }
 
-/// A segment from 1-ff00:0:110 by 1-ff00:0:111 to a child of that, made at the second 1000.
+/// A segment from 1-ff00:0:110 over 1-ff00:0:111 to a child of that AS, made at second 1000.
 fn half(alloc: Global, egress: u16, last: u64) -> Result<Segment, Fail> {
     let entries = vec![in alloc;
         entry(ia(0x110), 0, 1, [0xa1, 0xa2, 0xa3, 0xa4, 0xa5, 0xa6]),
@@ -162,7 +162,7 @@ fn half(alloc: Global, egress: u16, last: u64) -> Result<Segment, Fail> {
     Ok(Segment::new(SegKind::Intra, 1000, 7, entries)?)
 }
 
-/// Whether a look-up at the second 1000 between the two children finds just these two.
+/// Whether a lookup at second 1000 between the two children finds just these two.
 fn finds(
     alloc: Global,
     store: &PathStore,
@@ -173,7 +173,7 @@ fn finds(
     Ok(is_there && looks_up(alloc, store, (0x113, 0x112), 1000, &[right], &[left])?)
 }
 
-/// Asserts that 32 worked segments are taken in, and no further one.
+/// Asserts that 32 worked segments are stored, and no further one.
 fn expect_full(rt: &impl Abort, alloc: Global, store: &mut PathStore) -> Result<(), Fail> {
     for beta0 in 1..=32 {
         let one = worked(alloc, beta0)?;
@@ -184,7 +184,7 @@ fn expect_full(rt: &impl Abort, alloc: Global, store: &mut PathStore) -> Result<
     Ok(())
 }
 
-/// Whether a look-up finds the worked segments up, in their order, and this one down.
+/// Whether a lookup finds the worked segments up, in their order, and this one down.
 fn finds_worked(alloc: Global, store: &PathStore, down: &Segment) -> Result<bool, AllocError> {
     let set = store.segments_for(alloc, ia(0x111), ia(0x112), 1000)?;
     let mut ups = set.ups().iter().zip(1..);
@@ -192,7 +192,7 @@ fn finds_worked(alloc: Global, store: &PathStore, down: &Segment) -> Result<bool
     Ok(are_in_order && set.ups().len() == 32 && are_same(set.downs(), &[down]))
 }
 
-/// Asserts that both are taken in beside the 32 worked segments, and found, and stay when these are
+/// Asserts that both are stored next to the 32 worked segments, found, and kept when those are
 /// swept.
 fn expect_two(
     rt: &impl Abort,
@@ -210,8 +210,8 @@ fn expect_two(
     Ok(())
 }
 
-/// A sweep that takes 32 segments out leaves a shortcut's two, and look-ups find them, also after
-/// further segments were taken in.
+/// A sweep that removes 32 segments leaves a shortcut's two, and lookups find them, also after
+/// further segments were stored.
 #[test]
 fn swept_beside_others(rt: HostRuntime) -> Result<(), Fail> {
     let alloc = rt.alloc();
@@ -225,8 +225,7 @@ fn swept_beside_others(rt: HostRuntime) -> Result<(), Fail> {
     Ok(())
 }
 
-/// Operations are done one after another: a new segment, the same once more, one that has expired,
-/// and a sweep.
+/// Operations one after another: a new segment, the same again, one that has expired, and a sweep.
 #[test]
 fn operations(rt: HostRuntime) -> Result<(), Fail> {
     let alloc = rt.alloc();
@@ -247,7 +246,7 @@ fn operations(rt: HostRuntime) -> Result<(), Fail> {
     Ok(())
 }
 
-/// Core segments both ways round, one aside, and a segment down from each end.
+/// Core segments in both directions, one apart, and a segment down from each end.
 fn core_store(alloc: Global) -> Result<PathStore, Fail> {
     let rows = [
         (SegKind::Core, 0x110, 0x120),
@@ -264,7 +263,7 @@ fn core_store(alloc: Global) -> Result<PathStore, Fail> {
     Ok(store)
 }
 
-/// Core segments are found from either end, between the ASes themselves and between those in which
+/// Core segments are found from either end: between the ASes themselves, and between those in which
 /// their up and down segments begin.
 #[test]
 fn core_segments(rt: HostRuntime) -> Result<(), Fail> {

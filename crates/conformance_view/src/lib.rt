@@ -1,6 +1,7 @@
-//! Tests of packets that are shown field by field and check by check, and of pictures of networks.
+//! Tests of views of packets, field by field and check by check, and of pictures of networks.
 //!
-//! Worked rows: what no clause says. The packets and the authenticators are those of the README.
+//! They are worked examples, of which no clause speaks. The packets and the authenticators are
+//! those of the README.
 #![tactic(auto)]
 
 #[cfg(test)]

@@ -6,7 +6,7 @@ use std::alloc::Global;
 use std::process::Abort;
 use std::test::Fail;
 
-/// A core AS, its child, and the child of that.
+/// A core AS, its child, and the child's child.
 const ROW: &str = concat!(
     r#"{"ases":[{"ia":"1-ff00:0:110","core":true,"exp":63,"key":"6130","routers":1},"#,
     r#"{"ia":"1-ff00:0:111","core":false,"exp":63,"key":"6131","routers":1},"#,
@@ -17,8 +17,7 @@ const ROW: &str = concat!(
     r#""b":{"ia":"1-ff00:0:112","if":1,"router":0}}]}"#,
 );
 
-/// Two ISDs, each with a core AS, its child and the child of that, in which each AS has two
-/// routers.
+/// Two ISDs, each with a core AS, its child and the child's child; each AS has two routers.
 const PAIR: &str = concat!(
     r#"{"ases":[{"ia":"1-ff00:0:110","core":true,"exp":63,"key":"6b","routers":2},"#,
     r#"{"ia":"1-ff00:0:111","core":false,"exp":63,"key":"6b","routers":2},"#,
@@ -38,7 +37,7 @@ const PAIR: &str = concat!(
     r#""b":{"ia":"2-ff00:0:212","if":1,"router":0}}]}"#,
 );
 
-/// A core AS, its child with two routers, and two children of that.
+/// A core AS, its child with two routers, and two children of the child.
 const FORK: &str = concat!(
     r#"{"ases":[{"ia":"1-ff00:0:110","core":true,"exp":63,"key":"6b","routers":1},"#,
     r#"{"ia":"1-ff00:0:111","core":false,"exp":63,"key":"6b","routers":2},"#,
@@ -261,7 +260,7 @@ fn networks(rt: HostRuntime) -> Result<(), Fail> {
     Ok(())
 }
 
-/// A link that is cut, one that a packet has passed, and the router at which the packet is.
+/// A link that is cut, a link that a packet has passed, and the router that has the packet.
 #[test]
 fn cut_link(rt: HostRuntime) -> Result<(), Fail> {
     let mut topology = Topology::from_json(rt.alloc(), ROW.as_bytes())?;
@@ -272,7 +271,7 @@ fn cut_link(rt: HostRuntime) -> Result<(), Fail> {
     expect_picture(&rt, rt.alloc(), &topology, &passed, Some(at), CUT_DRAWN)
 }
 
-/// A core link that a packet has passed, behind two links to parents.
+/// A core link that a packet has passed, after two links to parents.
 #[test]
 fn core_link(rt: HostRuntime) -> Result<(), Fail> {
     let topology = Topology::from_json(rt.alloc(), PAIR.as_bytes())?;

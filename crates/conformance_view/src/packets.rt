@@ -14,12 +14,12 @@ const WRONG: &str =
     "0001ff00000001100001ff0000000111000020000000b39600000064003f00020000b1b2b3b4b5b6003f00000001a1\
     a2a3a4a5a6";
 
-/// The same packet cut off by a byte.
+/// The same packet without its last byte.
 const CUT: &str =
     "0001ff00000001100001ff0000000111000020000000b39600000064003f00020000b1b2b3b4b5b6003f00000001a1\
     a2a3a4a5";
 
-/// What is shown of the right packet where a host gives it to its router at second 100.
+/// The view of the right packet that a host gives to its router at second 100.
 const SHOWN: &str = "0001ff0000000110 destination 1-ff00:0:110\n\
      0001ff0000000111 source 1-ff00:0:111\n\
      00 at info field 0, hop field 0\n\
@@ -52,8 +52,8 @@ const SHOWN: &str = "0001ff0000000110 destination 1-ff00:0:110\n\
      link 2 0001ff00000001100001ff0000000111010020000000b39600000064003f00020000110e4c1d3dad003f000\
      00001a1a2a3a4a5a6";
 
-/// The turn of router 0 of 1-ff00:0:111, at this second and with this key before `6b`, over a
-/// packet of a host.
+/// The turn of router 0 of 1-ff00:0:111 with a packet of a host, at this second and with this key
+/// before `6b`.
 fn texts<'a, 'm>(
     now: &'a str,
     previous: Option<&'a str>,
@@ -70,7 +70,7 @@ fn texts<'a, 'm>(
     }
 }
 
-/// Asserts that what is shown of this packet at this turn ends so.
+/// Asserts that the view of this packet at this turn ends in this way.
 fn expect_end(
     rt: &impl Abort,
     alloc: Global,
@@ -95,7 +95,7 @@ fn shown(rt: HostRuntime) -> Result<(), Fail> {
     Ok(())
 }
 
-/// The check that fails is the last that is shown, and behind it stands the line of the turn.
+/// The check that fails is the last one shown, and after it comes the line of the turn.
 #[test]
 fn refusals(rt: HostRuntime) -> Result<(), Fail> {
     let own = ["2,parent,0,up"];

@@ -1,4 +1,4 @@
-//! Flights by themselves.
+//! Single flights.
 
 ghost use Rattle.std.specs.Prelude.{◌≡◌};
 
@@ -13,7 +13,7 @@ use scion_topology::{Topology, TopologyFault};
 use std::alloc::{AllocError, Global};
 use std::test::Fail;
 
-/// A network of one AS, which is none of the row's.
+/// A network of one AS that is not in the row.
 static ELSEWHERE: &str =
     r#"{"ases":[{"ia":"1-9","core":true,"exp":63,"key":"61","routers":1}],"links":[]}"#;
 
@@ -25,7 +25,7 @@ static RENUMBERED: &str = concat!(
     r#""b":{"ia":"1-ff00:0:112","if":9,"router":0}}]}"#,
 );
 
-/// The flight after one turn more under the view of its place; as it is where that has none.
+/// The flight after one more turn with the view of its router; as it is if there is no view.
 pub(crate) fn after_turn<'a>(flight: Flight<'a>) -> Flight<'a>
     ensures { result.fabric ≡ flight.entry.fabric }
 {
@@ -41,7 +41,7 @@ fn sent(alloc: Global) -> Result<Net, Fail> {
     Ok(net.ok_or(AllocError)?)
 }
 
-/// How the first packet of a network is refused as a flight over this topology.
+/// The refusal of the first packet of a network as a flight over this topology.
 fn refusal(alloc: Global, net: &Net, topology: &str) -> Result<Option<TopologyFault>, Fail> {
     let fabric = Topology::from_json(alloc, topology.as_bytes())?;
     let packet = net.packet(0).ok_or(EventFault::NoPacket)?;

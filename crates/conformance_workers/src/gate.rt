@@ -1,4 +1,4 @@
-//! Workers that run at once: each waits at its first turn for the other's.
+//! Workers that run at the same time: each waits at its first turn for the other.
 
 use crate::network::{first, last, middle, network};
 use crate::runs::flights_of;
@@ -12,8 +12,8 @@ use std::test::Fail;
 use std::thread;
 use std::thread::Threads;
 
-/// Holds two workers, each at its first turn, until the other has come to its own, for so many
-/// looks, and counts all turns.
+/// Holds two workers, each at its first turn, until the other has reached its own or a number of
+/// looks is over, and counts all turns.
 #[derive(Drop)]
 struct Meeting {
     /// The numbers of both workers.
@@ -68,9 +68,9 @@ impl Gate for Meeting {
     }
 }
 
-/// Asserts that two flights, one from the row's last AS to its first and one from the middle AS to
-/// the last, are delivered on this number of workers, and that the gate's two had their turns at
-/// once.
+/// Asserts that two flights are delivered on this number of workers, and that the gate's two
+/// workers had their turns at the same time. One flight goes from the row's last AS to its first,
+/// the other from the middle AS to the last.
 fn expect_meeting<R: Threads + Wait + Sync + Abort>(
     rt: &R,
     alloc: Global,

@@ -1,5 +1,4 @@
-//! Packets that were sent in the row of three ASes at second 1000, over the segment that was issued
-//! there.
+//! Packets that were sent in the row of three ASes at second 1000, over the segment issued there.
 
 use event_lines::{AcceptedLines, RunFault, listen};
 use isd_as::IsdAs;
@@ -9,7 +8,7 @@ use std::alloc::Global;
 use streams::{Reader, Writer};
 use worked::{at, row};
 
-/// The last AS of the row, which is the child of the middle one.
+/// The last AS of the row, the child of the middle one.
 pub(crate) fn last() -> IsdAs {
     at(1, 0x112)
 }
@@ -19,13 +18,12 @@ pub(crate) fn middle() -> IsdAs {
     at(1, 0x111)
 }
 
-/// The first AS of the row, which is core.
+/// The first AS of the row, a core AS.
 pub(crate) fn first() -> IsdAs {
     at(1, 0x110)
 }
 
-/// The lines behind the topology by which the row's segment is issued, from the first AS to the
-/// last.
+/// The lines after the topology that issue the row's segment, from the first AS to the last.
 fn issuing() -> &'static str {
     r#"
 {"do":"tick","now":1000}
@@ -35,8 +33,7 @@ fn issuing() -> &'static str {
 "#
 }
 
-/// The row's network with a packet between each of these pairs of ASes, by the first path that is
-/// found.
+/// The row's network with a packet between each of these pairs of ASes, by the first path found.
 fn network_once(alloc: Global, ways: &[(IsdAs, IsdAs)]) -> Result<Net, RunFault> {
     let mut text = String::from_str(alloc, row())?;
     text.push_str(issuing())?;
@@ -57,7 +54,7 @@ fn network_once(alloc: Global, ways: &[(IsdAs, IsdAs)]) -> Result<Net, RunFault>
     listen(alloc, AcceptedLines::All, &mut source, &mut sink)
 }
 
-/// The same, made once more if memory ran out and that may be. The replies go into a vector, so a
+/// The same, made again if memory ran out and that may be. The replies go into a vector, so that a
 /// write fails only if memory runs out.
 pub(crate) fn network(alloc: Global, ways: &[(IsdAs, IsdAs)], shortage: &Shortage) -> Option<Net> {
     match network_once(alloc, ways) {

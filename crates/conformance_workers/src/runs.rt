@@ -1,7 +1,7 @@
-//! Runs of flights: what is reported of each.
+//! Runs of flights, and their reports.
 //!
-//! Each call may run out of memory once, and is then made once more; a run that wants it has given
-//! no flight a turn.
+//! Each call may run out of memory once, and is then repeated; a run in which memory ran out has
+//! made no turn.
 
 ghost use Rattle.std.specs.Prelude.{◌≡◌, ◌<◌, ◌≤◌, All, IfOk, IfSome};
 
@@ -35,9 +35,9 @@ impl Gate for Turns {
     fn leave(&self, _worker: usize) {}
 }
 
-/// A run over the row's network: a flight between each of these pairs of ASes, of which the first
-/// ones have had no turn and those behind them all three of the row; on so many workers, whose
-/// inboxes have so many places.
+/// A run over the row's network, with a flight between each of these pairs of ASes, on this many
+/// workers with this many places in an inbox. The first flights have had no turn, and the others
+/// all three turns of the row.
 #[derive(Clone, Copy)]
 struct Case<'w> {
     ways: &'w [(IsdAs, IsdAs)],
@@ -56,7 +56,7 @@ fn after_turns<'n>(flight: Flight<'n>, has_flown: bool) -> Flight<'n>
     flight
 }
 
-/// The flights of a network's packets, in their order, of which so many have had no turn.
+/// The flights of a network's packets, in their order; this many have had no turn.
 fn flights_once<'n>(
     alloc: Global,
     net: &'n Net,
@@ -74,7 +74,7 @@ fn flights_once<'n>(
     Ok(flights)
 }
 
-/// The same, made once more where that may be.
+/// The same, repeated if that may be.
 pub(crate) fn flights_of<'n>(
     alloc: Global,
     net: &'n Net,
@@ -96,7 +96,7 @@ pub(crate) fn flights_of<'n>(
     }
 }
 
-/// What a run reports. One that runs out of memory has had no turn, and is done once more.
+/// The report of a run. One that runs out of memory has made no turn, and is repeated.
 fn reported<R: Threads + Wait + Sync>(
     rt: &R,
     alloc: Global,
@@ -123,7 +123,7 @@ fn reported<R: Threads + Wait + Sync>(
     Some(run_workers(rt, alloc, run, 1000, workers, slots, &flights, &turns))
 }
 
-/// Asserts that a run reports these ends.
+/// Asserts the ends in the report of a run.
 fn expect_ends<R: Threads + Wait + Sync + Abort + Print>(
     rt: &R,
     alloc: Global,
@@ -216,7 +216,8 @@ fn six_of_eight_flights_find_no_place(rt: HostRuntime) -> Result<(), Fail> {
     expect_ends(&rt, rt.alloc(), case, &ends)
 }
 
-/// There are more flights than places, and no inbox is ever full, since three of them have ended.
+/// There are more flights than places, but no inbox is ever full, since three of the flights have
+/// ended.
 #[test]
 fn no_flight_is_dropped_where_there_is_room(rt: HostRuntime) -> Result<(), Fail> {
     let mut ends = [End::Delivered(0); 5];
