@@ -97,7 +97,7 @@ impl CommandFault {
     }
 
     /// The message about the fault on standard error, with its line ends.
-    pub fn told(&self) -> &str
+    pub fn message(&self) -> &str
         ensures { result.now ≡ text_of_fault self.now }
     {
         match self {

@@ -104,7 +104,7 @@ pub fn end<E: Sink>(fault: &CommandFault, errors: &mut E) -> Status
     ensures status { result ≡ status_of fault.now }
     ensures tells { TellsOf fault.now (change_of E.held E.failed errors.old errors.new) }
 {
-    let _ = write_all(errors, fault.told().as_bytes());
+    let _ = write_all(errors, fault.message().as_bytes());
     fault.status()
 }
 
