@@ -23,13 +23,12 @@ use Rattle.beaconing.specs.Calls.{last_of, come_to, extended}
 
 -- the entry is of an AS of the network, has the AS's expiry, and is authenticated under this key
 -- and accumulator
-pub record IsEntryOf (n : Network) (timestamp beta : ℕ) (key : List ℕ) (entry : Entry) : Type 0
-  where
-    pub one : AsEntry
-    pub named : as_named n.ases entry.ia ≡ Some one
-    pub lifetime : entry.exp_time ≡ one.exp_time
-    pub mac : entry.mac
-        ≡ authenticator key beta timestamp entry.exp_time entry.cons_ingress entry.cons_egress
+pub record IsEntryOf (n : Network) (time beta : ℕ) (key : List ℕ) (entry : Entry) : Type 0 where
+  pub one : AsEntry
+  pub named : as_named n.ases entry.ia ≡ Some one
+  pub lifetime : entry.exp_time ≡ one.exp_time
+  pub mac : entry.mac
+      ≡ authenticator key beta time entry.exp_time entry.cons_ingress entry.cons_egress
 
 -- `near` is the entry's way out, and `far` is the way in of the next entry
 abbrev pub AreWays : Entry → Entry → End → End → Type 0
@@ -47,8 +46,7 @@ LeadsOn Intra entry next link = (link.class ≡ classes.Child) × AreWays entry 
 -- a link leads from each entry to the next
 pub record IsMade (n : Network) (keys : List (List ℕ)) (chain : Chain) : Type 0 where
   pub keyed : length keys ≡ length chain.entries
-  pub core : (first : Entry) → slice_get chain.entries 0 ≡ Some first
-      → is_core n.ases first.ia ≡ true
+  pub core : (one : Entry) → slice_get chain.entries 0 ≡ Some one → is_core n.ases one.ia ≡ true
   pub entries : (i : ℕ) (key : List ℕ) (entry : Entry)
       → slice_get keys i ≡ Some key → slice_get chain.entries i ≡ Some entry
       → IsEntryOf n chain.timestamp (beta_of chain i) key entry

@@ -45,13 +45,12 @@ pub record AnswerValue : Type 0 where
 
 -- the question under one of the policy options
 abbrev pub question_under : Selection → ℕ → ℕ → WeighedRules → Question
-question_under set src dst option = question_of set src dst option.rules
+question_under set src dst option = record { set = set; src = src; dst = dst; rules = option.rules }
 
 -- an option comes before another: its weight is larger, or it is equal and the option is listed
 -- first
 abbrev pub GoesBefore : ℕ → WeighedRules → ℕ → WeighedRules → Type 0
-GoesBefore i option j other =
-    (other.weight < option.weight) ⊎ ((other.weight ≡ option.weight) × (i < j))
+GoesBefore i one j other = (other.weight < one.weight) ⊎ ((other.weight ≡ one.weight) × (i < j))
 
 -- this option is used: it leaves a path, and every option before it leaves none
 pub record IsUsed (set : Selection) (src dst : ℕ) (options : List WeighedRules) (limit : ℕ)
@@ -68,5 +67,4 @@ abbrev pub AnswersWith : Selection → ℕ → ℕ → List WeighedRules → ℕ
     → Type 0
 AnswersWith set src dst options limit None paths =
     (paths ≡ []) × All (λ option. HasNone (question_under set src dst option)) options
-AnswersWith set src dst options limit (Some used) paths =
-    IsUsed set src dst options limit used paths
+AnswersWith set src dst options limit (Some one) paths = IsUsed set src dst options limit one paths

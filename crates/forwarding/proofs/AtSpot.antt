@@ -12,13 +12,13 @@ use Rattle.path_header.specs.declared.fields.InfoField.{InfoField}
 use Rattle.path_header.specs.declared.fields.HopField.{HopField}
 use Rattle.path_header.specs.Value.{HeaderValue, lens_from, segment_at}
 use Rattle.path_verifier.specs.Piece.{PieceValue, HasRange, travelled}
-use Rattle.path_verifier.specs.Header.{field_of, fields_of, len_of, total_hops}
+use Rattle.path_verifier.specs.Header.{info_with, field_of, fields_of, len_of, total_hops}
 use Rattle.router_step.specs.declared.arrival.Arrival.{Arrival}
 use Rattle.router_step.specs.declared.arrival.Arrival.TheVariants.{FromHost, Inside, Link}
 use Rattle.router_step.specs.declared.outcome.Outcome.TheVariants.{ToLink}
 use Rattle.router_step.specs.Place.{current_info, current_hop, with_seg_id, seg_id_on_arrival, seg_id_on_leaving, arrived, moved_on, gone}
 use Rattle.router_step.specs.Checks.{is_start_right, indices_fit, way_in_fits, is_hop_live, is_mac_right, source_fits, is_last, ends_segment}
-use Rattle.forwarding.specs.PathPosition.{PathPosition, pieces_at, beta_at, beta_before, info_with, header_with, header_there, header_coming, advanced}
+use Rattle.forwarding.specs.PathPosition.{PathPosition, pieces_at, beta_at, beta_before, header_with, header_there, header_coming, advanced}
 use Rattle.forwarding.specs.OnPath.{header_on}
 use Rattle.forwarding.proofs.Reading.{info_of-header_with, with_seg_id-header_with, hop_of-header_with, length_fields}
 use Rattle.forwarding.proofs.Places.{IsLong, long_of, segment_of_place, no_single}

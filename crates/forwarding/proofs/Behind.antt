@@ -8,8 +8,8 @@ use Rattle.path_header.specs.declared.fields.InfoField.{InfoField}
 use Rattle.path_header.specs.declared.fields.HopField.{HopField}
 use Rattle.path_header.specs.Value.{HeaderValue, lens_from}
 use Rattle.path_verifier.specs.Piece.{PieceValue}
-use Rattle.path_verifier.specs.Header.{fields_of, len_of, info_of, total_hops}
-use Rattle.forwarding.specs.PathPosition.{PathPosition, pieces_at, beta_at, info_with, info_left, header_with, header_there}
+use Rattle.path_verifier.specs.Header.{info_with, fields_of, len_of, info_of, total_hops}
+use Rattle.forwarding.specs.PathPosition.{PathPosition, pieces_at, beta_at, info_left, header_with, header_there}
 use Rattle.forwarding.specs.Turned.{header_behind}
 
 abbrev pub lens_of : List PieceValue → SegLens

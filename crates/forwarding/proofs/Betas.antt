@@ -10,11 +10,11 @@ use Rattle.path_segment.specs.declared.entry.Entry.{Entry}
 use Rattle.path_segment.specs.Chain.{beta_of}
 use Rattle.path_segment.proofs.Chained.{beta_of-next}
 use Rattle.path_verifier.specs.Piece.{PieceValue, HasRange, entries_of, travelled}
-use Rattle.path_verifier.specs.Header.{field_of, len_of}
+use Rattle.path_verifier.specs.Header.{info_with, field_of, len_of}
 use Rattle.path_verifier.proofs.Entries.{length_travelled, length-entries_of}
 use Rattle.router_step.specs.declared.arrival.Arrival.TheVariants.{Link}
 use Rattle.router_step.specs.Place.{seg_id_on_arrival, seg_id_on_leaving}
-use Rattle.forwarding.specs.PathPosition.{place_of, beta_at, beta_before, info_with}
+use Rattle.forwarding.specs.PathPosition.{place_of, beta_at, beta_before}
 
 -- ---- where an entry stands
 

@@ -12,11 +12,11 @@ use Rattle.path_segment.specs.declared.entry.Entry.{Entry}
 use Rattle.path_header.specs.declared.fields.InfoField.{InfoField}
 use Rattle.path_header.specs.declared.fields.HopField.{HopField}
 use Rattle.path_verifier.specs.Piece.{PieceValue, travelled}
-use Rattle.path_verifier.specs.Header.{field_of, fields_of, len_of, total_hops}
+use Rattle.path_verifier.specs.Header.{info_with, field_of, fields_of, len_of, total_hops}
 use Rattle.path_verifier.specs.Header as path
 use Rattle.path_verifier.proofs.Headers.{field_there, length_fields_of}
 use Rattle.router_step.specs.Place.{current_info, current_hop, with_seg_id}
-use Rattle.forwarding.specs.PathPosition.{PathPosition, info_with, info_left, header_with}
+use Rattle.forwarding.specs.PathPosition.{PathPosition, info_left, header_with}
 
 -- the info field at which the packet stands is that of its piece
 pub info_of-header_with : (spot : PathPosition) (seg_id : ℕ)

@@ -12,13 +12,13 @@ use Rattle.path_header.specs.Value.{IsHeader}
 use Rattle.path_header.specs.Spelling.{InfoFits, HopFits, FitsBits, SpellsHeader, spelling}
 use Rattle.path_header.proofs.WholeHeader.{spelling_spells}
 use Rattle.path_verifier.specs.Piece.{PieceValue, HasRange, travelled}
-use Rattle.path_verifier.specs.Header.{field_of, fields_of, len_of, total_hops, header_of}
+use Rattle.path_verifier.specs.Header.{info_with, field_of, fields_of, len_of, total_hops, header_of}
 use Rattle.path_verifier.specs.Header as path
 use Rattle.path_verifier.proofs.Headers.{field_there}
 use Rattle.router_step.specs.declared.arrival.Arrival.{Arrival}
 use Rattle.router_step.specs.declared.arrival.Arrival.TheVariants.{FromHost, Inside, Link}
 use Rattle.router_step.specs.Place.{seg_id_on_arrival, seg_id_on_leaving}
-use Rattle.forwarding.specs.PathPosition.{PathPosition, pieces_at, beta_at, beta_before, info_with, info_left, header_with}
+use Rattle.forwarding.specs.PathPosition.{PathPosition, pieces_at, beta_at, beta_before, info_left, header_with}
 use Rattle.forwarding.specs.OnPath.{header_on}
 use Rattle.forwarding.proofs.Betas.{settled, onward}
 use Rattle.forwarding.proofs.Places.{long_of}

@@ -12,7 +12,7 @@ use Rattle.path_header.specs.declared.fields.InfoField.{InfoField}
 use Rattle.path_header.specs.declared.fields.HopField.{HopField}
 use Rattle.path_header.specs.Value.{HeaderValue, lens_from}
 use Rattle.path_verifier.specs.Piece.{PieceValue}
-use Rattle.path_verifier.specs.Header.{field_of, fields_of, len_of, total_hops}
+use Rattle.path_verifier.specs.Header.{info_with, field_of, fields_of, len_of, total_hops}
 use Rattle.path_verifier.specs.Header as path
 use Rattle.router_step.specs.declared.arrival.Arrival.{Arrival}
 use Rattle.router_step.specs.declared.outcome.Outcome.{Outcome}
@@ -21,7 +21,7 @@ use Rattle.router_step.specs.declared.fault.Refusal.{Refusal}
 use Rattle.router_step.specs.Place.{current_info, current_hop, way_out, moved_on, gone}
 use Rattle.router_step.specs.Checks.{destination_fits, kinds_fit}
 use Rattle.router_step.specs.Step.{step_of}
-use Rattle.forwarding.specs.PathPosition.{PathPosition, beta_at, info_with, info_left, header_with, header_there, header_coming, advanced, out_by}
+use Rattle.forwarding.specs.PathPosition.{PathPosition, beta_at, info_left, header_with, header_there, header_coming, advanced, out_by}
 use Rattle.forwarding.specs.OnPath.{header_on}
 use Rattle.forwarding.proofs.Reading.{info_of-header_with, hop_of-header_with}
 use Rattle.forwarding.proofs.Betas.{first_place_is}

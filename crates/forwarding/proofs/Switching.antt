@@ -11,12 +11,12 @@ use Rattle.path_header.specs.declared.fields.InfoField.{InfoField}
 use Rattle.path_header.specs.declared.fields.HopField.{HopField}
 use Rattle.path_header.specs.Value.{HeaderValue, lens_from, segment_at}
 use Rattle.path_verifier.specs.Piece.{PieceValue, HasRange, travelled}
-use Rattle.path_verifier.specs.Header.{len_of, total_hops}
+use Rattle.path_verifier.specs.Header.{info_with, len_of, total_hops}
 use Rattle.router_step.specs.declared.arrival.Arrival.TheVariants.{Link}
 use Rattle.router_step.specs.Place.{current_info, current_hop, moved_on, gone}
 use Rattle.router_step.specs.Checks.{is_hop_live, is_mac_right, ends_segment}
 use Rattle.router_step.specs.Step.{step_of}
-use Rattle.forwarding.specs.PathPosition.{PathPosition, beta_at, info_with, header_with, header_there}
+use Rattle.forwarding.specs.PathPosition.{PathPosition, beta_at, header_with, header_there}
 use Rattle.forwarding.specs.OnPath.{header_on}
 use Rattle.forwarding.proofs.Reading.{info_of-header_with, hop_of-header_with}
 use Rattle.forwarding.proofs.Places.{IsLong, long_of, segment_of_place}

@@ -13,9 +13,9 @@ use Rattle.path_header.specs.Reversal.{turned_info, reversed_lens, reversed}
 use Rattle.path_segment.specs.declared.entry.Entry.{Entry}
 use Rattle.path_verifier.specs.Piece.{PieceValue, HasRange, travelled}
 use Rattle.path_verifier.proofs.Turned.{travelled_turned, fields_turned}
-use Rattle.path_verifier.specs.Header.{fields_of, len_of, info_of, total_hops, header_of}
+use Rattle.path_verifier.specs.Header.{info_with, fields_of, len_of, info_of, total_hops, header_of}
 use Rattle.path_verifier.proofs.Entries.{length_travelled}
-use Rattle.forwarding.specs.PathPosition.{place_of, info_with, info_left}
+use Rattle.forwarding.specs.PathPosition.{place_of, info_left}
 use Rattle.path_verifier.specs.Turned.{turned_piece, turned_pieces}
 use Rattle.forwarding.specs.Turned.{header_behind}
 use Rattle.forwarding.proofs.Reading.{length_fields}

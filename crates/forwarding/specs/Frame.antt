@@ -12,8 +12,7 @@ addresses source destination = to_be_bytes w64 destination ++ to_be_bytes w64 so
 
 -- the bytes of a packet: both addresses, its path header, its payload
 unfoldable pub framed : ℕ → ℕ → HeaderValue → List ℕ → List ℕ
-framed source destination header payload =
-    addresses source destination ++ (spelling header ++ payload)
+framed src dst header payload = addresses src dst ++ (spelling header ++ payload)
 
 -- both addresses and the numbers in the header of these pieces fit into their bits
 pub record HasFrame (source destination : ℕ) (pieces : List PieceValue) : Type 0 where

@@ -80,11 +80,8 @@ pub record ComesNearer (n : Network) (now source destination : ℕ) (payload : L
 -- sent, and the whole walk passed
 abbrev pub arrived_with : ℕ → ℕ → List ℕ → List PieceValue → Packet
 arrived_with source destination payload pieces =
-    record {
-      bytes = framed source destination (header_behind pieces) payload;
-      place = Delivered;
-      passed = walk_of pieces;
-    }
+    let bytes = framed source destination (header_behind pieces) payload in
+    record { bytes = bytes; place = Delivered; passed = walk_of pieces }
 
 -- the last turn delivers the packet
 pub record Arrives (n : Network) (now source destination : ℕ) (payload : List ℕ)

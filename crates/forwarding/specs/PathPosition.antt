@@ -7,7 +7,7 @@ use Rattle.path_segment.specs.Chain.{beta_of}
 use Rattle.path_header.specs.declared.fields.InfoField.{InfoField}
 use Rattle.path_header.specs.Value.{HeaderValue, lens_from}
 use Rattle.path_verifier.specs.Piece.{PieceValue}
-use Rattle.path_verifier.specs.Header.{info_of, fields_of, len_of, total_hops}
+use Rattle.path_verifier.specs.Header.{info_with, info_of, fields_of, len_of, total_hops}
 
 -- a place on a path: the pieces already travelled, the current piece, the pieces to come, and the
 -- index of the entry reached in the current piece, in order of travel from 0
@@ -35,11 +35,6 @@ beta_at piece i = beta_of piece.segment (place_of piece i)
 abbrev pub beta_before : PieceValue → ℕ → ℕ
 beta_before piece i =
     beta_of piece.segment (if piece.along then place_of piece i else place_of piece i + 1)
-
--- the info field of a piece with this accumulator
-abbrev pub info_with : PieceValue → ℕ → InfoField
-info_with piece seg_id =
-    record { construction = piece.along; seg_id = seg_id; timestamp = piece.segment.timestamp }
 
 -- the info field of a piece that was travelled to its end
 abbrev pub info_left : PieceValue → InfoField

@@ -23,19 +23,15 @@ pub record Packet : Type 0 where
   pub place : PacketLocation
   pub passed : List WalkHop
 
+-- the stop at a router to which a packet came so, by this interface of the AS
+abbrev pub stop_at : ℕ → ℕ → Arrival → ℕ → RouterStop
+stop_at ia router arrival came_in_by =
+    record { ia = ia; router = router; arrival = arrival; came_in_by = came_in_by }
+
 -- a packet of these bytes that a host sends, at this router of the host's AS
 abbrev pub put_at : List ℕ → ℕ → ℕ → Packet
 put_at bytes ia router =
-    record {
-      bytes = bytes;
-      place = AtRouter (record {
-        ia = ia;
-        router = router;
-        arrival = FromHost;
-        came_in_by = 0;
-      });
-      passed = [];
-    }
+    record { bytes = bytes; place = AtRouter (stop_at ia router FromHost 0); passed = [] }
 
 -- the passed hops with this one added; a packet keeps at most 64
 abbrev pub noted : List WalkHop → WalkHop → List WalkHop
@@ -48,15 +44,8 @@ hop_by stop out = record { ia = stop.ia; ingress = stop.came_in_by; egress = out
 -- the packet at the router that owns the far end of a link; if there is none, the packet as it was
 abbrev pub at_owner : Packet → RouterStop → ℕ → ℕ → ℕ → Result ℕ TopologyFault → Packet
 at_owner packet stop out ia number (Ok router) =
-    record packet {
-      place = AtRouter (record {
-        ia = ia;
-        router = router;
-        arrival = Link number;
-        came_in_by = number;
-      });
-      passed = noted packet.passed (hop_by stop out);
-    }
+    let passed = noted packet.passed (hop_by stop out) in
+    record packet { place = AtRouter (stop_at ia router (Link number) number); passed = passed }
 at_owner packet stop out ia number (Err fault) = packet
 
 abbrev pub over_link : Network → Packet → RouterStop → ℕ → Result (ℕ × ℕ) TopologyFault → Packet

@@ -22,8 +22,7 @@ all_digits radix text = list_all (λ b. nat_lt (digit_value b) radix) text
 unfoldable pub number_at : ℕ → ℕ → AddrFault → List ℕ → Result ℕ AddrFault
 number_at radix limit too_large text = if nat_lt 0 (length text) && all_digits radix text
     then (if nat_lt (digits_value radix text) limit then Ok (digits_value radix text)
-    else Err too_large)
-    else Err fault.BadDigit
+    else Err too_large) else Err fault.BadDigit
 
 -- the number of an ISD, a decimal number of 16 bits
 unfoldable pub isd_at : List ℕ → Result ℕ AddrFault

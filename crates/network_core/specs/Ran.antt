@@ -20,11 +20,10 @@ pub record IsRun (network : Network) (history : List EventRecord) : Type 0 where
       → Occurs history number (Send route payload) (Sent p) → (sent : Shipment)
       × ((shipment_by (net_at (new_net network) history number) route payload ≡ Ok sent)
       × Headline (new_net network) history number p sent)
-  pub by_answer : (number p ask path : ℕ) (payload : List ℕ)
-      → Occurs history number (Send (ByAnswer ask path) payload) (Sent p) → (sent : Shipment)
-      × ((shipment_by (net_at (new_net network) history number) (ByAnswer ask path) payload
-      ≡ Ok sent)
-      × HaveBeginning (new_net network) history number sent.way.pieces)
+  pub by_answer : (k p ask path : ℕ) (payload : List ℕ)
+      → Occurs history k (Send (ByAnswer ask path) payload) (Sent p) → (sent : Shipment)
+      × ((shipment_by (net_at (new_net network) history k) (ByAnswer ask path) payload ≡ Ok sent)
+      × HaveBeginning (new_net network) history k sent.way.pieces)
 
 -- a run of these events ends with this network
 pub record Ran (network : Network) (events : List EventValue) (net : NetValue) : Type 0 where

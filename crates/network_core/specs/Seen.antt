@@ -3,18 +3,12 @@ use Rattle.network_core.specs.declared.event.Event.{Event}
 use Rattle.network_core.specs.declared.event.Event.TheVariants as events
 use Rattle.network_core.specs.declared.event.Given.{Given}
 use Rattle.policy_expr.specs.Options.{options_at}
-use Rattle.network_core.specs.Value.{Way}
+use Rattle.network_core.specs.Value.{Way, way_with}
 use Rattle.network_core.specs.Event.{ByAnswer, ByWay, BackOf, EventValue, Tick, Originate, Extend, Terminate, Sweep, Ask, Send, Turn, Lose, Alter, CutLink, MendLink, RotateKey}
 
 -- the value of a given path
 abbrev pub way_of : Given → Way
-way_of given = record {
-  source = given.source;
-  destination = given.destination;
-  pieces = given.pieces.now;
-  header = given.header.now;
-  rules = given.policy.now;
-}
+way_of way = way_with way.source way.destination way.pieces.now way.header.now way.policy.now
 
 -- the value of an event
 abbrev pub event_value : Event → EventValue

@@ -34,7 +34,7 @@ use Rattle.network_core.specs.declared.fault.EventFault.TheVariants as faults
 use Rattle.network_core.specs.declared.reply.Reply.{Reply}
 use Rattle.network_core.specs.declared.reply.Reply.TheVariants.{Done, Begun, Registered, Swept, Answered, Sent, Turned, Refused}
 use Rattle.network_core.specs.Event.{RouteValue, ByAnswer, ByWay, BackOf, EventValue, Tick, Originate, Extend, Terminate, Sweep, Ask, Send, Turn, Lose, Alter, CutLink, MendLink, RotateKey}
-use Rattle.network_core.specs.Value.{Way, KeptAnswer, way_on, asked_at, Shipment, PacketValue, NetValue}
+use Rattle.network_core.specs.Value.{Way, way_with, KeptAnswer, way_on, asked_at, Shipment, PacketValue, NetValue}
 
 -- the result of an event: its reply and the network after it, or its refusal
 abbrev pub Made : Type 0
@@ -58,8 +58,7 @@ beacon_at net beacon = ok_or (slice_get net.beacons beacon) faults.NoBeacon
 
 -- the beacon that an AS begins, with the current second as its timestamp
 abbrev pub begun : NetValue → ℕ → ℕ → ℕ → Result Chain EventFault
-begun net ia egress beta0 =
-    refused_as faults.Beacon (originated net.network ia egress net.moment beta0)
+begun net ia out beta0 = refused_as faults.Beacon (originated net.network ia out net.moment beta0)
 
 -- the beacon after an AS has passed it on
 abbrev pub passed_on : NetValue → ℕ → ℕ → ℕ → Result Chain EventFault
@@ -91,10 +90,9 @@ terminates net beacon ia = ended net beacon ia >>= with_segment net
 
 -- the network without the stored segments that are not live at the current second
 abbrev pub cleared : NetValue → Made
-cleared net = Ok (
-  Swept (expired_count net.segments net.moment),
-  record net { segments = swept net.segments net.moment },
-)
+cleared net =
+    let segments = swept net.segments net.moment in
+    Ok (Swept (expired_count net.segments net.moment), record net { segments = segments })
 
 -- the network with a changed topology, or the refusal of the change
 abbrev pub with_network : NetValue → Result Network TopologyFault → Made
@@ -171,10 +169,8 @@ with_packet net number one packet =
 abbrev pub turns : NetValue → ℕ → Made
 turns net number = do
   one ← flying_at net number
-  Ok (
-    Turned (turn_of net.network net.moment one.packet).0,
-    with_packet net number one (turn_of net.network net.moment one.packet).1,
-  )
+  let turn = turn_of net.network net.moment one.packet in
+      Ok (Turned turn.0, with_packet net number one turn.1)
 
 -- the network after a packet was lost
 abbrev pub loses : NetValue → ℕ → Made
@@ -201,14 +197,8 @@ header_back packet place = Err faults.NotDelivered
 -- the way back of a delivered packet: its source and destination, as its bytes give them,
 -- exchanged; this header; the pieces of its path in reverse order and direction; and no policy
 abbrev pub way_back : PacketValue → HeaderValue → Way
-way_back one header =
-    record {
-      source = destination_of one.packet.bytes;
-      destination = source_of one.packet.bytes;
-      pieces = turned_pieces one.sent.way.pieces;
-      header = header;
-      rules = no_rules;
-    }
+way_back one header = way_with (destination_of one.packet.bytes) (source_of one.packet.bytes)
+    (turned_pieces one.sent.way.pieces) header no_rules
 
 -- the way of a route: NoAnswer if there is no such answer or it has no such path; NoPacket,
 -- NotDelivered
@@ -236,11 +226,9 @@ shipment_by net route payload = do
 
 -- the packet of a shipment, at this router of its source
 abbrev pub packet_of : Shipment → ℕ → PacketValue
-packet_of sent router = record {
-  sent = sent;
-  packet = put_at (framed sent.way.source sent.way.destination sent.way.header sent.payload)
-      sent.way.source router;
-}
+packet_of sent router =
+    let bytes = framed sent.way.source sent.way.destination sent.way.header sent.payload in
+    record { sent = sent; packet = put_at bytes sent.way.source router }
 
 -- the network with the packet of this shipment, at the router that owns the first way out of its
 -- walk: the refusal of the topology, then TooMany if there are a million packets already
@@ -270,8 +258,7 @@ Sends (Err fault) old reply new = (reply ≡ Refused fault) × (new ≡ old)
 -- one event, from the network before it to its reply and the network after it
 abbrev pub Step : NetValue → EventValue → Reply → NetValue → Type 0
 Step old (Tick to) reply new = Leads (ticked old to) old reply new
-Step old (Originate ia egress beta0) reply new =
-    Leads (originates old ia egress beta0) old reply new
+Step old (Originate ia egress beta) reply new = Leads (originates old ia egress beta) old reply new
 Step old (Extend beacon ia egress) reply new = Leads (extends old beacon ia egress) old reply new
 Step old (Terminate beacon ia) reply new = Leads (terminates old beacon ia) old reply new
 Step old Sweep reply new = Leads (cleared old) old reply new

@@ -18,6 +18,11 @@ pub record Way : Type 0 where
   pub header : HeaderValue
   pub rules : Rules
 
+-- the way of these parts
+abbrev pub way_with : ℕ → ℕ → List PieceValue → HeaderValue → Rules → Way
+way_with from to pieces header rules =
+    record { source = from; destination = to; pieces = pieces; header = header; rules = rules }
+
 -- the verifier's request for a way at a second
 abbrev pub asked_at : ℕ → Way → Request
 asked_at moment way = request_of way.pieces way.header way.source way.destination moment way.rules
@@ -41,13 +46,7 @@ pub record KeptAnswer : Type 0 where
 
 -- the way of one path of an answer
 abbrev pub way_on : KeptAnswer → PathValue → Way
-way_on answered path = record {
-  source = answered.source;
-  destination = answered.destination;
-  pieces = path.pieces;
-  header = path.header;
-  rules = answered.rules;
-}
+way_on one path = way_with one.source one.destination path.pieces path.header one.rules
 
 -- a network: its topology, the current second, the beacons by number, the stored segments in the
 -- order of registration, and the answers and the packets by number
@@ -61,11 +60,5 @@ pub record NetValue : Type 0 where
 
 -- the network of this topology at second 0, with nothing in it
 abbrev pub new_net : Network → NetValue
-new_net network = record {
-  network = network;
-  moment = 0;
-  beacons = [];
-  segments = [];
-  answers = [];
-  packets = [];
-}
+new_net n =
+    record { network = n; moment = 0; beacons = []; segments = []; answers = []; packets = [] }

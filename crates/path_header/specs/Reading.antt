@@ -9,7 +9,7 @@ use Rattle.path_header.specs.declared.meta.Meta.{Meta}
 use Rattle.path_header.specs.declared.fields.InfoField.{InfoField}
 use Rattle.path_header.specs.declared.fields.HopField.{HopField}
 use Rattle.path_header.specs.Value.{HeaderValue, info_count, hop_count, len_for, header_len}
-use Rattle.path_header.specs.Building.{checked_lens}
+use Rattle.path_header.specs.Building.{checked_lens, first_header}
 
 -- the number in the first four bytes, big-endian
 abbrev pub word_at : List ℕ → ℕ
@@ -87,14 +87,8 @@ header_at bytes = do
   m ← meta_at bytes
   infos ← fields_at info_at 8 (info_count m.lens) (drop 4 bytes)
   hops ← fields_at hop_at 12 (hop_count m.lens) (drop (4 + 8 * info_count m.lens) bytes)
-  if nat_lt m.curr_inf (info_count m.lens) && nat_lt m.curr_hf (hop_count m.lens)
-      then Ok (record {
-        curr_inf = m.curr_inf;
-        curr_hf = m.curr_hf;
-        lens = m.lens;
-        infos = infos;
-        hops = hops;
-      })
+  if nat_lt m.curr_inf (info_count m.lens) && nat_lt m.curr_hf (hop_count m.lens) then
+      Ok (record (first_header m.lens infos hops) { curr_inf = m.curr_inf; curr_hf = m.curr_hf })
       else Err BadIndex
 
 -- the header at the front, and its length in bytes

@@ -29,8 +29,7 @@ len_for l = 4 + 8 * info_count l + 12 * hop_count l
 
 -- up to three lengths from a list, and zero for each that is missing
 abbrev pub lens_from : List ℕ → SegLens
-lens_from ns =
-    record { first = slice_index ns 0; second = slice_index ns 1; third = slice_index ns 2 }
+lens_from n = record { first = slice_index n 0; second = slice_index n 1; third = slice_index n 2 }
 
 -- a path header: the indices of the current info and hop field, the lengths, and all fields in
 -- order
@@ -67,5 +66,4 @@ pub record IsInSegment (l : SegLens) (hop segment : ℕ) : Type 0 where
 
 -- the segment to which a hop field belongs
 abbrev pub segment_at : SegLens → ℕ → ℕ
-segment_at l hop = if nat_lt hop l.first then 0 else if nat_lt hop (l.first + l.second) then 1
-    else 2
+segment_at l at = if nat_lt at l.first then 0 else if nat_lt at (l.first + l.second) then 1 else 2

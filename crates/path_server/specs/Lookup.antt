@@ -20,8 +20,7 @@ is_intra_to ia now segment = same_kind segment.kind Intra
 
 -- whether the AS is `ia` or one of these segments begins in it
 unfoldable pub is_reached : ℕ → List Chain → ℕ → Bool
-is_reached ia segments other = (other == ia)
-    || list_any (λ segment. first_as segment == other) segments
+is_reached ia segments other = (other == ia) || list_any (λ one. first_as one == other) segments
 
 -- a live core segment with one end on the near side and the other end on the far side, in either
 -- direction
@@ -35,12 +34,8 @@ unfoldable pub segments_for : List Chain → ℕ → ℕ → ℕ → Selection
 segments_for segments src dst now =
     let ups = filter (is_intra_to src now) segments in
     let downs = filter (is_intra_to dst now) segments in
-    record {
-      ups = ups;
-      cores = filter (joins (is_reached src ups) (is_reached dst downs) now) segments;
-      downs = downs;
-      moment = now;
-    }
+    let cores = filter (joins (is_reached src ups) (is_reached dst downs) now) segments in
+    record { ups = ups; cores = cores; downs = downs; moment = now }
 
 -- `is_intra_to` without tests: a segment of the list that is intra, live, and ends in this AS
 pub record LeadsTo (segments : List Chain) (ia now : ℕ) (segment : Chain) : Type 0 where

@@ -99,15 +99,8 @@ pub record Request : Type 0 where
   pub rules : Rules
 
 abbrev pub request_of : List PieceValue → HeaderValue → ℕ → ℕ → ℕ → Rules → Request
-request_of pieces header src dst moment rules =
-    record {
-      pieces = pieces;
-      header = header;
-      src = src;
-      dst = dst;
-      moment = moment;
-      rules = rules;
-    }
+request_of pieces header src dst now rules =
+    record { pieces = pieces; header = header; src = src; dst = dst; moment = now; rules = rules }
 
 -- the path may be sent: the pieces are a path, the header is theirs, and the policy allows the walk
 pub record IsAccepted (request : Request) : Type 0 where

@@ -18,14 +18,15 @@ field_of entry = record {
   mac = entry.mac;
 }
 
+-- the info field of a piece with this accumulator
+abbrev pub info_with : PieceValue → ℕ → InfoField
+info_with piece seg_id =
+    record { construction = piece.along; seg_id = seg_id; timestamp = piece.segment.timestamp }
+
 -- the info field of a piece: the direction, the accumulator at the first entry travelled, and the
 -- segment's timestamp
 abbrev pub info_of : PieceValue → InfoField
-info_of piece = record {
-  construction = piece.along;
-  seg_id = beta_of piece.segment (first_place piece);
-  timestamp = piece.segment.timestamp;
-}
+info_of piece = info_with piece (beta_of piece.segment (first_place piece))
 
 -- the hop fields of a piece, in order of travel
 unfoldable pub fields_of : PieceValue → List HopField

@@ -11,11 +11,9 @@ use Rattle.path_verifier.specs.Piece.{PieceValue, travelled}
 -- ConsEgress, against it the other way round
 unfoldable pub hop_of : Bool → Entry → WalkHop
 hop_of along entry =
-    record {
-      ia = entry.ia;
-      ingress = if along then entry.cons_ingress else entry.cons_egress;
-      egress = if along then entry.cons_egress else entry.cons_ingress;
-    }
+    let ingress = if along then entry.cons_ingress else entry.cons_egress in
+    let egress = if along then entry.cons_egress else entry.cons_ingress in
+    record { ia = entry.ia; ingress = ingress; egress = egress }
 
 -- the hops of a piece, in order of travel
 unfoldable pub hops_of : PieceValue → List WalkHop

@@ -20,12 +20,11 @@ MatchesBy None hop = Unit {0}
 MatchesBy (Some pred) hop = Matches pred hop
 
 -- the entry at this place is the first that matches the hop
-pub record Decides (entries : List AclEntry) (hop : WalkHop) (place : ℕ) (entry : AclEntry) : Type 0
-  where
-    pub there : slice_get entries place ≡ Some entry
-    pub matches : MatchesBy entry.pred hop
-    pub first : (earlier : ℕ) (other : AclEntry) → earlier < place
-        → slice_get entries earlier ≡ Some other → MatchesBy other.pred hop → ⊥
+pub record Decides (acl : List AclEntry) (hop : WalkHop) (at : ℕ) (entry : AclEntry) : Type 0 where
+  pub there : slice_get acl at ≡ Some entry
+  pub matches : MatchesBy entry.pred hop
+  pub first : (earlier : ℕ) (other : AclEntry) → earlier < at → slice_get acl earlier ≡ Some other
+      → MatchesBy other.pred hop → ⊥
 
 -- the first entry that matches the hop allows it
 abbrev pub Allowed : List AclEntry → WalkHop → Type 0
@@ -34,13 +33,11 @@ Allowed entries hop = (place : ℕ) × (entry : AclEntry) × Decides entries hop
 
 -- the entry at this place is the first that matches the hop, and it denies the hop
 abbrev pub DeniedAt : List AclEntry → WalkHop → ℕ → Type 0
-DeniedAt entries hop place = (entry : AclEntry) × Decides entries hop place entry
-    × (entry.allows ≡ false)
+DeniedAt acl hop place = (entry : AclEntry) × Decides acl hop place entry × (entry.allows ≡ false)
 
 -- each hop of the walk is allowed
 abbrev pub AllowsWalk : List AclEntry → List WalkHop → Type 0
-AllowsWalk entries walk = (k : ℕ) (hop : WalkHop) → slice_get walk k ≡ Some hop
-    → Allowed entries hop
+AllowsWalk acl walk = (k : ℕ) (hop : WalkHop) → slice_get walk k ≡ Some hop → Allowed acl hop
 
 -- the first denied hop of the walk, and the place of the entry that denies it
 pub record IsDenial (entries : List AclEntry) (walk : List WalkHop) (denied : Denied) : Type 0 where
@@ -58,10 +55,9 @@ says_nothing (Both m n) = false
 
 -- the entry of a sign and a predicate; a predicate of wildcards alone is dropped
 abbrev pub signed_entry : Bool → HopPred → AclEntry
-signed_entry allows pred = record {
-  allows = allows;
-  pred = if (pred.ia == 0) && says_nothing pred.interfaces then None else Some pred;
-}
+signed_entry allows pred =
+    let kept = if (pred.ia == 0) && says_nothing pred.interfaces then None else Some pred in
+    record { allows = allows; pred = kept }
 
 -- the entry of a sign and of the text after it: a predicate, or nothing
 abbrev pub signed_at : Bool → List ℕ → Result AclEntry PolicyFault

@@ -43,27 +43,23 @@ next_choice level item =
 -- innermost first; `level` is the current one. `item` is the item at its end, or none if an item
 -- has to come.
 abbrev pub read_rest : List Level → Level → Option Tree → List Token → Result Tree PolicyFault
-read_rest levels level item (signs.Hop p ∷ ts) =
-    read_rest levels (next_level level item) (Some (hop p)) ts
-read_rest levels level item (signs.Open ∷ ts) =
-    if nat_lt (length levels) 32 then read_rest (next_level level item ∷ levels) new_level None ts
+read_rest up level item (signs.Hop p ∷ ts) = read_rest up (next_level level item) (Some (hop p)) ts
+read_rest up level item (signs.Open ∷ ts) =
+    if nat_lt (length up) 32 then read_rest (next_level level item ∷ up) new_level None ts
     else Err faults.TooDeep
-read_rest levels level None [] = Err faults.UnexpectedEnd
-read_rest levels level None (t ∷ ts) = Err faults.BadPredicate
+read_rest up level None [] = Err faults.UnexpectedEnd
+read_rest up level None (t ∷ ts) = Err faults.BadPredicate
 read_rest [] level (Some item) [] = Ok (whole level item)
-read_rest (outer ∷ levels) level (Some item) [] = Err faults.Unbalanced
-read_rest levels level (Some item) (signs.Optional ∷ ts) =
-    read_rest levels level (Some (optional item)) ts
-read_rest levels level (Some item) (signs.OnceOrMore ∷ ts) =
-    read_rest levels level (Some (once_or_more item)) ts
-read_rest levels level (Some item) (signs.Repeated ∷ ts) =
-    read_rest levels level (Some (repeated item)) ts
-read_rest levels level (Some item) (signs.Or ∷ ts) =
-    read_rest levels (next_choice level item) None ts
+read_rest (outer ∷ up) level (Some item) [] = Err faults.Unbalanced
+read_rest up level (Some item) (signs.Optional ∷ ts) = read_rest up level (Some (optional item)) ts
+read_rest up level (Some item) (signs.OnceOrMore ∷ ts) =
+    read_rest up level (Some (once_or_more item)) ts
+read_rest up level (Some item) (signs.Repeated ∷ ts) = read_rest up level (Some (repeated item)) ts
+read_rest up level (Some item) (signs.Or ∷ ts) = read_rest up (next_choice level item) None ts
 read_rest [] level (Some item) (signs.Close ∷ ts) = Err faults.Unbalanced
-read_rest (outer ∷ levels) level (Some item) (signs.Close ∷ ts) =
-    read_rest levels outer (Some (whole level item)) ts
-read_rest levels level (Some item) (signs.Other ∷ ts) = Err faults.BadPredicate
+read_rest (outer ∷ up) level (Some item) (signs.Close ∷ ts) =
+    read_rest up outer (Some (whole level item)) ts
+read_rest up level (Some item) (signs.Other ∷ ts) = Err faults.BadPredicate
 
 -- the tree of a text, of any size
 abbrev pub tree_at : List ℕ → Result Tree PolicyFault

@@ -37,8 +37,7 @@ is_owned view interface =
 -- step 3: a packet that came over a link came by an interface of this router, and that is the hop's
 -- way in
 abbrev pub way_in_fits : View → Arrival → InfoField → HopField → Bool
-way_in_fits view (Link interface) info hop =
-    is_owned view interface && (interface == way_in info hop)
+way_in_fits view (Link number) info hop = is_owned view number && (number == way_in info hop)
 way_in_fits view arrival info hop = true
 
 -- step 4: the hop is live

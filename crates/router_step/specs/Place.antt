@@ -33,10 +33,9 @@ way_out info hop = if info.construction then hop.cons_egress else hop.cons_ingre
 
 -- the header with this accumulator in its current info field
 abbrev pub with_seg_id : HeaderValue → ℕ → HeaderValue
-with_seg_id header seg_id = record header {
-  infos =
-      slice_set header.infos header.curr_inf (record (current_info header) { seg_id = seg_id });
-}
+with_seg_id header seg_id =
+    let info = record (current_info header) { seg_id = seg_id } in
+    record header { infos = slice_set header.infos header.curr_inf info }
 
 -- the packet came over a link
 abbrev pub is_over_link : Arrival → Bool
@@ -46,9 +45,8 @@ is_over_link arrival = false
 -- the accumulator on arrival: over a link and against construction direction, this hop's
 -- authenticator is taken out by exclusive or; else unchanged
 abbrev pub seg_id_on_arrival : Arrival → InfoField → HopField → ℕ
-seg_id_on_arrival arrival info hop =
-    if is_over_link arrival && not info.construction then beta_after info.seg_id hop.mac
-    else info.seg_id
+seg_id_on_arrival arrival info hop = if is_over_link arrival && not info.construction
+    then beta_after info.seg_id hop.mac else info.seg_id
 
 -- the header after the arrival: the change of step 5
 abbrev pub arrived : Arrival → HeaderValue → HeaderValue
@@ -57,10 +55,9 @@ arrived arrival header =
 
 -- the header after step 9: both indices go on by one if there is a switch to the next segment
 abbrev pub moved_on : Bool → HeaderValue → HeaderValue
-moved_on switched header = record header {
-  curr_inf = header.curr_inf + (if switched then 1 else 0);
-  curr_hf = header.curr_hf + (if switched then 1 else 0);
-}
+moved_on switched header =
+    let more : ℕ = if switched then 1 else 0 in
+    record header { curr_inf = header.curr_inf + more; curr_hf = header.curr_hf + more }
 
 -- the accumulator on leaving over a link: in construction direction, this hop's authenticator is
 -- put in by exclusive or; else unchanged

@@ -43,8 +43,7 @@ unfoldable pub switched : View → ℕ → Arrival → HeaderValue → Result Bo
 switched view now arrival header = if ends_segment header then (do
   _ ← check (is_over_link arrival) refusal.SwitchInside
   _ ← passes view now (current_info (moved_on true header)) (current_hop (moved_on true header))
-  Ok true)
-    else Ok false
+  Ok true) else Ok false
 
 -- steps 10 to 13: the first refusal, or the outcome
 unfoldable pub left : View → Arrival → Bool → InfoField → HopField → Result Outcome Refusal
@@ -63,7 +62,6 @@ step_of view now arrival source destination header = do
   last ← at_path_end view arrival source destination here  -- 6, 7
   if last then Ok (Deliver, here) else (do  -- 8
     has_switched ← switched view now arrival here  -- 9
-    outcome ← left view arrival has_switched
-        (current_info (moved_on has_switched here))
-        (current_hop (moved_on has_switched here))  -- 10 to 13
-    Ok (outcome, gone outcome (moved_on has_switched here)))
+    let next = moved_on has_switched here in (do
+      outcome ← left view arrival has_switched (current_info next) (current_hop next)  -- 10 to 13
+      Ok (outcome, gone outcome next)))
