@@ -89,11 +89,11 @@ static WORK_HELP: &str = "\
 Standard input has the lines of 'run' that prepare a network: all but 'turn', 'lose', 'alter', \
 'back' and 'show', which are answered by 'no 140 BadLine'. They are answered as 'run' answers \
 them. Then the packets that were sent are carried through the network, as it is then, at its \
-moment: each worker is a thread, and has an inbox with so many places. There are 1 to 8 workers.
+moment: each worker is a thread with an inbox of SLOTS places. There are 1 to 8 workers.
 
-Behind the replies stands a line for each packet, in their order: 'flight N delivered TURNS', \
-'flight N refused CODE NAME', or 'flight N dropped', where it found its next inbox full; none is \
-dropped where an inbox has a place for each packet.
+After the replies comes a line for each packet, in their order: 'flight N delivered TURNS', \
+'flight N refused CODE NAME', or 'flight N dropped', if its next inbox was full; none is \
+dropped if an inbox has a place for each packet.
 
 Example: two packets from an AS to its parent, each delivered in two turns
   printf '%s\\n' \\
