@@ -1,14 +1,14 @@
 /* A router, path headers and authenticators of SCION: each call does what a proved contract says.
  *
- * Link libscion_ffi.a, which wants memcpy, memmove and memset and nothing else. Its calls take no
- * memory, keep no pointer, and return after a time that the lengths bound. They answer every value
- * that they are given, so that there is nothing to test before.
+ * Link libscion_ffi.a, which needs memcpy, memmove and memset and nothing else. Its calls take no
+ * memory, keep no pointer, and return after a time that the lengths bound. They answer all values
+ * of their arguments, so that a host need not check them first.
  *
  * A host keeps three duties, which nothing checks:
- * - no pointer is null, also where its length is 0;
- * - each points to as many items as its length says, aligned, and written before;
- * - while a call runs, nobody else touches what it may write, nor writes what it reads; so two
- *   packets of one call share no byte.
+ * - no pointer is null, not even if its length is 0;
+ * - each points to as many items as its length says; they are aligned and initialized;
+ * - while a call runs, nobody else reads or writes what it may write, or writes what it reads; so
+ *   two packets of one call share no byte.
  * Calls on different bytes may run on different threads at the same time.
  */
 #ifndef SCION_H
@@ -19,19 +19,19 @@
 extern "C" {
 #endif
 
-/* What was done. A call that does not step a packet answers SCION_DONE. */
+/* The result. A call that does not step a packet answers SCION_DONE. */
 enum {
     SCION_DONE = 0,
     SCION_TO_LINK = 0,   /* the packet goes over the link at interface `number` */
-    SCION_TO_ROUTER = 1, /* it goes to router `number` of the same AS */
-    SCION_DELIVER = 2    /* it is for a host of this AS */
+    SCION_TO_ROUTER = 1, /* the packet goes to router `number` of the same AS */
+    SCION_DELIVER = 2    /* the packet is for a host of this AS */
 };
 
-/* Why a call was refused. Nothing that the host gave has changed then. */
+/* Why a call was refused. None of its arguments has changed then. */
 enum {
     SCION_BAD_CALL = 9,      /* no such kind, state or way in, or more than 256 interfaces */
-    SCION_BAD_FIELD = 11,    /* a wildcard address, interface 0, or a key of no or over 64 bytes */
-    SCION_DUPLICATE_IF = 13, /* two interfaces have one number */
+    SCION_BAD_FIELD = 11,    /* a wildcard address, interface 0, or a key not of 1 to 64 bytes */
+    SCION_DUPLICATE_IF = 13, /* two interfaces have the same number */
 
     SCION_SHORT = 20,        /* the bytes end before the header does */
     SCION_RESERVED = 21,
@@ -61,7 +61,7 @@ enum { SCION_CORE = 0, SCION_PARENT = 1, SCION_CHILD = 2 };
 enum { SCION_FROM_HOST = 0, SCION_INSIDE = 1, SCION_OVER_LINK = 2 };
 
 typedef struct {
-    uint16_t code;   /* what was done, or the refusal */
+    uint16_t code;   /* the result, or the refusal */
     uint16_t number; /* an interface, a router, a length, or at 90 the header's refusal; else 0 */
 } scion_answer;
 
@@ -77,7 +77,7 @@ typedef struct {
     const uint8_t *key;                /* in use: 1 to 64 bytes */
     size_t key_len;
     const uint8_t *previous;           /* the key before it */
-    size_t previous_len;               /* 0 where there was none, else 1 to 64 */
+    size_t previous_len;               /* 0 if there is none, else 1 to 64 */
     const scion_interface *interfaces; /* of the whole AS, in any order */
     size_t interfaces_len;             /* at most 256 */
     uint8_t router;                    /* its number in the AS */
@@ -86,44 +86,44 @@ typedef struct {
 typedef struct {
     uint8_t *bytes;
     size_t len;
-    uint16_t interface;  /* by which it came, where it came over a link */
+    uint16_t interface;  /* by which it came, if it came over a link */
     scion_answer answer; /* written by scion_step_all */
     uint8_t came;        /* SCION_FROM_HOST, SCION_INSIDE or SCION_OVER_LINK */
 } scion_packet;
 
-/* One step of a router over a packet, in place, at the second `now`. A packet is 8 bytes of
+/* One step of a router on a packet, in place, at the second `now`. A packet is 8 bytes of
  * destination, 8 of source, a path header and a payload. Codes: 0, 1, 2; 9, 11, 13; 90 to 100.
- * Where the packet goes on, the bytes of its header alone may be others; else none is. */
+ * If the packet goes on, only bytes of its header may have changed; else no byte has. */
 scion_answer scion_step(const scion_router *router, uint32_t now, uint8_t came, uint16_t interface,
                         uint8_t *packet, size_t len);
 
-/* One step over each packet, as scion_step does it, with an answer in each. The router's keys are
- * hashed once for them all. Codes: SCION_DONE; or 9, 11, 13 for a router that cannot be, and then
+/* One step on each packet, as of scion_step, with the answer in its record. The router's keys are
+ * hashed once for all packets. Codes: SCION_DONE; or 9, 11, 13 if there is no such router, and then
  * no packet and no answer has changed. */
 scion_answer scion_step_all(const scion_router *router, uint32_t now, scion_packet *packets,
                             size_t len);
 
-/* Whether a path header stands at the front of these bytes: SCION_DONE and its length in bytes, at
- * most 796, or one of 20 to 26. */
+/* Whether these bytes begin with a path header: SCION_DONE and its length in bytes, at most 796, or
+ * one of 20 to 26. */
 scion_answer scion_header_check(const uint8_t *bytes, size_t len);
 
-/* Turns the path header at the front of these bytes into that of the way back, which is as long.
- * It answers as scion_header_check does. What stands behind the header stays. */
+/* Replaces the path header at the front of these bytes by that of the way back, which has the same
+ * length. It answers as scion_header_check does. Bytes after the header stay. */
 scion_answer scion_header_reverse(uint8_t *bytes, size_t len);
 
-/* Writes the authenticator of a hop under a key to `mac`: SCION_DONE, or SCION_BAD_FIELD where the
- * key has no byte or more than 64. */
+/* Writes the authenticator of a hop under a key to `mac`: SCION_DONE, or SCION_BAD_FIELD if the key
+ * is empty or has more than 64 bytes. */
 scion_answer scion_hop_mac(const uint8_t *key, size_t key_len, uint16_t beta, uint32_t timestamp,
                            uint8_t exp_time, uint16_t cons_ingress, uint16_t cons_egress,
                            uint8_t mac[6]);
 
-/* ---- Paths: link libscion_ffi_paths.a, and behind it liblibc_c.a of the kit, which allocates by
- * malloc, realloc and free. A call gives up all memory that it takes before it returns. */
+/* ---- Paths: link libscion_ffi_paths.a, and after it liblibc_c.a of the kit, which allocates by
+ * malloc, realloc and free. A call frees all memory that it takes before it returns. */
 
-/* What became of an answer. */
+/* What happened to an answer. */
 enum {
-    SCION_WRITTEN = 0,        /* its `len` bytes stand at the front of the room */
-    SCION_ROOM_TOO_SMALL = 1, /* it has `len` bytes, and the room fewer */
+    SCION_WRITTEN = 0,        /* its `len` bytes are at the front of the room */
+    SCION_ROOM_TOO_SMALL = 1, /* it has `len` bytes, and the room has fewer */
     SCION_OUT_OF_MEMORY = 2
 };
 
@@ -132,11 +132,11 @@ typedef struct {
     size_t len;
 } scion_text;
 
-/* Answers a request for paths, an object of JSON, by another one, and writes it to the room, which
- * stays as it was where the status is not SCION_WRITTEN. docs/library.md has both forms. */
+/* Answers a request for paths, a JSON object, with another object, which it writes to the room. The
+ * room stays as it was if the status is not SCION_WRITTEN. docs/library.md has both forms. */
 scion_text scion_paths(const uint8_t *request, size_t request_len, uint8_t *room, size_t room_len);
 
-/* Answers in the same way whether a path that the request gives may be sent. */
+/* Answers in the same way whether the path in the request may be sent. */
 scion_text scion_verify(const uint8_t *request, size_t request_len, uint8_t *room, size_t room_len);
 
 #ifdef __cplusplus

@@ -56,7 +56,7 @@ static scion_router router(uint64_t ia, const char *key, const char *previous,
     return parts;
 }
 
-/* One turn at 1-ff00:0:111 over a packet that a host sends. */
+/* One turn at 1-ff00:0:111 with a packet that a host sends. */
 static void turn(const char *what, const char *hex, const char *key, const char *previous,
                  uint32_t now, const scion_interface *link, unsigned code, unsigned number,
                  const char *after) {
@@ -82,7 +82,8 @@ static void turns(void) {
     turn("interface 0", right, "k", "", 100, &none, SCION_BAD_FIELD, 0, right);
 }
 
-/* A packet at its path's last hop is delivered; here two routers of the AS and one that is not. */
+/* A packet at the last hop of its path is delivered; two calls are refused; and a packet is handed
+ * to another router of its AS. */
 static void ends(void) {
     const char *hex = ADDRESSES "010020000000b39600000064" OWN_HOP OTHER NEXT_HOP "7cc464f73e18";
     const scion_interface twice[2] = {parent, parent};
@@ -103,7 +104,7 @@ static void ends(void) {
     same("inside", packet, wanted, len);
 }
 
-/* What a router answers where one byte is changed by exclusive or. */
+/* The answers of a router if one byte is changed by exclusive or. */
 static const struct {
     unsigned byte, flip, code, number;
 } changes[] = {
@@ -146,7 +147,7 @@ static void hostile(void) {
     }
 }
 
-/* Three packets in one call, the first cut off, and none where there is no such router. */
+/* Three packets in one call, the first cut off; and a router that does not exist. */
 static void many(void) {
     uint8_t first[LEN], second[LEN], third[LEN], wanted[LEN];
     scion_packet packets[3] = {{first, 20, 0, {0, 0}, SCION_FROM_HOST},
@@ -193,7 +194,7 @@ static void headers(void) {
 typedef scion_text call(const uint8_t *request, size_t request_len, uint8_t *room,
                         size_t room_len);
 
-/* What a request is answered: into a room that is too small by a byte, and into one that is not. */
+/* The answer to a request, into a room that is a byte too small, and into one that fits. */
 static void answers(const char *what, call *asked, const char *request, const char *wanted) {
     uint8_t room[512] = {0}, zeros[512] = {0};
     size_t len = strlen(wanted);

@@ -6,7 +6,7 @@ const library = await WebAssembly.compile(readFileSync(process.argv[2]));
 const { exports } = await WebAssembly.instantiate(library, {});
 const memory = exports.memory;
 
-// The module allocates nothing: a host lays out what it gives from __heap_base on.
+// The module allocates nothing: a host puts its arguments into the memory from __heap_base on.
 let free = Number(exports.__heap_base.value);
 function put(bytes) {
   const at = (free + 15) & ~15;
@@ -30,7 +30,7 @@ function routerOf({ ia, key, previous, interfaces, router }) {
   return put(new Uint8Array(record.buffer));
 }
 
-// A record that is answered goes through a first parameter, its address.
+// If a call returns a record, its first parameter is the address for that record.
 function step(router, now, came, arrival, packet) {
   const answer = put(new Uint8Array(4));
   const room = put(packet);

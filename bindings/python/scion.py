@@ -10,7 +10,7 @@ import json
 
 
 class Kind(enum.IntEnum):
-    """What the AS at the far end of a link is."""
+    """The kind of a link: what the AS at its far end is."""
 
     CORE = 0
     PARENT = 1
@@ -26,7 +26,7 @@ class Came(enum.IntEnum):
 
 
 class Code(enum.IntEnum):
-    """What was done, or why a call was refused."""
+    """The result of a call, or why it was refused."""
 
     TO_LINK = 0
     TO_ROUTER = 1
@@ -58,13 +58,13 @@ class Code(enum.IntEnum):
 Interface = collections.namedtuple("Interface", "number kind router up", defaults=(0, True))
 Router = collections.namedtuple("Router", "ia key interfaces previous router", defaults=(b"", 0))
 
-# A packet that came to a router, and what a call answers: its code, its number and the bytes after.
+# A packet that came to a router, and the answer to a call: its code, its number and the new bytes.
 Packet = collections.namedtuple("Packet", "bytes came interface", defaults=(Came.FROM_HOST, 0))
 Answer = collections.namedtuple("Answer", "code number bytes")
 
 
 class Refused(Exception):
-    """A call was refused for all of its packets, or made nothing."""
+    """A call was refused for all of its packets, or has no value to return."""
 
     def __init__(self, code):
         super().__init__(f"{code.value} {code.name}")
@@ -149,7 +149,7 @@ def _room(data):
 
 
 def _parts(router):
-    """The record of a router, which keeps what it points to."""
+    """The record of a router, which also keeps alive what it points to."""
     rows = [_Interface(it.number, it.kind, it.router, it.up) for it in router.interfaces]
     table = (_Interface * max(len(rows), 1))(*rows)
     key, previous = bytes(router.key), bytes(router.previous)
@@ -172,7 +172,7 @@ class Library:
                 call.argtypes, call.restype = [*slice_of, *slice_of], _Text
 
     def step(self, router, now, packet):
-        """One step of a router over a packet, at the second `now`."""
+        """One step of a router on a packet, at the second `now`."""
         room, length = _room(packet.bytes), len(packet.bytes)
         given = self._calls.scion_step(
             _parts(router), now, packet.came, packet.interface, room, length
@@ -180,7 +180,7 @@ class Library:
         return Answer(Code(given.code), given.number, room.raw[:length])
 
     def step_all(self, router, now, packets):
-        """One step over each packet; `Refused` where there is no such router."""
+        """One step on each packet; `Refused` if there is no such router."""
         rooms = [_room(it.bytes) for it in packets]
         slots = (_Packet * max(len(rooms), 1))()
         for slot, room, packet in zip(slots, rooms, packets):
@@ -193,17 +193,17 @@ class Library:
         ]
 
     def header_length(self, data):
-        """The length of the path header at the front; `Refused` where there is none."""
+        """The length of the path header at the front; `Refused` if there is none."""
         return self._done(self._calls.scion_header_check(bytes(data), len(data)))
 
     def header_reverse(self, data):
-        """The bytes with the header of the way back; `Refused` where there is no header."""
+        """The bytes with the header of the way back; `Refused` if there is no header."""
         room = _room(data)
         self._done(self._calls.scion_header_reverse(room, len(data)))
         return room.raw[: len(data)]
 
     def hop_mac(self, key, beta, timestamp, exp_time, cons_ingress, cons_egress):
-        """The authenticator of a hop; `Refused` where the key has no byte or more than 64."""
+        """The authenticator of a hop; `Refused` if the key is not of 1 to 64 bytes."""
         mac, key = _MAC(), bytes(key)
         values = (beta, timestamp, exp_time, cons_ingress, cons_egress)
         self._done(self._calls.scion_hop_mac(key, len(key), *values, mac))
@@ -212,7 +212,7 @@ class Library:
     def paths(self, **request):
         """The answer to a request for paths (docs/library.md), as an object of JSON.
 
-        The shared object is to be linked of both libraries."""
+        The shared object has to be linked from both libraries."""
         return self._asked(self._calls.scion_paths, request)
 
     def verify(self, **request):

@@ -2,7 +2,7 @@
 """The turns of README.md by hand, and packets that were cut or changed on their way.
 
 What is expected is said by the rules of a router, never by what the library answered. The word is
-the path of the shared object; the status is 1 where an answer differs."""
+the path of the shared object; the status is 1 if an answer differs."""
 import sys
 
 from scion import Came, Code, Interface, Kind, Library, Packet, Refused, Router
@@ -23,7 +23,7 @@ def packet(first, mac):
 
 SENT = packet("00", RIGHT)
 
-# The byte of the packet that is changed by exclusive or, with what, and what a router answers.
+# A byte of the packet, the value for its exclusive or, and the router's answer.
 CHANGES = [
     (7, 0x01, Code.DESTINATION_AS, 0),
     (15, 0x01, Code.SOURCE_AS, 0),
@@ -41,7 +41,7 @@ CHANGES = [
 
 
 class Tour:
-    """What was asked of the library, and how many answers were wrong."""
+    """The calls of the library that were made, and the number of wrong answers."""
 
     def __init__(self, path):
         self.library, self.count, self.wrong = Library(path), 0, 0
@@ -131,7 +131,7 @@ class Tour:
         return bytes.fromhex(header)
 
     def turns_along(self, what, packet, turns):
-        """Turns of routers over a packet, each with what it is answered."""
+        """Turns of routers with a packet, each with its answer."""
         for router, came, interface, *wanted in turns:
             given = self.library.step(router, 1000, Packet(packet, came, interface))
             self.expect(what, [given.code, given.number], wanted)
@@ -166,7 +166,7 @@ class Tour:
         self.turns_along("row", packet, turns)
 
     def pair(self):
-        """Two ISDs, each a core AS, its child and the child of that. The core segment expires first,
+        """Two ISDs, each a core AS, its child and the child's child. The core segment expires first,
         675 half seconds after it begins."""
         one, other = [[f"{isd}-ff00:0:{isd}1{it}" for it in range(3)] for isd in (1, 2)]
         ways = [(0, 1), (1, 2), (1, 0)]
@@ -187,7 +187,7 @@ class Tour:
         self.path("pair", one[2], other[2], [down, core, up], "00003083", wanted)
 
     def fork(self):
-        """A core AS, its child, and two children of that, by which a path goes without the core."""
+        """A core AS, its child, and two children of the child, with a path that avoids the core."""
         ias = [f"1-ff00:0:11{it}" for it in range(4)]
         left = [(ias[0], b"k", 0, 1), (ias[1], b"k", 1, 2), (ias[2], b"k", 1, 0)]
         right = [(ias[0], b"k", 0, 1), (ias[1], b"k", 1, 3), (ias[3], b"k", 1, 0)]
@@ -214,7 +214,7 @@ class Tour:
             self.expect(what, self.library.paths(**{**asked, **change}), wanted)
 
     def verdicts(self):
-        """The path of one piece, and what it is refused by with one change."""
+        """The path of one piece, and its refusals after one change."""
         far, near = "1-ff00:0:110", "1-ff00:0:111"
         first = {"ia": far, "ingress": 0, "egress": 1, "exp": 63, "mac": "a1a2a3a4a5a6"}
         last = {"ia": near, "ingress": 2, "egress": 0, "exp": 63, "mac": OTHER}

@@ -1,22 +1,22 @@
-//! The proved router behind safe functions: a slice is all that a call owes.
+//! The proved router behind safe functions: their slices keep all duties of a host.
 //!
-//! Put this file into a crate, and have its build script link `libscion_ffi.a`, as
-//! `docs/library.md` says. The functions are safe since a Rust slice keeps each duty of a host: it
-//! is not null, has as many items as it says, and what may be written is borrowed alone.
+//! Put this file into a crate, and let its build script link `libscion_ffi.a`, as `docs/library.md`
+//! says. The functions are safe since a Rust slice keeps each duty of a host: it is not null, has
+//! as many items as its length says, and has no other borrower if it may be written.
 
 use std::marker::PhantomData;
 
-/// What was done, or why a call was refused; `include/scion.h` has the numbers.
+/// The result of a call, or why it was refused; `include/scion.h` has the numbers.
 #[repr(C)]
 #[derive(Clone, Copy, Debug, Default, PartialEq, Eq)]
 pub struct Answer {
-    /// What was done, or the refusal.
+    /// The result, or the refusal.
     pub code: u16,
     /// An interface, a router, a length, or at 90 the header's refusal; else 0.
     pub number: u16,
 }
 
-/// What the AS at the far end of a link is.
+/// The kind of a link: what the AS at its far end is.
 #[repr(u8)]
 #[derive(Clone, Copy, Debug, PartialEq, Eq)]
 pub enum Kind {
@@ -64,12 +64,12 @@ pub struct Router {
     pub router: u8,
     /// The key in use.
     pub key: Vec<u8>,
-    /// The key before it; no byte where there was none.
+    /// The key before it; no bytes if there is none.
     pub previous: Vec<u8>,
     pub interfaces: Vec<Interface>,
 }
 
-/// A packet, and what became of it. Its bytes are borrowed while it lives.
+/// A packet, and the answer to its step. Its bytes are borrowed while it lives.
 #[repr(C)]
 pub struct Packet<'a> {
     bytes: *mut u8,
@@ -93,13 +93,13 @@ impl<'a> Packet<'a> {
         }
     }
 
-    /// What became of it in the last call that stepped it.
+    /// The answer to the last call that stepped it.
     pub fn answer(&self) -> Answer {
         self.answer
     }
 }
 
-/// What became of an answer that was to be written.
+/// What happened to an answer that was to be written.
 #[repr(C)]
 struct Text {
     status: u16,
@@ -165,14 +165,14 @@ impl Router {
         }
     }
 
-    /// One step over a packet, in place, at the second `now`.
+    /// One step on a packet, in place, at the second `now`.
     pub fn step(&self, now: u32, arrival: Arrival, packet: &mut [u8]) -> Answer {
         let (came, interface) = arrival.numbers();
         let (bytes, len) = (packet.as_mut_ptr(), packet.len());
         unsafe { scion_step(&self.parts(), now, came, interface, bytes, len) }
     }
 
-    /// One step over each packet; the keys are hashed once for all.
+    /// One step on each packet; the keys are hashed once for all.
     pub fn step_all(&self, now: u32, packets: &mut [Packet<'_>]) -> Answer {
         unsafe { scion_step_all(&self.parts(), now, packets.as_mut_ptr(), packets.len()) }
     }
@@ -183,7 +183,7 @@ pub fn header_check(bytes: &[u8]) -> Answer {
     unsafe { scion_header_check(bytes.as_ptr(), bytes.len()) }
 }
 
-/// Turns the path header at the front of these bytes into that of the way back.
+/// Replaces the path header at the front of these bytes by that of the way back.
 pub fn header_reverse(bytes: &mut [u8]) -> Answer {
     unsafe { scion_header_reverse(bytes.as_mut_ptr(), bytes.len()) }
 }
@@ -219,13 +219,13 @@ pub fn hop_mac(
     }
 }
 
-/// The answer to a request for paths, both as JSON; `None` where memory ran out. Who calls it links
-/// `libscion_ffi_paths.a` and the kit's `liblibc_c.a` too.
+/// The answer to a request for paths, both as JSON; `None` if memory ran out. A caller also links
+/// `libscion_ffi_paths.a` and the kit's `liblibc_c.a`.
 pub fn paths(request: &[u8]) -> Option<Vec<u8>> {
     answered(scion_paths, request)
 }
 
-/// Whether the path of a request may be sent, in the same way.
+/// The answer whether the path of a request may be sent, in the same way.
 pub fn verify(request: &[u8]) -> Option<Vec<u8>> {
     answered(scion_verify, request)
 }
