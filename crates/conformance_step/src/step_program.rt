@@ -175,7 +175,7 @@ fn network(rt: HostRuntime) -> Result<(), Fail> {
     Ok(())
 }
 
-/// Text that is no packet, also where it is no UTF-8.
+/// Text that is no packet, also if it is no UTF-8.
 #[test]
 fn bad_text(rt: HostRuntime) -> Result<(), Fail> {
     let texts: [&[u8]; 4] = [b"0", b"zz", b"\xff\xfe", b"00\xc3\xa9"];

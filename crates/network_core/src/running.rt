@@ -25,12 +25,13 @@ pub struct Stopped {
 /// accepted when it was given, so the segments of what is sent by an answer were issued before.
 ///
 /// The rest is about a packet that was sent on a path of segments issued before, by an answer, a
-/// given way or a reply. From the first event that issued these segments up to the delivery, no AS
-/// of the path changes its key twice, no link of it is cut, nobody alters the packet, nothing loses
-/// it, and each of its turns comes no later than the path's expiry. Then no router refuses it, and
-/// it passes exactly the hops of its path in order. It is delivered if and only if it has had all
-/// its turns, at most two for each hop field, and is at a router before. A delivered packet stays
-/// as it is. Its hops are a word of the policy under which it was sent, and pass its list.
+/// given way or a reply. Its premises, from the first event that issued these segments up to the
+/// delivery: no AS of the path changes its key twice, and no link of it is cut; nobody alters the
+/// packet, and nothing loses it; each of its turns comes no later than the path's expiry. Then no
+/// router refuses it, and it passes exactly the hops of its path in order. It is delivered if and
+/// only if it has had all its turns, at most two for each hop field, and is at a router before. A
+/// delivered packet stays as it is. Its hops are a word of the policy under which it was sent, and
+/// pass its list.
 pub fn run(alloc: Global, topology: Topology, events: &[Event<'_>]) -> Result<Net, Stopped>
     ensures ran { IfOk result (λ net. Ran topology (map event_value events.now) net) }
     ensures stopped { IfErr result (λ s. (event : EventValue)

@@ -78,8 +78,8 @@ pub fn pieces_go_by_entries()
 
 /// The way back of a path has its pieces in reverse order, each in the other direction. It is a
 /// path at each second at which its hops are live. It passes the same ASes, with ways in and ways
-/// out exchanged, and expires when the path does. A way back with an expired hop is refused as
-/// Expired.
+/// out exchanged, and expires when the path does. A path with an expired hop is refused as Expired,
+/// with any header and any policy.
 pub fn paths_turn_back()
     ensures path { (pieces : List PieceValue) (src dst now moment : ℕ)
         → MakesPath pieces src dst now → AreLive moment pieces
