@@ -16,11 +16,11 @@ TYPE = r"((?:^///.*\n)*)(?:^#\[.*\n)*^pub(?:\(crate\))? (?:enum|struct) NAME\b[^
 WORD = re.compile(r"[A-Za-z_][\w'-]*(?:\.[A-Za-z_][\w'-]*)*")
 FRONT = """# The book of the headline
 
-What a reader has to believe who wants to believe the headline, and no more: each definition that it
-cites, with its comment, after those that it cites itself. `.ci/book.py` prints this document from
+What a reader has to believe to believe the headline, and no more: each definition that it cites,
+with its comment, after the definitions that this one cites. `.ci/book.py` prints this document from
 `crates/*/specs`, without imports; the gate checks that it is up to date. Words of the toolchain's
-library (lists, numbers, options, results) are not in it, and what is in `proofs/` nobody has to
-believe. `docs/headline.md` says which calls carry the theorem, in words.
+library (lists, numbers, options, results) are not in it, and nobody has to believe what is in
+`proofs/`. `docs/headline.md` says in words which calls have the theorem as a clause.
 
 > In every list of events of a network, whatever their order and however they are mixed, a packet
 > sent on a path that the verifier accepted is refused by no router, passes exactly the hops of
@@ -29,9 +29,9 @@ believe. `docs/headline.md` says which calls carry the theorem, in words.
 
 How to read it: a definition says what it takes and gives, and then what it is, case by case.
 `abbrev` and `unfoldable` tell the prover when to look inside, and say nothing to a reader; `pub`
-lets other files cite it. A `record` holds where each of its fields does, `A × B` where both do,
-`A ⊎ B` where one does, and `(x : A) × B` where B does for some x. `r >>= f` and `do` go on with the
-value of a step, up to the first refusal.
+lets other files cite it. A `record` holds if each of its fields does, `A × B` if both do, `A ⊎ B` if
+one does, and `(x : A) × B` if B does for some x. `r >>= f` and `do` go on with the value of a step,
+up to the first refusal.
 """
 
 

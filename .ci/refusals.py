@@ -10,12 +10,12 @@ from pathlib import Path
 
 FRONT = """# All refusals
 
-A call that refuses says why by a value with a number, a name and a sentence. Lines of text have the
-number and the name: `no 41 NoInterface` where an event is refused, `topology no 12 DuplicateAs`
-where a topology is, and `refused 93 Expired` where a router refuses a packet; behind `90 BadHeader`
-stand the number and the name of the header's own refusal. A number has one name, and means the same
-wherever it stands. Each of these is a clause: the call refuses exactly where its cause holds, and
-where several causes hold it names the first in the order that its documentation gives.
+A call that refuses returns a value with a number, a name and a sentence. Lines of text have the
+number and the name: `no 41 NoInterface` if an event is refused, `topology no 12 DuplicateAs` if a
+topology is, and `refused 93 Expired` if a router refuses a packet; after `90 BadHeader` come the
+number and the name of the header's own refusal. A number has one name, and means the same
+everywhere. Each of these is a clause: the call refuses if and only if its cause holds, and if
+several causes hold it names the first in the order that its documentation gives.
 
 `.ci/refusals.py` prints this document from the crates' definitions and the comments of their types;
 the gate checks that it is up to date.
