@@ -1,4 +1,7 @@
 use Rattle.std.proofs.Common.{rules}
+use Rattle.refusal.specs.Refusal.{each}
+use Rattle.policy_expr.specs.Options.{option_at}
+use Rattle.policy_expr.proofs.Front.{front_none}
 use Rattle.policy_expr.proofs.Weighed.{read_more, stops, read_all}
 use Rattle.policy_expr.proofs.options.read_each.Goals as goal
 
@@ -15,3 +18,6 @@ loop-text-preserved g c =
 
 pub returns : goal.returns
 returns g c = read_all c.args.texts.now c.loop-text.text-index c.loop-text.options.items c.loop-text-test.false c.loop-text.invariant
+
+pub loop-text-init : goal.loop-text-init
+loop-text-init g c = rw c.new-options.ensures.items (front_none (each option_at c.args.texts.now))
