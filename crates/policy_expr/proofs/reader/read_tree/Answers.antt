@@ -2,7 +2,7 @@ use Rattle.std.proofs.Common.{◌∙◌, ap, subst, sym}
 use Rattle.refusal.specs.Refusal.{Reads}
 use Rattle.policy_expr.specs.Language.{tree_of}
 use Rattle.policy_expr.specs.Tokens.{tokens}
-use Rattle.policy_expr.specs.Views.{gives}
+use Rattle.policy_expr.specs.inner.Views.{gives}
 use Rattle.policy_expr.proofs.reader.read_tree.Goals as goal
 
 pub loop-token-init : goal.loop-token-init
