@@ -3,7 +3,7 @@ use Rattle.std.specs.Prelude.{◌≡◌, ◌≢◌, ◌⊎◌, ℕ, ◌<◌, ◌
 use Rattle.std.specs.declared.cmp.Ordering.TheVariants.{Less}
 use Rattle.path_server.specs.Lookup.{Selection}
 use Rattle.policy_expr.specs.Options.{WeighedRules}
-use Rattle.combinator.specs.Candidate.{Question, question_of, PathValue, IsCandidate, HasNone}
+use Rattle.combinator.specs.Candidate.{Question, PathValue, IsCandidate, HasNone}
 use Rattle.combinator.specs.Order.{bytes_cmp, path_cmp, LastAsLong, HaveOneWalk}
 
 -- the path is the best for its walk: among the candidates of the same walk none expires later, and

@@ -12,7 +12,7 @@ use Rattle.path_header.specs.Value.{IsHeader}
 use Rattle.path_header.specs.Spelling.{InfoFits, HopFits, FitsBits, SpellsHeader, spelling}
 use Rattle.path_header.proofs.WholeHeader.{spelling_spells}
 use Rattle.path_verifier.specs.Piece.{PieceValue, HasRange, travelled}
-use Rattle.path_verifier.specs.Header.{info_with, field_of, fields_of, len_of, total_hops, header_of}
+use Rattle.path_verifier.specs.Header.{info_with, field_of, fields_of, len_of, header_of}
 use Rattle.path_verifier.specs.Header as path
 use Rattle.path_verifier.proofs.Headers.{field_there}
 use Rattle.router_step.specs.declared.arrival.Arrival.{Arrival}

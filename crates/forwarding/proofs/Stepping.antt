@@ -12,7 +12,7 @@ use Rattle.path_header.specs.declared.fields.InfoField.{InfoField}
 use Rattle.path_header.specs.declared.fields.HopField.{HopField}
 use Rattle.path_header.specs.Value.{HeaderValue, lens_from}
 use Rattle.path_verifier.specs.Piece.{PieceValue}
-use Rattle.path_verifier.specs.Header.{info_with, field_of, fields_of, len_of, total_hops}
+use Rattle.path_verifier.specs.Header.{info_with, fields_of, len_of, total_hops}
 use Rattle.path_verifier.specs.Header as path
 use Rattle.router_step.specs.declared.arrival.Arrival.{Arrival}
 use Rattle.router_step.specs.declared.outcome.Outcome.{Outcome}

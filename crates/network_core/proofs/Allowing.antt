@@ -1,5 +1,5 @@
 -- No event takes from a packet the interface by which it departs.
-use Rattle.std.proofs.Common.{◌≡◌, ℕ, Ok, IsOk, refl, sym, subst}
+use Rattle.std.proofs.Common.{IsOk, refl, sym, subst}
 use Rattle.scion_topology.specs.Network.{Network}
 use Rattle.scion_topology.proofs.Lasting.{still_there, same_interfaces}
 use Rattle.path_verifier.specs.Walk.{walk_of}

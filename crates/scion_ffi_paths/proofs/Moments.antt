@@ -1,7 +1,6 @@
 -- The least of some numbers, and the moment at which pieces expire.
-use Rattle.std.proofs.Common.{◌≡◌, ℕ, zero, suc, ◌<◌, ◌≤◌, List, [], ◌∷◌, length, map, get_or, min, All, Any, refl, arith}
+use Rattle.std.proofs.Common.{◌≡◌, ℕ, zero, suc, ◌<◌, ◌≤◌, List, [], ◌∷◌, length, map, get_or, All, Any, arith}
 use Rattle.hop_mac.specs.Lifetime.{expiry_of}
-use Rattle.path_segment.specs.declared.entry.Entry.{Entry}
 use Rattle.path_segment.specs.Chain.{IsLeastExpiry}
 use Rattle.path_verifier.specs.Piece.{PieceValue, HasRange, entries_of}
 use Rattle.path_verifier.proofs.Entries.{length-entries_of}

@@ -1,5 +1,5 @@
 -- The header of a path: draft-dekater-scion-dataplane, the SCION path type.
-use Rattle.std.specs.Prelude.{◌<◌, length}
+use Rattle.std.specs.Prelude.{◌<◌}
 use Rattle.path_header.specs.declared.lens.SegLens.{SegLens}
 
 -- each length fits into six bits
