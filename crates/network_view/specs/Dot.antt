@@ -78,6 +78,12 @@ unfoldable pub state_text : Bool → List ℕ
 state_text true = codes "];\n"
 state_text false = codes ", style=dashed];\n"
 
+-- the interfaces of a link, each at its end of the line
+unfoldable pub interfaces_text : Link → List ℕ
+interfaces_text link =
+    codes " [taillabel=" ++ (decimal link.a.number ++ (codes ", headlabel="
+    ++ (decimal link.b.number ++ codes ", ")))
+
 -- a link: a line between the routers that own its interfaces
 unfoldable pub link_text : List WalkHop → Link → List ℕ
 link_text passed link =

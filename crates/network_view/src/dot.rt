@@ -1,7 +1,6 @@
 ghost use Rattle.std.specs.Prelude.{◌≡◌, IfOk, flat_map};
 ghost use Rattle.std.specs.String.{string_bytes};
-ghost use Rattle.network_view.specs.Dot.{as_text, box_name, class_text, core_text, dot_of, end_name, isd_text, link_text, marked_text, passed_text, router_name, router_text, routers_text, state_text};
-ghost use Rattle.network_view.specs.inner.Dot.{interfaces_text};
+ghost use Rattle.network_view.specs.Dot.{as_text, box_name, class_text, core_text, dot_of, end_name, interfaces_text, isd_text, link_text, marked_text, passed_text, router_name, router_text, routers_text, state_text};
 
 use crate::marks::{Router, is_at, was_passed};
 use isd_as::{Isd, IsdAs};
@@ -152,7 +151,7 @@ fn state_text(up: bool) -> &'static str
 }
 
 /// The interfaces of a link, each at its end of the line.
-#[tactic(auto, unfolding(crate::specs::inner::Dot::interfaces_text))]
+#[tactic(auto, unfolding(crate::specs::Dot::interfaces_text))]
 fn interfaces_text(alloc: Global, link: &Link) -> Result<String, AllocError>
     ensures { IfOk result (λ text. string_bytes text ≡ interfaces_text link.now) }
 {
