@@ -30,8 +30,8 @@ up_to pieces least half is lasts =
 as_long : (one other : PathValue) (e f : ℕ) → IsExpiry one.pieces e → IsExpiry other.pieces f → f ≤ e → LastAsLong one.pieces other.pieces
 as_long one other e f is also upto = λ half lasts. last_to one.pieces e half is (let up = up_to other.pieces f half also lasts in omega arith)
 
-pub later_is_better : (one other : PathValue) (e f : ℕ) → IsExpiry one.pieces e → IsExpiry other.pieces f → f < e → IsNoWorse one other
-later_is_better one other e f is also later = record {
+pub later_wins : (one other : PathValue) (e f : ℕ) → IsExpiry one.pieces e → IsExpiry other.pieces f → f < e → IsNoWorse one other
+later_wins one other e f is also later = record {
   latest = as_long one other e f is also (omega arith);
   least = λ as_late. absurd (
       let lasts = as_late e (last_to one.pieces e e is (omega arith)) in

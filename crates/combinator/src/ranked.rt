@@ -110,7 +110,7 @@ impl<'s, 'p, A: Allocator + Clone> RankedPath<'s, 'p, A> {
 
     /// Whether this path expires no earlier than the other and, if both expire at the same time,
     /// has no greater header bytes. If not, the other path is no worse.
-    #[tactic(auto, using(crate::proofs::Lasting::later_is_better, crate::proofs::Lasting::fewer_bytes))]
+    #[tactic(auto, using(crate::proofs::Lasting::later_wins, crate::proofs::Lasting::fewer_bytes))]
     pub(crate) fn is_no_worse(&self, other: &RankedPath<'s, 'p, A>) -> bool
         ensures it { IsTrue result → IsNoWorse self.now other.now }
         ensures other { IsTrue result ⊎ IsNoWorse other.now self.now }

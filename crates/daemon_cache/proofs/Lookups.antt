@@ -79,5 +79,5 @@ unfolding segments_for
 moment_is_asked segments src dst now = refl
 
 -- what a look-up gave is live at its own second
-pub looked_up_is_live : (set : Selection) (segments : List Chain) (src dst now : ℕ) → set ≡ segments_for segments src dst now → AreAllLive set set.moment
-looked_up_is_live set segments src dst now is = subst (λ (s : Selection). AreAllLive s s.moment) (sym is) (subst (AreAllLive (segments_for segments src dst now)) (sym (moment_is_asked segments src dst now)) (found_is_live segments src dst now))
+pub set_is_live : (set : Selection) (segments : List Chain) (src dst now : ℕ) → set ≡ segments_for segments src dst now → AreAllLive set set.moment
+set_is_live set segments src dst now is = subst (λ (s : Selection). AreAllLive s s.moment) (sym is) (subst (AreAllLive (segments_for segments src dst now)) (sym (moment_is_asked segments src dst now)) (found_is_live segments src dst now))

@@ -141,7 +141,7 @@ impl Daemon {
     /// those of [`PolicyOption::parse_all`]; [`AskFault::SameAs`] if both ends are the same AS;
     /// [`AskFault::NoEntry`] if the reader could not enter the board, and then the caller may try
     /// again. Memory can run out only if none of the first three comes.
-    #[tactic(auto, using(crate::proofs::Lookups::gives_none, crate::proofs::Lookups::looked_up_is_live))]
+    #[tactic(auto, using(crate::proofs::Lookups::gives_none, crate::proofs::Lookups::set_is_live))]
     pub fn ask<R: Wait>(
         &self,
         rt: &R,

@@ -2,21 +2,17 @@
 use Rattle.std.proofs.Common.{ℕ, ◌/◌, ◌%◌, ◌^◌, ◌<◌, ◌≤◌, false, List, ◌∷◌, ◌++◌, length, refl, arith, length-append, inl, inr}
 use Rattle.std.specs.Fmt.{digits, decimal}
 use Rattle.std.proofs.lemmas.Bool.{cases_lt, lt-ltb, le-ltb}
-use Rattle.std.proofs.lemmas.Fmt.{decimal_is_IsNumeral, digits_is_IsNumeral, length-decimal-le}
+use Rattle.std.proofs.lemmas.Fmt.{decimal_is_IsNumeral, digits_is_IsNumeral}
 use Rattle.isd_as.specs.Address.{dash, colon, IsNumeralOf, WritesGroup, SpellsIsd, SpellsGroups, SpellsAs, Spells, canonical_as, canonical}
-use Rattle.isd_as.proofs.Printed.{length-digits-le}
+use Rattle.isd_as.proofs.Lengths.{of_group, of_isd, of_decimal_as}
 
 Writes-decimal : (n : ℕ) → n < 2 ^ 64 → IsNumeralOf 10 (decimal n) n
 Writes-decimal n fits = let is = decimal_is_IsNumeral n fits in record { numeral = is.0; value = is.1 }
 
--- a number of 16 bits is printed as a group
-pub length_group : (n : ℕ) → n < 2 ^ 16 → length (digits 16 false n) ≤ 4
-length_group n fits = length-digits-le 3 16 n (omega arith) fits (omega arith)
-
 WritesGroup-digits : (n : ℕ) → n < 2 ^ 16 → WritesGroup (digits 16 false n) n
 WritesGroup-digits n fits =
     let is = digits_is_IsNumeral 16 false (omega arith) (omega arith) n (omega arith) in
-    record { written = record { numeral = is.0; value = is.1 }; short = length_group n fits }
+    record { written = record { numeral = is.0; value = is.1 }; short = of_group n fits }
 
 -- the text of an AS number from 2 ^ 32 on
 abbrev pub groups_text : ℕ → List ℕ
@@ -62,30 +58,23 @@ Spells-canonical a fits = record {
 
 length-groups_text-le : (n : ℕ) → n < 2 ^ 48 → length (groups_text n) ≤ 14
 length-groups_text-le n fits =
-    let high = length_group (n / 2 ^ 32) (omega arith) in
-    let middle = length_group (n / 2 ^ 16 % 2 ^ 16) (omega arith) in
-    let low = length_group (n % 2 ^ 16) (omega arith) in
+    let high = of_group (n / 2 ^ 32) (omega arith) in
+    let middle = of_group (n / 2 ^ 16 % 2 ^ 16) (omega arith) in
+    let low = of_group (n % 2 ^ 16) (omega arith) in
     omega (
       arith,
       length-append (digits 16 false (n / 2 ^ 32)) (colon ∷ (digits 16 false (n / 2 ^ 16 % 2 ^ 16) ++ (colon ∷ digits 16 false (n % 2 ^ 16)))),
       length-append (digits 16 false (n / 2 ^ 16 % 2 ^ 16)) (colon ∷ digits 16 false (n % 2 ^ 16)),
     )
 
--- an ISD and a decimal AS number are short too
-pub length_isd : (n : ℕ) → n < 2 ^ 16 → length (decimal n) ≤ 5
-length_isd n fits = length-decimal-le 5 n (omega arith) (omega arith) (omega arith)
-
-pub length_decimal_as : (n : ℕ) → n < 2 ^ 32 → length (decimal n) ≤ 10
-length_decimal_as n fits = length-decimal-le 10 n (omega arith) (omega arith) (omega arith)
-
 pub length-canonical_as-le : (n : ℕ) → n < 2 ^ 48 → length (canonical_as n) ≤ 14
 length-canonical_as-le n fits = elim (cases_lt n (2 ^ 32)) [
-  | inl small ↦ rw (lt-ltb n (2 ^ 32) small) (let len = length_decimal_as n small in omega arith)
+  | inl small ↦ rw (lt-ltb n (2 ^ 32) small) (let len = of_decimal_as n small in omega arith)
   | inr large ↦ rw (le-ltb n (2 ^ 32) large) (length-groups_text-le n fits)
 ]
 
 pub length-canonical-le : (a : ℕ) → a < 2 ^ 64 → length (canonical a) ≤ 20
 length-canonical-le a fits =
-    let front = length_isd (a / 2 ^ 48) (omega arith) in
+    let front = of_isd (a / 2 ^ 48) (omega arith) in
     let back = length-canonical_as-le (a % 2 ^ 48) (omega arith) in
     omega (arith, length-append (decimal (a / 2 ^ 48)) (dash ∷ canonical_as (a % 2 ^ 48)))

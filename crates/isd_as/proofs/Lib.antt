@@ -1,4 +1,5 @@
 pub mod Digits
 pub mod Spelled
 pub mod Printed
+mod Lengths
 pub mod Canonical

@@ -70,7 +70,7 @@ impl IsdAs {
     }
 
     /// The canonical text.
-    #[tactic(auto, using(crate::proofs::Canonical::length_isd))]
+    #[tactic(auto, using(crate::proofs::Lengths::of_isd))]
     fn text(&self) -> Text
         ensures { result.items ≡ canonical self.now }
     {
@@ -83,7 +83,7 @@ impl IsdAs {
 }
 
 /// Adds the canonical text of an AS number at the end.
-#[tactic(auto, using(crate::proofs::Canonical::length_group, crate::proofs::Canonical::length_decimal_as))]
+#[tactic(auto, using(crate::proofs::Lengths::of_group, crate::proofs::Lengths::of_decimal_as))]
 fn push_as_number(text: &mut Text, number: u64)
     requires fits { number < 2 ^ 48 }
     requires room { array_vec_len text.old ≤ 6 }

@@ -63,7 +63,7 @@ unfolding swept
 swept-swept segments now = filter-filter (is_live now) segments
 
 pub expired_count-swept : (segments : List Chain) (now : ℕ) → expired_count (swept segments now) now ≡ 0
-unfolding expired_count swept
+unfolding swept
 expired_count-swept segments now =
     let out = left_out (is_live now) (filter (is_live now) segments) in
     let same = ap length (filter-filter (is_live now) segments) in

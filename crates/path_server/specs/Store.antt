@@ -43,7 +43,7 @@ unfoldable pub swept : List Chain → ℕ → List Chain
 swept segments now = filter (is_live now) segments
 
 -- the number of segments that are not live at this second
-unfoldable pub expired_count : List Chain → ℕ → ℕ
+abbrev pub expired_count : List Chain → ℕ → ℕ
 expired_count segments now = count_by (λ segment. not (is_live now segment)) segments
 
 -- an operation on a store, with the second at which it happens

@@ -124,7 +124,7 @@ impl PathStore {
     /// Removes the segments that are not live at the second `now`, and returns their number.
     ///
     /// It reads each segment, sorts the places of those that stay, and takes no memory.
-    #[tactic(auto, using(crate::proofs::Counts::left_out), unfolding(crate::specs::Store::swept, crate::specs::Store::expired_count))]
+    #[tactic(auto, using(crate::proofs::Counts::left_out), unfolding(crate::specs::Store::swept))]
     pub fn sweep(&mut self, now: u32) -> usize
         ensures kept { self.new ≡ swept self.old now }
         ensures count { result ≡ expired_count self.old now }

@@ -1,6 +1,6 @@
 use Rattle.std.proofs.Common.{◌≡◌, inl, inr, refl, arith}
 use Rattle.combinator.specs.Candidate.{path_with}
-use Rattle.combinator.proofs.Lasting.{later_is_better, fewer_bytes, seen, turned_cmp}
+use Rattle.combinator.proofs.Lasting.{later_wins, fewer_bytes, seen, turned_cmp}
 use Rattle.combinator.proofs.ranked.RankedPath.is_no_worse.Goals as goal
 
 pub returns-then-one-other-clause-it : goal.returns-then-one-other-clause-it
@@ -10,7 +10,7 @@ returns-then-one-other-clause-it g c = λ _.
     let one : c.deref.result.now.expiry ≡ c.self.inside.parts.value.expiry = cc c.deref.ensures in
     let also : c.deref-2.result.now.expiry ≡ c.other.inside.parts.value.expiry = cc c.deref-2.ensures in
     seen _ _ _ _ c.self.view_is c.other.view_is
-    (later_is_better (path_with mine.path.pieces mine.path.header) (path_with others.path.pieces others.path.header)
+    (later_wins (path_with mine.path.pieces mine.path.header) (path_with others.path.pieces others.path.header)
     mine.expiry others.expiry c.self.invariant.0 c.other.invariant.0 (omega (arith, c.if-one-other.true)))
 
 pub returns-then-one-other-2-clause-other : goal.returns-then-one-other-2-clause-other
@@ -20,7 +20,7 @@ returns-then-one-other-2-clause-other g c = inr (
     let one : c.deref.result.now.expiry ≡ c.self.inside.parts.value.expiry = cc c.deref.ensures in
     let also : c.deref-2.result.now.expiry ≡ c.other.inside.parts.value.expiry = cc c.deref-2.ensures in
     seen _ _ _ _ c.other.view_is c.self.view_is
-    (later_is_better (path_with others.path.pieces others.path.header) (path_with mine.path.pieces mine.path.header)
+    (later_wins (path_with others.path.pieces others.path.header) (path_with mine.path.pieces mine.path.header)
     others.expiry mine.expiry c.other.invariant.0 c.self.invariant.0 (omega (arith, c.if-one-other-2.true))))
 
 pub returns-in-Greater-clause-other : goal.returns-in-Greater-clause-other
