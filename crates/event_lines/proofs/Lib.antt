@@ -1,4 +1,6 @@
+pub mod Reading
 pub mod Front
+pub mod Letters
 pub mod Ending
 pub mod Lines
 pub mod Telling

@@ -5,6 +5,9 @@ use Rattle.std.specs.Fmt.{decimal}
 use Rattle.isd_as.specs.Address.{canonical}
 use Rattle.policy_expr.specs.declared.hop.WalkHop.{WalkHop}
 use Rattle.path_header.specs.Fault as header
+use Rattle.path_verifier.specs.declared.kind.PieceKind.{PieceKind}
+use Rattle.path_verifier.specs.declared.kind.PieceKind.TheVariants.{Up, Core, Down}
+use Rattle.path_verifier.specs.Piece.{PieceValue, kind_of}
 use Rattle.path_verifier.specs.Walk.{walk_of}
 use Rattle.combinator.specs.Candidate.{PathValue}
 use Rattle.combinator.specs.Answer.{AnswerValue}
@@ -41,6 +44,16 @@ hop_text hop =
 -- the hops of a walk, separated by spaces
 abbrev pub hops_text : List WalkHop → List ℕ
 hops_text hops = join_by hop_text (codes " ") hops
+
+-- the letter for a kind of piece
+abbrev pub letter : PieceKind → List ℕ
+letter Up = codes "U"
+letter Core = codes "C"
+letter Down = codes "D"
+
+-- the kind of a path, as `UCD`: the letters for its pieces in order of travel
+abbrev pub kinds_text : List PieceValue → List ℕ
+kinds_text pieces = flat_map (λ piece. letter (kind_of piece)) pieces
 
 -- the hops that a packet has passed, after a semicolon; nothing if there are none
 abbrev pub passed_text : List WalkHop → List ℕ

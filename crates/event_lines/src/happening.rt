@@ -100,7 +100,7 @@ fn answer_ask(
 }
 
 /// The reply to a line without texts. Its bytes are decoded first, and then borrowed.
-#[tactic(auto, unfolding(crate::specs::Line::untexted_event))]
+#[tactic(auto, using(crate::proofs::Reading::no_event))]
 fn answer_untexted(
     alloc: Global,
     accepted: AcceptedLines,

@@ -20,4 +20,4 @@ pub use accepted::AcceptedLines;
 pub use asked::{OwnedOptionText, lend_all};
 pub use fault::RunFault;
 pub use run::{listen, run_lines};
-pub use text::{hops_text, refusal_text};
+pub use text::{hops_text, kinds_text, refusal_text};

@@ -4,7 +4,7 @@ ghost use Rattle.std.specs.Prelude.{◌≡◌, IfOk, None, Ok, Some, codes, opti
 ghost use Rattle.serde_json.specs.View.{view};
 ghost use Rattle.network_core.specs.Seen as events;
 ghost use Rattle.event_lines.specs.Line.{alter_in, ask_in, back_in, bytes_at, cut_in, extend_in, lose_in, mend_in, options_in, originate_in, plain_event, rotate_in, send_in, show_in, terminate_in, tick_in, turn_event_in, untexted_event};
-ghost use Rattle.event_lines.specs.inner.Seen.{payload_in, line_value};
+ghost use Rattle.event_lines.specs.inner.Seen.{bytes_in, line_value};
 
 use crate::fields::{byte, bytes, ia, interface, long, short};
 use network_core::Event;
@@ -35,15 +35,13 @@ pub(crate) fn show<'a>(value: &Value) -> Option<Line<'a>>
 
 /// The bytes that an event carries, a payload or a key, decoded; no bytes if it carries none.
 /// `None` if they are missing or are no hexadecimal text.
-#[tactic(auto, unfolding(crate::specs::Line::untexted_event, crate::specs::Line::send_in, crate::specs::Line::back_in, crate::specs::Line::rotate_in, crate::specs::inner::Seen::payload_in))]
+#[tactic(auto, unfolding(crate::specs::inner::Seen::bytes_in))]
 pub(crate) fn payload(
     alloc: Global,
     word: &str,
     value: &Value,
 ) -> Result<Option<Vec<u8>>, AllocError>
-    ensures bytes { IfOk result (λ o. option_map (λ v. v.items) o
-        ≡ payload_in word.now (view value.now)) }
-    ensures none { result ≡ Ok None → untexted_event word.now (view value.now) ≡ None }
+    ensures { IfOk result (λ o. option_map (λ v. v.items) o ≡ bytes_in word.now (view value.now)) }
 {
     match word {
         "send" => bytes(alloc, value, "payload"),
@@ -54,9 +52,9 @@ pub(crate) fn payload(
 }
 
 /// The event of a line without texts, with the bytes that it carries.
-#[tactic(auto, unfolding(crate::specs::Line::untexted_event, crate::specs::inner::Seen::payload_in))]
+#[tactic(auto, unfolding(crate::specs::Line::untexted_event, crate::specs::inner::Seen::bytes_in))]
 pub(crate) fn untexted<'a>(word: &str, value: &Value, payload: &'a [u8]) -> Option<Event<'a>>
-    requires { payload_in word.now (view value.now) ≡ Some payload.now }
+    requires { bytes_in word.now (view value.now) ≡ Some payload.now }
     ensures { option_map events.event_value result ≡ untexted_event word.now (view value.now) }
 {
     match word {

@@ -2,11 +2,12 @@
 
 ghost use Rattle.std.specs.Prelude.{◌≡◌, ◌++◌, IfOk, OnOk, flat_map, option_map};
 ghost use Rattle.std.specs.String.{string_bytes};
-ghost use Rattle.event_lines.specs.Text.{answer_in, answer_text, bad_line, fault_text, hop_text, hops_text, outcome_text, packet_text, passed_text, path_text, paths_of, place_text, refusal_text, reply_text, turn_text};
+ghost use Rattle.event_lines.specs.Text.{answer_in, answer_text, bad_line, fault_text, hop_text, hops_text, kinds_text, letter, outcome_text, packet_text, passed_text, path_text, paths_of, place_text, refusal_text, reply_text, turn_text};
 
 use combinator::Path;
 use forwarding::{PacketLocation, TurnReply};
 use network_core::{EventFault, Net, Packet, Reply};
+use path_verifier::{PieceKind, Pieces};
 use policy_expr::WalkHop;
 use router_step::{Outcome, Refusal};
 use std::alloc::{AllocError, Global};
@@ -39,6 +40,32 @@ pub fn hops_text(alloc: Global, hops: &[WalkHop]) -> Result<String, AllocError>
 {
     let mut text = String::new(alloc);
     push_hops(alloc, &mut text, hops)?;
+    Ok(text)
+}
+
+/// The letter for a kind of piece.
+fn letter(kind: PieceKind) -> &'static str
+    ensures { result.now ≡ letter kind }
+{
+    match kind {
+        PieceKind::Up => "U",
+        PieceKind::Core => "C",
+        PieceKind::Down => "D",
+    }
+}
+
+/// The kind of a path of these pieces, as `UCD`: `U` for an up piece, `C` for a core piece, and `D`
+/// for a down piece, in order of travel.
+pub fn kinds_text(alloc: Global, pieces: &Pieces<'_>) -> Result<String, AllocError>
+    ensures { IfOk result (λ text. string_bytes text ≡ kinds_text pieces.now) }
+{
+    let mut text = String::new(alloc);
+    for place in 0..pieces.len() {
+        let Some(piece) = pieces.get(place) else {
+            unreachable!()
+        };
+        text.push_str(letter(piece.kind()))?;
+    }
     Ok(text)
 }
 

@@ -1,4 +1,3 @@
 pub mod Items
-pub mod Letters
 pub mod Moments
 pub mod Ranges

@@ -1,17 +1,15 @@
 -- The text of an answer: JSON without white space, with the names in ascending order.
-use Rattle.std.specs.Prelude.{ℕ, ◌+◌, codes, List, [], ◌∷◌, ◌++◌, flat_map, Bool, true, false, if◌then◌else◌}
+use Rattle.std.specs.Prelude.{ℕ, ◌+◌, codes, List, [], ◌∷◌, ◌++◌, Bool, true, false, if◌then◌else◌}
 use Rattle.std.specs.List.{join_by}
 use Rattle.std.specs.Fmt.{decimal}
 use Rattle.hex.specs.Hex.{encode_lower}
 use Rattle.path_header.specs.Spelling.{spelling}
 use Rattle.path_segment.specs.Chain.{Chain}
 use Rattle.path_segment.specs.Tests.{is_same}
-use Rattle.path_verifier.specs.declared.kind.PieceKind.{PieceKind}
-use Rattle.path_verifier.specs.declared.kind.PieceKind.TheVariants.{Up, Core, Down}
-use Rattle.path_verifier.specs.Piece.{PieceValue, kind_of}
+use Rattle.path_verifier.specs.Piece.{PieceValue}
 use Rattle.path_verifier.specs.Walk.{walk_of}
 use Rattle.combinator.specs.Candidate.{PathValue}
-use Rattle.event_lines.specs.Text.{hops_text}
+use Rattle.event_lines.specs.Text.{hops_text, kinds_text}
 use Rattle.scion_ffi_paths.specs.declared.fault.RequestFault.{RequestFault}
 use Rattle.scion_ffi_paths.specs.Expiry.{path_expiry}
 use Rattle.scion_ffi_paths.specs.Fault.{code_of, name_of}
@@ -34,16 +32,6 @@ piece_text segments piece =
     ++ (codes ",\"from\":" ++ (decimal piece.from
     ++ (codes ",\"segment\":" ++ (decimal (place_in_list piece.segment segments)
     ++ (codes ",\"to\":" ++ (decimal piece.to ++ codes "}")))))))
-
--- the letter for a kind of piece
-abbrev pub letter : PieceKind → List ℕ
-letter Up = codes "U"
-letter Core = codes "C"
-letter Down = codes "D"
-
--- the letters for the kinds of these pieces
-abbrev pub kinds_text : List PieceValue → List ℕ
-kinds_text pieces = flat_map (λ piece. letter (kind_of piece)) pieces
 
 -- a path: the half second at which it expires, its header in hexadecimal, the letters of its
 -- pieces, the pieces in order of travel, and its walk

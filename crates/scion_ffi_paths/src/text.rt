@@ -5,17 +5,17 @@ ghost use Rattle.std.specs.List.{join_by};
 ghost use Rattle.std.specs.String.{string_bytes};
 ghost use Rattle.hex.specs.Hex.{encode_lower};
 ghost use Rattle.path_header.specs.Spelling.{spelling};
-ghost use Rattle.event_lines.specs.Text.{hops_text};
+ghost use Rattle.event_lines.specs.Text.{hops_text, kinds_text};
 ghost use Rattle.path_verifier.specs.Piece.{HasRange};
-ghost use Rattle.scion_ffi_paths.specs.Text.{accepted_text, fault_text, kinds_text, letter, path_text, paths_text, piece_text, place_in_list, truth_text};
+ghost use Rattle.scion_ffi_paths.specs.Text.{accepted_text, fault_text, path_text, paths_text, piece_text, place_in_list, truth_text};
 
 use crate::expiry::{path_expiry, verified_expiry};
 use crate::fault::RequestFault;
 use combinator::{OwnedPiece, Path};
-use event_lines::hops_text;
+use event_lines::{hops_text, kinds_text};
 use path_header::{Header, encode};
 use path_segment::Segment;
-use path_verifier::{PieceKind, Pieces, VerifiedPath, lend_all};
+use path_verifier::{VerifiedPath, lend_all};
 use std::alloc::{AllocError, Global};
 
 /// The largest number of bytes of a header.
@@ -96,31 +96,6 @@ fn header(alloc: Global, header: &Header) -> Result<String, AllocError>
     }
 }
 
-/// The letter for a kind of piece.
-fn letter(kind: PieceKind) -> &'static str
-    ensures { result.now ≡ letter kind }
-{
-    match kind {
-        PieceKind::Up => "U",
-        PieceKind::Core => "C",
-        PieceKind::Down => "D",
-    }
-}
-
-/// The letters for the kinds of these pieces.
-fn kinds(alloc: Global, pieces: &Pieces<'_>) -> Result<String, AllocError>
-    ensures { IfOk result (λ text. string_bytes text ≡ kinds_text pieces.now) }
-{
-    let mut text = String::new(alloc);
-    for place in 0..pieces.len() {
-        let Some(piece) = pieces.get(place) else {
-            unreachable!()
-        };
-        text.push_str(letter(piece.kind()))?;
-    }
-    Ok(text)
-}
-
 /// A path.
 #[tactic(auto, unfolding(crate::specs::Text::path_text))]
 fn path(alloc: Global, segments: &[Segment], path: &Path) -> Result<String, AllocError>
@@ -129,7 +104,7 @@ fn path(alloc: Global, segments: &[Segment], path: &Path) -> Result<String, Allo
 {
     let expiry = path_expiry(path.pieces());
     let header = header(alloc, path.header())?;
-    let kinds = kinds(alloc, &lend_all(path.pieces()))?;
+    let kinds = kinds_text(alloc, &lend_all(path.pieces()))?;
     let pieces = pieces(alloc, segments, path.pieces())?;
     let walk = hops_text(alloc, path.walk())?;
     format!(in alloc;
@@ -188,7 +163,7 @@ pub(crate) fn accepted(
 ) -> Result<String, AllocError>
     ensures { IfOk result (λ text. string_bytes text ≡ accepted_text path.entry.now.pieces) }
 {
-    let kinds = kinds(alloc, path.pieces())?;
+    let kinds = kinds_text(alloc, path.pieces())?;
     let walk = hops_text(alloc, path.walk())?;
     format!(in alloc;
         "{{\"expiry\":{},\"kind\":\"{}\",\"walk\":\"{}\"}}",

@@ -3,13 +3,28 @@ use Rattle.std.specs.Prelude.{◌≡◌, ℕ, codes, List, [], Option, Some, Non
 use Rattle.scion_topology.specs.Network.{Network}
 use Rattle.forwarding.specs.declared.location.PacketLocation.{PacketLocation}
 use Rattle.forwarding.specs.declared.location.PacketLocation.TheVariants.{AtRouter, Refused}
+use Rattle.path_verifier.specs.Walk.{walk_of}
+use Rattle.combinator.specs.Candidate.{PathValue}
 use Rattle.network_core.specs.Value.{NetValue, PacketValue}
 use Rattle.network_view.specs.declared.marks.Router.{Router}
 use Rattle.network_view.specs.Dot.{dot_of}
+use Rattle.refusal.specs.Optional.{◌>>=◌}
+use Rattle.scionet_view.specs.declared.words.Subject.{Subject}
+use Rattle.scionet_view.specs.declared.words.Subject.TheVariants.{Packet, Answer}
 
 -- the line that says that there is no such packet
 abbrev pub no_packet : List ℕ
 no_packet = codes "no 130 NoPacket\n"
+
+-- the line that says that there is no such answer, or no such path in it
+abbrev pub no_answer : List ℕ
+no_answer = codes "no 133 NoAnswer\n"
+
+-- the path of this number in the answer of this number
+abbrev pub path_at : NetValue → ℕ → ℕ → Option PathValue
+path_at net answer path = do
+  kept ← slice_get net.answers answer
+  slice_get kept.answer.paths path
 
 -- the router that has a packet, or that refused it
 abbrev pub router_at : PacketLocation → Option Router
@@ -23,7 +38,13 @@ marked network None = no_packet
 marked network (Some packet) =
     dot_of network packet.packet.passed (router_at packet.packet.place)
 
--- the picture of a network, with the packet of this number marked if a number is given
-abbrev pub picture_of : NetValue → Option ℕ → List ℕ
+-- the picture of a network with the links of this path marked, or the line that there is none
+abbrev pub crossed : Network → Option PathValue → List ℕ
+crossed network None = no_answer
+crossed network (Some path) = dot_of network (walk_of path.pieces) None
+
+-- the picture of a network, with the packet or the path marked that is named, if one is
+abbrev pub picture_of : NetValue → Option Subject → List ℕ
 picture_of net None = dot_of net.network [] None
-picture_of net (Some number) = marked net.network (slice_get net.packets number)
+picture_of net (Some (Packet number)) = marked net.network (slice_get net.packets number)
+picture_of net (Some (Answer answer path)) = crossed net.network (path_at net answer path)

@@ -1,11 +1,16 @@
--- The output of `scionet_view path` about the pieces of a path.
-use Rattle.std.specs.Prelude.{ℕ, codes, List, [], ◌++◌, Option, Some, None, slice_get}
+-- The output of `scionet_view path` about a packet.
+use Rattle.std.specs.Prelude.{◌≡◌, ℕ, ◌/◌, codes, List, [], ◌++◌, length, Option, Some, None, slice_get}
 use Rattle.std.specs.Fmt.{decimal}
 use Rattle.isd_as.specs.Address.{canonical}
 use Rattle.path_verifier.specs.declared.kind.PieceKind.{PieceKind}
 use Rattle.path_verifier.specs.declared.kind.PieceKind.TheVariants.{Up, Core, Down}
 use Rattle.path_verifier.specs.Piece.{PieceValue, kind_of, begins_in, ends_in}
-use Rattle.packet_view.specs.Fields.{each_below}
+use Rattle.path_verifier.specs.Walk.{walk_of}
+use Rattle.path_verifier.specs.Accepted.{IsExpiry}
+use Rattle.network_core.specs.Value.{PacketValue}
+use Rattle.event_lines.specs.Text.{hops_text, kinds_text}
+use Rattle.packet_view.specs.Fields.{each_below, fields_text}
+use Rattle.scionet_view.specs.Network.{no_packet}
 
 -- the name of a kind of piece
 unfoldable pub kind_text : PieceKind → List ℕ
@@ -28,3 +33,20 @@ piece_line number (Some piece) = piece_text number piece
 -- the lines of the pieces with numbers below this one
 unfoldable pub pieces_text : List PieceValue → ℕ → List ℕ
 pieces_text pieces count = each_below (λ number. piece_line number (slice_get pieces number)) count
+
+-- what is said of a path: its pieces, its kind, its walk, and the last second at which it is live
+unfoldable pub path_text : List PieceValue → ℕ → List ℕ
+path_text pieces last =
+    pieces_text pieces (length pieces) ++ (codes "kind " ++ (kinds_text pieces
+    ++ (codes "\nwalk " ++ (hops_text (walk_of pieces)
+    ++ (codes "\nlive up to second " ++ (decimal last ++ codes "\n"))))))
+
+-- the text says this of a path, which is live up to the half second at which its first hop expires
+abbrev pub TellsPath : List PieceValue → List ℕ → Type 0
+TellsPath pieces text = (half : ℕ) × (IsExpiry pieces half × (text ≡ path_text pieces (half / 2)))
+
+-- the text is about this packet: what is said of its path, and its fields; or there is none
+abbrev pub TellsPacket : Option PacketValue → List ℕ → Type 0
+TellsPacket None text = text ≡ no_packet
+TellsPacket (Some packet) text = (lines : List ℕ) × (TellsPath packet.sent.way.pieces lines
+    × (text ≡ lines ++ fields_text packet.packet.bytes))

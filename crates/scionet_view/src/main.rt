@@ -6,11 +6,13 @@
 //! other fault, whose message goes to standard error.
 #![tactic(auto)]
 
+mod answer;
 mod network;
 mod path;
 mod reached;
 mod words;
 
+use answer::answer_path;
 use commands::{CommandFault, MAX_INPUT_LEN, Status, WordsFault, end};
 use network::network_picture;
 use packet_view::packet_lines;
@@ -19,7 +21,7 @@ use std::alloc::Global;
 use std::env;
 use std::process::ExitCode;
 use streams::{Reader, Sink, Source, Writer, read_all, write_all};
-use words::{View, asked};
+use words::{Subject, View, asked};
 
 /// The words after the program's name.
 fn words_behind(rt: &HostRuntime) -> Result<Vec<String>, CommandFault> {
@@ -48,12 +50,16 @@ fn show<'a, S: Source, K: Sink>(
             lines.push_str("\n")?;
             write_all(sink, lines.as_bytes())?;
         }
-        View::Network { packet } => {
-            let text = network_picture(alloc, source, packet)?;
+        View::Network(subject) => {
+            let text = network_picture(alloc, source, subject)?;
             write_all(sink, text.as_bytes())?;
         }
-        View::Path { packet } => {
-            let text = packet_path(alloc, source, packet)?;
+        View::Path(Subject::Packet(number)) => {
+            let text = packet_path(alloc, source, number)?;
+            write_all(sink, text.as_bytes())?;
+        }
+        View::Path(Subject::Answer { answer, path }) => {
+            let text = answer_path(alloc, source, answer, path)?;
             write_all(sink, text.as_bytes())?;
         }
     }

@@ -4,9 +4,11 @@ ghost use Rattle.std.specs.Prelude.{◌≡◌, ◌||◌, IfOk, option_map};
 ghost use Rattle.std.specs.String.{string_bytes};
 ghost use Rattle.event_lines.specs.Run.{is_read_fault};
 ghost use Rattle.scionet_view.specs.Reached.{Shows};
-ghost use Rattle.scionet_view.specs.Network.{marked, no_packet, picture_of, router_at};
+ghost use Rattle.scionet_view.specs.Network.{crossed, marked, no_answer, no_packet, path_at, picture_of, router_at};
 
 use crate::reached::reached;
+use crate::words::Subject;
+use combinator::Path;
 use event_lines::RunFault;
 use forwarding::PacketLocation;
 use network_core::{Net, Packet};
@@ -20,6 +22,24 @@ pub(crate) fn no_packet(alloc: Global) -> Result<String, AllocError>
     ensures { IfOk result (λ text. string_bytes text ≡ no_packet) }
 {
     String::from_str(alloc, "no 130 NoPacket\n")
+}
+
+/// The line that says that there is no answer of this number, or no such path in it, as a run
+/// answers it.
+pub(crate) fn no_answer(alloc: Global) -> Result<String, AllocError>
+    ensures { IfOk result (λ text. string_bytes text ≡ no_answer) }
+{
+    String::from_str(alloc, "no 133 NoAnswer\n")
+}
+
+/// The path of this number in the answer of this number, if there is one.
+pub(crate) fn path_at(net: &Net, answer: u32, path: u32) -> Option<&Path>
+    ensures { option_map (λ p. p.now) result ≡ path_at net.now answer path }
+{
+    match net.answer(answer as usize) {
+        None => None,
+        Some(paths) => paths.get(path as usize),
+    }
 }
 
 /// The router that has a packet, or that refused it.
@@ -56,31 +76,46 @@ fn marked(alloc: Global, topology: &Topology, packet: Option<&Packet>) -> Result
     }
 }
 
-/// The picture of a network, with the packet of this number marked if a number is given.
-fn picture(alloc: Global, net: &Net, number: Option<u32>) -> Result<String, AllocError>
-    ensures { IfOk result (λ text. string_bytes text ≡ picture_of net.now number) }
+/// The picture of a network with the links of this path marked, or the line that there is no such
+/// path.
+fn crossed(alloc: Global, topology: &Topology, path: Option<&Path>) -> Result<String, AllocError>
+    ensures { IfOk result (λ text. string_bytes text
+        ≡ crossed topology.now (option_map (λ p. p.now) path)) }
 {
-    let topology = net.topology();
-    match number {
-        None => network_dot(alloc, topology.ases(), topology.links(), &[], None),
-        Some(number) => marked(alloc, topology, net.packet(number as usize)),
+    match path {
+        None => no_answer(alloc),
+        Some(path) => network_dot(alloc, topology.ases(), topology.links(), path.walk(), None),
     }
 }
 
-/// The picture of the network after the lines of a source, with the packet of this number marked if
-/// a number is given; the line `no 130 NoPacket` if there is no such packet.
+/// The picture of a network, with the packet or the path marked that is named, if one is.
+fn picture(alloc: Global, net: &Net, subject: Option<Subject>) -> Result<String, AllocError>
+    ensures { IfOk result (λ text. string_bytes text ≡ picture_of net.now subject) }
+{
+    let topology = net.topology();
+    match subject {
+        None => network_dot(alloc, topology.ases(), topology.links(), &[], None),
+        Some(Subject::Packet(number)) => marked(alloc, topology, net.packet(number as usize)),
+        Some(Subject::Answer { answer, path }) => {
+            crossed(alloc, topology, path_at(net, answer, path))
+        }
+    }
+}
+
+/// The picture of the network after the lines of a source, with the packet or the path marked that
+/// is named, if one is; the line `no 130 NoPacket` or `no 133 NoAnswer` if it is not there.
 ///
 /// The faults are those of [`listen`](event_lines::listen) without [`RunFault::Write`];
 /// [`RunFault::Memory`] also if memory runs out for the picture.
 pub(crate) fn network_picture<S: Source>(
     alloc: Global,
     source: &mut S,
-    number: Option<u32>,
+    subject: Option<Subject>,
 ) -> Result<String, RunFault>
-    ensures shows { Shows (λ net text. text ≡ picture_of net number) result
+    ensures shows { Shows (λ net text. text ≡ picture_of net subject) result
         (S.left source.old) (S.left source.new) }
     ensures flag { S.failed source.new ≡ (S.failed source.old || is_read_fault result) }
 {
     let net = reached(alloc, source)?;
-    Ok(picture(alloc, &net, number)?)
+    Ok(picture(alloc, &net, subject)?)
 }

@@ -1,15 +1,16 @@
 //! The path of a packet of the network after some lines, as text.
 
-ghost use Rattle.std.specs.Prelude.{◌≡◌, ◌||◌, IfOk, IfSome, length, option_map};
+ghost use Rattle.std.specs.Prelude.{◌≡◌, ◌||◌, IfOk, IfSome, length, option_map, slice_get};
 ghost use Rattle.std.specs.String.{string_bytes};
 ghost use Rattle.path_verifier.specs.Piece.{HasRange};
 ghost use Rattle.network_core.specs.Value.{asked_at};
 ghost use Rattle.event_lines.specs.Run.{is_read_fault};
-ghost use Rattle.scionet_view.specs.Path.{kind_text, piece_line, piece_text, pieces_text};
+ghost use Rattle.scionet_view.specs.Reached.{Shows};
+ghost use Rattle.scionet_view.specs.Path.{TellsPacket, TellsPath, kind_text, path_text, piece_line, piece_text, pieces_text};
 
 use crate::network::no_packet;
 use crate::reached::reached;
-use event_lines::{RunFault, hops_text};
+use event_lines::{RunFault, hops_text, kinds_text};
 use network_core::{Packet, Sent};
 use packet_view::fields_text;
 use path_verifier::{Piece, PieceKind, VerifiedPath, lend_all, verify};
@@ -67,24 +68,35 @@ fn pieces_text(alloc: Global, path: &VerifiedPath<'_, '_, Global>) -> Result<Str
     Ok(text)
 }
 
-/// The pieces of a path, its walk, and the last second at which all its hops are live, from the
-/// half second at which the first of them expires; then the fields of a packet of these bytes.
+/// What is said of a path: its pieces, its kind, its walk, and the last second at which all of its
+/// hops are live.
+#[tactic(auto, unfolding(crate::specs::Path::path_text))]
 fn path_text(
     alloc: Global,
     path: &VerifiedPath<'_, '_, Global>,
-    least: u64,
-    packet: &[u8],
-) -> Result<String, AllocError> {
+    last: u64,
+) -> Result<String, AllocError>
+    ensures { IfOk result (λ text. string_bytes text ≡ path_text path.entry.now.pieces last) }
+{
     let pieces = pieces_text(alloc, path)?;
+    let kind = kinds_text(alloc, path.pieces())?;
     let walk = hops_text(alloc, path.walk())?;
-    let last = least / 2;
-    let fields = fields_text(alloc, packet)?;
     format!(in alloc;
-        "{}walk {}\nlive up to second {last}\n{}",
+        "{}kind {}\nwalk {}\nlive up to second {last}\n",
         pieces.as_str(),
-        walk.as_str(),
-        fields.as_str()
+        kind.as_str(),
+        walk.as_str()
     )
+}
+
+/// What is said of a path, which is live up to the half second at which its first hop expires.
+pub(crate) fn verified_text(
+    alloc: Global,
+    path: &VerifiedPath<'_, '_, Global>,
+) -> Result<String, AllocError>
+    ensures { IfOk result (λ text. TellsPath path.entry.now.pieces (string_bytes text)) }
+{
+    path_text(alloc, path, path.expiry() / 2)
 }
 
 /// The path of a shipment.
@@ -108,18 +120,24 @@ fn path_of(sent: &Sent) -> VerifiedPath<'_, '_, Global>
     }
 }
 
-/// The path of a packet and then its fields, or the line that there is no such packet.
-fn packet_text(alloc: Global, packet: Option<&Packet>) -> Result<String, AllocError> {
+/// What is said of the path of a packet and then its fields, or the line that there is no such
+/// packet.
+fn packet_text(alloc: Global, packet: Option<&Packet>) -> Result<String, AllocError>
+    ensures { IfOk result (λ text. TellsPacket (option_map (λ p. p.now) packet.entry)
+        (string_bytes text)) }
+{
     let Some(packet) = packet else {
         return no_packet(alloc);
     };
     let path = path_of(packet.sent());
-    path_text(alloc, &path, path.expiry(), packet.bytes())
+    let mut text = verified_text(alloc, &path)?;
+    text.push_str(fields_text(alloc, packet.bytes())?.as_str())?;
+    Ok(text)
 }
 
-/// The path of the packet of this number, in the network after the lines of a source: its pieces,
-/// its walk, the last second at which all its hops are live, and the fields of the packet as it is
-/// then; the line `no 130 NoPacket` if there is no such packet.
+/// What is said of the path of the packet of this number, in the network after the lines of a
+/// source, and then its fields as they are then; the line `no 130 NoPacket` if there is no such
+/// packet.
 ///
 /// The faults are those of [`listen`](event_lines::listen) without [`RunFault::Write`];
 /// [`RunFault::Memory`] also if memory runs out for the text.
@@ -128,7 +146,9 @@ pub(crate) fn packet_path<S: Source>(
     source: &mut S,
     number: u32,
 ) -> Result<String, RunFault>
-    ensures { S.failed source.new ≡ (S.failed source.old || is_read_fault result) }
+    ensures shows { Shows (λ net. TellsPacket (slice_get net.packets number)) result
+        (S.left source.old) (S.left source.new) }
+    ensures flag { S.failed source.new ≡ (S.failed source.old || is_read_fault result) }
 {
     let net = reached(alloc, source)?;
     Ok(packet_text(alloc, net.packet(number as usize))?)

@@ -1,7 +1,7 @@
 //! The words of the command line.
 
 use clap::builder::ValueParser;
-use clap::{Arg, ArgAction, ArgMatches, Command};
+use clap::{Arg, ArgAction, ArgGroup, ArgMatches, Command};
 use commands::{VERSION, WordsFault, explained, turn};
 use std::alloc::{AllocError, Global};
 use step_line::{StepCommand, number};
@@ -21,8 +21,9 @@ Example: at second 100, a packet of a host leaves 1-ff00:0:111 over interface 2,
 static NETWORK_HELP: &str = "\
 Standard input has the lines of 'scionet run'. The picture is that of the network after the last \
 of them, in the language DOT: 'dot -Tsvg' of graphviz draws it. With --packet the links that this \
-packet has passed are red, and so is the router at which it is or which refused it; 'no 130 \
-NoPacket' is printed where there is no such packet.
+packet has passed are red, and so is the router at which it is or which refused it. With --answer \
+the links of a path of this answer are red. 'no 130 NoPacket' or 'no 133 NoAnswer' is printed if \
+there is no such packet or path.
 
 Example: a network of one AS
   printf '%s\\n' \\
@@ -32,9 +33,15 @@ Example: a network of one AS
 /// The end of the long help of `path`.
 static PATH_HELP: &str = "\
 Standard input has the lines of 'scionet run'. Of the packet, as it is after the last of them, \
-each piece of its path is on a line, 'piece N up|core|down from IA to IA'; then its walk, hop by \
-hop, each as 'IA#IN,OUT'; the last second at which all of its hops are live; and its fields as \
-'packet' prints them. 'no 130 NoPacket' is printed where there is no such packet.
+each piece of its path is on a line, 'piece N up|core|down from IA to IA'; then its kind, a letter \
+for each piece, as UCD; its walk, hop by hop, each as 'IA#IN,OUT'; the last second at which all of \
+its hops are live; and its fields as 'packet' prints them. 'no 130 NoPacket' is printed if there is \
+no such packet.
+
+With --answer the same is printed of a path of this answer, with the fields of a packet without \
+payload. Before them is a line that says whether a packet may be sent on it now: 'send: ok', or \
+'send: no' with the number and the name of the refusal, the rule that is broken, and the hop that \
+breaks it. 'no 133 NoAnswer' is printed if there is no such path.
 
 Example: a packet from an AS to its parent
   printf '%s\\n' \\
@@ -50,24 +57,33 @@ Example: a packet from an AS to its parent
   scionet_view path --packet 0
 which begins with
   piece 0 up from 1-ff00:0:111 to 1-ff00:0:110
+  kind U
   walk 1-ff00:0:111#0,2 1-ff00:0:110#1,0
   live up to second 22600";
+
+/// What a view of a network is about. Its numbers are those of `scionet run`, from 0.
+#[derive(Clone, Copy)]
+pub(crate) enum Subject {
+    /// A packet.
+    Packet(u32),
+    /// A path of an answer.
+    Answer {
+        /// The number of the answer.
+        answer: u32,
+        /// The number of the path in the answer.
+        path: u32,
+    },
+}
 
 /// The view that the words of the command line ask for.
 #[derive(Drop)]
 pub(crate) enum View {
     /// `packet`: the packet on standard input, at the router whose turn this is.
     Packet(StepCommand),
-    /// `network`: the network after the lines on standard input.
-    Network {
-        /// The number of the packet that is marked, if one is.
-        packet: Option<u32>,
-    },
-    /// `path`: the path of a packet of that network.
-    Path {
-        /// The number of the packet.
-        packet: u32,
-    },
+    /// `network`: the network after the lines on standard input, and what is marked in it.
+    Network(Option<Subject>),
+    /// `path`: the path of a packet of that network, or of an answer.
+    Path(Subject),
 }
 
 /// An option that has a value.
@@ -149,34 +165,48 @@ fn packet_command<'a>(alloc: Global) -> Result<Command<'a>, AllocError> {
         .arg(interface_argument(alloc))
 }
 
+/// The number of something that the lines have made.
+fn place_option<'a>(alloc: Global, name: &'a str, help: &'a str) -> Arg<'a> {
+    number_option(alloc, u32::MAX, name, "N", help)
+}
+
+/// The command with the options that name a packet or a path of an answer.
+fn with_subject<'a>(
+    alloc: Global,
+    command: Command<'a>,
+    is_required: bool,
+) -> Result<Command<'a>, AllocError> {
+    let packet = place_option(alloc, "packet", "The number of a packet, from 0");
+    let answer = place_option(alloc, "answer", "The number of an answer, from 0");
+    let path = place_option(
+        alloc,
+        "path",
+        "The number of a path of that answer, 0 if it is not given",
+    );
+    let subject = ArgGroup::new(alloc, "subject")
+        .args(&["packet", "answer"])?
+        .required(is_required);
+    command
+        .arg(packet)?
+        .arg(answer)?
+        .arg(path.requires_arg("answer")?)?
+        .group(subject)
+}
+
 /// The command `network`.
 fn network_command<'a>(alloc: Global) -> Result<Command<'a>, AllocError> {
-    let packet = number_option(
-        alloc,
-        u32::MAX,
-        "packet",
-        "N",
-        "The number of a packet, from 0, whose way so far is marked",
-    );
-    Command::new(alloc, "network")
+    let command = Command::new(alloc, "network")
         .about("Draws the network that the lines on standard input lead to")
-        .after_long_help(NETWORK_HELP)
-        .arg(packet)
+        .after_long_help(NETWORK_HELP);
+    with_subject(alloc, command, false)
 }
 
 /// The command `path`.
 fn path_command<'a>(alloc: Global) -> Result<Command<'a>, AllocError> {
-    let packet = number_option(
-        alloc,
-        u32::MAX,
-        "packet",
-        "N",
-        "The number of the packet, from 0",
-    );
-    Command::new(alloc, "path")
-        .about("Shows the path of a packet of that network, and the packet field by field")
-        .after_long_help(PATH_HELP)
-        .arg(packet.required(true))
+    let command = Command::new(alloc, "path")
+        .about("Shows the path of a packet of that network or of an answer, field by field")
+        .after_long_help(PATH_HELP);
+    with_subject(alloc, command, true)
 }
 
 /// The whole command line.
@@ -197,25 +227,25 @@ fn usage(alloc: Global) -> Result<WordsFault, AllocError> {
     Ok(WordsFault::Usage(text))
 }
 
-/// The number of a packet from its text.
-fn packet_number(text: &str) -> Option<u32> {
-    let number = number(text, 0, u64::from(u32::MAX))?;
+/// The number in the option of this name, if it is given and can be read.
+fn number_in(matches: &ArgMatches<'_>, name: &str) -> Option<u32> {
+    let number = number(matches.get_str(name)?, 0, u64::from(u32::MAX))?;
     Some(number as u32)
 }
 
-/// The view of the matches of `network`, if their number can be read.
-fn network(matches: &ArgMatches<'_>) -> Option<View> {
-    let packet = match matches.get_str("packet") {
-        Some(text) => Some(packet_number(text)?),
-        None => None,
-    };
-    Some(View::Network { packet })
+/// What the matches of `network` or `path` name.
+fn subject_in(matches: &ArgMatches<'_>) -> Option<Subject> {
+    if let Some(packet) = number_in(matches, "packet") {
+        return Some(Subject::Packet(packet));
+    }
+    let answer = number_in(matches, "answer")?;
+    let path = number_in(matches, "path").unwrap_or(0);
+    Some(Subject::Answer { answer, path })
 }
 
-/// The view of the matches of `path`, if their number can be read.
+/// The view of the matches of `path`, if they name something.
 fn path(matches: &ArgMatches<'_>) -> Option<View> {
-    let packet = packet_number(matches.get_str("packet")?)?;
-    Some(View::Path { packet })
+    Some(View::Path(subject_in(matches)?))
 }
 
 /// The view of the matches, if there is one.
@@ -224,7 +254,7 @@ fn view_asked(alloc: Global, matches: &ArgMatches<'_>) -> Result<Option<View>, A
         return Ok(None);
     };
     if name == "network" {
-        return Ok(network(given));
+        return Ok(Some(View::Network(subject_in(given))));
     }
     if name == "path" {
         return Ok(path(given));

@@ -81,7 +81,6 @@ impl StepCommand {
     }
 
     /// The turn of these parts, or `None` if they are no view.
-    #[tactic(auto, using(crate::proofs::Views::view_of_accepts, crate::proofs::Views::turn_with_accepted, crate::proofs::Views::turn_with_refused))]
     fn of_parts(
         ia: IsdAs,
         router: u8,

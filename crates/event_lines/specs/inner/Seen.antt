@@ -13,8 +13,8 @@ line_value (lines.Happens event) = Happens (events.event_value event)
 line_value (lines.Show packet) = Shows packet
 
 -- the bytes that an event with this word carries: a payload, a key, or none
-unfoldable pub payload_in : List ℕ → Data → Option (List ℕ)
-payload_in word d =
+unfoldable pub bytes_in : List ℕ → Data → Option (List ℕ)
+bytes_in word d =
     if bytes_eq word (codes "send") then bytes_at (codes "payload") d
     else if bytes_eq word (codes "back") then bytes_at (codes "payload") d
     else if bytes_eq word (codes "rotate") then bytes_at (codes "key") d

@@ -1,6 +1,6 @@
 use Rattle.std.proofs.Common.{sym}
-use Rattle.scion_ffi_paths.proofs.Letters.{letters_more}
-use Rattle.scion_ffi_paths.proofs.text.kinds.Goals as goal
+use Rattle.event_lines.proofs.Letters.{letters_more}
+use Rattle.event_lines.proofs.text.kinds_text.Goals as goal
 
 pub loop-place-preserved : goal.loop-place-preserved
 loop-place-preserved c =

@@ -5,7 +5,7 @@ use Rattle.std.proofs.Math.Seq.{take-suc}
 use Rattle.std.proofs.lemmas.List.{flat_map_more}
 use Rattle.std.proofs.lemmas.Option.{slice_get_within, get_or_from_slice_get}
 use Rattle.path_verifier.specs.Piece.{PieceValue, kind_of}
-use Rattle.scion_ffi_paths.specs.Text.{kinds_text, letter}
+use Rattle.event_lines.specs.Text.{kinds_text, letter}
 
 pub letters_more : (pieces : List PieceValue) (i : ℕ) (piece : PieceValue) → slice_get pieces i ≡ Some piece
     → kinds_text (take (i + 1) pieces) ≡ kinds_text (take i pieces) ++ letter (kind_of piece)
