@@ -2,7 +2,7 @@
 use Rattle.std.specs.Prelude.{◌≡◌, ◌||◌, ℕ, Bool, true, false, codes, List, ◌++◌, Option, Some, None, Result, Ok, Err}
 use Rattle.std.specs.Io.KnownBytes.{Appends, Keeps}
 use Rattle.streams.specs.declared.fault.InputFault.{InputFault}
-use Rattle.streams.specs.Streams.{AppendsFront, ReadsAll, is_failed_read}
+use Rattle.streams.specs.Streams.{AppendsFront, ReadsAll, is_failed_read, most_input}
 use Rattle.step_line.specs.Turn.{Turn}
 use Rattle.step_line.specs.Line.{line_of}
 use Rattle.event_lines.specs.declared.fault.RunFault.{RunFault}
@@ -46,10 +46,6 @@ abbrev pub IsUntouched : Change → Type 0
 IsUntouched change = Keeps change.old change.new × SetsFlag change false
 
 -- ---- one router's turn
-
--- the largest number of bytes of standard input
-abbrev pub most_input : ℕ
-most_input = 67108864
 
 -- the input was read to its end, or the result says why not
 abbrev pub ReadsInput : Result (List ℕ) InputFault → Change → Type 0

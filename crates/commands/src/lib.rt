@@ -15,6 +15,6 @@ mod words;
 pub use command::{Command, explained, step_line};
 pub use fault::{CommandFault, WordsFault};
 pub use matched::turn;
-pub use program::{MAX_INPUT_LEN, end, execute, run};
+pub use program::{end, execute, run};
 pub use status::Status;
 pub use words::VERSION;

@@ -14,11 +14,8 @@ use std::alloc::Global;
 use std::sync::Wait;
 use std::thread::Threads;
 use step_line::StepCommand;
-use streams::{Sink, Source, read_all, write_all};
+use streams::{MAX_INPUT_LEN, Sink, Source, read_all, write_all};
 use work_lines::work_lines;
-
-/// The largest number of bytes of standard input: 64 MiB.
-pub const MAX_INPUT_LEN: u64 = 67_108_864;
 
 /// One turn of a router on the packet of the source; it prints one line.
 fn run_step<S: Source, K: Sink>(
@@ -30,7 +27,7 @@ fn run_step<S: Source, K: Sink>(
     ensures { Steps result command.now (change_of S.left S.failed source.old source.new)
         (change_of K.held K.failed sink.old sink.new) }
 {
-    let packet = read_all(alloc, source, MAX_INPUT_LEN)?;
+    let packet = read_all(alloc, source, MAX_INPUT_LEN as u64)?;
     let mut line = command.line(alloc, &packet)?;
     line.push_str("\n")?;
     write_all(sink, line.as_bytes())?;

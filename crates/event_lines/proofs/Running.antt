@@ -6,7 +6,8 @@ use Rattle.std.proofs.KnownBytes.{Appends-kept, Appends-trans, Consumes-kept, Co
 use Rattle.event_lines.specs.declared.fault.RunFault.{RunFault}
 use Rattle.event_lines.specs.declared.fault.RunFault.TheVariants as faults
 use Rattle.event_lines.specs.declared.accepted.AcceptedLines.{AcceptedLines}
-use Rattle.event_lines.specs.Run.{AreAll, AreFirst, AreLines, Ends, Listens, Wrote, WroteSome, all_lines, ended_lines, most_input, most_read}
+use Rattle.streams.specs.Streams.{most_input}
+use Rattle.event_lines.specs.Run.{AreAll, AreFirst, AreLines, Ends, Listens, Wrote, WroteSome, all_lines, ended_lines, most_read}
 use Rattle.network_core.specs.Value.{NetValue}
 use Rattle.event_lines.specs.inner.Replies.{RepliesTo, RepliesToAll}
 use Rattle.event_lines.specs.Answers.{Stage, Unbegun, Open, Closed, RepliesToInput}

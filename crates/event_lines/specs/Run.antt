@@ -2,6 +2,7 @@
 use Rattle.std.specs.Prelude.{◌≡◌, ◌⊎◌, ℕ, ◌+◌, ◌≤◌, Bool, true, false, List, [], ◌∷◌, ◌++◌, length, take, flat_map, ◌==◌, Option, Result, Ok, Err}
 use Rattle.std.specs.List.{list_any}
 use Rattle.std.specs.Io.KnownBytes.{Appends, Consumes, IsAtEnd}
+use Rattle.streams.specs.Streams.{most_input}
 use Rattle.event_lines.specs.declared.fault.RunFault.{RunFault}
 use Rattle.event_lines.specs.declared.fault.RunFault.TheVariants as faults
 use Rattle.event_lines.specs.declared.accepted.AcceptedLines.{AcceptedLines}
@@ -51,10 +52,6 @@ abbrev pub AreHeard : Type 0 → List ℕ → List (List ℕ) → Type 0
 AreHeard at_end read lines = AreFirst read lines ⊎ AreAll at_end read lines
 
 -- ---- how a run ended
-
--- the largest number of bytes of an input
-abbrev pub most_input : ℕ
-most_input = 67108864
 
 -- exactly the replies to these lines were written, and the run is in this state after them
 abbrev pub Wrote : AcceptedLines → List (List ℕ) → List ℕ → Stage → Type 0

@@ -2,7 +2,8 @@
 
 ghost use Rattle.std.specs.Prelude.{◌≡◌, ◌+◌, ◌<◌, ◌≤◌, ◌||◌, [], false, is_none, length, option_map};
 ghost use Rattle.std.specs.String.{string_bytes};
-ghost use Rattle.event_lines.specs.Run.{Listens, Runs, has_line_end, is_read_fault, is_write_fault, most_input};
+ghost use Rattle.streams.specs.Streams.{most_input};
+ghost use Rattle.event_lines.specs.Run.{Listens, Runs, has_line_end, is_read_fault, is_write_fault};
 ghost use Rattle.event_lines.specs.inner.Session.{Brings, Exchanges, Finishes, WritesRest, stage_of, session_value};
 
 use crate::accepted::AcceptedLines;
@@ -10,13 +11,7 @@ use crate::fault::RunFault;
 use crate::session::Session;
 use network_core::Net;
 use std::alloc::Global;
-use streams::{Sink, Source, write_all};
-
-/// The largest number of bytes of an input.
-const MAX_INPUT_LEN: usize = 67_108_864;
-
-/// The largest number of bytes of one read.
-const ROOM_LEN: usize = 8_192;
+use streams::{MAX_INPUT_LEN, MAX_READ_LEN, Sink, Source, write_all};
 
 /// The number of bytes to read next after `count` bytes. At the limit it is 1, to find out whether
 /// more bytes follow.
@@ -28,7 +23,7 @@ fn wanted_after(count: usize) -> usize
     ensures last { count ≡ most_input → result ≡ 1 }
 {
     let left = MAX_INPUT_LEN - count;
-    if left == 0 { 1 } else { left.min(ROOM_LEN) }
+    if left == 0 { 1 } else { left.min(MAX_READ_LEN) }
 }
 
 /// The bytes of the next read, in `room`; `None` if it fails.
@@ -128,7 +123,7 @@ pub fn listen<S: Source, K: Sink>(
     ensures sink { K.failed sink.new ≡ (K.failed sink.old || is_write_fault result) }
 {
     let mut session = Session::new(alloc);
-    let mut room = [0u8; ROOM_LEN];
+    let mut room = [0u8; MAX_READ_LEN];
     let mut count = 0;
     loop {
         let wanted = wanted_after(count);

@@ -13,14 +13,14 @@ mod reached;
 mod words;
 
 use answer::answer_path;
-use commands::{CommandFault, MAX_INPUT_LEN, Status, WordsFault, end};
+use commands::{CommandFault, Status, WordsFault, end};
 use network::network_picture;
 use packet_view::packet_lines;
 use path::packet_path;
 use std::alloc::Global;
 use std::env;
 use std::process::ExitCode;
-use streams::{Reader, Sink, Source, Writer, read_all, write_all};
+use streams::{MAX_INPUT_LEN, Reader, Sink, Source, Writer, read_all, write_all};
 use words::{Subject, View, asked};
 
 /// The words after the program's name.
@@ -45,7 +45,7 @@ fn show<'a, S: Source, K: Sink>(
 ) -> Result<(), CommandFault> {
     match asked(alloc, words)? {
         View::Packet(command) => {
-            let packet = read_all(alloc, source, MAX_INPUT_LEN)?;
+            let packet = read_all(alloc, source, MAX_INPUT_LEN as u64)?;
             let mut lines = packet_lines(alloc, &command, &packet)?;
             lines.push_str("\n")?;
             write_all(sink, lines.as_bytes())?;

@@ -35,8 +35,8 @@ static PATH_HELP: &str = "\
 Standard input has the lines of 'scionet run'. Of the packet, as it is after the last of them, \
 each piece of its path is on a line, 'piece N up|core|down from IA to IA'; then its kind, a letter \
 for each piece, as UCD; its walk, hop by hop, each as 'IA#IN,OUT'; the last second at which all of \
-its hops are live; and its fields as 'packet' prints them. 'no 130 NoPacket' is printed if there is \
-no such packet.
+its hops are live; and its fields as 'packet' prints them. 'no 130 NoPacket' is printed if there \
+is no such packet.
 
 With --answer the same is printed of a path of this answer, with the fields of a packet without \
 payload. Before them is a line that says whether a packet may be sent on it now: 'send: ok', or \

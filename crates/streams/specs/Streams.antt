@@ -4,6 +4,10 @@ use Rattle.std.specs.Io.KnownBytes.{Appends, Consumes, IsAtEnd}
 use Rattle.streams.specs.declared.fault.InputFault.{InputFault}
 use Rattle.streams.specs.declared.fault.InputFault.TheVariants.{Read, TooLong}
 
+-- the largest number of bytes of an input
+abbrev pub most_input : ℕ
+most_input = 67108864
+
 -- whether a write failed: it returned a fault, or wrote none of at least one byte
 abbrev pub is_failed_write : {E : Type 0} → Result ℕ E → List ℕ → Bool
 is_failed_write (Ok n) bytes = (n == 0) && nat_lt 0 (length bytes)

@@ -8,8 +8,11 @@ use crate::fault::InputFault;
 use crate::stream::Source;
 use std::alloc::Global;
 
+/// The largest number of bytes of an input: 64 MiB.
+pub const MAX_INPUT_LEN: usize = 67_108_864;
+
 /// The largest number of bytes of one read.
-const ROOM_LEN: usize = 8_192;
+pub const MAX_READ_LEN: usize = 8_192;
 
 /// One read into the front of `room`, from where the bytes are added to those before. It returns
 /// their number, which is 0 only at the end.
@@ -45,9 +48,9 @@ pub fn read_all<S: Source>(alloc: Global, source: &mut S, most: u64) -> Result<V
     ensures flag { S.failed source.new ≡ (S.failed source.old || is_failed_read result) }
 {
     let mut bytes = Vec::new(alloc);
-    let mut room = [0u8; ROOM_LEN];
+    let mut room = [0u8; MAX_READ_LEN];
     loop {
-        let wanted = (most - bytes.len() as u64).min(ROOM_LEN as u64 - 1) as usize + 1;
+        let wanted = (most - bytes.len() as u64).min(MAX_READ_LEN as u64 - 1) as usize + 1;
         if read_on(source, most, &mut room[..wanted], &mut bytes)? == 0 {
             return Ok(bytes);
         }

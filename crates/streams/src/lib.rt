@@ -14,7 +14,7 @@ mod stream;
 mod writer;
 
 pub use fault::{InputFault, WriteFailed};
-pub use input::read_all;
+pub use input::{MAX_INPUT_LEN, MAX_READ_LEN, read_all};
 pub use output::write_all;
 pub use reader::Reader;
 pub use stream::{Sink, Source};

@@ -1,6 +1,6 @@
 -- What was read was told, and what is to come is less.
 use Rattle.std.proofs.Common.{◌≡◌, ◌-◌}
-use Rattle.event_lines.specs.Run.{most_input}
+use Rattle.streams.specs.Streams.{most_input}
 use Rattle.event_lines.specs.inner.Session.{session_value}
 use Rattle.event_lines.proofs.Running.{SoFar}
 use Rattle.event_lines.proofs.run.listen.Given as goal
