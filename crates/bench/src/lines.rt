@@ -5,17 +5,9 @@ use event_lines::run_lines;
 use std::alloc::Global;
 use streams::{Reader, Writer};
 
-/// Three ASes in a row, a core AS, its child and the child's child, up to an answer of one path.
+/// The lines that lead, in a network of three ASes in a row, to an answer of one path.
 fn start() -> &'static str {
     concat!(
-        r#"{"ases":[{"ia":"1-ff00:0:110","core":true,"exp":63,"key":"6130","routers":1},"#,
-        r#"{"ia":"1-ff00:0:111","core":false,"exp":63,"key":"6131","routers":1},"#,
-        r#"{"ia":"1-ff00:0:112","core":false,"exp":63,"key":"6132","routers":1}],"#,
-        r#""links":[{"kind":"child","a":{"ia":"1-ff00:0:110","if":1,"router":0},"#,
-        r#""b":{"ia":"1-ff00:0:111","if":1,"router":0}},"#,
-        r#"{"kind":"child","a":{"ia":"1-ff00:0:111","if":2,"router":0},"#,
-        r#""b":{"ia":"1-ff00:0:112","if":1,"router":0}}]}"#,
-        "\n",
         r#"{"do":"tick","now":1000}"#,
         "\n",
         r#"{"do":"originate","ia":"1-ff00:0:110","egress":1,"beta0":4660}"#,
@@ -122,7 +114,7 @@ fn push_lines(alloc: Global, text: &mut String, about: About, number: u32) -> Re
 /// Runs a network over the lines of `count` packets, beacons or requests, and sums the bytes of the
 /// replies.
 pub(crate) fn lines(alloc: Global, about: About, count: u32) -> Result<u64> {
-    let mut text = String::from_str(alloc, start())?;
+    let mut text = format!(in alloc; "{}\n{}", worked::row(), start())?;
     for number in 0..count {
         push_lines(alloc, &mut text, about, number)?;
     }

@@ -7,6 +7,7 @@ use scion_topology::{AsInfo, IfEntry, LinkKind, RouterView, Topology, TopologyFa
 use std::alloc::Global;
 use std::process::Abort;
 use std::test::Fail;
+use worked::row;
 
 const IA: u64 = 0x0001_ff00_0000_0111;
 
@@ -56,17 +57,6 @@ fn refuses(rt: HostRuntime) {
     assert_eq!(rt; TopologyFault::DuplicateIf.name(), "DuplicateIf");
 }
 
-/// Three ASes in a row, one router each: a core AS, its child, and the child's child.
-const THREE: &str = concat!(
-    r#"{"ases":[{"ia":"1-ff00:0:110","core":true,"exp":63,"key":"6130","routers":1},"#,
-    r#"{"ia":"1-ff00:0:111","core":false,"exp":63,"key":"6131","routers":1},"#,
-    r#"{"ia":"1-ff00:0:112","core":false,"exp":63,"key":"6132","routers":1}],"#,
-    r#""links":[{"kind":"child","a":{"ia":"1-ff00:0:110","if":1,"router":0},"#,
-    r#""b":{"ia":"1-ff00:0:111","if":1,"router":0}},"#,
-    r#"{"kind":"child","a":{"ia":"1-ff00:0:111","if":2,"router":0},"#,
-    r#""b":{"ia":"1-ff00:0:112","if":1,"router":0}}]}"#,
-);
-
 const TOP: u64 = 0x0001_ff00_0000_0110;
 
 const MIDDLE: u64 = 0x0001_ff00_0000_0111;
@@ -79,7 +69,7 @@ fn at(number: u64) -> IsdAs {
 
 /// The text with `old` replaced by `new` at its first place.
 fn changed(alloc: Global, old: &str, new: &str) -> Result<String, Fail> {
-    let (front, back) = THREE.split_once(old).ok_or("the text to change is there")?;
+    let (front, back) = row().split_once(old).ok_or("the text to change is there")?;
     Ok(format!(in alloc; "{front}{new}{back}")?)
 }
 
@@ -108,7 +98,7 @@ fn expect_bad_field(rt: &impl Abort, alloc: Global, old: &str, new: &str) -> Res
 #[test]
 fn first_cause_is_reported(rt: HostRuntime) -> Result<(), Fail> {
     let alloc = rt.alloc();
-    expect_cause(&rt, alloc, THREE, "{", TopologyFault::NotJson, 10)?;
+    expect_cause(&rt, alloc, row(), "{", TopologyFault::NotJson, 10)?;
     expect_bad_field(&rt, alloc, r#""exp":63"#, r#""exp":256"#)?;
     expect_bad_field(&rt, alloc, r#""key":"6131""#, r#""key":"613""#)?;
     expect_bad_field(&rt, alloc, r#""core":true"#, r#""core":null"#)?;
@@ -141,7 +131,7 @@ fn first_cause_is_reported(rt: HostRuntime) -> Result<(), Fail> {
 /// No beginning of the text is a topology, except the whole.
 #[test]
 fn fronts_are_not_json(rt: HostRuntime) {
-    let bytes = THREE.as_bytes();
+    let bytes = row().as_bytes();
     for len in 0..bytes.len() {
         let read = Topology::from_json(rt.alloc(), &bytes[..len]);
         assert!(rt; read.err() == Some(OrMemory::Refused(TopologyFault::NotJson)));
@@ -174,7 +164,7 @@ fn expect_view(rt: &impl Abort, view: &RouterView<'_>) {
 /// The queries of the three ASes.
 #[test]
 fn answers_what_was_read(rt: HostRuntime) -> Result<(), Fail> {
-    let topology = Topology::from_json(rt.alloc(), THREE.as_bytes())?;
+    let topology = Topology::from_json(rt.alloc(), row().as_bytes())?;
     let info = AsInfo {
         position: 1,
         core: false,
@@ -218,7 +208,7 @@ fn expect_no_change(rt: &impl Abort, topology: &mut Topology) {
 /// A cut and a mend, each named by either end, and a new key.
 #[test]
 fn changes_what_is_named(rt: HostRuntime) -> Result<(), Fail> {
-    let mut topology = Topology::from_json(rt.alloc(), THREE.as_bytes())?;
+    let mut topology = Topology::from_json(rt.alloc(), row().as_bytes())?;
     topology.cut_link(at(LEAF), IfId(1))?;
     topology.cut_link(at(MIDDLE), IfId(2))?;
     for (ia, number, up) in [

@@ -208,9 +208,7 @@ fn three_ases(alloc: Global) -> Result<Segment, Fail> {
 }
 
 /// The way up all three ASes.
-fn way_up() -> &'static str {
-    "1; 1-ff00:0:112#0,1 1-ff00:0:111#2,1 1-ff00:0:110#1,0"
-}
+const WAY_UP: &str = "1; 1-ff00:0:112#0,1 1-ff00:0:111#2,1 1-ff00:0:110#1,0";
 
 /// Asserts the answer over the three ASes in a row between two of them, under a policy.
 fn expect_answer(
@@ -224,8 +222,7 @@ fn expect_answer(
     let segment = three_ases(alloc)?;
     let (src, dst) = (at(1, ends.0), at(1, ends.1));
     let set = set_of(alloc, slice::from_ref(&segment), src, dst, 1000)?;
-    let answer = ask(alloc, &set, src, dst, acl, sequence)?;
-    assert_eq!(rt; answer.as_str(), told);
+    assert_eq!(rt; ask(alloc, &set, src, dst, acl, sequence)?.as_str(), told);
     Ok(())
 }
 
@@ -235,14 +232,14 @@ fn three_ases_in_a_row(rt: HostRuntime) -> Result<(), Fail> {
     let alloc = rt.alloc();
     let whole = (0x112, 0x110);
     let deny = ["- 1-ff00:0:111", "+"];
-    expect_answer(&rt, alloc, whole, &[], "", way_up())?;
+    expect_answer(&rt, alloc, whole, &[], "", WAY_UP)?;
     let told = "1; 1-ff00:0:112#0,1 1-ff00:0:111#2,0";
     expect_answer(&rt, alloc, (0x112, 0x111), &[], "", told)?;
     let told = "1; 1-ff00:0:111#0,2 1-ff00:0:112#1,0";
     expect_answer(&rt, alloc, (0x111, 0x112), &[], "", told)?;
     expect_answer(&rt, alloc, (0x111, 0x111), &[], "", "no 85 SameAs")?;
     expect_answer(&rt, alloc, whole, &deny, "", "0")?;
-    expect_answer(&rt, alloc, whole, &[], "0* 1-ff00:0:110", way_up())
+    expect_answer(&rt, alloc, whole, &[], "0* 1-ff00:0:110", WAY_UP)
 }
 
 /// A segment in each of two ISDs, and one between their core ASes, with the key `k` everywhere.
@@ -433,7 +430,7 @@ fn first_told(alloc: Global, turned: bool) -> Result<String, Fail> {
 /// With a limit of 1, the path that comes first is left.
 #[test]
 fn first_of_two_links(rt: HostRuntime) -> Result<(), Fail> {
-    assert_eq!(rt; first_told(rt.alloc(), false)?.as_str(), way_up());
+    assert_eq!(rt; first_told(rt.alloc(), false)?.as_str(), WAY_UP);
     let told = first_told(rt.alloc(), true)?;
     assert_eq!(rt;
         told.as_str(),
@@ -465,7 +462,7 @@ fn lighter_option(rt: HostRuntime) -> Result<(), Fail> {
     let acl = without_the_middle(rt.alloc())?;
     let texts = [option_of(None, 1), option_of(Some(&acl), 5)];
     let list = combine_in_a_row(rt.alloc(), &texts)?;
-    assert_eq!(rt; told_of(rt.alloc(), &list)?.as_str(), way_up());
+    assert_eq!(rt; told_of(rt.alloc(), &list)?.as_str(), WAY_UP);
     assert!(rt; list.option() == Some(0));
     Ok(())
 }

@@ -2,7 +2,7 @@
 //! packet that is not affected.
 
 use crate::row::{row_sent, row_turns};
-use crate::scripts::{fork, pair_sent, wide_fork};
+use crate::scripts::{fork, pair_sent};
 use crate::table::expect_talk;
 use std::test::Fail;
 
@@ -172,7 +172,7 @@ fn links_beside_a_shortcut_are_cut(rt: HostRuntime) -> Result<(), Fail> {
     expect_talk(
         &rt,
         rt.alloc(),
-        &fork(wide_fork()),
+        &fork(worked::fork()),
         &[
             (r#"{"do":"cut","ia":"1-ff00:0:110","if":1}"#, "ok"),
             (r#"{"do":"turn","packet":0}"#, "link 1"),

@@ -67,22 +67,6 @@ fn narrow_fork() -> &'static str {
     )
 }
 
-/// The same with two routers in the middle AS; the second one owns the way to the last AS.
-pub(crate) fn wide_fork() -> &'static str {
-    concat!(
-        r#"{"ases":[{"ia":"1-ff00:0:110","core":true,"exp":63,"key":"6b","routers":1},"#,
-        r#"{"ia":"1-ff00:0:111","core":false,"exp":63,"key":"6b","routers":2},"#,
-        r#"{"ia":"1-ff00:0:112","core":false,"exp":63,"key":"6b","routers":1},"#,
-        r#"{"ia":"1-ff00:0:113","core":false,"exp":63,"key":"6b","routers":1}],"#,
-        r#""links":[{"kind":"child","a":{"ia":"1-ff00:0:110","if":1,"router":0},"#,
-        r#""b":{"ia":"1-ff00:0:111","if":1,"router":0}},"#,
-        r#"{"kind":"child","a":{"ia":"1-ff00:0:111","if":2,"router":0},"#,
-        r#""b":{"ia":"1-ff00:0:112","if":1,"router":0}},"#,
-        r#"{"kind":"child","a":{"ia":"1-ff00:0:111","if":3,"router":1},"#,
-        r#""b":{"ia":"1-ff00:0:113","if":1,"router":0}}]}"#,
-    )
-}
-
 /// A packet from one of the children to the other over this topology, up to its sending.
 pub(crate) fn fork(topology: &'static str) -> [Row; 9] {
     [
@@ -217,7 +201,7 @@ fn shortcut_through_two_routers(rt: HostRuntime) -> Result<(), Fail> {
     expect_talk(
         &rt,
         rt.alloc(),
-        &fork(wide_fork()),
+        &fork(worked::fork()),
         &[
             (r#"{"do":"turn","packet":0}"#, "link 1"),
             (r#"{"do":"turn","packet":0}"#, "router 1"),

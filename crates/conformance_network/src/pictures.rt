@@ -6,51 +6,6 @@ use std::alloc::Global;
 use std::process::Abort;
 use std::test::Fail;
 
-/// A core AS, its child, and the child's child.
-const ROW: &str = concat!(
-    r#"{"ases":[{"ia":"1-ff00:0:110","core":true,"exp":63,"key":"6130","routers":1},"#,
-    r#"{"ia":"1-ff00:0:111","core":false,"exp":63,"key":"6131","routers":1},"#,
-    r#"{"ia":"1-ff00:0:112","core":false,"exp":63,"key":"6132","routers":1}],"#,
-    r#""links":[{"kind":"child","a":{"ia":"1-ff00:0:110","if":1,"router":0},"#,
-    r#""b":{"ia":"1-ff00:0:111","if":1,"router":0}},"#,
-    r#"{"kind":"child","a":{"ia":"1-ff00:0:111","if":2,"router":0},"#,
-    r#""b":{"ia":"1-ff00:0:112","if":1,"router":0}}]}"#,
-);
-
-/// Two ISDs, each with a core AS, its child and the child's child; each AS has two routers.
-const PAIR: &str = concat!(
-    r#"{"ases":[{"ia":"1-ff00:0:110","core":true,"exp":63,"key":"6b","routers":2},"#,
-    r#"{"ia":"1-ff00:0:111","core":false,"exp":63,"key":"6b","routers":2},"#,
-    r#"{"ia":"1-ff00:0:112","core":false,"exp":63,"key":"6b","routers":2},"#,
-    r#"{"ia":"2-ff00:0:210","core":true,"exp":63,"key":"6b","routers":2},"#,
-    r#"{"ia":"2-ff00:0:211","core":false,"exp":63,"key":"6b","routers":2},"#,
-    r#"{"ia":"2-ff00:0:212","core":false,"exp":63,"key":"6b","routers":2}],"#,
-    r#""links":[{"kind":"child","a":{"ia":"1-ff00:0:110","if":1,"router":0},"#,
-    r#""b":{"ia":"1-ff00:0:111","if":1,"router":0}},"#,
-    r#"{"kind":"child","a":{"ia":"1-ff00:0:111","if":2,"router":1},"#,
-    r#""b":{"ia":"1-ff00:0:112","if":1,"router":0}},"#,
-    r#"{"kind":"core","a":{"ia":"1-ff00:0:110","if":2,"router":1},"#,
-    r#""b":{"ia":"2-ff00:0:210","if":1,"router":0}},"#,
-    r#"{"kind":"child","a":{"ia":"2-ff00:0:210","if":2,"router":1},"#,
-    r#""b":{"ia":"2-ff00:0:211","if":1,"router":0}},"#,
-    r#"{"kind":"child","a":{"ia":"2-ff00:0:211","if":2,"router":1},"#,
-    r#""b":{"ia":"2-ff00:0:212","if":1,"router":0}}]}"#,
-);
-
-/// A core AS, its child with two routers, and two children of the child.
-const FORK: &str = concat!(
-    r#"{"ases":[{"ia":"1-ff00:0:110","core":true,"exp":63,"key":"6b","routers":1},"#,
-    r#"{"ia":"1-ff00:0:111","core":false,"exp":63,"key":"6b","routers":2},"#,
-    r#"{"ia":"1-ff00:0:112","core":false,"exp":63,"key":"6b","routers":1},"#,
-    r#"{"ia":"1-ff00:0:113","core":false,"exp":63,"key":"6b","routers":1}],"#,
-    r#""links":[{"kind":"child","a":{"ia":"1-ff00:0:110","if":1,"router":0},"#,
-    r#""b":{"ia":"1-ff00:0:111","if":1,"router":0}},"#,
-    r#"{"kind":"child","a":{"ia":"1-ff00:0:111","if":2,"router":0},"#,
-    r#""b":{"ia":"1-ff00:0:112","if":1,"router":0}},"#,
-    r#"{"kind":"child","a":{"ia":"1-ff00:0:111","if":3,"router":1},"#,
-    r#""b":{"ia":"1-ff00:0:113","if":1,"router":0}}]}"#,
-);
-
 const ROW_DRAWN: &str = concat!(
     "graph network {",
     "\n",
@@ -252,7 +207,11 @@ fn expect_picture(
 /// The pictures of three networks, with no packet.
 #[test]
 fn networks(rt: HostRuntime) -> Result<(), Fail> {
-    let rows = [(ROW, ROW_DRAWN), (PAIR, PAIR_DRAWN), (FORK, FORK_DRAWN)];
+    let rows = [
+        (worked::row(), ROW_DRAWN),
+        (worked::pair(), PAIR_DRAWN),
+        (worked::fork(), FORK_DRAWN),
+    ];
     for (json, picture) in rows {
         let topology = Topology::from_json(rt.alloc(), json.as_bytes())?;
         expect_picture(&rt, rt.alloc(), &topology, &[], None, picture)?;
@@ -263,7 +222,7 @@ fn networks(rt: HostRuntime) -> Result<(), Fail> {
 /// A link that is cut, a link that a packet has passed, and the router that has the packet.
 #[test]
 fn cut_link(rt: HostRuntime) -> Result<(), Fail> {
-    let mut topology = Topology::from_json(rt.alloc(), ROW.as_bytes())?;
+    let mut topology = Topology::from_json(rt.alloc(), worked::row().as_bytes())?;
     let ia = IsdAs::parse("1-ff00:0:111")?;
     topology.cut_link(ia, IfId(1))?;
     let passed = [hop("1-ff00:0:112", 0, 1)?];
@@ -274,7 +233,7 @@ fn cut_link(rt: HostRuntime) -> Result<(), Fail> {
 /// A core link that a packet has passed, after two links to parents.
 #[test]
 fn core_link(rt: HostRuntime) -> Result<(), Fail> {
-    let topology = Topology::from_json(rt.alloc(), PAIR.as_bytes())?;
+    let topology = Topology::from_json(rt.alloc(), worked::pair().as_bytes())?;
     let passed = [
         hop("1-ff00:0:112", 0, 1)?,
         hop("1-ff00:0:111", 2, 1)?,
