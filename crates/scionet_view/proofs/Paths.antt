@@ -1,10 +1,14 @@
 -- A path that was accepted at some second is accepted at second 0 too: a hop has no earliest moment.
-use Rattle.std.proofs.Common.{◌≡◌, ℕ, arith, ◌∙◌, ap, sym, subst, List}
+-- And what is said of a path.
+use Rattle.std.proofs.Common.{◌≡◌, ℕ, ◌/◌, arith, ◌∙◌, ap, sym, subst, List, Result, Ok, Err}
+use Rattle.std.specs.Prelude.{String, IfOk}
+use Rattle.std.specs.String.{string_bytes}
 use Rattle.path_header.specs.Value.{HeaderValue}
 use Rattle.policy_expr.specs.Policy.{Rules}
 use Rattle.path_verifier.specs.Piece.{PieceValue}
-use Rattle.path_verifier.specs.Accepted.{IsAccepted, AreLive, request_of}
+use Rattle.path_verifier.specs.Accepted.{IsAccepted, IsExpiry, AreLive, request_of}
 use Rattle.network_core.specs.Value.{Way, asked_at}
+use Rattle.scionet_view.specs.Path.{TellsPath, path_text}
 
 live_at_once : (pieces : List PieceValue) → AreLive 0 pieces
 live_at_once pieces = λ k piece within. λ j entry inside. omega arith
@@ -42,3 +46,9 @@ request_accepted way pieces header src dst given same_pieces same_header same_sr
     ∙ ap (λ (d : ℕ). request_of way.pieces way.header way.source d 0 given) same_dst
     ∙ ap (λ (r : Rules). request_of way.pieces way.header way.source way.destination 0 r) same_rules in
     subst IsAccepted (sym same) (accepted_at_once way accepted)
+
+-- the text with the second of its expiry tells of the path
+pub tells_path : {A F : Type 0} (result : Result (String A) F) (pieces : List PieceValue) (half : ℕ) → IsExpiry pieces half
+    → IfOk result (λ text. string_bytes text ≡ path_text pieces (half / 2)) → IfOk result (λ text. TellsPath pieces (string_bytes text))
+tells_path (Ok text) pieces half expires is = (half, (expires, is))
+tells_path (Err fault) pieces half expires is = is

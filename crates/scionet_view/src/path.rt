@@ -90,6 +90,7 @@ fn path_text(
 }
 
 /// What is said of a path, which is live up to the half second at which its first hop expires.
+#[tactic(auto, using(crate::proofs::Paths::tells_path))]
 pub(crate) fn verified_text(
     alloc: Global,
     path: &VerifiedPath<'_, '_, Global>,
