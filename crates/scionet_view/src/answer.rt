@@ -10,10 +10,9 @@ use combinator::Path;
 use event_lines::RunFault;
 use forwarding::frame;
 use hop_mac::{expiry, hop_is_live};
-use network_core::{Event, EventFault, Net, Reply};
 use packet_view::fields_text;
 use path_segment::Entry;
-use path_verifier::{Piece, Pieces, VerifyFault, lend_all, verify};
+use path_verifier::{Piece, Pieces, VerifiedPath, VerifyFault, lend_all, verify};
 use policy_expr::Policy;
 use std::alloc::{AllocError, Global};
 use streams::Source;
@@ -46,55 +45,50 @@ fn expired_text(alloc: Global, pieces: &Pieces<'_>, now: u32) -> Result<String, 
     Ok(String::new(alloc))
 }
 
-/// Whether a packet may be sent on a path of these pieces, by the reply of the network to it at
-/// this second.
-fn reply_text(
+/// Whether a packet may be sent at this second on a path of these pieces: the verifier's answer, and
+/// of an expired path also the hop.
+fn sending_text(
     alloc: Global,
-    reply: Reply,
+    verified: Result<VerifiedPath<'_, '_, Global>, VerifyFault>,
     pieces: &Pieces<'_>,
     now: u32,
 ) -> Result<String, AllocError> {
-    let Reply::Refused(fault) = reply else {
+    let Err(fault) = verified else {
         return String::from_str(alloc, "send: ok\n");
     };
     let (code, name) = (fault.code(), fault.name());
     let hop = match fault {
-        EventFault::Path(VerifyFault::Expired) => expired_text(alloc, pieces, now)?,
+        VerifyFault::Expired => expired_text(alloc, pieces, now)?,
         _ => String::new(alloc),
     };
     format!(in alloc; "send: no {code} {name}: {fault}{}\n", hop.as_str())
 }
 
-/// What is said of a path of an answer, which got this reply when a packet was sent on it.
-fn described(alloc: Global, reply: Reply, path: &Path, now: u32) -> Result<String, AllocError> {
+/// What is said of a path of an answer at this second.
+fn described(alloc: Global, path: &Path, now: u32) -> Result<String, AllocError> {
     let pieces = lend_all(path.pieces());
+    let header = path.header();
     let [first, .., last] = path.walk() else {
         return no_answer(alloc);
     };
     let (source, destination) = (first.ia, last.ia);
+    // The policy of the answer's option allowed the path, and still does.
     let policy = Policy::any();
-    let sent = reply_text(alloc, reply, &pieces, now)?;
-    let mut text = match verify(&pieces, path.header(), source, destination, 0, &policy) {
+    let mut text = match verify(&pieces, header, source, destination, 0, &policy) {
         Ok(path) => verified_text(alloc, &path)?,
         Err(_) => String::new(alloc),
     };
-    text.push_str(sent.as_str())?;
-    let packet = frame(alloc, source, destination, path.header(), &[])?;
+    let verified = verify(&pieces, header, source, destination, now, &policy);
+    text.push_str(sending_text(alloc, verified, &pieces, now)?.as_str())?;
+    let packet = frame(alloc, source, destination, header, &[])?;
     text.push_str(fields_text(alloc, &packet)?.as_str())?;
     Ok(text)
 }
 
-/// What is said of the path of this number in the answer of this number, or the line that there is
-/// no such path. Whether a packet may be sent on it is seen by sending one.
-fn answer_text(alloc: Global, net: &mut Net, answer: u32, path: u32) -> Result<String, AllocError> {
-    let event = Event::Send {
-        ask: answer,
-        path,
-        payload: &[],
-    };
-    let reply = net.step(alloc, &event)?;
-    match path_at(net, answer, path) {
-        Some(path) => described(alloc, reply, path, net.now()),
+/// What is said of a path at the network's second, or the line that there is no such path.
+fn answer_text(alloc: Global, path: Option<&Path>, now: u32) -> Result<String, AllocError> {
+    match path {
+        Some(path) => described(alloc, path, now),
         None => no_answer(alloc),
     }
 }
@@ -114,6 +108,6 @@ pub(crate) fn answer_path<S: Source>(
 ) -> Result<String, RunFault>
     ensures { S.failed source.new ≡ (S.failed source.old || is_read_fault result) }
 {
-    let mut net = reached(alloc, source)?;
-    Ok(answer_text(alloc, &mut net, answer, path)?)
+    let net = reached(alloc, source)?;
+    Ok(answer_text(alloc, path_at(&net, answer, path), net.now())?)
 }

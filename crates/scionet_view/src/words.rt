@@ -170,6 +170,14 @@ fn place_option<'a>(alloc: Global, name: &'a str, help: &'a str) -> Arg<'a> {
     number_option(alloc, u32::MAX, name, "N", help)
 }
 
+/// The rule that a packet or an answer is named, and not both.
+fn subject_group<'a>(alloc: Global, is_required: bool) -> Result<ArgGroup<'a>, AllocError> {
+    ArgGroup::new(alloc, "subject")
+        .required(is_required)
+        .arg("packet")?
+        .arg("answer")
+}
+
 /// The command with the options that name a packet or a path of an answer.
 fn with_subject<'a>(
     alloc: Global,
@@ -183,14 +191,11 @@ fn with_subject<'a>(
         "path",
         "The number of a path of that answer, 0 if it is not given",
     );
-    let subject = ArgGroup::new(alloc, "subject")
-        .args(&["packet", "answer"])?
-        .required(is_required);
     command
         .arg(packet)?
         .arg(answer)?
         .arg(path.requires_arg("answer")?)?
-        .group(subject)
+        .group(subject_group(alloc, is_required)?)
 }
 
 /// The command `network`.
