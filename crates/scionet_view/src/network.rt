@@ -80,7 +80,7 @@ fn marked(alloc: Global, topology: &Topology, packet: Option<&Packet>) -> Result
 /// path.
 fn crossed(alloc: Global, topology: &Topology, path: Option<&Path>) -> Result<String, AllocError>
     ensures { IfOk result (λ text. string_bytes text
-        ≡ crossed topology.now (option_map (λ p. p.now) path)) }
+        ≡ crossed topology.now (option_map (λ p. p.now) path.entry)) }
 {
     match path {
         None => no_answer(alloc),
