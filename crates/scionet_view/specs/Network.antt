@@ -1,10 +1,14 @@
 -- The output of `scionet_view network`: the picture of the network after some lines.
-use Rattle.std.specs.Prelude.{◌≡◌, ℕ, codes, List, [], Option, Some, None, slice_get}
+use Rattle.std.specs.Prelude.{ℕ, codes, List, [], ◌++◌, Option, Some, None, slice_get}
+use Rattle.std.specs.Fmt.{decimal}
 use Rattle.scion_topology.specs.Network.{Network}
 use Rattle.forwarding.specs.declared.location.PacketLocation.{PacketLocation}
 use Rattle.forwarding.specs.declared.location.PacketLocation.TheVariants.{AtRouter, Refused}
 use Rattle.path_verifier.specs.Walk.{walk_of}
 use Rattle.combinator.specs.Candidate.{PathValue}
+use Rattle.network_core.specs.declared.fault.EventFault.{EventFault}
+use Rattle.network_core.specs.declared.fault.EventFault.TheVariants.{NoPacket, NoAnswer}
+use Rattle.network_core.specs.Fault.{code_of, name_of}
 use Rattle.network_core.specs.Value.{NetValue, PacketValue}
 use Rattle.network_view.specs.declared.marks.Router.{Router}
 use Rattle.network_view.specs.Dot.{dot_of}
@@ -12,13 +16,10 @@ use Rattle.refusal.specs.Optional.{◌>>=◌}
 use Rattle.scionet_view.specs.declared.words.Subject.{Subject}
 use Rattle.scionet_view.specs.declared.words.Subject.TheVariants.{Packet, Answer}
 
--- the line that says that there is no such packet
-abbrev pub no_packet : List ℕ
-no_packet = codes "no 130 NoPacket\n"
-
--- the line that says that there is no such answer, or no such path in it
-abbrev pub no_answer : List ℕ
-no_answer = codes "no 133 NoAnswer\n"
+-- the line with which a run answers an event that is refused for this reason
+abbrev pub refusal_line : EventFault → List ℕ
+refusal_line fault =
+    codes "no " ++ (decimal (code_of fault) ++ (codes " " ++ (name_of fault ++ codes "\n")))
 
 -- the path of this number in the answer of this number
 abbrev pub path_at : NetValue → ℕ → ℕ → Option PathValue
@@ -34,13 +35,13 @@ router_at place = None
 
 -- the picture of a network with this packet marked, or the line that there is no such packet
 abbrev pub marked : Network → Option PacketValue → List ℕ
-marked network None = no_packet
+marked network None = refusal_line NoPacket
 marked network (Some packet) =
     dot_of network packet.packet.passed (router_at packet.packet.place)
 
 -- the picture of a network with the links of this path marked, or the line that there is none
 abbrev pub crossed : Network → Option PathValue → List ℕ
-crossed network None = no_answer
+crossed network None = refusal_line NoAnswer
 crossed network (Some path) = dot_of network (walk_of path.pieces) None
 
 -- the picture of a network, with the packet or the path marked that is named, if one is

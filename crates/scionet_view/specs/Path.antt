@@ -7,10 +7,11 @@ use Rattle.path_verifier.specs.declared.kind.PieceKind.TheVariants.{Up, Core, Do
 use Rattle.path_verifier.specs.Piece.{PieceValue, kind_of, begins_in, ends_in}
 use Rattle.path_verifier.specs.Walk.{walk_of}
 use Rattle.path_verifier.specs.Accepted.{IsExpiry}
+use Rattle.network_core.specs.declared.fault.EventFault.TheVariants.{NoPacket}
 use Rattle.network_core.specs.Value.{PacketValue}
 use Rattle.event_lines.specs.Text.{hops_text, kinds_text}
 use Rattle.packet_view.specs.Fields.{each_below, fields_text}
-use Rattle.scionet_view.specs.Network.{no_packet}
+use Rattle.scionet_view.specs.Network.{refusal_line}
 
 -- the name of a kind of piece
 unfoldable pub kind_text : PieceKind → List ℕ
@@ -47,6 +48,6 @@ TellsPath pieces text = (half : ℕ) × (IsExpiry pieces half × (text ≡ path_
 
 -- the text is about this packet: what is said of its path, and its fields; or there is none
 abbrev pub TellsPacket : Option PacketValue → List ℕ → Type 0
-TellsPacket None text = text ≡ no_packet
+TellsPacket None text = text ≡ refusal_line NoPacket
 TellsPacket (Some packet) text = (lines : List ℕ) × (TellsPath packet.sent.way.pieces lines
     × (text ≡ lines ++ fields_text packet.packet.bytes))

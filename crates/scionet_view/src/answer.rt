@@ -3,13 +3,14 @@
 ghost use Rattle.std.specs.Prelude.{◌≡◌, ◌||◌};
 ghost use Rattle.event_lines.specs.Run.{is_read_fault};
 
-use crate::network::{no_answer, path_at};
+use crate::network::{path_at, refusal_line};
 use crate::path::verified_text;
 use crate::reached::reached;
 use combinator::Path;
 use event_lines::RunFault;
 use forwarding::frame;
 use hop_mac::{expiry, hop_is_live};
+use network_core::EventFault;
 use packet_view::fields_text;
 use path_segment::Entry;
 use path_verifier::{Piece, Pieces, VerifiedPath, VerifyFault, lend_all, verify};
@@ -69,7 +70,7 @@ fn described(alloc: Global, path: &Path, now: u32) -> Result<String, AllocError>
     let pieces = lend_all(path.pieces());
     let header = path.header();
     let [first, .., last] = path.walk() else {
-        return no_answer(alloc);
+        return refusal_line(alloc, EventFault::NoAnswer);
     };
     let (source, destination) = (first.ia, last.ia);
     // The policy of the answer's option allowed the path, and still does.
@@ -89,7 +90,7 @@ fn described(alloc: Global, path: &Path, now: u32) -> Result<String, AllocError>
 fn answer_text(alloc: Global, path: Option<&Path>, now: u32) -> Result<String, AllocError> {
     match path {
         Some(path) => described(alloc, path, now),
-        None => no_answer(alloc),
+        None => refusal_line(alloc, EventFault::NoAnswer),
     }
 }
 

@@ -4,32 +4,24 @@ ghost use Rattle.std.specs.Prelude.{◌≡◌, ◌||◌, IfOk, option_map};
 ghost use Rattle.std.specs.String.{string_bytes};
 ghost use Rattle.event_lines.specs.Run.{is_read_fault};
 ghost use Rattle.scionet_view.specs.Reached.{Shows};
-ghost use Rattle.scionet_view.specs.Network.{crossed, marked, no_answer, no_packet, path_at, picture_of, router_at};
+ghost use Rattle.scionet_view.specs.Network.{crossed, marked, path_at, picture_of, refusal_line, router_at};
 
 use crate::reached::reached;
 use crate::words::Subject;
 use combinator::Path;
 use event_lines::RunFault;
 use forwarding::PacketLocation;
-use network_core::{Net, Packet};
+use network_core::{EventFault, Net, Packet};
 use network_view::{Router, network_dot};
 use scion_topology::Topology;
 use std::alloc::{AllocError, Global};
 use streams::Source;
 
-/// The line that says that there is no packet of this number, as a run answers it.
-pub(crate) fn no_packet(alloc: Global) -> Result<String, AllocError>
-    ensures { IfOk result (λ text. string_bytes text ≡ no_packet) }
+/// The line with which a run answers an event that is refused for this reason.
+pub(crate) fn refusal_line(alloc: Global, fault: EventFault) -> Result<String, AllocError>
+    ensures { IfOk result (λ text. string_bytes text ≡ refusal_line fault) }
 {
-    String::from_str(alloc, "no 130 NoPacket\n")
-}
-
-/// The line that says that there is no answer of this number, or no such path in it, as a run
-/// answers it.
-pub(crate) fn no_answer(alloc: Global) -> Result<String, AllocError>
-    ensures { IfOk result (λ text. string_bytes text ≡ no_answer) }
-{
-    String::from_str(alloc, "no 133 NoAnswer\n")
+    format!(in alloc; "no {} {}\n", fault.code(), fault.name())
 }
 
 /// The path of this number in the answer of this number, if there is one.
@@ -62,7 +54,7 @@ fn marked(alloc: Global, topology: &Topology, packet: Option<&Packet>) -> Result
         ≡ marked topology.now (option_map (λ p. p.now) packet.entry)) }
 {
     match packet {
-        None => no_packet(alloc),
+        None => refusal_line(alloc, EventFault::NoPacket),
         Some(packet) => {
             let at = router_at(&packet.place());
             network_dot(
@@ -83,7 +75,7 @@ fn crossed(alloc: Global, topology: &Topology, path: Option<&Path>) -> Result<St
         ≡ crossed topology.now (option_map (λ p. p.now) path.entry)) }
 {
     match path {
-        None => no_answer(alloc),
+        None => refusal_line(alloc, EventFault::NoAnswer),
         Some(path) => network_dot(alloc, topology.ases(), topology.links(), path.walk(), None),
     }
 }

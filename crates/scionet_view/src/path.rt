@@ -8,10 +8,10 @@ ghost use Rattle.event_lines.specs.Run.{is_read_fault};
 ghost use Rattle.scionet_view.specs.Reached.{Shows};
 ghost use Rattle.scionet_view.specs.Path.{TellsPacket, TellsPath, kind_text, path_text, piece_line, piece_text, pieces_text};
 
-use crate::network::no_packet;
+use crate::network::refusal_line;
 use crate::reached::reached;
 use event_lines::{RunFault, hops_text, kinds_text};
-use network_core::{Packet, Sent};
+use network_core::{EventFault, Packet, Sent};
 use packet_view::fields_text;
 use path_verifier::{Piece, PieceKind, VerifiedPath, lend_all, verify};
 use std::alloc::{AllocError, Global};
@@ -128,7 +128,7 @@ fn packet_text(alloc: Global, packet: Option<&Packet>) -> Result<String, AllocEr
         (string_bytes text)) }
 {
     let Some(packet) = packet else {
-        return no_packet(alloc);
+        return refusal_line(alloc, EventFault::NoPacket);
     };
     let path = path_of(packet.sent());
     let mut text = verified_text(alloc, &path)?;
