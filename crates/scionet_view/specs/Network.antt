@@ -34,18 +34,20 @@ router_at (Refused ia number cause) = Some (record { ia = ia; number = number })
 router_at place = None
 
 -- the picture of a network with this packet marked, or the line that there is no such packet
-abbrev pub marked : Network → Option PacketValue → List ℕ
-marked network None = refusal_line NoPacket
-marked network (Some packet) =
+abbrev pub picture_with_packet : Network → Option PacketValue → List ℕ
+picture_with_packet network None = refusal_line NoPacket
+picture_with_packet network (Some packet) =
     dot_of network packet.packet.passed (router_at packet.packet.place)
 
 -- the picture of a network with the links of this path marked, or the line that there is none
-abbrev pub crossed : Network → Option PathValue → List ℕ
-crossed network None = refusal_line NoAnswer
-crossed network (Some path) = dot_of network (walk_of path.pieces) None
+abbrev pub picture_with_path : Network → Option PathValue → List ℕ
+picture_with_path network None = refusal_line NoAnswer
+picture_with_path network (Some path) = dot_of network (walk_of path.pieces) None
 
 -- the picture of a network, with the packet or the path marked that is named, if one is
 abbrev pub picture_of : NetValue → Option Subject → List ℕ
 picture_of net None = dot_of net.network [] None
-picture_of net (Some (Packet number)) = marked net.network (slice_get net.packets number)
-picture_of net (Some (Answer answer path)) = crossed net.network (path_at net answer path)
+picture_of net (Some (Packet number)) =
+    picture_with_packet net.network (slice_get net.packets number)
+picture_of net (Some (Answer answer path)) =
+    picture_with_path net.network (path_at net answer path)

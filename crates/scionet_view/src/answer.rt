@@ -4,8 +4,8 @@ ghost use Rattle.std.specs.Prelude.{◌≡◌, ◌||◌};
 ghost use Rattle.event_lines.specs.Run.{is_read_fault};
 
 use crate::network::{path_at, refusal_line};
+use crate::network_after::network_after;
 use crate::path::verified_text;
-use crate::reached::reached;
 use combinator::Path;
 use event_lines::RunFault;
 use forwarding::frame;
@@ -46,8 +46,8 @@ fn expired_text(alloc: Global, pieces: &Pieces<'_>, now: u32) -> Result<String, 
     Ok(String::new(alloc))
 }
 
-/// Whether a packet may be sent at this second on a path of these pieces: the verifier's answer, and
-/// of an expired path also the hop.
+/// Whether a packet may be sent at this second on a path of these pieces: the verifier's answer,
+/// and of an expired path also the hop.
 fn sending_text(
     alloc: Global,
     verified: Result<VerifiedPath<'_, '_, Global>, VerifyFault>,
@@ -66,7 +66,7 @@ fn sending_text(
 }
 
 /// What is said of a path of an answer at this second.
-fn described(alloc: Global, path: &Path, now: u32) -> Result<String, AllocError> {
+fn path_report(alloc: Global, path: &Path, now: u32) -> Result<String, AllocError> {
     let pieces = lend_all(path.pieces());
     let header = path.header();
     let [first, .., last] = path.walk() else {
@@ -89,7 +89,7 @@ fn described(alloc: Global, path: &Path, now: u32) -> Result<String, AllocError>
 /// What is said of a path at the network's second, or the line that there is no such path.
 fn answer_text(alloc: Global, path: Option<&Path>, now: u32) -> Result<String, AllocError> {
     match path {
-        Some(path) => described(alloc, path, now),
+        Some(path) => path_report(alloc, path, now),
         None => refusal_line(alloc, EventFault::NoAnswer),
     }
 }
@@ -109,6 +109,6 @@ pub(crate) fn answer_path<S: Source>(
 ) -> Result<String, RunFault>
     ensures { S.failed source.new ≡ (S.failed source.old || is_read_fault result) }
 {
-    let net = reached(alloc, source)?;
+    let net = network_after(alloc, source)?;
     Ok(answer_text(alloc, path_at(&net, answer, path), net.now())?)
 }

@@ -8,8 +8,8 @@
 
 mod answer;
 mod network;
+mod network_after;
 mod path;
-mod reached;
 mod words;
 
 use answer::answer_path;

@@ -4,9 +4,9 @@ ghost use Rattle.std.specs.Prelude.{◌≡◌, ◌||◌, IfOk, option_map};
 ghost use Rattle.std.specs.String.{string_bytes};
 ghost use Rattle.event_lines.specs.Run.{is_read_fault};
 ghost use Rattle.scionet_view.specs.Reached.{Shows};
-ghost use Rattle.scionet_view.specs.Network.{crossed, marked, path_at, picture_of, refusal_line, router_at};
+ghost use Rattle.scionet_view.specs.Network.{path_at, picture_of, picture_with_packet, picture_with_path, refusal_line, router_at};
 
-use crate::reached::reached;
+use crate::network_after::network_after;
 use crate::words::Subject;
 use combinator::Path;
 use event_lines::RunFault;
@@ -49,9 +49,13 @@ fn router_at(place: &PacketLocation) -> Option<Router>
 }
 
 /// The picture of a network with this packet marked, or the line that there is no such packet.
-fn marked(alloc: Global, topology: &Topology, packet: Option<&Packet>) -> Result<String, AllocError>
+fn picture_with_packet(
+    alloc: Global,
+    topology: &Topology,
+    packet: Option<&Packet>,
+) -> Result<String, AllocError>
     ensures { IfOk result (λ text. string_bytes text
-        ≡ marked topology.now (option_map (λ p. p.now) packet.entry)) }
+        ≡ picture_with_packet topology.now (option_map (λ p. p.now) packet.entry)) }
 {
     match packet {
         None => refusal_line(alloc, EventFault::NoPacket),
@@ -70,9 +74,13 @@ fn marked(alloc: Global, topology: &Topology, packet: Option<&Packet>) -> Result
 
 /// The picture of a network with the links of this path marked, or the line that there is no such
 /// path.
-fn crossed(alloc: Global, topology: &Topology, path: Option<&Path>) -> Result<String, AllocError>
+fn picture_with_path(
+    alloc: Global,
+    topology: &Topology,
+    path: Option<&Path>,
+) -> Result<String, AllocError>
     ensures { IfOk result (λ text. string_bytes text
-        ≡ crossed topology.now (option_map (λ p. p.now) path.entry)) }
+        ≡ picture_with_path topology.now (option_map (λ p. p.now) path.entry)) }
 {
     match path {
         None => refusal_line(alloc, EventFault::NoAnswer),
@@ -87,9 +95,13 @@ fn picture(alloc: Global, net: &Net, subject: Option<Subject>) -> Result<String,
     let topology = net.topology();
     match subject {
         None => network_dot(alloc, topology.ases(), topology.links(), &[], None),
-        Some(Subject::Packet(number)) => marked(alloc, topology, net.packet(number as usize)),
+        Some(Subject::Packet(number)) => picture_with_packet(
+            alloc,
+            topology,
+            net.packet(number as usize),
+        ),
         Some(Subject::Answer { answer, path }) => {
-            crossed(alloc, topology, path_at(net, answer, path))
+            picture_with_path(alloc, topology, path_at(net, answer, path))
         }
     }
 }
@@ -108,6 +120,6 @@ pub(crate) fn network_picture<S: Source>(
         (S.left source.old) (S.left source.new) }
     ensures flag { S.failed source.new ≡ (S.failed source.old || is_read_fault result) }
 {
-    let net = reached(alloc, source)?;
+    let net = network_after(alloc, source)?;
     Ok(picture(alloc, &net, subject)?)
 }

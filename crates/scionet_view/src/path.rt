@@ -9,7 +9,7 @@ ghost use Rattle.scionet_view.specs.Reached.{Shows};
 ghost use Rattle.scionet_view.specs.Path.{TellsPacket, TellsPath, kind_text, path_text, piece_line, piece_text, pieces_text};
 
 use crate::network::refusal_line;
-use crate::reached::reached;
+use crate::network_after::network_after;
 use event_lines::{RunFault, hops_text, kinds_text};
 use network_core::{EventFault, Packet, Sent};
 use packet_view::fields_text;
@@ -151,6 +151,6 @@ pub(crate) fn packet_path<S: Source>(
         (S.left source.old) (S.left source.new) }
     ensures flag { S.failed source.new ≡ (S.failed source.old || is_read_fault result) }
 {
-    let net = reached(alloc, source)?;
+    let net = network_after(alloc, source)?;
     Ok(packet_text(alloc, net.packet(number as usize))?)
 }

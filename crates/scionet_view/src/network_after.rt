@@ -13,7 +13,7 @@ use streams::{Source, Writer};
 /// The network after the lines of a source, whose replies are dropped.
 ///
 /// The faults are those of [`listen`] without [`RunFault::Write`].
-pub(crate) fn reached<S: Source>(alloc: Global, source: &mut S) -> Result<Net, RunFault>
+pub(crate) fn network_after<S: Source>(alloc: Global, source: &mut S) -> Result<Net, RunFault>
     ensures listens { Listens All result (S.left source.old) (S.left source.new) None None }
     ensures flag { S.failed source.new ≡ (S.failed source.old || is_read_fault result) }
 {
