@@ -3,15 +3,12 @@ ghost use Rattle.path_header.specs.Spelling.{SpellsHeader, spelling};
 ghost use Rattle.combinator.specs.Order.{path_cmp, walk_cmp, hop_cmp};
 ghost use Rattle.combinator.specs.inner.BestByWalk.{by_walk, IsNoWorse};
 
-use path_header::encode;
+use path_header::{MAX_HEADER_LEN, encode};
 use path_verifier::VerifiedPath;
 use policy_expr::{Policy, WalkHop};
 use std::alloc::{AllocError, Allocator, Global};
 use std::cmp::Ordering;
 use std::marker::{Model, PhantomData};
-
-/// The largest number of bytes of a header.
-const MAX_BYTES: usize = 796;
 
 /// A path that may be sent, with the values by which it is compared: its expiry and its header's
 /// bytes.
@@ -56,7 +53,7 @@ impl<'s, 'p, A: Allocator + Clone> RankedPath<'s, 'p, A> {
         ensures spelled { OnOk result
             (SpellsHeader (spelling path.entry.header) path.entry.header) }
     {
-        let mut room = [0; MAX_BYTES];
+        let mut room = [0; MAX_HEADER_LEN];
         let Ok(len) = encode(path.header(), &mut room) else {
             unreachable!();
         };

@@ -1,7 +1,7 @@
 use bumpalo::Bump;
 use combinator::{CombineError, Path, PathList, combine, paths_with};
 use isd_as::{IfId, IsdAs};
-use path_header::encode;
+use path_header::{MAX_HEADER_LEN, encode};
 use path_segment::{Entry, SegKind, Segment};
 use path_server::{PathStore, SegmentSet};
 use policy_expr::{AclText, OptionText, PolicyOption, PolicyText, WalkHop};
@@ -97,7 +97,7 @@ fn ask(
 
 /// The header of a path in hexadecimal digits.
 fn digits_of(alloc: Global, path: &Path) -> Result<String, Fail> {
-    let mut room = [0; 796];
+    let mut room = [0; MAX_HEADER_LEN];
     let len = encode(path.header(), &mut room)?;
     Ok(hex::encode(alloc, &room[..len])?)
 }

@@ -4,11 +4,8 @@ ghost use Rattle.path_header.specs.Spelling.{FitsBits, spelling};
 ghost use Rattle.forwarding.specs.Frame.{framed};
 
 use isd_as::IsdAs;
-use path_header::{Header, encode};
+use path_header::{Header, MAX_HEADER_LEN, encode};
 use std::alloc::{AllocError, Global};
-
-/// The largest number of bytes of a path header: a meta field, three info fields and 64 hop fields.
-const MAX_HEADER_LEN: usize = 796;
 
 /// The bytes of a packet: 8 bytes of destination address, 8 bytes of source address, its path
 /// header, and its payload. It allocates once, or memory runs out.

@@ -8,6 +8,10 @@ use crate::lens::SegLens;
 use arrayvec::ArrayVec;
 use std::marker::Model;
 
+/// The largest number of bytes of a path header: 4 of the meta field, 8 for each of three info
+/// fields, and 12 for each of 64 hop fields.
+pub const MAX_HEADER_LEN: usize = 796;
+
 /// A path header: the fields of one to three segments, and the place of the packet on the path.
 ///
 /// Invariants of the type: the numbers of fields are those of the segment lengths, and both indices

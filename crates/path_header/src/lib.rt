@@ -21,7 +21,7 @@ mod writing;
 pub use borrowed::HeaderMut;
 pub use fault::HeaderFault;
 pub use fields::{HopField, InfoField};
-pub use header::Header;
+pub use header::{Header, MAX_HEADER_LEN};
 pub use lens::SegLens;
 pub use reading::decode;
 pub use writing::encode;

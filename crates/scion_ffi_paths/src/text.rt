@@ -13,13 +13,10 @@ use crate::expiry::{path_expiry, verified_expiry};
 use crate::fault::RequestFault;
 use combinator::{OwnedPiece, Path};
 use event_lines::{hops_text, kinds_text};
-use path_header::{Header, encode};
+use path_header::{Header, MAX_HEADER_LEN, encode};
 use path_segment::Segment;
 use path_verifier::{VerifiedPath, lend_all};
 use std::alloc::{AllocError, Global};
-
-/// The largest number of bytes of a header.
-const MAX_HEADER_LEN: usize = 796;
 
 /// The place of the first of these segments that equals this one.
 #[tactic(auto, unfolding(crate::specs::Text::place_in_list))]
