@@ -28,7 +28,7 @@ const BAD_CALL: u16 = 9;
 /// and 13 for the router's parts, 20 to 26 for a path header, and 90 to 100 for the router's
 /// checks. At 90, `number` is the header's refusal.
 #[repr(C)]
-#[derive(Clone, Copy, Debug, PartialEq, Eq)]
+#[derive(Clone, Copy)]
 pub struct ScionAnswer {
     /// The result, or the refusal's number.
     pub code: u16,

@@ -1,3 +1,4 @@
 pub mod Items
+pub mod Judging
 pub mod Moments
 pub mod Ranges

@@ -1,6 +1,7 @@
 -- Requests to verify a path, and what the verifier checks for them.
 use Rattle.std.specs.Prelude.{ℕ, codes, List, [], ◌∷◌, length, nat_le, Result, Ok, Err}
 use Rattle.refusal.specs.Refusal.{◌>>=◌, check, refused_as}
+use Rattle.serde_json.specs.Data.{Data}
 use Rattle.json_fields.specs.Fields.{document_in, list_at, items_at}
 use Rattle.path_header.specs.Reading.{read_at}
 use Rattle.policy_expr.specs.declared.option_fault.OptionFault.TheVariants.{Unread}
@@ -25,15 +26,20 @@ pub record Given : Type 0 where
 abbrev pub given_of : Asked → List PieceValue → List ℕ → Given
 given_of asked pieces header = record { asked = asked; pieces = pieces; header = header }
 
+-- the request to verify that a JSON value with this common part is
+unfoldable pub given_with : Asked → Data → Result Given RequestFault
+given_with asked d = do
+  items ← formed (list_at (codes "pieces") d)
+  pieces ← formed (items_at (piece_at asked.segments) items)
+  header ← formed (bytes_at (codes "header") d)
+  Ok (given_of asked pieces header)
+
 -- the request to verify in these bytes
 unfoldable pub given_in : List ℕ → Result Given RequestFault
 given_in bytes = do
   d ← formed (document_in bytes)
   asked ← asked_in d
-  items ← formed (list_at (codes "pieces") d)
-  pieces ← formed (items_at (piece_at asked.segments) items)
-  header ← formed (bytes_at (codes "header") d)
-  Ok (given_of asked pieces header)
+  given_with asked d
 
 -- the policy of the request: that of its only option; the weight has no effect
 abbrev pub policy_asked : List OptionTexts → Result Rules RequestFault
@@ -42,10 +48,16 @@ policy_asked (texts ∷ []) =
     refused_as (λ fault. Policy (Unread fault)) (policy_at texts.acl texts.sequence)
 policy_asked (texts ∷ other ∷ later) = Err BadRequest
 
--- the request to the verifier, or the first refusal before it; a path has at most three pieces
-unfoldable pub request_at : Given → Result Request RequestFault
-request_at given = do
-  rules ← policy_asked given.asked.options
+-- the request to the verifier under these rules, or the first refusal before it; a path has at most
+-- three pieces
+unfoldable pub request_under : Rules → Given → Result Request RequestFault
+request_under rules given = do
   read ← refused_as Header (read_at given.header)
   few ← check (nat_le (length given.pieces) 3) (Path PieceCount)
   Ok (request_of given.pieces read.0 given.asked.src given.asked.dst given.asked.moment rules)
+
+-- the request to the verifier, or the first refusal before it
+unfoldable pub request_at : Given → Result Request RequestFault
+request_at given = do
+  rules ← policy_asked given.asked.options
+  request_under rules given

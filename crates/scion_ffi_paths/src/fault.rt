@@ -11,7 +11,7 @@ use refusal::OrMemory;
 use thiserror::Error;
 
 /// Why a request is refused.
-#[derive(Clone, Copy, Debug, PartialEq, Eq, Error)]
+#[derive(Clone, Copy, Debug, Error)]
 pub enum RequestFault {
     /// The bytes are no object in the form of a request.
     #[error("the request is of another form")]

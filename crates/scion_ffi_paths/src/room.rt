@@ -7,7 +7,7 @@ ghost use Rattle.scion_ffi_paths.specs.Room.{IsPut};
 /// What happened to an answer. `status` is 0 if its `len` bytes were written, 1 if the room has
 /// fewer than the `len` bytes that it needs, and 2 if memory ran out.
 #[repr(C)]
-#[derive(Clone, Copy, Debug, PartialEq, Eq)]
+#[derive(Clone, Copy)]
 pub struct ScionText {
     /// Whether it was written.
     pub status: u16,

@@ -3,12 +3,13 @@
 ghost use Rattle.std.specs.Prelude.{◌≡◌, IfOk, option_map};
 ghost use Rattle.std.specs.String.{string_bytes};
 ghost use Rattle.serde_json.specs.View.{view};
-ghost use Rattle.refusal.specs.Refusal.{Reads};
 ghost use Rattle.event_lines.specs.Line.{bytes_at};
-ghost use Rattle.scion_ffi_paths.specs.Given.{given_of, policy_asked, request_at};
+ghost use Rattle.refusal.specs.Refusal.{Reads};
+ghost use Rattle.path_verifier.specs.Accepted.{request_of};
+ghost use Rattle.scion_ffi_paths.specs.Given.{given_of, policy_asked, request_at, request_under};
 ghost use Rattle.scion_ffi_paths.specs.Room.{IsAnsweredInRoom};
-ghost use Rattle.scion_ffi_paths.specs.inner.Told.{Tells};
-ghost use Rattle.scion_ffi_paths.specs.Verdict.{AnswersVerdict, AnswersVerify};
+ghost use Rattle.scion_ffi_paths.specs.inner.Told.{AnswersGiven, Tells};
+ghost use Rattle.scion_ffi_paths.specs.Verdict.{AnswersVerdict, AnswersVerify, IsJudged};
 
 use crate::fault::{RequestError, RequestFault};
 use crate::request::Request;
@@ -19,7 +20,7 @@ use event_lines::{OwnedOptionText, lend_all};
 use hex::FromHexError;
 use json_fields::{document, list, text as text_at};
 use path_header::{Header, decode};
-use path_verifier::{Piece, verify};
+use path_verifier::{Piece, Pieces, verify};
 use policy_expr::{OptionFault, Policy};
 use refusal::OrMemory;
 use serde_json::Value;
@@ -57,6 +58,49 @@ fn policy(alloc: Global, options: &[OwnedOptionText]) -> Result<Policy<Global>, 
     }
 }
 
+/// The answer about a path of these pieces with this header, under a policy.
+fn verified(
+    alloc: Global,
+    request: &Request,
+    pieces: &Pieces<'_>,
+    header: &Header,
+    policy: &Policy<Global>,
+) -> Result<String, RequestError>
+    ensures { let asked = request.now in
+        Tells (IsJudged (request_of pieces.now header.now asked.src asked.dst asked.moment
+        policy.now)) result }
+{
+    let (src, dst, now) = (request.src, request.dst, request.moment);
+    match verify(pieces, header, src, dst, now, policy) {
+        Ok(path) => Ok(text::accepted(alloc, &path)?),
+        Err(fault) => Err(OrMemory::Refused(RequestFault::Path(fault))),
+    }
+}
+
+/// The answer under a policy about a path of these pieces, whose header is at the front of the
+/// bytes.
+#[tactic(auto, unfolding(crate::specs::Given::request_under))]
+fn judged_under(
+    alloc: Global,
+    request: &Request,
+    list: &[Piece<'_>],
+    bytes: &[u8],
+    policy: &Policy<Global>,
+) -> Result<String, RequestError>
+    ensures { Tells (AnswersVerdict
+        (request_under policy.now (given_of request.now list.now bytes.now))) result }
+{
+    let header = match decode(bytes) {
+        Ok((header, _)) => header,
+        Err(fault) => return Err(OrMemory::Refused(RequestFault::Header(fault))),
+    };
+    let pieces = match joined(list) {
+        Ok(pieces) => pieces,
+        Err(fault) => return Err(OrMemory::Refused(RequestFault::Path(fault))),
+    };
+    verified(alloc, request, &pieces, &header, policy)
+}
+
 /// The answer about a path of these pieces, whose header is at the front of the bytes.
 #[tactic(auto, unfolding(crate::specs::Given::request_at))]
 fn judged(
@@ -69,19 +113,18 @@ fn judged(
         (AnswersVerdict (request_at (given_of request.now list.now bytes.now))) result }
 {
     let policy = policy(alloc, &request.options)?;
-    let header = match decode(bytes) {
-        Ok((header, _)) => header,
-        Err(fault) => return Err(OrMemory::Refused(RequestFault::Header(fault))),
-    };
-    let pieces = match joined(list) {
-        Ok(pieces) => pieces,
-        Err(fault) => return Err(OrMemory::Refused(RequestFault::Path(fault))),
-    };
-    let (src, dst, now) = (request.src, request.dst, request.moment);
-    match verify(&pieces, &header, src, dst, now, &policy) {
-        Ok(path) => Ok(text::accepted(alloc, &path)?),
-        Err(fault) => Err(OrMemory::Refused(RequestFault::Path(fault))),
-    }
+    judged_under(alloc, request, list, bytes, &policy)
+}
+
+/// The answer to a request whose common part was read from this JSON value.
+#[tactic(auto, unfolding(crate::specs::Given::given_with))]
+fn verdict_with(alloc: Global, request: &Request, value: &Value) -> Result<String, RequestError>
+    ensures { Tells (AnswersGiven request.now (view value.now)) result }
+{
+    let values = list(value, "pieces").ok_or(RequestFault::BadRequest)?;
+    let pieces = pieces(alloc, &request.segments, values)?.ok_or(RequestFault::BadRequest)?;
+    let header = bytes(alloc, value, "header")?.ok_or(RequestFault::BadRequest)?;
+    judged(alloc, request, &pieces, &header)
 }
 
 /// The answer to the request in these bytes.
@@ -91,10 +134,7 @@ fn verdict(alloc: Global, bytes: &[u8]) -> Result<String, RequestError>
 {
     let value = document(alloc, bytes)?.ok_or(RequestFault::BadRequest)?;
     let request = Request::of(alloc, &value)?;
-    let values = list(&value, "pieces").ok_or(RequestFault::BadRequest)?;
-    let pieces = pieces(alloc, &request.segments, values)?.ok_or(RequestFault::BadRequest)?;
-    let header = self::bytes(alloc, &value, "header")?.ok_or(RequestFault::BadRequest)?;
-    judged(alloc, &request, &pieces, &header)
+    verdict_with(alloc, &request, &value)
 }
 
 /// The text of the answer to the request in these bytes, which may be a refusal.

@@ -1,12 +1,17 @@
--- An answer that is a text, or a refusal that is not written as a text yet (a word of private
--- functions' contracts).
+-- An answer that is a text, or a refusal that is not written as a text yet; and the answer to a
+-- request of which a part was read (words of private functions' contracts).
 use Rattle.std.specs.Prelude.{ℕ, List, Result, Ok, Err, String}
 use Rattle.std.specs.declared.alloc.Global.{Global}
 use Rattle.std.specs.String.{string_bytes}
 use Rattle.refusal.specs.declared.fault.OrMemory.{OrMemory}
 use Rattle.refusal.specs.declared.fault.OrMemory.TheVariants.{Memory, Refused}
 use Rattle.scion_ffi_paths.specs.declared.fault.RequestFault.{RequestFault}
+use Rattle.refusal.specs.Refusal.{◌>>=◌}
+use Rattle.serde_json.specs.Data.{Data}
+use Rattle.scion_ffi_paths.specs.Asked.{Asked}
+use Rattle.scion_ffi_paths.specs.Given.{given_with, request_at}
 use Rattle.scion_ffi_paths.specs.Text.{fault_text}
+use Rattle.scion_ffi_paths.specs.Verdict.{AnswersVerdict}
 
 -- the text, or that of the refusal, is an answer; if memory ran out, nothing is claimed
 abbrev pub Tells : (List ℕ → Type 0) → Result (String Global) (OrMemory RequestFault)
@@ -14,3 +19,7 @@ abbrev pub Tells : (List ℕ → Type 0) → Result (String Global) (OrMemory Re
 Tells answers (Ok text) = answers (string_bytes text)
 Tells answers (Err Memory) = Unit {0}
 Tells answers (Err (Refused fault)) = answers (fault_text fault)
+
+-- the text answers the request to verify that this JSON value with this common part is
+abbrev pub AnswersGiven : Asked → Data → List ℕ → Type 0
+AnswersGiven asked d text = AnswersVerdict (given_with asked d >>= request_at) text
