@@ -1,3 +1,4 @@
+pub mod Adding
 pub mod Matches
 pub mod Asked
 pub mod Done

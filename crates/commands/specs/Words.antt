@@ -33,14 +33,22 @@ number_rule most name = range_rule 0 most name
 abbrev pub interface_rule : Rule
 interface_rule = record (new_rule (codes "interface")) { value_names = 1; action = Some Append }
 
+-- a command with the options of a router and its AS
+abbrev pub with_router : App → App
+with_router app =
+    with_rule (with_rule (with_rule (with_rule app (option_rule (codes "ia")))
+    (number_rule 63 (codes "router"))) (option_rule (codes "key")))
+    (optional_rule (codes "previous"))
+
+-- a command with the options of a router's turn
+abbrev pub with_turn : App → App
+with_turn app =
+    with_rule (with_rule (with_rule (with_router app) (number_rule 4294967295 (codes "now")))
+    (option_rule (codes "from"))) interface_rule
+
 -- `step`, with its options
 abbrev pub step_app : App
-step_app =
-    with_rule
-    (with_rule (with_rule (with_rule (with_rule (with_rule (with_rule (new_app (codes "step"))
-    (option_rule (codes "ia"))) (number_rule 63 (codes "router"))) (option_rule (codes "key")))
-    (optional_rule (codes "previous"))) (number_rule 4294967295 (codes "now")))
-    (option_rule (codes "from"))) interface_rule
+step_app = with_turn (new_app (codes "step"))
 
 -- `run`, which has no options
 abbrev pub run_app : App

@@ -17,4 +17,4 @@ pub use fault::{CommandFault, WordsFault};
 pub use matched::turn;
 pub use program::{end, execute, run};
 pub use status::Status;
-pub use words::VERSION;
+pub use words::{VERSION, with_turn};

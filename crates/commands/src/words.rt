@@ -2,7 +2,7 @@
 
 ghost use Rattle.std.specs.Prelude.{◌≡◌, IfOk, false};
 ghost use Rattle.clap.specs.Words.{app_of, rule_of};
-ghost use Rattle.commands.specs.Words.{interface_rule, number_rule, option_rule, optional_rule, program_app, range_rule, run_app, step_app, work_app};
+ghost use Rattle.commands.specs.Words.{interface_rule, number_rule, option_rule, optional_rule, program_app, range_rule, run_app, with_router, with_turn, work_app};
 ghost use Rattle.commands.specs.inner.Words.{IsLocal};
 
 use clap::builder::ValueParser;
@@ -190,59 +190,62 @@ fn interface_argument<'a>(alloc: Global) -> Arg<'a>
         )
 }
 
-/// The command `step`.
-fn step_command<'a>(alloc: Global) -> Result<Command<'a>, AllocError>
-    ensures app { IfOk result (λ c. app_of c ≡ step_app) }
-    ensures local { IfOk result (λ c. IsLocal c) }
+/// The command with the options of a router and its AS.
+fn with_router<'a>(alloc: Global, command: Command<'a>) -> Result<Command<'a>, AllocError>
+    ensures app { IfOk result (λ c. app_of c ≡ with_router (app_of command.entry)) }
+    ensures local { IsLocal command.entry → IfOk result (λ c. IsLocal c) }
 {
-    let ia = option(
-        alloc,
-        "ia",
-        "IA",
-        "The address of the router's AS, as 1-ff00:0:111",
-    );
-    let router = number_option(
-        alloc,
-        63,
-        "router",
-        "N",
-        "The router's number in its AS, 0 to 63",
-    );
-    let key = option(
-        alloc,
-        "key",
-        "HEX",
-        "The AS's key, 1 to 64 bytes in hexadecimal",
-    );
-    let previous = optional(
-        alloc,
-        "previous",
-        "HEX",
-        "The AS's key before that one, which it accepts too",
-    );
-    let now = number_option(
-        alloc,
-        u32::MAX,
-        "now",
-        "T",
-        "The time, in seconds since 1970",
-    );
-    let from = option(
-        alloc,
-        "from",
-        "host|inside|IF",
-        "How the packet came: from a host, from inside the AS, or over the link of interface IF, \
-         1 to 65535",
-    );
-    let interface = interface_argument(alloc);
-    Command::new(alloc, "step")
-        .arg(ia)?
-        .arg(router)?
-        .arg(key)?
-        .arg(previous)?
-        .arg(now)?
-        .arg(from)?
-        .arg(interface)
+    // An argument is made where it is added, so that none has to be given up if another fails.
+    command
+        .arg(option(
+            alloc,
+            "ia",
+            "IA",
+            "The address of the router's AS, as 1-ff00:0:111",
+        ))?
+        .arg(number_option(
+            alloc,
+            63,
+            "router",
+            "N",
+            "The router's number in its AS, 0 to 63",
+        ))?
+        .arg(option(
+            alloc,
+            "key",
+            "HEX",
+            "The AS's key, 1 to 64 bytes in hexadecimal",
+        ))?
+        .arg(optional(
+            alloc,
+            "previous",
+            "HEX",
+            "The AS's key before that one, which it accepts too",
+        ))
+}
+
+/// The command with the options of a router's turn: of the router, the second, the packet's
+/// arrival, and the interfaces. [`turn`](crate::turn) reads them. `AllocError` if memory runs out.
+pub fn with_turn<'a>(alloc: Global, command: Command<'a>) -> Result<Command<'a>, AllocError>
+    ensures app { IfOk result (λ c. app_of c ≡ with_turn (app_of command.entry)) }
+    ensures local { IsLocal command.entry → IfOk result (λ c. IsLocal c) }
+{
+    with_router(alloc, command)?
+        .arg(number_option(
+            alloc,
+            u32::MAX,
+            "now",
+            "T",
+            "The time, in seconds since 1970",
+        ))?
+        .arg(option(
+            alloc,
+            "from",
+            "host|inside|IF",
+            "How the packet came: from a host, from inside the AS, or over the link of interface \
+             IF, 1 to 65535",
+        ))?
+        .arg(interface_argument(alloc))
 }
 
 /// The command `run`.
@@ -260,41 +263,43 @@ fn work_command<'a>(alloc: Global) -> Result<Command<'a>, AllocError>
     ensures app { IfOk result (λ c. app_of c ≡ work_app) }
     ensures local { IfOk result (λ c. IsLocal c) }
 {
-    let workers = number_option(
-        alloc,
-        u32::MAX,
-        "workers",
-        "N",
-        "The number of workers, 1 to 8; another is refused once the lines are answered",
-    );
-    let slots = range_option(
-        alloc,
-        1,
-        4_096,
-        "slots",
-        "K",
-        "The places of each worker's inbox, 1 to 4,096",
-    );
-    Command::new(alloc, "work").arg(workers)?.arg(slots)
+    Command::new(alloc, "work")
+        .arg(number_option(
+            alloc,
+            u32::MAX,
+            "workers",
+            "N",
+            "The number of workers, 1 to 8; another is refused once the lines are answered",
+        ))?
+        .arg(range_option(
+            alloc,
+            1,
+            4_096,
+            "slots",
+            "K",
+            "The places of each worker's inbox, 1 to 4,096",
+        ))
 }
 
 /// The whole command line.
 pub(crate) fn program<'a>(alloc: Global) -> Result<Command<'a>, AllocError>
     ensures { IfOk result (λ c. app_of c ≡ program_app) }
 {
-    let step = step_command(alloc)?
-        .about("Takes one router's turn over the packet in hexadecimal on standard input")
-        .after_long_help(STEP_HELP);
-    let work = work_command(alloc)?
-        .about("Runs a network, and then carries its packets on several threads")
-        .after_long_help(WORK_HELP);
     Command::new(alloc, "scionet")
         .bin_name("scionet")?
         .no_binary_name(true)
         .version(VERSION)
         .about("A SCION network in one process")
         .after_long_help(PROGRAM_HELP)
-        .subcommand(step)?
+        .subcommand(
+            with_turn(alloc, Command::new(alloc, "step"))?
+                .about("Takes one router's turn over the packet in hexadecimal on standard input")
+                .after_long_help(STEP_HELP),
+        )?
         .subcommand(run_command(alloc))?
-        .subcommand(work)
+        .subcommand(
+            work_command(alloc)?
+                .about("Runs a network, and then carries its packets on several threads")
+                .after_long_help(WORK_HELP),
+        )
 }

@@ -10,8 +10,10 @@ use combinator::Path;
 use event_lines::RunFault;
 use forwarding::frame;
 use hop_mac::{expiry, hop_is_live};
+use isd_as::IsdAs;
 use network_core::EventFault;
 use packet_view::fields_text;
+use path_header::Header;
 use path_segment::Entry;
 use path_verifier::{Piece, Pieces, VerifiedPath, VerifyFault, lend_all, verify};
 use policy_expr::Policy;
@@ -65,25 +67,59 @@ fn sending_text(
     format!(in alloc; "send: no {code} {name}: {fault}{}\n", hop.as_str())
 }
 
+/// What is said of a path whatever the second: its pieces, its kind, its walk, and until when it is
+/// live. The policy of the answer's option allowed the path, and so any policy does.
+fn known_text(
+    alloc: Global,
+    pieces: &Pieces<'_>,
+    header: &Header,
+    source: IsdAs,
+    destination: IsdAs,
+) -> Result<String, AllocError> {
+    let policy = Policy::any();
+    match verify(pieces, header, source, destination, 0, &policy) {
+        Ok(path) => verified_text(alloc, &path),
+        Err(_) => Ok(String::new(alloc)),
+    }
+}
+
+/// Whether a packet may be sent on a path at this second.
+fn sending_at(
+    alloc: Global,
+    pieces: &Pieces<'_>,
+    header: &Header,
+    source: IsdAs,
+    destination: IsdAs,
+    now: u32,
+) -> Result<String, AllocError> {
+    let policy = Policy::any();
+    let verified = verify(pieces, header, source, destination, now, &policy);
+    sending_text(alloc, verified, pieces, now)
+}
+
+/// The fields of a packet without payload on a path with this header.
+fn packet_fields(
+    alloc: Global,
+    header: &Header,
+    source: IsdAs,
+    destination: IsdAs,
+) -> Result<String, AllocError> {
+    let packet = frame(alloc, source, destination, header, &[])?;
+    fields_text(alloc, &packet)
+}
+
 /// What is said of a path of an answer at this second.
 fn path_report(alloc: Global, path: &Path, now: u32) -> Result<String, AllocError> {
-    let pieces = lend_all(path.pieces());
-    let header = path.header();
     let [first, .., last] = path.walk() else {
         return refusal_line(alloc, EventFault::NoAnswer);
     };
     let (source, destination) = (first.ia, last.ia);
-    // The policy of the answer's option allowed the path, and still does.
-    let policy = Policy::any();
-    let mut text = match verify(&pieces, header, source, destination, 0, &policy) {
-        Ok(path) => verified_text(alloc, &path)?,
-        Err(_) => String::new(alloc),
-    };
-    let verified = verify(&pieces, header, source, destination, now, &policy);
-    text.push_str(sending_text(alloc, verified, &pieces, now)?.as_str())?;
-    let packet = frame(alloc, source, destination, header, &[])?;
-    text.push_str(fields_text(alloc, &packet)?.as_str())?;
-    Ok(text)
+    let pieces = lend_all(path.pieces());
+    let header = path.header();
+    let known = known_text(alloc, &pieces, header, source, destination)?;
+    let sending = sending_at(alloc, &pieces, header, source, destination, now)?;
+    let fields = packet_fields(alloc, header, source, destination)?;
+    format!(in alloc; "{}{}{}", known.as_str(), sending.as_str(), fields.as_str())
 }
 
 /// What is said of a path at the network's second, or the line that there is no such path.

@@ -20,6 +20,7 @@ use path::packet_path;
 use std::alloc::Global;
 use std::env;
 use std::process::ExitCode;
+use step_line::StepCommand;
 use streams::{MAX_INPUT_LEN, Reader, Sink, Source, Writer, read_all, write_all};
 use words::{Subject, View, asked};
 
@@ -36,6 +37,34 @@ fn words_behind(rt: &HostRuntime) -> Result<Vec<String>, CommandFault> {
     Ok(words)
 }
 
+/// The lines about the packet that the source gives in hexadecimal.
+fn packet_text<S: Source>(
+    alloc: Global,
+    command: &StepCommand,
+    source: &mut S,
+) -> Result<String, CommandFault> {
+    let packet = read_all(alloc, source, MAX_INPUT_LEN as u64)?;
+    let mut lines = packet_lines(alloc, command, &packet)?;
+    lines.push_str("\n")?;
+    Ok(lines)
+}
+
+/// What the view shows of the bytes of the source.
+fn view_text<S: Source>(
+    alloc: Global,
+    view: &View,
+    source: &mut S,
+) -> Result<String, CommandFault> {
+    match view {
+        View::Packet(command) => packet_text(alloc, command, source),
+        View::Network(subject) => Ok(network_picture(alloc, source, *subject)?),
+        View::Path(Subject::Packet(number)) => Ok(packet_path(alloc, source, *number)?),
+        View::Path(Subject::Answer { answer, path }) => {
+            Ok(answer_path(alloc, source, *answer, *path)?)
+        }
+    }
+}
+
 /// Shows what the words ask for, from the bytes of the source.
 fn show<'a, S: Source, K: Sink>(
     alloc: Global,
@@ -43,26 +72,9 @@ fn show<'a, S: Source, K: Sink>(
     source: &mut S,
     sink: &mut K,
 ) -> Result<(), CommandFault> {
-    match asked(alloc, words)? {
-        View::Packet(command) => {
-            let packet = read_all(alloc, source, MAX_INPUT_LEN as u64)?;
-            let mut lines = packet_lines(alloc, &command, &packet)?;
-            lines.push_str("\n")?;
-            write_all(sink, lines.as_bytes())?;
-        }
-        View::Network(subject) => {
-            let text = network_picture(alloc, source, subject)?;
-            write_all(sink, text.as_bytes())?;
-        }
-        View::Path(Subject::Packet(number)) => {
-            let text = packet_path(alloc, source, number)?;
-            write_all(sink, text.as_bytes())?;
-        }
-        View::Path(Subject::Answer { answer, path }) => {
-            let text = answer_path(alloc, source, answer, path)?;
-            write_all(sink, text.as_bytes())?;
-        }
-    }
+    let view = asked(alloc, words)?;
+    let text = view_text(alloc, &view, source)?;
+    write_all(sink, text.as_bytes())?;
     Ok(())
 }
 

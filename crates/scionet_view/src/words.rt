@@ -1,8 +1,8 @@
 //! The words of the command line.
 
 use clap::builder::ValueParser;
-use clap::{Arg, ArgAction, ArgGroup, ArgMatches, Command};
-use commands::{VERSION, WordsFault, explained, turn};
+use clap::{Arg, ArgGroup, ArgMatches, Command};
+use commands::{VERSION, WordsFault, explained, turn, with_turn};
 use std::alloc::{AllocError, Global};
 use step_line::{StepCommand, number};
 
@@ -86,88 +86,27 @@ pub(crate) enum View {
     Path(Subject),
 }
 
-/// An option that has a value.
-fn option<'a>(alloc: Global, name: &'a str, value: &'a str, help: &'a str) -> Arg<'a> {
+/// The command `packet`.
+fn packet_command<'a>(alloc: Global) -> Result<Command<'a>, AllocError> {
+    let command = Command::new(alloc, "packet")
+        .about("Shows a packet field by field, and what a router checks of it")
+        .after_long_help(PACKET_HELP);
+    with_turn(alloc, command)
+}
+
+/// The option with the number of something that the lines have made.
+fn place_option<'a>(alloc: Global, name: &'a str, help: &'a str) -> Arg<'a> {
     Arg::new(alloc, name)
         .long(name)
-        .value_name(value)
+        .value_name("N")
+        .value_parser(ValueParser::Signed(0, i64::from(u32::MAX)))
         .help(help)
 }
 
-/// An option whose value is a number from 0 to `most`.
-fn number_option<'a>(
-    alloc: Global,
-    most: u32,
-    name: &'a str,
-    value: &'a str,
-    help: &'a str,
-) -> Arg<'a> {
-    option(alloc, name, value, help).value_parser(ValueParser::Signed(0, i64::from(most)))
-}
-
-/// The interfaces of the AS.
-fn interface_argument<'a>(alloc: Global) -> Arg<'a> {
-    Arg::new(alloc, "interface")
-        .value_name("IFACE")
-        .action(ArgAction::Append)
-        .help("An interface of the AS: NUMBER,core|parent|child,ROUTER,up|down")
-}
-
-/// The command `packet`.
-fn packet_command<'a>(alloc: Global) -> Result<Command<'a>, AllocError> {
-    let ia = option(
-        alloc,
-        "ia",
-        "IA",
-        "The address of the router's AS, as 1-ff00:0:111",
-    );
-    let router = number_option(
-        alloc,
-        63,
-        "router",
-        "N",
-        "The router's number in its AS, 0 to 63",
-    );
-    let key = option(
-        alloc,
-        "key",
-        "HEX",
-        "The AS's key, 1 to 64 bytes in hexadecimal",
-    );
-    let previous = option(
-        alloc,
-        "previous",
-        "HEX",
-        "The AS's key before that one, which it accepts too",
-    );
-    let now = number_option(
-        alloc,
-        u32::MAX,
-        "now",
-        "T",
-        "The time, in seconds since 1970",
-    );
-    let from = option(
-        alloc,
-        "from",
-        "host|inside|IF",
-        "How the packet came: from a host, from inside the AS, or over the link of interface IF",
-    );
-    Command::new(alloc, "packet")
-        .about("Shows a packet field by field, and what a router checks of it")
-        .after_long_help(PACKET_HELP)
-        .arg(ia.required(true))?
-        .arg(router.required(true))?
-        .arg(key.required(true))?
-        .arg(previous)?
-        .arg(now.required(true))?
-        .arg(from.required(true))?
-        .arg(interface_argument(alloc))
-}
-
-/// The number of something that the lines have made.
-fn place_option<'a>(alloc: Global, name: &'a str, help: &'a str) -> Arg<'a> {
-    number_option(alloc, u32::MAX, name, "N", help)
+/// The command with the option for the number of a path, which wants that of its answer.
+fn with_path<'a>(alloc: Global, command: Command<'a>) -> Result<Command<'a>, AllocError> {
+    let help = "The number of a path of that answer, 0 if it is not given";
+    command.arg(place_option(alloc, "path", help).requires_arg("answer")?)
 }
 
 /// The rule that a packet or an answer is named, and not both.
@@ -178,24 +117,27 @@ fn subject_group<'a>(alloc: Global, is_required: bool) -> Result<ArgGroup<'a>, A
         .arg("answer")
 }
 
+/// The command with this group of options, if there was memory for it.
+fn with_group<'a>(
+    command: Command<'a>,
+    group: Result<ArgGroup<'a>, AllocError>,
+) -> Result<Command<'a>, AllocError> {
+    command.group(group?)
+}
+
 /// The command with the options that name a packet or a path of an answer.
 fn with_subject<'a>(
     alloc: Global,
     command: Command<'a>,
     is_required: bool,
 ) -> Result<Command<'a>, AllocError> {
-    let packet = place_option(alloc, "packet", "The number of a packet, from 0");
-    let answer = place_option(alloc, "answer", "The number of an answer, from 0");
-    let path = place_option(
-        alloc,
-        "path",
-        "The number of a path of that answer, 0 if it is not given",
-    );
-    command
-        .arg(packet)?
-        .arg(answer)?
-        .arg(path.requires_arg("answer")?)?
-        .group(subject_group(alloc, is_required)?)
+    let command = command
+        .arg(place_option(alloc, "packet", "The number of a packet, from 0"))?
+        .arg(place_option(alloc, "answer", "The number of an answer, from 0"))?;
+    with_group(
+        with_path(alloc, command)?,
+        subject_group(alloc, is_required),
+    )
 }
 
 /// The command `network`.
@@ -214,16 +156,24 @@ fn path_command<'a>(alloc: Global) -> Result<Command<'a>, AllocError> {
     with_subject(alloc, command, true)
 }
 
+/// The program with this command, if there was memory for it.
+fn with_command<'a>(
+    program: Command<'a>,
+    command: Result<Command<'a>, AllocError>,
+) -> Result<Command<'a>, AllocError> {
+    program.subcommand(command?)
+}
+
 /// The whole command line.
 fn program<'a>(alloc: Global) -> Result<Command<'a>, AllocError> {
-    Command::new(alloc, "scionet_view")
+    let program = Command::new(alloc, "scionet_view")
         .bin_name("scionet_view")?
         .no_binary_name(true)
         .version(VERSION)
-        .about("Shows what a SCION network does")
-        .subcommand(packet_command(alloc)?)?
-        .subcommand(network_command(alloc)?)?
-        .subcommand(path_command(alloc)?)
+        .about("Shows what a SCION network does");
+    let program = with_command(program, packet_command(alloc))?;
+    let program = with_command(program, network_command(alloc))?;
+    with_command(program, path_command(alloc))
 }
 
 /// The fault of words that `clap` accepts and that are no command.
