@@ -26,7 +26,7 @@ pub record Given : Type 0 where
 abbrev pub given_of : Asked → List PieceValue → List ℕ → Given
 given_of asked pieces header = record { asked = asked; pieces = pieces; header = header }
 
--- the request to verify that a JSON value with this common part is
+-- the request to verify in a JSON value whose common part is this one
 unfoldable pub given_with : Asked → Data → Result Given RequestFault
 given_with asked d = do
   items ← formed (list_at (codes "pieces") d)

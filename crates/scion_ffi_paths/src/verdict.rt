@@ -59,7 +59,7 @@ fn policy(alloc: Global, options: &[OwnedOptionText]) -> Result<Policy<Global>, 
 }
 
 /// The answer about a path of these pieces with this header, under a policy.
-fn verified(
+fn path_verdict(
     alloc: Global,
     request: &Request,
     pieces: &Pieces<'_>,
@@ -80,7 +80,7 @@ fn verified(
 /// The answer under a policy about a path of these pieces, whose header is at the front of the
 /// bytes.
 #[tactic(auto, unfolding(crate::specs::Given::request_under))]
-fn judged_under(
+fn verdict_under(
     alloc: Global,
     request: &Request,
     list: &[Piece<'_>],
@@ -98,12 +98,12 @@ fn judged_under(
         Ok(pieces) => pieces,
         Err(fault) => return Err(OrMemory::Refused(RequestFault::Path(fault))),
     };
-    verified(alloc, request, &pieces, &header, policy)
+    path_verdict(alloc, request, &pieces, &header, policy)
 }
 
 /// The answer about a path of these pieces, whose header is at the front of the bytes.
 #[tactic(auto, unfolding(crate::specs::Given::request_at))]
-fn judged(
+fn verdict_of(
     alloc: Global,
     request: &Request,
     list: &[Piece<'_>],
@@ -113,7 +113,7 @@ fn judged(
         (AnswersVerdict (request_at (given_of request.now list.now bytes.now))) result }
 {
     let policy = policy(alloc, &request.options)?;
-    judged_under(alloc, request, list, bytes, &policy)
+    verdict_under(alloc, request, list, bytes, &policy)
 }
 
 /// The answer to a request whose common part was read from this JSON value.
@@ -124,7 +124,7 @@ fn verdict_with(alloc: Global, request: &Request, value: &Value) -> Result<Strin
     let values = list(value, "pieces").ok_or(RequestFault::BadRequest)?;
     let pieces = pieces(alloc, &request.segments, values)?.ok_or(RequestFault::BadRequest)?;
     let header = bytes(alloc, value, "header")?.ok_or(RequestFault::BadRequest)?;
-    judged(alloc, request, &pieces, &header)
+    verdict_of(alloc, request, &pieces, &header)
 }
 
 /// The answer to the request in these bytes.

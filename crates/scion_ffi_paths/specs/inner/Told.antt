@@ -5,8 +5,8 @@ use Rattle.std.specs.declared.alloc.Global.{Global}
 use Rattle.std.specs.String.{string_bytes}
 use Rattle.refusal.specs.declared.fault.OrMemory.{OrMemory}
 use Rattle.refusal.specs.declared.fault.OrMemory.TheVariants.{Memory, Refused}
-use Rattle.scion_ffi_paths.specs.declared.fault.RequestFault.{RequestFault}
 use Rattle.refusal.specs.Refusal.{◌>>=◌}
+use Rattle.scion_ffi_paths.specs.declared.fault.RequestFault.{RequestFault}
 use Rattle.serde_json.specs.Data.{Data}
 use Rattle.scion_ffi_paths.specs.Asked.{Asked}
 use Rattle.scion_ffi_paths.specs.Given.{given_with, request_at}
@@ -20,6 +20,6 @@ Tells answers (Ok text) = answers (string_bytes text)
 Tells answers (Err Memory) = Unit {0}
 Tells answers (Err (Refused fault)) = answers (fault_text fault)
 
--- the text answers the request to verify that this JSON value with this common part is
+-- the text answers the request to verify in this JSON value, whose common part is this one
 abbrev pub AnswersGiven : Asked → Data → List ℕ → Type 0
 AnswersGiven asked d text = AnswersVerdict (given_with asked d >>= request_at) text
