@@ -68,7 +68,7 @@ fn sending_text(
 }
 
 /// What is said of a path whatever the second: its pieces, its kind, its walk, and until when it is
-/// live. The policy of the answer's option allowed the path, and so any policy does.
+/// live. Its policy was that of the answer's option, so here it is verified without one.
 fn known_text(
     alloc: Global,
     pieces: &Pieces<'_>,
