@@ -1,11 +1,9 @@
 -- Reading a list, where a front of it has been read.
-use Rattle.std.proofs.Common.{◌≡◌, ℕ, suc, ◌+◌, ◌<◌, List, [], ◌∷◌, ◌++◌, length, get_or, drop, Option, Some, None, refl, sym, ap, ◌∙◌, append_assoc, add-one, drop-cons, Bool, true}
+use Rattle.std.proofs.Common.{◌≡◌, List, [], ◌∷◌, ◌++◌, Option, Some, None, refl, ap, append_assoc, Bool, true}
 use Rattle.std.specs.List.{list_all}
 use Rattle.std.proofs.lemmas.Bool.{and_parts, and_from}
 use Rattle.refusal.specs.Optional.{◌>>=◌}
-use Rattle.serde_json.specs.Data.{Data}
-use Rattle.serde_json.specs.View.{view, items_view}
-use Rattle.serde_json.specs.declared.value.Value.{Value}
+use Rattle.serde_json.specs.Data.{Data, Items, item}
 use Rattle.json_fields.specs.Fields.{items_at}
 
 -- what was read so far, and then the rest
@@ -16,17 +14,15 @@ joined : {A : Type 0} (front : List A) (x : A) (rest : Option (List A)) → with
 joined front x (Some xs) = ap (λ (l : List _). Some l) (append_assoc front (x ∷ []) xs)
 joined front x None = refl
 
-cell : (values : List Value) (i : ℕ) (value : Value) → i < length values → value ≡ get_or values i value → drop i values ≡ value ∷ drop (i + 1) values
-cell values i value below is = drop-cons values i value below ∙ ap (λ v. v ∷ drop (suc i) values) (sym is) ∙ ap (λ n. value ∷ drop n values) (sym (add-one i))
-
 -- the next item goes to the front
-pub with_front-next : {A : Type 0} (reader : Data → Option A) (front : List A) (values : List Value) (i : ℕ) (value : Value) (x : A) → i < length values → value ≡ get_or values i value → reader (view value) ≡ Some x → with_front (front ++ (x ∷ [])) (items_at reader (items_view (drop (i + 1) values))) ≡ with_front front (items_at reader (items_view (drop i values)))
-with_front-next reader front values i value x below is read =
-    rw (cell values i value below is, read) (joined front x (items_at reader (items_view (drop (i + 1) values))))
+pub with_front-next : {A : Type 0} (reader : Data → Option A) (front : List A) (left later : Items) (d : Data) (x : A) → left ≡ item d later → reader d ≡ Some x
+    → with_front (front ++ (x ∷ [])) (items_at reader later) ≡ with_front front (items_at reader left)
+with_front-next reader front left later d x is read = rw (is, read) (joined front x (items_at reader later))
 
 -- an item that is nothing ends the reading
-pub with_front-none : {A : Type 0} (reader : Data → Option A) (front : List A) (values : List Value) (i : ℕ) (value : Value) → i < length values → value ≡ get_or values i value → reader (view value) ≡ None → with_front front (items_at reader (items_view (drop i values))) ≡ None
-with_front-none reader front values i value below is read = rw (cell values i value below is, read) refl
+pub with_front-none : {A : Type 0} (reader : Data → Option A) (front : List A) (left later : Items) (d : Data) → left ≡ item d later → reader d ≡ None
+    → with_front front (items_at reader left) ≡ None
+with_front-none reader front left later d is read = rw (is, read) refl
 
 -- one more that passes
 pub list_all-push : {A : Type 0} (test : A → Bool) (xs : List A) (x : A) → list_all test xs ≡ true → test x ≡ true → list_all test (xs ++ (x ∷ [])) ≡ true

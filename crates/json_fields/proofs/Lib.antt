@@ -1,2 +1,6 @@
+pub mod Conversion
 pub mod Documents
 pub mod Front
+pub mod Members
+mod Signs
+mod Texts

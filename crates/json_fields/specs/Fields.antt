@@ -1,15 +1,10 @@
 -- Reading the members of a JSON object; other members may be there, in any order. A whole number is
 -- written without fraction and exponent.
-use Rattle.std.specs.Prelude.{ℕ, ◌≡◌, ◌&&◌, nat_le, Bool, IfSome, IsTrue, if◌then◌else◌, List, [], ◌∷◌, Option, Some, None, option_and_then}
-use Rattle.std.specs.Fn.{FnReturnsAt}
+use Rattle.std.specs.Prelude.{ℕ, ◌&&◌, nat_le, Bool, if◌then◌else◌, List, [], ◌∷◌, Option, Some, None, option_and_then}
 use Rattle.std.specs.Str.{is_utf8}
-use denote.Ref.{Bor}
-use denote.Param.Members.{Shared}
 use Rattle.serde_json.specs.Data.{Data, Items, no_items, item}
 use Rattle.serde_json.specs.Find.{get, as_number, as_u64, as_bool, as_str, as_array}
 use Rattle.serde_json.specs.Read.{read}
-use Rattle.serde_json.specs.View.{view}
-use Rattle.serde_json.specs.declared.value.Value.{Value}
 use Rattle.refusal.specs.Optional.{◌>>=◌}
 
 -- the value of a JSON text, or nothing if the bytes are not UTF-8 or no JSON
@@ -48,16 +43,3 @@ items_at one (item d ds) = do
   x ← one d
   xs ← items_at one ds
   Some (x ∷ xs)
-
--- each call of `one` returns what `reader` says about the value
-abbrev pub IsReader : {F A : Type 0} → Shared F (Bor Value × Unit {0}) (Option A) → F
-    → (Data → Option A) → Type 0
-IsReader {F} {A} calls one reader =
-    (v : Value) (found : Option A) → FnReturnsAt calls one v found → found ≡ reader (view v)
-
--- if a call of `one` returns something, it passes this test
-abbrev pub GivesPassing : {F A : Type 0} → Shared F (Bor Value × Unit {0}) (Option A) → F
-    → (A → Bool) → Type 0
-GivesPassing {F} {A} calls one test =
-    (v : Value) (found : Option A) → FnReturnsAt calls one v found
-    → IfSome found (λ x. IsTrue (test x))

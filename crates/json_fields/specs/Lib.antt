@@ -1,1 +1,5 @@
+pub mod Data
+pub mod Documents
 pub mod Fields
+pub mod Readers
+pub mod inner

@@ -1,5 +1,5 @@
 ghost use Rattle.std.specs.Prelude.{◌≡◌};
-ghost use Rattle.serde_json.specs.View.{view};
+ghost use Rattle.json_fields.specs.Documents.{node_data};
 ghost use Rattle.refusal.specs.Refusal.{Reads};
 ghost use Rattle.path_segment.specs.Reading.{any_address_in, mac_at, segment_kind_at, entry_in, chain_at, chain_or_fault, segment_in};
 
@@ -9,9 +9,8 @@ use crate::kind::SegKind;
 use crate::segment::Segment;
 use hex::FromHex;
 use isd_as::{IfId, IsdAs};
-use json_fields::{document, items, list, text, whole};
+use json_fields::{Document, JsonRoom, Node, items};
 use refusal::OrMemory;
-use serde_json::Value;
 use std::alloc::Global;
 
 impl Segment {
@@ -27,20 +26,25 @@ impl Segment {
     pub fn from_json(alloc: Global, bytes: &[u8]) -> Result<Segment, SegmentError>
         ensures { Reads (λ s. s) result (segment_in bytes.now) }
     {
-        let value = document(alloc, bytes)?.ok_or(SegmentFault::NotJson)?;
-        Segment::from_value(alloc, &value)
+        let mut room = JsonRoom::new(alloc);
+        let document = Document::read(alloc, &mut room, bytes)?.ok_or(SegmentFault::NotJson)?;
+        Segment::from_object(alloc, &document.root())
     }
 
-    /// The segment that a JSON value describes, in the form and with the refusals of
+    /// The segment that an object of a JSON text describes, in the form and with the refusals of
     /// [`Segment::from_json`].
     #[tactic(auto, unfolding(crate::specs::Reading::chain_at))]
-    pub fn from_value(alloc: Global, value: &Value) -> Result<Segment, SegmentError>
-        ensures { Reads (λ s. s) result (chain_or_fault (chain_at (view value.now))) }
+    pub fn from_object(alloc: Global, object: &Node<'_, '_>) -> Result<Segment, SegmentError>
+        ensures { Reads (λ s. s) result (chain_or_fault (chain_at (node_data object.now))) }
     {
-        let kind = kind(value, "kind").ok_or(SegmentFault::NotJson)?;
-        let timestamp = whole(value, "timestamp", 0, 4_294_967_295).ok_or(SegmentFault::NotJson)?;
-        let beta0 = whole(value, "beta0", 0, 65535).ok_or(SegmentFault::NotJson)?;
-        let values = list(value, "entries").ok_or(SegmentFault::NotJson)?;
+        let kind = kind(object, "kind").ok_or(SegmentFault::NotJson)?;
+        let timestamp = object
+            .whole("timestamp", 0, 4_294_967_295)
+            .ok_or(SegmentFault::NotJson)?;
+        let beta0 = object
+            .whole("beta0", 0, 65535)
+            .ok_or(SegmentFault::NotJson)?;
+        let values = object.list("entries").ok_or(SegmentFault::NotJson)?;
         let entries = items(alloc, values, entry_of)?.ok_or(SegmentFault::NotJson)?;
         Ok(Segment::new(kind, timestamp as u32, beta0 as u16, entries)?)
     }
@@ -48,14 +52,14 @@ impl Segment {
 
 /// The entry of a JSON object.
 #[tactic(auto, unfolding(crate::specs::Reading::entry_in))]
-fn entry_of(value: &Value) -> Option<Entry>
-    ensures { result ≡ entry_in (view value.now) }
+fn entry_of(object: &Node<'_, '_>) -> Option<Entry>
+    ensures { result ≡ entry_in (node_data object.now) }
 {
-    let ia = address(value, "ia")?;
-    let cons_ingress = whole(value, "ingress", 0, 65535)?;
-    let cons_egress = whole(value, "egress", 0, 65535)?;
-    let exp_time = whole(value, "exp", 0, 255)?;
-    let mac = mac(value, "mac")?;
+    let ia = address(object, "ia")?;
+    let cons_ingress = object.whole("ingress", 0, 65535)?;
+    let cons_egress = object.whole("egress", 0, 65535)?;
+    let exp_time = object.whole("exp", 0, 255)?;
+    let mac = mac(object, "mac")?;
     Some(Entry {
         ia,
         cons_ingress: IfId(cons_ingress as u16),
@@ -67,28 +71,28 @@ fn entry_of(value: &Value) -> Option<Entry>
 
 /// A member whose value is an address.
 #[tactic(auto, unfolding(crate::specs::Reading::any_address_in))]
-fn address(value: &Value, name: &str) -> Option<IsdAs>
-    ensures { result ≡ any_address_in name.now (view value.now) }
+fn address(object: &Node<'_, '_>, name: &str) -> Option<IsdAs>
+    ensures { result ≡ any_address_in name.now (node_data object.now) }
 {
-    let text = text(value, name)?;
+    let text = object.text(name)?;
     IsdAs::parse(text).ok()
 }
 
 /// A member whose value is an authenticator in hexadecimal.
 #[tactic(auto, unfolding(crate::specs::Reading::mac_at))]
-fn mac(value: &Value, name: &str) -> Option<[u8; 6]>
-    ensures { result ≡ mac_at name.now (view value.now) }
+fn mac(object: &Node<'_, '_>, name: &str) -> Option<[u8; 6]>
+    ensures { result ≡ mac_at name.now (node_data object.now) }
 {
-    let text = text(value, name)?;
+    let text = object.text(name)?;
     <[u8; 6] as FromHex>::from_hex(text).ok()
 }
 
 /// A member whose value is the name of a kind.
 #[tactic(auto, unfolding(crate::specs::Reading::segment_kind_at))]
-fn kind(value: &Value, name: &str) -> Option<SegKind>
-    ensures { result ≡ segment_kind_at name.now (view value.now) }
+fn kind(object: &Node<'_, '_>, name: &str) -> Option<SegKind>
+    ensures { result ≡ segment_kind_at name.now (node_data object.now) }
 {
-    let text = text(value, name)?;
+    let text = object.text(name)?;
     match text {
         "core" => Some(SegKind::Core),
         "intra" => Some(SegKind::Intra),

@@ -10,7 +10,7 @@ use Rattle.path_header.specs.Reading.{read_at}
 use Rattle.policy_expr.specs.Policy.{Rules}
 use Rattle.path_verifier.specs.declared.fault.VerifyFault.TheVariants.{PieceCount}
 use Rattle.path_verifier.specs.Piece.{PieceValue}
-use Rattle.path_verifier.specs.Accepted.{Request, request_of}
+use Rattle.path_verifier.specs.Accepted.{request_of}
 use Rattle.scion_ffi_paths.specs.declared.fault.RequestFault.{RequestFault}
 use Rattle.scion_ffi_paths.specs.declared.fault.RequestFault.TheVariants.{Header, Path}
 use Rattle.scion_ffi_paths.specs.Asked.{Asked}

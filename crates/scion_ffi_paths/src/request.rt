@@ -1,6 +1,6 @@
 //! Requests, as values.
 
-ghost use Rattle.serde_json.specs.View.{view};
+ghost use Rattle.json_fields.specs.Documents.{node_data};
 ghost use Rattle.refusal.specs.Refusal.{Reads};
 ghost use Rattle.scion_ffi_paths.specs.Asked.{asked_in, paths_asked_in};
 
@@ -9,9 +9,8 @@ use crate::segment::segments;
 use event_lines::OwnedOptionText;
 use event_lines::fields::{ia, long, options};
 use isd_as::IsdAs;
-use json_fields::{document, list};
+use json_fields::{Document, JsonRoom, Node};
 use path_segment::Segment;
-use serde_json::Value;
 use std::alloc::Global;
 use std::marker::Model;
 
@@ -50,14 +49,14 @@ impl Request {
     ///
     /// It takes time and memory in proportion to the object.
     #[tactic(auto, unfolding(crate::specs::Asked::asked_in))]
-    pub(crate) fn of(alloc: Global, value: &Value) -> Result<Request, RequestError>
-        ensures { Reads (λ r. r) result (asked_in (view value.now)) }
+    pub(crate) fn of(alloc: Global, object: &Node<'_, '_>) -> Result<Request, RequestError>
+        ensures { Reads (λ r. r) result (asked_in (node_data object.now)) }
     {
-        let options = options(alloc, value)?.ok_or(RequestFault::BadRequest)?;
-        let src = ia(value, "src").ok_or(RequestFault::BadRequest)?;
-        let dst = ia(value, "dst").ok_or(RequestFault::BadRequest)?;
-        let moment = long(value, "now").ok_or(RequestFault::BadRequest)?;
-        let values = list(value, "segments").ok_or(RequestFault::BadRequest)?;
+        let options = options(alloc, object)?.ok_or(RequestFault::BadRequest)?;
+        let src = ia(object, "src").ok_or(RequestFault::BadRequest)?;
+        let dst = ia(object, "dst").ok_or(RequestFault::BadRequest)?;
+        let moment = long(object, "now").ok_or(RequestFault::BadRequest)?;
+        let values = object.list("segments").ok_or(RequestFault::BadRequest)?;
         let segments = segments(alloc, values)?;
         Ok(Request {
             src,
@@ -92,9 +91,11 @@ impl PathsRequest {
     pub(crate) fn read(alloc: Global, bytes: &[u8]) -> Result<PathsRequest, RequestError>
         ensures { Reads (λ r. r) result (paths_asked_in bytes.now) }
     {
-        let value = document(alloc, bytes)?.ok_or(RequestFault::BadRequest)?;
-        let asked = Request::of(alloc, &value)?;
-        let limit = long(&value, "limit").ok_or(RequestFault::BadRequest)?;
+        let mut room = JsonRoom::new(alloc);
+        let document = Document::read(alloc, &mut room, bytes)?.ok_or(RequestFault::BadRequest)?;
+        let object = document.root();
+        let asked = Request::of(alloc, &object)?;
+        let limit = long(&object, "limit").ok_or(RequestFault::BadRequest)?;
         Ok(PathsRequest { asked, limit })
     }
 }

@@ -1,28 +1,27 @@
 //! The pieces of a request to verify a path.
 
 ghost use Rattle.std.specs.Prelude.{◌≡◌, ◌≤◌, length, option_map, IfErr, IfOk, IsOk};
-ghost use Rattle.serde_json.specs.View.{view, items_view};
+ghost use Rattle.json_fields.specs.Documents.{list_items, node_data};
 ghost use Rattle.json_fields.specs.Fields.{items_at};
 ghost use Rattle.path_verifier.specs.declared.fault.VerifyFault.TheVariants.{PieceCount};
 ghost use Rattle.scion_ffi_paths.specs.Stretch.{piece_at};
 
 use event_lines::fields::long;
-use json_fields::truth;
+use json_fields::{Node, NodeList};
 use path_segment::Segment;
 use path_verifier::{Piece, Pieces, VerifyFault};
-use serde_json::Value;
 use std::alloc::{AllocError, Global};
 
 /// A piece of one of these segments, if the value is one.
 #[tactic(auto, unfolding(crate::specs::Stretch::piece_at))]
-fn piece<'s>(segments: &'s [Segment], value: &Value) -> Option<Piece<'s>>
-    ensures { result ≡ piece_at segments.now (view value.now) }
+fn piece<'s>(segments: &'s [Segment], object: &Node<'_, '_>) -> Option<Piece<'s>>
+    ensures { result ≡ piece_at segments.now (node_data object.now) }
 {
-    let place = long(value, "segment")?;
+    let place = long(object, "segment")?;
     let segment = segments.get(place as usize)?;
-    let from = long(value, "from")? as usize;
-    let to = long(value, "to")? as usize;
-    let along = truth(value, "along")?;
+    let from = long(object, "from")? as usize;
+    let to = long(object, "to")? as usize;
+    let along = object.truth("along")?;
     Some(Piece {
         segment,
         from,
@@ -35,17 +34,19 @@ fn piece<'s>(segments: &'s [Segment], value: &Value) -> Option<Piece<'s>>
 pub(crate) fn pieces<'s>(
     alloc: Global,
     segments: &'s [Segment],
-    values: &[Value],
+    values: NodeList<'_, '_>,
 ) -> Result<Option<Vec<Piece<'s>>>, AllocError>
     ensures { IfOk result (λ o. option_map (λ v. v.items) o
-        ≡ items_at (piece_at segments.now) (items_view values.now)) }
+        ≡ items_at (piece_at segments.now) (list_items values.entry)) }
 {
     let mut pieces = Vec::new(alloc);
-    for value in values {
-        let Some(piece) = piece(segments, value) else {
+    let mut left = values;
+    while let Some((value, later)) = left.split_first() {
+        let Some(piece) = piece(segments, &value) else {
             return Ok(None);
         };
         pieces.push(piece)?;
+        left = later;
     }
     Ok(Some(pieces))
 }

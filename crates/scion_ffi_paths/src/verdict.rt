@@ -1,9 +1,8 @@
 //! Requests to verify a path.
 
-ghost use Rattle.std.specs.Prelude.{◌≡◌, IfOk, option_map};
+ghost use Rattle.std.specs.Prelude.{IfOk};
 ghost use Rattle.std.specs.String.{string_bytes};
-ghost use Rattle.serde_json.specs.View.{view};
-ghost use Rattle.event_lines.specs.Line.{bytes_at};
+ghost use Rattle.json_fields.specs.Documents.{node_data};
 ghost use Rattle.refusal.specs.Refusal.{Reads};
 ghost use Rattle.path_verifier.specs.Accepted.{request_of};
 ghost use Rattle.scion_ffi_paths.specs.Given.{given_of, policy_asked, request_at, request_under};
@@ -16,30 +15,14 @@ use crate::request::Request;
 use crate::room::{ScionText, put};
 use crate::stretch::{joined, pieces};
 use crate::text;
+use event_lines::fields::bytes;
 use event_lines::{OwnedOptionText, lend_all};
-use hex::FromHexError;
-use json_fields::{document, list, text as text_at};
+use json_fields::{Document, JsonRoom, Node};
 use path_header::{Header, decode};
 use path_verifier::{Piece, Pieces, verify};
 use policy_expr::{OptionFault, Policy};
 use refusal::OrMemory;
-use serde_json::Value;
 use std::alloc::{AllocError, Global};
-
-/// A member that is bytes in hexadecimal.
-#[tactic(auto, unfolding(event_lines::specs::Line::bytes_at))]
-fn bytes(alloc: Global, value: &Value, name: &str) -> Result<Option<Vec<u8>>, AllocError>
-    ensures { IfOk result (λ o. option_map (λ v. v.items) o ≡ bytes_at name.now (view value.now)) }
-{
-    let Some(text) = text_at(value, name) else {
-        return Ok(None);
-    };
-    match hex::decode(alloc, text.as_bytes()) {
-        Ok(bytes) => Ok(Some(bytes)),
-        Err(FromHexError::OutOfMemory) => Err(AllocError),
-        Err(_) => Ok(None),
-    }
-}
 
 /// The policy of the only option.
 fn policy(alloc: Global, options: &[OwnedOptionText]) -> Result<Policy<Global>, RequestError>
@@ -116,14 +99,18 @@ fn verdict_of(
     verdict_under(alloc, request, list, bytes, &policy)
 }
 
-/// The answer to a request whose common part was read from this JSON value.
+/// The answer to a request whose common part was read from this JSON object.
 #[tactic(auto, unfolding(crate::specs::Given::given_with))]
-fn verdict_with(alloc: Global, request: &Request, value: &Value) -> Result<String, RequestError>
-    ensures { Tells (AnswersGiven request.now (view value.now)) result }
+fn verdict_with(
+    alloc: Global,
+    request: &Request,
+    object: &Node<'_, '_>,
+) -> Result<String, RequestError>
+    ensures { Tells (AnswersGiven request.now (node_data object.now)) result }
 {
-    let values = list(value, "pieces").ok_or(RequestFault::BadRequest)?;
+    let values = object.list("pieces").ok_or(RequestFault::BadRequest)?;
     let pieces = pieces(alloc, &request.segments, values)?.ok_or(RequestFault::BadRequest)?;
-    let header = bytes(alloc, value, "header")?.ok_or(RequestFault::BadRequest)?;
+    let header = bytes(alloc, object, "header")?.ok_or(RequestFault::BadRequest)?;
     verdict_of(alloc, request, &pieces, &header)
 }
 
@@ -132,9 +119,11 @@ fn verdict_with(alloc: Global, request: &Request, value: &Value) -> Result<Strin
 fn verdict(alloc: Global, bytes: &[u8]) -> Result<String, RequestError>
     ensures { Tells (AnswersVerify bytes.now) result }
 {
-    let value = document(alloc, bytes)?.ok_or(RequestFault::BadRequest)?;
-    let request = Request::of(alloc, &value)?;
-    verdict_with(alloc, &request, &value)
+    let mut room = JsonRoom::new(alloc);
+    let document = Document::read(alloc, &mut room, bytes)?.ok_or(RequestFault::BadRequest)?;
+    let object = document.root();
+    let request = Request::of(alloc, &object)?;
+    verdict_with(alloc, &request, &object)
 }
 
 /// The text of the answer to the request in these bytes, which may be a refusal.

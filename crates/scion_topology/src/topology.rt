@@ -1,6 +1,6 @@
 ghost use Rattle.std.specs.Prelude.{◌≡◌, Err, IfSome, IsTrue};
 ghost use Rattle.std.specs.List.{list_all};
-ghost use Rattle.serde_json.specs.View.{view};
+ghost use Rattle.json_fields.specs.Documents.{node_data};
 ghost use Rattle.refusal.specs.Refusal.{Reads, unless};
 ghost use Rattle.scion_topology.specs.Causes.{cause_of};
 ghost use Rattle.scion_topology.specs.inner.Causes.{is_as, is_link};
@@ -12,9 +12,8 @@ use crate::fields::{as_of, link_of};
 use crate::lookup::Indexes;
 use crate::network::{AsEntry, Link};
 use crate::validation::first_cause;
-use json_fields::{document, items, list};
+use json_fields::{Document, JsonRoom, Node, items};
 use refusal::OrMemory;
-use serde_json::Value;
 use std::alloc::Global;
 use std::marker::Model;
 
@@ -60,17 +59,18 @@ impl Topology {
     pub fn from_json(alloc: Global, bytes: &[u8]) -> Result<Topology, ReadError>
         ensures { Reads (λ n. n) result (network_in bytes.now) }
     {
-        let value = document(alloc, bytes)?.ok_or(TopologyFault::NotJson)?;
-        Topology::from_value(alloc, &value)
+        let mut room = JsonRoom::new(alloc);
+        let document = Document::read(alloc, &mut room, bytes)?.ok_or(TopologyFault::NotJson)?;
+        Topology::from_object(alloc, &document.root())
     }
 
-    /// The network of a JSON value.
+    /// The network of a JSON object.
     #[tactic(auto, unfolding(crate::specs::Topology::network_of))]
-    fn from_value(alloc: Global, value: &Value) -> Result<Topology, ReadError>
-        ensures { Reads (λ n. n) result (network_of (view value.now)) }
+    fn from_object(alloc: Global, object: &Node<'_, '_>) -> Result<Topology, ReadError>
+        ensures { Reads (λ n. n) result (network_of (node_data object.now)) }
     {
-        let as_items = list(value, "ases").ok_or(TopologyFault::BadField)?;
-        let link_items = list(value, "links").ok_or(TopologyFault::BadField)?;
+        let as_items = object.list("ases").ok_or(TopologyFault::BadField)?;
+        let link_items = object.list("links").ok_or(TopologyFault::BadField)?;
         let ases = items(alloc, as_items, as_of)?.ok_or(TopologyFault::BadField)?;
         let links = items(alloc, link_items, link_of)?.ok_or(TopologyFault::BadField)?;
         Topology::of_lists(alloc, ases, links)

@@ -1,11 +1,15 @@
 -- What was read and what is still to be read are what all of the list reads as.
-use Rattle.std.proofs.Common.{◌≡◌, drop}
-use Rattle.serde_json.specs.View.{items_view}
+use Rattle.std.proofs.Common.{◌≡◌}
+use Rattle.serde_json.specs.Events.{items_len}
+use Rattle.json_fields.specs.Documents.{list_items}
 use Rattle.policy_expr.proofs.Front.{with_front}
 use Rattle.scion_ffi_paths.specs.Asked.{each_item, segment_asked}
 use Rattle.scion_ffi_paths.proofs.segment.segments.Given as goal
 
 abbrev pub invariant-loop-value : goal.invariant-loop-value
 invariant-loop-value l =
-    with_front l.segments.items (each_item segment_asked (items_view (drop l.value-index l.values)))
-    ≡ each_item segment_asked (items_view l.values)
+    with_front l.segments.items (each_item segment_asked (list_items l.left))
+    ≡ each_item segment_asked (list_items l.values)
+
+abbrev pub decreases-loop-value : goal.decreases-loop-value
+decreases-loop-value l = items_len (list_items l.left)

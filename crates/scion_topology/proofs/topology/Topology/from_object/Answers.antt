@@ -1,7 +1,7 @@
 -- The lists that were read pass the tests of what each item was read as.
 use Rattle.std.proofs.Common.{rules}
 use Rattle.scion_topology.specs.inner.Causes.{is_as, is_link}
-use Rattle.scion_topology.proofs.topology.Topology.from_value.Goals as goal
+use Rattle.scion_topology.proofs.topology.Topology.from_object.Goals as goal
 
 pub of_lists-requires-clause-ases : goal.of_lists-requires-clause-ases
 of_lists-requires-clause-ases c =
