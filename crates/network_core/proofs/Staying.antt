@@ -11,7 +11,7 @@ use Rattle.network_core.specs.declared.fault.EventFault.TheVariants as faults
 use Rattle.network_core.specs.declared.reply.Reply.{Reply}
 use Rattle.network_core.specs.Event.{EventValue, Tick, Originate, Extend, Terminate, Sweep, Ask, Send, Turn, Lose, Alter, CutLink, MendLink, RotateKey}
 use Rattle.network_core.specs.Value.{PacketValue, NetValue}
-use Rattle.network_core.specs.Step.{Made, is_in_flight, flying_at, turns, loses, alters, Leads, Step}
+use Rattle.network_core.specs.Step.{Made, is_in_flight, flying_at, Leads, Step}
 use Rattle.network_core.specs.History.{EventRecord, IsHistory, net_at}
 use Rattle.network_core.proofs.Keeping.{kept}
 use Rattle.network_core.proofs.Numbers.{kept_to}

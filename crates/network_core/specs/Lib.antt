@@ -2,6 +2,8 @@ pub mod Fault
 pub mod Event
 pub mod Seen
 pub mod Value
+pub mod AnsweredWay
+pub mod SentWay
 pub mod Step
 pub mod History
 pub mod Delivery

@@ -1,4 +1,4 @@
-ghost use Rattle.std.specs.Prelude.{slice_get};
+ghost use Rattle.std.specs.Prelude.{◌≡◌, IfOk, slice_get};
 ghost use Rattle.std.specs.Option.{ok_or};
 ghost use Rattle.network_core.specs.declared.fault.EventFault.TheVariants as faults;
 ghost use Rattle.network_core.specs.inner.Doing.{JudgesEvent};
@@ -9,8 +9,9 @@ use combinator::{Path, PathList};
 use isd_as::IsdAs;
 use policy_expr::Policy;
 use refusal::OrMemory;
-use std::alloc::Global;
+use std::alloc::{AllocError, Global};
 use std::marker::Model;
+use std::sync::Arc;
 
 /// A kept answer: the ends of its request, its paths, and the policy of the used option.
 #[derive(Drop)]
@@ -48,5 +49,52 @@ impl Answer {
             Some(path) => Ok(path),
             None => Err(OrMemory::Refused(EventFault::NoAnswer)),
         }
+    }
+}
+
+/// One owner of an answer. The network is one, and so is each packet that was sent by a path of the
+/// answer.
+#[derive(Drop)]
+pub(crate) struct SharedAnswer {
+    answer: Arc<Answer>,
+}
+
+impl Model for SharedAnswer {
+    ghost use Rattle.std.specs.Coded.{codes};
+    ghost use Rattle.std.specs.Arc.{arc_value};
+    ghost use Rattle.policy_expr.specs.Code.{coded_tree};
+    ghost use Rattle.network_core.specs.Value.{KeptAnswer};
+
+    ghost Value = { KeptAnswer };
+
+    ghost coded = { Prim.hlevel (codes, coded_tree) };
+
+    ghost view = { λ s. arc_value s.answer };
+}
+
+impl SharedAnswer {
+    /// The first owner of an answer, unless memory runs out.
+    pub(crate) fn new(alloc: Global, answer: Answer) -> Result<SharedAnswer, AllocError>
+        ensures { IfOk result (λ shared. shared ≡ answer) }
+    {
+        Ok(SharedAnswer {
+            answer: Arc::new(alloc, answer)?,
+        })
+    }
+
+    /// One more owner of the answer, unless they are too many for their count.
+    pub(crate) fn share(&self) -> Result<SharedAnswer, AllocError>
+        ensures { IfOk result (λ shared. shared ≡ self.now) }
+    {
+        Ok(SharedAnswer {
+            answer: Arc::try_clone(&self.answer)?,
+        })
+    }
+
+    /// The answer.
+    pub(crate) fn answer(&self) -> &Answer
+        ensures { result.now ≡ self.now }
+    {
+        &self.answer
     }
 }

@@ -9,7 +9,7 @@ ghost use Rattle.network_core.specs.declared.fault.EventFault.TheVariants as fau
 ghost use Rattle.network_core.specs.inner.Doing.{AnswersTo, DoesAsk, JudgesEvent, KeepsAnswer};
 ghost use Rattle.network_core.specs.Step.{options_asked, rules_used};
 
-use crate::answer::Answer;
+use crate::answer::{Answer, SharedAnswer};
 use crate::beacons::MAX_OBJECTS;
 use crate::fault::EventFault;
 use crate::net::{EventError, Net};
@@ -83,7 +83,7 @@ impl Net {
         dst: IsdAs,
         options: &[PolicyOption<Global>],
         limit: u32,
-    ) -> Result<Answer, EventError>
+    ) -> Result<SharedAnswer, EventError>
         requires some { 0 < limit }
         requires ends { ends_at src dst ≡ Ok tt }
         ensures { AnswersTo (λ one. one) self.now src dst options.now limit result }
@@ -97,16 +97,17 @@ impl Net {
             }
         };
         let policy = policy_used(alloc, options, paths.option())?;
-        Ok(Answer {
+        let answer = Answer {
             source: src,
             destination: dst,
             paths,
             policy,
-        })
+        };
+        Ok(SharedAnswer::new(alloc, answer)?)
     }
 
     /// Adds an answer to those that are kept.
-    fn keep_answer(&mut self, answer: Answer) -> Result<Reply, EventError>
+    fn keep_answer(&mut self, answer: SharedAnswer) -> Result<Reply, EventError>
         ensures { KeepsAnswer answer self.old self.new result }
     {
         let number = self.answers.len();
@@ -115,7 +116,7 @@ impl Net {
     }
 
     /// The answer of this number.
-    pub(crate) fn answer_numbered(&self, number: u32) -> Result<&Answer, EventError>
+    pub(crate) fn answer_numbered(&self, number: u32) -> Result<&SharedAnswer, EventError>
         ensures { JudgesEvent (λ one. one.now) result
             (ok_or (slice_get self.now.answers number) faults.NoAnswer) }
     {

@@ -15,6 +15,7 @@ mod reply;
 mod running;
 mod sending;
 mod turning;
+mod way;
 
 pub use event::{Event, Given};
 pub use fault::EventFault;

@@ -5,7 +5,7 @@ ghost use Rattle.network_core.specs.Seen.{event_value};
 ghost use Rattle.network_core.specs.Step.{Step, TakesMemory};
 ghost use Rattle.network_core.specs.Value.{new_net};
 
-use crate::answer::Answer;
+use crate::answer::SharedAnswer;
 use crate::event::Event;
 use crate::fault::EventFault;
 use crate::packet::{Packet, Sent};
@@ -26,7 +26,7 @@ pub struct Net {
     pub(crate) moment: u32,
     pub(crate) beacons: Vec<Beacon>,
     pub(crate) store: PathStore,
-    pub(crate) answers: Vec<Answer>,
+    pub(crate) answers: Vec<SharedAnswer>,
     pub(crate) packets: Vec<Packet>,
 }
 
@@ -102,7 +102,10 @@ impl Net {
     {
         match self.answers.get(number) {
             None => None,
-            Some(answer) => Some(&answer.paths),
+            Some(shared) => {
+                let answer = shared.answer();
+                Some(&answer.paths)
+            }
         }
     }
 

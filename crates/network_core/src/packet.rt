@@ -4,6 +4,7 @@ ghost use Rattle.path_verifier.specs.Walk.{walk_of};
 ghost use Rattle.forwarding.specs.Journey.{first_out};
 ghost use Rattle.network_core.specs.Value.{asked_at};
 
+use crate::way::SentWay;
 use forwarding::{PacketInFlight, PacketLocation, first_out};
 use isd_as::{IfId, IsdAs};
 use path_header::Header;
@@ -12,16 +13,12 @@ use policy_expr::{Policy, WalkHop};
 use std::alloc::Global;
 use std::marker::Model;
 
-/// A shipment: a path with its ends, its header and its policy, and a payload. Invariants of the
-/// type: the verifier's rules accepted the path at some second, and the payload has at most 1,024
-/// bytes.
+/// A shipment: a path with its ends, its header and its policy, and a payload. A shipment by a path
+/// of an answer shares the answer. Invariants of the type: the verifier's rules accepted the path
+/// at some second, and the payload has at most 1,024 bytes.
 #[derive(Drop)]
 pub struct Sent {
-    pub(crate) source: IsdAs,
-    pub(crate) destination: IsdAs,
-    pub(crate) pieces: Vec<OwnedPiece>,
-    pub(crate) header: Header,
-    pub(crate) policy: Policy<Global>,
+    pub(crate) way: SentWay,
     pub(crate) payload: Vec<u8>,
 }
 
@@ -29,26 +26,17 @@ impl Model for Sent {
     ghost use Rattle.std.specs.Prelude.{ℕ, ◌≤◌, length};
     ghost use Rattle.std.specs.Coded.{codes};
     ghost use Rattle.policy_expr.specs.Code.{coded_tree};
-    ghost use Rattle.path_verifier.specs.Accepted.{request_of, IsAccepted};
-    ghost use Rattle.network_core.specs.Value.{Shipment};
+    ghost use Rattle.path_verifier.specs.Accepted.{IsAccepted};
+    ghost use Rattle.network_core.specs.Value.{Shipment, asked_at};
+    ghost use Rattle.network_core.specs.SentWay.{way_in};
 
     ghost Value = { Shipment };
 
     ghost coded = { Prim.hlevel (codes, coded_tree) };
 
-    ghost view = { λ s. record {
-      way = record {
-        source = s.source;
-        destination = s.destination;
-        pieces = s.pieces.items;
-        header = s.header;
-        rules = s.policy;
-      };
-      payload = s.payload.items;
-    } };
+    ghost view = { λ s. record { way = way_in s.way; payload = s.payload.items } };
 
-    ghost invariant = { λ s. ((moment : ℕ)
-        × IsAccepted (request_of s.pieces.items s.header s.source s.destination moment s.policy))
+    ghost invariant = { λ s. ((moment : ℕ) × IsAccepted (asked_at moment (way_in s.way)))
         × (length s.payload.items ≤ 1024) };
 }
 
@@ -57,35 +45,40 @@ impl Sent {
     pub fn source(&self) -> IsdAs
         ensures { result ≡ self.now.way.source }
     {
-        self.source
+        let way = self.way.lent();
+        way.source
     }
 
     /// The destination AS.
     pub fn destination(&self) -> IsdAs
         ensures { result ≡ self.now.way.destination }
     {
-        self.destination
+        let way = self.way.lent();
+        way.destination
     }
 
     /// The pieces of its path, in order of travel.
     pub fn pieces(&self) -> &[OwnedPiece]
         ensures { result.now ≡ self.now.way.pieces }
     {
-        &self.pieces
+        let way = self.way.lent();
+        way.pieces
     }
 
     /// The header with which it was sent.
     pub fn header(&self) -> &Header
         ensures { result.now ≡ self.now.way.header }
     {
-        &self.header
+        let way = self.way.lent();
+        way.header
     }
 
     /// The policy under which it was sent.
     pub fn policy(&self) -> &Policy<Global>
         ensures { result.now ≡ self.now.way.rules }
     {
-        &self.policy
+        let way = self.way.lent();
+        way.policy
     }
 
     /// Its payload.
@@ -100,7 +93,8 @@ impl Sent {
     pub fn way_out(&self) -> IfId
         ensures { result ≡ first_out (walk_of self.now.way.pieces) }
     {
-        first_out(&self.pieces)
+        let way = self.way.lent();
+        first_out(way.pieces)
     }
 
     /// Does nothing; its contract tells the caller that the path was accepted at some second.
@@ -108,7 +102,7 @@ impl Sent {
         ensures { (moment : ℕ) × IsAccepted (asked_at moment self.now.way) }
     {
         // Reading a field makes the type's invariants known here.
-        let _ = &self.pieces;
+        let _ = &self.way;
     }
 }
 

@@ -1,25 +1,29 @@
 //! Sending packets, and replying to delivered ones.
 
-ghost use Rattle.std.specs.Prelude.{◌≡◌, ◌≤◌, IfOk, OnOk, length, nat_le};
+ghost use Rattle.std.specs.Prelude.{◌≡◌, ◌≤◌, IfOk, OnOk, Some, length, nat_le, slice_get};
 ghost use Rattle.refusal.specs.Refusal.{check};
 ghost use Rattle.path_verifier.specs.Accepted.{IsAccepted};
 ghost use Rattle.forwarding.specs.Frame.{HasFrame};
 ghost use Rattle.network_core.specs.declared.fault.EventFault.TheVariants as faults;
-ghost use Rattle.network_core.specs.inner.Doing.{DoesSend, JudgesEvent, Readies, ReadiesFrom};
+ghost use Rattle.network_core.specs.inner.Doing.{BeginsAt, DoesSend, JudgesEvent, Readies, ReadiesFrom};
+ghost use Rattle.network_core.specs.SentWay.{way_in};
 ghost use Rattle.network_core.specs.Event.{BackOf, ByAnswer};
 ghost use Rattle.network_core.specs.Seen.{way_of};
-ghost use Rattle.network_core.specs.Value.{asked_at};
+ghost use Rattle.network_core.specs.Value.{asked_at, way_on};
 ghost use Rattle.network_core.specs.Step.{header_back, packet_of, shipment_by, shipment_of};
 
+use crate::answer::{Answer, SharedAnswer};
 use crate::beacons::MAX_OBJECTS;
 use crate::event::Given;
 use crate::fault::EventFault;
 use crate::net::{EventError, Net};
 use crate::packet::{Packet, Sent};
 use crate::reply::Reply;
+use crate::way::SentWay;
+use combinator::Path;
 use forwarding::{PacketInFlight, PacketLocation, frame};
 use path_header::Header;
-use path_verifier::{lend_all, to_owned_pieces, verify};
+use path_verifier::{lend_all, verify};
 use policy_expr::Policy;
 use refusal::OrMemory;
 use router_step::{destination_in, read_header, source_in};
@@ -55,9 +59,10 @@ impl Net {
     ) -> Result<Reply, EventError>
         ensures { DoesSend (shipment_of (way_of way.now) payload.now) self.old self.new result }
     {
-        check_payload(payload)?;
-        let packet = self.ready(alloc, way, payload)?;
-        self.keep_packet(packet)
+        match self.ready_given(alloc, way, payload) {
+            Ok(packet) => self.keep_packet(packet),
+            Err(error) => Err(error),
+        }
     }
 
     /// Sends the reply to a delivered packet.
@@ -76,6 +81,20 @@ impl Net {
         }
     }
 
+    /// A packet by a given way, ready to be sent, or the first refusal.
+    fn ready_given(
+        &self,
+        alloc: Global,
+        way: &Given<'_>,
+        payload: &[u8],
+    ) -> Result<Packet, EventError>
+        ensures { ReadiesFrom (λ p. p) self.now
+            (shipment_of (way_of way.now) payload.now) result }
+    {
+        check_payload(payload)?;
+        self.ready(alloc, way, payload)
+    }
+
     /// A packet by a path of an answer, ready to be sent, or the first refusal.
     fn ready_answered(
         &self,
@@ -88,8 +107,34 @@ impl Net {
             (shipment_by self.now (ByAnswer ask path) payload.now) result }
     {
         let answer = self.answer_numbered(ask)?;
-        let path = answer.path_numbered(path)?;
+        let one = answer.answer().path_numbered(path)?;
         check_payload(payload)?;
+        self.ready_on(alloc, answer, path, one, payload)
+    }
+
+    /// A packet by the path of this number of an answer, ready to be sent, or the first refusal.
+    fn ready_on(
+        &self,
+        alloc: Global,
+        answer: &SharedAnswer,
+        number: u32,
+        path: &Path,
+        payload: &[u8],
+    ) -> Result<Packet, EventError>
+        requires there { slice_get answer.now.answer.paths number ≡ Some path.now }
+        requires few { length payload.now ≤ 1024 }
+        ensures { Readies (λ p. p) self.now
+            (record { way = way_on answer.now path.now; payload = payload.now }) result }
+    {
+        let router = self.first_router_on(answer.answer(), path)?;
+        let way = SentWay::of_answer(answer, number as usize)?;
+        Ok(packet_of(alloc, way, payload, self.moment, router)?)
+    }
+
+    /// The router at which a packet by a path of an answer departs, or the first refusal.
+    fn first_router_on(&self, answer: &Answer, path: &Path) -> Result<u8, EventError>
+        ensures { BeginsAt self.now (way_on answer.now path.now) result }
+    {
         let pieces = lend_all(path.pieces());
         let way = Given {
             source: answer.source,
@@ -98,7 +143,7 @@ impl Net {
             header: path.header(),
             policy: &answer.policy,
         };
-        self.ready(alloc, &way, payload)
+        self.first_router(&way)
     }
 
     /// The reply to a delivered packet, ready to be sent, or the first refusal.
@@ -109,7 +154,8 @@ impl Net {
         let one = self.packet_numbered(packet)?;
         let header = header_back(one)?;
         check_payload(payload)?;
-        let pieces = lend_all(&one.sent.pieces).turned();
+        one.sent.known();
+        let pieces = lend_all(one.sent.pieces()).turned();
         let policy = Policy::any();
         let bytes = one.bytes();
         let way = Given {
@@ -122,11 +168,20 @@ impl Net {
         self.ready(alloc, &way, payload)
     }
 
-    /// A packet by this way, ready to be sent, or the first refusal.
+    /// A packet by a way that is copied, ready to be sent, or the first refusal.
     fn ready(&self, alloc: Global, way: &Given<'_>, payload: &[u8]) -> Result<Packet, EventError>
         requires { length payload.now ≤ 1024 }
         ensures { Readies (λ p. p) self.now
             (record { way = way_of way.now; payload = payload.now }) result }
+    {
+        let router = self.first_router(way)?;
+        let way = SentWay::of_given(alloc, way)?;
+        Ok(packet_of(alloc, way, payload, self.moment, router)?)
+    }
+
+    /// The router at which a packet by this way departs, or the first refusal.
+    fn first_router(&self, way: &Given<'_>) -> Result<u8, EventError>
+        ensures { BeginsAt self.now (way_of way.now) result }
     {
         let path = match verify(
             way.pieces,
@@ -148,7 +203,7 @@ impl Net {
         if self.packets.len() >= MAX_OBJECTS {
             return Err(OrMemory::Refused(EventFault::TooMany));
         }
-        Ok(packet_of(alloc, way, payload, self.moment, router)?)
+        Ok(router)
     }
 }
 
@@ -184,31 +239,26 @@ fn header_back(one: &Packet) -> Result<Header, EventError>
 /// The packet of a way that was accepted, at this router of its source, unless memory runs out.
 fn packet_of(
     alloc: Global,
-    way: &Given<'_>,
+    way: SentWay,
     payload: &[u8],
     moment: u32,
     router: u8,
 ) -> Result<Packet, AllocError>
-    requires accepted { IsAccepted (asked_at moment (way_of way.now)) }
+    requires accepted { IsAccepted (asked_at moment (way_in way)) }
     requires few { length payload.now ≤ 1024 }
     ensures packet { IfOk result (λ p. p ≡ packet_of
-        (record { way = way_of way.now; payload = payload.now }) router) }
+        (record { way = way_in way; payload = payload.now }) router) }
     ensures frame { OnOk result
-        (HasFrame way.now.source way.now.destination way.now.pieces.now) }
+        (HasFrame (way_in way).source (way_in way).destination (way_in way).pieces) }
 {
-    way.header.known();
-    let bytes = frame(alloc, way.source, way.destination, way.header, payload)?;
-    let sent = Sent {
-        source: way.source,
-        destination: way.destination,
-        pieces: to_owned_pieces(alloc, way.pieces)?,
-        header: way.header.clone()?,
-        policy: way.policy.clone_in(alloc)?,
-        payload: clone_bytes(alloc, payload)?,
-    };
+    let lent = way.lent();
+    lent.header.known();
+    let source = lent.source;
+    let bytes = frame(alloc, source, lent.destination, lent.header, payload)?;
+    let payload = clone_bytes(alloc, payload)?;
     Ok(Packet {
-        sent,
-        transit: PacketInFlight::at_router(bytes, way.source, router),
+        sent: Sent { way, payload },
+        transit: PacketInFlight::at_router(bytes, source, router),
     })
 }
 

@@ -9,8 +9,8 @@ use Rattle.network_core.specs.declared.reply.Reply.{Reply}
 use Rattle.network_core.specs.declared.fault.EventFault.TheVariants.{Path}
 use Rattle.network_core.specs.declared.reply.Reply.TheVariants as replies
 use Rattle.network_core.specs.Event.{EventValue}
-use Rattle.network_core.specs.Value.{KeptAnswer, asked_at, Shipment, PacketValue, NetValue}
-use Rattle.network_core.specs.Step.{Made, flying_at, departs, IsAnswerTo, Asks, Sends, Departs, Step, TakesMemory}
+use Rattle.network_core.specs.Value.{Way, KeptAnswer, asked_at, Shipment, PacketValue, NetValue}
+use Rattle.network_core.specs.Step.{Made, flying_at, packet_of, departs, IsAnswerTo, Asks, Sends, Departs, Step, TakesMemory}
 use Rattle.network_core.specs.Delivery.{HasSentFrame, IsFramed}
 use Rattle.path_verifier.specs.declared.fault.VerifyFault.{VerifyFault}
 use Rattle.path_verifier.specs.Accepted.{IsAccepted, IsRefused}
@@ -66,6 +66,24 @@ KeepsAnswer one old new (Ok reply) =
     × (new ≡ record old { answers = old.answers ++ one ∷ [] })
 KeepsAnswer one old new (Err Memory) = new ≡ old
 KeepsAnswer one old new (Err (Refused fault)) = ⊥
+
+-- the call returns the router at which a packet by this way departs, or the refusal of each
+-- shipment by it; it takes no memory
+abbrev pub BeginsAt : NetValue → Way → Result ℕ (OrMemory EventFault) → Type 0
+BeginsAt net way (Ok router) =
+    IsAccepted (asked_at net.moment way) × ((payload : List ℕ)
+    → departs net (record { way = way; payload = payload })
+    ≡ Ok (
+      replies.Sent (length net.packets),
+      record net {
+        packets = net.packets ++ packet_of (record { way = way; payload = payload }) router ∷ [];
+      },
+    ))
+BeginsAt net way (Err (Refused fault)) =
+    ((first : VerifyFault) × (IsRefused (asked_at net.moment way) first × (fault ≡ Path first)))
+    ⊎ (IsAccepted (asked_at net.moment way) × ((payload : List ℕ)
+    → departs net (record { way = way; payload = payload }) ≡ Err fault))
+BeginsAt net way (Err Memory) = ⊥
 
 -- the call returns the packet of the shipment, ready to be sent, or its refusal, or memory ran out
 abbrev pub Readies : {X : Type 0} → (X → PacketValue) → NetValue → Shipment
