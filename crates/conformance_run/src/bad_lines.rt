@@ -65,6 +65,53 @@ fn no_objects_of_the_table(rt: HostRuntime) -> Result<(), Fail> {
     )
 }
 
+/// A line is read as `serde_json` reads it: of two members of one name the last counts, a number may
+/// not be too large for a float, and lists and objects may nest 127 deep.
+#[test]
+fn what_is_json(rt: HostRuntime) -> Result<(), Fail> {
+    expect_talk(
+        &rt,
+        rt.alloc(),
+        &row_sent(),
+        &[
+            (r#"{"do":"turn","packet":0,"note":1e999}"#, "no 140 BadLine"),
+            (
+                r#"{"do":"turn","packet":0,"note":"\ud800"}"#,
+                "no 140 BadLine",
+            ),
+            (
+                r#"{"do":"fly","do":"turn","packet":9,"packet":0}"#,
+                "link 1",
+            ),
+            (r#"{"d\u006f":"tu\u0072n","packet":0}"#, "link 1"),
+            (
+                concat!(
+                    r#"{"do":"sweep","note":"#,
+                    "[[[[[[[[[[[[[[[[[[[[[[[[[[[[[[[[[[[[[[[[[[[[[[[[[[",
+                    "[[[[[[[[[[[[[[[[[[[[[[[[[[[[[[[[[[[[[[[[[[[[[[[[[[",
+                    "[[[[[[[[[[[[[[[[[[[[[[[[[[",
+                    "]]]]]]]]]]]]]]]]]]]]]]]]]]]]]]]]]]]]]]]]]]]]]]]]]]",
+                    "]]]]]]]]]]]]]]]]]]]]]]]]]]]]]]]]]]]]]]]]]]]]]]]]]]",
+                    "]]]]]]]]]]]]]]]]]]]]]]]]]]}",
+                ),
+                "swept 0",
+            ),
+            (
+                concat!(
+                    r#"{"do":"sweep","note":"#,
+                    "[[[[[[[[[[[[[[[[[[[[[[[[[[[[[[[[[[[[[[[[[[[[[[[[[[",
+                    "[[[[[[[[[[[[[[[[[[[[[[[[[[[[[[[[[[[[[[[[[[[[[[[[[[",
+                    "[[[[[[[[[[[[[[[[[[[[[[[[[[[",
+                    "]]]]]]]]]]]]]]]]]]]]]]]]]]]]]]]]]]]]]]]]]]]]]]]]]]",
+                    "]]]]]]]]]]]]]]]]]]]]]]]]]]]]]]]]]]]]]]]]]]]]]]]]]]",
+                    "]]]]]]]]]]]]]]]]]]]]]]]]]]]}",
+                ),
+                "no 140 BadLine",
+            ),
+        ],
+    )
+}
+
 #[test]
 fn a_line_keeps_its_carriage_return(rt: HostRuntime) -> Result<(), Fail> {
     expect_talk(

@@ -1,5 +1,5 @@
 -- A run so far, and how it ends.
-use Rattle.std.proofs.Common.{arith, ◌≡◌, ℕ, ◌+◌, ◌≤◌, List, [], ◌∷◌, ◌++◌, Option, Ok, Err, suc, take, length, refl, sym, ap, ◌∙◌, append_assoc, append-nil, subst, inl, inr}
+use Rattle.std.proofs.Common.{arith, ◌≡◌, ℕ, ◌+◌, ◌≤◌, List, [], ◌∷◌, ◌++◌, Option, Result, Ok, Err, suc, take, length, refl, sym, ap, ◌∙◌, append_assoc, append-nil, subst, inl, inr}
 use Rattle.std.proofs.lemmas.List.{length-append, take_all}
 use Rattle.std.specs.Io.KnownBytes.{Appends, Consumes, IsAtEnd, Keeps}
 use Rattle.std.proofs.KnownBytes.{Appends-kept, Appends-trans, Consumes-kept, Consumes-trans, Consumes-nil, Appends-nil}
@@ -11,7 +11,7 @@ use Rattle.event_lines.specs.Run.{AreAll, AreFirst, AreLines, Ends, Listens, Wro
 use Rattle.network_core.specs.Value.{NetValue}
 use Rattle.event_lines.specs.inner.Replies.{RepliesTo, RepliesToAll}
 use Rattle.event_lines.specs.Answers.{Stage, Unbegun, Open, Closed, RepliesToInput}
-use Rattle.event_lines.specs.inner.Session.{Exchanges, Finishes, Passes, PassesSome, SessionValue, last_after, last_lines}
+use Rattle.event_lines.specs.inner.Session.{Exchanges, Finishes, Hears, Passes, PassesSome, SessionValue, last_after, last_lines}
 use Rattle.event_lines.proofs.Lines.{ended_append, joined, none_read}
 use Rattle.event_lines.proofs.Telling.{told_append}
 use Rattle.event_lines.proofs.Ran.{told_as_run}
@@ -184,7 +184,7 @@ still before after now read bytes none first then =
     subst (Consumes before now) (ap (λ l. read ++ l) none ∙ append-nil read) (Consumes-trans before after now read bytes first then)
 
 -- at the end of the input the run stands in a network
-pub ends_reached : (accepted : AcceptedLines) (before after now held holds with : Option (List ℕ)) {session : SessionValue} {count : ℕ} (bytes : List ℕ)
+ends_reached : (accepted : AcceptedLines) (before after now held holds with : Option (List ℕ)) {session : SessionValue} {count : ℕ} (bytes : List ℕ)
     (stage : Stage) (net : NetValue)
     → SoFar accepted before after held holds session count → bytes ≡ [] → Consumes after now bytes → IsAtEnd now
     → Finishes accepted (Ok tt) session stage holds with → stage ≡ Open net → Listens accepted (Ok net) before now held with
@@ -206,7 +206,7 @@ ends_reached accepted before after now held holds with {session = session} bytes
     )
 
 -- the last line could not be answered
-pub ends_unfinished : (accepted : AcceptedLines) (before after now held holds with : Option (List ℕ)) {session : SessionValue} {count : ℕ} (bytes : List ℕ)
+ends_unfinished : (accepted : AcceptedLines) (before after now held holds with : Option (List ℕ)) {session : SessionValue} {count : ℕ} (bytes : List ℕ)
     (stage : Stage) (fault : RunFault)
     → SoFar accepted before after held holds session count → bytes ≡ [] → Consumes after now bytes → IsAtEnd now
     → Finishes accepted (Err fault) session stage holds with → Listens accepted (Err fault) before now held with
@@ -281,6 +281,16 @@ ends_unfinished accepted before after now held holds with {session = session} by
 )
 ends_unfinished accepted before after now held holds with bytes stage faults.Read far none more end finishes = absurd finishes
 ends_unfinished accepted before after now held holds with bytes stage faults.InputTooLong far none more end finishes = absurd finishes
+
+-- at the end of the input the last line was answered, or could not be
+pub ends_finished : (accepted : AcceptedLines) (before after now held holds with : Option (List ℕ)) {session : SessionValue} {count : ℕ} (bytes : List ℕ)
+    (stage : Stage) (result : Result (Unit {0}) RunFault)
+    → SoFar accepted before after held holds session count → bytes ≡ [] → Consumes after now bytes → IsAtEnd now
+    → Finishes accepted result session stage holds with → Hears accepted result stage before now held with
+ends_finished accepted before after now held holds with bytes stage (Ok done) far none more end finishes =
+    (finishes.0, (finishes.1.0, ends_reached accepted before after now held holds with bytes stage finishes.0 far none more end finishes finishes.1.0))
+ends_finished accepted before after now held holds with bytes stage (Err fault) far none more end finishes =
+    ends_unfinished accepted before after now held holds with bytes stage fault far none more end finishes
 
 -- a read failed
 pub ends_unread : (accepted : AcceptedLines) (before after now held holds : Option (List ℕ)) {session : SessionValue} {count : ℕ}

@@ -1,5 +1,5 @@
 -- Lines told one after another.
-use Rattle.std.proofs.Common.{◌≡◌, ℕ, List, [], ◌∷◌, ◌++◌, Some, Result, Ok, Err, IfOk, refl, sym, ap, ◌∙◌, subst}
+use Rattle.std.proofs.Common.{◌≡◌, ℕ, List, [], ◌∷◌, ◌++◌, Some, Result, Ok, Err, OnOk, refl, sym, ap, ◌∙◌, subst}
 use Rattle.network_core.specs.declared.reply.Reply.{Reply}
 use Rattle.network_core.specs.Event.{EventValue}
 use Rattle.network_core.specs.Value.{NetValue}
@@ -11,14 +11,14 @@ use Rattle.event_lines.specs.declared.accepted.AcceptedLines.{AcceptedLines}
 use Rattle.event_lines.specs.inner.Replies.{Replies, RepliesTo, RepliesToAll}
 use Rattle.event_lines.specs.Answers.{Stage}
 
--- the text of an event's reply answers the line
-pub event_answered : {T F : Type 0} (result : Result T F) (bytes : T → List ℕ) (old new : NetValue)
-    (event : EventValue) (reply told : Reply) → told ≡ reply → Step old event reply new
-    → IsFramed event reply new → IfOk result (λ text. bytes text ≡ reply_text new told)
-    → IfOk result (λ text. Replies old (Some (Happens event)) (bytes text) new)
-event_answered (Ok text) bytes old new event reply told same step framed is =
-    (reply, (step, (framed, is ∙ ap (reply_text new) same)))
-event_answered (Err fault) bytes old new event reply told same step framed is = tt
+-- the reply to an event, written behind no bytes, answers the line
+pub event_answered : {T F : Type 0} (written : Result T F) (before after : List ℕ) (old new : NetValue)
+    (event : EventValue) (reply told : Reply) → told ≡ reply → before ≡ [] → Step old event reply new
+    → IsFramed event reply new → OnOk written (after ≡ before ++ reply_text new told)
+    → OnOk written (Replies old (Some (Happens event)) after new)
+event_answered (Ok done) before after old new event reply told same none step framed is =
+    (reply, (step, (framed, is ∙ ap (λ l. l ++ reply_text new told) none ∙ ap (reply_text new) same)))
+event_answered (Err fault) before after old new event reply told same none step framed is = tt
 
 -- lines behind lines
 pub told_append : (accepted : AcceptedLines) (start middle stage : Stage) (lines more texts others : List (List ℕ))

@@ -1,15 +1,15 @@
 //! The values of lines.
 
 ghost use Rattle.std.specs.Prelude.{◌≡◌, IfOk, None, Ok, Some, codes, option_map};
-ghost use Rattle.serde_json.specs.View.{view};
+ghost use Rattle.json_fields.specs.Documents.{node_data};
 ghost use Rattle.network_core.specs.Seen as events;
 ghost use Rattle.event_lines.specs.Line.{alter_in, ask_in, back_in, bytes_at, cut_in, extend_in, lose_in, mend_in, options_in, originate_in, plain_event, rotate_in, send_in, show_in, terminate_in, tick_in, turn_event_in, untexted_event};
 ghost use Rattle.event_lines.specs.inner.Seen.{bytes_in, line_value};
 
 use crate::fields::{byte, bytes, ia, interface, long, short};
+use json_fields::Node;
 use network_core::Event;
 use policy_expr::OptionText;
-use serde_json::Value;
 use std::alloc::{AllocError, Global};
 
 /// The value of a line.
@@ -26,10 +26,10 @@ pub(crate) enum Line<'a> {
 
 /// The line that shows a packet.
 #[tactic(auto, unfolding(crate::specs::Line::show_in))]
-pub(crate) fn show<'a>(value: &Value) -> Option<Line<'a>>
-    ensures { option_map line_value result ≡ show_in (view value.now) }
+pub(crate) fn show<'a>(object: &Node<'_, '_>) -> Option<Line<'a>>
+    ensures { option_map line_value result ≡ show_in (node_data object.now) }
 {
-    let packet = long(value, "packet")?;
+    let packet = long(object, "packet")?;
     Some(Line::Show { packet })
 }
 
@@ -39,142 +39,146 @@ pub(crate) fn show<'a>(value: &Value) -> Option<Line<'a>>
 pub(crate) fn payload(
     alloc: Global,
     word: &str,
-    value: &Value,
+    object: &Node<'_, '_>,
 ) -> Result<Option<Vec<u8>>, AllocError>
-    ensures { IfOk result (λ o. option_map (λ v. v.items) o ≡ bytes_in word.now (view value.now)) }
+    ensures { IfOk result (λ o. option_map (λ v. v.items) o ≡ bytes_in word.now (node_data object.now)) }
 {
     match word {
-        "send" => bytes(alloc, value, "payload"),
-        "back" => bytes(alloc, value, "payload"),
-        "rotate" => bytes(alloc, value, "key"),
+        "send" => bytes(alloc, object, "payload"),
+        "back" => bytes(alloc, object, "payload"),
+        "rotate" => bytes(alloc, object, "key"),
         _ => Ok(Some(Vec::new(alloc))),
     }
 }
 
 /// The event of a line without texts, with the bytes that it carries.
 #[tactic(auto, unfolding(crate::specs::Line::untexted_event, crate::specs::inner::Seen::bytes_in))]
-pub(crate) fn untexted<'a>(word: &str, value: &Value, payload: &'a [u8]) -> Option<Event<'a>>
-    requires { bytes_in word.now (view value.now) ≡ Some payload.now }
-    ensures { option_map events.event_value result ≡ untexted_event word.now (view value.now) }
+pub(crate) fn untexted<'a>(
+    word: &str,
+    object: &Node<'_, '_>,
+    payload: &'a [u8],
+) -> Option<Event<'a>>
+    requires { bytes_in word.now (node_data object.now) ≡ Some payload.now }
+    ensures { option_map events.event_value result ≡ untexted_event word.now (node_data object.now) }
 {
     match word {
-        "send" => send(value, payload),
-        "back" => back(value, payload),
-        "rotate" => rotate(value, payload),
-        _ => plain(word, value),
+        "send" => send(object, payload),
+        "back" => back(object, payload),
+        "rotate" => rotate(object, payload),
+        _ => plain(word, object),
     }
 }
 
 /// The event of a line without bytes and without texts.
 #[tactic(auto, unfolding(crate::specs::Line::plain_event))]
-fn plain<'a>(word: &str, value: &Value) -> Option<Event<'a>>
-    ensures { option_map events.event_value result ≡ plain_event word.now (view value.now) }
+fn plain<'a>(word: &str, object: &Node<'_, '_>) -> Option<Event<'a>>
+    ensures { option_map events.event_value result ≡ plain_event word.now (node_data object.now) }
 {
     match word {
-        "tick" => tick(value),
-        "originate" => originate(value),
-        "extend" => extend(value),
-        "terminate" => terminate(value),
+        "tick" => tick(object),
+        "originate" => originate(object),
+        "extend" => extend(object),
+        "terminate" => terminate(object),
         "sweep" => Some(Event::Sweep),
-        "turn" => turn(value),
-        "lose" => lose(value),
-        "alter" => alter(value),
-        "cut" => cut(value),
-        "mend" => mend(value),
+        "turn" => turn(object),
+        "lose" => lose(object),
+        "alter" => alter(object),
+        "cut" => cut(object),
+        "mend" => mend(object),
         _ => None,
     }
 }
 
 #[tactic(auto, unfolding(crate::specs::Line::tick_in))]
-fn tick<'a>(value: &Value) -> Option<Event<'a>>
-    ensures { option_map events.event_value result ≡ tick_in (view value.now) }
+fn tick<'a>(object: &Node<'_, '_>) -> Option<Event<'a>>
+    ensures { option_map events.event_value result ≡ tick_in (node_data object.now) }
 {
-    let now = long(value, "now")?;
+    let now = long(object, "now")?;
     Some(Event::Tick { now })
 }
 
 #[tactic(auto, unfolding(crate::specs::Line::originate_in))]
-fn originate<'a>(value: &Value) -> Option<Event<'a>>
-    ensures { option_map events.event_value result ≡ originate_in (view value.now) }
+fn originate<'a>(object: &Node<'_, '_>) -> Option<Event<'a>>
+    ensures { option_map events.event_value result ≡ originate_in (node_data object.now) }
 {
-    let ia = ia(value, "ia")?;
-    let egress = interface(value, "egress")?;
-    let beta0 = short(value, "beta0")?;
+    let ia = ia(object, "ia")?;
+    let egress = interface(object, "egress")?;
+    let beta0 = short(object, "beta0")?;
     Some(Event::Originate { ia, egress, beta0 })
 }
 
 #[tactic(auto, unfolding(crate::specs::Line::extend_in))]
-fn extend<'a>(value: &Value) -> Option<Event<'a>>
-    ensures { option_map events.event_value result ≡ extend_in (view value.now) }
+fn extend<'a>(object: &Node<'_, '_>) -> Option<Event<'a>>
+    ensures { option_map events.event_value result ≡ extend_in (node_data object.now) }
 {
-    let beacon = long(value, "beacon")?;
-    let ia = ia(value, "ia")?;
-    let egress = interface(value, "egress")?;
+    let beacon = long(object, "beacon")?;
+    let ia = ia(object, "ia")?;
+    let egress = interface(object, "egress")?;
     Some(Event::Extend { beacon, ia, egress })
 }
 
 #[tactic(auto, unfolding(crate::specs::Line::terminate_in))]
-fn terminate<'a>(value: &Value) -> Option<Event<'a>>
-    ensures { option_map events.event_value result ≡ terminate_in (view value.now) }
+fn terminate<'a>(object: &Node<'_, '_>) -> Option<Event<'a>>
+    ensures { option_map events.event_value result ≡ terminate_in (node_data object.now) }
 {
-    let beacon = long(value, "beacon")?;
-    let ia = ia(value, "ia")?;
+    let beacon = long(object, "beacon")?;
+    let ia = ia(object, "ia")?;
     Some(Event::Terminate { beacon, ia })
 }
 
 #[tactic(auto, unfolding(crate::specs::Line::turn_event_in))]
-fn turn<'a>(value: &Value) -> Option<Event<'a>>
-    ensures { option_map events.event_value result ≡ turn_event_in (view value.now) }
+fn turn<'a>(object: &Node<'_, '_>) -> Option<Event<'a>>
+    ensures { option_map events.event_value result ≡ turn_event_in (node_data object.now) }
 {
-    let packet = long(value, "packet")?;
+    let packet = long(object, "packet")?;
     Some(Event::Turn { packet })
 }
 
 #[tactic(auto, unfolding(crate::specs::Line::lose_in))]
-fn lose<'a>(value: &Value) -> Option<Event<'a>>
-    ensures { option_map events.event_value result ≡ lose_in (view value.now) }
+fn lose<'a>(object: &Node<'_, '_>) -> Option<Event<'a>>
+    ensures { option_map events.event_value result ≡ lose_in (node_data object.now) }
 {
-    let packet = long(value, "packet")?;
+    let packet = long(object, "packet")?;
     Some(Event::Lose { packet })
 }
 
 #[tactic(auto, unfolding(crate::specs::Line::alter_in))]
-fn alter<'a>(value: &Value) -> Option<Event<'a>>
-    ensures { option_map events.event_value result ≡ alter_in (view value.now) }
+fn alter<'a>(object: &Node<'_, '_>) -> Option<Event<'a>>
+    ensures { option_map events.event_value result ≡ alter_in (node_data object.now) }
 {
-    let packet = long(value, "packet")?;
-    let at = long(value, "at")?;
-    let xor = byte(value, "xor")?;
+    let packet = long(object, "packet")?;
+    let at = long(object, "at")?;
+    let xor = byte(object, "xor")?;
     Some(Event::Alter { packet, at, xor })
 }
 
 #[tactic(auto, unfolding(crate::specs::Line::cut_in))]
-fn cut<'a>(value: &Value) -> Option<Event<'a>>
-    ensures { option_map events.event_value result ≡ cut_in (view value.now) }
+fn cut<'a>(object: &Node<'_, '_>) -> Option<Event<'a>>
+    ensures { option_map events.event_value result ≡ cut_in (node_data object.now) }
 {
-    let ia = ia(value, "ia")?;
-    let interface = interface(value, "if")?;
+    let ia = ia(object, "ia")?;
+    let interface = interface(object, "if")?;
     Some(Event::CutLink { ia, interface })
 }
 
 #[tactic(auto, unfolding(crate::specs::Line::mend_in))]
-fn mend<'a>(value: &Value) -> Option<Event<'a>>
-    ensures { option_map events.event_value result ≡ mend_in (view value.now) }
+fn mend<'a>(object: &Node<'_, '_>) -> Option<Event<'a>>
+    ensures { option_map events.event_value result ≡ mend_in (node_data object.now) }
 {
-    let ia = ia(value, "ia")?;
-    let interface = interface(value, "if")?;
+    let ia = ia(object, "ia")?;
+    let interface = interface(object, "if")?;
     Some(Event::MendLink { ia, interface })
 }
 
 /// The event of a line that asks for paths, with its policy options.
 #[tactic(auto, unfolding(crate::specs::Line::ask_in))]
-pub(crate) fn ask<'a>(value: &Value, options: &'a [OptionText<'a>]) -> Option<Event<'a>>
-    requires { options_in (view value.now) ≡ Some options.now }
-    ensures { option_map events.event_value result ≡ ask_in (view value.now) }
+pub(crate) fn ask<'a>(object: &Node<'_, '_>, options: &'a [OptionText<'a>]) -> Option<Event<'a>>
+    requires { options_in (node_data object.now) ≡ Some options.now }
+    ensures { option_map events.event_value result ≡ ask_in (node_data object.now) }
 {
-    let src = ia(value, "src")?;
-    let dst = ia(value, "dst")?;
-    let limit = long(value, "limit")?;
+    let src = ia(object, "src")?;
+    let dst = ia(object, "dst")?;
+    let limit = long(object, "limit")?;
     Some(Event::Ask {
         src,
         dst,
@@ -184,29 +188,29 @@ pub(crate) fn ask<'a>(value: &Value, options: &'a [OptionText<'a>]) -> Option<Ev
 }
 
 #[tactic(auto, unfolding(crate::specs::Line::send_in))]
-fn send<'a>(value: &Value, payload: &'a [u8]) -> Option<Event<'a>>
-    requires { bytes_at (codes "payload") (view value.now) ≡ Some payload.now }
-    ensures { option_map events.event_value result ≡ send_in (view value.now) }
+fn send<'a>(object: &Node<'_, '_>, payload: &'a [u8]) -> Option<Event<'a>>
+    requires { bytes_at (codes "payload") (node_data object.now) ≡ Some payload.now }
+    ensures { option_map events.event_value result ≡ send_in (node_data object.now) }
 {
-    let ask = long(value, "ask")?;
-    let path = long(value, "path")?;
+    let ask = long(object, "ask")?;
+    let path = long(object, "path")?;
     Some(Event::Send { ask, path, payload })
 }
 
 #[tactic(auto, unfolding(crate::specs::Line::back_in))]
-fn back<'a>(value: &Value, payload: &'a [u8]) -> Option<Event<'a>>
-    requires { bytes_at (codes "payload") (view value.now) ≡ Some payload.now }
-    ensures { option_map events.event_value result ≡ back_in (view value.now) }
+fn back<'a>(object: &Node<'_, '_>, payload: &'a [u8]) -> Option<Event<'a>>
+    requires { bytes_at (codes "payload") (node_data object.now) ≡ Some payload.now }
+    ensures { option_map events.event_value result ≡ back_in (node_data object.now) }
 {
-    let packet = long(value, "packet")?;
+    let packet = long(object, "packet")?;
     Some(Event::Back { packet, payload })
 }
 
 #[tactic(auto, unfolding(crate::specs::Line::rotate_in))]
-fn rotate<'a>(value: &Value, key: &'a [u8]) -> Option<Event<'a>>
-    requires { bytes_at (codes "key") (view value.now) ≡ Some key.now }
-    ensures { option_map events.event_value result ≡ rotate_in (view value.now) }
+fn rotate<'a>(object: &Node<'_, '_>, key: &'a [u8]) -> Option<Event<'a>>
+    requires { bytes_at (codes "key") (node_data object.now) ≡ Some key.now }
+    ensures { option_map events.event_value result ≡ rotate_in (node_data object.now) }
 {
-    let ia = ia(value, "ia")?;
+    let ia = ia(object, "ia")?;
     Some(Event::RotateKey { ia, key })
 }

@@ -4,7 +4,7 @@ ghost use Rattle.std.specs.Prelude.{◌≡◌, ◌+◌, ◌<◌, ◌≤◌, ◌|
 ghost use Rattle.std.specs.String.{string_bytes};
 ghost use Rattle.streams.specs.Streams.{most_input};
 ghost use Rattle.event_lines.specs.Run.{Listens, Runs, has_line_end, is_read_fault, is_write_fault};
-ghost use Rattle.event_lines.specs.inner.Session.{Brings, Exchanges, Finishes, WritesRest, stage_of, session_value};
+ghost use Rattle.event_lines.specs.inner.Session.{Brings, Exchanges, Finishes, Hears, WritesRest, stage_of, session_value, unbegun_session};
 
 use crate::accepted::AcceptedLines;
 use crate::fault::RunFault;
@@ -96,6 +96,39 @@ fn finish<K: Sink>(
     heard
 }
 
+/// Answers the lines of a source in a session that has not begun, as [`listen`] says.
+fn hear<S: Source, K: Sink>(
+    alloc: Global,
+    accepted: AcceptedLines,
+    session: &mut Session,
+    source: &mut S,
+    sink: &mut K,
+) -> Result<(), RunFault>
+    requires { session_value session.old ≡ unbegun_session }
+    ensures heard { Hears accepted result (stage_of session.new.net)
+        (S.left source.old) (S.left source.new)
+        (K.held sink.old) (K.held sink.new) }
+    ensures source { S.failed source.new ≡ (S.failed source.old || is_read_fault result) }
+    ensures sink { K.failed sink.new ≡ (K.failed sink.old || is_write_fault result) }
+{
+    let mut room = [0u8; MAX_READ_LEN];
+    let mut count = 0;
+    loop {
+        let wanted = wanted_after(count);
+        let Some(bytes) = read_into(source, &mut room[..wanted]) else {
+            return Err(RunFault::Read);
+        };
+        if bytes.is_empty() {
+            return finish(alloc, accepted, session, sink);
+        }
+        if count == MAX_INPUT_LEN {
+            return Err(RunFault::InputTooLong);
+        }
+        exchange(alloc, accepted, session, sink, bytes)?;
+        count += bytes.len();
+    }
+}
+
 /// Answers the lines of a source, and returns the network after them. The first line is a topology.
 /// Each later line is an event of the network, or shows a packet; a line that is not accepted is a
 /// bad line. Each line has one reply, which is written and flushed before more is read.
@@ -123,23 +156,8 @@ pub fn listen<S: Source, K: Sink>(
     ensures sink { K.failed sink.new ≡ (K.failed sink.old || is_write_fault result) }
 {
     let mut session = Session::new(alloc);
-    let mut room = [0u8; MAX_READ_LEN];
-    let mut count = 0;
-    loop {
-        let wanted = wanted_after(count);
-        let Some(bytes) = read_into(source, &mut room[..wanted]) else {
-            return Err(RunFault::Read);
-        };
-        if bytes.is_empty() {
-            finish(alloc, accepted, &mut session, sink)?;
-            return Ok(session.into_net());
-        }
-        if count == MAX_INPUT_LEN {
-            return Err(RunFault::InputTooLong);
-        }
-        exchange(alloc, accepted, &mut session, sink, bytes)?;
-        count += bytes.len();
-    }
+    hear(alloc, accepted, &mut session, source, sink)?;
+    Ok(session.into_net())
 }
 
 /// Answers all lines of a source as [`listen`] does, and drops the network. Its faults are those of

@@ -5,41 +5,51 @@ ghost use Rattle.std.specs.String.{string_bytes};
 ghost use Rattle.network_core.specs.Value.{NetValue};
 ghost use Rattle.event_lines.specs.Run.{has_line_end, line_end};
 ghost use Rattle.event_lines.specs.Answers.{Open, Unbegun};
-ghost use Rattle.event_lines.specs.inner.Session.{AnswersBytes, IsRunDone, RepliesOrFails, last_lines, stage_of, session_value};
+ghost use Rattle.event_lines.specs.inner.Session.{AnswersBytes, IsRunDone, RepliesOrFails, last_lines, stage_of, session_value, unbegun_session};
 
 use crate::accepted::AcceptedLines;
 use crate::cutting::cut_line;
 use crate::fault::RunFault;
 use crate::happening::answer_line;
+use json_fields::JsonRoom;
 use network_core::Net;
 use refusal::OrMemory;
 use scion_topology::{Topology, TopologyFault};
 use std::alloc::{AllocError, Global};
+use std::fmt::Write;
+
+/// The room that each line needs, kept from line to line: for reading it, and for its reply.
+#[derive(Drop)]
+struct LineRoom {
+    json: JsonRoom,
+    reply: String,
+}
 
 /// A run so far: its network, once the topology was read; the beginning of a line whose end was not
-/// read yet; and the replies that are not written yet.
+/// read yet; the replies that are not written yet; and the room that a line needs.
 #[derive(Drop)]
 pub(crate) struct Session {
     pub(crate) net: Option<Net>,
     pub(crate) rest: Vec<u8>,
     pub(crate) replies: String,
+    room: LineRoom,
 }
 
 /// Adds a reply and the end of its line. If memory runs out, the replies are as they were.
-fn push_reply(replies: &mut String, reply: String) -> Result<(), AllocError>
+fn add_reply(replies: &mut String, reply: &mut String) -> Result<(), AllocError>
     ensures { string_bytes replies.new ≡ (if is_ok result
-        then string_bytes replies.old ++ (string_bytes reply ++ line_end ∷ [])
+        then string_bytes replies.old ++ (string_bytes reply.old ++ line_end ∷ [])
         else string_bytes replies.old) }
 {
-    let mut line = reply;
-    line.push_str("\n")?;
-    replies.push_str(&line)
+    reply.push_str("\n")?;
+    replies.push_str(reply)
 }
 
 /// Answers a line in a network, and adds the reply.
 fn tell(
     alloc: Global,
     accepted: AcceptedLines,
+    room: &mut LineRoom,
     net: &mut Net,
     line: &[u8],
     replies: &mut String,
@@ -47,28 +57,37 @@ fn tell(
     ensures { RepliesOrFails accepted (λ _. Open net.new) result (Open net.old) line.now
         (string_bytes replies.old) (string_bytes replies.new) }
 {
-    let text = answer_line(alloc, accepted, net, line)?;
-    push_reply(replies, text)?;
+    let LineRoom { json, reply } = room;
+    reply.clear();
+    answer_line(alloc, accepted, json, net, line, reply)?;
+    add_reply(replies, reply)?;
     Ok(())
 }
 
 /// Begins the network of the first line, and adds the reply. [`RunFault::Topology`] if the line is
 /// no topology.
-fn begin(alloc: Global, line: &[u8], replies: &mut String) -> Result<Net, RunFault>
+fn begin(
+    alloc: Global,
+    room: &mut LineRoom,
+    line: &[u8],
+    replies: &mut String,
+) -> Result<Net, RunFault>
     ensures { (accepted : AcceptedLines)
         → RepliesOrFails accepted (λ net. Open net) result Unbegun line.now
         (string_bytes replies.old) (string_bytes replies.new) }
 {
+    let reply = &mut room.reply;
+    reply.clear();
     match Topology::from_json(alloc, line) {
         Ok(topology) => {
             topology.known();
-            let text = String::from_str(alloc, "topology ok")?;
-            push_reply(replies, text)?;
+            reply.push_str("topology ok")?;
+            add_reply(replies, reply)?;
             Ok(Net::new(alloc, topology))
         }
         Err(OrMemory::Refused(fault)) => {
-            let text = format!(in alloc; "topology no {} {}", fault.code(), fault.name())?;
-            push_reply(replies, text)?;
+            write!(reply, "topology no {} {}", fault.code(), fault.name())?;
+            add_reply(replies, reply)?;
             Err(RunFault::Topology)
         }
         Err(OrMemory::Memory) => Err(RunFault::Memory),
@@ -79,6 +98,7 @@ fn begin(alloc: Global, line: &[u8], replies: &mut String) -> Result<Net, RunFau
 fn answer(
     alloc: Global,
     accepted: AcceptedLines,
+    room: &mut LineRoom,
     net: &mut Option<Net>,
     line: &[u8],
     replies: &mut String,
@@ -87,9 +107,9 @@ fn answer(
         (string_bytes replies.old) (string_bytes replies.new) }
 {
     match net {
-        Some(net) => tell(alloc, accepted, net, line, replies),
+        Some(net) => tell(alloc, accepted, room, net, line, replies),
         None => {
-            *net = Some(begin(alloc, line, replies)?);
+            *net = Some(begin(alloc, room, line, replies)?);
             Ok(())
         }
     }
@@ -98,12 +118,16 @@ fn answer(
 impl Session {
     /// A run that has not begun.
     pub(crate) fn new(alloc: Global) -> Session
-        ensures { session_value result ≡ record { stage = Unbegun; rest = []; replies = [] } }
+        ensures { session_value result ≡ unbegun_session }
     {
         Session {
             net: None,
             rest: Vec::new(alloc),
             replies: String::new(alloc),
+            room: LineRoom {
+                json: JsonRoom::new(alloc),
+                reply: String::new(alloc),
+            },
         }
     }
 
@@ -141,6 +165,7 @@ impl Session {
         answer(
             alloc,
             accepted,
+            &mut self.room,
             &mut self.net,
             &self.rest,
             &mut self.replies,
@@ -162,7 +187,14 @@ impl Session {
         ensures rest { result ≡ Ok tt → self.new.rest.items ≡ [] }
     {
         if self.rest.is_empty() {
-            return answer(alloc, accepted, &mut self.net, end, &mut self.replies);
+            return answer(
+                alloc,
+                accepted,
+                &mut self.room,
+                &mut self.net,
+                end,
+                &mut self.replies,
+            );
         }
         self.rest.extend_from_slice(end)?;
         self.answer(alloc, accepted)?;

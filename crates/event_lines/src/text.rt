@@ -1,4 +1,7 @@
 //! The texts of replies to events and about packets.
+//!
+//! A reply is written behind a text that is kept from line to line, so that it needs no memory of
+//! its own once that text has room.
 
 ghost use Rattle.std.specs.Prelude.{◌≡◌, ◌++◌, IfOk, OnOk, flat_map, option_map};
 ghost use Rattle.std.specs.String.{string_bytes};
@@ -11,25 +14,26 @@ use path_verifier::{PieceKind, Pieces};
 use policy_expr::WalkHop;
 use router_step::{Outcome, Refusal};
 use std::alloc::{AllocError, Global};
+use std::fmt::Write;
 
-/// A hop.
-fn hop(alloc: Global, hop: &WalkHop) -> Result<String, AllocError>
-    ensures { IfOk result (λ text. string_bytes text ≡ hop_text hop.now) }
+/// Adds a hop.
+fn push_hop(text: &mut String, hop: &WalkHop) -> Result<(), AllocError>
+    ensures { OnOk result (string_bytes text.new ≡ string_bytes text.old ++ hop_text hop.now) }
 {
-    format!(in alloc; "{}#{},{}", hop.ia, hop.ingress, hop.egress)
+    write!(text, "{}#{},{}", hop.ia, hop.ingress, hop.egress)
 }
 
 /// Adds the hops, separated by spaces.
-fn push_hops(alloc: Global, text: &mut String, hops: &[WalkHop]) -> Result<(), AllocError>
+fn push_hops(text: &mut String, hops: &[WalkHop]) -> Result<(), AllocError>
     ensures { OnOk result (string_bytes text.new ≡ string_bytes text.old ++ hops_text hops.now) }
 {
     let Some((first, later)) = hops.split_first() else {
         return Ok(());
     };
-    text.push_str(hop(alloc, first)?.as_str())?;
+    push_hop(text, first)?;
     for one in later {
         text.push_str(" ")?;
-        text.push_str(hop(alloc, one)?.as_str())?;
+        push_hop(text, one)?;
     }
     Ok(())
 }
@@ -39,7 +43,7 @@ pub fn hops_text(alloc: Global, hops: &[WalkHop]) -> Result<String, AllocError>
     ensures { IfOk result (λ text. string_bytes text ≡ hops_text hops.now) }
 {
     let mut text = String::new(alloc);
-    push_hops(alloc, &mut text, hops)?;
+    push_hops(&mut text, hops)?;
     Ok(text)
 }
 
@@ -69,77 +73,87 @@ pub fn kinds_text(alloc: Global, pieces: &Pieces<'_>) -> Result<String, AllocErr
     Ok(text)
 }
 
+/// Adds a router's refusal: its number and its name; for a packet without a path header, also the
+/// number and name of the header's refusal.
+fn push_refusal(text: &mut String, refusal: Refusal) -> Result<(), AllocError>
+    ensures { OnOk result (string_bytes text.new ≡ string_bytes text.old ++ refusal_text refusal) }
+{
+    match refusal {
+        Refusal::BadHeader(fault) => {
+            write!(text, "90 BadHeader {} {}", fault.code(), fault.name())
+        }
+        _ => write!(text, "{} {}", refusal.code(), refusal.name()),
+    }
+}
+
 /// The text of a router's refusal: its number and its name; for a packet without a path header,
 /// also the number and name of the header's refusal.
 pub fn refusal_text(alloc: Global, refusal: Refusal) -> Result<String, AllocError>
     ensures { IfOk result (λ text. string_bytes text ≡ refusal_text refusal) }
 {
-    match refusal {
-        Refusal::BadHeader(fault) => {
-            format!(in alloc; "90 BadHeader {} {}", fault.code(), fault.name())
-        }
-        _ => format!(in alloc; "{} {}", refusal.code(), refusal.name()),
-    }
+    let mut text = String::new(alloc);
+    push_refusal(&mut text, refusal)?;
+    Ok(text)
 }
 
-/// The outcome of a router's step.
-pub(crate) fn outcome(alloc: Global, outcome: Outcome) -> Result<String, AllocError>
-    ensures { IfOk result (λ text. string_bytes text ≡ outcome_text outcome) }
+/// Adds the outcome of a router's step.
+pub(crate) fn push_outcome(text: &mut String, outcome: Outcome) -> Result<(), AllocError>
+    ensures { OnOk result (string_bytes text.new ≡ string_bytes text.old ++ outcome_text outcome) }
 {
     match outcome {
-        Outcome::ToLink(interface) => format!(in alloc; "link {interface}"),
-        Outcome::ToRouter(router) => format!(in alloc; "router {router}"),
-        Outcome::Deliver => String::from_str(alloc, "delivered"),
+        Outcome::ToLink(interface) => write!(text, "link {interface}"),
+        Outcome::ToRouter(router) => write!(text, "router {router}"),
+        Outcome::Deliver => text.push_str("delivered"),
     }
 }
 
-/// The reply of a turn.
-fn turn(alloc: Global, reply: TurnReply) -> Result<String, AllocError>
-    ensures { IfOk result (λ text. string_bytes text ≡ turn_text reply) }
+/// Adds the reply of a turn.
+fn push_turn(text: &mut String, reply: TurnReply) -> Result<(), AllocError>
+    ensures { OnOk result (string_bytes text.new ≡ string_bytes text.old ++ turn_text reply) }
 {
     match reply {
-        TurnReply::Went(went) => outcome(alloc, went),
+        TurnReply::Went(outcome) => push_outcome(text, outcome),
         TurnReply::Refused(cause) => {
-            let cause = refusal_text(alloc, cause)?;
-            format!(in alloc; "refused {}", cause.as_str())
+            text.push_str("refused ")?;
+            push_refusal(text, cause)
         }
-        TurnReply::Still => String::from_str(alloc, "ok"),
+        TurnReply::Still => text.push_str("ok"),
     }
 }
 
-/// The refusal of an event.
-fn fault(alloc: Global, fault: EventFault) -> Result<String, AllocError>
-    ensures { IfOk result (λ text. string_bytes text ≡ fault_text fault) }
+/// Adds the refusal of an event.
+fn push_fault(text: &mut String, fault: EventFault) -> Result<(), AllocError>
+    ensures { OnOk result (string_bytes text.new ≡ string_bytes text.old ++ fault_text fault) }
 {
-    format!(in alloc; "no {} {}", fault.code(), fault.name())
+    write!(text, "no {} {}", fault.code(), fault.name())
 }
 
-/// The reply to a bad line.
-pub(crate) fn bad_line(alloc: Global) -> Result<String, AllocError>
-    ensures { IfOk result (λ text. string_bytes text ≡ bad_line) }
+/// Adds the reply to a bad line.
+pub(crate) fn push_bad_line(text: &mut String) -> Result<(), AllocError>
+    ensures { OnOk result (string_bytes text.new ≡ string_bytes text.old ++ bad_line) }
 {
-    String::from_str(alloc, "no 140 BadLine")
+    text.push_str("no 140 BadLine")
 }
 
 /// Adds the walk of each path of an answer.
-fn push_paths(alloc: Global, text: &mut String, paths: &[Path]) -> Result<(), AllocError>
+fn push_paths(text: &mut String, paths: &[Path]) -> Result<(), AllocError>
     ensures { OnOk result (string_bytes text.new
         ≡ string_bytes text.old ++ flat_map path_text paths.now) }
 {
     for path in paths {
         text.push_str("; ")?;
-        push_hops(alloc, text, path.walk())?;
+        push_hops(text, path.walk())?;
     }
     Ok(())
 }
 
-/// The reply with an answer of this number.
-fn answer(alloc: Global, number: usize, paths: &[Path]) -> Result<String, AllocError>
-    ensures { IfOk result (λ text. string_bytes text ≡ answer_text number paths.now) }
+/// Adds the reply with an answer of this number.
+fn push_answer(text: &mut String, number: usize, paths: &[Path]) -> Result<(), AllocError>
+    ensures { OnOk result (string_bytes text.new
+        ≡ string_bytes text.old ++ answer_text number paths.now) }
 {
-    let mut text = format!(in alloc; "ask {number} {}", paths.len())?;
-    push_paths(alloc, &mut text, paths)?;
-    Ok(text)
+    write!(text, "ask {number} {}", paths.len())?;
+    push_paths(text, paths)
 }
 
 /// The paths of the answer of this number.
@@ -152,40 +166,41 @@ fn paths_in(net: &Net, number: usize) -> &[Path]
     }
 }
 
-/// The reply to an event, in the network after it.
-pub(crate) fn reply(alloc: Global, net: &Net, reply: Reply) -> Result<String, AllocError>
-    ensures { IfOk result (λ text. string_bytes text ≡ reply_text net.now reply) }
+/// Adds the reply to an event, in the network after it.
+pub(crate) fn push_reply(text: &mut String, net: &Net, reply: Reply) -> Result<(), AllocError>
+    ensures { OnOk result (string_bytes text.new
+        ≡ string_bytes text.old ++ reply_text net.now reply) }
 {
     match reply {
-        Reply::Done => String::from_str(alloc, "ok"),
-        Reply::Begun(beacon) => format!(in alloc; "beacon {beacon}"),
-        Reply::Registered(true) => String::from_str(alloc, "segment new"),
-        Reply::Registered(false) => String::from_str(alloc, "segment known"),
-        Reply::Swept(count) => format!(in alloc; "swept {count}"),
-        Reply::Answered(number) => answer(alloc, number, paths_in(net, number)),
-        Reply::Sent(packet) => format!(in alloc; "packet {packet}"),
-        Reply::Turned(turned) => turn(alloc, turned),
-        Reply::Refused(cause) => fault(alloc, cause),
+        Reply::Done => text.push_str("ok"),
+        Reply::Begun(beacon) => write!(text, "beacon {beacon}"),
+        Reply::Registered(true) => text.push_str("segment new"),
+        Reply::Registered(false) => text.push_str("segment known"),
+        Reply::Swept(count) => write!(text, "swept {count}"),
+        Reply::Answered(number) => push_answer(text, number, paths_in(net, number)),
+        Reply::Sent(packet) => write!(text, "packet {packet}"),
+        Reply::Turned(turned) => push_turn(text, turned),
+        Reply::Refused(cause) => push_fault(text, cause),
     }
 }
 
-/// The place of a packet.
-fn place(alloc: Global, place: PacketLocation) -> Result<String, AllocError>
-    ensures { IfOk result (λ text. string_bytes text ≡ place_text place) }
+/// Adds the place of a packet.
+fn push_place(text: &mut String, place: PacketLocation) -> Result<(), AllocError>
+    ensures { OnOk result (string_bytes text.new ≡ string_bytes text.old ++ place_text place) }
 {
     match place {
-        PacketLocation::AtRouter(stop) => format!(in alloc; "at {} {}", stop.ia, stop.router),
-        PacketLocation::Delivered => String::from_str(alloc, "delivered"),
+        PacketLocation::AtRouter(stop) => write!(text, "at {} {}", stop.ia, stop.router),
+        PacketLocation::Delivered => text.push_str("delivered"),
         PacketLocation::Refused(ia, router, cause) => {
-            let cause = refusal_text(alloc, cause)?;
-            format!(in alloc; "refused {ia} {router} {}", cause.as_str())
+            write!(text, "refused {ia} {router} ")?;
+            push_refusal(text, cause)
         }
-        PacketLocation::Lost => String::from_str(alloc, "lost"),
+        PacketLocation::Lost => text.push_str("lost"),
     }
 }
 
 /// Adds the hops that a packet has passed.
-fn push_passed(alloc: Global, text: &mut String, passed: &[WalkHop]) -> Result<(), AllocError>
+fn push_passed(text: &mut String, passed: &[WalkHop]) -> Result<(), AllocError>
     ensures { OnOk result (string_bytes text.new
         ≡ string_bytes text.old ++ passed_text passed.now) }
 {
@@ -193,20 +208,19 @@ fn push_passed(alloc: Global, text: &mut String, passed: &[WalkHop]) -> Result<(
         return Ok(());
     }
     text.push_str("; ")?;
-    push_hops(alloc, text, passed)
+    push_hops(text, passed)
 }
 
-/// The reply about a packet: its place, and the hops that it has passed.
-pub(crate) fn packet(alloc: Global, packet: Option<&Packet>) -> Result<String, AllocError>
-    ensures { IfOk result (λ text. string_bytes text
-        ≡ packet_text (option_map (λ p. p.now) packet.entry)) }
+/// Adds the reply about a packet: its place, and the hops that it has passed.
+pub(crate) fn push_packet(text: &mut String, packet: Option<&Packet>) -> Result<(), AllocError>
+    ensures { OnOk result (string_bytes text.new
+        ≡ string_bytes text.old ++ packet_text (option_map (λ p. p.now) packet.entry)) }
 {
     match packet {
-        None => String::from_str(alloc, "no 130 NoPacket"),
+        None => text.push_str("no 130 NoPacket"),
         Some(packet) => {
-            let mut text = place(alloc, packet.place())?;
-            push_passed(alloc, &mut text, packet.passed())?;
-            Ok(text)
+            push_place(text, packet.place())?;
+            push_passed(text, packet.passed())
         }
     }
 }

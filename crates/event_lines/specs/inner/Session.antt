@@ -9,7 +9,7 @@ use Rattle.event_lines.specs.declared.fault.RunFault.TheVariants as faults
 use Rattle.event_lines.specs.declared.accepted.AcceptedLines.{AcceptedLines}
 use Rattle.event_lines.specs.inner.Replies.{RepliesTo, RepliesToAll}
 use Rattle.event_lines.specs.Answers.{Stage, Unbegun, Open, Closed}
-use Rattle.event_lines.specs.Run.{AreLines, ended_lines, has_line_end, line_end}
+use Rattle.event_lines.specs.Run.{AreLines, Listens, ended_lines, has_line_end, line_end}
 
 -- the state of a run whose network is this one, if it has begun
 abbrev pub stage_of : Option NetValue → Stage
@@ -48,6 +48,10 @@ session_value session =
       rest = session.rest.items;
       replies = string_bytes session.replies;
     }
+
+-- a session that has not begun
+abbrev pub unbegun_session : SessionValue
+unbegun_session = record { stage = Unbegun; rest = []; replies = [] }
 
 -- these lines were answered after the earlier ones, and these replies are not written yet
 pub record AnswersLines (accepted : AcceptedLines) (lines : List (List ℕ)) (old : SessionValue)
@@ -160,3 +164,12 @@ Finishes accepted (Err faults.Memory) old stage held holds = Keeps held holds
 Finishes accepted (Err faults.Write) old stage held holds =
     PassesSome accepted (last_lines old) old held holds ⊎ Keeps held holds
 Finishes accepted (Err fault) old stage held holds = ⊥
+
+-- the lines of a source were answered in a session that had not begun, and it stands in a network
+-- then; or a fault came
+abbrev pub Hears : AcceptedLines → Result (Unit {0}) RunFault → Stage → Option (List ℕ)
+    → Option (List ℕ) → Option (List ℕ) → Option (List ℕ) → Type 0
+Hears accepted (Ok done) stage before after held holds =
+    (net : NetValue) × ((stage ≡ Open net) × Listens accepted (Ok net) before after held holds)
+Hears accepted (Err fault) stage before after held holds =
+    Listens accepted (Err fault) before after held holds

@@ -7,9 +7,10 @@ use Rattle.event_lines.proofs.happening.happen.Goals.{in-Turned+in-Refused-1, in
 
 pub returns : goal.returns
 returns c =
-    let same : c.match-reply.reply ≡ c.in_ok-reply.reply = elim c.match-reply.branch [
-      | in-Turned+in-Refused-1 w ↦ (let is = w.reply-is in cc)
-      | in-Done-1 w ↦ (let is = w.reply-is in cc)
+    let same : c.match-answered.answered ≡ c.in_ok-answered.answered = elim c.match-answered.branch [
+      | in-Turned+in-Refused-1 w ↦ (let is = w.answered-is in cc)
+      | in-Done-1 w ↦ (let is = w.answered-is in cc)
     ] in
-    event_answered c.reply.result string_bytes c.args.net.now c.step.new.self (events.event_value c.args.event.now)
-    c.in_ok-reply.reply c.match-reply.reply same c.in_ok-reply.ensures.step c.in_ok-reply.ensures.framed c.reply.ensures
+    event_answered c.push_reply.result (string_bytes c.args.reply.now) (string_bytes c.push_reply.new.text)
+    c.args.net.now c.step.new.self (events.event_value c.args.event.now)
+    c.in_ok-answered.answered c.match-answered.answered same c.requires c.in_ok-answered.ensures.step c.in_ok-answered.ensures.framed c.push_reply.ensures

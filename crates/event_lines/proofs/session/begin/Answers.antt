@@ -4,12 +4,12 @@ use Rattle.event_lines.specs.inner.Replies.{Opens}
 use Rattle.event_lines.specs.Answers.{Open, begun_text}
 use Rattle.event_lines.proofs.session.begin.Goals as goal
 
-pub returns-in_ok-push_reply-in-Ok : goal.returns-in_ok-push_reply-in-Ok
-returns-in_ok-push_reply-in-Ok c accepted = (
+pub returns-in_ok-add_reply-in-Ok : goal.returns-in_ok-add_reply-in-Ok
+returns-in_ok-add_reply-in-Ok c accepted = (
   begun_text,
   (
     subst (λ read. Opens read begun_text (Open c.new.result)) (sym c.in-Ok.ensures)
         (refl, (c.known.ensures, ap Open c.new.ensures)),
-    search (rules, c.in_ok-text-in-Ok.ensures.ok, c.in_ok-push_reply-in-Ok.ensures),
+    search (rules, c.clear.ensures.bytes, c.in_ok-push_str-in-Ok.ensures.bytes, c.in_ok-add_reply-in-Ok.ensures),
   ),
 )

@@ -3,7 +3,7 @@ use Rattle.std.proofs.Common.{◌≡◌, ◌-◌}
 use Rattle.streams.specs.Streams.{most_input}
 use Rattle.event_lines.specs.inner.Session.{session_value}
 use Rattle.event_lines.proofs.Running.{SoFar}
-use Rattle.event_lines.proofs.run.listen.Given as goal
+use Rattle.event_lines.proofs.run.hear.Given as goal
 
 abbrev pub invariant-loop-bytes : goal.invariant-loop-bytes
 invariant-loop-bytes g l =
