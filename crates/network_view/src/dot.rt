@@ -1,11 +1,12 @@
-ghost use Rattle.std.specs.Prelude.{◌≡◌, IfOk, flat_map};
+ghost use Rattle.std.specs.Prelude.{◌≡◌, ◌++◌, IfOk, OnOk, codes, flat_map};
 ghost use Rattle.std.specs.String.{string_bytes};
-ghost use Rattle.network_view.specs.Dot.{as_text, box_name, class_text, core_text, dot_of, end_name, interfaces_text, isd_text, link_text, marked_text, passed_text, router_name, router_text, routers_text, state_text};
+ghost use Rattle.isd_as.specs.Address.{canonical};
+ghost use Rattle.network_view.specs.Dot.{as_text, box_name, class_text, core_text, dot_of, interfaces_text, isd_text, link_text, marked_text, passed_text, router_name, router_text, routers_text, state_text};
 
 use crate::marks::{Router, is_at, was_passed};
 use isd_as::{Isd, IsdAs};
 use policy_expr::WalkHop;
-use scion_topology::{AsEntry, End, Link, LinkClass};
+use scion_topology::{AsEntry, Link, LinkClass};
 use std::alloc::{AllocError, Global};
 
 /// The layout of the picture: names at the lower left, and small numbers of interfaces.
@@ -14,12 +15,12 @@ graph network {
 labelloc=b; labeljust=l; ranksep=1; edge [labeldistance=1.5, fontsize=11];
 ";
 
-/// The name of a router in the picture.
+/// Adds the name of a router in the picture.
 #[tactic(auto, unfolding(crate::specs::Dot::router_name))]
-fn router_name(alloc: Global, ia: IsdAs, router: u8) -> Result<String, AllocError>
-    ensures { IfOk result (λ text. string_bytes text ≡ router_name ia router) }
+fn add_router_name(text: &mut String, ia: IsdAs, router: u8) -> Result<(), AllocError>
+    ensures { OnOk result (string_bytes text.new ≡ string_bytes text.old ++ router_name ia router) }
 {
-    format!(in alloc; "\"{ia} {router}\"")
+    write!(text, "\"{ia} {router}\"")
 }
 
 /// The look of a router.
@@ -34,44 +35,37 @@ fn marked_text(marked: bool) -> &'static str
     }
 }
 
-/// A router, with its number.
+/// Adds a router, with its number.
 #[tactic(auto, unfolding(crate::specs::Dot::router_text))]
-fn router_text(
-    alloc: Global,
-    at: Option<Router>,
+fn add_router(
+    text: &mut String,
+    at: &Option<Router>,
     ia: IsdAs,
     router: u8,
-) -> Result<String, AllocError>
-    ensures { IfOk result (λ text. string_bytes text ≡ router_text at ia router) }
+) -> Result<(), AllocError>
+    ensures { OnOk result
+        (string_bytes text.new ≡ string_bytes text.old ++ router_text at.now ia router) }
 {
-    let name = router_name(alloc, ia, router)?;
-    let look = marked_text(is_at(at, ia, router));
-    format!(in alloc; "{} [label={router}{look}", name.as_str())
+    let look = marked_text(is_at(*at, ia, router));
+    add_router_name(text, ia, router)?;
+    write!(text, " [label={router}{look}")
 }
 
-/// The routers of an AS, in the order of their numbers.
+/// Adds the routers of an AS, in the order of their numbers.
 #[tactic(auto, unfolding(crate::specs::Dot::routers_text))]
-fn routers_text(
-    alloc: Global,
-    at: Option<Router>,
+fn add_routers(
+    text: &mut String,
+    at: &Option<Router>,
     ia: IsdAs,
     routers: u8,
-) -> Result<String, AllocError>
-    ensures { IfOk result (λ text. string_bytes text ≡ routers_text at ia routers) }
+) -> Result<(), AllocError>
+    ensures { OnOk result
+        (string_bytes text.new ≡ string_bytes text.old ++ routers_text at.now ia routers) }
 {
-    let mut text = String::new(alloc);
     for router in 0..routers {
-        text.push_str(router_text(alloc, at, ia, router)?.as_str())?;
+        add_router(text, at, ia, router)?;
     }
-    Ok(text)
-}
-
-/// The name of the box of an AS.
-#[tactic(auto, unfolding(crate::specs::Dot::box_name))]
-fn box_name(alloc: Global, ia: IsdAs) -> Result<String, AllocError>
-    ensures { IfOk result (λ text. string_bytes text ≡ box_name ia) }
-{
-    format!(in alloc; "\"cluster_{ia}\"")
+    Ok(())
 }
 
 /// The look of the box of an AS.
@@ -86,37 +80,44 @@ fn core_text(core: bool) -> &'static str
     }
 }
 
-/// The opening of the box of an ISD, which is the same for all its ASes.
+/// Adds the opening of the box of an ISD, which is the same for all its ASes.
 #[tactic(auto, unfolding(crate::specs::Dot::isd_text))]
-fn isd_text(alloc: Global, isd: Isd) -> Result<String, AllocError>
-    ensures { IfOk result (λ text. string_bytes text ≡ isd_text isd) }
+fn add_isd(text: &mut String, isd: Isd) -> Result<(), AllocError>
+    ensures { OnOk result (string_bytes text.new ≡ string_bytes text.old ++ isd_text isd) }
 {
-    format!(in alloc; "subgraph cluster_{isd} {{ label=\"ISD {isd}\"; ")
+    write!(text, "subgraph cluster_{isd} {{ label=\"ISD {isd}\"; ")
 }
 
-/// An AS: a box with its routers, in the box of its ISD.
+/// Adds the name of the box of an AS.
+#[tactic(auto, unfolding(crate::specs::Dot::box_name))]
+fn add_box_name(text: &mut String, ia: IsdAs) -> Result<(), AllocError>
+    ensures { OnOk result (string_bytes text.new ≡ string_bytes text.old ++ box_name ia) }
+{
+    write!(text, "\"cluster_{ia}\"")
+}
+
+/// Adds the opening of the box of an AS, whose look is this.
+fn add_box(text: &mut String, ia: IsdAs, look: &str) -> Result<(), AllocError>
+    ensures { OnOk result (string_bytes text.new ≡ string_bytes text.old
+        ++ (codes "subgraph " ++ (box_name ia
+        ++ (codes " { label=\"" ++ (canonical ia ++ look.now))))) }
+{
+    text.push_str("subgraph ")?;
+    add_box_name(text, ia)?;
+    write!(text, " {{ label=\"{ia}{look}")
+}
+
+/// Adds an AS: a box with its routers, in the box of its ISD.
 #[tactic(auto, unfolding(crate::specs::Dot::as_text))]
-fn as_text(alloc: Global, at: Option<Router>, one: &AsEntry) -> Result<String, AllocError>
-    ensures { IfOk result (λ text. string_bytes text ≡ as_text at one.now) }
+fn add_as(text: &mut String, at: &Option<Router>, one: &AsEntry) -> Result<(), AllocError>
+    ensures { OnOk result
+        (string_bytes text.new ≡ string_bytes text.old ++ as_text at.now one.now) }
 {
-    let isd = isd_text(alloc, one.ia.isd())?;
-    let name = box_name(alloc, one.ia)?;
-    let core = core_text(one.core);
-    let routers = routers_text(alloc, at, one.ia, one.routers)?;
-    format!(in alloc;
-        "{}subgraph {} {{ label=\"{}{core}{}}} }}\n",
-        isd.as_str(),
-        name.as_str(),
-        one.ia,
-        routers.as_str()
-    )
-}
-
-/// The router at an end of a link.
-fn end_name(alloc: Global, end: &End) -> Result<String, AllocError>
-    ensures { IfOk result (λ text. string_bytes text ≡ end_name end.now) }
-{
-    router_name(alloc, end.ia, end.router)
+    let ia = one.ia;
+    add_isd(text, ia.isd())?;
+    add_box(text, ia, core_text(one.core))?;
+    add_routers(text, at, ia, one.routers)?;
+    write!(text, "}} }}\n")
 }
 
 /// The look of a link by its class.
@@ -150,56 +151,52 @@ fn state_text(up: bool) -> &'static str
     if up { "];\n" } else { ", style=dashed];\n" }
 }
 
-/// The interfaces of a link, each at its end of the line.
+/// Adds the interfaces of a link, each at its end of the line.
 #[tactic(auto, unfolding(crate::specs::Dot::interfaces_text))]
-fn interfaces_text(alloc: Global, link: &Link) -> Result<String, AllocError>
-    ensures { IfOk result (λ text. string_bytes text ≡ interfaces_text link.now) }
+fn add_interfaces(text: &mut String, link: &Link) -> Result<(), AllocError>
+    ensures { OnOk result
+        (string_bytes text.new ≡ string_bytes text.old ++ interfaces_text link.now) }
 {
-    format!(in alloc;
-        " [taillabel={}, headlabel={}, ",
-        link.a.number, link.b.number
-    )
+    let (a, b) = (link.a.number, link.b.number);
+    write!(text, " [taillabel={a}, headlabel={b}, ")
 }
 
-/// A link: a line between the routers that own its interfaces.
+/// Adds a link: a line between the routers that own its interfaces.
 #[tactic(auto, unfolding(crate::specs::Dot::link_text))]
-fn link_text(alloc: Global, passed: &[WalkHop], link: &Link) -> Result<String, AllocError>
-    ensures { IfOk result (λ text. string_bytes text ≡ link_text passed.now link.now) }
+fn add_link(text: &mut String, passed: &[WalkHop], link: &Link) -> Result<(), AllocError>
+    ensures { OnOk result
+        (string_bytes text.new ≡ string_bytes text.old ++ link_text passed.now link.now) }
 {
-    let a = end_name(alloc, &link.a)?;
-    let b = end_name(alloc, &link.b)?;
-    let interfaces = interfaces_text(alloc, link)?;
     let class = class_text(link.class);
     let mark = passed_text(was_passed(passed, link));
     let state = state_text(link.up);
-    format!(in alloc;
-        "{} -- {}{}{class}{mark}{state}",
-        a.as_str(),
-        b.as_str(),
-        interfaces.as_str()
-    )
+    add_router_name(text, link.a.ia, link.a.router)?;
+    text.push_str(" -- ")?;
+    add_router_name(text, link.b.ia, link.b.router)?;
+    add_interfaces(text, link)?;
+    write!(text, "{class}{mark}{state}")
 }
 
-/// The boxes of these ASes.
-fn boxes(alloc: Global, at: Option<Router>, ases: &[AsEntry]) -> Result<String, AllocError>
-    ensures { IfOk result (λ text. string_bytes text ≡ flat_map (as_text at) ases.now) }
+/// Adds the boxes of these ASes.
+fn add_boxes(text: &mut String, at: &Option<Router>, ases: &[AsEntry]) -> Result<(), AllocError>
+    ensures { OnOk result
+        (string_bytes text.new ≡ string_bytes text.old ++ flat_map (as_text at.now) ases.now) }
 {
-    let mut text = String::new(alloc);
     for one in ases {
-        text.push_str(as_text(alloc, at, one)?.as_str())?;
+        add_as(text, at, one)?;
     }
-    Ok(text)
+    Ok(())
 }
 
-/// The lines of these links.
-fn lines(alloc: Global, passed: &[WalkHop], links: &[Link]) -> Result<String, AllocError>
-    ensures { IfOk result (λ text. string_bytes text ≡ flat_map (link_text passed.now) links.now) }
+/// Adds the lines of these links.
+fn add_lines(text: &mut String, passed: &[WalkHop], links: &[Link]) -> Result<(), AllocError>
+    ensures { OnOk result (string_bytes text.new
+        ≡ string_bytes text.old ++ flat_map (link_text passed.now) links.now) }
 {
-    let mut text = String::new(alloc);
     for link in links {
-        text.push_str(link_text(alloc, passed, link)?.as_str())?;
+        add_link(text, passed, link)?;
     }
-    Ok(text)
+    Ok(())
 }
 
 /// The picture of the network of these ASes and links: a box for each AS and a line for each link,
@@ -218,7 +215,9 @@ pub fn network_dot(
     ensures { IfOk result (λ text. string_bytes text
         ≡ dot_of (record { ases = ases.now; links = links.now }) passed.now at) }
 {
-    let boxes = boxes(alloc, at, ases)?;
-    let lines = lines(alloc, passed, links)?;
-    format!(in alloc; "{LAYOUT}{}{}}}\n", boxes.as_str(), lines.as_str())
+    let mut text = String::from_str(alloc, LAYOUT)?;
+    add_boxes(&mut text, &at, ases)?;
+    add_lines(&mut text, passed, links)?;
+    text.push_str("}\n")?;
+    Ok(text)
 }

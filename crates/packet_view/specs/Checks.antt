@@ -58,6 +58,15 @@ switch_checks at =
     (current_hop (moved_on true at.header))
     else []
 
+-- checks 11 to 13, over this interface
+abbrev pub leave_by_checks : View → Arrival → Bool → IfEntry → List CheckValue
+leave_by_checks view arrival switched out =
+    tested (kinds_sides view arrival switched out.kind) (kinds_fit view arrival switched out.kind)
+    refusal.LinkKinds
+    ∷ record { sides = owner_sides view out; verdict = Ok tt }
+    ∷ (if out.router == view.router then tested (link_sides out.up) out.up refusal.LinkDown ∷ []
+    else [])
+
 -- checks 10 to 13, from this info and hop field, and with the interface of the way out if there is
 -- one
 unfoldable pub leave_checks : View → Arrival → Bool → InfoField → HopField → Option IfEntry
@@ -66,11 +75,7 @@ leave_checks view arrival switched info hop None =
     record { sides = way_out_sides view info hop; verdict = Err refusal.UnknownEgress } ∷ []
 leave_checks view arrival switched info hop (Some out) =
     record { sides = way_out_sides view info hop; verdict = Ok tt }
-    ∷ tested (kinds_sides view arrival switched out.kind) (kinds_fit view arrival switched out.kind)
-    refusal.LinkKinds
-    ∷ record { sides = owner_sides view out; verdict = Ok tt }
-    ∷ (if out.router == view.router then tested (link_sides out.up) out.up refusal.LinkDown ∷ []
-    else [])
+    ∷ leave_by_checks view arrival switched out
 
 -- checks 10 to 13 after the arrival, and after a switch if there is one
 abbrev pub way_out_checks : Situation → List CheckValue

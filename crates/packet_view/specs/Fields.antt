@@ -113,11 +113,15 @@ payload_text packet start =
     if nat_lt start (length packet)
     then field_text packet start (length packet - start) (codes "payload") else []
 
+-- the lines of a path header
+abbrev pub header_text : List ℕ → HeaderValue → List ℕ
+header_text packet header =
+    meta_text packet header ++ (infos_text packet header (length header.infos)
+    ++ hops_text packet header (length header.hops))
+
 -- the lines after the addresses: of a path header and a payload
 unfoldable pub behind_text : List ℕ → Result (HeaderValue × ℕ) Refusal → List ℕ
-behind_text packet (Ok front) =
-    meta_text packet front.0 ++ (infos_text packet front.0 (length front.0.infos)
-    ++ (hops_text packet front.0 (length front.0.hops) ++ payload_text packet (16 + front.1)))
+behind_text packet (Ok front) = header_text packet front.0 ++ payload_text packet (16 + front.1)
 behind_text packet (Err refusal) =
     field_text packet 16 (length packet - 16) (codes "no path header")
 

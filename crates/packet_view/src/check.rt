@@ -1,7 +1,10 @@
-ghost use Rattle.std.specs.Prelude.{◌≡◌};
+ghost use Rattle.std.specs.Prelude.{◌≡◌, ◌++◌, [], ◌∷◌, OnOk};
 ghost use Rattle.packet_view.specs.Checks.{tested};
+ghost use Rattle.packet_view.specs.inner.Part.{parts_text};
 
+use crate::part::{Part, add_parts};
 use router_step::Refusal;
+use std::alloc::{AllocError, Global};
 use std::marker::Model;
 
 /// A check of a router on a packet: the sides that it compares, and whether it succeeds or gives
@@ -21,16 +24,33 @@ impl Model for Check {
     ghost view = { λ c. record { sides = string_bytes c.sides; verdict = c.verdict } };
 }
 
-impl Check {
-    ghost use Rattle.std.specs.String.{string_bytes};
+/// Adds the check with these sides and this verdict.
+pub(crate) fn add_check(
+    alloc: Global,
+    checks: &mut Vec<Check>,
+    parts: &[Part<'_>],
+    verdict: Result<(), Refusal>,
+) -> Result<(), AllocError>
+    ensures { OnOk result (checks.new.items ≡ checks.old.items
+        ++ record { sides = parts_text parts.now; verdict = verdict } ∷ []) }
+{
+    let mut sides = String::new(alloc);
+    add_parts(alloc, &mut sides, parts)?;
+    checks.push(Check { sides, verdict })?;
+    Ok(())
+}
 
-    /// The check with these sides, which succeeds if `holds` and else gives this refusal.
-    pub(crate) fn tested(sides: String, holds: bool, refusal: Refusal) -> Check
-        ensures { result ≡ tested (string_bytes sides) holds refusal }
-    {
-        Check {
-            sides,
-            verdict: if holds { Ok(()) } else { Err(refusal) },
-        }
-    }
+/// Adds the check with these sides, which succeeds if `holds` and else gives this refusal.
+pub(crate) fn add_test(
+    alloc: Global,
+    checks: &mut Vec<Check>,
+    parts: &[Part<'_>],
+    holds: bool,
+    refusal: Refusal,
+) -> Result<(), AllocError>
+    ensures { OnOk result (checks.new.items ≡ checks.old.items
+        ++ tested (parts_text parts.now) holds refusal ∷ []) }
+{
+    let verdict = if holds { Ok(()) } else { Err(refusal) };
+    add_check(alloc, checks, parts, verdict)
 }

@@ -3,9 +3,9 @@
 ghost use Rattle.std.specs.Prelude.{◌≡◌, ◌+◌, ◌<◌, ◌++◌, IfOk, OnOk, length};
 ghost use Rattle.scion_topology.specs.View.{entry_of};
 ghost use Rattle.router_step.specs.Place.{way_out};
-ghost use Rattle.packet_view.specs.Checks.{checks_at, checks_of, end_checks, leave_checks, pass_checks, place_checks, switch_checks};
+ghost use Rattle.packet_view.specs.Checks.{checks_at, checks_of, end_checks, leave_by_checks, leave_checks, pass_checks, place_checks, switch_checks};
 
-use crate::check::Check;
+use crate::check::{Check, add_check, add_test};
 use crate::sides::{
     destination_sides, header_sides, indices_sides, kinds_sides, link_sides, live_sides, mac_sides,
     owner_sides, source_sides, switch_sides, way_in_sides, way_out_sides,
@@ -16,7 +16,7 @@ use router_step::checks::{
     destination_fits, is_hop_live, is_mac_right, is_over_link, kinds_fit, source_fits, way_in_fits,
 };
 use router_step::{Arrival, Refusal, destination_in, read_header, source_in, way_out};
-use scion_topology::RouterView;
+use scion_topology::{IfEntry, RouterView};
 use std::alloc::{AllocError, Global};
 
 /// Adds the checks of the packet's place and way in.
@@ -26,13 +26,12 @@ fn add_place(alloc: Global, at: &Situation<'_>, checks: &mut Vec<Check>) -> Resu
 {
     let info = at.info();
     let hop = at.hop();
-    let sides = indices_sides(alloc, at)?;
+    let sides = indices_sides(at);
     let holds = at.has_right_indices();
-    checks.push(Check::tested(sides, holds, Refusal::IndexMismatch))?;
-    let sides = way_in_sides(alloc, at, &info, &hop)?;
+    add_test(alloc, checks, &sides, holds, Refusal::IndexMismatch)?;
+    let sides = way_in_sides(at, &info, &hop);
     let holds = way_in_fits(&at.view, &at.arrival, &info, &hop);
-    checks.push(Check::tested(sides, holds, Refusal::WrongIngress))?;
-    Ok(())
+    add_test(alloc, checks, &sides, holds, Refusal::WrongIngress)
 }
 
 /// Adds the checks of a hop: that it is live, and that its authenticator is right.
@@ -49,11 +48,12 @@ fn add_pass(
     ensures { OnOk result (checks.new.items ≡ checks.old.items
         ++ pass_checks four five at.entry.now.view at.entry.now.now info.now hop.now) }
 {
-    let sides = live_sides(alloc, four, at.now, info, hop)?;
-    checks.push(Check::tested(sides, is_hop_live(at.now, info, hop), Refusal::Expired))?;
-    let sides = mac_sides(alloc, five, at, info, hop)?;
-    checks.push(Check::tested(sides, is_mac_right(&at.view, info, hop), Refusal::BadMac))?;
-    Ok(())
+    let sides = live_sides(four, at.now, info, hop);
+    let holds = is_hop_live(at.now, info, hop);
+    add_test(alloc, checks, &sides, holds, Refusal::Expired)?;
+    let sides = mac_sides(five, at, info, hop);
+    let holds = is_mac_right(&at.view, info, hop);
+    add_test(alloc, checks, &sides, holds, Refusal::BadMac)
 }
 
 /// Adds the checks of both addresses.
@@ -61,13 +61,12 @@ fn add_pass(
 fn add_end(alloc: Global, at: &Situation<'_>, checks: &mut Vec<Check>) -> Result<(), AllocError>
     ensures { OnOk result (checks.new.items ≡ checks.old.items ++ end_checks at.entry.now) }
 {
-    let sides = source_sides(alloc, at)?;
+    let sides = source_sides(at);
     let holds = source_fits(&at.view, &at.arrival, at.source);
-    checks.push(Check::tested(sides, holds, Refusal::SourceAs))?;
-    let sides = destination_sides(alloc, at)?;
+    add_test(alloc, checks, &sides, holds, Refusal::SourceAs)?;
+    let sides = destination_sides(at);
     let holds = destination_fits(&at.view, at.destination, at.is_last());
-    checks.push(Check::tested(sides, holds, Refusal::DestinationAs))?;
-    Ok(())
+    add_test(alloc, checks, &sides, holds, Refusal::DestinationAs)
 }
 
 /// Adds the checks of a switch to the next segment.
@@ -79,12 +78,41 @@ fn add_switch(alloc: Global, at: &Situation<'_>, checks: &mut Vec<Check>) -> Res
     if !at.ends_segment() {
         return Ok(());
     }
-    let sides = switch_sides(alloc, at)?;
+    let sides = switch_sides(at);
     let holds = is_over_link(&at.arrival);
-    checks.push(Check::tested(sides, holds, Refusal::SwitchInside))?;
+    add_test(alloc, checks, &sides, holds, Refusal::SwitchInside)?;
     let info = at.info_to_leave(true);
     let hop = at.hop_to_leave(true);
     add_pass(alloc, 9, 9, at, &info, &hop, checks)
+}
+
+/// Adds the checks of the way out over this interface, behind the one that there is such an
+/// interface.
+fn add_leave_by(
+    alloc: Global,
+    at: &Situation<'_>,
+    switched: bool,
+    out: &IfEntry,
+    checks: &mut Vec<Check>,
+) -> Result<(), AllocError>
+    ensures { OnOk result (checks.new.items ≡ checks.old.items
+        ++ leave_by_checks at.entry.now.view at.entry.now.arrival switched out.now) }
+{
+    let sides = kinds_sides(at, switched, out.kind);
+    let holds = kinds_fit(&at.view, &at.arrival, switched, out.kind);
+    add_test(alloc, checks, &sides, holds, Refusal::LinkKinds)?;
+    add_check(alloc, checks, &owner_sides(at, out), Ok(()))?;
+    if out.router == at.view.router() {
+        add_test(
+            alloc,
+            checks,
+            &link_sides(out.up),
+            out.up,
+            Refusal::LinkDown,
+        )
+    } else {
+        Ok(())
+    }
 }
 
 /// Adds the checks of the way out, from this info and hop field.
@@ -101,24 +129,14 @@ fn add_leave(
         OnOk result (checks.new.items ≡ checks.old.items
         ++ leave_checks at.entry.now.view at.entry.now.arrival switched info.now hop.now out) }
 {
-    let sides = way_out_sides(alloc, at, info, hop)?;
-    let Some(out) = at.view.entry(way_out(info, hop)) else {
-        let verdict = Err(Refusal::UnknownEgress);
-        checks.push(Check { sides, verdict })?;
-        return Ok(());
-    };
-    let verdict = Ok(());
-    checks.push(Check { sides, verdict })?;
-    let sides = kinds_sides(alloc, at, switched, out.kind)?;
-    let holds = kinds_fit(&at.view, &at.arrival, switched, out.kind);
-    checks.push(Check::tested(sides, holds, Refusal::LinkKinds))?;
-    let sides = owner_sides(alloc, at, out)?;
-    checks.push(Check { sides, verdict })?;
-    if out.router == at.view.router() {
-        let sides = link_sides(alloc, out.up)?;
-        checks.push(Check::tested(sides, out.up, Refusal::LinkDown))?;
+    let sides = way_out_sides(at, info, hop);
+    match at.view.entry(way_out(info, hop)) {
+        None => add_check(alloc, checks, &sides, Err(Refusal::UnknownEgress)),
+        Some(out) => {
+            add_check(alloc, checks, &sides, Ok(()))?;
+            add_leave_by(alloc, at, switched, out, checks)
+        }
     }
-    Ok(())
 }
 
 /// Adds the checks of a packet with a path header.
@@ -152,11 +170,10 @@ pub(crate) fn checks_of(
     ensures { IfOk result (λ checks. checks.items ≡ checks_of view.entry now arrival packet.now) }
 {
     let mut checks = Vec::new(alloc);
-    let sides = header_sides(alloc, packet)?;
+    let sides = header_sides(packet);
     match read_header(packet) {
         Ok((header, _)) => {
-            let verdict = Ok(());
-            checks.push(Check { sides, verdict })?;
+            add_check(alloc, &mut checks, &sides, Ok(()))?;
             let at = Situation {
                 view,
                 now,
@@ -167,10 +184,7 @@ pub(crate) fn checks_of(
             };
             add_checks(alloc, &at, &mut checks)?;
         }
-        Err(refusal) => {
-            let verdict = Err(refusal);
-            checks.push(Check { sides, verdict })?;
-        }
+        Err(refusal) => add_check(alloc, &mut checks, &sides, Err(refusal))?,
     }
     Ok(checks)
 }

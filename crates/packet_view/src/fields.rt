@@ -1,83 +1,105 @@
 //! The fields of a packet, each on a line: its bytes in hexadecimal, and their meaning.
 
-ghost use Rattle.std.specs.Prelude.{◌≡◌, ◌+◌, ◌≤◌, length, IfOk};
+ghost use Rattle.std.specs.Prelude.{◌≡◌, ◌+◌, ◌≤◌, ◌++◌, length, IfOk, OnOk};
 ghost use Rattle.std.specs.String.{string_bytes};
 ghost use Rattle.path_header.specs.Value.{header_len};
-ghost use Rattle.packet_view.specs.Fields.{address_text, addresses_text, behind_text, field_text, fields_text, flag_of, hop_text, hops_text, info_text, infos_text, last_live, lens_text, mac_text, meta_text, number_text, payload_text, place_text};
+ghost use Rattle.packet_view.specs.Fields.{address_text, behind_text, field_text, fields_text, flag_of, header_text, hop_text, hops_text, info_text, infos_text, last_live, mac_text, meta_text, number_text, payload_text};
+ghost use Rattle.packet_view.specs.inner.Part.{parts_text};
 ghost use Rattle.router_step.specs.Packet.{header_in};
 
+use crate::part::{Part, add_hex, add_parts, lens_part, place_part};
 use hop_mac::expiry;
 use isd_as::IsdAs;
-use path_header::{Header, HopField, InfoField, SegLens};
+use path_header::{Header, HopField, InfoField};
 use router_step::{destination_in, read_header, source_in};
 use std::alloc::{AllocError, Global};
 
 /// The length of the addresses in front of the path header.
 const ADDRESSES_LEN: usize = 16;
 
-/// The line of `len` bytes of the packet from this place on, with their meaning.
+/// Adds the line of `len` bytes of the packet from this place on, with their meaning.
 #[tactic(auto, unfolding(crate::specs::Fields::field_text))]
-fn field_text(
+fn add_field(
     alloc: Global,
+    text: &mut String,
     packet: &[u8],
     start: usize,
     len: usize,
-    says: &str,
-) -> Result<String, AllocError>
+    says: &[Part<'_>],
+) -> Result<(), AllocError>
     requires { start + len ≤ length packet.now }
-    ensures { IfOk result (λ text. string_bytes text ≡ field_text packet.now start len says.now) }
+    ensures { OnOk result (string_bytes text.new
+        ≡ string_bytes text.old ++ field_text packet.now start len (parts_text says.now)) }
 {
     let (_, rest) = packet.split_at(start);
     let (bytes, _) = rest.split_at(len);
-    let digits = hex::encode(alloc, bytes)?;
-    format!(in alloc; "{} {says}\n", digits.as_str())
+    add_hex(alloc, text, bytes)?;
+    text.push_str(" ")?;
+    add_parts(alloc, text, says)?;
+    text.push_str("\n")
 }
 
-/// The line of a number in an info or a hop field.
+/// Adds the line of a number in an info or a hop field.
 #[tactic(auto, unfolding(crate::specs::Fields::number_text))]
-fn number_text(
+fn add_number<'a>(
     alloc: Global,
+    text: &mut String,
     packet: &[u8],
     start: usize,
     len: usize,
-    kind: &str,
+    kind: &'a str,
     index: usize,
-    name: &str,
+    name: &'a str,
     value: u64,
-) -> Result<String, AllocError>
+) -> Result<(), AllocError>
     requires { start + len ≤ length packet.now }
-    ensures { IfOk result (λ text. string_bytes text
-        ≡ number_text packet.now start len kind.now index name.now value) }
+    ensures { OnOk result (string_bytes text.new ≡ string_bytes text.old
+        ++ number_text packet.now start len kind.now index name.now value) }
 {
-    let says = format!(in alloc; "{kind} {index} {name} {value}")?;
-    field_text(alloc, packet, start, len, says.as_str())
+    let says = [
+        Part::Words(kind),
+        Part::Words(" "),
+        Part::Number(index as u64),
+        Part::Words(" "),
+        Part::Words(name),
+        Part::Words(" "),
+        Part::Number(value),
+    ];
+    add_field(alloc, text, packet, start, len, &says)
 }
 
-/// An address.
+/// Adds the line of an address.
 #[tactic(auto, unfolding(crate::specs::Fields::address_text))]
-fn address_text(
+fn add_address(
     alloc: Global,
+    text: &mut String,
     packet: &[u8],
     start: usize,
     name: &str,
     address: IsdAs,
-) -> Result<String, AllocError>
+) -> Result<(), AllocError>
     requires { start + 8 ≤ length packet.now }
-    ensures { IfOk result (λ text. string_bytes text
-        ≡ address_text packet.now start name.now address) }
+    ensures { OnOk result (string_bytes text.new
+        ≡ string_bytes text.old ++ address_text packet.now start name.now address) }
 {
-    let says = format!(in alloc; "{name} {address}")?;
-    field_text(alloc, packet, start, 8, says.as_str())
+    let says = [Part::Words(name), Part::Words(" "), Part::Address(address)];
+    add_field(alloc, text, packet, start, 8, &says)
 }
 
-/// The authenticator of the hop field of this index.
-#[tactic(auto, unfolding(crate::specs::Fields::mac_text))]
-fn mac_text(alloc: Global, packet: &[u8], start: usize, index: usize) -> Result<String, AllocError>
-    requires { start + 6 ≤ length packet.now }
-    ensures { IfOk result (λ text. string_bytes text ≡ mac_text packet.now start index) }
+/// Adds the lines of the meta field.
+#[tactic(auto, unfolding(crate::specs::Fields::meta_text))]
+fn add_meta(
+    alloc: Global,
+    text: &mut String,
+    packet: &[u8],
+    header: &Header,
+) -> Result<(), AllocError>
+    requires { 20 ≤ length packet.now }
+    ensures { OnOk result (string_bytes text.new
+        ≡ string_bytes text.old ++ meta_text packet.now header.now) }
 {
-    let says = format!(in alloc; "hop {index} authenticator")?;
-    field_text(alloc, packet, start, 6, says.as_str())
+    add_field(alloc, text, packet, 16, 1, &[place_part(header)])?;
+    add_field(alloc, text, packet, 17, 3, &[lens_part(header.seg_lens())])
 }
 
 /// 1 if the segment is travelled in construction direction, else 0.
@@ -87,27 +109,6 @@ fn flag_of(info: &InfoField) -> u64
     if info.construction { 1 } else { 0 }
 }
 
-/// The place of the packet on its path.
-#[tactic(auto, unfolding(crate::specs::Fields::place_text))]
-pub(crate) fn place_text(alloc: Global, header: &Header) -> Result<String, AllocError>
-    ensures { IfOk result (λ text. string_bytes text ≡ place_text header.now) }
-{
-    let info = header.curr_inf();
-    let hop = header.curr_hf();
-    format!(in alloc; "at info field {info}, hop field {hop}")
-}
-
-/// The number of hop fields of each segment.
-#[tactic(auto, unfolding(crate::specs::Fields::lens_text))]
-pub(crate) fn lens_text(alloc: Global, lens: SegLens) -> Result<String, AllocError>
-    ensures { IfOk result (λ text. string_bytes text ≡ lens_text lens) }
-{
-    format!(in alloc;
-        "segments of {}, {} and {} hop fields",
-        lens.first, lens.second, lens.third
-    )
-}
-
 /// The last second at which a hop of a segment with this timestamp is live.
 pub(crate) fn last_live(timestamp: u32, hop: &HopField) -> u64
     ensures { result ≡ last_live timestamp hop.now }
@@ -115,118 +116,119 @@ pub(crate) fn last_live(timestamp: u32, hop: &HopField) -> u64
     expiry(timestamp, hop.exp_time) / 2
 }
 
-/// The lines of the info field of this index, at this place of the packet.
+/// Adds the lines of the info field of this index, at this place of the packet.
 #[tactic(auto, unfolding(crate::specs::Fields::info_text))]
-fn info_text(
+fn add_info(
     alloc: Global,
+    text: &mut String,
     packet: &[u8],
     start: usize,
     index: usize,
     info: &InfoField,
-) -> Result<String, AllocError>
+) -> Result<(), AllocError>
     requires { start + 8 ≤ length packet.now }
-    ensures { IfOk result (λ text. string_bytes text
-        ≡ info_text packet.now start index info.now) }
+    ensures { OnOk result (string_bytes text.new
+        ≡ string_bytes text.old ++ info_text packet.now start index info.now) }
 {
     let flag = flag_of(info);
-    let direction = number_text(
-        alloc,
-        packet,
-        start,
-        2,
-        "info",
-        index,
-        "construction direction",
-        flag,
-    )?;
+    let name = "construction direction";
+    add_number(alloc, text, packet, start, 2, "info", index, name, flag)?;
     let seg_id = u64::from(info.seg_id);
-    let accumulator = number_text(
+    let name = "accumulator";
+    add_number(
         alloc,
+        text,
         packet,
         start + 2,
         2,
         "info",
         index,
-        "accumulator",
+        name,
         seg_id,
     )?;
     let second = u64::from(info.timestamp);
-    let timestamp = number_text(
+    let name = "made at second";
+    add_number(
         alloc,
+        text,
         packet,
         start + 4,
         4,
         "info",
         index,
-        "made at second",
+        name,
         second,
-    )?;
-    format!(in alloc;
-        "{}{}{}",
-        direction.as_str(),
-        accumulator.as_str(),
-        timestamp.as_str()
     )
 }
 
-/// The lines of the hop field of this index, at this place of the packet, on a segment with this
-/// timestamp.
-#[tactic(auto, unfolding(crate::specs::Fields::hop_text))]
-fn hop_text(
+/// Adds the line of the authenticator of the hop field of this index.
+#[tactic(auto, unfolding(crate::specs::Fields::mac_text))]
+fn add_mac(
     alloc: Global,
+    text: &mut String,
+    packet: &[u8],
+    start: usize,
+    index: usize,
+) -> Result<(), AllocError>
+    requires { start + 6 ≤ length packet.now }
+    ensures { OnOk result (string_bytes text.new
+        ≡ string_bytes text.old ++ mac_text packet.now start index) }
+{
+    let says = [
+        Part::Words("hop "),
+        Part::Number(index as u64),
+        Part::Words(" authenticator"),
+    ];
+    add_field(alloc, text, packet, start, 6, &says)
+}
+
+/// Adds the lines of the hop field of this index, at this place of the packet, on a segment with
+/// this timestamp.
+#[tactic(auto, unfolding(crate::specs::Fields::hop_text))]
+fn add_hop(
+    alloc: Global,
+    text: &mut String,
     packet: &[u8],
     start: usize,
     index: usize,
     timestamp: u32,
     hop: &HopField,
-) -> Result<String, AllocError>
+) -> Result<(), AllocError>
     requires { start + 12 ≤ length packet.now }
-    ensures { IfOk result (λ text. string_bytes text
-        ≡ hop_text packet.now start index timestamp hop.now) }
+    ensures { OnOk result (string_bytes text.new
+        ≡ string_bytes text.old ++ hop_text packet.now start index timestamp hop.now) }
 {
-    let flags = number_text(alloc, packet, start, 1, "hop", index, "flags", 0)?;
+    add_number(alloc, text, packet, start, 1, "hop", index, "flags", 0)?;
     let last = last_live(timestamp, hop);
-    let live = number_text(
-        alloc,
-        packet,
-        start + 1,
-        1,
-        "hop",
-        index,
-        "live up to second",
-        last,
-    )?;
+    let name = "live up to second";
+    add_number(alloc, text, packet, start + 1, 1, "hop", index, name, last)?;
     let number = u64::from(hop.cons_ingress.number());
-    let ingress = number_text(
+    let name = "construction ingress";
+    add_number(
         alloc,
+        text,
         packet,
         start + 2,
         2,
         "hop",
         index,
-        "construction ingress",
+        name,
         number,
     )?;
     let number = u64::from(hop.cons_egress.number());
-    let egress = number_text(
+    let name = "construction egress";
+    add_number(
         alloc,
+        text,
         packet,
         start + 4,
         2,
         "hop",
         index,
-        "construction egress",
+        name,
         number,
     )?;
-    let mac = mac_text(alloc, packet, start + 6, index)?;
-    format!(in alloc;
-        "{}{}{}{}{}",
-        flags.as_str(),
-        live.as_str(),
-        ingress.as_str(),
-        egress.as_str(),
-        mac.as_str()
-    )
+    add_mac(alloc, text, packet, start + 6, index)
 }
 
 /// The info fields.
@@ -240,8 +242,7 @@ fn infos_text(alloc: Global, packet: &[u8], header: &Header) -> Result<String, A
     let mut text = String::new(alloc);
     for index in 0..header.info_count() {
         let start = 20 + 8 * index;
-        let info = info_text(alloc, packet, start, index, &header.info(index))?;
-        text.push_str(info.as_str())?;
+        add_info(alloc, &mut text, packet, start, index, &header.info(index))?;
     }
     Ok(text)
 }
@@ -259,84 +260,86 @@ fn hops_text(alloc: Global, packet: &[u8], header: &Header) -> Result<String, Al
     for index in 0..header.hop_count() {
         let timestamp = header.info(header.segment_of(index)).timestamp;
         let start = first + 12 * index;
-        let hop = hop_text(alloc, packet, start, index, timestamp, &header.hop(index))?;
-        text.push_str(hop.as_str())?;
+        let hop = header.hop(index);
+        add_hop(alloc, &mut text, packet, start, index, timestamp, &hop)?;
     }
     Ok(text)
 }
 
-/// Both addresses.
-#[tactic(auto, unfolding(crate::specs::Fields::addresses_text))]
-fn addresses_text(alloc: Global, packet: &[u8]) -> Result<String, AllocError>
-    requires { 16 ≤ length packet.now }
-    ensures { IfOk result (λ text. string_bytes text ≡ addresses_text packet.now) }
-{
-    let destination = address_text(alloc, packet, 0, "destination", destination_in(packet))?;
-    let source = address_text(alloc, packet, 8, "source", source_in(packet))?;
-    format!(in alloc; "{}{}", destination.as_str(), source.as_str())
-}
-
-/// The meta field.
-#[tactic(auto, unfolding(crate::specs::Fields::meta_text))]
-fn meta_text(alloc: Global, packet: &[u8], header: &Header) -> Result<String, AllocError>
-    requires { 20 ≤ length packet.now }
-    ensures { IfOk result (λ text. string_bytes text ≡ meta_text packet.now header.now) }
-{
-    let says = place_text(alloc, header)?;
-    let place = field_text(alloc, packet, 16, 1, says.as_str())?;
-    let says = lens_text(alloc, header.seg_lens())?;
-    let lens = field_text(alloc, packet, 17, 3, says.as_str())?;
-    format!(in alloc; "{}{}", place.as_str(), lens.as_str())
-}
-
-/// The line of the payload, if there is one.
+/// Adds the line of the payload, if there is one.
 #[tactic(auto, unfolding(crate::specs::Fields::payload_text))]
-fn payload_text(alloc: Global, packet: &[u8], start: usize) -> Result<String, AllocError>
+fn add_payload(
+    alloc: Global,
+    text: &mut String,
+    packet: &[u8],
+    start: usize,
+) -> Result<(), AllocError>
     requires { start ≤ length packet.now }
-    ensures { IfOk result (λ text. string_bytes text ≡ payload_text packet.now start) }
+    ensures { OnOk result (string_bytes text.new
+        ≡ string_bytes text.old ++ payload_text packet.now start) }
 {
     if start < packet.len() {
-        field_text(alloc, packet, start, packet.len() - start, "payload")
+        let says = [Part::Words("payload")];
+        add_field(alloc, text, packet, start, packet.len() - start, &says)
     } else {
-        Ok(String::new(alloc))
+        Ok(())
     }
 }
 
-/// The lines after the addresses: of a path header and a payload.
+/// Adds the lines of a path header.
+fn add_header(
+    alloc: Global,
+    text: &mut String,
+    packet: &[u8],
+    header: &Header,
+) -> Result<(), AllocError>
+    requires { 16 + header_len header.now ≤ length packet.now }
+    ensures { OnOk result (string_bytes text.new ≡ string_bytes text.old
+        ++ header_text packet.now header.now) }
+{
+    add_meta(alloc, text, packet, header)?;
+    text.push_str(infos_text(alloc, packet, header)?.as_str())?;
+    text.push_str(hops_text(alloc, packet, header)?.as_str())
+}
+
+/// Adds the lines after the addresses: of a path header and a payload.
 #[tactic(auto, unfolding(crate::specs::Fields::behind_text))]
-fn behind_text(alloc: Global, packet: &[u8]) -> Result<String, AllocError>
+fn add_behind(alloc: Global, text: &mut String, packet: &[u8]) -> Result<(), AllocError>
     requires { 16 ≤ length packet.now }
-    ensures { IfOk result (λ text. string_bytes text
-        ≡ behind_text packet.now (header_in packet.now)) }
+    ensures { OnOk result (string_bytes text.new
+        ≡ string_bytes text.old ++ behind_text packet.now (header_in packet.now)) }
 {
     let Ok((header, len)) = read_header(packet) else {
         let rest = packet.len() - ADDRESSES_LEN;
-        return field_text(alloc, packet, ADDRESSES_LEN, rest, "no path header");
+        let says = [Part::Words("no path header")];
+        return add_field(alloc, text, packet, ADDRESSES_LEN, rest, &says);
     };
-    let meta = meta_text(alloc, packet, &header)?;
-    let infos = infos_text(alloc, packet, &header)?;
-    let hops = hops_text(alloc, packet, &header)?;
-    let payload = payload_text(alloc, packet, ADDRESSES_LEN + len)?;
-    format!(in alloc;
-        "{}{}{}{}",
-        meta.as_str(),
-        infos.as_str(),
-        hops.as_str(),
-        payload.as_str()
-    )
+    add_header(alloc, text, packet, &header)?;
+    add_payload(alloc, text, packet, ADDRESSES_LEN + len)
 }
 
 /// The fields of a packet, each on a line with its bytes in hexadecimal: addresses, meta field,
 /// info fields, hop fields and payload. If the packet has no addresses or no path header, the lines
 /// say so. `AllocError` if memory runs out.
-#[tactic(auto, unfolding(crate::specs::Fields::fields_text))]
+#[tactic(auto, unfolding(crate::specs::Fields::fields_text, crate::specs::Fields::addresses_text))]
 pub fn fields_text(alloc: Global, packet: &[u8]) -> Result<String, AllocError>
     ensures { IfOk result (λ text. string_bytes text ≡ fields_text packet.now) }
 {
+    let mut text = String::new(alloc);
     if packet.len() < ADDRESSES_LEN {
-        return field_text(alloc, packet, 0, packet.len(), "no addresses");
+        let says = [Part::Words("no addresses")];
+        add_field(alloc, &mut text, packet, 0, packet.len(), &says)?;
+        return Ok(text);
     }
-    let addresses = addresses_text(alloc, packet)?;
-    let behind = behind_text(alloc, packet)?;
-    format!(in alloc; "{}{}", addresses.as_str(), behind.as_str())
+    add_address(
+        alloc,
+        &mut text,
+        packet,
+        0,
+        "destination",
+        destination_in(packet),
+    )?;
+    add_address(alloc, &mut text, packet, 8, "source", source_in(packet))?;
+    add_behind(alloc, &mut text, packet)?;
+    Ok(text)
 }

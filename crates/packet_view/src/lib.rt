@@ -11,6 +11,7 @@ mod checks;
 mod fields;
 pub mod laws;
 mod lines;
+mod part;
 mod sides;
 mod situation;
 

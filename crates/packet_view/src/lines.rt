@@ -1,8 +1,9 @@
 //! The output of `scionet_view packet` about a packet.
 
-ghost use Rattle.std.specs.Prelude.{◌≡◌, IfOk};
+ghost use Rattle.std.specs.Prelude.{◌≡◌, ◌++◌, IfOk, OnOk};
 ghost use Rattle.std.specs.String.{string_bytes};
 ghost use Rattle.step_line.specs.Fault.{PrintsTurn};
+ghost use Rattle.packet_view.specs.Checks.{checks_of};
 ghost use Rattle.packet_view.specs.Lines.{check_text, checks_text, lines_of};
 
 use crate::check::Check;
@@ -12,6 +13,20 @@ use separators::bytes::trim;
 use std::alloc::{AllocError, Global};
 use step_line::{StepCommand, StepFault, bytes, refusal_line};
 
+/// Adds the line of a check.
+#[tactic(auto, unfolding(crate::specs::Lines::check_text))]
+fn add_line(alloc: Global, text: &mut String, check: &Check) -> Result<(), AllocError>
+    ensures { OnOk result (string_bytes text.new ≡ string_bytes text.old ++ check_text check.now) }
+{
+    text.push_str(check.sides.as_str())?;
+    text.push_str(": ")?;
+    match check.verdict {
+        Ok(()) => text.push_str("ok")?,
+        Err(refusal) => text.push_str(refusal_line(alloc, refusal)?.as_str())?,
+    }
+    text.push_str("\n")
+}
+
 /// The checks up to the first that fails, each on a line.
 #[tactic(auto, unfolding(crate::specs::Lines::checks_text))]
 fn checks_text(alloc: Global, checks: &[Check]) -> Result<String, AllocError>
@@ -19,7 +34,7 @@ fn checks_text(alloc: Global, checks: &[Check]) -> Result<String, AllocError>
 {
     let mut text = String::new(alloc);
     for check in checks {
-        text.push_str(check_text(alloc, check)?.as_str())?;
+        add_line(alloc, &mut text, check)?;
         if check.verdict.is_err() {
             return Ok(text);
         }
@@ -27,18 +42,19 @@ fn checks_text(alloc: Global, checks: &[Check]) -> Result<String, AllocError>
     Ok(text)
 }
 
-/// The line of a check.
-#[tactic(auto, unfolding(crate::specs::Lines::check_text))]
-fn check_text(alloc: Global, check: &Check) -> Result<String, AllocError>
-    ensures { IfOk result (λ text. string_bytes text ≡ check_text check.now) }
+/// Adds the checks of the turn's router on the packet, up to the first that fails.
+fn add_checks(
+    alloc: Global,
+    text: &mut String,
+    command: &StepCommand,
+    packet: &[u8],
+) -> Result<(), AllocError>
+    ensures { let turn = command.now in OnOk result (string_bytes text.new ≡ string_bytes text.old
+        ++ checks_text (checks_of turn.view turn.moment turn.arrival packet.now)) }
 {
-    match check.verdict {
-        Ok(()) => format!(in alloc; "{}: ok\n", check.sides.as_str()),
-        Err(refusal) => {
-            let line = refusal_line(alloc, refusal)?;
-            format!(in alloc; "{}: {}\n", check.sides.as_str(), line.as_str())
-        }
-    }
+    let view = command.view();
+    let checks = checks_of(alloc, view, command.moment(), command.arrival(), packet)?;
+    text.push_str(checks_text(alloc, &checks)?.as_str())
 }
 
 /// The lines about the packet that the text gives in hexadecimal, at the router of this turn.
@@ -55,15 +71,8 @@ pub fn packet_lines(alloc: Global, command: &StepCommand, text: &[u8]) -> Result
     let Some(packet) = bytes(alloc, trim(text))? else {
         return Err(StepFault::PacketText);
     };
-    let checks = checks_of(
-        alloc,
-        command.view(),
-        command.moment(),
-        command.arrival(),
-        &packet,
-    )?;
-    let fields = fields_text(alloc, &packet)?;
-    let checks = checks_text(alloc, &checks)?;
-    let line = command.line(alloc, text)?;
-    Ok(format!(in alloc; "{}{}{}", fields.as_str(), checks.as_str(), line.as_str())?)
+    let mut lines = fields_text(alloc, &packet)?;
+    add_checks(alloc, &mut lines, command, &packet)?;
+    lines.push_str(command.line(alloc, text)?.as_str())?;
+    Ok(lines)
 }

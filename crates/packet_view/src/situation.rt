@@ -42,13 +42,6 @@ impl<'a> Model for Situation<'a> {
 }
 
 impl Situation<'_> {
-    /// The packet's path header.
-    pub(crate) fn header(&self) -> &Header
-        ensures { result.now ≡ self.entry.now.header }
-    {
-        &self.header
-    }
-
     /// The current info field.
     pub(crate) fn info(&self) -> InfoField
         ensures field { result ≡ current_info self.entry.now.header }
@@ -78,8 +71,8 @@ impl Situation<'_> {
 
     /// The segment of the current hop field.
     pub(crate) fn segment(&self) -> usize
-        ensures { let header = self.entry.now.header
-            in result ≡ segment_at header.lens header.curr_hf }
+        ensures { result
+            ≡ segment_at self.entry.now.header.lens self.entry.now.header.curr_hf }
     {
         self.header.segment_of(self.header.curr_hf())
     }

@@ -108,18 +108,30 @@ fn packet_fields(
     fields_text(alloc, &packet)
 }
 
+/// What is said of a path of these pieces between these ASes at this second.
+fn report_text(
+    alloc: Global,
+    pieces: &Pieces<'_>,
+    header: &Header,
+    source: IsdAs,
+    destination: IsdAs,
+    now: u32,
+) -> Result<String, AllocError> {
+    let mut text = known_text(alloc, pieces, header, source, destination)?;
+    let sending = sending_at(alloc, pieces, header, source, destination, now)?;
+    text.push_str(sending.as_str())?;
+    let fields = packet_fields(alloc, header, source, destination)?;
+    text.push_str(fields.as_str())?;
+    Ok(text)
+}
+
 /// What is said of a path of an answer at this second.
 fn path_report(alloc: Global, path: &Path, now: u32) -> Result<String, AllocError> {
     let [first, .., last] = path.walk() else {
         return refusal_line(alloc, EventFault::NoAnswer);
     };
-    let (source, destination) = (first.ia, last.ia);
     let pieces = lend_all(path.pieces());
-    let header = path.header();
-    let known = known_text(alloc, &pieces, header, source, destination)?;
-    let sending = sending_at(alloc, &pieces, header, source, destination, now)?;
-    let fields = packet_fields(alloc, header, source, destination)?;
-    format!(in alloc; "{}{}{}", known.as_str(), sending.as_str(), fields.as_str())
+    report_text(alloc, &pieces, path.header(), first.ia, last.ia, now)
 }
 
 /// What is said of a path at the network's second, or the line that there is no such path.

@@ -140,20 +140,16 @@ fn with_subject<'a>(
     )
 }
 
-/// The command `network`.
-fn network_command<'a>(alloc: Global) -> Result<Command<'a>, AllocError> {
-    let command = Command::new(alloc, "network")
-        .about("Draws the network that the lines on standard input lead to")
-        .after_long_help(NETWORK_HELP);
-    with_subject(alloc, command, false)
-}
-
-/// The command `path`.
-fn path_command<'a>(alloc: Global) -> Result<Command<'a>, AllocError> {
-    let command = Command::new(alloc, "path")
-        .about("Shows the path of a packet of that network or of an answer, field by field")
-        .after_long_help(PATH_HELP);
-    with_subject(alloc, command, true)
+/// The command of this name about the network that the lines lead to.
+fn network_command<'a>(
+    alloc: Global,
+    name: &'a str,
+    about: &'a str,
+    help: &'a str,
+    is_required: bool,
+) -> Result<Command<'a>, AllocError> {
+    let command = Command::new(alloc, name).about(about).after_long_help(help);
+    with_subject(alloc, command, is_required)
 }
 
 /// The program with this command, if there was memory for it.
@@ -172,8 +168,12 @@ fn program<'a>(alloc: Global) -> Result<Command<'a>, AllocError> {
         .version(VERSION)
         .about("Shows what a SCION network does");
     let program = with_command(program, packet_command(alloc))?;
-    let program = with_command(program, network_command(alloc))?;
-    with_command(program, path_command(alloc))
+    let about = "Draws the network that the lines on standard input lead to";
+    let command = network_command(alloc, "network", about, NETWORK_HELP, false);
+    let program = with_command(program, command)?;
+    let about = "Shows the path of a packet of that network or of an answer, field by field";
+    let command = network_command(alloc, "path", about, PATH_HELP, true);
+    with_command(program, command)
 }
 
 /// The fault of words that `clap` accepts and that are no command.

@@ -1,9 +1,0 @@
--- The text so far has the lines of the front.
-use Rattle.std.proofs.Common.{◌≡◌, take}
-use Rattle.std.specs.Prelude.{flat_map}
-use Rattle.std.specs.String.{string_bytes}
-use Rattle.network_view.specs.Dot.{link_text}
-use Rattle.network_view.proofs.dot.lines.Given as goal
-
-abbrev pub invariant-loop-link : goal.invariant-loop-link
-invariant-loop-link l = string_bytes l.text ≡ flat_map (link_text l.passed) (take l.link-index l.links)
