@@ -99,6 +99,13 @@ fn turn(alloc: Global, net: &mut Net, packet: u32) -> Result<u64> {
     }
 }
 
+/// The network in which one packet was sent.
+pub(crate) fn sent(alloc: Global) -> Result<Net> {
+    let mut net = network(alloc)?;
+    send(alloc, &mut net)?;
+    Ok(net)
+}
+
 /// Sends `count` packets, makes several turns of each, and counts those that are delivered.
 pub(crate) fn carried(alloc: Global, turns: u32, count: u32) -> Result<u64> {
     let mut net = network(alloc)?;

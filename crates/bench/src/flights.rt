@@ -1,12 +1,14 @@
-//! Flights over two core ASes and their children, in both directions: eight hop fields, and ten
-//! turns each.
+//! Flights over two core ASes and their children, in both directions, of eight hop fields and ten
+//! turns each; and flights over 64 hop fields in the largest network.
 
 ghost use Rattle.std.specs.Prelude.{◌≡◌, ◌<◌, ◌≤◌, All, IfOk};
 
+use crate::carried;
 use anyhow::{Context, Result};
 use event_lines::{AcceptedLines, listen};
 use network_core::{Net, Packet};
-use router_workers::{End, Flight, OpenGate, run_workers};
+use router_workers::{End, Flight, OpenGate, Report, run_workers};
+use scion_topology::Topology;
 use std::alloc::Global;
 use std::sync::Wait;
 use std::thread::Threads;
@@ -67,8 +69,36 @@ fn worth(end: End) -> u64 {
     }
 }
 
-/// Carries a thousand flights on several workers, `count` times, and sums their turns. The flights
-/// are made once, since a run leaves them as they are.
+/// Sums the turns of the flights of a report.
+fn turns_in(report: &Report) -> u64 {
+    let mut sum = 0u64;
+    for end in report.ends() {
+        sum = sum.wrapping_add(worth(*end));
+    }
+    sum
+}
+
+/// Carries flights on several workers, `count` times, and sums their turns. A run leaves the
+/// flights as they are.
+fn turns_of<R: Threads + Wait + Sync>(
+    rt: &R,
+    alloc: Global,
+    topology: &Topology,
+    flights: &[Flight<'_>],
+    workers: usize,
+    count: u32,
+) -> Result<u64>
+    requires { All (λ flight. flight.fabric ≡ topology.now) flights.now }
+{
+    let mut sum = 0u64;
+    for _ in 0..count {
+        let report = run_workers(rt, alloc, topology, 1000, workers, 1024, flights, &OpenGate)?;
+        sum = sum.wrapping_add(turns_in(&report));
+    }
+    Ok(sum)
+}
+
+/// Carries a thousand flights of ten turns on several workers, `count` times, and sums their turns.
 pub(crate) fn flights<R: Threads + Wait + Sync>(
     rt: &R,
     alloc: Global,
@@ -79,21 +109,19 @@ pub(crate) fn flights<R: Threads + Wait + Sync>(
     let there = net.packet(0).context("the packet was not sent")?;
     let back = net.packet(1).context("no packet was sent back")?;
     let flights = flights_of(alloc, &net, there, back)?;
-    let mut sum = 0u64;
-    for _ in 0..count {
-        let report = run_workers(
-            rt,
-            alloc,
-            net.topology(),
-            1000,
-            workers,
-            1024,
-            &flights,
-            &OpenGate,
-        )?;
-        for end in report.ends() {
-            sum = sum.wrapping_add(worth(*end));
-        }
-    }
-    Ok(sum)
+    turns_of(rt, alloc, net.topology(), &flights, workers, count)
+}
+
+/// The same with a thousand flights of 63 turns, each at the next AS of the network's list, so that
+/// up to eight workers have the same number of turns each, or one more.
+pub(crate) fn even_flights<R: Threads + Wait + Sync>(
+    rt: &R,
+    alloc: Global,
+    workers: usize,
+    count: u32,
+) -> Result<u64> {
+    let net = carried::sent(alloc)?;
+    let packet = net.packet(0).context("the packet was not sent")?;
+    let flights = flights_of(alloc, &net, packet, packet)?;
+    turns_of(rt, alloc, net.topology(), &flights, workers, count)
 }

@@ -102,12 +102,38 @@ fn work_on_input<R: io::Input>(rt: &R, alloc: Global, name: &str, count: u32) ->
     }
 }
 
+/// Does a work of several threads: a thousand flights, on several workers; a lookup by each of
+/// several readers of a board; a request by each of several threads to a daemon. The flights of
+/// `flights` have ten turns, which four workers share as 3, 4, 2 and 1; those of `even-flights`
+/// have 63, which they share evenly.
+fn work_of_threads<R: Threads + Wait + Sync + io::Input>(
+    rt: &R,
+    alloc: Global,
+    name: &str,
+    count: u32,
+) -> Result<u64> {
+    match name {
+        "flights-1" => flights::flights(rt, alloc, 1, count),
+        "flights-2" => flights::flights(rt, alloc, 2, count),
+        "flights-4" => flights::flights(rt, alloc, 4, count),
+        "flights-8" => flights::flights(rt, alloc, 8, count),
+        "even-flights-1" => flights::even_flights(rt, alloc, 1, count),
+        "even-flights-2" => flights::even_flights(rt, alloc, 2, count),
+        "even-flights-4" => flights::even_flights(rt, alloc, 4, count),
+        "board-1" => boards::look_ups(rt, alloc, 1, count),
+        "board-8" => boards::look_ups(rt, alloc, 8, count),
+        "daemon-hits-1" => daemons::asks(rt, alloc, Asking::Same, 1, count),
+        "daemon-hits-4" => daemons::asks(rt, alloc, Asking::Same, 4, count),
+        "daemon-misses-1" => daemons::asks(rt, alloc, Asking::Different, 1, count),
+        "daemon-misses-4" => daemons::asks(rt, alloc, Asking::Different, 4, count),
+        _ => work_on_input(rt, alloc, name, count),
+    }
+}
+
 /// Does the work of this name `count` times, with these factors: ten lines for each of `lines`,
 /// five for each packet or beacon, and one for each request; ten thousand segments that are made or
-/// registered; a thousand flights, on several workers; a lookup by each of several readers of a
-/// board; a request by each of several threads to a daemon. The first three works on answers have
-/// 32 paths to choose from, and the others 2048. Packets are sent in a network over 64 hop fields,
-/// and carried there by 63 turns each.
+/// registered. The first three works on answers have 32 paths to choose from, and the others 2048.
+/// Packets are sent in a network over 64 hop fields, and carried there by 63 turns each.
 fn work<R: Threads + Wait + Sync + io::Input>(
     rt: &R,
     alloc: Global,
@@ -136,17 +162,7 @@ fn work<R: Threads + Wait + Sync + io::Input>(
         "request-lines" => lines::lines(alloc, About::Requests, count),
         "sent-64" => carried::carried(alloc, 0, count),
         "carried-64" => carried::carried(alloc, network::SECOND_END, count),
-        "flights-1" => flights::flights(rt, alloc, 1, count),
-        "flights-2" => flights::flights(rt, alloc, 2, count),
-        "flights-4" => flights::flights(rt, alloc, 4, count),
-        "flights-8" => flights::flights(rt, alloc, 8, count),
-        "board-1" => boards::look_ups(rt, alloc, 1, count),
-        "board-8" => boards::look_ups(rt, alloc, 8, count),
-        "daemon-hits-1" => daemons::asks(rt, alloc, Asking::Same, 1, count),
-        "daemon-hits-4" => daemons::asks(rt, alloc, Asking::Same, 4, count),
-        "daemon-misses-1" => daemons::asks(rt, alloc, Asking::Different, 1, count),
-        "daemon-misses-4" => daemons::asks(rt, alloc, Asking::Different, 4, count),
-        _ => work_on_input(rt, alloc, name, count),
+        _ => work_of_threads(rt, alloc, name, count),
     }
 }
 

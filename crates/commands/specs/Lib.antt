@@ -1,4 +1,3 @@
 pub mod Words
 pub mod Fault
 pub mod Run
-pub mod inner

@@ -1,10 +1,12 @@
 -- The command line of `scionet`, as `clap` reads it.
-use Rattle.std.specs.Prelude.{◌≡◌, ◌<◌, ◌≤◌, ℕ, pos, true, codes, if◌then◌else◌, List, [], ◌∷◌, Option, Some, None, option_map, unwrap_or}
+use Rattle.std.specs.Prelude.{◌≡◌, ◌<◌, ◌≤◌, ℕ, pos, true, false, codes, if◌then◌else◌, List, [], ◌∷◌, Option, Some, None, option_map, unwrap_or}
 use Rattle.std.specs.Str.{bytes_eq}
 use Rattle.clap.specs.Words.{App, Row, Rule, Text, all_of, first_of, new_app, new_rule, subcommand_of, with_rule, with_subcommand}
 use Rattle.clap.specs.Kinds.{Kinds}
 use Rattle.clap.specs.Simple.{on_top}
 use Rattle.clap.specs.Faults.{fault_of}
+use Rattle.clap.specs.declared.builder.command.Command.{Command as ClapCommand}
+use Rattle.clap.specs.declared.builder.command.Command.TheViews.{out-Command}
 use Rattle.clap.specs.declared.builder.action.ArgAction.TheVariants.{Append}
 use Rattle.clap.specs.declared.builder.value_parser.ValueParser.TheVariants.{Signed}
 use Rattle.refusal.specs.Optional.{◌>>=◌}
@@ -12,6 +14,10 @@ use Rattle.step_line.specs.Fields.{bounded_number_at}
 use Rattle.step_line.specs.Turn.{StepOptions, Turn, turn_from}
 use Rattle.commands.specs.declared.command.Command.{Command as Asked}
 use Rattle.commands.specs.declared.command.Command.TheVariants.{Step, Run, Work}
+
+-- no argument of a command is also one of its subcommands
+abbrev pub IsLocal : ClapCommand → Type 0
+IsLocal command = (out-Command command).has_globals ≡ false
 
 -- an option that has a value and is required
 abbrev pub option_rule : Text → Rule

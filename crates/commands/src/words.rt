@@ -2,8 +2,7 @@
 
 ghost use Rattle.std.specs.Prelude.{◌≡◌, IfOk, false};
 ghost use Rattle.clap.specs.Words.{app_of, rule_of};
-ghost use Rattle.commands.specs.Words.{interface_rule, number_rule, option_rule, optional_rule, program_app, range_rule, run_app, with_router, with_turn, work_app};
-ghost use Rattle.commands.specs.inner.Words.{IsLocal};
+ghost use Rattle.commands.specs.Words.{IsLocal, interface_rule, number_rule, option_rule, optional_rule, program_app, range_rule, run_app, with_router, with_turn, work_app};
 
 use clap::builder::ValueParser;
 use clap::{Arg, ArgAction, Command};
