@@ -1,21 +1,21 @@
 -- Core segments that an index finds from either side to the other.
-use Rattle.std.proofs.Common.{◌≡◌, ℕ, ◌^◌, ◌<◌, nat_eq, nat_le, Bool, true, false, ◌&&◌, ◌||◌, Option, Some, None, List, [], ◌∷◌, length, map, filter, All, refl, get_or, ap, sym, ◌∙◌}
+use Rattle.std.proofs.Common.{◌≡◌, ℕ, suc, ◌^◌, ◌<◌, ◌≤◌, nat_eq, nat_le, Bool, true, false, ◌&&◌, ◌||◌, Option, Some, None, List, [], ◌∷◌, ◌++◌, length, map, filter, All, refl, get_or, cond, ap, sym, ◌∙◌, inl, inr, arith}
 use Rattle.std.specs.Prelude.{slice_get}
 use Rattle.std.specs.Option.{option_map_or}
 use Rattle.std.specs.List.{list_any, flat_map, range_with_len}
 use Rattle.std.specs.List.Sorted.{IsStrictlyIncreasing}
-use Rattle.std.proofs.lemmas.Bool.{and_parts, and_from, eqb-true, eq-eqb}
+use Rattle.std.proofs.lemmas.Bool.{and_parts, and_from, cases_Bool, eqb-true, eq-eqb, leb-true, le-leb, true≢false}
 use Rattle.std.proofs.lemmas.List.Folds.{list_any-append}
 use Rattle.path_segment.specs.declared.kind.SegKind.{SegKind}
 use Rattle.path_segment.specs.declared.kind.SegKind.TheVariants.{Core}
 use Rattle.path_segment.specs.Chain.{Chain, first_as, last_as}
 use Rattle.path_segment.specs.Tests.{is_live, same_kind}
 use Rattle.path_segment.proofs.Decided.{same_kind-Decides}
-use Rattle.path_server.specs.Index.{IsIndex, HasAddresses, rank_between, rank}
-use Rattle.path_server.specs.inner.Index.{live_places, either_way, segments_at, passes_at, is_in}
+use Rattle.path_server.specs.Index.{IsIndex, HasAddresses, rank_between, rank, rank_at}
+use Rattle.path_server.specs.inner.Index.{core_places, lies_between, segments_at, passes_at, is_in}
 use Rattle.path_server.specs.Lookup.{joins, is_reached}
 use Rattle.path_server.proofs.Lying.{lies_exactly, addresses_at}
-use Rattle.path_server.proofs.Orders.{same_test, same_decided, any_none, any_on, any_same, any_or, any_and, any_flat_map}
+use Rattle.path_server.proofs.Orders.{same_test, same_decided, any_none, any_on, any_same, any_and, any_flat_map}
 use Rattle.path_server.proofs.Places.{found_is_kept, is_in-live}
 
 -- ---- one pair of ASes
@@ -57,10 +57,21 @@ joining_one segments all one other c d now there (Some s) addresses =
     ∙ in_order (is_live now s) (same_kind s.kind Core) (nat_eq (first_as s) one && nat_eq (last_as s) other) there
 
 -- the live core places from one AS to another
-leading : (segments : List Chain) (index : List ℕ) → IsIndex segments index → (one other : ℕ) → one < 2 ^ 64 → other < 2 ^ 64 → (now i : ℕ) → is_in (live_places segments index now (rank_between Core one other) (rank_between Core one other)) i ≡ (is_core_at segments now i && leads_at segments i one other)
-leading segments index is one other c d now i =
+leading : (segments : List Chain) (index : List ℕ) → IsIndex segments index → (first last : ℕ) → first < 2 ^ 64 → last < 2 ^ 64 → (now i : ℕ) → is_in (core_places segments index now last first) i ≡ (is_core_at segments now i && leads_at segments i first last)
+leading segments index is first last c d now i =
     is_in-live segments index is.each now _ _ i
-    ∙ joining_one segments is.addresses one other c d now (is_in (range_with_len 0 (length segments)) i) (slice_get segments i) (addresses_at segments is.addresses i)
+    ∙ joining_one segments is.addresses first last c d now (is_in (range_with_len 0 (length segments)) i) (slice_get segments i) (addresses_at segments is.addresses i)
+
+-- the live core places from some ASes to others
+all_leading : (segments : List Chain) (index firsts lasts : List ℕ) → IsIndex segments index → All (λ ia. ia < 2 ^ 64) firsts → All (λ ia. ia < 2 ^ 64) lasts → (now i : ℕ)
+    → is_in (flat_map (λ last. flat_map (core_places segments index now last) firsts) lasts) i
+    ≡ list_any (λ last. list_any (λ first. is_core_at segments now i && leads_at segments i first last) firsts) lasts
+all_leading segments index firsts lasts is small smalls now i =
+    any_flat_map (nat_eq i) (λ last. flat_map (core_places segments index now last) firsts) lasts
+    ∙ any_on _ (λ last. list_any (λ first. is_core_at segments now i && leads_at segments i first last) firsts) lasts (λ k d within.
+    any_flat_map (nat_eq i) (core_places segments index now (get_or lasts k d)) firsts
+    ∙ any_on _ (λ first. is_core_at segments now i && leads_at segments i first (get_or lasts k d)) firsts (λ j e inside.
+    leading segments index is (get_or firsts j e) (get_or lasts k d) (small j e inside) (smalls k d within) now i))
 
 -- ---- both sides
 
@@ -75,57 +86,92 @@ turned false a b = refl
 either_same : {a b c d : Bool} → a ≡ b → c ≡ d → (a || c) ≡ (b || d)
 either_same {b = b} {c = c} one other = ap (λ x. x || c) one ∙ ap (λ y. b || y) other
 
-both_ways : (c a b d e : Bool) → (((c && b) && a) || ((c && e) && d)) ≡ (c && ((a && b) || (d && e)))
-both_ways true a b d e = either_same (and_swap b a) (and_swap e d)
+both_ways : (c a b d e : Bool) → ((c && (a && b)) || (c && (d && e))) ≡ (c && ((a && b) || (e && d)))
+both_ways true a b d e = ap (λ x. (a && b) || x) (and_swap d e)
 both_ways false a b d e = refl
 
--- a sum over pairs of ASes, one of each side, either way round
-pair_sum : (c : Bool) (f l : ℕ) (near far : List ℕ) → list_any (λ one. list_any (λ other. (c && (nat_eq f one && nat_eq l other)) || (c && (nat_eq f other && nat_eq l one))) far) near
-    ≡ (c && ((is_in near f && is_in far l) || (is_in near l && is_in far f)))
-pair_sum c f l near far =
-    any_same _ (λ one. ((c && nat_eq f one) && is_in far l) || ((c && nat_eq l one) && is_in far f)) (λ one.
-    any_or (λ other. c && (nat_eq f one && nat_eq l other)) (λ other. c && (nat_eq f other && nat_eq l one)) far
-    ∙ either_same
-    (any_same _ (λ other. (c && nat_eq f one) && nat_eq l other) (λ other. regroup c (nat_eq f one) (nat_eq l other)) far ∙ any_and (c && nat_eq f one) (nat_eq l) far)
-    (any_same _ (λ other. (c && nat_eq l one) && nat_eq f other) (λ other. regroup c (nat_eq f other) (nat_eq l one) ∙ turned c (nat_eq f other) (nat_eq l one)) far ∙ any_and (c && nat_eq l one) (nat_eq f) far)) near
-    ∙ any_or (λ one. (c && nat_eq f one) && is_in far l) (λ one. (c && nat_eq l one) && is_in far f) near
-    ∙ either_same
-    (any_same _ (λ one. (c && is_in far l) && nat_eq f one) (λ one. turned c (nat_eq f one) (is_in far l)) near ∙ any_and (c && is_in far l) (nat_eq f) near)
-    (any_same _ (λ one. (c && is_in far f) && nat_eq l one) (λ one. turned c (nat_eq l one) (is_in far f)) near ∙ any_and (c && is_in far f) (nat_eq l) near)
-    ∙ both_ways c (is_in near f) (is_in far l) (is_in near l) (is_in far f)
+-- a sum over pairs of ASes, one of each list
+pair_sum : (c : Bool) (f l : ℕ) (firsts lasts : List ℕ) → list_any (λ last. list_any (λ first. c && (nat_eq f first && nat_eq l last)) firsts) lasts
+    ≡ (c && (is_in firsts f && is_in lasts l))
+pair_sum c f l firsts lasts =
+    any_same _ (λ last. (c && is_in firsts f) && nat_eq l last) (λ last.
+    any_same _ (λ first. (c && nat_eq l last) && nat_eq f first) (λ first. regroup c (nat_eq f first) (nat_eq l last) ∙ turned c (nat_eq f first) (nat_eq l last)) firsts
+    ∙ any_and (c && nat_eq l last) (nat_eq f) firsts ∙ turned c (nat_eq l last) (is_in firsts f)) lasts
+    ∙ any_and (c && is_in firsts f) (nat_eq l) lasts ∙ sym (regroup c (is_in firsts f) (is_in lasts l))
 
 final_order : (kind live there ends : Bool) → (((kind && live) && there) && ends) ≡ ((kind && (live && ends)) && there)
 final_order true true there ends = and_swap there ends
 final_order true false there ends = refl
 final_order false live there ends = refl
 
-none_either : (near far : List ℕ) → list_any (λ one. list_any (λ (other : ℕ). false) far) near ≡ false
-none_either near far = any_same _ (λ one. false) (λ one. any_none far) near ∙ any_none near
+none_of_pairs : (firsts lasts : List ℕ) → list_any (λ (last : ℕ). list_any (λ (first : ℕ). false) firsts) lasts ≡ false
+none_of_pairs firsts lasts = any_same _ (λ last. false) (λ last. any_none firsts) lasts ∙ any_none lasts
 
-sides_one : (near far : List ℕ) (now : ℕ) (there : Bool) (o : Option Chain) →
-    list_any (λ one. list_any (λ other. ((option_map_or (λ s. same_kind s.kind Core && is_live now s) o false && there) && option_map_or (λ s. nat_eq (first_as s) one && nat_eq (last_as s) other) o false)
-    || ((option_map_or (λ s. same_kind s.kind Core && is_live now s) o false && there) && option_map_or (λ s. nat_eq (first_as s) other && nat_eq (last_as s) one) o false)) far) near
-    ≡ (option_map_or (joins (is_in near) (is_in far) now) o false && there)
+-- the segment at a place leads from one of these ASes to one of those
+abbrev is_led : List ℕ → List ℕ → ℕ → Bool → Option Chain → Bool
+is_led firsts lasts now there o =
+    list_any (λ last. list_any (λ first. (option_map_or (λ s. same_kind s.kind Core && is_live now s) o false && there) && option_map_or (λ s. nat_eq (first_as s) first && nat_eq (last_as s) last) o false) firsts) lasts
+
+sides_one : (near far : List ℕ) (now : ℕ) (there : Bool) (o : Option Chain)
+    → (is_led near far now there o || is_led far near now there o) ≡ (option_map_or (joins (is_in near) (is_in far) now) o false && there)
 unfolding joins
-sides_one near far now there None = none_either near far
+sides_one near far now there None = either_same (none_of_pairs near far) (none_of_pairs far near)
 sides_one near far now there (Some s) =
-    pair_sum ((same_kind s.kind Core && is_live now s) && there) (first_as s) (last_as s) near far
+    let c = (same_kind s.kind Core && is_live now s) && there in
+    either_same (pair_sum c (first_as s) (last_as s) near far) (pair_sum c (first_as s) (last_as s) far near)
+    ∙ both_ways c (is_in near (first_as s)) (is_in far (last_as s)) (is_in far (first_as s)) (is_in near (last_as s))
     ∙ final_order (same_kind s.kind Core) (is_live now s) there ((is_in near (first_as s) && is_in far (last_as s)) || (is_in near (last_as s) && is_in far (first_as s)))
 
 -- the live core segments between two sides, found by the index
 pub joining_is_kept : (segments : List Chain) (index places near far : List ℕ) → IsIndex segments index → All (λ ia. ia < 2 ^ 64) near → All (λ ia. ia < 2 ^ 64) far → (now : ℕ) → IsStrictlyIncreasing places
-    → ((i : ℕ) → is_in places i ≡ is_in (flat_map (λ one. flat_map (either_way segments index now one) far) near) i) → segments_at segments places ≡ filter (joins (is_in near) (is_in far) now) segments
+    → ((i : ℕ) → is_in places i ≡ is_in (flat_map (λ last. flat_map (core_places segments index now last) near) far ++ flat_map (λ last. flat_map (core_places segments index now last) far) near) i)
+    → segments_at segments places ≡ filter (joins (is_in near) (is_in far) now) segments
 joining_is_kept segments index places near far is nears fars now rises just =
     found_is_kept (joins (is_in near) (is_in far) now) segments places rises (λ i. just i
-    ∙ any_flat_map (nat_eq i) (λ one. flat_map (either_way segments index now one) far) near
-    ∙ any_on _ (λ one. list_any (λ other. (is_core_at segments now i && leads_at segments i one other) || (is_core_at segments now i && leads_at segments i other one)) far) near (λ k d within. (
-    let one = get_or near k d in
-    any_flat_map (nat_eq i) (either_way segments index now one) far
-    ∙ any_on _ (λ other. (is_core_at segments now i && leads_at segments i one other) || (is_core_at segments now i && leads_at segments i other one)) far (λ j e inside. (
-    let other = get_or far j e in
-    list_any-append (nat_eq i) (live_places segments index now (rank_between Core one other) (rank_between Core one other)) _
-    ∙ either_same (leading segments index is one other (nears k d within) (fars j e inside) now i) (leading segments index is other one (fars j e inside) (nears k d within) now i)))))
+    ∙ list_any-append (nat_eq i) (flat_map (λ last. flat_map (core_places segments index now last) near) far) _
+    ∙ either_same (all_leading segments index near far is nears fars now i) (all_leading segments index far near is fars nears now i)
     ∙ sides_one near far now (is_in (range_with_len 0 (length segments)) i) (slice_get segments i))
+
+-- ---- the core segments that end in one AS
+
+-- what a test keeps of a list is what it keeps of the part that a weaker one keeps
+kept_again : (p q : ℕ → Bool) → ((i : ℕ) → p i ≡ true → q i ≡ true) → (xs : List ℕ) → filter p (filter q xs) ≡ filter p xs
+kept_again p q weaker [] = refl
+kept_again p q weaker (x ∷ xs) = elim (cases_Bool (q x)) [
+  | inl passes ↦ rw passes (ap (λ rest. cond (p x) (x ∷ rest) rest) (kept_again p q weaker xs))
+  | inr fails ↦ elim (cases_Bool (p x)) [
+    | inl both ↦ absurd (true≢false (sym (weaker x both) ∙ fails))
+    | inr none ↦ rw (fails, none) (kept_again p q weaker xs)
+  ]
+]
+
+within_last : (first last : ℕ) → first < 2 ^ 64 → (rank_between Core 0 last ≤ rank_between Core first last) × (rank_between Core first last ≤ rank_between Core 18446744073709551615 last)
+unfolding rank_between
+within_last first last a = (omega arith, omega arith)
+
+-- the places of core segments between two ASes, found among those that end in the second
+ending_first : (segments : List Chain) (index : List ℕ) (now last first : ℕ) → first < 2 ^ 64
+    → core_places segments (filter (lies_between segments (rank_between Core 0 last) (rank_between Core 18446744073709551615 last)) index) now last first ≡ core_places segments index now last first
+ending_first segments index now last first small =
+    let ends = rank_between Core first last in
+    let within = within_last first last small in
+    ap (filter (passes_at (is_live now) segments)) (kept_again (lies_between segments ends ends) (lies_between segments (rank_between Core 0 last) (rank_between Core 18446744073709551615 last)) (λ i e.
+    let parts = and_parts (nat_le ends (rank_at segments i)) (nat_le (rank_at segments i) ends) e in
+    let low = leb-true ends (rank_at segments i) parts.0 in
+    let high = leb-true (rank_at segments i) ends parts.1 in
+    let least = rank_between Core 0 last in
+    let most = rank_between Core 18446744073709551615 last in
+    and_from (nat_le least (rank_at segments i)) (nat_le (rank_at segments i) most) (le-leb least (rank_at segments i) (omega (arith, low, within.0))) (le-leb (rank_at segments i) most (omega (arith, high, within.1)))) index)
+
+flat_map_on : (f g : ℕ → List ℕ) (xs : List ℕ) → All (λ x. f x ≡ g x) xs → flat_map f xs ≡ flat_map g xs
+flat_map_on f g [] same = refl
+flat_map_on f g (x ∷ xs) same = rw (same 0 x (omega arith), flat_map_on f g xs (λ k d within. same (suc k) d (omega arith))) refl
+
+-- and those from each of some ASes
+pub all_ending_first : (segments : List Chain) (index : List ℕ) (now last : ℕ) (firsts : List ℕ) → All (λ ia. ia < 2 ^ 64) firsts
+    → flat_map (core_places segments (filter (lies_between segments (rank_between Core 0 last) (rank_between Core 18446744073709551615 last)) index) now last) firsts ≡ flat_map (core_places segments index now last) firsts
+all_ending_first segments index now last firsts small =
+    flat_map_on _ _ firsts (λ k d within. ending_first segments index now last (get_or firsts k d) (small k d within))
 
 -- ---- the ASes of a side
 

@@ -1,7 +1,8 @@
 -- Tests over lists, and lists of numbers that rise.
-use Rattle.std.proofs.Common.{◌≡◌, ℕ, suc, ◌<◌, ◌≤◌, nat_eq, nat_lt, Bool, true, false, ◌&&◌, ◌||◌, cond, List, [], ◌∷◌, length, filter, AllPairs, All, Decides, refl, ap, sym, ◌∙◌, inl, inr, arith}
-use Rattle.std.specs.List.{list_any, flat_map, dedup, dedup_from, range_with_len}
-use Rattle.std.proofs.lemmas.Bool.{cases_Bool, cases_order, cases_eq, eqb-true, eq-eqb, lt-ltb, ne_eqb, true≢false}
+use Rattle.std.proofs.Common.{◌≡◌, ℕ, suc, ◌<◌, ◌≤◌, nat_eq, nat_lt, ltb, Bool, true, false, ◌&&◌, ◌||◌, cond, List, [], ◌∷◌, length, filter, AllPairs, All, Decides, refl, ap, sym, ◌∙◌, inl, inr, arith}
+use Rattle.std.specs.List.{IsAllAdjacentAnswer, list_any, flat_map, dedup, dedup_from, range_with_len}
+use Rattle.std.specs.List.Sorted.{IsStrictlyIncreasing}
+use Rattle.std.proofs.lemmas.Bool.{cases_Bool, cases_order, cases_eq, eqb-true, eq-eqb, lt-ltb, ltb-true, ne_eqb, true≢false}
 use Rattle.std.proofs.lemmas.List.FromFn.{get_or-range_with_len, length-range_with_len}
 use Rattle.std.proofs.lemmas.List.Folds.{list_any_none, list_any-append}
 use Rattle.std.proofs.lemmas.Map.Views.{any-filter_same}
@@ -26,16 +27,6 @@ any_same p q same (x ∷ xs) = rw (same x, any_same p q same xs) refl
 pub any_on : {X : Type 0} (p q : X → Bool) (xs : List X) → All (λ x. p x ≡ q x) xs → list_any p xs ≡ list_any q xs
 any_on p q [] same = refl
 any_on p q (x ∷ xs) same = rw (same 0 x (omega arith), any_on p q xs (λ k d within. same (suc k) d (omega arith))) refl
-
-or_four : (a b c d : Bool) → ((a || b) || (c || d)) ≡ ((a || c) || (b || d))
-or_four true b c d = refl
-or_four false true true d = refl
-or_four false true false d = refl
-or_four false false c d = refl
-
-pub any_or : {X : Type 0} (p q : X → Bool) (xs : List X) → list_any (λ x. p x || q x) xs ≡ (list_any p xs || list_any q xs)
-any_or p q [] = refl
-any_or p q (x ∷ xs) = ap (λ rest. (p x || q x) || rest) (any_or p q xs) ∙ or_four (p x) (q x) (list_any p xs) (list_any q xs)
 
 pub any_none : {X : Type 0} (xs : List X) → list_any (λ x. false) xs ≡ false
 any_none [] = refl
@@ -71,6 +62,11 @@ filter_on p q (x ∷ xs) same =
     rw (same 0 x (omega arith)) (ap (λ rest. cond (q x) (x ∷ rest) rest) (filter_on p q xs (λ k d within. same (suc k) d (omega arith))))
 
 -- ---- numbers
+
+-- numbers rise if each was found below the next
+pub rises_where_checked : (xs : List ℕ) (b : Bool) → IsAllAdjacentAnswer (λ x y b. b ≡ ltb x y) xs b → b ≡ true → IsStrictlyIncreasing xs
+rises_where_checked xs true below is k within = ltb-true _ _ (sym (below k 0 within))
+rises_where_checked xs false below is k within = absurd (true≢false (sym is))
 
 -- a number is in what a filter keeps where it passes and is in the list
 pub is_in-filter : (p : ℕ → Bool) (xs : List ℕ) (i : ℕ) → is_in (filter p xs) i ≡ (p i && is_in xs i)

@@ -3,7 +3,7 @@
 ghost use Rattle.std.specs.Prelude.{◌≡◌, ◌≤◌, ◌<◌, ℕ, length, filter, vec_len};
 ghost use Rattle.std.specs.List.{AllWithin, range_with_len};
 ghost use Rattle.std.specs.List.Sorted.{IsNonDecreasingBy};
-ghost use Rattle.path_server.specs.Index.{HasEachPlace, IsIndex, rank_at, order_at};
+ghost use Rattle.path_server.specs.Index.{HasEachPlace, rank_at, order_at};
 ghost use Rattle.path_server.specs.inner.Index.{ends_number, lies_between};
 
 use crate::ends::{Ends, in_order, is_above, is_below};
@@ -16,9 +16,10 @@ pub(crate) fn range<'a>(
     low: Ends,
     high: Ends,
 ) -> &'a [usize]
-    requires { IsIndex segments.now index.now }
-    ensures { result.now
+    requires { IsNonDecreasingBy (order_at segments.now) index.now }
+    ensures part { result.now
         ≡ filter (lies_between segments.now (ends_number low) (ends_number high)) index.now }
+    ensures ordered { IsNonDecreasingBy (order_at segments.now) result.now }
 {
     let (_, rest) = index.split_at(start_of(segments, index, low));
     &rest[..end_near(segments, rest, high)]
@@ -26,7 +27,7 @@ pub(crate) fn range<'a>(
 
 /// The number of places whose segments have ends below these.
 fn start_of(segments: &[Segment], index: &[usize], ends: Ends) -> usize
-    requires { IsIndex segments.now index.now }
+    requires { IsNonDecreasingBy (order_at segments.now) index.now }
     ensures within { result ≤ length index.now }
     ensures below { AllWithin (λ place. rank_at segments.now place < ends_number ends)
         index.now 0 result }

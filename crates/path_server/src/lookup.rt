@@ -2,10 +2,10 @@
 
 ghost use Rattle.std.specs.Prelude.{◌≡◌, ◌++◌, ℕ, filter, IfOk, OnOk};
 ghost use Rattle.std.specs.List.{flat_map};
-ghost use Rattle.std.specs.List.Sorted.{IsStrictlyIncreasing};
+ghost use Rattle.std.specs.List.Sorted.{IsNonDecreasingBy, IsStrictlyIncreasing};
 ghost use Rattle.path_segment.specs.Tests.{is_live};
-ghost use Rattle.path_server.specs.Index.{IsIndex};
-ghost use Rattle.path_server.specs.inner.Index.{segments_at, passes_at, either_way, is_in};
+ghost use Rattle.path_server.specs.Index.{IsIndex, order_at};
+ghost use Rattle.path_server.specs.inner.Index.{segments_at, passes_at, core_places, is_in};
 ghost use Rattle.path_server.specs.Lookup.{is_intra_to, is_reached, joins};
 
 use crate::ends::Ends;
@@ -60,7 +60,7 @@ pub(crate) fn ending_in(
     let low = Ends::new(SegKind::Intra, 0, last);
     let high = Ends::new(SegKind::Intra, u64::MAX, last);
     let same_ends = range(segments, index, low, high);
-    let mut places = Vec::with_capacity(alloc, same_ends.len())?;
+    let mut places = Vec::new(alloc);
     add_live(&mut places, segments, same_ends, now)?;
     put_in_order(&mut places);
     clone_segments_at(alloc, segments, &places)
@@ -75,10 +75,13 @@ pub(crate) fn ases_reached(
     ensures { IfOk result (λ ases. (other : ℕ) → is_in ases.items other
         ≡ is_reached ia segments.now other) }
 {
-    let mut ases = Vec::with_capacity(alloc, segments.len() + 1)?;
+    let mut ases = Vec::new(alloc);
     ases.push(ia.number())?;
     for segment in segments {
-        ases.push(segment.first_as().number())?;
+        let first = segment.first_as().number();
+        if ases.last() != Some(&first) {
+            ases.push(first)?;
+        }
     }
     ases.sort_unstable();
     ases.dedup();
@@ -100,31 +103,53 @@ pub(crate) fn core_segments_between(
         filter (joins (is_in near.now) (is_in far.now) now) segments.now) }
 {
     let mut places = Vec::new(alloc);
-    for one in near {
-        add_joining(&mut places, segments, index, *one, far, now)?;
-    }
+    add_between(&mut places, segments, index, near, far, now)?;
+    add_between(&mut places, segments, index, far, near, now)?;
     put_in_order(&mut places);
     clone_segments_at(alloc, segments, &places)
 }
 
-/// Adds the places of the live core segments between an AS and others, in either direction.
-fn add_joining(
+/// Adds the places of the live core segments that begin in one of the first ASes and end in one of
+/// the last.
+fn add_between(
     places: &mut Vec<usize>,
     segments: &[Segment],
     index: &[usize],
-    one: u64,
-    others: &[u64],
+    firsts: &[u64],
+    lasts: &[u64],
     now: u32,
 ) -> Result<(), AllocError>
-    requires { IsIndex segments.now index.now }
-    ensures { OnOk result (places.new.items ≡
-        places.old.items ++ flat_map (either_way segments.now index.now now one) others.now) }
+    requires { IsNonDecreasingBy (order_at segments.now) index.now }
+    ensures { OnOk result (places.new.items ≡ places.old.items
+        ++ flat_map (λ last. flat_map (core_places segments.now index.now now last) firsts.now)
+        lasts.now) }
 {
-    for other in others {
-        let there = Ends::new(SegKind::Core, one, *other);
-        add_live(places, segments, range(segments, index, there, there), now)?;
-        let back = Ends::new(SegKind::Core, *other, one);
-        add_live(places, segments, range(segments, index, back, back), now)?;
+    for last in lasts {
+        let low = Ends::new(SegKind::Core, 0, *last);
+        let high = Ends::new(SegKind::Core, u64::MAX, *last);
+        let same_end = range(segments, index, low, high);
+        add_from(places, segments, same_end, firsts, *last, now)?;
+    }
+    Ok(())
+}
+
+/// Adds those of these places whose segments are live core segments that begin in one of the first
+/// ASes and end in the last.
+fn add_from(
+    places: &mut Vec<usize>,
+    segments: &[Segment],
+    some: &[usize],
+    firsts: &[u64],
+    last: u64,
+    now: u32,
+) -> Result<(), AllocError>
+    requires { IsNonDecreasingBy (order_at segments.now) some.now }
+    ensures { OnOk result (places.new.items
+        ≡ places.old.items ++ flat_map (core_places segments.now some.now now last) firsts.now) }
+{
+    for first in firsts {
+        let ends = Ends::new(SegKind::Core, *first, last);
+        add_live(places, segments, range(segments, some, ends, ends), now)?;
     }
     Ok(())
 }
@@ -139,6 +164,7 @@ fn add_live(
     ensures { OnOk result (places.new.items ≡
         places.old.items ++ filter (passes_at (is_live now) segments.now) some.now) }
 {
+    places.try_reserve(some.len())?;
     for place in some {
         if is_live_at(segments, *place, now) {
             places.push(*place)?;
@@ -157,11 +183,14 @@ fn is_live_at(segments: &[Segment], place: usize, now: u32) -> bool
     }
 }
 
-/// Puts places into the order of registration, without duplicates.
+/// Puts places into the order of registration, without duplicates. Those of segments with the same
+/// ends are in that order already.
 fn put_in_order(places: &mut Vec<usize>)
     ensures rises { IsStrictlyIncreasing places.new.items }
     ensures same { (place : ℕ) → is_in places.new.items place ≡ is_in places.old.items place }
 {
-    places.sort_unstable();
-    places.dedup();
+    if !places.is_sorted_by(|place, next| place < next) {
+        places.sort_unstable();
+        places.dedup();
+    }
 }

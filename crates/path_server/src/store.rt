@@ -181,8 +181,9 @@ impl PathStore {
     /// The side of `src` is `src` itself and the ASes in which its segments begin; likewise for
     /// `dst`.
     ///
-    /// It searches the index once for each side, and twice for each pair of ASes of both sides.
-    /// Apart from that its time and memory grow with the number of segments that have these ends.
+    /// It searches the index once for each side and once for each AS of both sides, and the core
+    /// segments that end in an AS of one side once for each AS of the other. Apart from that its
+    /// time and memory grow with the number of segments that have these ends.
     #[tactic(auto, unfolding(crate::specs::Lookup::segments_for))]
     pub fn segments_for(
         &self,

@@ -1,4 +1,4 @@
-ghost use Rattle.std.specs.Prelude.{◌≡◌, ◌<◌, ◌≤◌, length, IfOk, IfErr, IsOk, OnOk};
+ghost use Rattle.std.specs.Prelude.{◌≡◌, ◌<◌, ◌≤◌, [], length, IfOk, IfErr, IsOk, OnOk};
 ghost use Rattle.std.specs.List.{AllByRecursion};
 ghost use Rattle.path_header.specs.Value.{HeaderValue};
 ghost use Rattle.policy_expr.specs.Policy.{AllowsHops, HasWord, Rules};
@@ -55,7 +55,13 @@ pub fn verify<'s, 'p, A: Allocator + Clone>(
     ensures exact { IfErr result
         (IsRefused (request_of pieces.now header.now src dst now policy.entry.now)) }
 {
-    let (walk, own) = walk_and_header(pieces, header, src, dst, now, policy)?;
+    let mut walk = Walk::new();
+    follow_pieces(&mut walk, &pieces.held, src, dst, now)?;
+    let own = header_of(&pieces.held);
+    if !own.is_same(header) {
+        return Err(VerifyFault::HeaderDiffers);
+    }
+    check_policy(walk.as_slice(), policy)?;
     Ok(VerifiedPath {
         pieces: pieces.again(),
         header: own,
@@ -90,7 +96,10 @@ pub fn accept<'s, 'p, A: Allocator + Clone>(
     ensures exact { IfErr result (IsRefused
         (request_of pieces.now (header_of pieces.now) src dst now policy.entry.now)) }
 {
-    let (walk, header) = made(pieces, src, dst, now, policy)?;
+    let mut walk = Walk::new();
+    follow_pieces(&mut walk, &pieces.held, src, dst, now)?;
+    let header = header_of(&pieces.held);
+    check_policy(walk.as_slice(), policy)?;
     Ok(VerifiedPath {
         pieces: pieces.again(),
         header,
@@ -102,66 +111,17 @@ pub fn accept<'s, 'p, A: Allocator + Clone>(
     })
 }
 
-/// The walk and the header of these pieces, or the fault of the first rule that the path breaks.
-fn made<A: Allocator + Clone>(
-    pieces: &Pieces<'_>,
-    src: IsdAs,
-    dst: IsdAs,
-    now: u32,
-    policy: &Policy<A>,
-) -> Result<(Walk, Header), VerifyFault>
-    ensures walk { IfOk result (λ own. own.0 ≡ walk_of pieces.now) }
-    ensures header { IfOk result (λ own. own.1 ≡ header_of pieces.now) }
-    ensures found { OnOk result (IsAccepted
-        (request_of pieces.now (header_of pieces.now) src dst now policy.now)) }
-    ensures only { IsAccepted
-        (request_of pieces.now (header_of pieces.now) src dst now policy.now)
-        → IsOk result }
-    ensures exact { IfErr result (IsRefused
-        (request_of pieces.now (header_of pieces.now) src dst now policy.now)) }
-{
-    let walk = checked_walk(&pieces.held, src, dst, now)?;
-    let header = header_of(&pieces.held);
-    check_policy(walk.as_slice(), policy)?;
-    Ok((walk, header))
-}
-
-/// The walk of these pieces with this header, which is theirs, or the fault of the first rule that
-/// the path breaks.
-fn walk_and_header<A: Allocator + Clone>(
-    pieces: &Pieces<'_>,
-    header: &Header,
-    src: IsdAs,
-    dst: IsdAs,
-    now: u32,
-    policy: &Policy<A>,
-) -> Result<(Walk, Header), VerifyFault>
-    ensures walk { IfOk result (λ own. own.0 ≡ walk_of pieces.now) }
-    ensures header { IfOk result (λ own. own.1 ≡ header.now) }
-    ensures found { OnOk result
-        (IsAccepted (request_of pieces.now header.now src dst now policy.now)) }
-    ensures only { IsAccepted (request_of pieces.now header.now src dst now policy.now)
-        → IsOk result }
-    ensures exact { IfErr result
-        (IsRefused (request_of pieces.now header.now src dst now policy.now)) }
-{
-    let walk = checked_walk(&pieces.held, src, dst, now)?;
-    let own = header_of(&pieces.held);
-    if !own.is_same(header) {
-        return Err(VerifyFault::HeaderDiffers);
-    }
-    check_policy(walk.as_slice(), policy)?;
-    Ok((walk, own))
-}
-
-/// The walk of the pieces if they are a path, or the fault of the first rule that they break.
-fn checked_walk(
+/// Makes a walk of no hops the walk of the pieces if they are a path; else returns the fault of the
+/// first rule that they break. The walk is filled where it lies, since it is large.
+fn follow_pieces(
+    walk: &mut Walk,
     held: &PieceSlots<'_>,
     src: IsdAs,
     dst: IsdAs,
     now: u32,
-) -> Result<Walk, VerifyFault>
-    ensures walk { IfOk result (λ walk. walk ≡ walk_of (pieces_in held.now)) }
+) -> Result<(), VerifyFault>
+    requires { walk.old ≡ [] }
+    ensures walk { OnOk result (walk.new ≡ walk_of (pieces_in held.now)) }
     ensures path { OnOk result (MakesPath (pieces_in held.now) src dst now) }
     ensures fault { IfErr result (λ fault. (header : HeaderValue) (rules : Rules)
         → IsRefused (request_of (pieces_in held.now) header src dst now rules) fault) }
@@ -170,14 +130,14 @@ fn checked_walk(
     ensures few { OnOk result (total_hops (pieces_in held.now) ≤ 64) }
 {
     check_shape(held, src, dst)?;
-    let walk = Walk::of(held);
+    walk.follow(held);
     if !names_once(walk.as_slice()) {
         return Err(VerifyFault::Loop);
     }
     if !are_live(held, now) {
         return Err(VerifyFault::Expired);
     }
-    Ok(walk)
+    Ok(())
 }
 
 /// Whether a policy allows a walk, or why not.

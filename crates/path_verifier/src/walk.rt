@@ -38,7 +38,7 @@ impl Model for Walk {
 
 impl Walk {
     /// A walk of no hops.
-    fn new() -> Walk
+    pub(crate) fn new() -> Walk
         ensures { result ≡ [] }
     {
         let nowhere = WalkHop {
@@ -164,30 +164,29 @@ impl Walk {
         self.push_later(piece);
     }
 
-    /// The walk of these pieces.
+    /// Makes a walk of no hops the walk of these pieces.
     #[tactic(auto, unfolding(crate::specs::Walk::walk_of))]
-    pub(crate) fn of(held: &PieceSlots<'_>) -> Walk
+    pub(crate) fn follow(&mut self, held: &PieceSlots<'_>)
+        requires empty { self.old ≡ [] }
         requires ranges { AllByRecursion HasRange (pieces_in held.now) }
         requires few { total_hops (pieces_in held.now) ≤ 64 }
-        ensures { result ≡ walk_of (pieces_in held.now) }
+        ensures { self.new ≡ walk_of (pieces_in held.now) }
     {
-        let mut walk = Walk::new();
         match held {
             PieceSlots::Zero => {}
-            PieceSlots::One(first) => walk.go_on(first),
+            PieceSlots::One(first) => self.go_on(first),
             PieceSlots::Two(first, second) => {
-                walk.go_on(first);
-                walk.go_on(second);
+                self.go_on(first);
+                self.go_on(second);
             }
             PieceSlots::Three(first, second, third) => {
-                walk.go_on(first);
-                walk.go_on(second);
-                walk.go_on(third);
+                self.go_on(first);
+                self.go_on(second);
+                self.go_on(third);
             }
         }
-        walk.enter_by(IfId::NONE);
-        walk.leave_by(IfId::NONE);
-        walk
+        self.enter_by(IfId::NONE);
+        self.leave_by(IfId::NONE);
     }
 }
 

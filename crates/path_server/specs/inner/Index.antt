@@ -1,5 +1,5 @@
 -- The index of a path store: the places of its segments in its list, ordered by the segments' ends.
-use Rattle.std.specs.Prelude.{ℕ, ◌+◌, ◌*◌, ◌^◌, ◌&&◌, Bool, ◌++◌, false, nat_le, nat_eq, List, filter, slice_get, filter_map}
+use Rattle.std.specs.Prelude.{ℕ, ◌+◌, ◌*◌, ◌^◌, ◌&&◌, Bool, false, nat_le, nat_eq, List, filter, slice_get, filter_map}
 use Rattle.std.specs.List.{list_any}
 use Rattle.std.specs.Option.{option_map_or}
 use Rattle.path_segment.specs.declared.kind.SegKind.TheVariants.{Core}
@@ -30,13 +30,10 @@ abbrev pub live_places : List Chain → List ℕ → ℕ → ℕ → ℕ → Lis
 live_places segments index now low high =
     filter (passes_at (is_live now) segments) (filter (lies_between segments low high) index)
 
--- the places of the live core segments from one AS to the other, and then of those in the other
--- direction
-abbrev pub either_way : List Chain → List ℕ → ℕ → ℕ → ℕ → List ℕ
-either_way segments index now one other =
-    let there = rank_between Core one other in
-    let back = rank_between Core other one in
-    live_places segments index now there there ++ live_places segments index now back back
+-- the places in an index of the live core segments that end in one AS and begin in another
+abbrev pub core_places : List Chain → List ℕ → ℕ → ℕ → ℕ → List ℕ
+core_places segments index now last first =
+    let ends = rank_between Core first last in live_places segments index now ends ends
 
 -- whether a number is in a list
 abbrev pub is_in : List ℕ → ℕ → Bool

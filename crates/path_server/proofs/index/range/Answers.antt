@@ -3,7 +3,7 @@ use Rattle.std.specs.List.{AllWithin}
 use Rattle.std.specs.List.Sorted.{IsNonDecreasingBy}
 use Rattle.std.proofs.lemmas.Bool.{and_from, and_left, and_right, le-leb, lt-leb}
 use Rattle.std.proofs.lemmas.List.{length-drop}
-use Rattle.std.proofs.lemmas.List.Sorted.{IsNonDecreasingBy-drop}
+use Rattle.std.proofs.lemmas.List.Sorted.{IsNonDecreasingBy-drop, IsNonDecreasingBy-take}
 use Rattle.path_server.specs.Index.{rank_at, order_at}
 use Rattle.path_server.specs.inner.Index.{ends_number, lies_between}
 use Rattle.path_server.proofs.Ranks.{part_is_kept, part_behind}
@@ -11,10 +11,10 @@ use Rattle.path_server.proofs.index.range.Goals as goal
 
 pub end_near-requires : goal.end_near-requires
 end_near-requires c =
-    subst (IsNonDecreasingBy (order_at c.args.segments.now)) (sym c.split_at.ensures.back) (IsNonDecreasingBy-drop (order_at c.args.segments.now) c.start_of.result c.args.index.now c.requires.ordered)
+    subst (IsNonDecreasingBy (order_at c.args.segments.now)) (sym c.split_at.ensures.back) (IsNonDecreasingBy-drop (order_at c.args.segments.now) c.start_of.result c.args.index.now c.requires)
 
-pub returns : goal.returns
-returns c =
+pub returns-clause-part : goal.returns-clause-part
+returns-clause-part c =
     let index = c.args.index.now in
     let from = c.start_of.result in
     let ranks = rank_at c.args.segments.now in
@@ -29,3 +29,9 @@ returns c =
     (λ k d low high. and_left _ _ (lt-leb _ _ (start.below k d low high)))
     (λ k d low high. and_from _ _ (le-leb _ _ (start.rest k d low (omega (arith, end.within, start.within)))) (le-leb _ _ (below k d (omega arith) high)))
     (λ k d low high. and_right _ _ (lt-leb _ _ (above k d low (omega (arith, start.within)))))
+
+pub returns-clause-ordered : goal.returns-clause-ordered
+returns-clause-ordered c =
+    let order = order_at c.args.segments.now in
+    let rest = IsNonDecreasingBy-drop order c.start_of.result c.args.index.now c.requires in
+    IsNonDecreasingBy-take order c.end_near.result _ (subst (IsNonDecreasingBy order) (sym c.split_at.ensures.back) rest)

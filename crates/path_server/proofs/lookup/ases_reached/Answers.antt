@@ -14,5 +14,6 @@ returns c = λ other. (
     ap (λ ases. is_in ases other) (dedup_is nat_eq _ _ c.dedup.ensures.filtered)
     ∙ any-dedup (nat_eq other) _
     ∙ sym (list_any-IsPermutation (nat_eq other) _ _ c.sort_unstable.ensures.permutation)
-    ∙ ap (λ ases. is_in ases other) (c.loop-segment.invariant ∙ ap (λ front. c.args.ia ∷ map first_as front) (take_all c.loop-segment.segment-index segments (omega (arith, c.loop-segment-test.false))))
+    ∙ c.loop-segment.invariant other
+    ∙ ap (λ front. is_in (c.args.ia ∷ map first_as front) other) (take_all c.loop-segment.segment-index segments (omega (arith, c.loop-segment-test.false)))
     ∙ reached_is c.args.ia segments other)

@@ -1,10 +1,9 @@
-use Rattle.std.proofs.Common.{◌^◌, ◌<◌, arith, sym, ap, subst, ◌∙◌}
+use Rattle.std.proofs.Common.{ℕ, List, ◌^◌, ◌<◌, ◌++◌, arith, sym, ap, subst, ◌∙◌}
 use Rattle.std.specs.List.{flat_map}
 use Rattle.std.specs.List.Sorted.{IsStrictlyIncreasing}
-use Rattle.std.proofs.lemmas.List.{take_all}
 use Rattle.std.proofs.lemmas.List.Elements.{All-from_get_or}
 use Rattle.std.proofs.lemmas.Result.{IfOk-weaker}
-use Rattle.path_server.specs.inner.Index.{is_in, either_way}
+use Rattle.path_server.specs.inner.Index.{core_places, is_in}
 use Rattle.path_server.proofs.Joining.{joining_is_kept}
 use Rattle.path_server.proofs.lookup.core_segments_between.Goals as goal
 
@@ -14,7 +13,9 @@ returns c =
     let index = c.args.index.now in
     let near = c.args.near.now in
     let far = c.args.far.now in
-    let added = c.loop-one.invariant ∙ ap (flat_map (λ one. flat_map (either_way segments index c.args.now one) far)) (take_all c.loop-one.one-index near (omega (arith, c.loop-one-test.false, c.loop-one.auto.one-index-end))) in
+    let places : List ℕ → List ℕ → List ℕ = λ firsts lasts. flat_map (λ last. flat_map (core_places segments index c.args.now last) firsts) lasts in
+    let first = c.in_ok-add_between.ensures ∙ ap (λ items. items ++ places near far) c.new-places.ensures.items in
+    let added = c.in_ok-add_between-2.ensures ∙ ap (λ items. items ++ places far near) first in
     let nears = All-from_get_or (λ ia. ia < 2 ^ 64) near 0 (λ i within. omega (arith, c.type_inv.near i)) in
     let fars = All-from_get_or (λ ia. ia < 2 ^ 64) far 0 (λ i within. omega (arith, c.type_inv.far i)) in
     let rises = subst IsStrictlyIncreasing (sym c.deref.ensures.value) c.put_in_order.ensures.rises in

@@ -14,11 +14,11 @@ returns c =
     let index = c.args.index.now in
     let low : ends_number c.new-low.result ≡ rank_between Intra 0 c.args.ia = c.new-low.ensures ∙ ap (rank_between Intra 0) c.number-last.ensures.value in
     let high : ends_number c.new-high.result ≡ rank_between Intra 18446744073709551615 c.args.ia = c.new-high.ensures ∙ ap (rank_between Intra 18446744073709551615) c.number-last.ensures.value in
-    let part = c.range-same_ends.ensures
+    let part = c.range-same_ends.ensures.part
     ∙ ap (λ n. filter (lies_between segments n (ends_number c.new-high.result)) index) low
     ∙ ap (λ n. filter (lies_between segments (rank_between Intra 0 c.args.ia) n) index) high in
     let live = c.in_ok-add_live.ensures
-    ∙ ap (λ old. old ++ filter (passes_at (is_live c.args.now) segments) c.range-same_ends.result.now) c.in_ok-places.ensures.items
+    ∙ ap (λ old. old ++ filter (passes_at (is_live c.args.now) segments) c.range-same_ends.result.now) c.new-places.ensures.items
     ∙ ap (filter (passes_at (is_live c.args.now) segments)) part in
     let rises = subst IsStrictlyIncreasing (sym c.deref.ensures.value) c.put_in_order.ensures.rises in
     IfOk-weaker c.clone_segments_at.result _ _ (λ found is. is ∙ ending_is_kept segments index c.deref.result.now c.requires c.args.ia c.args.now (omega (arith, c.number-last.ensures)) rises
