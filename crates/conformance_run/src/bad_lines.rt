@@ -65,8 +65,8 @@ fn no_objects_of_the_table(rt: HostRuntime) -> Result<(), Fail> {
     )
 }
 
-/// A line is read as `serde_json` reads it: of two members of one name the last counts, a number may
-/// not be too large for a float, and lists and objects may nest 127 deep.
+/// A line is read as `serde_json` reads it: of two members of one name the last counts, a number
+/// may not be too large for a float, and lists and objects may nest 127 deep.
 #[test]
 fn what_is_json(rt: HostRuntime) -> Result<(), Fail> {
     expect_talk(

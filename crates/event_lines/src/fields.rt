@@ -62,7 +62,8 @@ pub fn bytes(
     object: &Node<'_, '_>,
     name: &str,
 ) -> Result<Option<Vec<u8>>, AllocError>
-    ensures { IfOk result (λ o. option_map (λ v. v.items) o ≡ bytes_at name.now (node_data object.now)) }
+    ensures { IfOk result (λ o. option_map (λ v. v.items) o
+        ≡ bytes_at name.now (node_data object.now)) }
 {
     let Some(text) = object.text(name) else {
         return Ok(None);
@@ -186,7 +187,8 @@ fn each_option(
 /// The policy options of the member `options`, with which neither `acl` nor `sequence` may occur.
 #[tactic(auto, unfolding(crate::specs::Line::listed_options))]
 fn listed(alloc: Global, object: &Node<'_, '_>) -> Result<Option<Vec<OwnedOptionText>>, AllocError>
-    ensures { IfOk result (λ o. option_map (λ v. v.items) o ≡ listed_options (node_data object.now)) }
+    ensures { IfOk result (λ o. option_map (λ v. v.items) o
+        ≡ listed_options (node_data object.now)) }
 {
     if object.has("acl") || object.has("sequence") {
         return Ok(None);

@@ -41,7 +41,8 @@ pub(crate) fn payload(
     word: &str,
     object: &Node<'_, '_>,
 ) -> Result<Option<Vec<u8>>, AllocError>
-    ensures { IfOk result (λ o. option_map (λ v. v.items) o ≡ bytes_in word.now (node_data object.now)) }
+    ensures { IfOk result (λ o. option_map (λ v. v.items) o
+        ≡ bytes_in word.now (node_data object.now)) }
 {
     match word {
         "send" => bytes(alloc, object, "payload"),
@@ -59,7 +60,8 @@ pub(crate) fn untexted<'a>(
     payload: &'a [u8],
 ) -> Option<Event<'a>>
     requires { bytes_in word.now (node_data object.now) ≡ Some payload.now }
-    ensures { option_map events.event_value result ≡ untexted_event word.now (node_data object.now) }
+    ensures { option_map events.event_value result
+        ≡ untexted_event word.now (node_data object.now) }
 {
     match word {
         "send" => send(object, payload),
