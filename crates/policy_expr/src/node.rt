@@ -1,4 +1,4 @@
-ghost use Rattle.std.specs.Prelude.{◌≡◌, IfOk};
+ghost use Rattle.std.specs.Prelude.{◌≡◌, IfOk, Ok};
 ghost use Rattle.policy_expr.specs.Language.{tree_of};
 
 use crate::hop::HopPred;
@@ -30,23 +30,26 @@ impl<A: Allocator + Clone> SeqNode<A> {
         match self {
             SeqNode::Hop(pred) => Ok(SeqNode::Hop(*pred)),
             SeqNode::Then(first, second) => {
-                let first = boxed(alloc, first.clone_in(alloc)?)?;
-                let second = boxed(alloc, second.clone_in(alloc)?)?;
+                let first = kept(alloc, first.clone_in(alloc))?;
+                let second = kept(alloc, second.clone_in(alloc))?;
                 Ok(SeqNode::Then(first, second))
             }
             SeqNode::Or(first, second) => {
-                let first = boxed(alloc, first.clone_in(alloc)?)?;
-                let second = boxed(alloc, second.clone_in(alloc)?)?;
+                let first = kept(alloc, first.clone_in(alloc))?;
+                let second = kept(alloc, second.clone_in(alloc))?;
                 Ok(SeqNode::Or(first, second))
             }
             SeqNode::Optional(item) => {
-                Ok(SeqNode::Optional(boxed(alloc, item.clone_in(alloc)?)?))
+                let item = kept(alloc, item.clone_in(alloc))?;
+                Ok(SeqNode::Optional(item))
             }
             SeqNode::Repeated(item) => {
-                Ok(SeqNode::Repeated(boxed(alloc, item.clone_in(alloc)?)?))
+                let item = kept(alloc, item.clone_in(alloc))?;
+                Ok(SeqNode::Repeated(item))
             }
             SeqNode::OnceOrMore(item) => {
-                Ok(SeqNode::OnceOrMore(boxed(alloc, item.clone_in(alloc)?)?))
+                let item = kept(alloc, item.clone_in(alloc))?;
+                Ok(SeqNode::OnceOrMore(item))
             }
         }
     }
@@ -60,4 +63,26 @@ pub(crate) fn boxed<A: Allocator + Clone>(
     ensures { IfOk result (λ b. b.value ≡ node) }
 {
     Ok(Box::new(alloc.clone()?, node)?)
+}
+
+/// The node in a box, if there was memory for it.
+fn kept<A: Allocator + Clone>(
+    alloc: &A,
+    node: Result<SeqNode<A>, AllocError>,
+) -> Result<Box<SeqNode<A>, A>, AllocError>
+    ensures { IfOk result (λ b. node ≡ Ok b.value) }
+{
+    boxed(alloc, node?)
+}
+
+/// Both nodes in boxes.
+pub(crate) fn both_boxed<A: Allocator + Clone>(
+    alloc: &A,
+    one: SeqNode<A>,
+    other: SeqNode<A>,
+) -> Result<(Box<SeqNode<A>, A>, Box<SeqNode<A>, A>), AllocError>
+    ensures { IfOk result (λ boxes. (boxes.0.value ≡ one) × (boxes.1.value ≡ other)) }
+{
+    let one = boxed(alloc, one)?;
+    Ok((one, boxed(alloc, other)?))
 }

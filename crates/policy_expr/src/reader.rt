@@ -1,15 +1,18 @@
-ghost use Rattle.std.specs.Prelude.{◌≡◌, [], ◌∷◌, List, None, Some, IfOk, option_map};
+ghost use Rattle.std.specs.Prelude.{◌≡◌, [], ◌∷◌, List, None, Some, IfOk, OnOk, option_map};
 ghost use Rattle.refusal.specs.Refusal.{Reads};
 ghost use Rattle.policy_expr.specs.declared.token.Token.{Token};
+ghost use Rattle.policy_expr.specs.declared.token.Token.TheVariants as signs;
+ghost use Rattle.policy_expr.specs.Tokens.{tokens};
 ghost use Rattle.policy_expr.specs.Language.{either, followed, tree_of};
-ghost use Rattle.policy_expr.specs.Reading.{item_behind, new_level, read_rest, tree_at, whole};
-ghost use Rattle.policy_expr.specs.inner.Views.{GoesOn, gives, level_of, levels_of};
+ghost use Rattle.policy_expr.specs.Reading.{item_behind, new_level, next_choice, next_level, read_rest, tree_at, whole};
+ghost use Rattle.policy_expr.specs.inner.Views.{GoesOn, gives, gives_behind, level_of};
 
 use crate::counting::MAX_OPEN;
 use crate::fault::{PolicyError, PolicyFault};
-use crate::node::{SeqNode, boxed};
+use crate::node::{SeqNode, both_boxed, boxed};
 use crate::token::{Token, next_token};
 use std::alloc::{AllocError, Allocator};
+use std::mem;
 
 /// What was read before the next item since the last open parenthesis.
 #[derive(Drop)]
@@ -32,189 +35,35 @@ impl<A: Allocator> Level<A> {
     }
 }
 
-/// The state of reading a sequence's text.
-#[derive(Drop)]
-pub(crate) struct Reader<A: Allocator> {
-    alloc: A,
-    levels: Vec<Level<A>, A>,
-    level: Level<A>,
-    item: Option<SeqNode<A>>,
-}
-
-impl<A: Allocator + Clone> Reader<A> {
-    /// The state before the first token.
-    pub(crate) fn new(alloc: A) -> Result<Reader<A>, AllocError>
-        ensures { IfOk result (λ reader. (rest : List Token)
-            → gives reader rest ≡ read_rest [] new_level None rest) }
+impl<A: Allocator + Clone> Level<A> {
+    /// Takes all that was read at this level, with this item at its end, as one tree.
+    fn whole(&mut self, alloc: &A, item: SeqNode<A>) -> Result<SeqNode<A>, AllocError>
+        ensures tree { IfOk result (λ node. tree_of node ≡ whole (level_of self.old) (tree_of item)) }
+        ensures left { OnOk result (level_of self.new ≡ new_level) }
     {
-        let levels = Vec::new(alloc.clone()?);
-        Ok(Reader {
-            alloc,
-            levels,
-            level: Level::new(),
-            item: None,
-        })
+        let item = join_choices(alloc, self.choices.take(), item)?;
+        join_before(alloc, self.before.take(), item)
     }
 
-    /// The state after one more token.
-    pub(crate) fn take(self, token: Token) -> Result<Reader<A>, PolicyError>
-        ensures { GoesOn (λ rest. gives self (token ∷ rest)) result }
+    /// Lets the next item follow this one.
+    fn follow(&mut self, alloc: &A, item: SeqNode<A>) -> Result<(), AllocError>
+        ensures { OnOk result
+            (level_of self.new ≡ next_level (level_of self.old) (Some (tree_of item))) }
     {
-        let Reader {
-            alloc,
-            levels,
-            level,
-            item,
-        } = self;
-        match item {
-            None => begin_item(alloc, levels, level, token),
-            Some(item) => follow_item(alloc, levels, level, item, token),
-        }
+        let before = self.whole(alloc, item)?;
+        self.before = Some(before);
+        Ok(())
     }
 
-    /// The tree, if the text ends here.
-    pub(crate) fn end(self) -> Result<SeqNode<A>, PolicyError>
-        ensures { Reads (λ node. tree_of node) result (gives self []) }
+    /// Adds the item to the alternatives.
+    fn add_choice(&mut self, alloc: &A, item: SeqNode<A>) -> Result<(), AllocError>
+        ensures { OnOk result
+            (level_of self.new ≡ next_choice (level_of self.old) (tree_of item)) }
     {
-        let Reader {
-            alloc,
-            levels,
-            level,
-            item,
-        } = self;
-        match item {
-            None => Err(PolicyError::Refused(PolicyFault::UnexpectedEnd)),
-            Some(item) => {
-                if !levels.is_empty() {
-                    return Err(PolicyError::Refused(PolicyFault::Unbalanced));
-                }
-                Ok(join_level(&alloc, level, item)?)
-            }
-        }
+        let choices = join_choices(alloc, self.choices.take(), item)?;
+        self.choices = Some(choices);
+        Ok(())
     }
-}
-
-/// Takes a token where an item has to come.
-fn begin_item<A: Allocator + Clone>(
-    alloc: A,
-    mut levels: Vec<Level<A>, A>,
-    level: Level<A>,
-    token: Token,
-) -> Result<Reader<A>, PolicyError>
-    ensures { GoesOn (λ rest. read_rest (levels_of levels.items) (level_of level) None
-        (token ∷ rest)) result }
-{
-    match token {
-        Token::Hop(pred) => Ok(Reader {
-            alloc,
-            levels,
-            level,
-            item: Some(SeqNode::Hop(pred)),
-        }),
-        Token::Open => {
-            if levels.len() >= MAX_OPEN {
-                return Err(PolicyError::Refused(PolicyFault::TooDeep));
-            }
-            levels.push(level)?;
-            Ok(Reader {
-                alloc,
-                levels,
-                level: Level::new(),
-                item: None,
-            })
-        }
-        _ => Err(PolicyError::Refused(PolicyFault::BadPredicate)),
-    }
-}
-
-/// Takes a token after an item.
-fn follow_item<A: Allocator + Clone>(
-    alloc: A,
-    mut levels: Vec<Level<A>, A>,
-    level: Level<A>,
-    item: SeqNode<A>,
-    token: Token,
-) -> Result<Reader<A>, PolicyError>
-    ensures { GoesOn (λ rest. read_rest (levels_of levels.items) (level_of level)
-        (Some (tree_of item)) (token ∷ rest)) result }
-{
-    match token {
-        Token::Optional => {
-            let item = Some(SeqNode::Optional(boxed(&alloc, item)?));
-            Ok(Reader {
-                alloc,
-                levels,
-                level,
-                item,
-            })
-        }
-        Token::OnceOrMore => {
-            let item = Some(SeqNode::OnceOrMore(boxed(&alloc, item)?));
-            Ok(Reader {
-                alloc,
-                levels,
-                level,
-                item,
-            })
-        }
-        Token::Repeated => {
-            let item = Some(SeqNode::Repeated(boxed(&alloc, item)?));
-            Ok(Reader {
-                alloc,
-                levels,
-                level,
-                item,
-            })
-        }
-        Token::Or => {
-            let Level { before, choices } = level;
-            let choices = Some(join_choices(&alloc, choices, item)?);
-            Ok(Reader {
-                alloc,
-                levels,
-                level: Level { before, choices },
-                item: None,
-            })
-        }
-        Token::Close => match levels.pop() {
-            None => Err(PolicyError::Refused(PolicyFault::Unbalanced)),
-            Some(outer) => {
-                let item = Some(join_level(&alloc, level, item)?);
-                Ok(Reader {
-                    alloc,
-                    levels,
-                    level: outer,
-                    item,
-                })
-            }
-        },
-        Token::Other => Err(PolicyError::Refused(PolicyFault::BadPredicate)),
-        Token::Hop(_) | Token::Open => {
-            let before = Some(join_level(&alloc, level, item)?);
-            begin_item(
-                alloc,
-                levels,
-                Level {
-                    before,
-                    choices: None,
-                },
-                token,
-            )
-        }
-    }
-}
-
-/// The tree of all that was read at a level, with this item at its end.
-fn join_level<A: Allocator + Clone>(
-    alloc: &A,
-    level: Level<A>,
-    item: SeqNode<A>,
-) -> Result<SeqNode<A>, AllocError>
-    ensures { IfOk result (λ node. tree_of node ≡ whole (level_of level) (tree_of item)) }
-{
-    let Level { before, choices } = level;
-    let item = join_choices(alloc, choices, item)?;
-    join_before(alloc, before, item)
 }
 
 /// The item as one more alternative.
@@ -228,7 +77,10 @@ fn join_choices<A: Allocator + Clone>(
 {
     match choices {
         None => Ok(item),
-        Some(choices) => Ok(SeqNode::Or(boxed(alloc, choices)?, boxed(alloc, item)?)),
+        Some(choices) => {
+            let (choices, item) = both_boxed(alloc, choices, item)?;
+            Ok(SeqNode::Or(choices, item))
+        }
     }
 }
 
@@ -243,7 +95,142 @@ fn join_before<A: Allocator + Clone>(
 {
     match before {
         None => Ok(item),
-        Some(before) => Ok(SeqNode::Then(boxed(alloc, before)?, boxed(alloc, item)?)),
+        Some(before) => {
+            let (before, item) = both_boxed(alloc, before, item)?;
+            Ok(SeqNode::Then(before, item))
+        }
+    }
+}
+
+/// The state of reading a sequence's text. After an error it is of no use.
+#[derive(Drop)]
+pub(crate) struct Reader<A: Allocator> {
+    alloc: A,
+    levels: Vec<Level<A>, A>,
+    level: Level<A>,
+    item: Option<SeqNode<A>>,
+}
+
+impl<A: Allocator + Clone> Reader<A> {
+    /// The state before the first token.
+    fn new(alloc: A) -> Result<Reader<A>, AllocError>
+        ensures { IfOk result (λ reader. (rest : List Token)
+            → gives reader rest ≡ read_rest [] new_level None rest) }
+    {
+        let levels = Vec::new(alloc.clone()?);
+        Ok(Reader {
+            alloc,
+            levels,
+            level: Level::new(),
+            item: None,
+        })
+    }
+
+    /// Reads a whole text.
+    fn read(&mut self, text: &str) -> Result<SeqNode<A>, PolicyError>
+        ensures { Reads (λ node. tree_of node) result (gives self.old (tokens text.now)) }
+    {
+        let mut rest = text.as_bytes();
+        while let Some((token, behind)) = next_token(rest) {
+            self.take(token)?;
+            rest = behind;
+        }
+        self.end()
+    }
+
+    /// Takes one more token.
+    fn take(&mut self, token: Token) -> Result<(), PolicyError>
+        ensures { GoesOn (λ rest. gives self.old (token ∷ rest)) self.new result }
+    {
+        match self.item.take() {
+            None => self.begin(token),
+            Some(item) => self.go_on(item, token),
+        }
+    }
+
+    /// Takes a token where an item has to come.
+    fn begin(&mut self, token: Token) -> Result<(), PolicyError>
+        requires { self.old.item ≡ None }
+        ensures { GoesOn (λ rest. gives self.old (token ∷ rest)) self.new result }
+    {
+        match token {
+            Token::Hop(pred) => {
+                self.item = Some(SeqNode::Hop(pred));
+                Ok(())
+            }
+            Token::Open => self.open(),
+            _ => Err(PolicyError::Refused(PolicyFault::BadPredicate)),
+        }
+    }
+
+    /// Takes a `(`.
+    fn open(&mut self) -> Result<(), PolicyError>
+        requires { self.old.item ≡ None }
+        ensures { GoesOn (λ rest. gives self.old (signs.Open ∷ rest)) self.new result }
+    {
+        if self.levels.len() >= MAX_OPEN {
+            return Err(PolicyError::Refused(PolicyFault::TooDeep));
+        }
+        let outer = mem::replace(&mut self.level, Level::new());
+        self.levels.push(outer)?;
+        Ok(())
+    }
+
+    /// Takes a token after this item.
+    fn go_on(&mut self, item: SeqNode<A>, token: Token) -> Result<(), PolicyError>
+        requires { self.old.item ≡ None }
+        ensures { GoesOn (λ rest. gives_behind self.old (Some (tree_of item)) (token ∷ rest))
+            self.new result }
+    {
+        match token {
+            Token::Optional => {
+                self.item = Some(SeqNode::Optional(boxed(&self.alloc, item)?));
+                Ok(())
+            }
+            Token::OnceOrMore => {
+                self.item = Some(SeqNode::OnceOrMore(boxed(&self.alloc, item)?));
+                Ok(())
+            }
+            Token::Repeated => {
+                self.item = Some(SeqNode::Repeated(boxed(&self.alloc, item)?));
+                Ok(())
+            }
+            Token::Or => Ok(self.level.add_choice(&self.alloc, item)?),
+            Token::Close => self.close(item),
+            Token::Other => Err(PolicyError::Refused(PolicyFault::BadPredicate)),
+            Token::Hop(_) | Token::Open => {
+                self.level.follow(&self.alloc, item)?;
+                self.begin(token)
+            }
+        }
+    }
+
+    /// Takes a `)` after this item.
+    fn close(&mut self, item: SeqNode<A>) -> Result<(), PolicyError>
+        ensures { GoesOn (λ rest. gives_behind self.old (Some (tree_of item)) (signs.Close ∷ rest))
+            self.new result }
+    {
+        self.item = Some(self.level.whole(&self.alloc, item)?);
+        match self.levels.pop() {
+            None => Err(PolicyError::Refused(PolicyFault::Unbalanced)),
+            Some(outer) => {
+                self.level = outer;
+                Ok(())
+            }
+        }
+    }
+
+    /// The tree, if the text ends here.
+    fn end(&mut self) -> Result<SeqNode<A>, PolicyError>
+        ensures { Reads (λ node. tree_of node) result (gives self.old []) }
+    {
+        match self.item.take() {
+            None => Err(PolicyError::Refused(PolicyFault::UnexpectedEnd)),
+            Some(_) if !self.levels.is_empty() => {
+                Err(PolicyError::Refused(PolicyFault::Unbalanced))
+            }
+            Some(item) => Ok(self.level.whole(&self.alloc, item)?),
+        }
     }
 }
 
@@ -255,10 +242,5 @@ pub(crate) fn read_tree<A: Allocator + Clone>(
     ensures { Reads (λ node. tree_of node) result (tree_at text.now) }
 {
     let mut reader = Reader::new(alloc)?;
-    let mut rest = text.as_bytes();
-    while let Some((token, behind)) = next_token(rest) {
-        reader = reader.take(token)?;
-        rest = behind;
-    }
-    reader.end()
+    reader.read(text)
 }

@@ -1,5 +1,5 @@
 -- The values of a reader's data while it reads.
-use Rattle.std.specs.Prelude.{◌≡◌, List, map, reverse, option_map, Result, Ok, Err}
+use Rattle.std.specs.Prelude.{◌≡◌, List, map, reverse, Option, option_map, Result, Ok, Err}
 use Rattle.refusal.specs.declared.fault.OrMemory.{OrMemory}
 use Rattle.refusal.specs.declared.fault.OrMemory.TheVariants.{Memory, Refused}
 use Rattle.policy_expr.specs.declared.fault.PolicyFault.{PolicyFault}
@@ -18,16 +18,19 @@ level_of level =
 abbrev pub levels_of : {A : _} → List (Level A) → List reading.Level
 levels_of levels = map level_of (reverse levels)
 
+-- the result of reading the remaining tokens from this state, with this item at its end
+abbrev pub gives_behind : {A : _} → Reader A → Option Tree → List Token → Result Tree PolicyFault
+gives_behind reader item rest =
+    read_rest (levels_of reader.levels.items) (level_of reader.level) item rest
+
 -- the result of reading the remaining tokens from this state
 abbrev pub gives : {A : _} → Reader A → List Token → Result Tree PolicyFault
-gives reader rest =
-    read_rest (levels_of reader.levels.items) (level_of reader.level)
-    (option_map tree_of reader.item) rest
+gives reader rest = gives_behind reader (option_map tree_of reader.item) rest
 
--- the step of a reader is right: for all remaining tokens, the result is the same before and after
--- it
-abbrev pub GoesOn : {A : _} → (List Token → Result Tree PolicyFault)
-    → Result (Reader A) (OrMemory PolicyFault) → Type 0
-GoesOn given (Ok next) = (rest : List Token) → given rest ≡ gives next rest
-GoesOn given (Err Memory) = Unit {0}
-GoesOn given (Err (Refused fault)) = (rest : List Token) → given rest ≡ Err fault
+-- the step of a reader to the state `next` is right: for all remaining tokens, the result is the
+-- same before and after it
+abbrev pub GoesOn : {A : _} → (List Token → Result Tree PolicyFault) → Reader A
+    → Result (Unit {0}) (OrMemory PolicyFault) → Type 0
+GoesOn given next (Ok done) = (rest : List Token) → given rest ≡ gives next rest
+GoesOn given next (Err Memory) = Unit {0}
+GoesOn given next (Err (Refused fault)) = (rest : List Token) → given rest ≡ Err fault

@@ -1,12 +1,11 @@
 use Rattle.std.proofs.Common.{◌≡◌, length}
 use Rattle.policy_expr.specs.Tokens.{tokens}
-use Rattle.policy_expr.specs.Reading.{tree_at}
 use Rattle.policy_expr.specs.inner.Views.{gives}
-use Rattle.policy_expr.proofs.reader.read_tree.Given as goal
+use Rattle.policy_expr.proofs.reader.Reader.read.Given as goal
 
 -- the rest of the text gives what the whole text gives
 abbrev pub invariant-loop-token : goal.invariant-loop-token
-invariant-loop-token g l = tree_at l.fn.text ≡ gives l.reader (tokens l.rest)
+invariant-loop-token g l = gives l.initial.self (tokens l.fn.text) ≡ gives l.self (tokens l.rest)
 
 abbrev pub decreases-loop-token : goal.decreases-loop-token
 decreases-loop-token g l = length l.rest
