@@ -77,26 +77,26 @@ pub capped : (n : ℕ) → ord_min nat_cmp n 258 ≡ min 258 n
 capped n = capped_by n (nat_lt 258 n) (258 == n) refl refl
 
 -- judging stands where the rest of the text begins
-pub record StandsAt (text rest : List ℕ) (depth : ℕ) (item : Bool) (weight : ℕ) : Type 0 where
-  pub same : fault_at 0 false (tokens text) ≡ fault_at depth item (tokens rest)
+pub record StandsAt (text : List ℕ) (rest : List Token) (depth : ℕ) (item : Bool) (weight : ℕ) : Type 0 where
+  pub same : fault_at 0 false (tokens text) ≡ fault_at depth item rest
   pub taken : ℕ
-  pub all : taken + weights (tokens rest) ≡ weights (tokens text)
+  pub all : taken + weights rest ≡ weights (tokens text)
   pub weighed : weight ≡ min 258 taken
 
-pub stands_first : (text : List ℕ) → StandsAt text text 0 false 0
-stands_first text = record { same = refl; taken = 0; all = omega arith; weighed = omega arith }
+pub stands_first : (text : List ℕ) (rest : List Token) → tokens text ≡ rest → StandsAt text rest 0 false 0
+stands_first text rest e = record { same = ap (fault_at 0 false) e; taken = 0; all = (let same = ap weights e in omega (arith, same)); weighed = omega arith }
 
 -- one token more
-pub stands_next : (text rest later : List ℕ) (depth next_depth : ℕ) (item next_item : Bool) (weight : ℕ) (token : Token)
-    → StandsAt text rest depth item weight → tokens rest ≡ token ∷ tokens later
+pub stands_next : (text : List ℕ) (rest later : List Token) (depth next_depth : ℕ) (item next_item : Bool) (weight : ℕ) (token : Token)
+    → StandsAt text rest depth item weight → rest ≡ token ∷ later
     → ((ts : List Token) → fault_at depth item (token ∷ ts) ≡ fault_at next_depth next_item ts)
     → StandsAt text later next_depth next_item (min 258 (weight + weight_of token))
 stands_next text rest later depth next_depth item next_item weight token s begins goes_on =
-    let rest_weighs : weights (tokens rest) ≡ weight_of token + weights (tokens later) = ap weights begins in
+    let rest_weighs : weights rest ≡ weight_of token + weights later = ap weights begins in
     let all = s.all in
     let weighed = s.weighed in
     record {
-      same = s.same ∙ ap (fault_at depth item) begins ∙ goes_on (tokens later);
+      same = s.same ∙ ap (fault_at depth item) begins ∙ goes_on later;
       taken = s.taken + weight_of token;
       all = omega arith;
       weighed = omega arith;
@@ -110,15 +110,15 @@ refused_text text fault found = by (tree_at text) (sym (fault_is_read text) ∙ 
     by (Ok tree) e = absurd cc
     by (Err other) e = (let same : other ≡ fault = cc in ap Err same)
 
-pub stands_refused : (text rest later : List ℕ) (depth : ℕ) (item : Bool) (weight : ℕ) (token : Token) (fault : PolicyFault)
-    → StandsAt text rest depth item weight → tokens rest ≡ token ∷ tokens later
+pub stands_refused : (text : List ℕ) (rest later : List Token) (depth : ℕ) (item : Bool) (weight : ℕ) (token : Token) (fault : PolicyFault)
+    → StandsAt text rest depth item weight → rest ≡ token ∷ later
     → ((ts : List Token) → fault_at depth item (token ∷ ts) ≡ Some fault) → sequence_at text ≡ Err fault
 stands_refused text rest later depth item weight token fault s begins found =
-    refused_text text fault (s.same ∙ ap (fault_at depth item) begins ∙ found (tokens later))
+    refused_text text fault (s.same ∙ ap (fault_at depth item) begins ∙ found later)
 
 -- what is found at the end
-pub end_refused : (text rest : List ℕ) (depth : ℕ) (item : Bool) (weight : ℕ) (fault : PolicyFault)
-    → StandsAt text rest depth item weight → tokens rest ≡ [] → fault_at depth item [] ≡ Some fault → sequence_at text ≡ Err fault
+pub end_refused : (text : List ℕ) (rest : List Token) (depth : ℕ) (item : Bool) (weight : ℕ) (fault : PolicyFault)
+    → StandsAt text rest depth item weight → rest ≡ [] → fault_at depth item [] ≡ Some fault → sequence_at text ≡ Err fault
 end_refused text rest depth item weight fault s none found =
     refused_text text fault (s.same ∙ ap (fault_at depth item) none ∙ found)
 
@@ -133,27 +133,27 @@ tree_there text none = by (tree_at text) refl (sym (fault_is_read text) ∙ none
     by (Err fault) is e = absurd cc
 
 -- so it is at the end, where the weight of all tokens is known
-end_tree : (text rest : List ℕ) (depth : ℕ) (item : Bool) (weight : ℕ)
-    → StandsAt text rest depth item weight → tokens rest ≡ [] → fault_at depth item [] ≡ None
+end_tree : (text : List ℕ) (rest : List Token) (depth : ℕ) (item : Bool) (weight : ℕ)
+    → StandsAt text rest depth item weight → rest ≡ [] → fault_at depth item [] ≡ None
     → (tree : Tree) × (tree_at text ≡ Ok tree) × (weight ≡ min 258 (node_count tree + 1))
 end_tree text rest depth item weight s none found =
     let t = tree_there text (s.same ∙ ap (fault_at depth item) none ∙ found) in
-    let rest_weighs : weights (tokens rest) ≡ 0 = ap weights none in
+    let rest_weighs : weights rest ≡ 0 = ap weights none in
     let all = s.all in
     let weighed = s.weighed in
     let nodes = t.2 in
     (t.0, t.1, omega arith)
 
-pub end_large : (text rest : List ℕ) (depth : ℕ) (item : Bool) (weight : ℕ)
-    → StandsAt text rest depth item weight → tokens rest ≡ [] → fault_at depth item [] ≡ None → 257 < weight → sequence_at text ≡ Err faults.TooLarge
+pub end_large : (text : List ℕ) (rest : List Token) (depth : ℕ) (item : Bool) (weight : ℕ)
+    → StandsAt text rest depth item weight → rest ≡ [] → fault_at depth item [] ≡ None → 257 < weight → sequence_at text ≡ Err faults.TooLarge
 end_large text rest depth item weight s none found many =
     let t = end_tree text rest depth item weight s none found in
     let nodes = t.2 in
     let large : nat_lt 256 (node_count t.0) ≡ true = lt-ltb 256 (node_count t.0) (omega arith) in
     rw (t.1, large) refl
 
-pub end_small : (text rest : List ℕ) (depth : ℕ) (item : Bool) (weight : ℕ)
-    → StandsAt text rest depth item weight → tokens rest ≡ [] → fault_at depth item [] ≡ None → weight ≤ 257 → IsOk (sequence_at text)
+pub end_small : (text : List ℕ) (rest : List Token) (depth : ℕ) (item : Bool) (weight : ℕ)
+    → StandsAt text rest depth item weight → rest ≡ [] → fault_at depth item [] ≡ None → weight ≤ 257 → IsOk (sequence_at text)
 end_small text rest depth item weight s none found few =
     let t = end_tree text rest depth item weight s none found in
     let nodes = t.2 in

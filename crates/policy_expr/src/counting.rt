@@ -1,11 +1,14 @@
-ghost use Rattle.std.specs.Prelude.{◌≡◌, [], ◌∷◌, List, Some, IfOk, IfErr};
+ghost use Rattle.std.specs.Prelude.{◌≡◌, ℕ, [], ◌∷◌, List, Some, IfOk, IfErr};
 ghost use Rattle.std.specs.Result.{result_err};
 ghost use Rattle.refusal.specs.Refusal.{Judges};
 ghost use Rattle.policy_expr.specs.declared.token.Token.{Token};
+ghost use Rattle.policy_expr.specs.Tokens.{tokens};
 ghost use Rattle.policy_expr.specs.Reading.{fault_at, sequence_at};
+ghost use Rattle.policy_expr.specs.inner.Views.{remaining};
 
 use crate::fault::PolicyFault;
-use crate::token::{Token, next_token};
+use crate::room::Tokens;
+use crate::token::Token;
 
 /// The largest number of parentheses open at once.
 pub(crate) const MAX_OPEN: usize = 32;
@@ -14,17 +17,18 @@ pub(crate) const MAX_OPEN: usize = 32;
 /// item weighs 1; the sum is one more than the number of nodes.
 const MAX_WEIGHT: usize = 257;
 
-/// The first refusal of a sequence's text. Takes no memory.
-pub(crate) fn check_text(text: &str) -> Result<(), PolicyFault>
-    ensures { Judges result (sequence_at text.now) }
+/// The first refusal of a sequence's text with these tokens. Takes no memory.
+pub(crate) fn check_tokens(all: Tokens<'_>) -> Result<(), PolicyFault>
+    ensures { (text : List ℕ) → tokens text ≡ remaining all.entry
+        → Judges result (sequence_at text) }
 {
     let mut place = Place {
         depth: 0,
         has_item: false,
     };
     let mut weight = 0;
-    let mut rest = text.as_bytes();
-    while let Some((token, behind)) = next_token(rest) {
+    let mut rest = all;
+    while let Some((token, behind)) = rest.next() {
         place = place.behind(&token)?;
         let more = match token {
             Token::Hop(_) => 2,

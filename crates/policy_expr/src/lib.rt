@@ -22,6 +22,7 @@ mod pred_set;
 mod predicate;
 mod printing;
 mod reader;
+mod room;
 mod sequence;
 mod table;
 mod token;

@@ -6,10 +6,11 @@ ghost use Rattle.policy_expr.specs.Policy.{AllowsHops, DeniesHop, HasWord, polic
 
 use crate::acl::{Acl, Denied};
 use crate::acl_text::AclText;
-use crate::counting::check_text;
+use crate::counting::check_tokens;
 use crate::entry::check_acl;
 use crate::fault::{PolicyError, PolicyFault};
 use crate::hop::WalkHop;
+use crate::room::Tokens;
 use crate::sequence::Seq;
 use separators::bytes::trim_start;
 use std::alloc::{AllocError, Allocator};
@@ -136,7 +137,10 @@ fn check_sequence(text: Option<&str>) -> Result<(), PolicyFault>
 {
     match text {
         None => Ok(()),
-        Some(text) => check_text(text),
+        Some(text) => check_tokens(Tokens {
+            known: &[],
+            rest: text.as_bytes(),
+        }),
     }
 }
 

@@ -2,15 +2,15 @@ ghost use Rattle.std.specs.Prelude.{◌≡◌, [], ◌∷◌, List, None, Some, 
 ghost use Rattle.refusal.specs.Refusal.{Reads};
 ghost use Rattle.policy_expr.specs.declared.token.Token.{Token};
 ghost use Rattle.policy_expr.specs.declared.token.Token.TheVariants as signs;
-ghost use Rattle.policy_expr.specs.Tokens.{tokens};
 ghost use Rattle.policy_expr.specs.Language.{either, followed, tree_of};
-ghost use Rattle.policy_expr.specs.Reading.{item_behind, new_level, next_choice, next_level, read_rest, tree_at, whole};
-ghost use Rattle.policy_expr.specs.inner.Views.{GoesOn, gives, gives_behind, level_of};
+ghost use Rattle.policy_expr.specs.Reading.{item_behind, new_level, next_choice, next_level, read_rest, whole};
+ghost use Rattle.policy_expr.specs.inner.Views.{GoesOn, gives, gives_behind, level_of, remaining};
 
 use crate::counting::MAX_OPEN;
 use crate::fault::{PolicyError, PolicyFault};
 use crate::node::{SeqNode, both_boxed, boxed};
-use crate::token::{Token, next_token};
+use crate::room::Tokens;
+use crate::token::Token;
 use std::alloc::{AllocError, Allocator};
 use std::mem;
 
@@ -126,12 +126,12 @@ impl<A: Allocator + Clone> Reader<A> {
         })
     }
 
-    /// Reads a whole text.
-    fn read(&mut self, text: &str) -> Result<SeqNode<A>, PolicyError>
-        ensures { Reads (λ node. tree_of node) result (gives self.old (tokens text.now)) }
+    /// Reads all these tokens.
+    fn read(&mut self, all: Tokens<'_>) -> Result<SeqNode<A>, PolicyError>
+        ensures { Reads (λ node. tree_of node) result (gives self.old (remaining all.entry)) }
     {
-        let mut rest = text.as_bytes();
-        while let Some((token, behind)) = next_token(rest) {
+        let mut rest = all;
+        while let Some((token, behind)) = rest.next() {
             self.take(token)?;
             rest = behind;
         }
@@ -234,13 +234,14 @@ impl<A: Allocator + Clone> Reader<A> {
     }
 }
 
-/// The tree of a text, of any size.
+/// The tree of these tokens, of any size.
 pub(crate) fn read_tree<A: Allocator + Clone>(
     alloc: A,
-    text: &str,
+    all: Tokens<'_>,
 ) -> Result<SeqNode<A>, PolicyError>
-    ensures { Reads (λ node. tree_of node) result (tree_at text.now) }
+    ensures { Reads (λ node. tree_of node) result
+        (read_rest [] new_level None (remaining all.entry)) }
 {
     let mut reader = Reader::new(alloc)?;
-    reader.read(text)
+    reader.read(all)
 }

@@ -6,11 +6,12 @@ ghost use Rattle.policy_expr.specs.Printing.{IsSequence, printed};
 ghost use Rattle.policy_expr.specs.Grammar.{SpellsSequence};
 ghost use Rattle.policy_expr.specs.Reading.{node_count, sequence_at, IsTextRefusal};
 
-use crate::counting::check_text;
+use crate::counting::check_tokens;
 use crate::fault::PolicyError;
 use crate::hop::WalkHop;
 use crate::node::SeqNode;
 use crate::reader::read_tree;
+use crate::room::{Room, Tokens, fill};
 use crate::table::Table;
 use std::alloc::{AllocError, Allocator};
 use std::marker::Model;
@@ -68,8 +69,12 @@ impl<A: Allocator + Clone> Seq<A> {
     fn read(alloc: A, text: &str) -> Result<Seq<A>, PolicyError>
         ensures { Answers (λ s. s) result (sequence_at text.now) }
     {
-        check_text(text)?;
-        let root = read_tree(alloc.clone()?, text)?;
+        let mut room = Room::new();
+        let rest = fill(&mut room, text);
+        let known = room.as_slice();
+        let all = Tokens { known, rest };
+        check_tokens(all)?;
+        let root = read_tree(alloc.clone()?, all)?;
         let table = Table::new(alloc, &root)?;
         Ok(Seq { root, table })
     }

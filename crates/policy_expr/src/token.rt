@@ -8,7 +8,7 @@ use crate::hop::HopPred;
 use separators::bytes::trim_start;
 
 /// A token of a sequence's text.
-#[derive(Clone, Copy, Debug, PartialEq, Eq)]
+#[derive(Clone, Copy, Debug, Default, PartialEq, Eq)]
 pub(crate) enum Token {
     /// A predicate.
     Hop(HopPred),
@@ -25,6 +25,7 @@ pub(crate) enum Token {
     /// `)`
     Close,
     /// A text that looks like a predicate and is none, or a character that is no sign.
+    #[default]
     Other,
 }
 

@@ -1,14 +1,20 @@
 -- The values of a reader's data while it reads.
-use Rattle.std.specs.Prelude.{◌≡◌, List, map, reverse, Option, option_map, Result, Ok, Err}
+use Rattle.std.specs.Prelude.{◌≡◌, List, ◌++◌, map, reverse, Option, option_map, Result, Ok, Err}
 use Rattle.refusal.specs.declared.fault.OrMemory.{OrMemory}
 use Rattle.refusal.specs.declared.fault.OrMemory.TheVariants.{Memory, Refused}
 use Rattle.policy_expr.specs.declared.fault.PolicyFault.{PolicyFault}
+use Rattle.policy_expr.specs.declared.room.Tokens.{Tokens}
 use Rattle.policy_expr.specs.declared.reader.Level.{Level}
 use Rattle.policy_expr.specs.declared.reader.Reader.{Reader}
 use Rattle.policy_expr.specs.declared.token.Token.{Token}
+use Rattle.policy_expr.specs.Tokens.{tokens}
 use Rattle.policy_expr.specs.Language.{Tree, tree_of}
 use Rattle.policy_expr.specs.Reading as reading
 use Rattle.policy_expr.specs.Reading.{read_rest}
+
+-- the tokens that are still to be taken
+abbrev pub remaining : Tokens → List Token
+remaining later = later.known.now ++ tokens later.rest.now
 
 abbrev pub level_of : {A : _} → Level A → reading.Level
 level_of level =
