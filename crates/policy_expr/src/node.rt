@@ -39,17 +39,10 @@ impl<A: Allocator + Clone> SeqNode<A> {
                 let second = kept(alloc, second.clone_in(alloc))?;
                 Ok(SeqNode::Or(first, second))
             }
-            SeqNode::Optional(item) => {
-                let item = kept(alloc, item.clone_in(alloc))?;
-                Ok(SeqNode::Optional(item))
-            }
-            SeqNode::Repeated(item) => {
-                let item = kept(alloc, item.clone_in(alloc))?;
-                Ok(SeqNode::Repeated(item))
-            }
+            SeqNode::Optional(item) => { Ok(SeqNode::Optional(kept(alloc, item.clone_in(alloc))?)) }
+            SeqNode::Repeated(item) => { Ok(SeqNode::Repeated(kept(alloc, item.clone_in(alloc))?)) }
             SeqNode::OnceOrMore(item) => {
-                let item = kept(alloc, item.clone_in(alloc))?;
-                Ok(SeqNode::OnceOrMore(item))
+                Ok(SeqNode::OnceOrMore(kept(alloc, item.clone_in(alloc))?))
             }
         }
     }

@@ -137,10 +137,7 @@ fn check_sequence(text: Option<&str>) -> Result<(), PolicyFault>
 {
     match text {
         None => Ok(()),
-        Some(text) => check_tokens(Tokens {
-            known: &[],
-            rest: text.as_bytes(),
-        }),
+        Some(text) => check_tokens(Tokens::of(text)),
     }
 }
 

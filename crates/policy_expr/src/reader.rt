@@ -3,7 +3,7 @@ ghost use Rattle.refusal.specs.Refusal.{Reads};
 ghost use Rattle.policy_expr.specs.declared.token.Token.{Token};
 ghost use Rattle.policy_expr.specs.declared.token.Token.TheVariants as signs;
 ghost use Rattle.policy_expr.specs.Language.{either, followed, tree_of};
-ghost use Rattle.policy_expr.specs.Reading.{item_behind, new_level, next_choice, next_level, read_rest, whole};
+ghost use Rattle.policy_expr.specs.Reading.{item_behind, new_level, read_rest, whole};
 ghost use Rattle.policy_expr.specs.inner.Views.{GoesOn, gives, gives_behind, level_of, remaining};
 
 use crate::counting::MAX_OPEN;
@@ -43,26 +43,6 @@ impl<A: Allocator + Clone> Level<A> {
     {
         let item = join_choices(alloc, self.choices.take(), item)?;
         join_before(alloc, self.before.take(), item)
-    }
-
-    /// Lets the next item follow this one.
-    fn follow(&mut self, alloc: &A, item: SeqNode<A>) -> Result<(), AllocError>
-        ensures { OnOk result
-            (level_of self.new ≡ next_level (level_of self.old) (Some (tree_of item))) }
-    {
-        let before = self.whole(alloc, item)?;
-        self.before = Some(before);
-        Ok(())
-    }
-
-    /// Adds the item to the alternatives.
-    fn add_choice(&mut self, alloc: &A, item: SeqNode<A>) -> Result<(), AllocError>
-        ensures { OnOk result
-            (level_of self.new ≡ next_choice (level_of self.old) (tree_of item)) }
-    {
-        let choices = join_choices(alloc, self.choices.take(), item)?;
-        self.choices = Some(choices);
-        Ok(())
     }
 }
 
@@ -195,11 +175,16 @@ impl<A: Allocator + Clone> Reader<A> {
                 self.item = Some(SeqNode::Repeated(boxed(&self.alloc, item)?));
                 Ok(())
             }
-            Token::Or => Ok(self.level.add_choice(&self.alloc, item)?),
+            Token::Or => {
+                let choices = join_choices(&self.alloc, self.level.choices.take(), item)?;
+                self.level.choices = Some(choices);
+                Ok(())
+            }
             Token::Close => self.close(item),
             Token::Other => Err(PolicyError::Refused(PolicyFault::BadPredicate)),
             Token::Hop(_) | Token::Open => {
-                self.level.follow(&self.alloc, item)?;
+                let before = self.level.whole(&self.alloc, item)?;
+                self.level.before = Some(before);
                 self.begin(token)
             }
         }

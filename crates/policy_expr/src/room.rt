@@ -34,6 +34,16 @@ pub(crate) struct Tokens<'t> {
 }
 
 impl<'t> Tokens<'t> {
+    /// The tokens of a text, with none cut from it yet.
+    pub(crate) fn of(text: &'t str) -> Tokens<'t>
+        ensures { remaining result ≡ tokens text.now }
+    {
+        Tokens {
+            known: &[],
+            rest: text.as_bytes(),
+        }
+    }
+
     /// The first token, and those after it.
     pub(crate) fn next(self) -> Option<(Token, Tokens<'t>)>
         ensures { MatchOption result (remaining self.entry ≡ [])

@@ -1,10 +1,12 @@
-ghost use Rattle.std.specs.Prelude.{◌≡◌, ◌↔◌, ◌≤◌, IsTrue, IfErr, IfOk, Ok};
+ghost use Rattle.std.specs.Prelude.{◌≡◌, ◌↔◌, ◌≤◌, ℕ, List, IsTrue, IfErr, IfOk, Ok};
 ghost use Rattle.std.specs.String.{string_bytes};
 ghost use Rattle.refusal.specs.Refusal.{Answers};
 ghost use Rattle.policy_expr.specs.Language.{Lang, Tree};
 ghost use Rattle.policy_expr.specs.Printing.{IsSequence, printed};
 ghost use Rattle.policy_expr.specs.Grammar.{SpellsSequence};
 ghost use Rattle.policy_expr.specs.Reading.{node_count, sequence_at, IsTextRefusal};
+ghost use Rattle.policy_expr.specs.Tokens.{tokens};
+ghost use Rattle.policy_expr.specs.inner.Views.{remaining};
 
 use crate::counting::check_tokens;
 use crate::fault::PolicyError;
@@ -15,6 +17,9 @@ use crate::room::{Room, Tokens, fill};
 use crate::table::Table;
 use std::alloc::{AllocError, Allocator};
 use std::marker::Model;
+
+/// From this length on, a text is read with a room for its tokens.
+const LONG: usize = 64;
 
 /// A sequence: a regular expression over hops, whose words are walks.
 ///
@@ -65,14 +70,33 @@ impl<A: Allocator + Clone> Seq<A> {
         Seq::read(alloc, text)
     }
 
-    /// Reads a sequence.
+    /// Reads a sequence. A short text is read twice, which costs less than to clear a room.
     fn read(alloc: A, text: &str) -> Result<Seq<A>, PolicyError>
+        ensures { Answers (λ s. s) result (sequence_at text.now) }
+    {
+        if text.len() < LONG {
+            Seq::of_tokens(alloc, Tokens::of(text))
+        } else {
+            Seq::read_long(alloc, text)
+        }
+    }
+
+    /// Reads a sequence, each of its tokens only once.
+    fn read_long(alloc: A, text: &str) -> Result<Seq<A>, PolicyError>
         ensures { Answers (λ s. s) result (sequence_at text.now) }
     {
         let mut room = Room::new();
         let rest = fill(&mut room, text);
         let known = room.as_slice();
-        let all = Tokens { known, rest };
+        Seq::of_tokens(alloc, Tokens { known, rest })
+    }
+
+    /// Judges these tokens, and then makes a sequence of them.
+    fn of_tokens(alloc: A, all: Tokens<'_>) -> Result<Seq<A>, PolicyError>
+        requires { (text : List ℕ) × (tokens text ≡ remaining all) }
+        ensures { (text : List ℕ) → tokens text ≡ remaining all.entry
+            → Answers (λ s. s) result (sequence_at text) }
+    {
         check_tokens(all)?;
         let root = read_tree(alloc.clone()?, all)?;
         let table = Table::new(alloc, &root)?;
