@@ -1,111 +1,31 @@
-ghost use Rattle.std.specs.Prelude.{◌≡◌, ◌↔◌, map, IfOk, IsTrue};
-ghost use Rattle.std.specs.String.{string_bytes};
+ghost use Rattle.std.specs.Prelude.{◌≡◌, ◌↔◌, IfOk, IsTrue};
 
 use crate::request::Request;
 use isd_as::IsdAs;
-use policy_expr::{AclText, OptionText};
+use policy_expr::{OptionText, OwnedOptionText};
 use std::alloc::{AllocError, Global};
 use std::marker::Model;
 
-/// The stored texts of an option.
-#[derive(Drop)]
-struct KeptText {
-    acl: Option<AclText>,
-    sequence: Option<String>,
-    weight: u32,
-}
-
-impl Model for KeptText {
-    ghost use Rattle.std.specs.Prelude.{option_map};
-    ghost use Rattle.std.specs.String.{string_bytes};
-    ghost use Rattle.policy_expr.specs.Options.{OptionTexts};
-
-    ghost Value = { OptionTexts };
-
-    ghost view = { λ o. record {
-      acl = o.acl;
-      sequence = option_map string_bytes o.sequence;
-      weight = o.weight;
-    } };
-}
-
-impl KeptText {
-    /// A copy of an option's texts.
-    fn of(alloc: Global, text: &OptionText<'_>) -> Result<KeptText, AllocError>
-        ensures { IfOk result (λ kept. kept ≡ text.now) }
-    {
-        let acl = match text.text.acl {
-            None => None,
-            Some(acl) => Some(acl.try_clone(alloc)?),
-        };
-        let sequence = match text.text.sequence {
-            None => None,
-            Some(sequence) => Some(String::from_str(alloc, sequence)?),
-        };
-        Ok(KeptText {
-            acl,
-            sequence,
-            weight: text.weight,
-        })
-    }
-
-    /// Whether the option has these texts.
-    fn is_of(&self, text: &OptionText<'_>) -> bool
-        ensures { IsTrue result ↔ (self.now ≡ text.now) }
-    {
-        let is_acl = match (&self.acl, text.text.acl) {
-            (None, None) => true,
-            (Some(acl), Some(other)) => are_same(acl.texts(), other.texts()),
-            _ => false,
-        };
-        let is_sequence = match (&self.sequence, text.text.sequence) {
-            (None, None) => true,
-            (Some(sequence), Some(other)) => sequence.as_str() == other,
-            _ => false,
-        };
-        is_acl && is_sequence && self.weight == text.weight
-    }
-}
-
-/// Whether both are the same texts, in the same order.
-fn are_same(texts: &[String], others: &[String]) -> bool
-    ensures { IsTrue result ↔ (map string_bytes texts.now ≡ map string_bytes others.now) }
-{
-    let mut rest = texts;
-    let mut more = others;
-    while let Some((text, behind)) = rest.split_first() {
-        let Some((other, further)) = more.split_first() else {
-            return false;
-        };
-        if text.as_str() != other.as_str() {
-            return false;
-        }
-        rest = behind;
-        more = further;
-    }
-    more.is_empty()
-}
-
 /// Copies of the options' texts, in their order.
-fn kept_texts(alloc: Global, texts: &[OptionText<'_>]) -> Result<Vec<KeptText>, AllocError>
-    ensures { IfOk result (λ kept. kept.items ≡ texts.now) }
+fn own_texts(alloc: Global, texts: &[OptionText<'_>]) -> Result<Vec<OwnedOptionText>, AllocError>
+    ensures { IfOk result (λ own. own.items ≡ texts.now) }
 {
-    let mut kept = Vec::new(alloc);
+    let mut own = Vec::new(alloc);
     for text in texts {
-        kept.push(KeptText::of(alloc, text)?)?;
+        own.push(OwnedOptionText::of(alloc, text)?)?;
     }
-    Ok(kept)
+    Ok(own)
 }
 
 /// Whether the options have these texts, in their order.
-fn are_texts_of(kept: &[KeptText], texts: &[OptionText<'_>]) -> bool
-    ensures { IsTrue result ↔ (kept.now ≡ texts.now) }
+fn are_texts_of(own: &[OwnedOptionText], texts: &[OptionText<'_>]) -> bool
+    ensures { IsTrue result ↔ (own.now ≡ texts.now) }
 {
-    if kept.len() != texts.len() {
+    if own.len() != texts.len() {
         return false;
     }
-    for i in 0..kept.len() {
-        if !kept[i].is_of(&texts[i]) {
+    for i in 0..own.len() {
+        if !own[i].is_of(&texts[i]) {
             return false;
         }
     }
@@ -117,7 +37,7 @@ fn are_texts_of(kept: &[KeptText], texts: &[OptionText<'_>]) -> bool
 pub(crate) struct KeptRequest {
     src: IsdAs,
     dst: IsdAs,
-    texts: Vec<KeptText>,
+    texts: Vec<OwnedOptionText>,
     limit: usize,
 }
 
@@ -137,7 +57,7 @@ impl KeptRequest {
         Ok(KeptRequest {
             src: request.src,
             dst: request.dst,
-            texts: kept_texts(alloc, request.options)?,
+            texts: own_texts(alloc, request.options)?,
             limit: request.limit,
         })
     }

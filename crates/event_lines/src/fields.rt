@@ -7,11 +7,10 @@ ghost use Rattle.json_fields.specs.Documents.{list_items, node_data};
 ghost use Rattle.json_fields.specs.Fields.{items_at};
 ghost use Rattle.event_lines.specs.Line.{byte_at, bytes_at, ia_in, long_at, maybe_text_at, one_option, option_in, option_with, options_in, listed_options, short_at, texts_at};
 
-use crate::asked::OwnedOptionText;
 use hex::FromHexError;
 use isd_as::{IfId, IsdAs};
 use json_fields::{Node, NodeList};
-use policy_expr::AclText;
+use policy_expr::{AclText, OwnedOptionText};
 use std::alloc::{AllocError, Global};
 
 /// A member that is a number of 32 bits.

@@ -13,13 +13,13 @@ ghost use Rattle.event_lines.specs.inner.Seen.{line_value};
 ghost use Rattle.event_lines.specs.inner.Replies.{Replies};
 
 use crate::accepted::AcceptedLines;
-use crate::asked::lend_all;
 use crate::fields::options;
 use crate::line::{Line, ask, payload, show, untexted};
 use crate::text::{push_bad_line, push_outcome, push_packet, push_reply};
 use forwarding::TurnReply;
 use json_fields::{Document, JsonRoom, Node};
 use network_core::{Event, Net, Reply};
+use policy_expr::OwnedOptionText;
 use std::alloc::{AllocError, Global};
 
 /// Does an event, and writes its reply.
@@ -112,7 +112,7 @@ fn answer_ask(
     let Some(options) = options(alloc, object)? else {
         return push_bad_line(reply);
     };
-    let lent = lend_all(alloc, &options)?;
+    let lent = OwnedOptionText::lend_all(alloc, &options)?;
     match ask(object, &lent) {
         Some(event) => answer_accepted(alloc, accepted, net, &Line::Happens(event), reply),
         None => push_bad_line(reply),

@@ -6,7 +6,6 @@
 #![tactic(auto)]
 
 mod accepted;
-mod asked;
 mod cutting;
 mod fault;
 pub mod fields;
@@ -17,7 +16,6 @@ mod session;
 mod text;
 
 pub use accepted::AcceptedLines;
-pub use asked::{OwnedOptionText, lend_all};
 pub use fault::RunFault;
 pub use run::{listen, run_lines};
 pub use text::{hops_text, kinds_text, refusal_text};

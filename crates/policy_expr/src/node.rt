@@ -30,19 +30,23 @@ impl<A: Allocator + Clone> SeqNode<A> {
         match self {
             SeqNode::Hop(pred) => Ok(SeqNode::Hop(*pred)),
             SeqNode::Then(first, second) => {
-                let first = kept(alloc, first.clone_in(alloc))?;
-                let second = kept(alloc, second.clone_in(alloc))?;
+                let first = boxed_result(alloc, first.clone_in(alloc))?;
+                let second = boxed_result(alloc, second.clone_in(alloc))?;
                 Ok(SeqNode::Then(first, second))
             }
             SeqNode::Or(first, second) => {
-                let first = kept(alloc, first.clone_in(alloc))?;
-                let second = kept(alloc, second.clone_in(alloc))?;
+                let first = boxed_result(alloc, first.clone_in(alloc))?;
+                let second = boxed_result(alloc, second.clone_in(alloc))?;
                 Ok(SeqNode::Or(first, second))
             }
-            SeqNode::Optional(item) => { Ok(SeqNode::Optional(kept(alloc, item.clone_in(alloc))?)) }
-            SeqNode::Repeated(item) => { Ok(SeqNode::Repeated(kept(alloc, item.clone_in(alloc))?)) }
+            SeqNode::Optional(item) => {
+                Ok(SeqNode::Optional(boxed_result(alloc, item.clone_in(alloc))?))
+            }
+            SeqNode::Repeated(item) => {
+                Ok(SeqNode::Repeated(boxed_result(alloc, item.clone_in(alloc))?))
+            }
             SeqNode::OnceOrMore(item) => {
-                Ok(SeqNode::OnceOrMore(kept(alloc, item.clone_in(alloc))?))
+                Ok(SeqNode::OnceOrMore(boxed_result(alloc, item.clone_in(alloc))?))
             }
         }
     }
@@ -59,7 +63,7 @@ pub(crate) fn boxed<A: Allocator + Clone>(
 }
 
 /// The node in a box, if there was memory for it.
-fn kept<A: Allocator + Clone>(
+fn boxed_result<A: Allocator + Clone>(
     alloc: &A,
     node: Result<SeqNode<A>, AllocError>,
 ) -> Result<Box<SeqNode<A>, A>, AllocError>

@@ -8,10 +8,9 @@ ghost use Rattle.scion_ffi_paths.specs.Answer.{options_of_request, selection_of,
 use crate::fault::{RequestError, RequestFault};
 use crate::request::{PathsRequest, Request};
 use combinator::CombineFault;
-use event_lines::lend_all;
 use path_segment::Segment;
 use path_server::{PathStore, SegmentSet, StoreOp};
-use policy_expr::PolicyOption;
+use policy_expr::{OwnedOptionText, PolicyOption};
 use refusal::OrMemory;
 use std::alloc::{AllocError, Global};
 
@@ -31,7 +30,7 @@ pub(crate) fn options(
     if request.limit == 0 || request.limit > MAX_LIMIT {
         return Err(OrMemory::Refused(RequestFault::BadLimit));
     }
-    let texts = lend_all(alloc, &request.asked.options)?;
+    let texts = OwnedOptionText::lend_all(alloc, &request.asked.options)?;
     let options = match PolicyOption::parse_all(alloc, &texts) {
         Ok(options) => options,
         Err(OrMemory::Memory) => return Err(OrMemory::Memory),

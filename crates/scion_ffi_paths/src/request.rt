@@ -6,11 +6,11 @@ ghost use Rattle.scion_ffi_paths.specs.Asked.{asked_in, paths_asked_in};
 
 use crate::fault::{RequestError, RequestFault};
 use crate::segment::segments;
-use event_lines::OwnedOptionText;
 use event_lines::fields::{ia, long, options};
 use isd_as::IsdAs;
 use json_fields::{Document, JsonRoom, Node};
 use path_segment::Segment;
+use policy_expr::OwnedOptionText;
 use std::alloc::Global;
 use std::marker::Model;
 

@@ -16,11 +16,10 @@ use crate::room::{ScionText, put};
 use crate::stretch::{joined, pieces};
 use crate::text;
 use event_lines::fields::bytes;
-use event_lines::{OwnedOptionText, lend_all};
 use json_fields::{Document, JsonRoom, Node};
 use path_header::{Header, decode};
 use path_verifier::{Piece, Pieces, verify};
-use policy_expr::{OptionFault, Policy};
+use policy_expr::{OptionFault, OwnedOptionText, Policy};
 use refusal::OrMemory;
 use std::alloc::{AllocError, Global};
 
@@ -28,7 +27,7 @@ use std::alloc::{AllocError, Global};
 fn policy(alloc: Global, options: &[OwnedOptionText]) -> Result<Policy<Global>, RequestError>
     ensures { Reads (λ p. p) result (policy_asked options.now) }
 {
-    let texts = lend_all(alloc, options)?;
+    let texts = OwnedOptionText::lend_all(alloc, options)?;
     let [text] = texts.as_slice() else {
         return Err(OrMemory::Refused(RequestFault::BadRequest));
     };
