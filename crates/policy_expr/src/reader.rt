@@ -38,7 +38,8 @@ impl<A: Allocator> Level<A> {
 impl<A: Allocator + Clone> Level<A> {
     /// Takes all that was read at this level, with this item at its end, as one tree.
     fn whole(&mut self, alloc: &A, item: SeqNode<A>) -> Result<SeqNode<A>, AllocError>
-        ensures tree { IfOk result (λ node. tree_of node ≡ whole (level_of self.old) (tree_of item)) }
+        ensures tree { IfOk result (λ node. tree_of node
+            ≡ whole (level_of self.old) (tree_of item)) }
         ensures left { OnOk result (level_of self.new ≡ new_level) }
     {
         let item = join_choices(alloc, self.choices.take(), item)?;
