@@ -68,16 +68,16 @@ fn sending_text(
 }
 
 /// What is said of a path whatever the second: its pieces, its kind, its walk, and until when it is
-/// live. Its policy was that of the answer's option, so here it is verified without one.
+/// live.
 fn known_text(
     alloc: Global,
     pieces: &Pieces<'_>,
     header: &Header,
     source: IsdAs,
     destination: IsdAs,
+    policy: &Policy<Global>,
 ) -> Result<String, AllocError> {
-    let policy = Policy::any();
-    match verify(pieces, header, source, destination, 0, &policy) {
+    match verify(pieces, header, source, destination, 0, policy) {
         Ok(path) => verified_text(alloc, &path),
         Err(_) => Ok(String::new(alloc)),
     }
@@ -91,9 +91,9 @@ fn sending_at(
     source: IsdAs,
     destination: IsdAs,
     now: u32,
+    policy: &Policy<Global>,
 ) -> Result<String, AllocError> {
-    let policy = Policy::any();
-    let verified = verify(pieces, header, source, destination, now, &policy);
+    let verified = verify(pieces, header, source, destination, now, policy);
     sending_text(alloc, verified, pieces, now)
 }
 
@@ -116,22 +116,33 @@ fn report_text(
     source: IsdAs,
     destination: IsdAs,
     now: u32,
+    policy: &Policy<Global>,
 ) -> Result<String, AllocError> {
-    let mut text = known_text(alloc, pieces, header, source, destination)?;
-    let sending = sending_at(alloc, pieces, header, source, destination, now)?;
+    let mut text = known_text(alloc, pieces, header, source, destination, policy)?;
+    let sending = sending_at(alloc, pieces, header, source, destination, now, policy)?;
     text.push_str(sending.as_str())?;
     let fields = packet_fields(alloc, header, source, destination)?;
     text.push_str(fields.as_str())?;
     Ok(text)
 }
 
-/// What is said of a path of an answer at this second.
+/// What is said of a path of an answer at this second. Its policy was that of the answer's option,
+/// so here it is verified without one.
 fn path_report(alloc: Global, path: &Path, now: u32) -> Result<String, AllocError> {
     let [first, .., last] = path.walk() else {
         return refusal_line(alloc, EventFault::NoAnswer);
     };
     let pieces = lend_all(path.pieces());
-    report_text(alloc, &pieces, path.header(), first.ia, last.ia, now)
+    let policy = Policy::any();
+    report_text(
+        alloc,
+        &pieces,
+        path.header(),
+        first.ia,
+        last.ia,
+        now,
+        &policy,
+    )
 }
 
 /// What is said of a path at the network's second, or the line that there is no such path.
@@ -157,6 +168,9 @@ pub(crate) fn answer_path<S: Source>(
 ) -> Result<String, RunFault>
     ensures { S.failed source.new ≡ (S.failed source.old || is_read_fault result) }
 {
-    let net = network_after(alloc, source)?;
-    Ok(answer_text(alloc, path_at(&net, answer, path), net.now())?)
+    let text = {
+        let net = network_after(alloc, source)?;
+        answer_text(alloc, path_at(&net, answer, path), net.now())
+    };
+    Ok(text?)
 }

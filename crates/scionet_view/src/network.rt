@@ -120,6 +120,9 @@ pub(crate) fn network_picture<S: Source>(
         (S.left source.old) (S.left source.new) }
     ensures flag { S.failed source.new ≡ (S.failed source.old || is_read_fault result) }
 {
-    let net = network_after(alloc, source)?;
-    Ok(picture(alloc, &net, subject)?)
+    let text = {
+        let net = network_after(alloc, source)?;
+        picture(alloc, &net, subject)
+    };
+    Ok(text?)
 }

@@ -151,6 +151,9 @@ pub(crate) fn packet_path<S: Source>(
         (S.left source.old) (S.left source.new) }
     ensures flag { S.failed source.new ≡ (S.failed source.old || is_read_fault result) }
 {
-    let net = network_after(alloc, source)?;
-    Ok(packet_text(alloc, net.packet(number as usize))?)
+    let text = {
+        let net = network_after(alloc, source)?;
+        packet_text(alloc, net.packet(number as usize))
+    };
+    Ok(text?)
 }

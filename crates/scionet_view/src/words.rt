@@ -103,10 +103,15 @@ fn place_option<'a>(alloc: Global, name: &'a str, help: &'a str) -> Arg<'a> {
         .help(help)
 }
 
-/// The command with the option for the number of a path, which wants that of its answer.
-fn with_path<'a>(alloc: Global, command: Command<'a>) -> Result<Command<'a>, AllocError> {
+/// The options that name a packet or a path of an answer. A path wants the number of its answer.
+fn subject_options<'a>(alloc: Global) -> Result<Vec<Arg<'a>>, AllocError> {
     let help = "The number of a path of that answer, 0 if it is not given";
-    command.arg(place_option(alloc, "path", help).requires_arg("answer")?)
+    let path = place_option(alloc, "path", help).requires_arg("answer")?;
+    Ok(vec![in alloc;
+        place_option(alloc, "packet", "The number of a packet, from 0"),
+        place_option(alloc, "answer", "The number of an answer, from 0"),
+        path,
+    ]?)
 }
 
 /// The rule that a packet or an answer is named, and not both.
@@ -117,30 +122,8 @@ fn subject_group<'a>(alloc: Global, is_required: bool) -> Result<ArgGroup<'a>, A
         .arg("answer")
 }
 
-/// The command with this group of options, if there was memory for it.
-fn with_group<'a>(
-    command: Command<'a>,
-    group: Result<ArgGroup<'a>, AllocError>,
-) -> Result<Command<'a>, AllocError> {
-    command.group(group?)
-}
-
-/// The command with the options that name a packet or a path of an answer.
-fn with_subject<'a>(
-    alloc: Global,
-    command: Command<'a>,
-    is_required: bool,
-) -> Result<Command<'a>, AllocError> {
-    let command = command
-        .arg(place_option(alloc, "packet", "The number of a packet, from 0"))?
-        .arg(place_option(alloc, "answer", "The number of an answer, from 0"))?;
-    with_group(
-        with_path(alloc, command)?,
-        subject_group(alloc, is_required),
-    )
-}
-
-/// The command of this name about the network that the lines lead to.
+/// The command of this name about the network that the lines lead to. Its options are made before
+/// it, so that it has not to be given up if one of them fails.
 fn network_command<'a>(
     alloc: Global,
     name: &'a str,
@@ -148,32 +131,35 @@ fn network_command<'a>(
     help: &'a str,
     is_required: bool,
 ) -> Result<Command<'a>, AllocError> {
-    let command = Command::new(alloc, name).about(about).after_long_help(help);
-    with_subject(alloc, command, is_required)
+    let group = subject_group(alloc, is_required)?;
+    let options = subject_options(alloc)?;
+    Command::new(alloc, name)
+        .about(about)
+        .after_long_help(help)
+        .args(options)?
+        .group(group)
 }
 
-/// The program with this command, if there was memory for it.
-fn with_command<'a>(
-    program: Command<'a>,
-    command: Result<Command<'a>, AllocError>,
-) -> Result<Command<'a>, AllocError> {
-    program.subcommand(command?)
+/// The commands of the program.
+fn commands<'a>(alloc: Global) -> Result<Vec<Command<'a>>, AllocError> {
+    let mut commands = Vec::with_capacity(alloc, 3)?;
+    commands.push(packet_command(alloc)?)?;
+    let about = "Draws the network that the lines on standard input lead to";
+    commands.push(network_command(alloc, "network", about, NETWORK_HELP, false)?)?;
+    let about = "Shows the path of a packet of that network or of an answer, field by field";
+    commands.push(network_command(alloc, "path", about, PATH_HELP, true)?)?;
+    Ok(commands)
 }
 
 /// The whole command line.
 fn program<'a>(alloc: Global) -> Result<Command<'a>, AllocError> {
-    let program = Command::new(alloc, "scionet_view")
+    let commands = commands(alloc)?;
+    Command::new(alloc, "scionet_view")
         .bin_name("scionet_view")?
         .no_binary_name(true)
         .version(VERSION)
-        .about("Shows what a SCION network does");
-    let program = with_command(program, packet_command(alloc))?;
-    let about = "Draws the network that the lines on standard input lead to";
-    let command = network_command(alloc, "network", about, NETWORK_HELP, false);
-    let program = with_command(program, command)?;
-    let about = "Shows the path of a packet of that network or of an answer, field by field";
-    let command = network_command(alloc, "path", about, PATH_HELP, true);
-    with_command(program, command)
+        .about("Shows what a SCION network does")
+        .subcommands(commands)
 }
 
 /// The fault of words that `clap` accepts and that are no command.
