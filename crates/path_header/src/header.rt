@@ -105,6 +105,34 @@ impl Header {
         })
     }
 
+    /// [`Header::new`] for lists that have the room of a header: they are moved, and not copied.
+    /// The refusals and their order are the same.
+    pub fn of_lists(
+        lens: [u8; 3],
+        infos: ArrayVec<InfoField, 3>,
+        hops: ArrayVec<HopField, 64>,
+    ) -> Result<Header, HeaderFault>
+        ensures { result ≡ new_header (lens_from lens) infos.items hops.items }
+    {
+        let [first, second, third] = lens;
+        let lens = SegLens {
+            first,
+            second,
+            third,
+        }
+        .checked()?;
+        if infos.len() != lens.info_count() || hops.len() != lens.hop_count() {
+            return Err(HeaderFault::Short);
+        }
+        Ok(Header {
+            curr_inf: 0,
+            curr_hf: 0,
+            lens,
+            infos,
+            hops,
+        })
+    }
+
     /// The index of the current info field.
     pub fn curr_inf(&self) -> usize
         ensures value { result ≡ self.now.curr_inf }

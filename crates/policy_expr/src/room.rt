@@ -5,9 +5,12 @@ ghost use Rattle.policy_expr.specs.inner.Views.{remaining};
 use crate::token::{Token, next_token};
 use arrayvec::ArrayVec;
 
-/// A room for the first tokens of a text, so that each is read only once. A sequence of 256 nodes
-/// has at most 256 tokens besides its parentheses.
-pub(crate) type Room = ArrayVec<Token, 288>;
+/// How many tokens of a text are cut only once: a sequence of 256 nodes has at most 256 besides its
+/// parentheses, and few sequences have more than 32 of those.
+const ROOM_LEN: usize = 288;
+
+/// A room for the first tokens of a text, so that each is read only once.
+pub(crate) type Room = ArrayVec<Token, ROOM_LEN>;
 
 /// Adds the first tokens of the text to an empty room, and returns the text after them.
 pub(crate) fn fill<'t>(room: &mut Room, text: &'t str) -> &'t [u8]

@@ -6,5 +6,5 @@ use Rattle.path_verifier.proofs.header.header_of.Goals as goal
 
 pub built-requires : goal.built-requires
 built-requires c =
-    rw (c.deref.ensures.0, c.infos_of.ensures, c.deref-2.ensures.0, c.fields_of_all.ensures, c.lens_of.ensures.value)
+    rw (c.infos_of.ensures, c.fields_of_all.ensures, c.lens_of.ensures.value)
     (is_header (pieces_in c.args.held.now) c.requires.some (length-pieces_in c.args.held.now) c.requires.ranges c.requires.few (subst HaveSixBits c.lens_of.ensures.value c.lens_of.ensures.few))
