@@ -1,10 +1,11 @@
-use isd_as::{IfId, IsdAs};
+use isd_as::IfId;
 use network_view::{Router, network_dot};
 use policy_expr::WalkHop;
 use scion_topology::Topology;
 use std::alloc::Global;
 use std::process::Abort;
 use std::test::Fail;
+use worked::{at, hop};
 
 const ROW_DRAWN: &str = concat!(
     "graph network {",
@@ -180,15 +181,6 @@ const ACROSS_DRAWN: &str = concat!(
     "\n",
 );
 
-/// A hop.
-fn hop(ia: &str, ingress: u16, egress: u16) -> Result<WalkHop, Fail> {
-    Ok(WalkHop {
-        ia: IsdAs::parse(ia)?,
-        ingress: IfId(ingress),
-        egress: IfId(egress),
-    })
-}
-
 /// Asserts that this is the picture of a network, with a packet that has passed these hops and is
 /// at this router.
 fn expect_picture(
@@ -223,11 +215,11 @@ fn networks(rt: HostRuntime) -> Result<(), Fail> {
 #[test]
 fn cut_link(rt: HostRuntime) -> Result<(), Fail> {
     let mut topology = Topology::from_json(rt.alloc(), worked::row().as_bytes())?;
-    let ia = IsdAs::parse("1-ff00:0:111")?;
+    let ia = at(1, 0x111);
     topology.cut_link(ia, IfId(1))?;
-    let passed = [hop("1-ff00:0:112", 0, 1)?];
-    let at = Router { ia, number: 0 };
-    expect_picture(&rt, rt.alloc(), &topology, &passed, Some(at), CUT_DRAWN)
+    let passed = [hop(at(1, 0x112), 0, 1)];
+    let router = Router { ia, number: 0 };
+    expect_picture(&rt, rt.alloc(), &topology, &passed, Some(router), CUT_DRAWN)
 }
 
 /// A core link that a packet has passed, after two links to parents.
@@ -235,13 +227,20 @@ fn cut_link(rt: HostRuntime) -> Result<(), Fail> {
 fn core_link(rt: HostRuntime) -> Result<(), Fail> {
     let topology = Topology::from_json(rt.alloc(), worked::pair().as_bytes())?;
     let passed = [
-        hop("1-ff00:0:112", 0, 1)?,
-        hop("1-ff00:0:111", 2, 1)?,
-        hop("1-ff00:0:110", 1, 2)?,
+        hop(at(1, 0x112), 0, 1),
+        hop(at(1, 0x111), 2, 1),
+        hop(at(1, 0x110), 1, 2),
     ];
-    let at = Router {
-        ia: IsdAs::parse("2-ff00:0:210")?,
+    let router = Router {
+        ia: at(2, 0x210),
         number: 0,
     };
-    expect_picture(&rt, rt.alloc(), &topology, &passed, Some(at), ACROSS_DRAWN)
+    expect_picture(
+        &rt,
+        rt.alloc(),
+        &topology,
+        &passed,
+        Some(router),
+        ACROSS_DRAWN,
+    )
 }

@@ -1,3 +1,4 @@
+use crate::topologies::entry;
 use hop_mac::{hop_mac, next_beta};
 use isd_as::{IfId, IsdAs};
 use path_header::{Header, HeaderFault, HopField, InfoField, encode};
@@ -19,15 +20,6 @@ const UP: [u8; 52] = [
     0x00, 0x00, 0xb1, 0xb2, 0xb3, 0xb4, 0xb5, 0xb6, 0x00, 0x3f, 0x00, 0x00, 0x00, 0x01, 0xa1, 0xa2,
     0xa3, 0xa4, 0xa5, 0xa6,
 ];
-
-fn entry(number: u16, kind: LinkKind, router: u8) -> IfEntry {
-    IfEntry {
-        number: IfId(number),
-        kind,
-        router,
-        up: true,
-    }
-}
 
 /// The address with this ISD, and an AS number of three groups whose first is ff00 and last is
 /// `last`.

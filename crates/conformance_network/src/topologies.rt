@@ -11,7 +11,8 @@ use worked::row;
 
 const IA: u64 = 0x0001_ff00_0000_0111;
 
-fn entry(number: u16, kind: LinkKind, router: u8) -> IfEntry {
+/// An interface of this number, with a link that is up.
+pub(crate) fn entry(number: u16, kind: LinkKind, router: u8) -> IfEntry {
     IfEntry {
         number: IfId(number),
         kind,

@@ -1,33 +1,18 @@
-use isd_as::{IfId, IsdAs};
+use isd_as::IsdAs;
 use path_header::{Header, decode};
-use path_segment::{Entry, SegKind, Segment};
+use path_segment::{SegKind, Segment};
 use path_verifier::{Piece, PieceKind, Pieces, VerifyFault, verify};
 use policy_expr::{AclText, Denied, Policy, PolicyText, WalkHop};
 use std::alloc::{AllocError, Global};
 use std::process::Abort;
 use std::test::Fail;
-use worked::{header_of, hop, piece, pieces_of, policy};
-
-/// An AS of an ISD: `ia(1, 0x110)` stands for `1-ff00:0:110`.
-fn ia(isd: u16, number: u16) -> IsdAs {
-    IsdAs::from_number(u64::from(isd) << 48 | 0xff00_0000_0000 | u64::from(number))
-}
-
-fn entry(ia: IsdAs, cons_ingress: u16, cons_egress: u16, mac: [u8; 6]) -> Entry {
-    Entry {
-        ia,
-        cons_ingress: IfId(cons_ingress),
-        cons_egress: IfId(cons_egress),
-        exp_time: 63,
-        mac,
-    }
-}
+use worked::{at, entry, header_of, hop, piece, pieces_of, policy};
 
 /// The worked segment, from 1-ff00:0:110 down to 1-ff00:0:111.
 fn worked_segment(alloc: Global) -> Result<Segment, Fail> {
     let entries = vec![in alloc;
-        entry(ia(1, 0x110), 0, 1, [0xa1, 0xa2, 0xa3, 0xa4, 0xa5, 0xa6]),
-        entry(ia(1, 0x111), 2, 0, [0xb1, 0xb2, 0xb3, 0xb4, 0xb5, 0xb6]),
+        entry(at(1, 0x110), 0, 1, [0xa1, 0xa2, 0xa3, 0xa4, 0xa5, 0xa6]),
+        entry(at(1, 0x111), 2, 0, [0xb1, 0xb2, 0xb3, 0xb4, 0xb5, 0xb6]),
     ]?;
     Ok(Segment::new(SegKind::Intra, 100, 4660, entries)?)
 }
@@ -67,9 +52,9 @@ fn accepted(
     header: &Header,
 ) -> Result<(usize, bool, bool, u64), Fail> {
     let policy = policy(alloc, &[], "")?;
-    let path = verify(pieces, header, ia(1, 0x111), ia(1, 0x110), 100, &policy)?;
+    let path = verify(pieces, header, at(1, 0x111), at(1, 0x110), 100, &policy)?;
     path.known();
-    let walk = [hop(ia(1, 0x111), 0, 2), hop(ia(1, 0x110), 1, 0)];
+    let walk = [hop(at(1, 0x111), 0, 2), hop(at(1, 0x110), 1, 0)];
     let has_header = path.header().is_same(header);
     let has_walk = path.walk() == walk.as_slice();
     Ok((path.pieces().len(), has_header, has_walk, path.expiry()))
@@ -108,7 +93,7 @@ fn changed(
     for _ in 0..count {
         pieces.push(piece(segment, 0, to, false))?;
     }
-    let (src, dst) = (ia(1, 0x111), ia(1, dst));
+    let (src, dst) = (at(1, 0x111), at(1, dst));
     let copy = policy.clone_in(alloc)?;
     Ok([
         code_of(&pieces, &header, src, dst, now, policy),
@@ -149,7 +134,7 @@ fn denied(alloc: Global, acl: &[&str]) -> Result<Option<Denied>, Fail> {
     let mut pieces = Pieces::new();
     pieces.push(piece(&segment, 0, 1, false))?;
     let policy = policy(alloc, acl, "")?;
-    match verify(&pieces, &header, ia(1, 0x111), ia(1, 0x110), 100, &policy) {
+    match verify(&pieces, &header, at(1, 0x111), at(1, 0x110), 100, &policy) {
         Err(VerifyFault::AclDenied(denied)) => Ok(Some(denied)),
         _ => Ok(None),
     }
@@ -210,9 +195,9 @@ struct Way {
 impl Way {
     /// The segments from 1-ff00:0:112 over the core ASes of both ISDs to 2-ff00:0:212.
     fn new(alloc: Global) -> Result<Way, Fail> {
-        let (near, far) = (ia(1, 0x110), ia(2, 0x210));
-        let up = [(near, 0, 1), (ia(1, 0x111), 1, 2), (ia(1, 0x112), 1, 0)];
-        let down = [(far, 0, 2), (ia(2, 0x211), 1, 2), (ia(2, 0x212), 1, 0)];
+        let (near, far) = (at(1, 0x110), at(2, 0x210));
+        let up = [(near, 0, 1), (at(1, 0x111), 1, 2), (at(1, 0x112), 1, 0)];
+        let down = [(far, 0, 2), (at(2, 0x211), 1, 2), (at(2, 0x212), 1, 0)];
         Ok(Way {
             up: segment_of(alloc, SegKind::Intra, &up)?,
             core: segment_of(alloc, SegKind::Core, &[(near, 0, 2), (far, 1, 0)])?,
@@ -282,14 +267,14 @@ fn up_core_down(rt: HostRuntime) -> Result<(), Fail> {
     let way = Way::new(alloc)?;
     let whole = way.parts(0, true);
     let header = header_of(alloc, [3, 2, 3], &whole)?;
-    let (near, far) = (ia(1, 0x110), ia(2, 0x210));
-    let (src, dst) = (ia(1, 0x112), ia(2, 0x212));
+    let (near, far) = (at(1, 0x110), at(2, 0x210));
+    let (src, dst) = (at(1, 0x112), at(2, 0x212));
     let walk = [
         hop(src, 0, 1),
-        hop(ia(1, 0x111), 2, 1),
+        hop(at(1, 0x111), 2, 1),
         hop(near, 1, 2),
         hop(far, 1, 2),
-        hop(ia(2, 0x211), 1, 2),
+        hop(at(2, 0x211), 1, 2),
         hop(dst, 1, 0),
     ];
     assert!(rt; has_walk(alloc, &pieces_of(&whole)?, &header, (src, dst), &walk)?);
@@ -303,9 +288,9 @@ fn up_core_down(rt: HostRuntime) -> Result<(), Fail> {
 
 /// The segments of two children of one AS, up from the first and down to the second.
 fn two_children(alloc: Global) -> Result<(Segment, Segment), Fail> {
-    let (top, middle) = (ia(1, 0x110), ia(1, 0x111));
-    let up = [(top, 0, 1), (middle, 1, 2), (ia(1, 0x112), 1, 0)];
-    let down = [(top, 0, 1), (middle, 1, 3), (ia(1, 0x113), 1, 0)];
+    let (top, middle) = (at(1, 0x110), at(1, 0x111));
+    let up = [(top, 0, 1), (middle, 1, 2), (at(1, 0x112), 1, 0)];
+    let down = [(top, 0, 1), (middle, 1, 3), (at(1, 0x113), 1, 0)];
     let up = segment_of(alloc, SegKind::Intra, &up)?;
     Ok((up, segment_of(alloc, SegKind::Intra, &down)?))
 }
@@ -317,10 +302,10 @@ fn shortcut(rt: HostRuntime) -> Result<(), Fail> {
     let (up, down) = two_children(alloc)?;
     let parts = [(&up, 1, false), (&down, 1, true)];
     let header = header_of(alloc, [2, 2, 0], &parts)?;
-    let ends = (ia(1, 0x112), ia(1, 0x113));
+    let ends = (at(1, 0x112), at(1, 0x113));
     let walk = [
         hop(ends.0, 0, 1),
-        hop(ia(1, 0x111), 2, 3),
+        hop(at(1, 0x111), 2, 3),
         hop(ends.1, 1, 0),
     ];
     assert!(rt; has_walk(alloc, &pieces_of(&parts)?, &header, ends, &walk)?);
@@ -332,10 +317,10 @@ fn shortcut(rt: HostRuntime) -> Result<(), Fail> {
 
 /// A segment of this many ASes below 1-ff00:0:1, whose first has this number.
 fn long(alloc: Global, first: u16, count: u16) -> Result<Segment, Fail> {
-    let mut ases = vec![in alloc; (ia(1, 1), 0, 2)]?;
+    let mut ases = vec![in alloc; (at(1, 1), 0, 2)]?;
     for place in 1..count {
         let egress = if place + 1 < count { 2 } else { 0 };
-        ases.push((ia(1, first.saturating_add(place)), 1, egress))?;
+        ases.push((at(1, first.saturating_add(place)), 1, egress))?;
     }
     segment_of(alloc, SegKind::Intra, &ases)
 }
@@ -358,7 +343,7 @@ fn expect_most(
         alloc,
         &parts,
         &header,
-        (ia(1, 0x11f), ia(1, last)),
+        (at(1, 0x11f), at(1, last)),
         code,
     )
 }

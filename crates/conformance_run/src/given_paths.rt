@@ -3,35 +3,23 @@
 
 use crate::row::authenticators;
 use forwarding::TurnReply;
-use isd_as::IfId;
 use network_core::{Event, Given, Net, Reply};
 use path_header::Header;
-use path_segment::{Entry, SegKind, Segment};
+use path_segment::{SegKind, Segment};
 use path_verifier::Pieces;
 use policy_expr::Policy;
 use router_step::Outcome;
 use scion_topology::Topology;
 use std::alloc::{AllocError, Global};
 use std::test::Fail;
-use worked::{at, header_of, pieces_of, row};
-
-/// An entry of a segment of the row of three ASes.
-fn entry(last: u16, cons_ingress: u16, cons_egress: u16, mac: [u8; 6]) -> Entry {
-    Entry {
-        ia: at(1, last),
-        cons_ingress: IfId(cons_ingress),
-        cons_egress: IfId(cons_egress),
-        exp_time: 63,
-        mac,
-    }
-}
+use worked::{at, entry, header_of, pieces_of, row};
 
 /// A segment of the row, made at second 1000 with accumulator 4660 and these authenticators.
 fn segment(alloc: Global, macs: [[u8; 6]; 3]) -> Result<Segment, Fail> {
     let entries = vec![in alloc;
-        entry(0x110, 0, 1, macs[0]),
-        entry(0x111, 1, 2, macs[1]),
-        entry(0x112, 1, 0, macs[2]),
+        entry(at(1, 0x110), 0, 1, macs[0]),
+        entry(at(1, 0x111), 1, 2, macs[1]),
+        entry(at(1, 0x112), 1, 0, macs[2]),
     ]?;
     Ok(Segment::new(SegKind::Intra, 1000, 4660, entries)?)
 }

@@ -1,12 +1,13 @@
 //! The segments that these tests publish, and the paths over them.
 
 use combinator::{Path, PathList};
-use isd_as::{IfId, IsdAs};
+use isd_as::IsdAs;
 use path_header::encode;
 use path_segment::{Entry, SegKind, Segment};
 use path_server::SegmentSet;
 use policy_expr::WalkHop;
 use std::alloc::Global;
+use worked::{entry, hop};
 
 /// The second at which the worked segment was made.
 pub(crate) const EARLY: u32 = 100;
@@ -20,17 +21,6 @@ pub(crate) const AFTER_EARLY: u32 = 21_701;
 /// An AS of ISD 1: `110` stands for `1-ff00:0:110`.
 pub(crate) fn ia(number: u64) -> IsdAs {
     IsdAs::from_number(0x0001_ff00_0000_0000 | number)
-}
-
-/// An entry of an AS, with its ways in and out.
-fn entry(ia: IsdAs, cons_ingress: u16, cons_egress: u16, mac: [u8; 6]) -> Entry {
-    Entry {
-        ia,
-        cons_ingress: IfId(cons_ingress),
-        cons_egress: IfId(cons_egress),
-        exp_time: 63,
-        mac,
-    }
 }
 
 /// The entries of the worked segment.
@@ -100,15 +90,6 @@ const DOWN: [u8; 36] = [
     0xb3, 0xb4, 0xb5, 0xb6,
 ];
 
-/// A hop of a walk.
-fn hop(number: u64, ingress: u16, egress: u16) -> WalkHop {
-    WalkHop {
-        ia: ia(number),
-        ingress: IfId(ingress),
-        egress: IfId(egress),
-    }
-}
-
 /// Whether a path has this walk, and a header of these bytes.
 fn has(path: &Path, walk: [WalkHop; 2], header: &[u8; 36]) -> bool {
     let mut room = [0u8; 36];
@@ -119,8 +100,8 @@ fn has(path: &Path, walk: [WalkHop; 2], header: &[u8; 36]) -> bool {
 pub(crate) fn answer_of(paths: &PathList) -> Answer {
     match paths.paths() {
         [] => Answer::Nothing,
-        [path] if has(path, [hop(0x111, 0, 2), hop(0x110, 1, 0)], &UP) => Answer::Up,
-        [path] if has(path, [hop(0x110, 0, 1), hop(0x111, 2, 0)], &DOWN) => Answer::Down,
+        [path] if has(path, [hop(ia(0x111), 0, 2), hop(ia(0x110), 1, 0)], &UP) => Answer::Up,
+        [path] if has(path, [hop(ia(0x110), 0, 1), hop(ia(0x111), 2, 0)], &DOWN) => Answer::Down,
         _ => Answer::Other,
     }
 }

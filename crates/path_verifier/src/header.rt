@@ -25,11 +25,7 @@ pub(crate) fn header_of(held: &PieceSlots<'_>) -> Header
 }
 
 /// The header of these lengths and fields.
-fn built(
-    lens: [u8; 3],
-    infos: ArrayVec<InfoField, 3>,
-    fields: ArrayVec<HopField, 64>,
-) -> Header
+fn built(lens: [u8; 3], infos: ArrayVec<InfoField, 3>, fields: ArrayVec<HopField, 64>) -> Header
     requires { IsHeader (first_header (lens_from lens) infos.items fields.items) }
     ensures { result ≡ first_header (lens_from lens) infos.items fields.items }
 {

@@ -6,7 +6,7 @@ ghost use Rattle.isd_as.specs.Address.{address_of};
 
 use isd_as::{IfId, IsdAs};
 use path_header::{Header, HopField, InfoField};
-use path_segment::Segment;
+use path_segment::{Entry, Segment};
 use path_verifier::{Piece, Pieces};
 use policy_expr::{AclText, Policy, PolicyText, WalkHop};
 use std::alloc::Global;
@@ -70,6 +70,25 @@ pub fn at(isd: u16, last: u16) -> IsdAs
     ensures { result ≡ address_of isd (0xff00_0000_0000 + last) }
 {
     IsdAs::from_number(u64::from(isd) * (1 << 48) + 0xff00_0000_0000 + u64::from(last))
+}
+
+/// An entry of a segment, with the expiry 63.
+pub fn entry(ia: IsdAs, cons_ingress: u16, cons_egress: u16, mac: [u8; 6]) -> Entry
+    ensures { result ≡ record {
+      ia = ia;
+      cons_ingress = cons_ingress;
+      cons_egress = cons_egress;
+      exp_time = 63;
+      mac = mac;
+    } }
+{
+    Entry {
+        ia,
+        cons_ingress: IfId(cons_ingress),
+        cons_egress: IfId(cons_egress),
+        exp_time: 63,
+        mac,
+    }
 }
 
 /// A hop of a walk.
