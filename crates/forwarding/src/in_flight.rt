@@ -14,7 +14,8 @@ use scion_topology::{RouterView, Topology};
 use std::alloc::{AllocError, Global};
 use std::marker::Model;
 
-/// A packet in a network: its bytes, its place, and the hops that it has passed, at most 64.
+/// A packet in a network: its bytes, its place, and the hops that it has passed, at most 64. The
+/// room for them is taken when the packet is made.
 #[derive(Debug, Drop)]
 pub struct PacketInFlight {
     bytes: Vec<u8>,
@@ -31,12 +32,18 @@ impl Model for PacketInFlight {
 }
 
 impl PacketInFlight {
-    /// A packet of these bytes that a host sends, at this router of the host's AS. It has room for
-    /// the hops that it will pass, and takes no memory.
-    pub fn at_router(bytes: Vec<u8>, ia: IsdAs, router: u8) -> PacketInFlight
-        ensures { result ≡ put_at bytes.items ia router }
+    /// A packet of these bytes that a host sends, at this router of the host's AS, unless memory
+    /// runs out for the hops that it will pass. It allocates once.
+    pub fn at_router(
+        alloc: Global,
+        bytes: Vec<u8>,
+        ia: IsdAs,
+        router: u8,
+    ) -> Result<PacketInFlight, AllocError>
+        ensures { IfOk result (λ packet. packet ≡ put_at bytes.items ia router) }
     {
-        PacketInFlight {
+        let passed = HopTrace::new(alloc)?;
+        Ok(PacketInFlight {
             bytes,
             place: PacketLocation::AtRouter(RouterStop {
                 ia,
@@ -44,20 +51,21 @@ impl PacketInFlight {
                 arrival: Arrival::FromHost,
                 came_in_by: IfId::NONE,
             }),
-            passed: HopTrace::new(),
-        }
+            passed,
+        })
     }
 
     /// A copy of the packet that owns its bytes, unless memory runs out.
     pub fn try_clone(&self, alloc: Global) -> Result<PacketInFlight, AllocError>
         ensures { IfOk result (λ copy. copy ≡ self.now) }
     {
+        let passed = self.passed.try_clone(alloc)?;
         let mut bytes = Vec::with_capacity(alloc, self.bytes.len())?;
         bytes.extend_from_slice(&self.bytes)?;
         Ok(PacketInFlight {
             bytes,
             place: self.place,
-            passed: self.passed.again(),
+            passed,
         })
     }
 

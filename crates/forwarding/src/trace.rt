@@ -1,56 +1,48 @@
-ghost use Rattle.std.specs.Prelude.{◌≡◌, [], ◌≤◌, length};
+ghost use Rattle.std.specs.Prelude.{◌≡◌, [], ◌≤◌, IfOk, length};
 ghost use Rattle.forwarding.specs.Turn.{noted};
 
-use isd_as::{IfId, IsdAs};
 use policy_expr::WalkHop;
+use std::alloc::{AllocError, Global};
 use std::marker::Model;
 
 /// The largest number of passed hops that a packet keeps.
 pub const MAX_PASSED: usize = 64;
 
-/// The hops that a packet has passed, at most the first 64.
+/// The hops that a packet has passed, at most the first 64. An invariant of the type: it has room
+/// for 64, so that a turn takes no memory.
 #[derive(Debug, Drop)]
 pub(crate) struct HopTrace {
-    hops: [WalkHop; MAX_PASSED],
-    len: usize,
+    hops: Vec<WalkHop>,
 }
 
 impl Model for HopTrace {
-    ghost use Rattle.std.specs.Prelude.{◌≤◌, List, take};
+    ghost use Rattle.std.specs.Prelude.{◌≤◌, List, vec_capacity, vec_len};
     ghost use Rattle.policy_expr.specs.declared.hop.WalkHop.{WalkHop};
 
     ghost Value = { List WalkHop };
 
-    ghost view = { λ p. take p.len p.hops };
+    ghost view = { λ p. p.hops.items };
 
-    ghost invariant = { λ p. p.len ≤ 64 };
+    ghost invariant = { λ p. (vec_len p.hops ≤ 64) × (64 ≤ vec_capacity p.hops) };
 }
 
 impl HopTrace {
-    /// No hops.
-    pub(crate) fn new() -> HopTrace
-        ensures { result ≡ [] }
+    /// No hops, unless memory runs out for their room.
+    pub(crate) fn new(alloc: Global) -> Result<HopTrace, AllocError>
+        ensures { IfOk result (λ trace. trace ≡ []) }
     {
-        let nowhere = WalkHop {
-            ia: IsdAs::from_number(0),
-            ingress: IfId::NONE,
-            egress: IfId::NONE,
-        };
-        HopTrace {
-            hops: [nowhere; MAX_PASSED],
-            len: 0,
-        }
+        Ok(HopTrace {
+            hops: Vec::with_capacity(alloc, MAX_PASSED)?,
+        })
     }
 
-    /// A copy of these hops.
-    pub(crate) fn again(&self) -> HopTrace
-        ensures { result ≡ self.now }
+    /// A copy of these hops, unless memory runs out.
+    pub(crate) fn try_clone(&self, alloc: Global) -> Result<HopTrace, AllocError>
+        ensures { IfOk result (λ copy. copy ≡ self.now) }
     {
-        let mut copy = HopTrace::new();
-        let HopTrace { hops, len } = &mut copy;
-        hops.copy_from_slice(&self.hops);
-        *len = self.len;
-        copy
+        let mut hops = Vec::with_capacity(alloc, MAX_PASSED)?;
+        hops.extend_from_slice(&self.hops)?;
+        Ok(HopTrace { hops })
     }
 
     /// The hops, in order.
@@ -58,16 +50,15 @@ impl HopTrace {
         ensures value { result.now ≡ self.now }
         ensures few { length self.now ≤ 64 }
     {
-        &self.hops[..self.len]
+        &self.hops
     }
 
     /// Adds a hop, if there are fewer than 64.
     pub(crate) fn note(&mut self, hop: WalkHop)
         ensures { self.new ≡ noted self.old hop }
     {
-        if self.len < MAX_PASSED {
-            self.hops[self.len] = hop;
-            self.len += 1;
+        if self.hops.len() < MAX_PASSED {
+            self.hops.push_reserved(hop);
         }
     }
 }

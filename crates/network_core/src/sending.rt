@@ -255,10 +255,11 @@ fn packet_of(
     lent.header.known();
     let source = lent.source;
     let bytes = frame(alloc, source, lent.destination, lent.header, payload)?;
+    let transit = PacketInFlight::at_router(alloc, bytes, source, router)?;
     let payload = clone_bytes(alloc, payload)?;
     Ok(Packet {
         sent: Sent { way, payload },
-        transit: PacketInFlight::at_router(bytes, source, router),
+        transit,
     })
 }
 

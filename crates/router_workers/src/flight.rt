@@ -67,8 +67,8 @@ impl<'a> Model for Flight<'a> {
 impl<'a> Flight<'a> {
     /// The flight of what was sent in this network, at the router that owns the first way out of
     /// its walk, without any turns. [`TopologyFault::UnknownAs`] if the network has no such AS, and
-    /// [`TopologyFault::NoLink`] if the AS has no such interface. It allocates once, for the
-    /// packet's bytes; the room for the passed hops is part of the flight.
+    /// [`TopologyFault::NoLink`] if the AS has no such interface. It allocates twice: for the
+    /// packet's bytes, and for the hops that it will pass.
     pub fn new(
         alloc: Global,
         fabric: &'a Topology,
@@ -90,6 +90,7 @@ impl<'a> Flight<'a> {
             sent.header(),
             sent.payload(),
         )?;
+        let transit = PacketInFlight::at_router(alloc, bytes, sent.source(), router)?;
         Ok(Flight {
             fabric,
             source: sent.source(),
@@ -98,7 +99,7 @@ impl<'a> Flight<'a> {
             header: sent.header(),
             payload: sent.payload(),
             turns: 0,
-            transit: PacketInFlight::at_router(bytes, sent.source(), router),
+            transit,
         })
     }
 
