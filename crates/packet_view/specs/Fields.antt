@@ -92,18 +92,26 @@ unfoldable pub each_below : (ℕ → List ℕ) → ℕ → List ℕ
 each_below one zero = []
 each_below one (suc n) = each_below one n ++ one n
 
+-- the lines of the info field of this index of a header
+abbrev pub info_text_at : List ℕ → HeaderValue → ℕ → List ℕ
+info_text_at packet header index =
+    info_text packet (20 + 8 * index) index (info_field_at header index)
+
 unfoldable pub infos_text : List ℕ → HeaderValue → ℕ → List ℕ
-infos_text packet header count =
-    each_below (λ i. info_text packet (20 + 8 * i) i (info_field_at header i)) count
+infos_text packet header count = each_below (info_text_at packet header) count
 
 -- the hop field of this index
 abbrev pub hop_field : HeaderValue → ℕ → HopField
 hop_field header index = current_hop (record header { curr_hf = index })
 
+-- the lines of the hop field of this index of a header
+abbrev pub hop_text_at : List ℕ → HeaderValue → ℕ → List ℕ
+hop_text_at packet header index =
+    hop_text packet (20 + 8 * length header.infos + 12 * index) index
+    (info_field_at header (segment_at header.lens index)).timestamp (hop_field header index)
+
 unfoldable pub hops_text : List ℕ → HeaderValue → ℕ → List ℕ
-hops_text packet header count =
-    each_below (λ i. hop_text packet (20 + 8 * length header.infos + 12 * i) i
-    (info_field_at header (segment_at header.lens i)).timestamp (hop_field header i)) count
+hops_text packet header count = each_below (hop_text_at packet header) count
 
 -- ---- the packet
 

@@ -1,9 +1,9 @@
 //! The fields of a packet, each on a line: its bytes in hexadecimal, and their meaning.
 
-ghost use Rattle.std.specs.Prelude.{◌≡◌, ◌+◌, ◌≤◌, ◌++◌, length, IfOk, OnOk};
+ghost use Rattle.std.specs.Prelude.{◌≡◌, ◌+◌, ◌<◌, ◌≤◌, ◌++◌, length, IfOk, OnOk};
 ghost use Rattle.std.specs.String.{string_bytes};
 ghost use Rattle.path_header.specs.Value.{header_len};
-ghost use Rattle.packet_view.specs.Fields.{address_text, behind_text, field_text, fields_text, flag_of, header_text, hop_text, hops_text, info_text, infos_text, last_live, mac_text, meta_text, number_text, payload_text};
+ghost use Rattle.packet_view.specs.Fields.{address_text, behind_text, field_text, fields_text, flag_of, header_text, hop_text, hop_text_at, hops_text, info_text, info_text_at, infos_text, last_live, mac_text, meta_text, number_text, payload_text};
 ghost use Rattle.packet_view.specs.inner.Part.{parts_text};
 ghost use Rattle.router_step.specs.Packet.{header_in};
 
@@ -231,6 +231,24 @@ fn add_hop(
     add_mac(alloc, text, packet, start + 6, index)
 }
 
+/// Adds the lines of the info field of this index of a header.
+fn add_info_at(
+    alloc: Global,
+    text: &mut String,
+    packet: &[u8],
+    header: &Header,
+    index: usize,
+) -> Result<(), AllocError>
+    requires within { index < length header.now.infos }
+    requires whole { 16 + header_len header.now ≤ length packet.now }
+    ensures { OnOk result (string_bytes text.new
+        ≡ string_bytes text.old ++ info_text_at packet.now header.now index) }
+{
+    header.known();
+    let start = 20 + 8 * index;
+    add_info(alloc, text, packet, start, index, &header.info(index))
+}
+
 /// The info fields.
 #[tactic(auto, unfolding(crate::specs::Fields::infos_text, crate::specs::Fields::each_below))]
 fn infos_text(alloc: Global, packet: &[u8], header: &Header) -> Result<String, AllocError>
@@ -238,13 +256,31 @@ fn infos_text(alloc: Global, packet: &[u8], header: &Header) -> Result<String, A
     ensures { IfOk result (λ text. string_bytes text
         ≡ infos_text packet.now header.now (length header.now.infos)) }
 {
-    header.known();
     let mut text = String::new(alloc);
     for index in 0..header.info_count() {
-        let start = 20 + 8 * index;
-        add_info(alloc, &mut text, packet, start, index, &header.info(index))?;
+        add_info_at(alloc, &mut text, packet, header, index)?;
     }
     Ok(text)
+}
+
+/// Adds the lines of the hop field of this index of a header.
+fn add_hop_at(
+    alloc: Global,
+    text: &mut String,
+    packet: &[u8],
+    header: &Header,
+    index: usize,
+) -> Result<(), AllocError>
+    requires within { index < length header.now.hops }
+    requires whole { 16 + header_len header.now ≤ length packet.now }
+    ensures { OnOk result (string_bytes text.new
+        ≡ string_bytes text.old ++ hop_text_at packet.now header.now index) }
+{
+    header.known();
+    let timestamp = header.info(header.segment_of(index)).timestamp;
+    let start = 20 + 8 * header.info_count() + 12 * index;
+    let hop = header.hop(index);
+    add_hop(alloc, text, packet, start, index, timestamp, &hop)
 }
 
 /// The hop fields.
@@ -254,14 +290,9 @@ fn hops_text(alloc: Global, packet: &[u8], header: &Header) -> Result<String, Al
     ensures { IfOk result (λ text. string_bytes text
         ≡ hops_text packet.now header.now (length header.now.hops)) }
 {
-    header.known();
-    let first = 20 + 8 * header.info_count();
     let mut text = String::new(alloc);
     for index in 0..header.hop_count() {
-        let timestamp = header.info(header.segment_of(index)).timestamp;
-        let start = first + 12 * index;
-        let hop = header.hop(index);
-        add_hop(alloc, &mut text, packet, start, index, timestamp, &hop)?;
+        add_hop_at(alloc, &mut text, packet, header, index)?;
     }
     Ok(text)
 }
