@@ -10,10 +10,8 @@ use combinator::Path;
 use event_lines::RunFault;
 use forwarding::frame;
 use hop_mac::{expiry, hop_is_live};
-use isd_as::IsdAs;
-use network_core::EventFault;
+use network_core::{EventFault, Given};
 use packet_view::fields_text;
-use path_header::Header;
 use path_segment::Entry;
 use path_verifier::{Piece, Pieces, VerifiedPath, VerifyFault, lend_all, verify};
 use policy_expr::Policy;
@@ -67,61 +65,39 @@ fn sending_text(
     format!(in alloc; "send: no {code} {name}: {fault}{}\n", hop.as_str())
 }
 
-/// What is said of a path whatever the second: its pieces, its kind, its walk, and until when it is
+/// What is said of a way whatever the second: its pieces, its kind, its walk, and until when it is
 /// live.
-fn known_text(
-    alloc: Global,
-    pieces: &Pieces<'_>,
-    header: &Header,
-    source: IsdAs,
-    destination: IsdAs,
-    policy: &Policy<Global>,
-) -> Result<String, AllocError> {
-    match verify(pieces, header, source, destination, 0, policy) {
+fn known_text(alloc: Global, way: &Given<'_>) -> Result<String, AllocError> {
+    match verified_at(way, 0) {
         Ok(path) => verified_text(alloc, &path),
         Err(_) => Ok(String::new(alloc)),
     }
 }
 
-/// Whether a packet may be sent on a path at this second.
-fn sending_at(
-    alloc: Global,
-    pieces: &Pieces<'_>,
-    header: &Header,
-    source: IsdAs,
-    destination: IsdAs,
-    now: u32,
-    policy: &Policy<Global>,
-) -> Result<String, AllocError> {
-    let verified = verify(pieces, header, source, destination, now, policy);
-    sending_text(alloc, verified, pieces, now)
+/// The verifier's answer for a way at this second.
+fn verified_at<'a>(way: &Given<'a>, now: u32) -> Result<VerifiedPath<'a, 'a, Global>, VerifyFault> {
+    verify(
+        way.pieces,
+        way.header,
+        way.source,
+        way.destination,
+        now,
+        way.policy,
+    )
 }
 
-/// The fields of a packet without payload on a path with this header.
-fn packet_fields(
-    alloc: Global,
-    header: &Header,
-    source: IsdAs,
-    destination: IsdAs,
-) -> Result<String, AllocError> {
-    let packet = frame(alloc, source, destination, header, &[])?;
+/// The fields of a packet without payload on a way.
+fn packet_fields(alloc: Global, way: &Given<'_>) -> Result<String, AllocError> {
+    let packet = frame(alloc, way.source, way.destination, way.header, &[])?;
     fields_text(alloc, &packet)
 }
 
-/// What is said of a path of these pieces between these ASes at this second.
-fn report_text(
-    alloc: Global,
-    pieces: &Pieces<'_>,
-    header: &Header,
-    source: IsdAs,
-    destination: IsdAs,
-    now: u32,
-    policy: &Policy<Global>,
-) -> Result<String, AllocError> {
-    let mut text = known_text(alloc, pieces, header, source, destination, policy)?;
-    let sending = sending_at(alloc, pieces, header, source, destination, now, policy)?;
+/// What is said of a way at this second.
+fn report_text(alloc: Global, way: &Given<'_>, now: u32) -> Result<String, AllocError> {
+    let mut text = known_text(alloc, way)?;
+    let sending = sending_text(alloc, verified_at(way, now), way.pieces, now)?;
     text.push_str(sending.as_str())?;
-    let fields = packet_fields(alloc, header, source, destination)?;
+    let fields = packet_fields(alloc, way)?;
     text.push_str(fields.as_str())?;
     Ok(text)
 }
@@ -134,15 +110,14 @@ fn path_report(alloc: Global, path: &Path, now: u32) -> Result<String, AllocErro
     };
     let pieces = lend_all(path.pieces());
     let policy = Policy::any();
-    report_text(
-        alloc,
-        &pieces,
-        path.header(),
-        first.ia,
-        last.ia,
-        now,
-        &policy,
-    )
+    let way = Given {
+        source: first.ia,
+        destination: last.ia,
+        pieces: &pieces,
+        header: path.header(),
+        policy: &policy,
+    };
+    report_text(alloc, &way, now)
 }
 
 /// What is said of a path at the network's second, or the line that there is no such path.

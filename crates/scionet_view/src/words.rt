@@ -143,11 +143,11 @@ fn network_command<'a>(
 /// The commands of the program.
 fn commands<'a>(alloc: Global) -> Result<Vec<Command<'a>>, AllocError> {
     let mut commands = Vec::with_capacity(alloc, 3)?;
-    commands.push(packet_command(alloc)?)?;
+    commands.push_reserved(packet_command(alloc)?);
     let about = "Draws the network that the lines on standard input lead to";
-    commands.push(network_command(alloc, "network", about, NETWORK_HELP, false)?)?;
+    commands.push_reserved(network_command(alloc, "network", about, NETWORK_HELP, false)?);
     let about = "Shows the path of a packet of that network or of an answer, field by field";
-    commands.push(network_command(alloc, "path", about, PATH_HELP, true)?)?;
+    commands.push_reserved(network_command(alloc, "path", about, PATH_HELP, true)?);
     Ok(commands)
 }
 
