@@ -31,9 +31,13 @@ abbrev pub piece_line : ℕ → Option PieceValue → List ℕ
 piece_line number None = []
 piece_line number (Some piece) = piece_text number piece
 
+-- the line of the piece of this number of a path, if there is one
+abbrev pub piece_line_at : List PieceValue → ℕ → List ℕ
+piece_line_at pieces number = piece_line number (slice_get pieces number)
+
 -- the lines of the pieces with numbers below this one
 unfoldable pub pieces_text : List PieceValue → ℕ → List ℕ
-pieces_text pieces count = each_below (λ number. piece_line number (slice_get pieces number)) count
+pieces_text pieces count = each_below (piece_line_at pieces) count
 
 -- what is said of a path: its pieces, its kind, its walk, and the last second at which it is live
 unfoldable pub path_text : List PieceValue → ℕ → List ℕ

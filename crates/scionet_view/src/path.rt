@@ -1,12 +1,12 @@
 //! The path of a packet of the network after some lines, as text.
 
-ghost use Rattle.std.specs.Prelude.{◌≡◌, ◌||◌, IfOk, IfSome, length, option_map, slice_get};
+ghost use Rattle.std.specs.Prelude.{◌≡◌, ◌||◌, ◌++◌, IfOk, OnOk, length, option_map, slice_get};
 ghost use Rattle.std.specs.String.{string_bytes};
 ghost use Rattle.path_verifier.specs.Piece.{HasRange};
 ghost use Rattle.network_core.specs.Value.{asked_at};
 ghost use Rattle.event_lines.specs.Run.{is_read_fault};
 ghost use Rattle.scionet_view.specs.Reached.{Shows};
-ghost use Rattle.scionet_view.specs.Path.{TellsPacket, TellsPath, kind_text, path_text, piece_line, piece_text, pieces_text};
+ghost use Rattle.scionet_view.specs.Path.{TellsPacket, TellsPath, kind_text, path_text, piece_line_at, piece_text, pieces_text};
 
 use crate::network::refusal_line;
 use crate::network_after::network_after;
@@ -41,15 +41,20 @@ fn piece_text(alloc: Global, number: usize, piece: &Piece<'_>) -> Result<String,
     format!(in alloc; "piece {number} {kind} from {from} to {to}\n")
 }
 
-/// The line of the piece, if there is one.
-fn piece_line(alloc: Global, number: usize, piece: Option<&Piece<'_>>) -> Result<String, AllocError>
-    requires { IfSome (option_map (λ p. p.now) piece) HasRange }
-    ensures { IfOk result (λ text. string_bytes text
-        ≡ piece_line number (option_map (λ p. p.now) piece.entry)) }
+/// Adds the line of the piece of this number of a path, if there is one.
+fn add_piece(
+    alloc: Global,
+    text: &mut String,
+    path: &VerifiedPath<'_, '_, Global>,
+    number: usize,
+) -> Result<(), AllocError>
+    ensures { OnOk result (string_bytes text.new
+        ≡ string_bytes text.old ++ piece_line_at path.entry.now.pieces number) }
 {
-    match piece {
-        Some(piece) => piece_text(alloc, number, piece),
-        None => Ok(String::new(alloc)),
+    path.known();
+    match path.pieces().get(number) {
+        Some(piece) => text.push_str(piece_text(alloc, number, piece)?.as_str()),
+        None => Ok(()),
     }
 }
 
@@ -59,11 +64,9 @@ fn pieces_text(alloc: Global, path: &VerifiedPath<'_, '_, Global>) -> Result<Str
     ensures { IfOk result (λ text. string_bytes text
         ≡ pieces_text path.entry.now.pieces (length path.entry.now.pieces)) }
 {
-    path.known();
-    let pieces = path.pieces();
     let mut text = String::new(alloc);
-    for number in 0..pieces.len() {
-        text.push_str(piece_line(alloc, number, pieces.get(number))?.as_str())?;
+    for number in 0..path.pieces().len() {
+        add_piece(alloc, &mut text, path, number)?;
     }
     Ok(text)
 }
