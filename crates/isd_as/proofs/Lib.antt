@@ -3,3 +3,4 @@ pub mod Spelled
 pub mod Printed
 mod Lengths
 pub mod Canonical
+mod Ascii

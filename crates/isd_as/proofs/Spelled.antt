@@ -34,7 +34,7 @@ digit_is_ascii : (b : ℕ) → digit_value b < 36 → b < 128
 digit_is_ascii b digit = elim (cases_lt b 128) [ inl below ↦ below | inr above ↦ absurd (grind (arith, nat_tests)) ]
 
 -- so a text of digits has as many characters as bytes
-IsAscii-AllDigits : (radix : ℕ) (text : List ℕ) → radix ≤ 36 → AllDigits radix text → IsAscii text
+pub IsAscii-AllDigits : (radix : ℕ) (text : List ℕ) → radix ≤ 36 → AllDigits radix text → IsAscii text
 IsAscii-AllDigits radix [] small all i = omega arith
 IsAscii-AllDigits radix (b ∷ text) small all zero = digit_is_ascii b (omega arith)
 IsAscii-AllDigits radix (b ∷ text) small all (suc i) = IsAscii-AllDigits radix text small all.1 i

@@ -36,8 +36,15 @@ impl fmt::Display for AsNumber {
 impl fmt::Display for IsdAs {
     ghost output = { λ a. Some (canonical a) };
 
+    // One text, and not three formatters in a row: hops are printed by the thousand.
     fn fmt<W: fmt::Write>(&self, f: &mut fmt::Formatter<W>) -> fmt::Result {
-        write!(f, "{}-{}", self.isd(), self.as_number())
+        // Its range, by which the text is ASCII, is known once the number is read.
+        let _number = self.number();
+        let text = self.text();
+        match str::from_utf8(&text) {
+            Ok(text) => f.write_str(text),
+            Err(_) => unreachable!(),
+        }
     }
 }
 
@@ -75,7 +82,7 @@ impl IsdAs {
         ensures { result.items ≡ canonical self.now }
     {
         let mut text = Text::new();
-        push_digits(&mut text, u64::from(self.isd().number()), 10);
+        push_decimal(&mut text, u64::from(self.isd().number()));
         text.push(b'-');
         push_as_number(&mut text, self.as_number().number());
         text
@@ -90,32 +97,45 @@ fn push_as_number(text: &mut Text, number: u64)
     ensures { text.new.items ≡ text.old.items ++ canonical_as number }
 {
     if number < FIRST_IN_GROUPS {
-        push_digits(text, number, 10);
+        push_decimal(text, number);
     } else {
         let [high, middle, low] = groups(number);
-        push_digits(text, high, 16);
+        push_hex(text, high);
         text.push(b':');
-        push_digits(text, middle, 16);
+        push_hex(text, middle);
         text.push(b':');
-        push_digits(text, low, 16);
+        push_hex(text, low);
     }
 }
 
-/// Adds a number's digits in this radix at the end.
+/// Adds a number's decimal digits at the end.
 #[tactic(auto, using(crate::proofs::Printed::digits_one))]
-fn push_digits(text: &mut Text, number: u64, radix: u64)
-    requires low { 10 ≤ radix }
-    requires high { radix ≤ 16 }
-    requires room { array_vec_len text.old + length (digits radix false number) ≤ MAX_TEXT_LEN }
-    ensures added { text.new.items ≡ text.old.items ++ digits radix false number }
-    ensures len { array_vec_len text.new
-        ≡ array_vec_len text.old + length (digits radix false number) }
+fn push_decimal(text: &mut Text, number: u64)
+    requires room { array_vec_len text.old + length (decimal number) ≤ MAX_TEXT_LEN }
+    ensures added { text.new.items ≡ text.old.items ++ decimal number }
+    ensures len { array_vec_len text.new ≡ array_vec_len text.old + length (decimal number) }
 {
-    if number < radix {
+    if number < 10 {
         text.push(glyph(number));
     } else {
-        push_digits(text, number / radix, radix);
-        text.push(glyph(number % radix));
+        push_decimal(text, number / 10);
+        text.push(glyph(number % 10));
+    }
+}
+
+/// Adds a number's hexadecimal digits at the end, in lower case.
+#[tactic(auto, using(crate::proofs::Printed::digits_one))]
+fn push_hex(text: &mut Text, number: u64)
+    requires room { array_vec_len text.old + length (digits 16 false number) ≤ MAX_TEXT_LEN }
+    ensures added { text.new.items ≡ text.old.items ++ digits 16 false number }
+    ensures len { array_vec_len text.new
+        ≡ array_vec_len text.old + length (digits 16 false number) }
+{
+    if number < 16 {
+        text.push(glyph(number));
+    } else {
+        push_hex(text, number / 16);
+        text.push(glyph(number % 16));
     }
 }
 

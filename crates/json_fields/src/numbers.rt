@@ -1,8 +1,10 @@
 ghost use Rattle.std.specs.Prelude.{◌≡◌, ◌==◌, ◌<◌, IsTrue, is_some, length, slice_index, true, false, option_and_then};
+ghost use Rattle.std.specs.Char.{is_ascii_digit};
+ghost use Rattle.std.specs.List.{list_all};
 ghost use Rattle.json.specs.Value.{value_view, items_view, members_view};
 ghost use Rattle.serde_json.specs.Find.{as_u64};
 ghost use Rattle.serde_json.specs.Read.{number_of, number_from};
-ghost use Rattle.json_fields.specs.inner.Numbers.{readable, items_readable, members_readable};
+ghost use Rattle.json_fields.specs.inner.Numbers.{readable, items_readable, members_readable, is_short_digits};
 
 use fast_float::Numeral;
 use json::Value;
@@ -49,13 +51,30 @@ fn is_in_range(text: &str) -> bool
     ensures { result ≡ is_some (number_of text.now) }
 {
     let bytes = text.as_bytes();
-    if has_minus(bytes) {
+    if is_short_whole(bytes) {
+        true
+    } else if has_minus(bytes) {
         is_negative_in_range(&Numeral::scan(&bytes[1..]))
     } else {
         is_positive_in_range(&Numeral::scan(bytes))
     }
 }
 
+/// Are there 1 to 19 digits and nothing else? Such a number has at most 64 bits, and most numbers
+/// are of this kind, so that none of these is scanned.
+fn is_short_whole(bytes: &[u8]) -> bool
+    ensures { result ≡ is_short_digits bytes.now }
+{
+    !bytes.is_empty() && bytes.len() < 20 && is_all_digits(bytes)
+}
+
+fn is_all_digits(bytes: &[u8]) -> bool
+    ensures { result ≡ list_all is_ascii_digit bytes.now }
+{
+    bytes.iter().all(|b| b.is_ascii_digit())
+}
+
+/// Is the first byte a minus?
 fn has_minus(bytes: &[u8]) -> bool
     ensures value { result ≡ (slice_index bytes.now 0 == 45) }
     ensures len { IsTrue result → 0 < length bytes.now }
@@ -63,12 +82,14 @@ fn has_minus(bytes: &[u8]) -> bool
     !bytes.is_empty() && bytes[0] == b'-'
 }
 
+/// Is the number of a numeral without a minus within the range of a float?
 fn is_positive_in_range(numeral: &Numeral<'_>) -> bool
     ensures { result ≡ is_some (number_from false numeral.now) }
 {
     numeral.to_u64().is_some() || numeral.to_float::<f64>(false).is_finite()
 }
 
+/// Is the number of a numeral behind a minus within the range of a float?
 fn is_negative_in_range(numeral: &Numeral<'_>) -> bool
     ensures { result ≡ is_some (number_from true numeral.now) }
 {
