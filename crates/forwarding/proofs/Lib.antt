@@ -30,3 +30,4 @@ pub mod Ended
 pub mod Onward
 pub mod Bounded
 pub mod Present
+mod Stepped

@@ -6,3 +6,4 @@ pub mod OnPath
 pub mod Forwardable
 pub mod Sound
 pub mod Turned
+pub mod inner

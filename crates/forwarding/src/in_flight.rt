@@ -1,8 +1,9 @@
-ghost use Rattle.std.specs.Prelude.{◌≡◌, ◌<◌, ◌≤◌, length, IfOk, IfErr};
+ghost use Rattle.std.specs.Prelude.{◌≡◌, ℕ, ◌<◌, ◌≤◌, List, length, vec_capacity, IfOk, IfErr};
 ghost use Rattle.scion_topology.specs.Topology.{far_end_in};
-ghost use Rattle.router_step.specs.Packet.{packet_step};
+ghost use Rattle.forwarding.specs.declared.location.RouterStop.{RouterStop};
+ghost use Rattle.forwarding.specs.declared.location.PacketLocation.TheVariants.{AtRouter};
+ghost use Rattle.forwarding.specs.inner.Parts.{packet_with};
 ghost use Rattle.forwarding.specs.Turn.{altered, hop_by, lost, put_at, over_link, put, turn_under, turn_of};
-ghost use Rattle.forwarding.specs.Turn as turns;
 
 use crate::location::{PacketLocation, RouterStop};
 use crate::reply::TurnReply;
@@ -15,7 +16,8 @@ use std::alloc::{AllocError, Global};
 use std::marker::Model;
 
 /// A packet in a network: its bytes, its place, and the hops that it has passed, at most 64. The
-/// room for them is taken when the packet is made.
+/// room for them is taken when the packet is made, and what is left of it is given back once the
+/// packet has no more turns.
 #[derive(Debug, Drop)]
 pub struct PacketInFlight {
     bytes: Vec<u8>,
@@ -24,11 +26,21 @@ pub struct PacketInFlight {
 }
 
 impl Model for PacketInFlight {
+    ghost use Rattle.std.specs.Prelude.{◌≡◌, ◌≤◌, length, vec_capacity};
+    ghost use Rattle.forwarding.specs.declared.location.RouterStop.{RouterStop};
+    ghost use Rattle.forwarding.specs.declared.location.PacketLocation.TheVariants.{AtRouter};
     ghost use Rattle.forwarding.specs.Turn.{Packet};
 
     ghost Value = { Packet };
 
-    ghost view = { λ t. record { bytes = t.bytes.items; place = t.place; passed = t.passed } };
+    ghost view = { λ t. record {
+      bytes = t.bytes.items;
+      place = t.place;
+      passed = t.passed.hops.items;
+    } };
+
+    ghost invariant = { λ t. (length t.passed.hops.items ≤ 64)
+        × ((stop : RouterStop) → t.place ≡ AtRouter stop → 64 ≤ vec_capacity t.passed.hops) };
 }
 
 impl PacketInFlight {
@@ -97,14 +109,14 @@ impl PacketInFlight {
     /// router of the network stays as it is.
     ///
     /// It takes no memory, and costs the router's step and three lookups.
-    #[tactic(auto, unfolding(crate::specs::Turn::turn_of))]
+    #[tactic(auto, unfolding(crate::specs::Turn::turn_of, crate::specs::Turn::turn_under))]
     pub fn turn(&mut self, topology: &Topology, now: u32) -> TurnReply
         ensures reply { result ≡ (turn_of topology.now now self.old).0 }
         ensures packet { self.new ≡ (turn_of topology.now now self.old).1 }
     {
         match self.place {
             PacketLocation::AtRouter(stop) => match topology.view(stop.ia, stop.router) {
-                Ok(view) => self.step_at(topology, stop, &view, now),
+                Ok(view) => self.turn_under(topology, &view, now),
                 Err(_) => TurnReply::Still,
             },
             _ => TurnReply::Still,
@@ -119,7 +131,10 @@ impl PacketInFlight {
         ensures packet { self.new ≡ (turn_under topology.now view.now now self.old).1 }
     {
         match self.place {
-            PacketLocation::AtRouter(stop) => self.step_at(topology, stop, view, now),
+            PacketLocation::AtRouter(stop) => {
+                let stepped = step(view, now, stop.arrival, &mut self.bytes);
+                answer(topology, stop, stepped, &mut self.place, &mut self.passed)
+            }
             _ => TurnReply::Still,
         }
     }
@@ -129,6 +144,7 @@ impl PacketInFlight {
         ensures { self.new ≡ lost self.old }
     {
         self.place = PacketLocation::Lost;
+        self.passed.close();
     }
 
     /// Changes the byte at this place by exclusive or.
@@ -138,84 +154,96 @@ impl PacketInFlight {
     {
         self.bytes[at] ^= change;
     }
+}
 
-    /// The step of the router that has the packet, with its view.
-    fn step_at(
-        &mut self,
-        topology: &Topology,
-        stop: RouterStop,
-        view: &RouterView<'_>,
-        now: u32,
-    ) -> TurnReply
-        ensures reply { result ≡ (turns.stepped topology.now self.old stop
-            (packet_step view.now now stop.arrival self.old.bytes)).0 }
-        ensures packet { self.new ≡ (turns.stepped topology.now self.old stop
-            (packet_step view.now now stop.arrival self.old.bytes)).1 }
-    {
-        let stepped = step(view, now, stop.arrival, &mut self.bytes);
-        self.answer(topology, stop, stepped)
-    }
-
-    /// Puts the packet where the result of a router's step says, and returns the reply of the turn.
-    fn answer(
-        &mut self,
-        topology: &Topology,
-        stop: RouterStop,
-        stepped: Result<Outcome, Refusal>,
-    ) -> TurnReply
-        ensures went { IfOk stepped (λ outcome. (result ≡ TurnReply.Went outcome)
-            × (self.new ≡ put topology.now self.old stop outcome)) }
-        ensures refused { IfErr stepped (λ refusal. (result ≡ TurnReply.Refused refusal)
-            × (self.new
-            ≡ record self.old { place = PacketLocation.Refused stop.ia stop.router refusal })) }
-    {
-        match &stepped {
-            Ok(outcome) => {
-                self.put(topology, stop, *outcome);
-                TurnReply::Went(*outcome)
-            }
-            Err(refusal) => {
-                self.place = PacketLocation::Refused(stop.ia, stop.router, *refusal);
-                TurnReply::Refused(*refusal)
-            }
+/// Puts a packet where the result of a router's step says, and returns the reply of the turn.
+fn answer(
+    topology: &Topology,
+    stop: RouterStop,
+    stepped: Result<Outcome, Refusal>,
+    place: &mut PacketLocation,
+    passed: &mut HopTrace,
+) -> TurnReply
+    requires { 64 ≤ vec_capacity passed.old.hops }
+    ensures went { IfOk stepped (λ outcome. (result ≡ TurnReply.Went outcome)
+        × ((bytes : List ℕ) → packet_with bytes place.new passed.new.hops.items
+        ≡ put topology.now (packet_with bytes place.old passed.old.hops.items) stop outcome)) }
+    ensures refused { IfErr stepped (λ refusal. (result ≡ TurnReply.Refused refusal)
+        × (place.new ≡ PacketLocation.Refused stop.ia stop.router refusal)
+        × (passed.new.hops.items ≡ passed.old.hops.items)) }
+    ensures few { length passed.old.hops.items ≤ 64 → length passed.new.hops.items ≤ 64 }
+    ensures room { (next : RouterStop) → place.new ≡ AtRouter next
+        → 64 ≤ vec_capacity passed.new.hops }
+{
+    match &stepped {
+        Ok(outcome) => {
+            put(topology, stop, *outcome, place, passed);
+            TurnReply::Went(*outcome)
+        }
+        Err(refusal) => {
+            *place = PacketLocation::Refused(stop.ia, stop.router, *refusal);
+            passed.close();
+            TurnReply::Refused(*refusal)
         }
     }
+}
 
-    /// Puts the packet where the outcome of a router's step leads.
-    fn put(&mut self, topology: &Topology, stop: RouterStop, outcome: Outcome)
-        ensures { self.new ≡ put topology.now self.old stop outcome }
-    {
-        match outcome {
-            Outcome::ToLink(out) => self.cross(topology, stop, out),
-            Outcome::ToRouter(router) => {
-                self.place = PacketLocation::AtRouter(RouterStop {
-                    router,
-                    arrival: Arrival::Inside,
-                    ..stop
-                });
-            }
-            Outcome::Deliver => {
-                self.passed.note(hop_by(stop, IfId::NONE));
-                self.place = PacketLocation::Delivered;
-            }
+/// Puts a packet where the outcome of a router's step leads.
+fn put(
+    topology: &Topology,
+    stop: RouterStop,
+    outcome: Outcome,
+    place: &mut PacketLocation,
+    passed: &mut HopTrace,
+)
+    requires { 64 ≤ vec_capacity passed.old.hops }
+    ensures put { (bytes : List ℕ) → packet_with bytes place.new passed.new.hops.items
+        ≡ put topology.now (packet_with bytes place.old passed.old.hops.items) stop outcome }
+    ensures few { length passed.old.hops.items ≤ 64 → length passed.new.hops.items ≤ 64 }
+    ensures room { (next : RouterStop) → place.new ≡ AtRouter next
+        → 64 ≤ vec_capacity passed.new.hops }
+{
+    match outcome {
+        Outcome::ToLink(out) => cross(topology, stop, out, place, passed),
+        Outcome::ToRouter(router) => {
+            *place = PacketLocation::AtRouter(RouterStop {
+                router,
+                arrival: Arrival::Inside,
+                ..stop
+            });
+        }
+        Outcome::Deliver => {
+            passed.note(hop_by(stop, IfId::NONE));
+            passed.close();
+            *place = PacketLocation::Delivered;
         }
     }
+}
 
-    /// Puts the packet at the router that owns the far end of a link.
-    fn cross(&mut self, topology: &Topology, stop: RouterStop, out: IfId)
-        ensures { self.new
-            ≡ over_link topology.now self.old stop out (far_end_in topology.now stop.ia out) }
-    {
-        if let Ok((ia, number)) = topology.far_end(stop.ia, out) {
-            if let Ok(router) = topology.owner(ia, number) {
-                self.passed.note(hop_by(stop, out));
-                self.place = PacketLocation::AtRouter(RouterStop {
-                    ia,
-                    router,
-                    arrival: Arrival::Link(number),
-                    came_in_by: number,
-                });
-            }
+/// Puts a packet at the router that owns the far end of a link.
+fn cross(
+    topology: &Topology,
+    stop: RouterStop,
+    out: IfId,
+    place: &mut PacketLocation,
+    passed: &mut HopTrace,
+)
+    requires { 64 ≤ vec_capacity passed.old.hops }
+    ensures put { (bytes : List ℕ) → packet_with bytes place.new passed.new.hops.items
+        ≡ over_link topology.now (packet_with bytes place.old passed.old.hops.items) stop out
+        (far_end_in topology.now stop.ia out) }
+    ensures few { length passed.old.hops.items ≤ 64 → length passed.new.hops.items ≤ 64 }
+    ensures room { vec_capacity passed.new.hops ≡ vec_capacity passed.old.hops }
+{
+    if let Ok((ia, number)) = topology.far_end(stop.ia, out) {
+        if let Ok(router) = topology.owner(ia, number) {
+            passed.note(hop_by(stop, out));
+            *place = PacketLocation::AtRouter(RouterStop {
+                ia,
+                router,
+                arrival: Arrival::Link(number),
+                came_in_by: number,
+            });
         }
     }
 }

@@ -1,44 +1,34 @@
-ghost use Rattle.std.specs.Prelude.{◌≡◌, [], ◌≤◌, IfOk, length};
+ghost use Rattle.std.specs.Prelude.{◌≡◌, [], ◌≤◌, IfOk, length, vec_capacity};
 ghost use Rattle.forwarding.specs.Turn.{noted};
 
 use policy_expr::WalkHop;
 use std::alloc::{AllocError, Global};
-use std::marker::Model;
 
 /// The largest number of passed hops that a packet keeps.
 pub const MAX_PASSED: usize = 64;
 
-/// The hops that a packet has passed, at most the first 64. An invariant of the type: it has room
-/// for 64, so that a turn takes no memory.
+/// The hops that a packet has passed, at most the first 64. It has room for 64 until it is closed,
+/// so that a turn takes no memory.
 #[derive(Debug, Drop)]
 pub(crate) struct HopTrace {
     hops: Vec<WalkHop>,
 }
 
-impl Model for HopTrace {
-    ghost use Rattle.std.specs.Prelude.{◌≤◌, List, vec_capacity, vec_len};
-    ghost use Rattle.policy_expr.specs.declared.hop.WalkHop.{WalkHop};
-
-    ghost Value = { List WalkHop };
-
-    ghost view = { λ p. p.hops.items };
-
-    ghost invariant = { λ p. (vec_len p.hops ≤ 64) × (64 ≤ vec_capacity p.hops) };
-}
-
 impl HopTrace {
     /// No hops, unless memory runs out for their room.
     pub(crate) fn new(alloc: Global) -> Result<HopTrace, AllocError>
-        ensures { IfOk result (λ trace. trace ≡ []) }
+        ensures hops { IfOk result (λ trace. trace.hops.items ≡ []) }
+        ensures room { IfOk result (λ trace. 64 ≤ vec_capacity trace.hops) }
     {
         Ok(HopTrace {
             hops: Vec::with_capacity(alloc, MAX_PASSED)?,
         })
     }
 
-    /// A copy of these hops, unless memory runs out.
+    /// A copy of these hops with room for 64, unless memory runs out.
     pub(crate) fn try_clone(&self, alloc: Global) -> Result<HopTrace, AllocError>
-        ensures { IfOk result (λ copy. copy ≡ self.now) }
+        ensures hops { IfOk result (λ copy. copy.hops.items ≡ self.now.hops.items) }
+        ensures room { IfOk result (λ copy. 64 ≤ vec_capacity copy.hops) }
     {
         let mut hops = Vec::with_capacity(alloc, MAX_PASSED)?;
         hops.extend_from_slice(&self.hops)?;
@@ -47,18 +37,26 @@ impl HopTrace {
 
     /// The hops, in order.
     pub(crate) fn as_slice(&self) -> &[WalkHop]
-        ensures value { result.now ≡ self.now }
-        ensures few { length self.now ≤ 64 }
+        ensures { result.now ≡ self.now.hops.items }
     {
         &self.hops
     }
 
     /// Adds a hop, if there are fewer than 64.
     pub(crate) fn note(&mut self, hop: WalkHop)
-        ensures { self.new ≡ noted self.old hop }
+        requires room { 64 ≤ vec_capacity self.old.hops }
+        ensures hops { self.new.hops.items ≡ noted self.old.hops.items hop }
+        ensures room { vec_capacity self.new.hops ≡ vec_capacity self.old.hops }
     {
         if self.hops.len() < MAX_PASSED {
             self.hops.push_reserved(hop);
         }
+    }
+
+    /// Gives back the room for further hops.
+    pub(crate) fn close(&mut self)
+        ensures { self.new.hops.items ≡ self.old.hops.items }
+    {
+        self.hops.shrink_to_fit();
     }
 }

@@ -255,8 +255,10 @@ fn packet_of(
     lent.header.known();
     let source = lent.source;
     let bytes = frame(alloc, source, lent.destination, lent.header, payload)?;
-    let transit = PacketInFlight::at_router(alloc, bytes, source, router)?;
     let payload = clone_bytes(alloc, payload)?;
+    // The room for passed hops comes last, so that what the packet gives back of it at its end lies
+    // at the end of the memory that is in use, where the next packet can take it.
+    let transit = PacketInFlight::at_router(alloc, bytes, source, router)?;
     Ok(Packet {
         sent: Sent { way, payload },
         transit,

@@ -21,11 +21,15 @@ pub(crate) fn header_of(held: &PieceSlots<'_>) -> Header
     requires few { total_hops (pieces_in held.now) ≤ 64 }
     ensures { result ≡ header_of (pieces_in held.now) }
 {
-    built(lens_of(held), infos_of(held), fields_of_all(held))
+    header_with(lens_of(held), infos_of(held), fields_of_all(held))
 }
 
 /// The header of these lengths and fields.
-fn built(lens: [u8; 3], infos: ArrayVec<InfoField, 3>, fields: ArrayVec<HopField, 64>) -> Header
+fn header_with(
+    lens: [u8; 3],
+    infos: ArrayVec<InfoField, 3>,
+    fields: ArrayVec<HopField, 64>,
+) -> Header
     requires { IsHeader (first_header (lens_from lens) infos.items fields.items) }
     ensures { result ≡ first_header (lens_from lens) infos.items fields.items }
 {

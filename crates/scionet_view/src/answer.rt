@@ -68,14 +68,14 @@ fn sending_text(
 /// What is said of a way whatever the second: its pieces, its kind, its walk, and until when it is
 /// live.
 fn known_text(alloc: Global, way: &Given<'_>) -> Result<String, AllocError> {
-    match verified_at(way, 0) {
+    match verdict_at(way, 0) {
         Ok(path) => verified_text(alloc, &path),
         Err(_) => Ok(String::new(alloc)),
     }
 }
 
 /// The verifier's answer for a way at this second.
-fn verified_at<'a>(way: &Given<'a>, now: u32) -> Result<VerifiedPath<'a, 'a, Global>, VerifyFault> {
+fn verdict_at<'a>(way: &Given<'a>, now: u32) -> Result<VerifiedPath<'a, 'a, Global>, VerifyFault> {
     verify(
         way.pieces,
         way.header,
@@ -95,7 +95,7 @@ fn packet_fields(alloc: Global, way: &Given<'_>) -> Result<String, AllocError> {
 /// What is said of a way at this second.
 fn report_text(alloc: Global, way: &Given<'_>, now: u32) -> Result<String, AllocError> {
     let mut text = known_text(alloc, way)?;
-    let sending = sending_text(alloc, verified_at(way, now), way.pieces, now)?;
+    let sending = sending_text(alloc, verdict_at(way, now), way.pieces, now)?;
     text.push_str(sending.as_str())?;
     let fields = packet_fields(alloc, way)?;
     text.push_str(fields.as_str())?;
