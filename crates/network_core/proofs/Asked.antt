@@ -1,109 +1,30 @@
 -- Every answer was given by an Ask of the history, of segments that were issued before it.
-use Rattle.std.proofs.Common.{◌≡◌, ℕ, zero, suc, ◌+◌, ◌<◌, ◌≤◌, ◌⊎◌, true, false, ltb, leb, ◌&&◌, List, [], ◌∷◌, length, Some, Result, Ok, Err, All, refl, sym, ap, ◌∙◌, subst, arith, inl, inr}
+use Rattle.std.proofs.Common.{◌≡◌, ℕ, zero, suc, ◌+◌, ◌<◌, ◌≤◌, ◌⊎◌, ltb, List, [], ◌∷◌, length, Some, Ok, All, refl, sym, ap, ◌∙◌, subst, arith, inl, inr}
 use Rattle.std.specs.Prelude.{slice_get, nat_le}
 use Rattle.std.specs.Option.{ok_or}
 use Rattle.std.proofs.lemmas.Bool.{cases_Bool, ltb-true, ltb-false}
 use Rattle.std.proofs.lemmas.List.Elements.{All-nil, All-cons, All-head, All-tail, All-weaker}
-use Rattle.refusal.specs.Refusal.{check, refused_as}
+use Rattle.refusal.specs.Refusal.{check}
 use Rattle.refusal.proofs.Steps.{ok_is, ok_or_ok}
 use Rattle.scion_topology.specs.Network.{Network}
-use Rattle.scion_topology.specs.Topology.{IsNetwork, set_up, rotated}
+use Rattle.scion_topology.specs.Topology.{IsNetwork}
 use Rattle.beaconing.proofs.Reaching.{any_here, any_there}
-use Rattle.policy_expr.specs.declared.option_fault.OptionFault.{OptionFault}
 use Rattle.policy_expr.specs.Options.{WeighedRules}
 use Rattle.path_verifier.specs.Piece.{PieceValue}
 use Rattle.combinator.specs.Candidate.{PathValue}
-use Rattle.combinator.specs.Fault.{ends_at}
-use Rattle.network_core.specs.declared.fault.EventFault.{EventFault}
 use Rattle.network_core.specs.declared.fault.EventFault.TheVariants as faults
-use Rattle.network_core.specs.declared.reply.Reply.{Reply}
 use Rattle.network_core.specs.declared.reply.Reply.TheVariants as replies
-use Rattle.network_core.specs.Event.{ByAnswer, EventValue, Tick, Originate, Extend, Terminate, Sweep, Ask, Send, Turn, Lose, Alter, CutLink, MendLink, RotateKey}
+use Rattle.network_core.specs.Event.{ByAnswer, Ask, Send}
 use Rattle.network_core.specs.Value.{Way, KeptAnswer, way_on, Shipment, NetValue, new_net}
-use Rattle.network_core.specs.Step.{with_network, options_asked, shipment_by, way_by, shipment_of, IsAnswerTo, GivesAnswer, Asks, Step}
+use Rattle.network_core.specs.Step.{shipment_by, way_by, shipment_of, IsAnswerTo}
 use Rattle.network_core.specs.History.{EventRecord, IsHistory, net_at, Occurs, IssuedIn, IssuedBefore, IsAskedBefore}
 use Rattle.network_core.specs.Delivery.{AllFramed}
 use Rattle.network_core.specs.Headline.{HaveBeginning}
-use Rattle.network_core.proofs.Effects.{done_below, both_done}
-use Rattle.network_core.proofs.Keeping.{by_leads, then_in, IsApart, stays}
+use Rattle.network_core.proofs.Effects.{IsAsk, effect, both_done}
 use Rattle.network_core.proofs.Numbers.{becomes_at, event_or_none}
 use Rattle.network_core.proofs.Issuing.{occurs_at, last_or, stored_all}
 use Rattle.network_core.proofs.Headlines.{all_at, of_send}
 use Rattle.network_core.proofs.Accepting.{kept_accepted, kept_stored}
-
--- ---- what an event does to the answers
-
-abbrev Same : NetValue → NetValue → Type 0
-Same old new = new.answers ≡ old.answers
-
--- paths were asked for and answered
-pub record IsAsk (old : NetValue) (event : EventValue) (reply : Reply) (new : NetValue) : Type 0 where
-  pub src : ℕ
-  pub dst : ℕ
-  pub options : List WeighedRules
-  pub limit : ℕ
-  pub event_is : event ≡ Ask src dst (Ok options) limit
-  pub gives : GivesAnswer options src dst limit old reply new
-
-apart : IsApart (λ (net : NetValue). net.answers)
-apart = record {
-  moment = λ net m. refl;
-  beacons = λ net cs. refl;
-  segments = λ net cs. refl;
-  packets = λ net ps. refl;
-}
-
-abbrev are_read : List WeighedRules → Result (List WeighedRules) OptionFault
-are_read options = Ok options
-
--- the options that were asked with are those that were read
-options_read : (net : NetValue) (src dst : ℕ) (read : Result (List WeighedRules) OptionFault)
-    (limit : ℕ) (options : List WeighedRules) → options_asked net src dst read limit ≡ Ok options
-    → read ≡ Ok options
-options_read net src dst read limit options is =
-    let limited = both_done (check (leb 1 limit && leb limit 64) faults.BadLimit) _ options is in
-    let judged = both_done (refused_as faults.Policy read) _ options limited.1.1 in
-    let ends = both_done (refused_as faults.Combination (ends_at src dst)) _ options judged.1.1 in
-    let few = both_done (check (ltb (length net.answers) 1_000_000) faults.TooMany) _ options ends.1.1 in
-    done_below faults.Policy read judged.0 judged.1.0 ∙ ap are_read (ok_is judged.0 options few.1.1)
-
-given : (old new : NetValue) (src dst : ℕ) (read : Result (List WeighedRules) OptionFault)
-    (limit : ℕ) (reply : Reply) (asked : Result (List WeighedRules) EventFault)
-    → options_asked old src dst read limit ≡ asked → Asks asked src dst limit old reply new
-    → Same old new ⊎ IsAsk old (Ask src dst read limit) reply new
-given old new src dst read limit reply (Err fault) are is =
-    inl (ap (λ (net : NetValue). net.answers) is.1)
-given old new src dst read limit reply (Ok options) are is = inr (record {
-  src = src;
-  dst = dst;
-  options = options;
-  limit = limit;
-  event_is = ap (λ r. Ask src dst r limit) (options_read old src dst read limit options are);
-  gives = is;
-})
-
-pub asks : (old new : NetValue) (event : EventValue) (reply : Reply) → Step old event reply new
-    → Same old new ⊎ IsAsk old event reply new
-asks old new (Tick to) reply is = inl (stays (λ net. net.answers) apart old new (Tick to) reply tt is)
-asks old new (Originate ia egress beta0) reply is = inl (stays (λ net. net.answers) apart old new (Originate ia egress beta0) reply tt is)
-asks old new (Extend beacon ia egress) reply is = inl (stays (λ net. net.answers) apart old new (Extend beacon ia egress) reply tt is)
-asks old new (Terminate beacon ia) reply is = inl (stays (λ net. net.answers) apart old new (Terminate beacon ia) reply tt is)
-asks old new Sweep reply is = inl (stays (λ net. net.answers) apart old new Sweep reply tt is)
-asks old new (Send route payload) reply is = inl (stays (λ net. net.answers) apart old new (Send route payload) reply tt is)
-asks old new (Turn q) reply is = inl (stays (λ net. net.answers) apart old new (Turn q) reply tt is)
-asks old new (Lose q) reply is = inl (stays (λ net. net.answers) apart old new (Lose q) reply tt is)
-asks old new (Alter q at change) reply is = inl (stays (λ net. net.answers) apart old new (Alter q at change) reply tt is)
-asks old new (Ask src dst read limit) reply is =
-    given old new src dst read limit reply (options_asked old src dst read limit) refl is
-asks old new (CutLink ia number) reply is =
-    inl (by_leads (Same old) old new reply (with_network old (set_up false ia number old.network)) refl
-    (then_in (Same old) (refused_as faults.Topology (set_up false ia number old.network)) _ (λ m. refl)) is)
-asks old new (MendLink ia number) reply is =
-    inl (by_leads (Same old) old new reply (with_network old (set_up true ia number old.network)) refl
-    (then_in (Same old) (refused_as faults.Topology (set_up true ia number old.network)) _ (λ m. refl)) is)
-asks old new (RotateKey ia key) reply is =
-    inl (by_leads (Same old) old new reply (with_network old (rotated ia key old.network)) refl
-    (then_in (Same old) (refused_as faults.Topology (rotated ia key old.network)) _ (λ m. refl)) is)
 
 -- ---- the answer at its own number
 
@@ -185,7 +106,7 @@ module _ (start : NetValue) (history : List EventRecord) (is : IsHistory start h
 
   asked_next : (k : ℕ) (m : EventRecord) → slice_get history k ≡ Some m → AllAsked k → AllAsked (k + 1)
   asked_next k m there all =
-      elim (asks (at k) (at (k + 1)) m.event m.reply (becomes_at start history k m is there)) [
+      elim (effect (at k) (at (k + 1)) m.event m.reply (becomes_at start history k m is there)).answers [
         | inl same ↦ no_more k same all
         | inr a ↦ one_more k m there all a
       ]

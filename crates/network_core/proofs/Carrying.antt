@@ -25,7 +25,7 @@ use Rattle.network_core.specs.Value.{Shipment, PacketValue, NetValue}
 use Rattle.network_core.specs.Step.{Made, is_in_flight, flying_at, with_packet, turns, loses, alters, Leads, Step}
 use Rattle.network_core.specs.History.{EventRecord, IsHistory, net_after}
 use Rattle.network_core.specs.Delivery.{is_done, LetsGoOn, AllLetGoOn, is_turn_of, turns_of}
-use Rattle.network_core.proofs.Effects.{renews}
+use Rattle.network_core.proofs.Effects.{effect}
 use Rattle.network_core.proofs.Keeping.{Keeps, kept}
 
 -- ---- a packet that stands has a turn left
@@ -57,7 +57,7 @@ standing_some net sent left packet s =
 stands_on : (old new : NetValue) (event : EventValue) (reply : Reply) (sent : Shipment) (left : ℕ)
     (packet : Packet) → Step old event reply new → Stands old sent left packet
     → Stands new sent left packet
-stands_on old new event reply sent left packet is stands = elim (renews old new event reply is) [
+stands_on old new event reply sent left packet is stands = elim (effect old new event reply is).network [
   | inl same ↦ subst (λ n. OnPath n sent.way.source sent.way.destination sent.payload
       sent.way.pieces left packet) (sym same) stands
   | inr some ↦ elim some [

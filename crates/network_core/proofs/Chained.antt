@@ -1,13 +1,13 @@
 -- A segment's chain of events, number by number: the beacon is under way, its keys are held and its
 -- links up where the piece goes, and so it stays up to the chain's end and from there on.
-use Rattle.std.proofs.Common.{◌≡◌, ℕ, ◌+◌, ◌<◌, ◌≤◌, ◌⊎◌, true, false, ltb, List, [], ◌∷◌, ◌++◌, length, map, Some, Result, Ok, Err, refl, sym, ap, ◌∙◌, subst, arith, inl, inr, append_assoc, append-nil, length-append}
+use Rattle.std.proofs.Common.{◌≡◌, ℕ, ◌+◌, ◌<◌, ◌≤◌, ◌⊎◌, Bool, true, false, ltb, List, [], ◌∷◌, ◌++◌, length, map, Some, Result, Ok, Err, refl, sym, ap, ◌∙◌, subst, arith, inl, inr, append_assoc, append-nil, length-append}
 use Rattle.std.specs.Prelude.{slice_get}
 use Rattle.std.proofs.lemmas.Bool.{cases_lt}
 use Rattle.std.proofs.lemmas.List.{map-append}
 use Rattle.std.proofs.lemmas.Option.{same_Some, slice_get_within}
 use Rattle.refusal.specs.Refusal.{◌>>=◌, check}
 use Rattle.refusal.proofs.Steps.{ok_or_ok}
-use Rattle.scion_topology.specs.Topology.{IsNetwork}
+use Rattle.scion_topology.specs.Topology.{IsNetwork, set_up}
 use Rattle.path_segment.specs.declared.entry.Entry.{Entry}
 use Rattle.path_segment.specs.Chain.{Chain, with_last}
 use Rattle.path_verifier.specs.Piece.{PieceValue, HasRange}
@@ -28,13 +28,13 @@ use Rattle.network_core.specs.Event.{EventValue, Originate, Extend, Terminate, C
 use Rattle.network_core.specs.Value.{NetValue}
 use Rattle.network_core.specs.Step.{Made, with_beacon, begun, passed_on, beacon_at, Leads, Step}
 use Rattle.network_core.specs.History.{EventRecord, IsHistory, net_at, Occurs, PassOn, key_then, IssuedIn}
+use Rattle.network_core.specs.Delivery.{is_done}
 use Rattle.network_core.specs.Headline.{IsDone}
-use Rattle.network_core.proofs.Effects.{stores, done_below, both_done}
+use Rattle.network_core.proofs.Effects.{effect, switching, done_below, both_done}
 use Rattle.network_core.proofs.Numbers.{StepAt, becomes_at, network_at, under_on}
 use Rattle.network_core.proofs.Keeping.{there_still}
 use Rattle.network_core.proofs.Issuing.{key_is}
 use Rattle.network_core.proofs.Rotating.{Unrotated, rotated_or, unrotated_before, done_at, kept_between}
-use Rattle.network_core.proofs.Steadying.{changes}
 
 -- ---- beacons stay where they are
 
@@ -61,7 +61,7 @@ more_beacons old new c more = record {
 
 beacons_step : (old new : NetValue) (event : EventValue) (reply : Reply) → Step old event reply new
     → KeepsBeacons old new
-beacons_step old new event reply is = elim (stores old new event reply is) [
+beacons_step old new event reply is = elim (effect old new event reply is).stores [
   | inl l ↦ same_beacons old new l.0
   | inr some ↦ elim some [
     | inl s ↦ more_beacons old new s.chain s.beacons
@@ -201,51 +201,56 @@ module _ (start : NetValue) (history : List EventRecord) (is : IsHistory start h
   past_there chain ia front past i entry low high there =
       past i entry low high (in_front chain.entries front.0 piece.segment.entries i entry front.1 there)
 
+  -- a link of the piece is not cut
+  switched_holds : (k : ℕ) (m : EventRecord) (keys : List (List ℕ)) (chain : Chain) → begin ≤ k
+      → slice_get history k ≡ Some m → IsMade (at k).network keys chain → Begins chain
+      → (up : Bool) (ia number : ℕ) → m.event ≡ switching up ia number → is_done m.reply ≡ true
+      → set_up up ia number (at k).network ≡ Ok (at (k + 1)).network
+      → KeysAndLinksHold (at k).network keys chain piece.from piece.to
+      → KeysAndLinksHold (at (k + 1)).network keys chain piece.from piece.to
+  switched_holds k m keys chain from there made front false ia number event_is done change holds =
+      cut_holds (at k).network (at (k + 1)).network ia number keys chain piece.from piece.to
+      (network_at start history k is network) made change
+      (alone_there chain ia number front
+      (uncut k ia number from (done_at history k m (CutLink ia number) there event_is done)))
+      holds
+  switched_holds k m keys chain from there made front true ia number event_is done change holds =
+      mended_holds (at k).network (at (k + 1)).network ia number keys chain piece.from piece.to change holds
+
   -- an event that is done
   good_on : (k : ℕ) (m : EventRecord) (keys : List (List ℕ)) (chain : Chain) → begin ≤ k
       → slice_get history k ≡ Some m → StepAt start history k m → IsMade (at k).network keys chain
       → Begins chain → Good k keys chain → Good (k + 1) keys chain
   good_on k m keys chain from there step made front good =
-      elim (changes (at k) (at (k + 1)) m.event m.reply step) [
+      elim (effect (at k) (at (k + 1)) m.event m.reply step).network [
         | inl same ↦ record {
           holds = subst (λ n. KeysAndLinksHold n keys chain piece.from piece.to) (sym same) good.holds;
           fresh = λ x none. subst (λ n. KeyIsInUse n keys chain piece.from piece.to x) (sym same)
               (good.fresh x (unrotated_before history begin k x none));
         }
         | inr some ↦ elim some [
-          | inl c ↦ record {
-            holds = cut_holds (at k).network (at (k + 1)).network c.ia c.number keys chain piece.from piece.to
-                (network_at start history k is network) made c.change
-                (alone_there chain c.ia c.number front
-                (uncut k c.ia c.number from (done_at history k m (CutLink c.ia c.number) there c.event_is c.done)))
-                good.holds;
-            fresh = λ x none. in_use_linked (at k).network (at (k + 1)).network false c.ia c.number keys chain
-                piece.from piece.to x c.change (good.fresh x (unrotated_before history begin k x none));
+          | inl s ↦ record {
+            holds = switched_holds k m keys chain from there made front s.up s.ia s.number s.event_is s.done s.change good.holds;
+            fresh = λ x none. in_use_linked (at k).network (at (k + 1)).network s.up s.ia s.number keys chain
+                piece.from piece.to x s.change (good.fresh x (unrotated_before history begin k x none));
           }
-          | inr more ↦ elim more [
-            | inl u ↦ record {
-              holds = mended_holds (at k).network (at (k + 1)).network u.ia u.number keys chain piece.from piece.to u.change good.holds;
-              fresh = λ x none. in_use_linked (at k).network (at (k + 1)).network true u.ia u.number keys chain
-                  piece.from piece.to x u.change (good.fresh x (unrotated_before history begin k x none));
-            }
-            | inr r ↦ (
-                let d = done_at history k m (RotateKey r.ia r.key) there r.event_is r.done in
-                record {
-                  holds = elim (rotated_or history begin r.ia k) [
-                    | inl none ↦ renewed_holds (at k).network (at (k + 1)).network r.ia r.key keys chain
-                        piece.from piece.to r.change (good.fresh r.ia none) good.holds
-                    | inr before ↦ rotated_holds (at k).network (at (k + 1)).network r.ia r.key keys chain
-                        piece.from piece.to r.change
-                        (past_there chain r.ia front (once before.0 k r.ia before.1.0 r.key before.1.1.0 before.1.1.1.0 before.1.1.1.1 d))
-                        good.holds
-                  ];
-                  fresh = λ x none. in_use_keyed (at k).network (at (k + 1)).network r.ia r.key keys chain
-                      piece.from piece.to x r.change
-                      (λ same. none k r.key from (omega arith)
-                      (subst (λ y. IsDone history k (RotateKey y r.key)) same d))
-                      (good.fresh x (unrotated_before history begin k x none));
-                })
-          ]
+          | inr r ↦ (
+              let d = done_at history k m (RotateKey r.ia r.key) there r.event_is r.done in
+              record {
+                holds = elim (rotated_or history begin r.ia k) [
+                  | inl none ↦ renewed_holds (at k).network (at (k + 1)).network r.ia r.key keys chain
+                      piece.from piece.to r.change (good.fresh r.ia none) good.holds
+                  | inr before ↦ rotated_holds (at k).network (at (k + 1)).network r.ia r.key keys chain
+                      piece.from piece.to r.change
+                      (past_there chain r.ia front (once before.0 k r.ia before.1.0 r.key before.1.1.0 before.1.1.1.0 before.1.1.1.1 d))
+                      good.holds
+                ];
+                fresh = λ x none. in_use_keyed (at k).network (at (k + 1)).network r.ia r.key keys chain
+                    piece.from piece.to x r.change
+                    (λ same. none k r.key from (omega arith)
+                    (subst (λ y. IsDone history k (RotateKey y r.key)) same d))
+                    (good.fresh x (unrotated_before history begin k x none));
+              })
         ]
       ]
 
@@ -395,14 +400,11 @@ module _ (start : NetValue) (history : List EventRecord) (is : IsHistory start h
 
   issued_on : (k : ℕ) (m : EventRecord) (keys : List (List ℕ)) → StepAt start history k m
       → IsIssued (at k).network keys piece.segment → IsIssued (at (k + 1)).network keys piece.segment
-  issued_on k m keys step issued = elim (changes (at k) (at (k + 1)) m.event m.reply step) [
+  issued_on k m keys step issued = elim (effect (at k) (at (k + 1)) m.event m.reply step).network [
     | inl same ↦ subst (λ n. IsIssued n keys piece.segment) (sym same) issued
     | inr some ↦ elim some [
-      | inl c ↦ segment_linked (at k).network (at (k + 1)).network false c.ia c.number keys piece.segment c.change issued
-      | inr more ↦ elim more [
-        | inl u ↦ segment_linked (at k).network (at (k + 1)).network true u.ia u.number keys piece.segment u.change issued
-        | inr r ↦ segment_keyed (at k).network (at (k + 1)).network r.ia r.key keys piece.segment r.change issued
-      ]
+      | inl s ↦ segment_linked (at k).network (at (k + 1)).network s.up s.ia s.number keys piece.segment s.change issued
+      | inr r ↦ segment_keyed (at k).network (at (k + 1)).network r.ia r.key keys piece.segment r.change issued
     ]
   ]
 

@@ -1,8 +1,9 @@
--- What an event does to topology, beacons and store.
-use Rattle.std.proofs.Common.{◌≡◌, ℕ, Bool, true, false, ltb, leb, ◌⊎◌, List, [], ◌∷◌, ◌++◌, length, Some, Result, Ok, Err, refl, sym, ap, subst, inl, inr}
-use Rattle.std.specs.Prelude.{slice_get}
+-- What one event does to a network, part by part: to its topology, to its beacons and its store, to
+-- its answers, and to its packets. What goes over all events cites this.
+use Rattle.std.proofs.Common.{◌≡◌, ℕ, Bool, true, false, ltb, leb, ◌&&◌, ◌⊎◌, List, [], ◌∷◌, ◌++◌, length, Some, Result, Ok, Err, refl, sym, ap, ◌∙◌, inl, inr}
+use Rattle.std.specs.Prelude.{slice_get, slice_set}
 use Rattle.refusal.specs.Refusal.{◌>>=◌, check, refused_as}
-use Rattle.refusal.proofs.Steps.{ok_or_ok}
+use Rattle.refusal.proofs.Steps.{ok_is, ok_or_ok}
 use Rattle.scion_topology.specs.declared.fault.TopologyFault.{TopologyFault}
 use Rattle.scion_topology.specs.Network.{Network}
 use Rattle.scion_topology.specs.Topology.{owner_in, set_up, rotated}
@@ -10,24 +11,21 @@ use Rattle.path_segment.specs.Chain.{Chain}
 use Rattle.beaconing.specs.Calls.{originated, extended, terminated}
 use Rattle.path_verifier.specs.Walk.{walk_of}
 use Rattle.forwarding.specs.Journey.{first_out}
+use Rattle.forwarding.specs.Turn.{Packet, turn_of, lost, altered}
 use Rattle.path_server.specs.Store.{answer_to, registered, swept}
+use Rattle.policy_expr.specs.declared.option_fault.OptionFault.{OptionFault}
+use Rattle.policy_expr.specs.Options.{WeighedRules}
+use Rattle.combinator.specs.Fault.{ends_at}
 use Rattle.network_core.specs.declared.fault.EventFault.{EventFault}
 use Rattle.network_core.specs.declared.fault.EventFault.TheVariants as faults
 use Rattle.network_core.specs.declared.reply.Reply.{Reply}
 use Rattle.network_core.specs.declared.reply.Reply.TheVariants.{Begun, Registered}
 use Rattle.network_core.specs.Event.{EventValue, Tick, Originate, Extend, Terminate, Sweep, Ask, Send, Turn, Lose, Alter, CutLink, MendLink, RotateKey}
-use Rattle.network_core.specs.Value.{Shipment, NetValue}
-use Rattle.policy_expr.specs.Options.{WeighedRules}
-use Rattle.network_core.specs.Step.{Made, with_beacon, with_segment, begun, passed_on, ended, beacon_at, with_network, flying_at, turns, loses, alters, options_asked, shipment_by, departs, Leads, Asks, Sends, Step}
+use Rattle.network_core.specs.Value.{Shipment, PacketValue, NetValue}
+use Rattle.network_core.specs.Step.{Made, with_beacon, with_segment, begun, passed_on, ended, beacon_at, with_network, flying_at, options_asked, shipment_by, packet_of, GivesAnswer, Leads, Asks, Sends, Step}
+use Rattle.network_core.specs.Delivery.{is_done}
 
 -- ---- steps of a definition
-
--- a step was done and led on, or nothing is changed
-then_or : {A : Type 0} (old new : NetValue) (reply : Reply) (r : Result A EventFault) (f : A → Made)
-    → Leads (r >>= f) old reply new
-    → ((x : A) × ((r ≡ Ok x) × Leads (f x) old reply new)) ⊎ (new ≡ old)
-then_or old new reply (Ok x) f is = inl (x, (refl, is))
-then_or old new reply (Err fault) f is = inr is.1
 
 -- a lower call that was done gave this
 pub done_below : {A F : Type 0} (of_fault : F → EventFault) (r : Result A F) (x : A)
@@ -41,23 +39,35 @@ pub both_done : {A B F : Type 0} (r : Result A F) (f : A → Result B F) (y : B)
 both_done (Ok x) f y e = (x, (refl, e))
 both_done (Err fault) f y e = absurd cc
 
--- ---- what may become of topology, beacons and store
+-- ---- the topology
 
--- a link goes up or down
-pub record IsSwitched (old new : NetValue) : Type 0 where
+-- the event that puts a link up or down
+abbrev pub switching : Bool → ℕ → ℕ → EventValue
+switching true ia number = MendLink ia number
+switching false ia number = CutLink ia number
+
+-- a link is mended or cut
+pub record IsSwitched (old : NetValue) (event : EventValue) (reply : Reply) (new : NetValue) : Type 0 where
   pub up : Bool
   pub ia : ℕ
   pub number : ℕ
+  pub event_is : event ≡ switching up ia number
+  pub done : is_done reply ≡ true
   pub change : set_up up ia number old.network ≡ Ok new.network
 
 -- an AS takes another key into use
-pub record IsRekeyed (old new : NetValue) : Type 0 where
+pub record IsRekeyed (old : NetValue) (event : EventValue) (reply : Reply) (new : NetValue) : Type 0 where
   pub ia : ℕ
   pub key : List ℕ
+  pub event_is : event ≡ RotateKey ia key
+  pub done : is_done reply ≡ true
   pub change : rotated ia key old.network ≡ Ok new.network
 
-abbrev pub Renews : NetValue → NetValue → Type 0
-Renews old new = (new.network ≡ old.network) ⊎ (IsSwitched old new ⊎ IsRekeyed old new)
+abbrev pub Renews : NetValue → EventValue → Reply → NetValue → Type 0
+Renews old event reply new = (new.network ≡ old.network)
+    ⊎ (IsSwitched old event reply new ⊎ IsRekeyed old event reply new)
+
+-- ---- beacons and store
 
 -- a beacon is begun
 pub record IsStart (old : NetValue) (event : EventValue) (reply : Reply) (new : NetValue) : Type 0 where
@@ -112,255 +122,292 @@ Stores old event reply new =
     ⊎ (IsStart old event reply new
     ⊎ (IsPass old event reply new ⊎ (IsEnd old event reply new ⊎ IsSwept old new)))
 
-all_left : (old new : NetValue) → new ≡ old → Leaves old new
-all_left old new same =
-    (ap (λ (net : NetValue). net.beacons) same, ap (λ (net : NetValue). net.segments) same)
+-- ---- answers
 
-same_network : (old new : NetValue) → new ≡ old → new.network ≡ old.network
-same_network old new same = ap (λ (net : NetValue). net.network) same
+-- paths were asked for and answered
+pub record IsAsk (old : NetValue) (event : EventValue) (reply : Reply) (new : NetValue) : Type 0 where
+  pub src : ℕ
+  pub dst : ℕ
+  pub options : List WeighedRules
+  pub limit : ℕ
+  pub event_is : event ≡ Ask src dst (Ok options) limit
+  pub gives : GivesAnswer options src dst limit old reply new
 
--- ---- a beacon more
+abbrev pub Answers : NetValue → EventValue → Reply → NetValue → Type 0
+Answers old event reply new = (new.answers ≡ old.answers) ⊎ IsAsk old event reply new
 
-abbrev Adds : NetValue → Reply → NetValue → Chain → Type 0
-Adds old reply new c =
-    (reply ≡ Begun (length old.beacons)) × (new ≡ record old { beacons = old.beacons ++ c ∷ [] })
+-- ---- packets
 
-adds : (old new : NetValue) (reply : Reply) (c : Chain) → Leads (with_beacon old c) old reply new
-    → Adds old reply new c ⊎ (new ≡ old)
-adds old new reply c is =
-    elim (then_or old new reply (check (ltb (length old.beacons) 1_000_000) faults.TooMany) _ is) [
-      | inl done ↦ inl done.1.1
-      | inr none ↦ inr none
-    ]
+-- a packet departs, at the router that owns its first way out
+pub record IsDeparture (old new : NetValue) : Type 0 where
+  pub sent : Shipment
+  pub router : ℕ
+  pub owned : owner_in old.network sent.way.source (first_out (walk_of sent.way.pieces)) ≡ Ok router
+  pub packets : new.packets ≡ old.packets ++ packet_of sent router ∷ []
 
--- ---- packets: topology, beacons and store stay
+-- a packet has a turn, is lost, or has a byte changed
+abbrev pub IsTurn : NetValue → EventValue → ℕ → PacketValue → Packet → Type 0
+IsTurn old event number one packet =
+    (event ≡ Turn number) × (packet ≡ (turn_of old.network old.moment one.packet).1)
 
-abbrev pub Spares : NetValue → NetValue → Type 0
-Spares old new =
-    (new.network ≡ old.network) × ((new.beacons ≡ old.beacons) × (new.segments ≡ old.segments))
+abbrev pub IsLoss : EventValue → ℕ → PacketValue → Packet → Type 0
+IsLoss event number one packet = (event ≡ Lose number) × (packet ≡ lost one.packet)
 
-all_spared : (old new : NetValue) → new ≡ old → Spares old new
-all_spared old new same = (same_network old new same, all_left old new same)
+pub record IsAlteration (event : EventValue) (number : ℕ) (one : PacketValue) (packet : Packet) : Type 0 where
+  pub at : ℕ
+  pub change : ℕ
+  pub event_is : event ≡ Alter number at change
+  pub is : packet ≡ altered one.packet at change
 
-abbrev SparesIn : NetValue → Made → Type 0
-SparesIn old (Ok made) = Spares old made.1
-SparesIn old (Err fault) = Unit {0}
+pub record IsMove (old : NetValue) (event : EventValue) (new : NetValue) : Type 0 where
+  pub number : ℕ
+  pub one : PacketValue
+  pub packet : Packet
+  pub flying : flying_at old number ≡ Ok one
+  pub how : IsTurn old event number one packet
+      ⊎ (IsLoss event number one packet ⊎ IsAlteration event number one packet)
+  pub packets : new.packets ≡ slice_set old.packets number (record one { packet = packet })
 
-spares_by : (old new : NetValue) (reply : Reply) (made : Made) → SparesIn old made
-    → Leads made old reply new → Spares old new
-spares_by old new reply (Ok made) spares is = subst (Spares old) (sym is.1) spares
-spares_by old new reply (Err fault) spares is = all_spared old new is.1
+abbrev pub Moves : NetValue → EventValue → NetValue → Type 0
+Moves old event new =
+    (new.packets ≡ old.packets) ⊎ (IsDeparture old new ⊎ IsMove old event new)
 
-then_spares : {A : Type 0} (old : NetValue) (r : Result A EventFault) (f : A → Made)
-    → ((x : A) → SparesIn old (f x)) → SparesIn old (r >>= f)
-then_spares old (Ok x) f each = each x
-then_spares old (Err fault) f each = tt
+-- ---- all parts
 
-depart_spares : (old : NetValue) (sent : Shipment) → SparesIn old (departs old sent)
-depart_spares old sent =
-    then_spares old
-    (refused_as faults.Topology (owner_in old.network sent.way.source (first_out (walk_of sent.way.pieces)))) _
-    (λ router. then_spares old (check (ltb (length old.packets) 1_000_000) faults.TooMany) _
-    (λ _. (refl, (refl, refl))))
+pub record Effect (old : NetValue) (event : EventValue) (reply : Reply) (new : NetValue) : Type 0 where
+  pub network : Renews old event reply new
+  pub stores : Stores old event reply new
+  pub answers : Answers old event reply new
+  pub packets : Moves old event new
 
-send_spares : (old new : NetValue) (reply : Reply) (sent : Result Shipment EventFault)
-    → Sends sent old reply new → Spares old new
-send_spares old new reply (Err fault) is = all_spared old new is.1
-send_spares old new reply (Ok sent) is = elim is [
-  | inl done ↦ spares_by old new reply (departs old sent) (depart_spares old sent) done.1
-  | inr none ↦ all_spared old new none.1.1.1
-]
+module _ (old new : NetValue) (event : EventValue) (reply : Reply) where
+  network_now : (net : NetValue) → new ≡ net → new.network ≡ net.network
+  network_now net is = ap (λ (n : NetValue). n.network) is
 
-ask_spares : (old new : NetValue) (reply : Reply) (options : Result (List WeighedRules) EventFault)
-    (src dst limit : ℕ) → Asks options src dst limit old reply new → Spares old new
-ask_spares old new reply (Err fault) src dst limit is = all_spared old new is.1
-ask_spares old new reply (Ok options) src dst limit is =
-    subst (Spares old) (sym is.kept) (refl, (refl, refl))
+  beacons_now : (net : NetValue) → new ≡ net → new.beacons ≡ net.beacons
+  beacons_now net is = ap (λ (n : NetValue). n.beacons) is
 
-turn_spares : (old new : NetValue) (number : ℕ) (reply : Reply) → Step old (Turn number) reply new
-    → Spares old new
-turn_spares old new number reply is = spares_by old new reply (turns old number)
-    (then_spares old (flying_at old number) _ (λ one. (refl, (refl, refl)))) is
+  segments_now : (net : NetValue) → new ≡ net → new.segments ≡ net.segments
+  segments_now net is = ap (λ (n : NetValue). n.segments) is
 
-lose_spares : (old new : NetValue) (number : ℕ) (reply : Reply) → Step old (Lose number) reply new
-    → Spares old new
-lose_spares old new number reply is = spares_by old new reply (loses old number)
-    (then_spares old (flying_at old number) _ (λ one. (refl, (refl, refl)))) is
+  answers_now : (net : NetValue) → new ≡ net → new.answers ≡ net.answers
+  answers_now net is = ap (λ (n : NetValue). n.answers) is
 
-alter_spares : (old new : NetValue) (number at change : ℕ) (reply : Reply)
-    → Step old (Alter number at change) reply new → Spares old new
-alter_spares old new number at change reply is = spares_by old new reply (alters old number at change)
-    (then_spares old (flying_at old number) _ (λ one.
-    then_spares old (check (ltb at (length one.packet.bytes)) faults.BadOffset) _
-    (λ _. (refl, (refl, refl))))) is
+  packets_now : (net : NetValue) → new ≡ net → new.packets ≡ net.packets
+  packets_now net is = ap (λ (n : NetValue). n.packets) is
 
--- ---- the topology, event by event
+  -- at most the moment is another
+  in_moment : (moment : ℕ) → new ≡ record old { moment = moment } → Effect old event reply new
+  in_moment moment is = record {
+    network = inl (network_now _ is);
+    stores = inl (beacons_now _ is, segments_now _ is);
+    answers = inl (answers_now _ is);
+    packets = inl (packets_now _ is);
+  }
 
-network_kept : (old new : NetValue) (reply : Reply) (made : Result Chain EventFault)
-    → Leads (made >>= with_beacon old) old reply new → new.network ≡ old.network
-network_kept old new reply made is = elim (then_or old new reply made (with_beacon old) is) [
-  | inl one ↦ elim (adds old new reply one.0 one.1.1) [
-    | inl more ↦ ap (λ (net : NetValue). net.network) more.1
-    | inr none ↦ same_network old new none
-  ]
-  | inr none ↦ same_network old new none
-]
+  nothing : new ≡ old → Effect old event reply new
+  nothing is = in_moment old.moment is
 
-changed : (old new : NetValue) (reply : Reply) (made : Result Network TopologyFault)
-    → Leads (with_network old made) old reply new
-    → (new.network ≡ old.network) ⊎ (made ≡ Ok new.network)
-changed old new reply (Ok network) is = inr (ap (λ (net : NetValue). okay net.network) (sym is.1))
-  where
-    okay : Network → Result Network TopologyFault
-    okay n = Ok n
-changed old new reply (Err fault) is = inl (same_network old new is.1)
+  -- only beacons and segments are others
+  in_store : (beacons segments : List Chain) → new ≡ record old { beacons = beacons; segments = segments }
+      → Stores old event reply new → Effect old event reply new
+  in_store beacons segments is stored = record {
+    network = inl (network_now _ is);
+    stores = stored;
+    answers = inl (answers_now _ is);
+    packets = inl (packets_now _ is);
+  }
 
-pub renews : (old new : NetValue) (event : EventValue) (reply : Reply) → Step old event reply new
-    → Renews old new
-renews old new (Tick to) reply is =
-    inl (elim (then_or old new reply (check (leb old.moment to) faults.TimeBack) _ is) [
-      | inl done ↦ ap (λ (net : NetValue). net.network) done.1.1.1
-      | inr none ↦ same_network old new none
-    ])
-renews old new (Originate ia egress beta0) reply is =
-    inl (network_kept old new reply (begun old ia egress beta0) is)
-renews old new (Extend beacon ia egress) reply is =
-    inl (network_kept old new reply (passed_on old beacon ia egress) is)
-renews old new (Terminate beacon ia) reply is =
-    inl (elim (then_or old new reply (ended old beacon ia) (with_segment old) is) [
-      | inl one ↦ elim (then_or old new reply (refused_as faults.Store (answer_to old.segments one.0 old.moment)) _ one.1.1) [
-        | inl done ↦ ap (λ (net : NetValue). net.network) done.1.1.1
-        | inr none ↦ same_network old new none
-      ]
-      | inr none ↦ same_network old new none
-    ])
-renews old new Sweep reply is = inl (ap (λ (net : NetValue). net.network) is.1)
-renews old new (Ask src dst read limit) reply is =
-    inl (ask_spares old new reply (options_asked old src dst read limit) src dst limit is).0
-renews old new (Send route payload) reply is =
-    inl (send_spares old new reply (shipment_by old route payload) is).0
-renews old new (Turn number) reply is = inl (turn_spares old new number reply is).0
-renews old new (Lose number) reply is = inl (lose_spares old new number reply is).0
-renews old new (Alter number at change) reply is = inl (alter_spares old new number at change reply is).0
-renews old new (CutLink ia number) reply is =
-    elim (changed old new reply (set_up false ia number old.network) is) [
-      | inl same ↦ inl same
-      | inr made ↦ inr (inl (record { up = false; ia = ia; number = number; change = made }))
-    ]
-renews old new (MendLink ia number) reply is =
-    elim (changed old new reply (set_up true ia number old.network) is) [
-      | inl same ↦ inl same
-      | inr made ↦ inr (inl (record { up = true; ia = ia; number = number; change = made }))
-    ]
-renews old new (RotateKey ia key) reply is =
-    elim (changed old new reply (rotated ia key old.network) is) [
-      | inl same ↦ inl same
-      | inr made ↦ inr (inr (record { ia = ia; key = key; change = made }))
-    ]
+  -- only packets are others
+  in_packets : (packets : List PacketValue) → new ≡ record old { packets = packets }
+      → Moves old event new → Effect old event reply new
+  in_packets packets is moved = record {
+    network = inl (network_now _ is);
+    stores = inl (beacons_now _ is, segments_now _ is);
+    answers = inl (answers_now _ is);
+    packets = moved;
+  }
 
--- ---- beacons and store, event by event
+  -- only the topology is another
+  in_network : (made : Result Network TopologyFault) → Leads (with_network old made) old reply new
+      → (is_done reply ≡ true → made ≡ Ok new.network → Renews old event reply new)
+      → Effect old event reply new
+  in_network (Err fault) is renewed = nothing is.1
+  in_network (Ok network) is renewed = record {
+    network = renewed (ap is_done is.0) (ap okay (sym (network_now _ is.1)));
+    stores = inl (beacons_now _ is.1, segments_now _ is.1);
+    answers = inl (answers_now _ is.1);
+    packets = inl (packets_now _ is.1);
+  }
+    where
+      okay : Network → Result Network TopologyFault
+      okay n = Ok n
 
-started : (old new : NetValue) (ia egress beta0 : ℕ) (reply : Reply)
-    → Step old (Originate ia egress beta0) reply new
-    → Stores old (Originate ia egress beta0) reply new
-started old new ia egress beta0 reply is =
-    elim (then_or old new reply (begun old ia egress beta0) (with_beacon old) is) [
-      | inl one ↦ elim (adds old new reply one.0 one.1.1) [
-        | inl more ↦ inr (inl (record {
-          ia = ia;
-          egress = egress;
-          beta0 = beta0;
-          event_is = refl;
-          reply_is = more.0;
-          chain = one.0;
-          made = done_below faults.Beacon (originated old.network ia egress old.moment beta0) one.0 one.1.0;
-          beacons = ap (λ (net : NetValue). net.beacons) more.1;
-          segments = ap (λ (net : NetValue). net.segments) more.1;
-        }))
-        | inr none ↦ inl (all_left old new none)
-      ]
-      | inr none ↦ inl (all_left old new none)
-    ]
+  -- a step that is done leads on, and one that is refused changes nothing
+  then_effect : {A : Type 0} (r : Result A EventFault) (f : A → Made)
+      → ((x : A) → r ≡ Ok x → Leads (f x) old reply new → Effect old event reply new)
+      → Leads (r >>= f) old reply new → Effect old event reply new
+  then_effect (Ok x) f each is = each x refl is
+  then_effect (Err fault) f each is = nothing is.1
 
-passed : (old new : NetValue) (beacon ia egress : ℕ) (reply : Reply)
-    → Step old (Extend beacon ia egress) reply new
-    → Stores old (Extend beacon ia egress) reply new
-passed old new beacon ia egress reply is =
-    elim (then_or old new reply (passed_on old beacon ia egress) (with_beacon old) is) [
-      | inl one ↦ elim (adds old new reply one.0 one.1.1) [
-        | inl more ↦ (
-            let was = both_done (beacon_at old beacon) _ one.0 one.1.0 in
-            inr (inr (inl (record {
-              beacon = beacon;
-              ia = ia;
-              egress = egress;
-              event_is = refl;
-              reply_is = more.0;
-              from = was.0;
-              was = ok_or_ok (slice_get old.beacons beacon) faults.NoBeacon was.0 was.1.0;
-              chain = one.0;
-              made = done_below faults.Beacon (extended old.network was.0 ia egress) one.0 was.1.1;
-              beacons = ap (λ (net : NetValue). net.beacons) more.1;
-              segments = ap (λ (net : NetValue). net.segments) more.1;
-            }))))
-        | inr none ↦ inl (all_left old new none)
-      ]
-      | inr none ↦ inl (all_left old new none)
-    ]
+  -- a packet in flight is replaced
+  moved : (number : ℕ) (one : PacketValue) (packet : Packet) → flying_at old number ≡ Ok one
+      → IsTurn old event number one packet
+      ⊎ (IsLoss event number one packet ⊎ IsAlteration event number one packet)
+      → new ≡ record old { packets = slice_set old.packets number (record one { packet = packet }) }
+      → Effect old event reply new
+  moved number one packet flying how is = in_packets _ is (inr (inr (record {
+    number = number;
+    one = one;
+    packet = packet;
+    flying = flying;
+    how = how;
+    packets = packets_now _ is;
+  })))
 
-closed : (old new : NetValue) (beacon ia : ℕ) (reply : Reply)
-    → Step old (Terminate beacon ia) reply new → Stores old (Terminate beacon ia) reply new
-closed old new beacon ia reply is =
-    elim (then_or old new reply (ended old beacon ia) (with_segment old) is) [
-      | inl one ↦ elim (then_or old new reply (refused_as faults.Store (answer_to old.segments one.0 old.moment)) _ one.1.1) [
-        | inl done ↦ (
-            let was = both_done (beacon_at old beacon) _ one.0 one.1.0 in
-            inr (inr (inr (inl (record {
-              beacon = beacon;
-              ia = ia;
-              event_is = refl;
-              is_new = done.0;
-              reply_is = done.1.1.0;
-              from = was.0;
-              was = ok_or_ok (slice_get old.beacons beacon) faults.NoBeacon was.0 was.1.0;
-              chain = one.0;
-              made = done_below faults.Beacon (terminated old.network was.0 ia) one.0 was.1.1;
-              beacons = ap (λ (net : NetValue). net.beacons) done.1.1.1;
-              segments = ap (λ (net : NetValue). net.segments) done.1.1.1;
-            })))))
-        | inr none ↦ inl (all_left old new none)
-      ]
-      | inr none ↦ inl (all_left old new none)
-    ]
+  departed : (sent : Result Shipment EventFault) → Sends sent old reply new → Effect old event reply new
+  departed (Err fault) is = nothing is.1
+  departed (Ok sent) (inr refused) = nothing refused.1.1.1
+  departed (Ok sent) (inl accepted) =
+      let owner = owner_in old.network sent.way.source (first_out (walk_of sent.way.pieces)) in
+      then_effect (refused_as faults.Topology owner) _ (λ router owned.
+      then_effect (check (ltb (length old.packets) 1_000_000) faults.TooMany) _ (λ _ _ is.
+      in_packets _ is.1 (inr (inl (record {
+        sent = sent;
+        router = router;
+        owned = done_below faults.Topology owner router owned;
+        packets = packets_now _ is.1;
+      }))))) accepted.1
 
-network_leaves : (old new : NetValue) (reply : Reply) (made : Result Network TopologyFault)
-    → Leads (with_network old made) old reply new → Leaves old new
-network_leaves old new reply (Ok network) is =
-    (ap (λ (net : NetValue). net.beacons) is.1, ap (λ (net : NetValue). net.segments) is.1)
-network_leaves old new reply (Err fault) is = all_left old new is.1
+  -- a beacon more
+  added : (chain : Chain)
+      → (reply ≡ Begun (length old.beacons) → new.beacons ≡ old.beacons ++ chain ∷ []
+      → new.segments ≡ old.segments → Stores old event reply new)
+      → Leads (with_beacon old chain) old reply new → Effect old event reply new
+  added chain stored =
+      then_effect (check (ltb (length old.beacons) 1_000_000) faults.TooMany) _ (λ _ _ is.
+      in_store _ old.segments is.1 (stored is.0 (beacons_now _ is.1) (segments_now _ is.1)))
 
-pub stores : (old new : NetValue) (event : EventValue) (reply : Reply) → Step old event reply new
-    → Stores old event reply new
-stores old new (Tick to) reply is =
-    inl (elim (then_or old new reply (check (leb old.moment to) faults.TimeBack) _ is) [
-      | inl done ↦ (ap (λ (net : NetValue). net.beacons) done.1.1.1, ap (λ (net : NetValue). net.segments) done.1.1.1)
-      | inr none ↦ all_left old new none
-    ])
-stores old new (Originate ia egress beta0) reply is = started old new ia egress beta0 reply is
-stores old new (Extend beacon ia egress) reply is = passed old new beacon ia egress reply is
-stores old new (Terminate beacon ia) reply is = closed old new beacon ia reply is
-stores old new Sweep reply is =
-    inr (inr (inr (inr (ap (λ (net : NetValue). net.beacons) is.1, ap (λ (net : NetValue). net.segments) is.1))))
-stores old new (Ask src dst read limit) reply is =
-    inl (ask_spares old new reply (options_asked old src dst read limit) src dst limit is).1
-stores old new (Send route payload) reply is =
-    inl (send_spares old new reply (shipment_by old route payload) is).1
-stores old new (Turn number) reply is = inl (turn_spares old new number reply is).1
-stores old new (Lose number) reply is = inl (lose_spares old new number reply is).1
-stores old new (Alter number at change) reply is = inl (alter_spares old new number at change reply is).1
-stores old new (CutLink ia number) reply is =
-    inl (network_leaves old new reply (set_up false ia number old.network) is)
-stores old new (MendLink ia number) reply is =
-    inl (network_leaves old new reply (set_up true ia number old.network) is)
-stores old new (RotateKey ia key) reply is =
-    inl (network_leaves old new reply (rotated ia key old.network) is)
+-- ---- requests for paths
+
+abbrev are_read : List WeighedRules → Result (List WeighedRules) OptionFault
+are_read options = Ok options
+
+-- the options that were asked with are those that were read
+options_read : (net : NetValue) (src dst : ℕ) (read : Result (List WeighedRules) OptionFault)
+    (limit : ℕ) (options : List WeighedRules) → options_asked net src dst read limit ≡ Ok options
+    → read ≡ Ok options
+options_read net src dst read limit options is =
+    let limited = both_done (check (leb 1 limit && leb limit 64) faults.BadLimit) _ options is in
+    let judged = both_done (refused_as faults.Policy read) _ options limited.1.1 in
+    let ends = both_done (refused_as faults.Combination (ends_at src dst)) _ options judged.1.1 in
+    let few = both_done (check (ltb (length net.answers) 1_000_000) faults.TooMany) _ options ends.1.1 in
+    done_below faults.Policy read judged.0 judged.1.0 ∙ ap are_read (ok_is judged.0 options few.1.1)
+
+asked : (old new : NetValue) (reply : Reply) (src dst : ℕ) (read : Result (List WeighedRules) OptionFault)
+    (limit : ℕ) (options : Result (List WeighedRules) EventFault)
+    → options_asked old src dst read limit ≡ options → Asks options src dst limit old reply new
+    → Effect old (Ask src dst read limit) reply new
+asked old new reply src dst read limit (Err fault) are is = nothing old new (Ask src dst read limit) reply is.1
+asked old new reply src dst read limit (Ok options) are is =
+    let event = Ask src dst read limit in
+    let kept = is.kept in
+    record {
+      network = inl (network_now old new event reply _ kept);
+      stores = inl (beacons_now old new event reply _ kept, segments_now old new event reply _ kept);
+      answers = inr (record {
+        src = src;
+        dst = dst;
+        options = options;
+        limit = limit;
+        event_is = ap (λ r. Ask src dst r limit) (options_read old src dst read limit options are);
+        gives = is;
+      });
+      packets = inl (packets_now old new event reply _ kept);
+    }
+
+-- ---- each event
+
+pub effect : (old new : NetValue) (event : EventValue) (reply : Reply) → Step old event reply new
+    → Effect old event reply new
+effect old new (Tick to) reply is =
+    then_effect old new (Tick to) reply (check (leb old.moment to) faults.TimeBack) _
+    (λ _ _ done. in_moment old new (Tick to) reply to done.1) is
+effect old new (Originate ia egress beta0) reply is =
+    let event = Originate ia egress beta0 in
+    then_effect old new event reply (begun old ia egress beta0) (with_beacon old) (λ chain made.
+    added old new event reply chain (λ told beacons segments. inr (inl (record {
+      ia = ia;
+      egress = egress;
+      beta0 = beta0;
+      event_is = refl;
+      reply_is = told;
+      chain = chain;
+      made = done_below faults.Beacon (originated old.network ia egress old.moment beta0) chain made;
+      beacons = beacons;
+      segments = segments;
+    })))) is
+effect old new (Extend beacon ia egress) reply is =
+    let event = Extend beacon ia egress in
+    then_effect old new event reply (passed_on old beacon ia egress) (with_beacon old) (λ chain made.
+    added old new event reply chain (λ told beacons segments. (
+    let was = both_done (beacon_at old beacon) _ chain made in
+    inr (inr (inl (record {
+      beacon = beacon;
+      ia = ia;
+      egress = egress;
+      event_is = refl;
+      reply_is = told;
+      from = was.0;
+      was = ok_or_ok (slice_get old.beacons beacon) faults.NoBeacon was.0 was.1.0;
+      chain = chain;
+      made = done_below faults.Beacon (extended old.network was.0 ia egress) chain was.1.1;
+      beacons = beacons;
+      segments = segments;
+    })))))) is
+effect old new (Terminate beacon ia) reply is =
+    let event = Terminate beacon ia in
+    then_effect old new event reply (ended old beacon ia) (with_segment old) (λ chain made.
+    then_effect old new event reply (refused_as faults.Store (answer_to old.segments chain old.moment)) _ (λ is_new _ done. (
+    let was = both_done (beacon_at old beacon) _ chain made in
+    in_store old new event reply old.beacons _ done.1 (inr (inr (inr (inl (record {
+      beacon = beacon;
+      ia = ia;
+      event_is = refl;
+      is_new = is_new;
+      reply_is = done.0;
+      from = was.0;
+      was = ok_or_ok (slice_get old.beacons beacon) faults.NoBeacon was.0 was.1.0;
+      chain = chain;
+      made = done_below faults.Beacon (terminated old.network was.0 ia) chain was.1.1;
+      beacons = beacons_now old new event reply _ done.1;
+      segments = segments_now old new event reply _ done.1;
+    })))))))) is
+effect old new Sweep reply is =
+    in_store old new Sweep reply old.beacons _ is.1 (inr (inr (inr (inr
+    (beacons_now old new Sweep reply _ is.1, segments_now old new Sweep reply _ is.1)))))
+effect old new (Ask src dst read limit) reply is =
+    asked old new reply src dst read limit (options_asked old src dst read limit) refl is
+effect old new (Send route payload) reply is =
+    departed old new (Send route payload) reply (shipment_by old route payload) is
+effect old new (Turn number) reply is =
+    then_effect old new (Turn number) reply (flying_at old number) _ (λ one flying done.
+    moved old new (Turn number) reply number one _ flying (inl (refl, refl)) done.1) is
+effect old new (Lose number) reply is =
+    then_effect old new (Lose number) reply (flying_at old number) _ (λ one flying done.
+    moved old new (Lose number) reply number one _ flying (inr (inl (refl, refl))) done.1) is
+effect old new (Alter number at change) reply is =
+    let event = Alter number at change in
+    then_effect old new event reply (flying_at old number) _ (λ one flying.
+    then_effect old new event reply (check (ltb at (length one.packet.bytes)) faults.BadOffset) _ (λ _ _ done.
+    moved old new event reply number one _ flying
+    (inr (inr (record { at = at; change = change; event_is = refl; is = refl }))) done.1)) is
+effect old new (CutLink ia number) reply is =
+    in_network old new (CutLink ia number) reply (set_up false ia number old.network) is (λ done change.
+    inr (inl (record { up = false; ia = ia; number = number; event_is = refl; done = done; change = change })))
+effect old new (MendLink ia number) reply is =
+    in_network old new (MendLink ia number) reply (set_up true ia number old.network) is (λ done change.
+    inr (inl (record { up = true; ia = ia; number = number; event_is = refl; done = done; change = change })))
+effect old new (RotateKey ia key) reply is =
+    in_network old new (RotateKey ia key) reply (rotated ia key old.network) is (λ done change.
+    inr (inr (record { ia = ia; key = key; event_is = refl; done = done; change = change })))

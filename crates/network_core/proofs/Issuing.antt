@@ -19,7 +19,7 @@ use Rattle.network_core.specs.declared.reply.Reply.TheVariants.{Begun, Registere
 use Rattle.network_core.specs.Event.{EventValue, Originate, Extend, Terminate}
 use Rattle.network_core.specs.Value.{NetValue}
 use Rattle.network_core.specs.History.{EventRecord, IsHistory, net_at, Occurs, PassOn, doer, key_then, IssuedIn, IssuedBefore}
-use Rattle.network_core.proofs.Effects.{IsStart, IsPass, IsEnd, stores}
+use Rattle.network_core.proofs.Effects.{IsStart, IsPass, IsEnd, effect}
 use Rattle.network_core.proofs.Numbers.{StepAt, becomes_at, event_or_none, network_at, under_on}
 
 -- ---- the chain of events that gave a beacon
@@ -191,7 +191,7 @@ module _ (start : NetValue) (history : List EventRecord) (is : IsHistory start h
   passed_next : (k : ℕ) (m : EventRecord) → slice_get history k ≡ Some m → AllPassed k → AllPassed (k + 1)
   passed_next k m there all =
       let step = becomes_at start history k m is there in
-      elim (stores (at k) (at (k + 1)) m.event m.reply step) [
+      elim (effect (at k) (at (k + 1)) m.event m.reply step).stores [
         | inl l ↦ no_longer k m step all l.0
         | inr some ↦ elim some [
           | inl s ↦ one_longer k m s.chain step all s.beacons (started k m there step s)
@@ -275,7 +275,7 @@ module _ (start : NetValue) (history : List EventRecord) (is : IsHistory start h
   stored_next k m there all =
       let after = later_too k (at k).segments all in
       let P = IssuedBefore start history (k + 1) in
-      elim (stores (at k) (at (k + 1)) m.event m.reply (becomes_at start history k m is there)) [
+      elim (effect (at k) (at (k + 1)) m.event m.reply (becomes_at start history k m is there)).stores [
         | inl l ↦ subst (All P) (sym l.1) after
         | inr some ↦ elim some [
           | inl s ↦ subst (All P) (sym s.segments) after

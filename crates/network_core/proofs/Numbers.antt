@@ -12,7 +12,7 @@ use Rattle.network_core.specs.Event.{EventValue}
 use Rattle.network_core.specs.Value.{NetValue}
 use Rattle.network_core.specs.Step.{Step}
 use Rattle.network_core.specs.History.{EventRecord, IsHistory, net_at}
-use Rattle.network_core.proofs.Effects.{renews}
+use Rattle.network_core.proofs.Effects.{effect}
 
 -- ---- the event of a number
 
@@ -92,7 +92,7 @@ kept_to start history P i j order is each at =
 
 pub network_on : (old new : NetValue) (event : EventValue) (reply : Reply) → Step old event reply new
     → IsNetwork old.network → IsNetwork new.network
-network_on old new event reply is network = elim (renews old new event reply is) [
+network_on old new event reply is network = elim (effect old new event reply is).network [
   | inl same ↦ subst IsNetwork (sym same) network
   | inr some ↦ elim some [
     | inl s ↦ linked_network s.up s.ia s.number old.network new.network network s.change
@@ -112,7 +112,7 @@ network_at start history k is network =
 pub under_on : (old new : NetValue) (event : EventValue) (reply : Reply) (keys : List (List ℕ))
     (chain : Chain) → Step old event reply new
     → IsUnderWay old.network keys chain → IsUnderWay new.network keys chain
-under_on old new event reply keys chain is under = elim (renews old new event reply is) [
+under_on old new event reply keys chain is under = elim (effect old new event reply is).network [
   | inl same ↦ subst (λ n. IsUnderWay n keys chain) (sym same) under
   | inr some ↦ elim some [
     | inl s ↦ beacon_linked old.network new.network s.up s.ia s.number keys chain s.change under

@@ -1,33 +1,22 @@
 -- What is so of each packet stays so, whatever happens.
-use Rattle.std.proofs.Common.{◌≡◌, ℕ, zero, suc, ◌⊎◌, Bool, true, false, ltb, leb, List, [], ◌∷◌, ◌++◌, length, set, Some, Result, Ok, Err, refl, sym, subst, inl, inr}
+use Rattle.std.proofs.Common.{◌≡◌, ℕ, zero, suc, ◌⊎◌, Bool, List, [], ◌∷◌, set, Some, Ok, refl, sym, ap, ◌∙◌, subst, inl, inr}
 use Rattle.std.specs.Prelude.{slice_get}
-use Rattle.refusal.specs.Refusal.{◌>>=◌, check, refused_as}
 use Rattle.refusal.proofs.Steps.{ok_or_ok}
 use Rattle.scion_topology.specs.Network.{Network}
 use Rattle.scion_topology.specs.Topology.{owner_in, set_up, rotated}
-use Rattle.path_segment.specs.Chain.{Chain}
-use Rattle.path_server.specs.Store.{answer_to}
 use Rattle.path_verifier.specs.Walk.{walk_of}
 use Rattle.forwarding.specs.declared.location.RouterStop.{RouterStop}
 use Rattle.forwarding.specs.declared.location.PacketLocation.{PacketLocation}
 use Rattle.forwarding.specs.declared.location.PacketLocation.TheVariants as places
 use Rattle.forwarding.specs.Journey.{first_out}
 use Rattle.forwarding.specs.Turn.{Packet, turn_of, lost, altered}
-use Rattle.policy_expr.specs.Options.{WeighedRules}
-use Rattle.network_core.specs.declared.fault.EventFault.{EventFault}
 use Rattle.network_core.specs.declared.fault.EventFault.TheVariants as faults
 use Rattle.network_core.specs.declared.reply.Reply.{Reply}
-use Rattle.network_core.specs.Event.{EventValue, Tick, Originate, Extend, Terminate, Sweep, Ask, Send, Turn, Lose, Alter, CutLink, MendLink, RotateKey}
+use Rattle.network_core.specs.Event.{EventValue}
 use Rattle.network_core.specs.Value.{Shipment, PacketValue, NetValue}
-use Rattle.network_core.specs.Step.{Made, ticked, originates, extends, terminates, cleared, with_beacon, with_segment, begun, passed_on, ended, with_network, with_packet, is_in_flight, packet_at, flying_at, turns, loses, alters, options_asked, shipment_by, packet_of, departs, Asks, Sends, Step}
-use Rattle.network_core.proofs.Effects.{done_below, both_done}
+use Rattle.network_core.specs.Step.{is_in_flight, packet_at, flying_at, packet_of, Step}
+use Rattle.network_core.proofs.Effects.{both_done, IsMove, Moves, Renews, effect}
 use Rattle.network_core.proofs.Issuing.{last_or}
-use Rattle.network_core.proofs.Keeping.{In, by_leads, then_in}
-
-then_with : {A : Type 0} (P : NetValue → Type 0) (r : Result A EventFault) (f : A → Made)
-    → ((x : A) → r ≡ Ok x → In P (f x)) → In P (r >>= f)
-then_with P (Ok x) f each = each x refl
-then_with P (Err fault) f each = tt
 
 -- a place of a list with one element changed has that element, or what it had
 set_or : {A : Type 0} (xs : List A) (k i : ℕ) (y x : A) → slice_get (set xs k y) i ≡ Some x
@@ -78,95 +67,44 @@ AllHold P net =
 
 module _ (IsSane : Network → Type 0) (P : Network → PacketValue → Type 0) (rules : Outlasts IsSane P)
     (old new : NetValue) (sane : IsSane old.network) (held : AllHold P old) where
-  beacon_holds : (c : Chain) → In (AllHold P) (with_beacon old c)
-  beacon_holds c =
-      then_in (AllHold P) (check (ltb (length old.beacons) 1_000_000) faults.TooMany) _ (λ _. held)
-
-  one_more : (sent : Shipment) (router : ℕ)
-      → owner_in old.network sent.way.source (first_out (walk_of sent.way.pieces)) ≡ Ok router
-      → AllHold P (record old { packets = old.packets ++ packet_of sent router ∷ [] })
-  one_more sent router owned i one there =
-      elim (last_or old.packets (packet_of sent router) i one there) [
-        | inl before ↦ held i one before
-        | inr last ↦ subst (P old.network) last.1 (rules.departed old.network sent router sane owned)
+  moved : (event : EventValue) (m : IsMove old event new) → P old.network (record m.one { packet = m.packet })
+  moved event m =
+      let there = flying_there old m.number m.one m.flying in
+      let holds = held m.number m.one there.0 in
+      let Q = λ (packet : Packet). P old.network (record m.one { packet = packet }) in
+      elim m.how [
+        | inl turn ↦ subst Q (sym turn.1) (rules.turned old.network old.moment m.one there.1.0 sane there.1.1 holds)
+        | inr some ↦ elim some [
+          | inl loss ↦ subst Q (sym loss.1) (rules.lost old.network m.one holds)
+          | inr a ↦ subst Q (sym a.is) (rules.altered old.network m.one a.at a.change holds)
+        ]
       ]
 
-  changed : (q : ℕ) (one : PacketValue) (packet : Packet) → P old.network (record one { packet = packet })
-      → AllHold P (with_packet old q one packet)
-  changed q one packet holds i other there =
-      elim (set_or old.packets q i (record one { packet = packet }) other there) [
-        | inl before ↦ held i other before
-        | inr same ↦ subst (P old.network) same holds
+  -- each packet after the event, in the topology before it
+  before : (event : EventValue) → Moves old event new → (i : ℕ) (one : PacketValue)
+      → slice_get new.packets i ≡ Some one → P old.network one
+  before event (inl same) i one there = held i one (ap (λ ps. slice_get ps i) (sym same) ∙ there)
+  before event (inr (inl d)) i one there =
+      elim (last_or old.packets (packet_of d.sent d.router) i one (ap (λ ps. slice_get ps i) (sym d.packets) ∙ there)) [
+        | inl was ↦ held i one was
+        | inr last ↦ subst (P old.network) last.1 (rules.departed old.network d.sent d.router sane d.owned)
+      ]
+  before event (inr (inr m)) i one there =
+      elim (set_or old.packets m.number i (record m.one { packet = m.packet }) one (ap (λ ps. slice_get ps i) (sym m.packets) ∙ there)) [
+        | inl was ↦ held i one was
+        | inr same ↦ subst (P old.network) same (moved event m)
       ]
 
-  sent_holds : (reply : Reply) (sent : Result Shipment EventFault) → Sends sent old reply new
-      → AllHold P new
-  sent_holds reply (Err fault) is = subst (AllHold P) (sym is.1) held
-  sent_holds reply (Ok sent) is =
-      let owner = owner_in old.network sent.way.source (first_out (walk_of sent.way.pieces)) in
-      elim is [
-        | inl done ↦ by_leads (AllHold P) old new reply (departs old sent) held
-            (then_with (AllHold P) (refused_as faults.Topology owner) _ (λ router owned.
-            then_in (AllHold P) (check (ltb (length old.packets) 1_000_000) faults.TooMany) _
-            (λ _. one_more sent router (done_below faults.Topology owner router owned)))) done.1
-        | inr none ↦ subst (AllHold P) (sym none.1.1.1) held
-      ]
-
-  asked_holds : (reply : Reply) (src dst limit : ℕ)
-      (options : Result (List WeighedRules) EventFault)
-      → Asks options src dst limit old reply new → AllHold P new
-  asked_holds reply src dst limit (Ok options) is = subst (AllHold P) (sym is.kept) held
-  asked_holds reply src dst limit (Err fault) is = subst (AllHold P) (sym is.1) held
-
-  linked_holds : (up : Bool) (ia number : ℕ)
-      → In (AllHold P) (with_network old (set_up up ia number old.network))
-  linked_holds up ia number =
-      then_with (AllHold P) (refused_as faults.Topology (set_up up ia number old.network)) _
-      (λ network is i one there. rules.linked old.network network up ia number one
-      (done_below faults.Topology (set_up up ia number old.network) network is) (held i one there))
-
-  keyed_holds : (ia : ℕ) (key : List ℕ)
-      → In (AllHold P) (with_network old (rotated ia key old.network))
-  keyed_holds ia key =
-      then_with (AllHold P) (refused_as faults.Topology (rotated ia key old.network)) _
-      (λ network is i one there. rules.keyed old.network network ia key one
-      (done_below faults.Topology (rotated ia key old.network) network is) (held i one there))
+  -- and in the topology after it
+  after : (event : EventValue) (reply : Reply) → Renews old event reply new → (one : PacketValue)
+      → P old.network one → P new.network one
+  after event reply (inl same) one holds = subst (λ n. P n one) (sym same) holds
+  after event reply (inr (inl s)) one holds =
+      rules.linked old.network new.network s.up s.ia s.number one s.change holds
+  after event reply (inr (inr k)) one holds =
+      rules.keyed old.network new.network k.ia k.key one k.change holds
 
   pub holds_on : (event : EventValue) (reply : Reply) → Step old event reply new → AllHold P new
-  holds_on (Tick to) reply is = by_leads (AllHold P) old new reply (ticked old to) held
-      (then_in (AllHold P) (check (leb old.moment to) faults.TimeBack) _ (λ _. held)) is
-  holds_on (Originate ia egress beta0) reply is =
-      by_leads (AllHold P) old new reply (originates old ia egress beta0) held
-      (then_in (AllHold P) (begun old ia egress beta0) (with_beacon old) beacon_holds) is
-  holds_on (Extend beacon ia egress) reply is =
-      by_leads (AllHold P) old new reply (extends old beacon ia egress) held
-      (then_in (AllHold P) (passed_on old beacon ia egress) (with_beacon old) beacon_holds) is
-  holds_on (Terminate beacon ia) reply is =
-      by_leads (AllHold P) old new reply (terminates old beacon ia) held
-      (then_in (AllHold P) (ended old beacon ia) (with_segment old) (λ c.
-      then_in (AllHold P) (refused_as faults.Store (answer_to old.segments c old.moment)) _
-      (λ _. held))) is
-  holds_on Sweep reply is = by_leads (AllHold P) old new reply (cleared old) held held is
-  holds_on (Ask src dst read limit) reply is =
-      asked_holds reply src dst limit (options_asked old src dst read limit) is
-  holds_on (Send route payload) reply is = sent_holds reply (shipment_by old route payload) is
-  holds_on (Turn q) reply is = by_leads (AllHold P) old new reply (turns old q) held
-      (then_with (AllHold P) (flying_at old q) _ (λ one flying. (
-      let there = flying_there old q one flying in
-      changed q one (turn_of old.network old.moment one.packet).1
-      (rules.turned old.network old.moment one there.1.0 sane there.1.1 (held q one there.0))))) is
-  holds_on (Lose q) reply is = by_leads (AllHold P) old new reply (loses old q) held
-      (then_with (AllHold P) (flying_at old q) _ (λ one flying. changed q one (lost one.packet)
-      (rules.lost old.network one (held q one (flying_there old q one flying).0)))) is
-  holds_on (Alter q at change) reply is =
-      by_leads (AllHold P) old new reply (alters old q at change) held
-      (then_with (AllHold P) (flying_at old q) _ (λ one flying.
-      then_in (AllHold P) (check (ltb at (length one.packet.bytes)) faults.BadOffset) _
-      (λ _. changed q one (altered one.packet at change)
-      (rules.altered old.network one at change (held q one (flying_there old q one flying).0))))) is
-  holds_on (CutLink ia number) reply is = by_leads (AllHold P) old new reply
-      (with_network old (set_up false ia number old.network)) held (linked_holds false ia number) is
-  holds_on (MendLink ia number) reply is = by_leads (AllHold P) old new reply
-      (with_network old (set_up true ia number old.network)) held (linked_holds true ia number) is
-  holds_on (RotateKey ia key) reply is = by_leads (AllHold P) old new reply
-      (with_network old (rotated ia key old.network)) held (keyed_holds ia key) is
+  holds_on event reply is i one there =
+      let e = effect old new event reply is in
+      after event reply e.network one (before event e.packets i one there)

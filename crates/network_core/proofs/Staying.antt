@@ -9,7 +9,7 @@ use Rattle.forwarding.specs.declared.location.PacketLocation.TheVariants.{Delive
 use Rattle.network_core.specs.declared.fault.EventFault.{EventFault}
 use Rattle.network_core.specs.declared.fault.EventFault.TheVariants as faults
 use Rattle.network_core.specs.declared.reply.Reply.{Reply}
-use Rattle.network_core.specs.Event.{EventValue, Tick, Originate, Extend, Terminate, Sweep, Ask, Send, Turn, Lose, Alter, CutLink, MendLink, RotateKey}
+use Rattle.network_core.specs.Event.{EventValue, Turn, Lose, Alter}
 use Rattle.network_core.specs.Value.{PacketValue, NetValue}
 use Rattle.network_core.specs.Step.{Made, is_in_flight, flying_at, Leads, Step}
 use Rattle.network_core.specs.History.{EventRecord, IsHistory, net_at}
@@ -60,16 +60,7 @@ module _ (p : ℕ) (old new : NetValue) (one : PacketValue) (there : slice_get o
     | inl same ↦ named q reply _ same is
     | inr other ↦ kept p old new (Alter q at change) reply within other is ∙ there
   ]
-  stays_on (Tick to) reply is = kept p old new (Tick to) reply within (λ n. n) is ∙ there
-  stays_on (Originate ia egress beta0) reply is = kept p old new (Originate ia egress beta0) reply within (λ n. n) is ∙ there
-  stays_on (Extend beacon ia egress) reply is = kept p old new (Extend beacon ia egress) reply within (λ n. n) is ∙ there
-  stays_on (Terminate beacon ia) reply is = kept p old new (Terminate beacon ia) reply within (λ n. n) is ∙ there
-  stays_on Sweep reply is = kept p old new Sweep reply within (λ n. n) is ∙ there
-  stays_on (Ask src dst read limit) reply is = kept p old new (Ask src dst read limit) reply within (λ n. n) is ∙ there
-  stays_on (Send route payload) reply is = kept p old new (Send route payload) reply within (λ n. n) is ∙ there
-  stays_on (CutLink ia number) reply is = kept p old new (CutLink ia number) reply within (λ n. n) is ∙ there
-  stays_on (MendLink ia number) reply is = kept p old new (MendLink ia number) reply within (λ n. n) is ∙ there
-  stays_on (RotateKey ia key) reply is = kept p old new (RotateKey ia key) reply within (λ n. n) is ∙ there
+  stays_on event reply is = kept p old new event reply within (λ names. names) is ∙ there
 
 pub delivered_stays : (start : NetValue) (history : List EventRecord) (p k j : ℕ) (one : PacketValue)
     → IsHistory start history → k ≤ j → slice_get (net_at start history k).packets p ≡ Some one
