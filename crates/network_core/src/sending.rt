@@ -255,7 +255,7 @@ fn packet_of(
     lent.header.known();
     let source = lent.source;
     let bytes = frame(alloc, source, lent.destination, lent.header, payload)?;
-    let payload = clone_bytes(alloc, payload)?;
+    let payload = Vec::from_slice(alloc, payload)?;
     // The room for passed hops comes last, so that what the packet gives back of it at its end lies
     // at the end of the memory that is in use, where the next packet can take it.
     let transit = PacketInFlight::at_router(alloc, bytes, source, router)?;
@@ -263,13 +263,4 @@ fn packet_of(
         sent: Sent { way, payload },
         transit,
     })
-}
-
-/// A copy of these bytes, unless memory runs out.
-fn clone_bytes(alloc: Global, bytes: &[u8]) -> Result<Vec<u8>, AllocError>
-    ensures { IfOk result (λ own. own.items ≡ bytes.now) }
-{
-    let mut own = Vec::with_capacity(alloc, bytes.len())?;
-    own.extend_from_slice(bytes)?;
-    Ok(own)
 }

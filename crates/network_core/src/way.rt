@@ -27,19 +27,14 @@ pub(crate) struct LentWay<'a> {
 impl<'a> Model for LentWay<'a> {
     ghost use Rattle.std.specs.Coded.{codes};
     ghost use Rattle.policy_expr.specs.Code.{coded_tree};
-    ghost use Rattle.network_core.specs.Value.{Way};
+    ghost use Rattle.network_core.specs.Value.{Way, way_with};
 
     ghost Value = { Way };
 
     ghost coded = { Prim.hlevel (codes, coded_tree) };
 
-    ghost view = { λ w. record {
-      source = w.source;
-      destination = w.destination;
-      pieces = w.pieces.now;
-      header = w.header.now;
-      rules = w.policy.now;
-    } };
+    ghost view = { λ w.
+        way_with w.source w.destination w.pieces.now w.header.now w.policy.now };
 }
 
 /// The way by a path of an answer, which shares the answer. An invariant of the type says that the
@@ -109,19 +104,14 @@ pub(crate) struct OwnWay {
 impl Model for OwnWay {
     ghost use Rattle.std.specs.Coded.{codes};
     ghost use Rattle.policy_expr.specs.Code.{coded_tree};
-    ghost use Rattle.network_core.specs.Value.{Way};
+    ghost use Rattle.network_core.specs.Value.{Way, way_with};
 
     ghost Value = { Way };
 
     ghost coded = { Prim.hlevel (codes, coded_tree) };
 
-    ghost view = { λ w. record {
-      source = w.source;
-      destination = w.destination;
-      pieces = w.pieces.items;
-      header = w.header;
-      rules = w.policy;
-    } };
+    ghost view = { λ w.
+        way_with w.source w.destination w.pieces.items w.header w.policy };
 }
 
 impl OwnWay {
