@@ -21,11 +21,11 @@ pub(crate) fn header_of(held: &PieceSlots<'_>) -> Header
     requires few { total_hops (pieces_in held.now) ≤ 64 }
     ensures { result ≡ header_of (pieces_in held.now) }
 {
-    header_with(lens_of(held), infos_of(held), fields_of_all(held))
+    header_of_lists(lens_of(held), infos_of(held), fields_of_all(held))
 }
 
 /// The header of these lengths and fields.
-fn header_with(
+fn header_of_lists(
     lens: [u8; 3],
     infos: ArrayVec<InfoField, 3>,
     fields: ArrayVec<HopField, 64>,
