@@ -51,7 +51,7 @@ fn is_in_range(text: &str) -> bool
     ensures { result ≡ is_some (number_of text.now) }
 {
     let bytes = text.as_bytes();
-    if is_short_whole(bytes) {
+    if is_short_digits(bytes) {
         true
     } else if has_minus(bytes) {
         is_negative_in_range(&Numeral::scan(&bytes[1..]))
@@ -60,14 +60,15 @@ fn is_in_range(text: &str) -> bool
     }
 }
 
-/// Are there 1 to 19 digits and nothing else? Such a number has at most 64 bits, and most numbers
-/// are of this kind, so that none of these is scanned.
-fn is_short_whole(bytes: &[u8]) -> bool
+/// Are the bytes 1 to 19 digits? Such a number fits 64 bits, so that it need not be scanned; most
+/// numbers are of this kind.
+fn is_short_digits(bytes: &[u8]) -> bool
     ensures { result ≡ is_short_digits bytes.now }
 {
     !bytes.is_empty() && bytes.len() < 20 && is_all_digits(bytes)
 }
 
+/// Is each byte a decimal digit?
 fn is_all_digits(bytes: &[u8]) -> bool
     ensures { result ≡ list_all is_ascii_digit bytes.now }
 {

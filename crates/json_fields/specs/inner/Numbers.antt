@@ -24,4 +24,5 @@ abbrev mutual
 
 -- whether the text is 1 to 19 digits
 abbrev pub is_short_digits : List ℕ → Bool
-is_short_digits text = nat_lt 0 (length text) && nat_lt (length text) 20 && list_all is_ascii_digit text
+is_short_digits text =
+    nat_lt 0 (length text) && nat_lt (length text) 20 && list_all is_ascii_digit text

@@ -5,10 +5,10 @@ use Rattle.json_fields.proofs.Digits.{short_digits_are_read}
 use Rattle.json_fields.proofs.Signs.{signed_number, unsigned_number}
 use Rattle.json_fields.proofs.numbers.is_in_range.Goals as goal
 
-pub returns-then-is_short_whole : goal.returns-then-is_short_whole
-returns-then-is_short_whole c =
+pub returns-then-is_short_digits : goal.returns-then-is_short_digits
+returns-then-is_short_digits c =
     let s = c.as_bytes-bytes.result.now in
-    sym (short_digits_are_read s (sym c.is_short_whole.ensures ∙ c.if-is_short_whole.true)) ∙ ap (λ t. is_some (number_of t)) c.as_bytes-bytes.ensures.value
+    sym (short_digits_are_read s (sym c.is_short_digits.ensures ∙ c.if-is_short_digits.true)) ∙ ap (λ t. is_some (number_of t)) c.as_bytes-bytes.ensures.value
 
 pub returns-then-has_minus : goal.returns-then-has_minus
 returns-then-has_minus c =
