@@ -121,23 +121,11 @@ insert_goes_on question paths k path candidate = record {
 pub insert_meets : (paths : List PathValue) (k : ℕ) (path : PathValue) → IsMet (insert paths k path) path
 insert_meets paths k path = any_put (λ one. HaveOneWalk one path × IsNoWorse one path) paths k path (refl, no_worse_itself path)
 
-pub stays : (question : Question) (paths : List PathValue) → IsNoWorseThan question paths paths
-stays question paths = record { sound = λ sound. sound; met = λ other met. met }
-
 pub goes_further : (question : Question) (old mid new : List PathValue) → IsNoWorseThan question old mid → IsNoWorseThan question mid new → IsNoWorseThan question old new
 goes_further question old mid new first second = record {
   sound = λ sound. second.sound (first.sound sound);
   met = λ path met. second.met path (first.met path met);
 }
-
-same_read : (xs : List PathValue) (i : ℕ) (x : PathValue) → i < length xs → get_or xs i (get_or xs i x) ≡ get_or xs i x
-same_read [] i x inside = absurd (omega arith)
-same_read (y ∷ ys) zero x inside = refl
-same_read (y ∷ ys) (suc i) x inside = same_read ys i x (omega arith)
-
--- a path is met where one of the list with its walk is no worse
-pub met_there : (paths : List PathValue) (k : ℕ) (path : PathValue) → k < length paths → HaveOneWalk (get_or paths k path) path → IsNoWorse (get_or paths k path) path → IsMet paths path
-met_there paths k path within same better = (k, get_or paths k path, within, same_read paths k path within, (same, better))
 
 -- ---- as the code sees it
 

@@ -52,10 +52,6 @@ fewer_bytes one other e f bytes text is also same first second upto = record {
   least = λ as_late. not_less (bytes_cmp one.header other.header) one other refl (λ more. upto (ap (λ (b : List ℕ). slice_cmp nat_cmp b text) first.spelled ∙ ap (slice_cmp nat_cmp (spelling one.header)) second.spelled ∙ more));
 }
 
-pub same_bytes : (one other : PathValue) (bytes text : List ℕ) → SpellsHeader bytes one.header → SpellsHeader text other.header → slice_cmp nat_cmp bytes text ≡ bytes_cmp one.header other.header
-unfolding bytes_cmp
-same_bytes one other bytes text first second = ap (λ (b : List ℕ). slice_cmp nat_cmp b text) first.spelled ∙ ap (slice_cmp nat_cmp (spelling one.header)) second.spelled
-
 -- ---- as the code sees two paths
 
 pub seen : (p q one other : PathValue) → p ≡ one → q ≡ other → IsNoWorse p q → IsNoWorse one other

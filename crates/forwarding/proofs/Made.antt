@@ -21,7 +21,7 @@ use Rattle.path_segment.specs.declared.kind.SegKind.TheVariants.{Core, Intra}
 use Rattle.path_verifier.specs.Piece.{PieceValue, HasRange, kind_in, travelled}
 use Rattle.path_verifier.proofs.Entries.{length_travelled}
 use Rattle.beaconing.specs.Issued.{AreWays, LeadsOn, IsMade}
-use Rattle.forwarding.specs.PathPosition.{place_of, out_by}
+use Rattle.forwarding.specs.PathPosition.{place_of}
 use Rattle.path_verifier.specs.Accepted.{AreLive, MakesPath}
 use Rattle.forwarding.specs.Forwardable.{ahead, behind, IsLinked, IsForwardable, MayForward}
 use Rattle.refusal.proofs.Steps.{ok_is}
@@ -164,14 +164,6 @@ linked_against n piece entry next backward j up = record {
   far_owner = rw backward j.out_owner;
   leads = rw backward j.back;
 }
-
-pub out_along : (piece : PieceValue) (entry : Entry) → piece.along ≡ true
-    → out_by piece entry ≡ entry.cons_egress
-out_along piece entry forward = rw forward refl
-
-pub out_against : (piece : PieceValue) (entry : Entry) → piece.along ≡ false
-    → out_by piece entry ≡ entry.cons_ingress
-out_against piece entry backward = rw backward refl
 
 -- a piece travels between its two places
 place_between : (piece : PieceValue) (i : ℕ) → HasRange piece → i < length (travelled piece)

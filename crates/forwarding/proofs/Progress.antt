@@ -17,7 +17,6 @@ use Rattle.forwarding.specs.Frame.{HasFrame}
 use Rattle.forwarding.specs.Turn.{Packet, noted, turned_packet}
 use Rattle.forwarding.specs.OnPath.{at_spot, ComesNearer}
 use Rattle.forwarding.specs.Journey.{to_come, turns_over}
-use Rattle.forwarding.proofs.AtSpot.{IsSpot}
 use Rattle.forwarding.proofs.Stepping.{onward_by}
 use Rattle.forwarding.proofs.Turning.{placed, over, inside}
 use Rattle.forwarding.proofs.Coming.{cross}
@@ -25,18 +24,6 @@ use Rattle.forwarding.proofs.Coming.{cross}
 pub noted_is : (passed : List WalkHop) (hop : WalkHop) → length passed < 64
     → noted passed hop ≡ passed ++ hop ∷ []
 noted_is passed hop few = rw (lt-ltb (length passed) 64 few) refl
-
-pub advanced_spot : (spot : PathPosition) (entry next : Entry) → IsSpot spot entry
-    → slice_get (travelled spot.piece) (spot.reached + 1) ≡ Some next → IsSpot (advanced spot) next
-advanced_spot spot entry next is there =
-    record {
-      three = is.three;
-      past_long = is.past_long;
-      ranged = is.ranged;
-      later_long =
-          is.later_long;
-      there = there;
-    }
 
 pub short : (passed : List WalkHop) (hop : WalkHop) (later walk : List WalkHop)
     → passed ++ hop ∷ later ≡ walk → length walk ≤ 64 → length passed < 64

@@ -28,9 +28,6 @@ use Rattle.network_core.specs.Event.{BackOf}
 use Rattle.network_core.specs.Step.{packet_at, header_back, way_back, way_by, shipment_of, shipment_by, Sends}
 use Rattle.network_core.specs.Headline.{IsAnswerable}
 
-abbrev okay : Shipment → Result Shipment EventFault
-okay sent = Ok sent
-
 abbrev header_ok : HeaderValue → Result HeaderValue EventFault
 header_ok h = Ok h
 

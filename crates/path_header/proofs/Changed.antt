@@ -113,9 +113,6 @@ seg_id_changed v bytes next i seg_id x is s small found next_is =
 
 -- ---- the indices
 
-cells : (n : ℕ) → to_be_bytes w32 n ≡ n / 16777216 % 256 ∷ n / 65536 % 256 ∷ n / 256 % 256 ∷ n % 256 ∷ []
-cells n = refl
-
 four_like : (a a' b b' c c' d d' : ℕ) → a ≡ a' → b ≡ b' → c ≡ c' → d ≡ d' → a ∷ b ∷ c ∷ d ∷ [] ≡ a' ∷ b' ∷ c' ∷ d' ∷ []
 four_like a a' b b' c c' d d' ea eb ec ed = cc
 

@@ -42,12 +42,3 @@ is_done one width count i bytes total le so_far =
     let k : count - i ≡ 0 = omega arith in
     let step : judged (fields_at one width (count - i) (drop (width * i) bytes)) ≡ Ok tt = rw k refl in
     sym so_far ∙ step
-
--- a first step that is judged to give a value gives one, and a refusal of it is that of the whole
-pub judged_ok : {A F : Type 0} (r : Result A F) → Ok tt ≡ judged r → (x : A) × (r ≡ Ok x)
-judged_ok (Ok x) e = (x, refl)
-judged_ok (Err f) e = absurd cc
-
-pub judged_err : {A F : Type 0} (r : Result A F) (f : F) → Err f ≡ judged r → r ≡ Err f
-judged_err (Ok x) f e = absurd cc
-judged_err (Err g) f e = cc

@@ -1,8 +1,7 @@
 -- The turned pieces of a path are a path back, while all hops are live.
-use Rattle.std.proofs.Common.{◌≡◌, ℕ, ◌+◌, ◌-◌, ◌<◌, ◌≤◌, ◌⊎◌, Bool, true, false, not, List, [], ◌∷◌, ◌++◌, length, get_or, map, All, Any, refl, sym, ap, ◌∙◌, subst, arith, inl, inr, append_assoc}
-use Rattle.std.specs.Prelude.{reverse}
+use Rattle.std.proofs.Common.{◌≡◌, ℕ, ◌+◌, ◌-◌, ◌<◌, ◌≤◌, ◌⊎◌, Bool, true, false, not, List, [], ◌∷◌, ◌++◌, length, get_or, map, All, Any, refl, sym, ap, ◌∙◌, subst, arith, inl, inr}
 use Rattle.std.specs.List.{AllByRecursion}
-use Rattle.std.proofs.lemmas.List.{reverse-reverse, reverse-append, map-append, length-reverse, length-map, get_or-reverse, get_or-map}
+use Rattle.std.proofs.lemmas.List.{length-reverse, length-map, get_or-reverse, get_or-map}
 use Rattle.std.proofs.lemmas.List.Elements.{All-same, All-nil, All-cons, All-append, All-head, All-tail, recursion_from_All}
 use Rattle.hop_mac.specs.Lifetime.{IsLive}
 use Rattle.path_segment.specs.declared.kind.SegKind.{SegKind}
@@ -14,7 +13,7 @@ use Rattle.path_verifier.specs.Walk.{walk_of}
 use Rattle.path_verifier.specs.Accepted.{MayAdjoin, DoAdjoin, IsCore, AreCutWell, DoMeet, DoBeginIn, DoEndIn, NamesOnce, AreLive, MakesPath}
 use Rattle.path_verifier.specs.Turned.{turned_piece, turned_pieces, turned_walk}
 use Rattle.path_verifier.proofs.Lengths.{three_at_most}
-use Rattle.path_verifier.proofs.Turned.{reverse_cons, map_back, begins_turned, ends_turned}
+use Rattle.path_verifier.proofs.Turned.{reverse_cons, begins_turned, ends_turned}
 use Rattle.path_verifier.proofs.TurnedWalk.{walk_turned, once_turned}
 use Rattle.path_verifier.proofs.TurnedCounts.{IsLong, long_of, count_turned, length_turned_pieces}
 
@@ -66,29 +65,7 @@ twice piece =
           along;
     }) (not_not piece.along)
 
-twice_all : (pieces : List PieceValue) → map turned_piece (map turned_piece pieces) ≡ pieces
-twice_all [] = refl
-twice_all (piece ∷ pieces) =
-    ap (λ (p : PieceValue). p ∷ map turned_piece (map turned_piece pieces)) (twice piece)
-    ∙ ap (λ (ps : List PieceValue). piece ∷ ps) (twice_all pieces)
-
--- the way back of the way back is the way
-pub pieces_twice : (pieces : List PieceValue) → turned_pieces (turned_pieces pieces) ≡ pieces
-pieces_twice pieces =
-    ap (λ (ps : List PieceValue). reverse ps) (map_back turned_piece (map turned_piece pieces))
-    ∙ reverse-reverse (map turned_piece (map turned_piece pieces)) ∙ twice_all pieces
-
 -- a piece among the pieces stands among those of the way back
-pub pieces_seam : (past later : List PieceValue) (piece : PieceValue)
-    → turned_pieces
-    (past ++ piece ∷ later) ≡ turned_pieces later ++ turned_piece piece ∷ turned_pieces past
-pieces_seam past later piece =
-    ap (λ (ps : List PieceValue). reverse ps) (map-append turned_piece past (piece ∷ later))
-    ∙ reverse-append (map turned_piece past) (map turned_piece (piece ∷ later))
-    ∙ ap (λ (ps : List PieceValue). ps ++ turned_pieces past)
-    (reverse_cons (turned_piece piece) (map turned_piece later))
-    ∙ append_assoc (turned_pieces later) (turned_piece piece ∷ []) (turned_pieces past)
-
 any_back : (P Q : PieceValue → Type 0) → ((piece : PieceValue) → P (turned_piece piece) → Q piece)
     → (pieces : List PieceValue) → Any P (turned_pieces pieces) → Any Q pieces
 any_back P Q each pieces some =

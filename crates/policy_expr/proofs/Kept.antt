@@ -18,7 +18,7 @@ use Rattle.refusal.proofs.Steps.{bind_ok, guard_ok, guard_not, ok_is}
 use Rattle.policy_expr.specs.Predicate.{predicate_at, SpellsInterfaces, one, two, SpellsPredicate, isd_alone, address, with_interfaces}
 use Rattle.policy_expr.proofs.Spelling.{predicate_spelled}
 use Rattle.policy_expr.specs.Tokens.{is_mark, token_texts, token_of, read_token, sign_token, tokens}
-use Rattle.policy_expr.specs.Language.{Tree, hop, followed, either, optional, repeated, once_or_more}
+use Rattle.policy_expr.specs.Language.{Tree, hop, optional, repeated, once_or_more}
 use Rattle.policy_expr.specs.Reading.{Level, new_level, whole, tree_at, sequence_at, node_count}
 use Rattle.policy_expr.proofs.Steps.{Reading, wants, has, with_choices, with_before, item_begun, item_followed, level_closed, took, took_at, ended, ended_at, read_on, tree_is_read, within_size}
 use Rattle.policy_expr.specs.Printing.{AreInterfaces, IsPredicate}
@@ -46,14 +46,6 @@ pub record IsGood (r : Reading) : Type 0 where
   pub outer : LevelsHaveRoom r.open_levels
   pub level : LevelHasRoom (32 - length r.open_levels) r.level
   pub item : AnyHasRoom 2 (32 - length r.open_levels) r.item
-
-strength_le : (t : Tree) → strength t ≤ 2
-strength_le (hop pred) = omega arith
-strength_le (followed a b) = omega arith
-strength_le (either a b) = omega arith
-strength_le (optional a) = omega arith
-strength_le (repeated a) = omega arith
-strength_le (once_or_more a) = omega arith
 
 looser : (j k room : ℕ) (t : Tree) → j ≤ k → HasRoom k room t → HasRoom j room t
 looser j k room t le good = (good.0, grind (arith, nat_tests, good.1))

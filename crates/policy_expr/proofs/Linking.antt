@@ -35,14 +35,6 @@ module _ (old : List Line) (last first : ℕ) where
     pub meets : (k : ℕ) (h : WalkHop) → MeetsAt now k h ↔ MeetsAt old k h
     pub next : (j k : ℕ) → MayFollow now j k ↔ (MayFollow old j k ⊎ (IsPast last rest j × Has first k))
 
-  pub links_first : LinksSoFar last old
-  links_first = record {
-    sub = λ k has. has;
-    count = refl;
-    meets = λ k h. (λ m. m, λ m. m);
-    next = λ j k. (λ h. inl h, λ either. elim either [ inl h ↦ h | inr past ↦ absurd (past.0.1 past.0.0) ]);
-  }
-
   pub links_all : (rest : ℕ) (now : List Line) → LinksSoFar rest now → ((k : ℕ) → Has rest k → ⊥) → Links old now last first
   links_all rest now so_far none = record {
     count = so_far.count;

@@ -9,7 +9,7 @@ use Rattle.policy_expr.specs.declared.table.Line.{Line}
 use Rattle.policy_expr.specs.Hop.{Matches}
 use Rattle.policy_expr.specs.Sets.{Has}
 use Rattle.policy_expr.specs.inner.Sets.{IsSplit}
-use Rattle.policy_expr.specs.Table.{MayFollow, MeetsAt, After, Accepts}
+use Rattle.policy_expr.specs.Table.{MayFollow, MeetsAt, After}
 
 -- ---- visits of a set's predicates, one by one
 
@@ -47,12 +47,6 @@ module _ (lines : List Line) (wanted : ℕ) (hop : WalkHop) where
     pub sub : (k : ℕ) → Has rest k → Has wanted k
     pub found : (j : ℕ) → Has next j ↔ ((k : ℕ) × IsPast wanted rest k × MeetsAt lines k hop × MayFollow lines k j)
 
-  pub wants_first : (next : ℕ) → ((k : ℕ) → Has next k → ⊥) → WantsSoFar wanted next
-  wants_first next none = record {
-    sub = λ k has. has;
-    found = λ j. (λ has. absurd (none j has), λ r. absurd (r.1.1 r.1.0));
-  }
-
   pub wants_more : (rest number others next more : ℕ) → WantsSoFar rest next → IsSplit rest number others
       → ((j : ℕ) → Has more j ↔ (Has next j ⊎ (MeetsAt lines number hop × MayFollow lines number j))) → WantsSoFar others more
   wants_more rest number others next more so_far split joins = record {
@@ -68,12 +62,6 @@ module _ (lines : List Line) (wanted : ℕ) (hop : WalkHop) where
       ],
     );
   }
-
-  pub wants_all : (rest next : ℕ) → WantsSoFar rest next → ((k : ℕ) → Has rest k → ⊥) → (j : ℕ) → Has next j ↔ StepsTo lines wanted hop j
-  wants_all rest next so_far none j = (
-    λ has. let r = (so_far.found j).0 has in (r.0, r.1.0, r.2, r.3),
-    λ r. (so_far.found j).1 (r.0, (r.1, none r.0), r.2, r.3),
-  )
 
   -- ---- whether one matches the hop
 
@@ -121,16 +109,3 @@ module _ (lines : List Line) (ends : Ends) where
       → Goes wanted (h ∷ (w ++ end ∷ [])) ↔ Goes next (w ++ end ∷ [])
   goes_further wanted next h end [] steps = goes_on wanted next h end [] steps
   goes_further wanted next h end (g ∷ w) steps = goes_on wanted next h g (w ++ end ∷ []) steps
-
-  -- the first hop
-  pub goes_first : (w : List WalkHop) (end : WalkHop) → Accepts lines ends (w ++ end ∷ []) ↔ Goes ends.first (w ++ end ∷ [])
-  goes_first [] end = (λ a. a, λ a. a)
-  goes_first (h ∷ w) end = (λ a. a, λ a. a)
-
-  -- the last hop
-  pub goes_last : (wanted both : ℕ) (end : WalkHop) → ((k : ℕ) → Has both k ↔ (Has wanted k × Has ends.last k))
-      → Goes wanted (end ∷ []) ↔ ((k : ℕ) × Has both k × MeetsAt lines k end)
-  goes_last wanted both end is_both = (
-    λ r. (r.0, (is_both r.0).1 (r.1, r.3), r.2),
-    λ r. let b = (is_both r.0).0 r.1 in (r.0, b.0, r.2, b.1),
-  )

@@ -214,10 +214,3 @@ none_low high low k none below has = zero_has low k none ((in_low high low k bel
 
 pub none_high : (high low k : ℕ) → low < 2 ^ 64 → high ≡ 0 → 64 ≤ k → Has (high * 2 ^ 64 + low) k → ⊥
 none_high high low k fits none above has = zero_has high (k - 64) none ((in_high high low k fits above).0 has)
-
--- what is in neither half is nowhere
-pub none_left : (set : ℕ) → ((k : ℕ) → k < 64 → Has set k → ⊥) → ((k : ℕ) → 64 ≤ k → Has set k → ⊥) → (k : ℕ) → Has set k → ⊥
-none_left set low high k has = elim (in_half k) [
-  | inl below ↦ low k below has
-  | inr above ↦ high k above has
-]

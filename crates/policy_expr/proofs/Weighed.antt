@@ -4,19 +4,11 @@ use Rattle.std.specs.Prelude.{IsOk, nat_le}
 use Rattle.std.proofs.lemmas.List.{append-nil, drop_all}
 use Rattle.refusal.specs.declared.fault.OrMemory.{OrMemory}
 use Rattle.refusal.specs.declared.fault.OrMemory.TheVariants.{Memory, Refused}
-use Rattle.refusal.specs.Refusal.{◌>>=◌, check, each, Answers, Fails, Reads, Judges}
+use Rattle.refusal.specs.Refusal.{◌>>=◌, check, each, Answers, Fails, Reads}
 use Rattle.policy_expr.specs.declared.option_fault.OptionFault.{OptionFault}
 use Rattle.policy_expr.specs.declared.option_fault.OptionFault.TheVariants.{OptionCount}
 use Rattle.policy_expr.specs.Options.{WeighedRules, OptionTexts, option_at, options_at}
 use Rattle.policy_expr.proofs.Front.{with_front, front_later}
-
--- one text more was judged
-pub judged_more : (told : Result (Unit {0}) OptionFault) (option : WeighedRules) (r : Result (List WeighedRules) OptionFault)
-    → Judges told r → Judges told (r >>= λ options. Ok (option ∷ options))
-judged_more (Ok done) option (Ok options) h = refl
-judged_more (Ok done) option (Err fault) h = absurd cc
-judged_more (Err fault) option (Ok options) h = absurd cc
-judged_more (Err fault) option (Err other) h = cc
 
 -- ---- a loop over the texts
 

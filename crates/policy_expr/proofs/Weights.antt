@@ -83,9 +83,6 @@ pub record StandsAt (text : List ℕ) (rest : List Token) (depth : ℕ) (item : 
   pub all : taken + weights rest ≡ weights (tokens text)
   pub weighed : weight ≡ min 258 taken
 
-pub stands_first : (text : List ℕ) (rest : List Token) → tokens text ≡ rest → StandsAt text rest 0 false 0
-stands_first text rest e = record { same = ap (fault_at 0 false) e; taken = 0; all = (let same = ap weights e in omega (arith, same)); weighed = omega arith }
-
 -- one token more
 pub stands_next : (text : List ℕ) (rest later : List Token) (depth next_depth : ℕ) (item next_item : Bool) (weight : ℕ) (token : Token)
     → StandsAt text rest depth item weight → rest ≡ token ∷ later

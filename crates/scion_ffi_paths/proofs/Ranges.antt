@@ -1,20 +1,7 @@
 -- The pieces of the paths of an answer have their ranges, since each may be sent.
-use Rattle.std.proofs.Common.{◌≡◌, ℕ, suc, ◌<◌, List, [], ◌∷◌, length, get_or, Option, Some, None, All, sym, subst, arith}
-use Rattle.path_server.specs.Lookup.{Selection}
-use Rattle.policy_expr.specs.Options.{WeighedRules}
+use Rattle.std.proofs.Common.{◌≡◌, ℕ, suc, ◌<◌, List, ◌∷◌, length, get_or, All, sym, subst, arith}
 use Rattle.path_verifier.specs.Piece.{HasRange}
 use Rattle.combinator.specs.Candidate.{PathValue}
-use Rattle.combinator.specs.Answer.{AnswersWith}
-
-no_path : (paths : List PathValue) → paths ≡ [] → All (λ path. All HasRange path.pieces) paths
-no_path [] none = λ k d within. absurd (omega arith)
-no_path (path ∷ later) none = absurd cc
-
-pub ranges_of : (set : Selection) (src dst : ℕ) (options : List WeighedRules) (limit : ℕ) (used : Option ℕ) (paths : List PathValue)
-    → AnswersWith set src dst options limit used paths → All (λ path. All HasRange path.pieces) paths
-ranges_of set src dst options limit None paths is = no_path paths is.0
-ranges_of set src dst options limit (Some used) paths is =
-    λ k d within. (is.answer.best k d within).candidate.accepted.path.ranges
 
 -- the pieces of the first path have their ranges, and so have those of each later one
 pub first_has : (paths : List PathValue) (first : PathValue) (later : List PathValue) → paths ≡ first ∷ later

@@ -1,9 +1,8 @@
 -- The two ends of a link: which is far, who owns them, and as what they see each other.
-use Rattle.std.proofs.Common.{◌≡◌, ℕ, ◌<◌, Bool, true, false, cond, eqb, not, List, [], ◌∷◌, Option, Some, None, Result, Ok, refl, sym, ap, ◌∙◌, inl, inr, ◌⊎◌, ◌||◌, IfSome, IsSome}
+use Rattle.std.proofs.Common.{◌≡◌, ℕ, ◌<◌, Bool, true, false, cond, eqb, not, List, [], ◌∷◌, Option, Some, None, Ok, refl, sym, ap, ◌∙◌, inl, inr, ◌⊎◌, ◌||◌, IfSome, IsSome}
 use Rattle.std.specs.List.{list_any, cons_option}
 use Rattle.std.proofs.lemmas.Bool.{cases_Bool, or_parts, or_cases, and_parts, and_from, or_left, or_right, not-false, eqb-true, eq-eqb, true≢false}
 use Rattle.scion_topology.specs.declared.entry.IfEntry.{IfEntry}
-use Rattle.scion_topology.specs.declared.fault.TopologyFault.{TopologyFault}
 use Rattle.scion_topology.specs.declared.fault.TopologyFault.TheVariants as faults
 use Rattle.scion_topology.specs.declared.network.AsEntry.{AsEntry}
 use Rattle.scion_topology.specs.declared.network.Link.{Link}
@@ -93,9 +92,6 @@ joined_by_end n ia number x m link network found ends =
       | inr side ↦ (let parts = and_parts (eqb link.b.ia x) (eqb link.b.number m) side in listed_known n.ases x (rw (eqb-true _ _ parts.0) at (not-false _ ends_known.1)))
     ] in
     rw (one.1, again) refl
-
-abbrev both : ℕ → ℕ → Result (ℕ × ℕ) TopologyFault
-both x m = Ok (x, m)
 
 -- how an interface and the far one lie in a link
 pub record AreSides (link : Link) (ia number : ℕ) : Type 0 where

@@ -5,7 +5,7 @@ use Rattle.path_server.specs.declared.op.StoreOp.{StoreOp}
 use Rattle.segment_board.specs.declared.edition.Edition.{Edition}
 use Rattle.segment_board.specs.History.{KnownHistory, newest, edition_after}
 use Rattle.segment_board.specs.inner.History.{Follows, ContinuesFrom}
-use Rattle.segment_board.proofs.Prefixes.{prefix_self, prefix_trans, prefix_back}
+use Rattle.segment_board.proofs.Prefixes.{prefix_self, prefix_trans}
 use Rattle.segment_board.proofs.Growing.{newest_last}
 
 pub follows_trans : (a b c : Edition) → Follows a b → Follows b c → Follows a c
@@ -35,10 +35,3 @@ goes_after x y old ops board before log = record {
   history = prefix_trans x.log old y.log before (edition_after (newest x.log) ops ∷ [], sym log);
   newer = subst (λ (z : Edition). Follows (newest x.log) z) (sym (ap newest log ∙ newest_last old (edition_after (newest x.log) ops))) (follows_after (newest x.log) ops);
 }
-
--- what goes on from another, and begins its history, is the same
-pub goes_back : (x y : KnownHistory) → ContinuesFrom x y → IsPrefix y.log x.log → y ≡ x
-goes_back x y on back =
-    let log : y.log ≡ x.log = prefix_back y.log x.log back on.history in
-    let board : y.board ≡ x.board = on.board in
-    λ i. record { board = board i; log = log i }

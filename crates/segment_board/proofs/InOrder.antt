@@ -29,12 +29,6 @@ written board e pending = record { board = board; edition = e.number; published 
 pub added : (old new : List BoardOp) (op : StoreOp) → new ≡ old ++ Apply op ∷ [] → operations_of new ≡ operations_of old ++ op ∷ []
 added old new op e = ap operations_of e ∙ operations-append old (Apply op ∷ [])
 
--- whether or not it was added, what is pending goes on
-pub goes_on : {E : Type 0} (r : Result (Unit {0}) E) (op : StoreOp) (P : E → Type 0) (old new : List BoardOp)
-    → MatchResult r (λ _. new ≡ old ++ Apply op ∷ []) (λ x. P x × (new ≡ old)) → (ops : List StoreOp) × (operations_of new ≡ operations_of old ++ ops)
-goes_on (Ok u) op P old new h = (op ∷ [], added old new op h)
-goes_on (Err e) op P old new h = ([], ap operations_of h.1 ∙ sym (append-nil (operations_of old)))
-
 pub marked : (old new : List BoardOp) (f : KnownHistory) → new ≡ old ++ Mark f ∷ [] → operations_of new ≡ operations_of old
 marked old new f e = ap operations_of e ∙ (operations-append old (Mark f ∷ []) ∙ append-nil (operations_of old))
 

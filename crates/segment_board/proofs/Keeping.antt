@@ -1,6 +1,6 @@
 -- Each kind of step keeps the rule of the board.
-use Rattle.std.proofs.Common.{◌≡◌, ◌≢◌, ℕ, List, [], ◌∷◌, set, Option, Some, None, refl, sym, subst, ⊎_elim}
-use mathlib.Core.Option.{some, some-ne-none}
+use Rattle.std.proofs.Common.{◌≡◌, ◌≢◌, ℕ, List, set, Option, Some, None, refl, subst, ⊎_elim}
+use mathlib.Core.Option.{some}
 use lib.ListN.{get_elem?}
 use Rattle.left_right.specs.Register.{Admits, TurnsAt, Forks, Merges}
 use Rattle.atomic_table.proofs.Lists.{at_set, at_snoc, set_again}
@@ -71,11 +71,3 @@ merges seat v other w x views h at apart there =
           (at_set views seat j w u t.1))
           (at_set (set views seat w) other j None u e);
     }
-
--- at the beginning one thread is there, which has seen nothing
-pub first_keeps : (x : BoardValue) → IsTied x → ContinuesFrom (opening_only x.front) x.front → KeepsViews x (None ∷ [])
-first_keeps x tied begins = record {
-  tied = tied;
-  begins = begins;
-  fits = λ j u e. ⊎_elim (λ (t : get_elem? [] j ≡ some u). absurd (some-ne-none u (sym t))) (λ (same : None ≡ u). subst (λ (z : Option KnownHistory). FitsView x z) same tt) (at_snoc [] None u j e);
-}

@@ -1,5 +1,5 @@
 -- What stands written of some bytes, while the rest is not.
-use Rattle.std.proofs.Common.{◌≡◌, ◌∙◌, ◌<◌, ◌||◌, ◌&&◌, Bool, true, false, arith, refl, sym, ap, subst, ℕ, ◌-◌, List, [], ◌++◌, length, take, drop, Option, Some, None, append_assoc, append-nil, take-append-drop}
+use Rattle.std.proofs.Common.{◌≡◌, ◌∙◌, ◌<◌, ◌||◌, ◌&&◌, Bool, true, false, arith, refl, sym, ap, subst, ℕ, ◌-◌, List, ◌++◌, length, take, drop, Option, Some, None, append_assoc, append-nil, take-append-drop}
 use lib.Seq.{take-append_seam}
 use Rattle.std.proofs.lemmas.List.{take_rest}
 use Rattle.std.specs.Prelude.{◌==◌}
@@ -28,13 +28,6 @@ Written-front old mid new bytes rest before kept =
     let (done, (split, appended)) = before in
     let front : take (length done) bytes ≡ done = ap (take (length done)) split ∙ take-append_seam done rest in
     (length done, subst (Appends old new) (sym front) (Appends-kept old mid new done appended kept))
-
--- without a rest it is all of them
-pub Written-all : (old new : Option (List ℕ)) (bytes rest : List ℕ) → Written old new bytes rest → rest ≡ []
-    → Appends old new bytes
-Written-all old new bytes rest before none =
-    let (done, (split, appended)) = before in
-    subst (Appends old new) (sym (split ∙ ap (λ l. done ++ l) none ∙ append-nil done)) appended
 
 -- nothing more was written
 pub Appends-none : (old new : Option (List ℕ)) (rest : List ℕ) (n : ℕ) → n ≡ 0 → Appends old new (take n rest) → Keeps old new

@@ -10,7 +10,7 @@ use Rattle.network_core.specs.Delivery.{AllMayDepart}
 use Rattle.network_core.proofs.Allowing.{may_depart_then, none_yet}
 use Rattle.event_lines.specs.declared.accepted.AcceptedLines.{AcceptedLines}
 use Rattle.event_lines.specs.Run.{Ends, Listens, Wrote}
-use Rattle.event_lines.specs.Answers.{Stage, Unbegun, Open, Closed, AreRun, Begins, RepliesToInput}
+use Rattle.event_lines.specs.Answers.{Open, AreRun, Begins, RepliesToInput}
 
 after_may : (start : NetValue) (history : List EventRecord) → IsHistory start history
     → AllMayDepart start → AllMayDepart (net_after start history)

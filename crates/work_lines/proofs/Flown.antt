@@ -27,14 +27,6 @@ at_last (z ∷ xs) x (suc i) y there = elim (at_last xs x i y there) [
   | inr last ↦ inr (ap (λ n. suc n) last.0, last.1)
 ]
 
--- none yet
-pub none_flown : (n : Network) (packets : List PacketValue) (flights : List FlightValue) → flights ≡ [] → AreFirst n packets 0 flights
-none_flown n packets flights none = subst (AreFirst n packets 0) (sym none) (record {
-  all = refl;
-  each = λ i one flight there at. absurd (let e : slice_get {X = FlightValue} [] i ≡ Some flight = at in cc);
-  fabric = λ k d below. absurd (omega (arith, below));
-})
-
 -- one more
 pub one_more : (n : Network) (packets : List PacketValue) (count : ℕ) (flights : List FlightValue) (one : PacketValue) (flight : FlightValue)
     → AreFirst n packets count flights → slice_get packets count ≡ Some one
