@@ -92,13 +92,26 @@ def comment(lines):
     return re.sub(r"\[(`[^`]*`)\](?:\([^)]*\))?", r"\1", text).strip()
 
 
+def number_at(text, term):
+    """The number and the name that a row of a table has: its own, or those of a refusal of a crate
+    below. Nothing if the row passes on all refusals of a type."""
+    if own := re.fullmatch(r'\((\d+), codes "(\w+)"\)', term):
+        return int(own[1]), own[2]
+    if one := re.fullmatch(r"(\w+)\.code_and_name \w+\.(\w+)", term):
+        below = re.search(rf"^use Rattle\.(\w+)\.specs\.\w+ as {one[1]}$", text, re.M)[1]
+        (type_name, *_), *_ = TYPES[below]
+        return numbers_of(below, type_name)[one[2]]
+    return None
+
+
 def numbers_of(crate, type_name):
     """The numbers and names of a type's refusals, by variant, as the definitions have them."""
     for path in sorted(Path("crates", crate, "specs").glob("*.antt")):
         text = path.read_text()
         if re.search(rf"^abbrev pub code_and_name : {type_name} ", text, re.M):
-            rows = re.findall(r'^code_and_name \(?(\w+)[^=]*= \((\d+), codes "(\w+)"\)$', text, re.M)
-            return {variant: (int(number), name) for variant, number, name in rows}
+            rows = re.findall(r"^code_and_name \(?(\w+)[^=]*= (.*)$", text, re.M)
+            found = {variant: number_at(text, term) for variant, term in rows}
+            return {variant: row for variant, row in found.items() if row}
     sys.exit(f"{crate} has no table of {type_name}")
 
 

@@ -1,7 +1,7 @@
-ghost use Rattle.std.specs.Prelude.{◌≡◌};
-ghost use Rattle.beaconing.specs.Fault.{code_of, name_of};
+ghost use Rattle.beaconing.specs.Fault as faults;
 
-use refusal::OrMemory;
+use path_segment::SegmentFault;
+use refusal::{NumberedFault, OrMemory};
 use thiserror::Error;
 
 /// Why an AS does not begin a beacon, pass it on, or end it.
@@ -30,34 +30,18 @@ pub enum BeaconFault {
     NotHere,
 }
 
-impl BeaconFault {
-    /// The number by which lines of text report this refusal.
-    pub fn code(self) -> u16
-        ensures { result ≡ code_of self }
-    {
-        match self {
-            BeaconFault::TooLong => 31,
-            BeaconFault::Loop => 33,
-            BeaconFault::NotCore => 40,
-            BeaconFault::NoInterface => 41,
-            BeaconFault::LinkDown => 42,
-            BeaconFault::WrongKind => 43,
-            BeaconFault::NotHere => 44,
-        }
-    }
+impl NumberedFault for BeaconFault {
+    ghost code_and_name = { faults.code_and_name };
 
-    /// The name by which lines of text report this refusal.
-    pub fn name(self) -> &'static str
-        ensures { result.now ≡ name_of self }
-    {
+    fn code_and_name(self) -> (u16, &'static str) {
         match self {
-            BeaconFault::TooLong => "TooLong",
-            BeaconFault::Loop => "Loop",
-            BeaconFault::NotCore => "NotCore",
-            BeaconFault::NoInterface => "NoInterface",
-            BeaconFault::LinkDown => "LinkDown",
-            BeaconFault::WrongKind => "WrongKind",
-            BeaconFault::NotHere => "NotHere",
+            Self::TooLong => SegmentFault::TooLong.code_and_name(),
+            Self::Loop => SegmentFault::Loop.code_and_name(),
+            Self::NotCore => (40, "NotCore"),
+            Self::NoInterface => (41, "NoInterface"),
+            Self::LinkDown => (42, "LinkDown"),
+            Self::WrongKind => (43, "WrongKind"),
+            Self::NotHere => (44, "NotHere"),
         }
     }
 }

@@ -1,10 +1,14 @@
 -- The answer to a question: which paths it lists, and in which order.
-use Rattle.std.specs.Prelude.{◌≡◌, ◌≢◌, ◌⊎◌, ℕ, ◌<◌, ◌≤◌, List, [], length, All, AllPairs, Any, Option, Some, None, slice_get}
+use Rattle.std.specs.Prelude.{◌≡◌, ◌≢◌, ◌⊎◌, ℕ, ◌<◌, ◌≤◌, List, [], length, All, AllPairs, Any, Option, Some, None, slice_get, ◌&&◌, nat_le, Bool}
 use Rattle.std.specs.declared.cmp.Ordering.TheVariants.{Less}
 use Rattle.path_server.specs.Lookup.{Selection}
 use Rattle.policy_expr.specs.Options.{WeighedRules}
 use Rattle.combinator.specs.Candidate.{Question, PathValue, IsCandidate, HasNone}
 use Rattle.combinator.specs.Order.{bytes_cmp, path_cmp, LastAsLong, HaveOneWalk}
+
+-- whether a request may be for at most this number of paths: 1 to 64
+abbrev pub is_limit : ℕ → Bool
+is_limit limit = nat_le 1 limit && nat_le limit 64
 
 -- the path is the best for its walk: among the candidates of the same walk none expires later, and
 -- none that expires at the same time has smaller header bytes

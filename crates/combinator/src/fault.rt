@@ -1,8 +1,6 @@
-ghost use Rattle.std.specs.Prelude.{◌≡◌};
-ghost use Rattle.combinator.specs.Fault.{code_of, name_of};
-ghost use Rattle.refusal.specs.declared.fault.OrMemory.TheVariants.{Refused};
+ghost use Rattle.combinator.specs.Fault as faults;
 
-use refusal::OrMemory;
+use refusal::{NumberedFault, OrMemory};
 use thiserror::Error;
 
 /// Why a request for paths is refused.
@@ -13,33 +11,15 @@ pub enum CombineFault {
     SameAs,
 }
 
-impl CombineFault {
-    /// The number by which lines of text report this refusal.
-    pub fn code(self) -> u16
-        ensures { result ≡ code_of self }
-    {
-        match self {
-            CombineFault::SameAs => 85,
-        }
-    }
+impl NumberedFault for CombineFault {
+    ghost code_and_name = { faults.code_and_name };
 
-    /// The name by which lines of text report this refusal.
-    pub fn name(self) -> &'static str
-        ensures { result.now ≡ name_of self }
-    {
+    fn code_and_name(self) -> (u16, &'static str) {
         match self {
-            CombineFault::SameAs => "SameAs",
+            Self::SameAs => (85, "SameAs"),
         }
     }
 }
 
 /// Why no paths were returned: memory ran out, or a refusal.
 pub type CombineError = OrMemory<CombineFault>;
-
-impl From<CombineFault> for OrMemory<CombineFault> {
-    ghost from_gives = { λ f e. e ≡ Refused f };
-
-    fn from(fault: CombineFault) -> OrMemory<CombineFault> {
-        OrMemory::Refused(fault)
-    }
-}

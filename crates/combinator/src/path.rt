@@ -1,10 +1,11 @@
 ghost use Rattle.std.specs.Prelude.{◌≡◌, ◌↔◌, ◌≤◌, [], length, option_map, slice_get, IfOk, IsOk, IsTrue};
 ghost use Rattle.path_verifier.specs.Walk.{walk_of};
+ghost use Rattle.combinator.specs.Candidate.{MaySend, path_with};
 
 use crate::choice::Choice;
 use crate::ranked::RankedPath;
 use path_header::Header;
-use path_verifier::{OwnedPiece, lend_all, to_owned_pieces};
+use path_verifier::{OwnedPiece, Pieces, lend_all, to_owned_pieces};
 use policy_expr::WalkHop;
 use std::alloc::{AllocError, Allocator, Global};
 use std::marker::Model;
@@ -59,12 +60,26 @@ impl Path {
     pub fn try_clone(&self, alloc: Global) -> Result<Path, AllocError>
         ensures { IfOk result (λ own. own ≡ self.now) }
     {
-        Ok(Path {
-            pieces: to_owned_pieces(alloc, &lend_all(&self.pieces))?,
-            header: self.header.clone()?,
-            walk: Vec::from_slice(alloc, &self.walk)?,
-        })
+        owned_path(alloc, &lend_all(&self.pieces), &self.header, &self.walk)
     }
+}
+
+/// A path that owns copies of these parts, unless memory runs out.
+fn owned_path(
+    alloc: Global,
+    pieces: &Pieces<'_>,
+    header: &Header,
+    walk: &[WalkHop],
+) -> Result<Path, AllocError>
+    requires sent { MaySend (path_with pieces.now header.now) }
+    requires walk { walk.now ≡ walk_of pieces.now }
+    ensures { IfOk result (λ own. own ≡ path_with pieces.now header.now) }
+{
+    Ok(Path {
+        pieces: to_owned_pieces(alloc, pieces)?,
+        header: header.clone()?,
+        walk: Vec::from_slice(alloc, walk)?,
+    })
 }
 
 /// The answer to a request: the paths in their order, and which policy option was used.
@@ -172,9 +187,5 @@ fn own_path<A: Allocator + Clone>(
 {
     let path = found.path();
     path.known();
-    Ok(Path {
-        pieces: to_owned_pieces(alloc, path.pieces())?,
-        header: path.header().clone()?,
-        walk: Vec::from_slice(alloc, path.walk())?,
-    })
+    owned_path(alloc, path.pieces(), path.header(), path.walk())
 }

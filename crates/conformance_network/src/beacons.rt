@@ -2,7 +2,7 @@ use beaconing::{BeaconError, BeaconFault, extend, originate, terminate};
 use hop_mac::{hop_mac, next_beta};
 use isd_as::{IfId, IsdAs};
 use path_segment::{Beacon, Entry, SegKind, Segment};
-use refusal::OrMemory;
+use refusal::{NumberedFault, OrMemory};
 use scion_topology::Topology;
 use std::alloc::Global;
 use std::process::Abort;

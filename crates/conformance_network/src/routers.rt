@@ -2,6 +2,7 @@ use crate::topologies::entry;
 use hop_mac::{hop_mac, next_beta};
 use isd_as::{IfId, IsdAs};
 use path_header::{Header, HeaderFault, HopField, InfoField, encode};
+use refusal::NumberedFault;
 use router_step::{Arrival, Outcome, Refusal, step};
 use scion_topology::{IfEntry, LinkKind, RouterView, Topology};
 use std::process::Abort;

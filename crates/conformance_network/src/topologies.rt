@@ -2,7 +2,7 @@ ghost use Rattle.std.specs.Prelude.{◌<◌};
 
 use hop_mac::hop_mac;
 use isd_as::{IfId, IsdAs};
-use refusal::OrMemory;
+use refusal::{NumberedFault, OrMemory};
 use scion_topology::{AsInfo, IfEntry, LinkKind, RouterView, Topology, TopologyFault};
 use std::alloc::Global;
 use std::process::Abort;
@@ -52,7 +52,7 @@ fn refuses(rt: HostRuntime) {
     ];
     for (ia, key, table, code) in cases.iter() {
         let view = RouterView::new(IsdAs::from_number(*ia), 0, key, None, table);
-        assert_eq!(rt; view.err().map(TopologyFault::code), Some(*code));
+        assert_eq!(rt; view.err().map(|fault| fault.code()), Some(*code));
     }
     assert!(rt; RouterView::new(IsdAs::from_number(IA), 0, &[7; 64], None, &[]).is_ok());
     assert_eq!(rt; TopologyFault::DuplicateIf.name(), "DuplicateIf");

@@ -5,6 +5,7 @@ use path_header::{MAX_HEADER_LEN, encode};
 use path_segment::{Entry, SegKind, Segment};
 use path_server::{PathStore, SegmentSet};
 use policy_expr::{AclText, OptionText, PolicyOption, PolicyText, WalkHop};
+use refusal::NumberedFault;
 use std::alloc::{AllocError, Global};
 use std::process::Abort;
 use std::slice;

@@ -3,6 +3,7 @@ use bumpalo::Bump;
 use policy_expr::{
     AclText, OptionError, OptionFault, OptionText, PolicyFault, PolicyOption, PolicyText,
 };
+use refusal::NumberedFault;
 use std::alloc::{AllocError, Allocator, Global};
 use std::process::Abort;
 use std::slice;

@@ -3,6 +3,7 @@ use path_header::{Header, decode};
 use path_segment::{SegKind, Segment};
 use path_verifier::{Piece, PieceKind, Pieces, VerifyFault, verify};
 use policy_expr::{AclText, Denied, Policy, PolicyText, WalkHop};
+use refusal::NumberedFault;
 use std::alloc::{AllocError, Global};
 use std::process::Abort;
 use std::test::Fail;

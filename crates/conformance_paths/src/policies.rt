@@ -5,6 +5,7 @@ use policy_expr::{
     Acl, AclText, Denied, HopPred, Interfaces, Policy, PolicyError, PolicyFault, PolicyText, Seq,
     WalkHop,
 };
+use refusal::NumberedFault;
 use std::alloc::{AllocError, Allocator, Global};
 use std::process::Abort;
 use std::test::Fail;

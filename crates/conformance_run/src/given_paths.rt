@@ -8,6 +8,7 @@ use path_header::Header;
 use path_segment::{SegKind, Segment};
 use path_verifier::Pieces;
 use policy_expr::Policy;
+use refusal::NumberedFault;
 use router_step::Outcome;
 use scion_topology::Topology;
 use std::alloc::{AllocError, Global};

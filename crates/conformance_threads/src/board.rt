@@ -4,6 +4,7 @@ ghost use Rattle.std.specs.Prelude.{◌≡◌};
 
 use crate::again::{boarded, found, publishes, registers, seated, sweeps};
 use crate::segments::{AFTER_EARLY, EARLY, Finding, LATE};
+use refusal::NumberedFault;
 use refusing::Shortage;
 use segment_board::{BoardReader, BoardWriter};
 use std::alloc::{AllocError, Global};

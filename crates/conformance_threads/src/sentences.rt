@@ -4,7 +4,7 @@ use crate::segments::ia;
 use daemon_cache::{AskFault, Daemon};
 use isd_as::IsdAs;
 use policy_expr::{OptionText, PolicyText};
-use refusal::OrMemory;
+use refusal::{NumberedFault, OrMemory};
 use segment_board::{BoardFault, BoardReader, BoardWriter, new_board};
 use std::alloc::Global;
 use std::sync::Wait;

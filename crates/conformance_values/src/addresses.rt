@@ -1,4 +1,5 @@
 use isd_as::{AddrFault, AsNumber, IfId, Isd, IsdAs, MAX_TEXT_LEN};
+use refusal::NumberedFault;
 use std::alloc::{AllocError, Global};
 use std::process::Abort;
 use std::test::Fail;

@@ -1,5 +1,6 @@
 use isd_as::IfId;
 use path_header::{Header, HeaderFault, HeaderMut, HopField, InfoField, decode, encode};
+use refusal::NumberedFault;
 use std::process::Abort;
 use std::test::Fail;
 

@@ -1,6 +1,6 @@
 use isd_as::{IfId, IsdAs};
 use path_segment::{Beacon, Entry, SegKind, Segment, SegmentError, SegmentFault};
-use refusal::OrMemory;
+use refusal::{NumberedFault, OrMemory};
 use std::alloc::Global;
 use std::process::Abort;
 use std::test::Fail;
@@ -112,7 +112,7 @@ fn entries_of(alloc: Global, count: u16) -> Result<Vec<Entry>, Fail> {
 /// The code of the refusal of a core segment with this number of entries.
 fn code_of_length(alloc: Global, count: u16) -> Result<u16, Fail> {
     let segment = Segment::new(SegKind::Core, 0, 0, entries_of(alloc, count)?);
-    Ok(segment.err().map_or(0, SegmentFault::code))
+    Ok(segment.err().map_or(0, |fault| fault.code()))
 }
 
 /// A beacon of one entry.

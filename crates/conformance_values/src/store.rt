@@ -1,7 +1,7 @@
 use isd_as::{IfId, IsdAs};
 use path_segment::{Entry, SegKind, Segment};
 use path_server::{PathStore, StoreFault, StoreOp};
-use refusal::OrMemory;
+use refusal::{NumberedFault, OrMemory};
 use std::alloc::{AllocError, Global};
 use std::process::Abort;
 use std::test::Fail;

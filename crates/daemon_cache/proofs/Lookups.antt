@@ -1,5 +1,5 @@
 -- What a look-up gives is live; and sets of the same segments have the same answers.
-use Rattle.std.proofs.Common.{◌≡◌, ◌≢◌, ◌<◌, ◌==◌, ◌&&◌, ℕ, nat_le, not, Bool, true, false, List, Contains, Result, Ok, Err, refl, sym, subst, arith}
+use Rattle.std.proofs.Common.{◌≡◌, ◌≢◌, ◌<◌, ◌==◌, ℕ, nat_le, not, Bool, true, false, List, Contains, Result, Ok, Err, refl, sym, subst, arith}
 use Rattle.std.proofs.lemmas.Bool.{and_parts}
 use Rattle.std.proofs.lemmas.Bool.Decides.{nat_tests}
 use Rattle.std.proofs.lemmas.List.Elements.{All-weaker, All-contains_itself}
@@ -11,7 +11,7 @@ use Rattle.refusal.specs.declared.fault.OrMemory.TheVariants.{Refused}
 use Rattle.refusal.proofs.Steps.{bind_ok, check_ok}
 use Rattle.policy_expr.specs.declared.option_fault.OptionFault.{OptionFault}
 use Rattle.policy_expr.specs.Options.{WeighedRules, options_at}
-use Rattle.combinator.specs.Answer.{AnswerValue}
+use Rattle.combinator.specs.Answer.{AnswerValue, is_limit}
 use Rattle.combinator.specs.Lasting.{HaveSame, IsSameSet, AreAllLive}
 use Rattle.combinator.proofs.Moments.{options_too}
 use Rattle.daemon_cache.specs.inner.Entry.{HasSegmentsOf, IsOwn}
@@ -53,8 +53,8 @@ served_answers request own set answer is segments live =
 pub lawful_wants : (request : RequestValue) → lawful_at request ≡ Ok tt → 0 < request.limit
 unfolding lawful_at
 lawful_wants request is =
-    let checked = bind_ok (check (nat_le 1 request.limit && nat_le request.limit 64) fault.BadLimit) (λ few. refused_as fault.Options (options_at request.texts) >>= (λ options. check (not (request.src == request.dst)) fault.SameAs)) tt is in
-    let holds = and_parts (nat_le 1 request.limit) (nat_le request.limit 64) (check_ok (nat_le 1 request.limit && nat_le request.limit 64) fault.BadLimit checked.0 checked.1) in
+    let checked = bind_ok (check (is_limit request.limit) fault.BadLimit) (λ few. refused_as fault.Options (options_at request.texts) >>= (λ options. check (not (request.src == request.dst)) fault.SameAs)) tt is in
+    let holds = and_parts (nat_le 1 request.limit) (nat_le request.limit 64) (check_ok (is_limit request.limit) fault.BadLimit checked.0 checked.1) in
     let least : nat_le 1 request.limit ≡ true = holds.0 in
     grind (arith, nat_tests)
 
@@ -72,7 +72,7 @@ gives_none request reader fault.BadLimit is = (is, refl)
 gives_none request reader (fault.Options refusal) is = (is, refl)
 gives_none request reader fault.SameAs is = (is, refl)
 gives_none request reader fault.NoEntry is =
-    absurd (no_entry (nat_le 1 request.limit && nat_le request.limit 64) (not (request.src == request.dst)) (options_at request.texts) is)
+    absurd (no_entry (is_limit request.limit) (not (request.src == request.dst)) (options_at request.texts) is)
 
 moment_is_asked : (segments : List Chain) (src dst now : ℕ) → (segments_for segments src dst now).moment ≡ now
 unfolding segments_for

@@ -1,6 +1,10 @@
 -- The refusals of a daemon, as lines of text report them.
 use Rattle.std.specs.Prelude.{ℕ, List, codes}
 use Rattle.policy_expr.specs.Options as options
+use Rattle.combinator.specs.Fault as ends
+use Rattle.combinator.specs.declared.fault.CombineFault.TheVariants as end
+use Rattle.segment_board.specs.Fault as boards
+use Rattle.segment_board.specs.declared.fault.BoardFault.TheVariants as board
 use Rattle.daemon_cache.specs.declared.fault.AskFault.{AskFault}
 use Rattle.daemon_cache.specs.declared.fault.AskFault.TheVariants.{BadLimit, Options, SameAs, NoEntry}
 
@@ -8,11 +12,5 @@ use Rattle.daemon_cache.specs.declared.fault.AskFault.TheVariants.{BadLimit, Opt
 abbrev pub code_and_name : AskFault → ℕ × List ℕ
 code_and_name BadLimit = (137, codes "BadLimit")
 code_and_name (Options fault) = options.code_and_name fault
-code_and_name SameAs = (85, codes "SameAs")
-code_and_name NoEntry = (111, codes "NoEntry")
-
-abbrev pub code_of : AskFault → ℕ
-code_of refusal = (code_and_name refusal).0
-
-abbrev pub name_of : AskFault → List ℕ
-name_of refusal = (code_and_name refusal).1
+code_and_name SameAs = ends.code_and_name end.SameAs
+code_and_name NoEntry = boards.code_and_name board.NoEntry

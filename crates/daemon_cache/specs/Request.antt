@@ -1,11 +1,11 @@
 -- A daemon's requests, their answers, and their refusals.
-use Rattle.std.specs.Prelude.{◌≡◌, ℕ, ◌==◌, ◌&&◌, nat_le, not, List, Result, Ok, Err}
+use Rattle.std.specs.Prelude.{◌≡◌, ℕ, ◌==◌, not, List, Result, Ok, Err}
 use Rattle.refusal.specs.Refusal.{◌>>=◌, check, refused_as}
 use Rattle.refusal.specs.declared.fault.OrMemory.{OrMemory}
 use Rattle.refusal.specs.declared.fault.OrMemory.TheVariants.{Memory, Refused}
 use Rattle.path_server.specs.Lookup.{Selection}
 use Rattle.policy_expr.specs.Options.{OptionTexts, WeighedRules, options_at}
-use Rattle.combinator.specs.Answer.{AnswersWith, AnswerValue}
+use Rattle.combinator.specs.Answer.{AnswersWith, AnswerValue, is_limit}
 use Rattle.segment_board.specs.Board.{Informed}
 use Rattle.daemon_cache.specs.declared.fault.AskFault.{AskFault}
 use Rattle.daemon_cache.specs.declared.fault.AskFault.TheVariants as fault
@@ -32,7 +32,7 @@ pub record IsAnswerToRequest (request : RequestValue) (set : Selection)
 -- the request is lawful, or the first refusal: that of its limit, of its options, of its ends
 unfoldable pub lawful_at : RequestValue → Result (Unit {0}) AskFault
 lawful_at request = do
-  few ← check (nat_le 1 request.limit && nat_le request.limit 64) fault.BadLimit
+  few ← check (is_limit request.limit) fault.BadLimit
   options ← refused_as fault.Options (options_at request.texts)
   check (not (request.src == request.dst)) fault.SameAs
 

@@ -1,8 +1,9 @@
-ghost use Rattle.std.specs.Prelude.{◌≡◌};
-ghost use Rattle.daemon_cache.specs.Fault.{code_of, name_of};
+ghost use Rattle.daemon_cache.specs.Fault as faults;
 
+use combinator::CombineFault;
 use policy_expr::OptionFault;
-use refusal::OrMemory;
+use refusal::{NumberedFault, OrMemory};
+use segment_board::BoardFault;
 use thiserror::Error;
 
 /// Why a daemon returned no answer.
@@ -22,28 +23,15 @@ pub enum AskFault {
     NoEntry,
 }
 
-impl AskFault {
-    /// The number by which lines of text report this refusal.
-    pub fn code(self) -> u16
-        ensures { result ≡ code_of self }
-    {
-        match self {
-            AskFault::BadLimit => 137,
-            AskFault::Options(fault) => fault.code(),
-            AskFault::SameAs => 85,
-            AskFault::NoEntry => 111,
-        }
-    }
+impl NumberedFault for AskFault {
+    ghost code_and_name = { faults.code_and_name };
 
-    /// The name by which lines of text report this refusal.
-    pub fn name(self) -> &'static str
-        ensures { result.now ≡ name_of self }
-    {
+    fn code_and_name(self) -> (u16, &'static str) {
         match self {
-            AskFault::BadLimit => "BadLimit",
-            AskFault::Options(fault) => fault.name(),
-            AskFault::SameAs => "SameAs",
-            AskFault::NoEntry => "NoEntry",
+            Self::BadLimit => (137, "BadLimit"),
+            Self::Options(fault) => fault.code_and_name(),
+            Self::SameAs => CombineFault::SameAs.code_and_name(),
+            Self::NoEntry => BoardFault::NoEntry.code_and_name(),
         }
     }
 }

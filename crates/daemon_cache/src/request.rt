@@ -2,13 +2,11 @@ ghost use Rattle.std.specs.Prelude.{◌≡◌};
 ghost use Rattle.daemon_cache.specs.Request.{lawful_at};
 
 use crate::fault::AskFault;
+use combinator::is_limit;
 use isd_as::IsdAs;
 use policy_expr::OptionText;
 use std::hash::{DefaultHasher, Hash, Hasher};
 use std::marker::Model;
-
-/// The largest number of paths of a request.
-const MAX_PATHS: usize = 64;
 
 /// A request for paths.
 #[derive(Drop)]
@@ -34,7 +32,7 @@ impl<'a> Request<'a> {
     pub(crate) fn check(&self) -> Result<(), AskFault>
         ensures { result ≡ lawful_at self.now }
     {
-        if self.limit == 0 || self.limit > MAX_PATHS {
+        if !is_limit(self.limit) {
             return Err(AskFault::BadLimit);
         }
         if let Err(fault) = OptionText::check_all(self.options) {

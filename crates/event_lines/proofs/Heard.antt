@@ -1,11 +1,10 @@
 -- Bytes that come, up to where they were heard.
-use Rattle.std.proofs.Common.{arith, ◌≡◌, ℕ, ◌<◌, List, [], ◌∷◌, ◌++◌, false, length, refl, sym, ap, ◌∙◌, append_assoc, append-nil, subst, Ok, Err}
-use Rattle.std.proofs.lemmas.List.{length-append}
+use Rattle.std.proofs.Common.{◌≡◌, ℕ, List, [], ◌∷◌, ◌++◌, false, refl, sym, ap, ◌∙◌, append_assoc, append-nil, subst, Err}
 use Rattle.event_lines.specs.declared.fault.RunFault.{RunFault}
 use Rattle.event_lines.specs.declared.fault.RunFault.TheVariants as faults
 use Rattle.event_lines.specs.declared.accepted.AcceptedLines.{AcceptedLines}
 use Rattle.event_lines.specs.Run.{AreLines, ended_lines, has_line_end, line_end}
-use Rattle.event_lines.specs.inner.Replies.{RepliesTo, RepliesToAll}
+use Rattle.event_lines.specs.inner.Replies.{RepliesTo}
 use Rattle.event_lines.specs.Answers.{Stage, Closed}
 use Rattle.event_lines.specs.inner.Session.{AnswersLines, AnswersBytes, IsLineCut, SessionValue, RepliesOrFails}
 use Rattle.event_lines.proofs.Lines.{closed, cut_of, ended_more, grown, joined, none_read}
@@ -109,27 +108,6 @@ heard_short accepted bytes left old now new heard same =
         ),
       ),
     )
-
--- what is left has no line's end
-pub heard_all : (accepted : AcceptedLines) (bytes left : List ℕ) (old now new : SessionValue) → Heard accepted bytes left old now → has_line_end left ≡ false
-    → new.rest ≡ now.rest ++ left → new.stage ≡ now.stage → new.replies ≡ now.replies
-    → AnswersBytes accepted (Ok tt) bytes old new
-heard_all accepted bytes left old now new heard none rest stage replies = (
-  heard.lines,
-  (
-    subst (λ l. AreLines l heard.lines new.rest) (append_assoc old.rest heard.front left ∙ ap (λ l. old.rest ++ l) (sym heard.whole))
-        (subst (λ r. AreLines ((old.rest ++ heard.front) ++ left) heard.lines r) (sym rest) (grown left heard.are none)),
-    record {
-      texts = heard.heard.texts;
-      told = subst (λ s. RepliesToAll accepted old.stage heard.lines heard.heard.texts s) (sym stage) heard.heard.told;
-      kept = replies ∙ heard.heard.kept;
-    },
-  ),
-)
-
--- what stands behind a line is less
-pub shorter : (left line behind : List ℕ) → IsLineCut left line behind → length behind < length left
-shorter left line behind cut = subst (λ l. length behind < length l) (sym cut.whole) (grind (arith, length-append line (line_end ∷ behind)))
 
 -- the line that was heard last could not be answered
 pub heard_failed : (accepted : AcceptedLines) (bytes left line behind : List ℕ) (old now new : SessionValue) (fault : RunFault)

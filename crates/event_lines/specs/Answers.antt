@@ -1,6 +1,7 @@
 -- The replies to lines: the first line begins a network, and the later ones are its events.
 use Rattle.std.specs.Prelude.{◌≡◌, ℕ, codes, List, [], ◌∷◌, ◌++◌, Option, Some, None, Result, Ok, Err, slice_get}
 use Rattle.std.specs.List.{flat_map}
+use Rattle.refusal.specs.Fault.{code_text}
 use Rattle.scion_topology.specs.declared.fault.TopologyFault.{TopologyFault}
 use Rattle.scion_topology.specs.Fault as topology
 use Rattle.scion_topology.specs.Network.{Network}
@@ -13,7 +14,7 @@ use Rattle.network_core.specs.Ran.{Ran}
 use Rattle.event_lines.specs.declared.accepted.AcceptedLines.{AcceptedLines}
 use Rattle.event_lines.specs.AcceptedLines.{accepted_as}
 use Rattle.event_lines.specs.Line.{LineValue, Happens, Shows, line_in}
-use Rattle.event_lines.specs.Text.{bad_line, coded, packet_text, reply_text}
+use Rattle.event_lines.specs.Text.{bad_line, packet_text, reply_text}
 
 -- ---- lines after the first
 
@@ -61,7 +62,7 @@ abbrev pub begun_text : List ℕ
 begun_text = codes "topology ok"
 
 abbrev pub refused_text : TopologyFault → List ℕ
-refused_text fault = codes "topology no " ++ coded (topology.code_of fault) (topology.name_of fault)
+refused_text fault = codes "topology no " ++ code_text (topology.code_and_name fault)
 
 -- ---- all lines
 

@@ -4,7 +4,7 @@ use Rattle.std.specs.List.{join_by}
 use Rattle.std.specs.Fmt.{decimal}
 use Rattle.isd_as.specs.Address.{canonical}
 use Rattle.policy_expr.specs.declared.hop.WalkHop.{WalkHop}
-use Rattle.path_header.specs.Fault as header
+use Rattle.refusal.specs.Fault.{code_text}
 use Rattle.path_verifier.specs.declared.kind.PieceKind.{PieceKind}
 use Rattle.path_verifier.specs.declared.kind.PieceKind.TheVariants.{Up, Core, Down}
 use Rattle.path_verifier.specs.Piece.{PieceValue, kind_of}
@@ -13,9 +13,7 @@ use Rattle.combinator.specs.Candidate.{PathValue}
 use Rattle.combinator.specs.Answer.{AnswerValue}
 use Rattle.router_step.specs.declared.outcome.Outcome.{Outcome}
 use Rattle.router_step.specs.declared.outcome.Outcome.TheVariants.{ToLink, ToRouter, Deliver}
-use Rattle.router_step.specs.declared.fault.Refusal.{Refusal}
-use Rattle.router_step.specs.declared.fault.Refusal.TheVariants.{BadHeader}
-use Rattle.router_step.specs.Fault as router
+use Rattle.router_step.specs.Fault.{refusal_text}
 use Rattle.forwarding.specs.declared.location.PacketLocation.{PacketLocation}
 use Rattle.forwarding.specs.declared.location.PacketLocation.TheVariants as places
 use Rattle.forwarding.specs.declared.reply.TurnReply.{TurnReply}
@@ -23,16 +21,13 @@ use Rattle.forwarding.specs.declared.reply.TurnReply.TheVariants as turns
 use Rattle.network_core.specs.declared.fault.EventFault.{EventFault}
 use Rattle.network_core.specs.declared.reply.Reply.{Reply}
 use Rattle.network_core.specs.declared.reply.Reply.TheVariants.{Done, Begun, Registered, Swept, Answered, Sent, Turned, Refused}
-use Rattle.network_core.specs.Fault.{code_of, name_of}
+use Rattle.network_core.specs.declared.fault.EventFault.TheVariants.{NoPacket}
+use Rattle.network_core.specs.Fault.{code_and_name}
 use Rattle.network_core.specs.Value.{NetValue, PacketValue}
 
 -- a word and a number: `WORD N`
 abbrev pub numbered : List ℕ → ℕ → List ℕ
 numbered word number = word ++ (codes " " ++ decimal number)
-
--- the number and the name of a refusal: `CODE Name`
-abbrev pub coded : ℕ → List ℕ → List ℕ
-coded code name = decimal code ++ (codes " " ++ name)
 
 -- ---- walks
 
@@ -62,12 +57,6 @@ passed_text (hop ∷ hops) = codes "; " ++ hops_text (hop ∷ hops)
 
 -- ---- routers
 
--- a router's refusal; a packet without a path header also has the refusal of the header
-abbrev pub refusal_text : Refusal → List ℕ
-refusal_text (BadHeader fault) =
-    codes "90 BadHeader " ++ coded (header.code_of fault) (header.name_of fault)
-refusal_text refusal = coded (router.code_of refusal) (router.name_of refusal)
-
 -- the outcome of a router's step
 abbrev pub outcome_text : Outcome → List ℕ
 outcome_text (ToLink interface) = numbered (codes "link") interface
@@ -94,7 +83,7 @@ place_text places.Lost = codes "lost"
 
 -- the refusal of an event: `no CODE Name`
 abbrev pub fault_text : EventFault → List ℕ
-fault_text fault = codes "no " ++ coded (code_of fault) (name_of fault)
+fault_text fault = codes "no " ++ code_text (code_and_name fault)
 
 -- the walk of a path of an answer, after a semicolon
 abbrev pub path_text : PathValue → List ℕ
@@ -132,7 +121,7 @@ reply_text net (Refused fault) = fault_text fault
 
 -- the reply about a packet: its place and the hops that it has passed, if there is such a packet
 abbrev pub packet_text : Option PacketValue → List ℕ
-packet_text None = codes "no 130 NoPacket"
+packet_text None = fault_text NoPacket
 packet_text (Some one) = place_text one.packet.place ++ passed_text one.packet.passed
 
 -- the reply to a line without a value

@@ -18,4 +18,4 @@ mod text;
 pub use accepted::AcceptedLines;
 pub use fault::RunFault;
 pub use run::{listen, run_lines};
-pub use text::{hops_text, kinds_text, refusal_text};
+pub use text::{hops_text, kinds_text};

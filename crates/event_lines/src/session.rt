@@ -13,7 +13,7 @@ use crate::fault::RunFault;
 use crate::happening::answer_line;
 use json_fields::JsonRoom;
 use network_core::Net;
-use refusal::OrMemory;
+use refusal::{NumberedFault, OrMemory};
 use scion_topology::{Topology, TopologyFault};
 use std::alloc::{AllocError, Global};
 use std::fmt::Write;

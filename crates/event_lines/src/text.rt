@@ -5,14 +5,15 @@
 
 ghost use Rattle.std.specs.Prelude.{◌≡◌, ◌++◌, IfOk, OnOk, flat_map, option_map};
 ghost use Rattle.std.specs.String.{string_bytes};
-ghost use Rattle.event_lines.specs.Text.{answer_in, answer_text, bad_line, fault_text, hop_text, hops_text, kinds_text, letter, outcome_text, packet_text, passed_text, path_text, paths_of, place_text, refusal_text, reply_text, turn_text};
+ghost use Rattle.event_lines.specs.Text.{answer_in, answer_text, bad_line, fault_text, hop_text, hops_text, kinds_text, letter, outcome_text, packet_text, passed_text, path_text, paths_of, place_text, reply_text, turn_text};
 
 use combinator::Path;
 use forwarding::{PacketLocation, TurnReply};
 use network_core::{EventFault, Net, Packet, Reply};
 use path_verifier::{PieceKind, Pieces};
 use policy_expr::WalkHop;
-use router_step::{Outcome, Refusal};
+use refusal::NumberedFault;
+use router_step::Outcome;
 use std::alloc::{AllocError, Global};
 use std::fmt::Write;
 
@@ -73,29 +74,6 @@ pub fn kinds_text(alloc: Global, pieces: &Pieces<'_>) -> Result<String, AllocErr
     Ok(text)
 }
 
-/// Adds a router's refusal: its number and its name; for a packet without a path header, also the
-/// number and name of the header's refusal.
-fn push_refusal(text: &mut String, refusal: Refusal) -> Result<(), AllocError>
-    ensures { OnOk result (string_bytes text.new ≡ string_bytes text.old ++ refusal_text refusal) }
-{
-    match refusal {
-        Refusal::BadHeader(fault) => {
-            write!(text, "90 BadHeader {} {}", fault.code(), fault.name())
-        }
-        _ => write!(text, "{} {}", refusal.code(), refusal.name()),
-    }
-}
-
-/// The text of a router's refusal: its number and its name; for a packet without a path header,
-/// also the number and name of the header's refusal.
-pub fn refusal_text(alloc: Global, refusal: Refusal) -> Result<String, AllocError>
-    ensures { IfOk result (λ text. string_bytes text ≡ refusal_text refusal) }
-{
-    let mut text = String::new(alloc);
-    push_refusal(&mut text, refusal)?;
-    Ok(text)
-}
-
 /// Adds the outcome of a router's step.
 pub(crate) fn push_outcome(text: &mut String, outcome: Outcome) -> Result<(), AllocError>
     ensures { OnOk result (string_bytes text.new ≡ string_bytes text.old ++ outcome_text outcome) }
@@ -115,7 +93,7 @@ fn push_turn(text: &mut String, reply: TurnReply) -> Result<(), AllocError>
         TurnReply::Went(outcome) => push_outcome(text, outcome),
         TurnReply::Refused(cause) => {
             text.push_str("refused ")?;
-            push_refusal(text, cause)
+            cause.push_to(text)
         }
         TurnReply::Still => text.push_str("ok"),
     }
@@ -193,7 +171,7 @@ fn push_place(text: &mut String, place: PacketLocation) -> Result<(), AllocError
         PacketLocation::Delivered => text.push_str("delivered"),
         PacketLocation::Refused(ia, router, cause) => {
             write!(text, "refused {ia} {router} ")?;
-            push_refusal(text, cause)
+            cause.push_to(text)
         }
         PacketLocation::Lost => text.push_str("lost"),
     }
@@ -217,7 +195,7 @@ pub(crate) fn push_packet(text: &mut String, packet: Option<&Packet>) -> Result<
         ≡ string_bytes text.old ++ packet_text (option_map (λ p. p.now) packet.entry)) }
 {
     match packet {
-        None => text.push_str("no 130 NoPacket"),
+        None => push_fault(text, EventFault::NoPacket),
         Some(packet) => {
             push_place(text, packet.place())?;
             push_passed(text, packet.passed())

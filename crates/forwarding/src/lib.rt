@@ -20,4 +20,3 @@ pub use framing::frame;
 pub use in_flight::PacketInFlight;
 pub use location::{PacketLocation, RouterStop};
 pub use reply::TurnReply;
-pub use trace::MAX_PASSED;

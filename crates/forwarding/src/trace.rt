@@ -1,11 +1,9 @@
 ghost use Rattle.std.specs.Prelude.{◌≡◌, [], ◌≤◌, IfOk, length, vec_capacity};
 ghost use Rattle.forwarding.specs.Turn.{noted};
 
+use path_header::MAX_HOPS;
 use policy_expr::WalkHop;
 use std::alloc::{AllocError, Global};
-
-/// The largest number of passed hops that a packet keeps.
-pub const MAX_PASSED: usize = 64;
 
 /// The hops that a packet has passed, at most the first 64. It has room for 64 until it is closed,
 /// so that a turn takes no memory.
@@ -21,7 +19,7 @@ impl HopTrace {
         ensures room { IfOk result (λ trace. 64 ≤ vec_capacity trace.hops) }
     {
         Ok(HopTrace {
-            hops: Vec::with_capacity(alloc, MAX_PASSED)?,
+            hops: Vec::with_capacity(alloc, MAX_HOPS)?,
         })
     }
 
@@ -30,7 +28,7 @@ impl HopTrace {
         ensures hops { IfOk result (λ copy. copy.hops.items ≡ self.now.hops.items) }
         ensures room { IfOk result (λ copy. 64 ≤ vec_capacity copy.hops) }
     {
-        let mut hops = Vec::with_capacity(alloc, MAX_PASSED)?;
+        let mut hops = Vec::with_capacity(alloc, MAX_HOPS)?;
         hops.extend_from_slice(&self.hops)?;
         Ok(HopTrace { hops })
     }
@@ -48,7 +46,7 @@ impl HopTrace {
         ensures hops { self.new.hops.items ≡ noted self.old.hops.items hop }
         ensures room { vec_capacity self.new.hops ≡ vec_capacity self.old.hops }
     {
-        if self.hops.len() < MAX_PASSED {
+        if self.hops.len() < MAX_HOPS {
             self.hops.push_reserved(hop);
         }
     }

@@ -10,9 +10,3 @@ code_and_name BadDigit = (2, codes "BadDigit")
 code_and_name IsdRange = (3, codes "IsdRange")
 code_and_name AsRange = (4, codes "AsRange")
 code_and_name BadGroups = (5, codes "BadGroups")
-
-abbrev pub code_of : AddrFault → ℕ
-code_of refusal = (code_and_name refusal).0
-
-abbrev pub name_of : AddrFault → List ℕ
-name_of refusal = (code_and_name refusal).1

@@ -1,6 +1,6 @@
-ghost use Rattle.std.specs.Prelude.{◌≡◌};
-ghost use Rattle.isd_as.specs.Fault.{code_of, name_of};
+ghost use Rattle.isd_as.specs.Fault as faults;
 
+use refusal::NumberedFault;
 use thiserror::Error;
 
 /// Why a text is no address: the first of these refusals, in the order that [`IsdAs::parse`] gives.
@@ -25,30 +25,16 @@ pub enum AddrFault {
     BadGroups,
 }
 
-impl AddrFault {
-    /// The number by which lines of text report this refusal.
-    pub fn code(self) -> u16
-        ensures { result ≡ code_of self }
-    {
-        match self {
-            AddrFault::NoDash => 1,
-            AddrFault::BadDigit => 2,
-            AddrFault::IsdRange => 3,
-            AddrFault::AsRange => 4,
-            AddrFault::BadGroups => 5,
-        }
-    }
+impl NumberedFault for AddrFault {
+    ghost code_and_name = { faults.code_and_name };
 
-    /// The name by which lines of text report this refusal.
-    pub fn name(self) -> &'static str
-        ensures { result.now ≡ name_of self }
-    {
+    fn code_and_name(self) -> (u16, &'static str) {
         match self {
-            AddrFault::NoDash => "NoDash",
-            AddrFault::BadDigit => "BadDigit",
-            AddrFault::IsdRange => "IsdRange",
-            AddrFault::AsRange => "AsRange",
-            AddrFault::BadGroups => "BadGroups",
+            Self::NoDash => (1, "NoDash"),
+            Self::BadDigit => (2, "BadDigit"),
+            Self::IsdRange => (3, "IsdRange"),
+            Self::AsRange => (4, "AsRange"),
+            Self::BadGroups => (5, "BadGroups"),
         }
     }
 }

@@ -1,6 +1,6 @@
 -- A segment's chain of events, number by number: the beacon is under way, its keys are held and its
 -- links up where the piece goes, and so it stays up to the chain's end and from there on.
-use Rattle.std.proofs.Common.{◌≡◌, ℕ, ◌+◌, ◌<◌, ◌≤◌, ◌⊎◌, Bool, true, false, ltb, List, [], ◌∷◌, ◌++◌, length, map, Some, Result, Ok, Err, refl, sym, ap, ◌∙◌, subst, arith, inl, inr, append_assoc, append-nil, length-append}
+use Rattle.std.proofs.Common.{◌≡◌, ℕ, ◌+◌, ◌<◌, ◌≤◌, ◌⊎◌, Bool, true, false, List, [], ◌∷◌, ◌++◌, length, map, Some, Result, Ok, Err, refl, sym, ap, ◌∙◌, subst, arith, inl, inr, append_assoc, append-nil, length-append}
 use Rattle.std.specs.Prelude.{slice_get}
 use Rattle.std.proofs.lemmas.Bool.{cases_lt}
 use Rattle.std.proofs.lemmas.List.{map-append}
@@ -26,7 +26,7 @@ use Rattle.network_core.specs.declared.reply.Reply.TheVariants as replies
 use Rattle.network_core.specs.declared.reply.Reply.TheVariants.{Begun, Registered}
 use Rattle.network_core.specs.Event.{EventValue, Originate, Extend, Terminate, CutLink, RotateKey}
 use Rattle.network_core.specs.Value.{NetValue}
-use Rattle.network_core.specs.Step.{Made, with_beacon, begun, passed_on, beacon_at, Leads, Step}
+use Rattle.network_core.specs.Step.{Made, has_room, with_beacon, begun, passed_on, beacon_at, Leads, Step}
 use Rattle.network_core.specs.History.{EventRecord, IsHistory, net_at, Occurs, PassOn, key_then, IssuedIn}
 use Rattle.network_core.specs.Delivery.{is_done}
 use Rattle.network_core.specs.Headline.{IsDone}
@@ -102,7 +102,7 @@ record HasMore (old new : NetValue) (number : ℕ) (c : Chain) : Type 0 where
 has_more : (old new : NetValue) (n : ℕ) (c : Chain) → Leads (with_beacon old c) old (Begun n) new
     → HasMore old new n c
 has_more old new n c is =
-    elim (then_at old new (Begun n) (check (ltb (length old.beacons) 1_000_000) faults.TooMany) _ is) [
+    elim (then_at old new (Begun n) (check (has_room old.beacons) faults.TooMany) _ is) [
       | inl done ↦ (
           let number = same_number n (length old.beacons) done.1.1.0 in
           record {

@@ -1,5 +1,5 @@
 -- A packet that was sent, after any events that let it go on.
-use Rattle.std.proofs.Common.{◌≡◌, ℕ, zero, suc, ◌+◌, ltb, List, [], ◌∷◌, ◌++◌, length, take, Some, Ok, Err, Result, refl, sym, ap, ◌∙◌, subst, arith, inl, inr, append-nil}
+use Rattle.std.proofs.Common.{◌≡◌, ℕ, zero, suc, ◌+◌, List, [], ◌∷◌, ◌++◌, length, take, Some, Ok, Err, Result, refl, sym, ap, ◌∙◌, subst, arith, inl, inr, append-nil}
 use Rattle.std.specs.Prelude.{slice_get}
 use Rattle.refusal.specs.Refusal.{check, refused_as}
 use Rattle.refusal.proofs.Steps.{bind_ok, ok_is}
@@ -16,7 +16,7 @@ use Rattle.network_core.specs.declared.fault.EventFault.TheVariants as faults
 use Rattle.network_core.specs.declared.reply.Reply.{Reply}
 use Rattle.network_core.specs.declared.reply.Reply.TheVariants as replies
 use Rattle.network_core.specs.Value.{asked_at, Shipment, PacketValue, NetValue}
-use Rattle.network_core.specs.Step.{Made, packet_of, departs, Leads, Sends}
+use Rattle.network_core.specs.Step.{Made, has_room, packet_of, departs, Leads, Sends}
 use Rattle.network_core.specs.History.{EventRecord, IsHistory, net_after}
 use Rattle.network_core.specs.Delivery.{AllLetGoOn, turns_of, IsForwarded, AreSound, AllLeaveUndisturbed, HasSentFrame}
 use Rattle.network_core.proofs.Carrying.{Carried, standing_some, carried_through}
@@ -45,7 +45,7 @@ departed p old new sent accepted frame is =
     let at = bind_ok owner _ (replies.Sent p, new) is in
     let router = at.0 in
     let own = owned (owner_in old.network sent.way.source (first_out (walk_of sent.way.pieces))) router at.1 in
-    let room = bind_ok (check (ltb (length old.packets) 1_000_000) faults.TooMany) _ (replies.Sent p, new) at.2 in
+    let room = bind_ok (check (has_room old.packets) faults.TooMany) _ (replies.Sent p, new) at.2 in
     let made : NetValue = record old { packets = old.packets ++ packet_of sent router ∷ [] } in
     let both = ok_is (replies.Sent (length old.packets), made) (replies.Sent p, new) room.2 in
     let number : length old.packets ≡ p =
@@ -90,7 +90,7 @@ pub departed_last : (p : ℕ) (old new : NetValue) (sent : Shipment)
     → (one : PacketValue) × ((slice_get new.packets p ≡ Some one) × (one.sent ≡ sent))
 departed_last p old new sent is =
     let at = bind_ok (refused_as faults.Topology (owner_in old.network sent.way.source (first_out (walk_of sent.way.pieces)))) _ (replies.Sent p, new) is in
-    let room = bind_ok (check (ltb (length old.packets) 1_000_000) faults.TooMany) _ (replies.Sent p, new) at.2 in
+    let room = bind_ok (check (has_room old.packets) faults.TooMany) _ (replies.Sent p, new) at.2 in
     let one = packet_of sent at.0 in
     let made : NetValue = record old { packets = old.packets ++ one ∷ [] } in
     let both = ok_is (replies.Sent (length old.packets), made) (replies.Sent p, new) room.2 in

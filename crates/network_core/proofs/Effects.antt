@@ -1,6 +1,6 @@
 -- What one event does to a network, part by part: to its topology, to its beacons and its store, to
 -- its answers, and to its packets. What goes over all events cites this.
-use Rattle.std.proofs.Common.{◌≡◌, ℕ, Bool, true, false, ltb, leb, ◌&&◌, ◌⊎◌, List, [], ◌∷◌, ◌++◌, length, Some, Result, Ok, Err, refl, sym, ap, ◌∙◌, inl, inr}
+use Rattle.std.proofs.Common.{◌≡◌, ℕ, Bool, true, false, ltb, leb, ◌⊎◌, List, [], ◌∷◌, ◌++◌, length, Some, Result, Ok, Err, refl, sym, ap, ◌∙◌, inl, inr}
 use Rattle.std.specs.Prelude.{slice_get, slice_set}
 use Rattle.refusal.specs.Refusal.{◌>>=◌, check, refused_as}
 use Rattle.refusal.proofs.Steps.{ok_is, ok_or_ok}
@@ -15,6 +15,7 @@ use Rattle.forwarding.specs.Turn.{Packet, turn_of, lost, altered}
 use Rattle.path_server.specs.Store.{answer_to, registered, swept}
 use Rattle.policy_expr.specs.declared.option_fault.OptionFault.{OptionFault}
 use Rattle.policy_expr.specs.Options.{WeighedRules}
+use Rattle.combinator.specs.Answer.{is_limit}
 use Rattle.combinator.specs.Fault.{ends_at}
 use Rattle.network_core.specs.declared.fault.EventFault.{EventFault}
 use Rattle.network_core.specs.declared.fault.EventFault.TheVariants as faults
@@ -22,7 +23,7 @@ use Rattle.network_core.specs.declared.reply.Reply.{Reply}
 use Rattle.network_core.specs.declared.reply.Reply.TheVariants.{Begun, Registered}
 use Rattle.network_core.specs.Event.{EventValue, Tick, Originate, Extend, Terminate, Sweep, Ask, Send, Turn, Lose, Alter, CutLink, MendLink, RotateKey}
 use Rattle.network_core.specs.Value.{Shipment, PacketValue, NetValue}
-use Rattle.network_core.specs.Step.{Made, with_beacon, with_segment, begun, passed_on, ended, beacon_at, with_network, flying_at, options_asked, shipment_by, packet_of, GivesAnswer, Leads, Asks, Sends, Step}
+use Rattle.network_core.specs.Step.{Made, has_room, with_beacon, with_segment, begun, passed_on, ended, beacon_at, with_network, flying_at, options_asked, shipment_by, packet_of, GivesAnswer, Leads, Asks, Sends, Step}
 use Rattle.network_core.specs.Delivery.{is_done}
 
 -- ---- steps of a definition
@@ -271,7 +272,7 @@ module _ (old new : NetValue) (event : EventValue) (reply : Reply) where
   departed (Ok sent) (inl accepted) =
       let owner = owner_in old.network sent.way.source (first_out (walk_of sent.way.pieces)) in
       then_effect (refused_as faults.Topology owner) _ (λ router owned.
-      then_effect (check (ltb (length old.packets) 1_000_000) faults.TooMany) _ (λ _ _ is.
+      then_effect (check (has_room old.packets) faults.TooMany) _ (λ _ _ is.
       in_packets _ is.1 (inr (inl (record {
         sent = sent;
         router = router;
@@ -285,7 +286,7 @@ module _ (old new : NetValue) (event : EventValue) (reply : Reply) where
       → new.segments ≡ old.segments → Stores old event reply new)
       → Leads (with_beacon old chain) old reply new → Effect old event reply new
   added chain stored =
-      then_effect (check (ltb (length old.beacons) 1_000_000) faults.TooMany) _ (λ _ _ is.
+      then_effect (check (has_room old.beacons) faults.TooMany) _ (λ _ _ is.
       in_store _ old.segments is.1 (stored is.0 (beacons_now _ is.1) (segments_now _ is.1)))
 
 -- ---- requests for paths
@@ -298,10 +299,10 @@ options_read : (net : NetValue) (src dst : ℕ) (read : Result (List WeighedRule
     (limit : ℕ) (options : List WeighedRules) → options_asked net src dst read limit ≡ Ok options
     → read ≡ Ok options
 options_read net src dst read limit options is =
-    let limited = both_done (check (leb 1 limit && leb limit 64) faults.BadLimit) _ options is in
+    let limited = both_done (check (is_limit limit) faults.BadLimit) _ options is in
     let judged = both_done (refused_as faults.Policy read) _ options limited.1.1 in
     let ends = both_done (refused_as faults.Combination (ends_at src dst)) _ options judged.1.1 in
-    let few = both_done (check (ltb (length net.answers) 1_000_000) faults.TooMany) _ options ends.1.1 in
+    let few = both_done (check (has_room net.answers) faults.TooMany) _ options ends.1.1 in
     done_below faults.Policy read judged.0 judged.1.0 ∙ ap are_read (ok_is judged.0 options few.1.1)
 
 asked : (old new : NetValue) (reply : Reply) (src dst : ℕ) (read : Result (List WeighedRules) OptionFault)

@@ -27,9 +27,3 @@ code_and_name BadOffset = (136, codes "BadOffset")
 code_and_name BadLimit = (137, codes "BadLimit")
 code_and_name TooMany = (138, codes "TooMany")
 code_and_name NotDelivered = (139, codes "NotDelivered")
-
-abbrev pub code_of : EventFault → ℕ
-code_of refusal = (code_and_name refusal).0
-
-abbrev pub name_of : EventFault → List ℕ
-name_of refusal = (code_and_name refusal).1

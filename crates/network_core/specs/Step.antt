@@ -1,7 +1,7 @@
 -- One event: its reply, and the network after it (draft-dekater-scion-controlplane, beaconing and
 -- registration of path segments; draft-dekater-scion-dataplane). The refusals are named in their
 -- order.
-use Rattle.std.specs.Prelude.{◌≡◌, ◌⊎◌, ℕ, true, false, nat_lt, nat_le, ◌&&◌, List, [], ◌∷◌, ◌++◌, length, slice_get, slice_set, Option, Some, None, Result, Ok, Err, IsOk}
+use Rattle.std.specs.Prelude.{◌≡◌, ◌⊎◌, ℕ, Bool, true, false, nat_lt, nat_le, List, [], ◌∷◌, ◌++◌, length, slice_get, slice_set, Option, Some, None, Result, Ok, Err, IsOk}
 use Rattle.std.specs.Option.{ok_or, option_map_or}
 use Rattle.refusal.specs.Refusal.{◌>>=◌, check, refused_as, or_else}
 use Rattle.scion_topology.specs.declared.fault.TopologyFault.{TopologyFault}
@@ -20,7 +20,7 @@ use Rattle.path_verifier.specs.declared.fault.VerifyFault.{VerifyFault}
 use Rattle.path_verifier.specs.Walk.{walk_of}
 use Rattle.path_verifier.specs.Turned.{turned_pieces}
 use Rattle.path_verifier.specs.Accepted.{IsAccepted, IsRefused}
-use Rattle.combinator.specs.Answer.{AnswersWith}
+use Rattle.combinator.specs.Answer.{AnswersWith, is_limit}
 use Rattle.combinator.specs.Fault.{ends_at}
 use Rattle.router_step.specs.Packet.{destination_of, source_of, header_in}
 use Rattle.forwarding.specs.declared.location.PacketLocation.{PacketLocation}
@@ -36,6 +36,10 @@ use Rattle.network_core.specs.declared.reply.Reply.TheVariants.{Done, Begun, Reg
 use Rattle.network_core.specs.Event.{RouteValue, ByAnswer, ByWay, BackOf, EventValue, Tick, Originate, Extend, Terminate, Sweep, Ask, Send, Turn, Lose, Alter, CutLink, MendLink, RotateKey}
 use Rattle.network_core.specs.Value.{Way, way_with, KeptAnswer, way_on, asked_at, Shipment, PacketValue, NetValue}
 
+-- whether there is room for one more beacon, answer or packet: there are fewer than a million
+abbrev pub has_room : {A : Type 0} → List A → Bool
+has_room objects = nat_lt (length objects) 1_000_000
+
 -- the result of an event: its reply and the network after it, or its refusal
 abbrev pub Made : Type 0
 Made = Result (Reply × NetValue) EventFault
@@ -49,7 +53,7 @@ ticked net to = do
 -- the network with one more beacon: TooMany if it has a million already
 abbrev pub with_beacon : NetValue → Chain → Made
 with_beacon net beacon = do
-  _ ← check (nat_lt (length net.beacons) 1_000_000) faults.TooMany
+  _ ← check (has_room net.beacons) faults.TooMany
   Ok (Begun (length net.beacons), record net { beacons = net.beacons ++ beacon ∷ [] })
 
 -- the beacon of this number: NoBeacon
@@ -107,10 +111,10 @@ with_network net changed = do
 abbrev pub options_asked : NetValue → ℕ → ℕ → Result (List WeighedRules) OptionFault → ℕ
     → Result (List WeighedRules) EventFault
 options_asked net src dst read limit = do
-  _ ← check (nat_le 1 limit && nat_le limit 64) faults.BadLimit
+  _ ← check (is_limit limit) faults.BadLimit
   options ← refused_as faults.Policy read
   _ ← refused_as faults.Combination (ends_at src dst)
-  _ ← check (nat_lt (length net.answers) 1_000_000) faults.TooMany
+  _ ← check (has_room net.answers) faults.TooMany
   Ok options
 
 -- the policy of the used option, or the policy that allows every path if none was used
@@ -236,7 +240,7 @@ abbrev pub departs : NetValue → Shipment → Made
 departs net sent = do
   router ← refused_as faults.Topology
       (owner_in net.network sent.way.source (first_out (walk_of sent.way.pieces)))
-  _ ← check (nat_lt (length net.packets) 1_000_000) faults.TooMany
+  _ ← check (has_room net.packets) faults.TooMany
   Ok (Sent (length net.packets), record net { packets = net.packets ++ packet_of sent router ∷ [] })
 
 -- ---- each event

@@ -14,14 +14,11 @@ use crate::beacons::MAX_OBJECTS;
 use crate::fault::EventFault;
 use crate::net::{EventError, Net};
 use crate::reply::Reply;
-use combinator::{CombineFault, combine};
+use combinator::{CombineFault, combine, is_limit};
 use isd_as::IsdAs;
 use policy_expr::{OptionText, Policy, PolicyOption};
 use refusal::OrMemory;
 use std::alloc::{AllocError, Global};
-
-/// The largest number of paths in an answer.
-const MAX_LIMIT: u32 = 64;
 
 impl Net {
     /// Answers a request for paths, and keeps the answer.
@@ -56,7 +53,7 @@ impl Net {
         ensures some { OnOk result (0 < limit) }
         ensures ends { OnOk result (ends_at src dst ≡ Ok tt) }
     {
-        if limit == 0 || limit > MAX_LIMIT {
+        if !is_limit(limit as usize) {
             return Err(OrMemory::Refused(EventFault::BadLimit));
         }
         let options = PolicyOption::parse_all(alloc, texts);

@@ -1,11 +1,11 @@
-ghost use Rattle.std.specs.Prelude.{◌≡◌};
-ghost use Rattle.network_core.specs.Fault.{code_of, name_of};
+ghost use Rattle.network_core.specs.Fault as faults;
 
 use beaconing::BeaconFault;
 use combinator::CombineFault;
 use path_server::StoreFault;
 use path_verifier::VerifyFault;
 use policy_expr::OptionFault;
+use refusal::NumberedFault;
 use scion_topology::TopologyFault;
 use thiserror::Error;
 
@@ -62,52 +62,27 @@ pub enum EventFault {
     NotDelivered,
 }
 
-impl EventFault {
-    /// The number by which lines of text report this refusal.
-    pub fn code(self) -> u16
-        ensures { result ≡ code_of self }
-    {
-        match self {
-            EventFault::Beacon(fault) => fault.code(),
-            EventFault::Store(fault) => fault.code(),
-            EventFault::Policy(fault) => fault.code(),
-            EventFault::Combination(fault) => fault.code(),
-            EventFault::Path(fault) => fault.code(),
-            EventFault::Topology(fault) => fault.code(),
-            EventFault::NoPacket => 130,
-            EventFault::NotInFlight => 131,
-            EventFault::NoBeacon => 132,
-            EventFault::NoAnswer => 133,
-            EventFault::TimeBack => 134,
-            EventFault::PayloadTooLong => 135,
-            EventFault::BadOffset => 136,
-            EventFault::BadLimit => 137,
-            EventFault::TooMany => 138,
-            EventFault::NotDelivered => 139,
-        }
-    }
+impl NumberedFault for EventFault {
+    ghost code_and_name = { faults.code_and_name };
 
-    /// The name by which lines of text report this refusal.
-    pub fn name(self) -> &'static str
-        ensures { result.now ≡ name_of self }
-    {
+    fn code_and_name(self) -> (u16, &'static str) {
         match self {
-            EventFault::Beacon(fault) => fault.name(),
-            EventFault::Store(fault) => fault.name(),
-            EventFault::Policy(fault) => fault.name(),
-            EventFault::Combination(fault) => fault.name(),
-            EventFault::Path(fault) => fault.name(),
-            EventFault::Topology(fault) => fault.name(),
-            EventFault::NoPacket => "NoPacket",
-            EventFault::NotInFlight => "NotInFlight",
-            EventFault::NoBeacon => "NoBeacon",
-            EventFault::NoAnswer => "NoAnswer",
-            EventFault::TimeBack => "TimeBack",
-            EventFault::PayloadTooLong => "PayloadTooLong",
-            EventFault::BadOffset => "BadOffset",
-            EventFault::BadLimit => "BadLimit",
-            EventFault::TooMany => "TooMany",
-            EventFault::NotDelivered => "NotDelivered",
+            Self::Beacon(fault) => fault.code_and_name(),
+            Self::Store(fault) => fault.code_and_name(),
+            Self::Policy(fault) => fault.code_and_name(),
+            Self::Combination(fault) => fault.code_and_name(),
+            Self::Path(fault) => fault.code_and_name(),
+            Self::Topology(fault) => fault.code_and_name(),
+            Self::NoPacket => (130, "NoPacket"),
+            Self::NotInFlight => (131, "NotInFlight"),
+            Self::NoBeacon => (132, "NoBeacon"),
+            Self::NoAnswer => (133, "NoAnswer"),
+            Self::TimeBack => (134, "TimeBack"),
+            Self::PayloadTooLong => (135, "PayloadTooLong"),
+            Self::BadOffset => (136, "BadOffset"),
+            Self::BadLimit => (137, "BadLimit"),
+            Self::TooMany => (138, "TooMany"),
+            Self::NotDelivered => (139, "NotDelivered"),
         }
     }
 }

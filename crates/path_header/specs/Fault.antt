@@ -13,9 +13,3 @@ code_and_name SegLens = (24, codes "SegLens")
 code_and_name TooManyHops = (25, codes "TooManyHops")
 code_and_name BadIndex = (26, codes "BadIndex")
 code_and_name RoomTooSmall = (27, codes "RoomTooSmall")
-
-abbrev pub code_of : HeaderFault → ℕ
-code_of refusal = (code_and_name refusal).0
-
-abbrev pub name_of : HeaderFault → List ℕ
-name_of refusal = (code_and_name refusal).1

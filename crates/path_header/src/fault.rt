@@ -1,6 +1,6 @@
-ghost use Rattle.std.specs.Prelude.{◌≡◌};
-ghost use Rattle.path_header.specs.Fault.{code_of, name_of};
+ghost use Rattle.path_header.specs.Fault as faults;
 
+use refusal::NumberedFault;
 use thiserror::Error;
 
 /// Why bytes or fields are no path header, or why a header was not written.
@@ -34,36 +34,19 @@ pub enum HeaderFault {
     RoomTooSmall,
 }
 
-impl HeaderFault {
-    /// The number by which lines of text report this refusal.
-    pub fn code(self) -> u16
-        ensures { result ≡ code_of self }
-    {
-        match self {
-            HeaderFault::Short => 20,
-            HeaderFault::Reserved => 21,
-            HeaderFault::PeerFlag => 22,
-            HeaderFault::AlertFlag => 23,
-            HeaderFault::SegLens => 24,
-            HeaderFault::TooManyHops => 25,
-            HeaderFault::BadIndex => 26,
-            HeaderFault::RoomTooSmall => 27,
-        }
-    }
+impl NumberedFault for HeaderFault {
+    ghost code_and_name = { faults.code_and_name };
 
-    /// The name by which lines of text report this refusal.
-    pub fn name(self) -> &'static str
-        ensures { result.now ≡ name_of self }
-    {
+    fn code_and_name(self) -> (u16, &'static str) {
         match self {
-            HeaderFault::Short => "Short",
-            HeaderFault::Reserved => "Reserved",
-            HeaderFault::PeerFlag => "PeerFlag",
-            HeaderFault::AlertFlag => "AlertFlag",
-            HeaderFault::SegLens => "SegLens",
-            HeaderFault::TooManyHops => "TooManyHops",
-            HeaderFault::BadIndex => "BadIndex",
-            HeaderFault::RoomTooSmall => "RoomTooSmall",
+            Self::Short => (20, "Short"),
+            Self::Reserved => (21, "Reserved"),
+            Self::PeerFlag => (22, "PeerFlag"),
+            Self::AlertFlag => (23, "AlertFlag"),
+            Self::SegLens => (24, "SegLens"),
+            Self::TooManyHops => (25, "TooManyHops"),
+            Self::BadIndex => (26, "BadIndex"),
+            Self::RoomTooSmall => (27, "RoomTooSmall"),
         }
     }
 }

@@ -4,13 +4,13 @@ ghost use Rattle.path_header.specs.Building.{first_header, new_header};
 
 use crate::fault::HeaderFault;
 use crate::fields::{HopField, InfoField};
-use crate::lens::SegLens;
+use crate::lens::{MAX_HOPS, SegLens};
 use arrayvec::ArrayVec;
 use std::marker::Model;
 
-/// The largest number of bytes of a path header: 4 of the meta field, 8 for each of three info
+/// The largest number of bytes of a path header, 796: 4 of the meta field, 8 for each of three info
 /// fields, and 12 for each of 64 hop fields.
-pub const MAX_HEADER_LEN: usize = 796;
+pub const MAX_HEADER_LEN: usize = 4 + 8 * 3 + 12 * MAX_HOPS;
 
 /// A path header: the fields of one to three segments, and the place of the packet on the path.
 ///
@@ -22,7 +22,7 @@ pub struct Header {
     pub(crate) curr_hf: u8,
     pub(crate) lens: SegLens,
     pub(crate) infos: ArrayVec<InfoField, 3>,
-    pub(crate) hops: ArrayVec<HopField, 64>,
+    pub(crate) hops: ArrayVec<HopField, MAX_HOPS>,
 }
 
 impl Model for Header {
@@ -110,7 +110,7 @@ impl Header {
     pub fn of_lists(
         lens: [u8; 3],
         infos: ArrayVec<InfoField, 3>,
-        hops: ArrayVec<HopField, 64>,
+        hops: ArrayVec<HopField, MAX_HOPS>,
     ) -> Result<Header, HeaderFault>
         ensures { result ≡ new_header (lens_from lens) infos.items hops.items }
     {

@@ -5,6 +5,12 @@ ghost use Rattle.path_header.specs.Reversal.{reversed_lens};
 
 use crate::fault::HeaderFault;
 
+/// The largest number of hop fields of a path.
+pub const MAX_HOPS: usize = 64;
+
+/// The largest length of a segment, which has six bits.
+const MAX_SEGMENT_HOPS: u8 = 63;
+
 /// The number of hop fields in each of the up to three segments of a path; 0 means no segment.
 #[derive(Clone, Copy, Debug, PartialEq, Eq)]
 pub struct SegLens {
@@ -49,10 +55,13 @@ impl SegLens {
         ensures valid { OnOk result (AreLens self) }
     {
         let has_gap = self.first == 0 || (self.second == 0 && self.third > 0);
-        if has_gap || self.first > 63 || self.second > 63 || self.third > 63 {
+        let is_wide = self.first > MAX_SEGMENT_HOPS
+            || self.second > MAX_SEGMENT_HOPS
+            || self.third > MAX_SEGMENT_HOPS;
+        if has_gap || is_wide {
             return Err(HeaderFault::SegLens);
         }
-        if self.hop_count() > 64 {
+        if self.hop_count() > MAX_HOPS {
             return Err(HeaderFault::TooManyHops);
         }
         Ok(self)

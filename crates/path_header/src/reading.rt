@@ -7,7 +7,7 @@ ghost use Rattle.refusal.specs.Refusal.{Gives};
 use crate::fault::HeaderFault;
 use crate::fields::{HopField, InfoField};
 use crate::header::Header;
-use crate::lens::SegLens;
+use crate::lens::{MAX_HOPS, SegLens};
 use crate::meta::Meta;
 use arrayvec::ArrayVec;
 use isd_as::IfId;
@@ -181,7 +181,7 @@ fn infos_of(bytes: &[u8], count: usize) -> Result<ArrayVec<InfoField, 3>, Header
 }
 
 /// `count` hop fields, one after another.
-fn hops_of(bytes: &[u8], count: usize) -> Result<ArrayVec<HopField, 64>, HeaderFault>
+fn hops_of(bytes: &[u8], count: usize) -> Result<ArrayVec<HopField, MAX_HOPS>, HeaderFault>
     requires few { count ≤ 64 }
     requires long { 12 * count ≤ length bytes.now }
     ensures len { IfOk result (λ v. length v.items ≡ count) }

@@ -10,9 +10,3 @@ code_and_name TooLong = (31, codes "TooLong")
 code_and_name BadEnds = (32, codes "BadEnds")
 code_and_name Loop = (33, codes "Loop")
 code_and_name NotJson = (34, codes "NotJson")
-
-abbrev pub code_of : SegmentFault → ℕ
-code_of refusal = (code_and_name refusal).0
-
-abbrev pub name_of : SegmentFault → List ℕ
-name_of refusal = (code_and_name refusal).1

@@ -1,8 +1,6 @@
-ghost use Rattle.std.specs.Prelude.{◌≡◌};
-ghost use Rattle.path_segment.specs.Fault.{code_of, name_of};
-ghost use Rattle.refusal.specs.declared.fault.OrMemory.TheVariants.{Refused};
+ghost use Rattle.path_segment.specs.Fault as faults;
 
-use refusal::OrMemory;
+use refusal::{NumberedFault, OrMemory};
 use thiserror::Error;
 
 /// Why entries are no beacon or no segment, or why a text is no segment.
@@ -26,41 +24,19 @@ pub enum SegmentFault {
     NotJson,
 }
 
-impl SegmentFault {
-    /// The number by which lines of text report this refusal.
-    pub fn code(self) -> u16
-        ensures { result ≡ code_of self }
-    {
-        match self {
-            SegmentFault::TooShort => 30,
-            SegmentFault::TooLong => 31,
-            SegmentFault::BadEnds => 32,
-            SegmentFault::Loop => 33,
-            SegmentFault::NotJson => 34,
-        }
-    }
+impl NumberedFault for SegmentFault {
+    ghost code_and_name = { faults.code_and_name };
 
-    /// The name by which lines of text report this refusal.
-    pub fn name(self) -> &'static str
-        ensures { result.now ≡ name_of self }
-    {
+    fn code_and_name(self) -> (u16, &'static str) {
         match self {
-            SegmentFault::TooShort => "TooShort",
-            SegmentFault::TooLong => "TooLong",
-            SegmentFault::BadEnds => "BadEnds",
-            SegmentFault::Loop => "Loop",
-            SegmentFault::NotJson => "NotJson",
+            Self::TooShort => (30, "TooShort"),
+            Self::TooLong => (31, "TooLong"),
+            Self::BadEnds => (32, "BadEnds"),
+            Self::Loop => (33, "Loop"),
+            Self::NotJson => (34, "NotJson"),
         }
     }
 }
 
 /// Why a call that takes memory returned no beacon or segment.
 pub type SegmentError = OrMemory<SegmentFault>;
-
-impl From<SegmentFault> for OrMemory<SegmentFault> {
-    ghost from_gives = { λ fault e. e ≡ Refused fault };
-
-    fn from(fault: SegmentFault) -> OrMemory<SegmentFault> {
-        OrMemory::Refused(fault)
-    }
-}

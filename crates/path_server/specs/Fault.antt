@@ -11,12 +11,6 @@ abbrev pub code_and_name : StoreFault → ℕ × List ℕ
 code_and_name Full = (50, codes "Full")
 code_and_name Expired = (51, codes "Expired")
 
-abbrev pub code_of : StoreFault → ℕ
-code_of refusal = (code_and_name refusal).0
-
-abbrev pub name_of : StoreFault → List ℕ
-name_of refusal = (code_and_name refusal).1
-
 -- the error fits the wanted answer: its refusal, or running out of memory if a new segment was to
 -- be stored
 abbrev pub FailsToTake : OrMemory StoreFault → Result Bool StoreFault → Type 0

@@ -1,7 +1,6 @@
-ghost use Rattle.std.specs.Prelude.{◌≡◌};
-ghost use Rattle.path_server.specs.Fault.{code_of, name_of};
+ghost use Rattle.path_server.specs.Fault as faults;
 
-use refusal::OrMemory;
+use refusal::{NumberedFault, OrMemory};
 use thiserror::Error;
 
 /// Why a path store refuses a segment.
@@ -15,24 +14,13 @@ pub enum StoreFault {
     Expired,
 }
 
-impl StoreFault {
-    /// The number by which lines of text report this refusal.
-    pub fn code(self) -> u16
-        ensures { result ≡ code_of self }
-    {
-        match self {
-            StoreFault::Full => 50,
-            StoreFault::Expired => 51,
-        }
-    }
+impl NumberedFault for StoreFault {
+    ghost code_and_name = { faults.code_and_name };
 
-    /// The name by which lines of text report this refusal.
-    pub fn name(self) -> &'static str
-        ensures { result.now ≡ name_of self }
-    {
+    fn code_and_name(self) -> (u16, &'static str) {
         match self {
-            StoreFault::Full => "Full",
-            StoreFault::Expired => "Expired",
+            Self::Full => (50, "Full"),
+            Self::Expired => (51, "Expired"),
         }
     }
 }

@@ -1,5 +1,5 @@
 -- Rules and the faults that are their breaches, in the order of the faults' numbers.
-use Rattle.std.proofs.Common.{◌≡◌, ℕ, suc, ◌<◌, ◌≤◌, ◌==◌, cond, List, Option, Some, None, refl, sym, ap, ◌∙◌, subst, inl, inr, arith}
+use Rattle.std.proofs.Common.{◌≡◌, ℕ, suc, ◌<◌, ◌==◌, cond, List, Option, Some, None, refl, sym, ap, ◌∙◌, subst, inl, inr, arith}
 use Rattle.std.specs.Prelude.{◌↔◌, nat_lt}
 use Rattle.std.proofs.lemmas.Bool.{cases_Bool, eqb-true, eqb-false, ltb-true, ltb-false}
 use Rattle.policy_expr.specs.declared.hop.WalkHop.{WalkHop}
@@ -73,24 +73,6 @@ same_rule request one other same kept =
 -- the rules of lower numbers are kept
 abbrev pub KeepsBelow : Request → ℕ → Type 0
 KeepsBelow request code = (fault : VerifyFault) → code_of fault < code → Keeps request fault
-
-from_70 : (fault : VerifyFault) → 70 ≤ code_of fault
-from_70 PieceCount = omega arith
-from_70 Range = omega arith
-from_70 Kinds = omega arith
-from_70 CutAtCore = omega arith
-from_70 NotJoined = omega arith
-from_70 Source = omega arith
-from_70 Destination = omega arith
-from_70 TooManyHops = omega arith
-from_70 Loop = omega arith
-from_70 Expired = omega arith
-from_70 HeaderDiffers = omega arith
-from_70 (AclDenied denied) = omega arith
-from_70 SequenceMismatch = omega arith
-
-below_70 : (request : Request) → KeepsBelow request 70
-below_70 request fault less = absurd (let least = from_70 fault in omega arith)
 
 -- with one rule more
 pub further : (request : Request) (fault : VerifyFault) → KeepsBelow request (code_of fault)

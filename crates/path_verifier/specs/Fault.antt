@@ -19,8 +19,6 @@ code_and_name HeaderDiffers = (80, codes "HeaderDiffers")
 code_and_name (AclDenied denied) = (81, codes "AclDenied")
 code_and_name SequenceMismatch = (82, codes "SequenceMismatch")
 
+-- the number of a refusal; the rules of a path are looked at in the order of these numbers
 abbrev pub code_of : VerifyFault → ℕ
 code_of refusal = (code_and_name refusal).0
-
-abbrev pub name_of : VerifyFault → List ℕ
-name_of refusal = (code_and_name refusal).1

@@ -1,7 +1,7 @@
-ghost use Rattle.std.specs.Prelude.{◌≡◌};
-ghost use Rattle.path_verifier.specs.Fault.{code_of, name_of};
+ghost use Rattle.path_verifier.specs.Fault as faults;
 
 use policy_expr::Denied;
+use refusal::NumberedFault;
 use thiserror::Error;
 
 /// Why a path may not be sent.
@@ -51,46 +51,24 @@ pub enum VerifyFault {
     SequenceMismatch,
 }
 
-impl VerifyFault {
-    /// The number by which lines of text report this refusal.
-    pub fn code(self) -> u16
-        ensures { result ≡ code_of self }
-    {
-        match self {
-            VerifyFault::PieceCount => 70,
-            VerifyFault::Range => 71,
-            VerifyFault::Kinds => 72,
-            VerifyFault::CutAtCore => 73,
-            VerifyFault::NotJoined => 74,
-            VerifyFault::Source => 75,
-            VerifyFault::Destination => 76,
-            VerifyFault::TooManyHops => 77,
-            VerifyFault::Loop => 78,
-            VerifyFault::Expired => 79,
-            VerifyFault::HeaderDiffers => 80,
-            VerifyFault::AclDenied(_) => 81,
-            VerifyFault::SequenceMismatch => 82,
-        }
-    }
+impl NumberedFault for VerifyFault {
+    ghost code_and_name = { faults.code_and_name };
 
-    /// The name by which lines of text report this refusal.
-    pub fn name(self) -> &'static str
-        ensures { result.now ≡ name_of self }
-    {
+    fn code_and_name(self) -> (u16, &'static str) {
         match self {
-            VerifyFault::PieceCount => "PieceCount",
-            VerifyFault::Range => "Range",
-            VerifyFault::Kinds => "Kinds",
-            VerifyFault::CutAtCore => "CutAtCore",
-            VerifyFault::NotJoined => "NotJoined",
-            VerifyFault::Source => "Source",
-            VerifyFault::Destination => "Destination",
-            VerifyFault::TooManyHops => "TooManyHops",
-            VerifyFault::Loop => "Loop",
-            VerifyFault::Expired => "Expired",
-            VerifyFault::HeaderDiffers => "HeaderDiffers",
-            VerifyFault::AclDenied(_) => "AclDenied",
-            VerifyFault::SequenceMismatch => "SequenceMismatch",
+            Self::PieceCount => (70, "PieceCount"),
+            Self::Range => (71, "Range"),
+            Self::Kinds => (72, "Kinds"),
+            Self::CutAtCore => (73, "CutAtCore"),
+            Self::NotJoined => (74, "NotJoined"),
+            Self::Source => (75, "Source"),
+            Self::Destination => (76, "Destination"),
+            Self::TooManyHops => (77, "TooManyHops"),
+            Self::Loop => (78, "Loop"),
+            Self::Expired => (79, "Expired"),
+            Self::HeaderDiffers => (80, "HeaderDiffers"),
+            Self::AclDenied(_) => (81, "AclDenied"),
+            Self::SequenceMismatch => (82, "SequenceMismatch"),
         }
     }
 }

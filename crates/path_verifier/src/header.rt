@@ -10,7 +10,7 @@ ghost use Rattle.path_verifier.specs.inner.Header.{HaveSixBits};
 use crate::piece::Piece;
 use crate::pieces::PieceSlots;
 use arrayvec::ArrayVec;
-use path_header::{Header, HopField, InfoField};
+use path_header::{Header, HopField, InfoField, MAX_HOPS};
 use path_segment::Entry;
 
 /// The header of these pieces, with the packet at the first info and hop field.
@@ -28,7 +28,7 @@ pub(crate) fn header_of(held: &PieceSlots<'_>) -> Header
 fn header_of_lists(
     lens: [u8; 3],
     infos: ArrayVec<InfoField, 3>,
-    fields: ArrayVec<HopField, 64>,
+    fields: ArrayVec<HopField, MAX_HOPS>,
 ) -> Header
     requires { IsHeader (first_header (lens_from lens) infos.items fields.items) }
     ensures { result ≡ first_header (lens_from lens) infos.items fields.items }
@@ -97,7 +97,7 @@ fn info_of(piece: &Piece<'_>) -> InfoField
 }
 
 /// The hop fields of all pieces.
-fn fields_of_all(held: &PieceSlots<'_>) -> ArrayVec<HopField, 64>
+fn fields_of_all(held: &PieceSlots<'_>) -> ArrayVec<HopField, MAX_HOPS>
     requires ranges { AllByRecursion HasRange (pieces_in held.now) }
     requires few { total_hops (pieces_in held.now) ≤ 64 }
     ensures { result.items ≡ flat_map fields_of (pieces_in held.now) }
@@ -120,7 +120,7 @@ fn fields_of_all(held: &PieceSlots<'_>) -> ArrayVec<HopField, 64>
 }
 
 /// Adds the hop fields of a piece at the end.
-fn push_fields(fields: &mut ArrayVec<HopField, 64>, piece: &Piece<'_>)
+fn push_fields(fields: &mut ArrayVec<HopField, MAX_HOPS>, piece: &Piece<'_>)
     requires range { HasRange piece.now }
     requires few { length fields.old.items + len_of piece.now ≤ 64 }
     ensures fields { fields.new.items ≡ fields.old.items ++ fields_of piece.now }

@@ -16,8 +16,8 @@ use crate::kind::PieceKind;
 use crate::kind::PieceKind::{Core, Down, Up};
 use crate::piece::Piece;
 use crate::pieces::PieceSlots;
-use crate::walk::MAX_HOPS;
 use isd_as::IsdAs;
+use path_header::MAX_HOPS;
 
 /// Succeeds if the pieces keep each rule from the first to the one on the number of hop fields;
 /// else returns the first fault.

@@ -11,12 +11,10 @@ use crate::pieces::PieceSlots;
 use arrayvec::ArrayVec;
 use doubles::has_double;
 use isd_as::{IfId, IsdAs};
+use path_header::MAX_HOPS;
 use path_segment::Entry;
 use policy_expr::WalkHop;
 use std::marker::Model;
-
-/// The largest number of hops of a walk, since a header has at most 64 hop fields.
-pub(crate) const MAX_HOPS: usize = 64;
 
 /// A walk of at most 64 hops.
 #[derive(Debug, Drop)]

@@ -12,9 +12,3 @@ code_and_name TooDeep = (63, codes "TooDeep")
 code_and_name TooLarge = (64, codes "TooLarge")
 code_and_name NoDefault = (65, codes "NoDefault")
 code_and_name AfterDefault = (66, codes "AfterDefault")
-
-abbrev pub code_of : PolicyFault → ℕ
-code_of refusal = (code_and_name refusal).0
-
-abbrev pub name_of : PolicyFault → List ℕ
-name_of refusal = (code_and_name refusal).1

@@ -11,12 +11,6 @@ abbrev pub code_and_name : OptionFault → ℕ × List ℕ
 code_and_name OptionCount = (67, codes "OptionCount")
 code_and_name (Unread fault) = policies.code_and_name fault
 
-abbrev pub code_of : OptionFault → ℕ
-code_of refusal = (code_and_name refusal).0
-
-abbrev pub name_of : OptionFault → List ℕ
-name_of refusal = (code_and_name refusal).1
-
 -- the value of an option: its policy and its weight
 pub record WeighedRules : Type 0 where
   pub rules : Rules

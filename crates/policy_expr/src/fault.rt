@@ -1,10 +1,9 @@
 ghost use Rattle.std.specs.Prelude.{◌≡◌};
-ghost use Rattle.policy_expr.specs.Fault.{code_of, name_of};
-ghost use Rattle.refusal.specs.declared.fault.OrMemory.TheVariants.{Refused};
+ghost use Rattle.policy_expr.specs.Fault as faults;
 ghost use Rattle.policy_expr.specs.declared.fault.PolicyFault.TheVariants.{BadPredicate};
 
 use isd_as::AddrFault;
-use refusal::OrMemory;
+use refusal::{NumberedFault, OrMemory};
 use thiserror::Error;
 
 /// Why a text is no policy.
@@ -33,34 +32,18 @@ pub enum PolicyFault {
     AfterDefault,
 }
 
-impl PolicyFault {
-    /// The number by which lines of text report this refusal.
-    pub fn code(self) -> u16
-        ensures { result ≡ code_of self }
-    {
-        match self {
-            PolicyFault::UnexpectedEnd => 60,
-            PolicyFault::BadPredicate => 61,
-            PolicyFault::Unbalanced => 62,
-            PolicyFault::TooDeep => 63,
-            PolicyFault::TooLarge => 64,
-            PolicyFault::NoDefault => 65,
-            PolicyFault::AfterDefault => 66,
-        }
-    }
+impl NumberedFault for PolicyFault {
+    ghost code_and_name = { faults.code_and_name };
 
-    /// The name by which lines of text report this refusal.
-    pub fn name(self) -> &'static str
-        ensures { result.now ≡ name_of self }
-    {
+    fn code_and_name(self) -> (u16, &'static str) {
         match self {
-            PolicyFault::UnexpectedEnd => "UnexpectedEnd",
-            PolicyFault::BadPredicate => "BadPredicate",
-            PolicyFault::Unbalanced => "Unbalanced",
-            PolicyFault::TooDeep => "TooDeep",
-            PolicyFault::TooLarge => "TooLarge",
-            PolicyFault::NoDefault => "NoDefault",
-            PolicyFault::AfterDefault => "AfterDefault",
+            Self::UnexpectedEnd => (60, "UnexpectedEnd"),
+            Self::BadPredicate => (61, "BadPredicate"),
+            Self::Unbalanced => (62, "Unbalanced"),
+            Self::TooDeep => (63, "TooDeep"),
+            Self::TooLarge => (64, "TooLarge"),
+            Self::NoDefault => (65, "NoDefault"),
+            Self::AfterDefault => (66, "AfterDefault"),
         }
     }
 }
@@ -75,11 +58,3 @@ impl From<AddrFault> for PolicyFault {
 
 /// Why a call that takes memory returned no policy: memory ran out, or a refusal.
 pub type PolicyError = OrMemory<PolicyFault>;
-
-impl From<PolicyFault> for OrMemory<PolicyFault> {
-    ghost from_gives = { λ f e. e ≡ Refused f };
-
-    fn from(fault: PolicyFault) -> OrMemory<PolicyFault> {
-        OrMemory::Refused(fault)
-    }
-}

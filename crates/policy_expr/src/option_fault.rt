@@ -1,10 +1,9 @@
 ghost use Rattle.std.specs.Prelude.{◌≡◌};
-ghost use Rattle.policy_expr.specs.Options.{code_of, name_of};
-ghost use Rattle.refusal.specs.declared.fault.OrMemory.TheVariants.{Refused};
+ghost use Rattle.policy_expr.specs.Options as options;
 ghost use Rattle.policy_expr.specs.declared.option_fault.OptionFault.TheVariants.{Unread};
 
 use crate::fault::PolicyFault;
-use refusal::OrMemory;
+use refusal::{NumberedFault, OrMemory};
 use thiserror::Error;
 
 /// Why texts are no options of a request.
@@ -18,24 +17,13 @@ pub enum OptionFault {
     Unread(PolicyFault),
 }
 
-impl OptionFault {
-    /// The number by which lines of text report this refusal.
-    pub fn code(self) -> u16
-        ensures { result ≡ code_of self }
-    {
-        match self {
-            OptionFault::OptionCount => 67,
-            OptionFault::Unread(fault) => fault.code(),
-        }
-    }
+impl NumberedFault for OptionFault {
+    ghost code_and_name = { options.code_and_name };
 
-    /// The name by which lines of text report this refusal.
-    pub fn name(self) -> &'static str
-        ensures { result.now ≡ name_of self }
-    {
+    fn code_and_name(self) -> (u16, &'static str) {
         match self {
-            OptionFault::OptionCount => "OptionCount",
-            OptionFault::Unread(fault) => fault.name(),
+            Self::OptionCount => (67, "OptionCount"),
+            Self::Unread(fault) => fault.code_and_name(),
         }
     }
 }
@@ -50,11 +38,3 @@ impl From<PolicyFault> for OptionFault {
 
 /// Why a call that takes memory returned no options: memory ran out, or a refusal.
 pub type OptionError = OrMemory<OptionFault>;
-
-impl From<OptionFault> for OrMemory<OptionFault> {
-    ghost from_gives = { λ f e. e ≡ Refused f };
-
-    fn from(fault: OptionFault) -> OrMemory<OptionFault> {
-        OrMemory::Refused(fault)
-    }
-}

@@ -1,6 +1,7 @@
 ghost use Rattle.std.specs.Prelude.{◌≡◌};
-ghost use Rattle.refusal.specs.declared.fault.OrMemory.TheVariants.{Memory};
+ghost use Rattle.refusal.specs.declared.fault.OrMemory.TheVariants.{Memory, Refused};
 
+use crate::numbered_fault::NumberedFault;
 use std::alloc::{AllocError, AllocFailed};
 use std::fmt::Display;
 use thiserror::Error;
@@ -29,5 +30,13 @@ impl<F: Display, T: Drop> From<AllocFailed<T>> for OrMemory<F> {
 
     fn from(_error: AllocFailed<T>) -> OrMemory<F> {
         OrMemory::Memory
+    }
+}
+
+impl<F: NumberedFault> From<F> for OrMemory<F> {
+    ghost from_gives = { λ fault e. e ≡ Refused fault };
+
+    fn from(fault: F) -> OrMemory<F> {
+        OrMemory::Refused(fault)
     }
 }

@@ -5,5 +5,7 @@
 #![tactic(auto)]
 
 mod fault;
+mod numbered_fault;
 
 pub use fault::OrMemory;
+pub use numbered_fault::NumberedFault;

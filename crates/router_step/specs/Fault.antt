@@ -1,5 +1,7 @@
 -- The refusals of router steps, as lines of text report them.
-use Rattle.std.specs.Prelude.{ℕ, List, codes}
+use Rattle.std.specs.Prelude.{ℕ, List, ◌++◌, codes}
+use Rattle.refusal.specs.Fault.{code_text}
+use Rattle.path_header.specs.Fault as header
 use Rattle.router_step.specs.declared.fault.Refusal.{Refusal}
 use Rattle.router_step.specs.declared.fault.Refusal.TheVariants.{BadHeader, IndexMismatch, WrongIngress, Expired, BadMac, SourceAs, DestinationAs, SwitchInside, UnknownEgress, LinkKinds, LinkDown}
 
@@ -17,8 +19,10 @@ code_and_name UnknownEgress = (98, codes "UnknownEgress")
 code_and_name LinkKinds = (99, codes "LinkKinds")
 code_and_name LinkDown = (100, codes "LinkDown")
 
-abbrev pub code_of : Refusal → ℕ
-code_of refusal = (code_and_name refusal).0
-
-abbrev pub name_of : Refusal → List ℕ
-name_of refusal = (code_and_name refusal).1
+-- a refusal as text: `CODE Name`; for a packet without a path header, also that of the header's
+-- refusal
+abbrev pub refusal_text : Refusal → List ℕ
+refusal_text (BadHeader fault) =
+    code_text (code_and_name (BadHeader fault))
+    ++ (codes " " ++ code_text (header.code_and_name fault))
+refusal_text refusal = code_text (code_and_name refusal)

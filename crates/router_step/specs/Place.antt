@@ -5,9 +5,9 @@ use Rattle.path_header.specs.declared.fields.InfoField.{InfoField}
 use Rattle.path_header.specs.declared.fields.HopField.{HopField}
 use Rattle.path_header.specs.Value.{HeaderValue}
 use Rattle.router_step.specs.declared.arrival.Arrival.{Arrival}
-use Rattle.router_step.specs.declared.arrival.Arrival.TheVariants.{FromHost, Inside, Link}
+use Rattle.router_step.specs.declared.arrival.Arrival.TheVariants.{Link}
 use Rattle.router_step.specs.declared.outcome.Outcome.{Outcome}
-use Rattle.router_step.specs.declared.outcome.Outcome.TheVariants.{ToLink, ToRouter, Deliver}
+use Rattle.router_step.specs.declared.outcome.Outcome.TheVariants.{ToLink}
 
 -- the info field of this index
 abbrev pub info_field_at : HeaderValue → ℕ → InfoField

@@ -1,7 +1,11 @@
-ghost use Rattle.std.specs.Prelude.{◌≡◌};
-ghost use Rattle.router_step.specs.Fault.{code_of, name_of};
+ghost use Rattle.std.specs.Prelude.{◌≡◌, ◌++◌, OnOk};
+ghost use Rattle.std.specs.String.{string_bytes};
+ghost use Rattle.router_step.specs.Fault as faults;
+ghost use Rattle.router_step.specs.Fault.{refusal_text};
 
 use path_header::HeaderFault;
+use refusal::NumberedFault;
+use std::alloc::AllocError;
 use thiserror::Error;
 
 /// Why a router refuses a packet: the first check that fails, in the order of the variants. A
@@ -45,42 +49,38 @@ pub enum Refusal {
     LinkDown,
 }
 
-impl Refusal {
-    /// The number by which lines of text report this refusal.
-    pub fn code(self) -> u16
-        ensures { result ≡ code_of self }
-    {
+impl NumberedFault for Refusal {
+    ghost code_and_name = { faults.code_and_name };
+
+    fn code_and_name(self) -> (u16, &'static str) {
         match self {
-            Refusal::BadHeader(_) => 90,
-            Refusal::IndexMismatch => 91,
-            Refusal::WrongIngress => 92,
-            Refusal::Expired => 93,
-            Refusal::BadMac => 94,
-            Refusal::SourceAs => 95,
-            Refusal::DestinationAs => 96,
-            Refusal::SwitchInside => 97,
-            Refusal::UnknownEgress => 98,
-            Refusal::LinkKinds => 99,
-            Refusal::LinkDown => 100,
+            Self::BadHeader(_) => (90, "BadHeader"),
+            Self::IndexMismatch => (91, "IndexMismatch"),
+            Self::WrongIngress => (92, "WrongIngress"),
+            Self::Expired => (93, "Expired"),
+            Self::BadMac => (94, "BadMac"),
+            Self::SourceAs => (95, "SourceAs"),
+            Self::DestinationAs => (96, "DestinationAs"),
+            Self::SwitchInside => (97, "SwitchInside"),
+            Self::UnknownEgress => (98, "UnknownEgress"),
+            Self::LinkKinds => (99, "LinkKinds"),
+            Self::LinkDown => (100, "LinkDown"),
         }
     }
+}
 
-    /// The name by which lines of text report this refusal, without that of the header's refusal.
-    pub fn name(self) -> &'static str
-        ensures { result.now ≡ name_of self }
+impl Refusal {
+    /// Adds the number and the name to a text; for a packet without a path header, also those of
+    /// the header's refusal. `AllocError` if memory runs out; the text may then end with a part of
+    /// them.
+    pub fn push_to(self, text: &mut String) -> Result<(), AllocError>
+        ensures { OnOk result
+            (string_bytes text.new ≡ string_bytes text.old ++ refusal_text self) }
     {
+        write!(text, "{} {}", self.code(), self.name())?;
         match self {
-            Refusal::BadHeader(_) => "BadHeader",
-            Refusal::IndexMismatch => "IndexMismatch",
-            Refusal::WrongIngress => "WrongIngress",
-            Refusal::Expired => "Expired",
-            Refusal::BadMac => "BadMac",
-            Refusal::SourceAs => "SourceAs",
-            Refusal::DestinationAs => "DestinationAs",
-            Refusal::SwitchInside => "SwitchInside",
-            Refusal::UnknownEgress => "UnknownEgress",
-            Refusal::LinkKinds => "LinkKinds",
-            Refusal::LinkDown => "LinkDown",
+            Self::BadHeader(fault) => write!(text, " {} {}", fault.code(), fault.name()),
+            _ => Ok(()),
         }
     }
 }

@@ -7,9 +7,3 @@ use Rattle.router_workers.specs.declared.fault.RunFault.TheVariants.{Workers, Me
 abbrev pub code_and_name : RunFault → ℕ × List ℕ
 code_and_name Workers = (120, codes "Workers")
 code_and_name Memory = (121, codes "Memory")
-
-abbrev pub code_of : RunFault → ℕ
-code_of refusal = (code_and_name refusal).0
-
-abbrev pub name_of : RunFault → List ℕ
-name_of refusal = (code_and_name refusal).1

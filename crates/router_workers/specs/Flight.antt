@@ -26,16 +26,22 @@ pub record SentPacket : Type 0 where
   pub header : HeaderValue
   pub payload : List ℕ
 
+-- what is sent, from its parts
+abbrev pub sent_with : ℕ → ℕ → List PieceValue → HeaderValue → List ℕ → SentPacket
+sent_with source destination pieces header payload =
+    record {
+      source = source;
+      destination = destination;
+      pieces = pieces;
+      header = header;
+      payload = payload;
+    }
+
 -- a shipment of a network without its policy
 abbrev pub sent_packet_of : Shipment → SentPacket
 sent_packet_of sent =
-    record {
-      source = sent.way.source;
-      destination = sent.way.destination;
-      pieces = sent.way.pieces;
-      header = sent.way.header;
-      payload = sent.payload;
-    }
+    let way = sent.way in
+    sent_with way.source way.destination way.pieces way.header sent.payload
 
 -- a flight: its network, what was sent, the number of its turns, and the packet after them
 pub record FlightValue : Type 0 where
@@ -43,6 +49,11 @@ pub record FlightValue : Type 0 where
   pub sent : SentPacket
   pub turns : ℕ
   pub packet : Packet
+
+-- a flight from its parts
+abbrev pub flight_with : Network → SentPacket → ℕ → Packet → FlightValue
+flight_with fabric sent turns packet =
+    record { fabric = fabric; sent = sent; turns = turns; packet = packet }
 
 -- the packet at the start of a flight: at the router that owns the first way out of its walk
 abbrev pub put_with : SentPacket → Result ℕ TopologyFault → Result Packet TopologyFault
@@ -55,7 +66,7 @@ departed n sent = put_with sent (owner_in n sent.source (first_out (walk_of sent
 
 -- a flight without any turns
 abbrev pub grounded : Network → SentPacket → Packet → FlightValue
-grounded n sent start = record { fabric = n; sent = sent; turns = 0; packet = start }
+grounded n sent start = flight_with n sent 0 start
 
 -- the flight after one more turn, at this second
 abbrev pub advanced_flight : ℕ → FlightValue → FlightValue

@@ -1,6 +1,6 @@
-ghost use Rattle.std.specs.Prelude.{◌≡◌};
-ghost use Rattle.router_workers.specs.Fault.{code_of, name_of};
+ghost use Rattle.router_workers.specs.Fault as faults;
 
+use refusal::NumberedFault;
 use std::alloc::AllocError;
 use thiserror::Error;
 
@@ -15,24 +15,13 @@ pub enum RunFault {
     Memory,
 }
 
-impl RunFault {
-    /// The number by which lines of text report this refusal.
-    pub fn code(self) -> u16
-        ensures { result ≡ code_of self }
-    {
-        match self {
-            RunFault::Workers => 120,
-            RunFault::Memory => 121,
-        }
-    }
+impl NumberedFault for RunFault {
+    ghost code_and_name = { faults.code_and_name };
 
-    /// The name by which lines of text report this refusal.
-    pub fn name(self) -> &'static str
-        ensures { result.now ≡ name_of self }
-    {
+    fn code_and_name(self) -> (u16, &'static str) {
         match self {
-            RunFault::Workers => "Workers",
-            RunFault::Memory => "Memory",
+            Self::Workers => (120, "Workers"),
+            Self::Memory => (121, "Memory"),
         }
     }
 }

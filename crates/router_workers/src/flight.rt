@@ -33,35 +33,17 @@ pub struct Flight<'a> {
 }
 
 impl<'a> Model for Flight<'a> {
-    ghost use Rattle.router_workers.specs.Flight.{FlightValue, IsFlight};
+    ghost use Rattle.router_workers.specs.Flight.{FlightValue, IsFlight, flight_with, sent_with};
 
     ghost Value = { FlightValue };
 
-    ghost view = { λ f. record {
-      fabric = f.fabric.now;
-      sent = record {
-        source = f.source;
-        destination = f.destination;
-        pieces = f.pieces.now;
-        header = f.header.now;
-        payload = f.payload.now;
-      };
-      turns = f.turns;
-      packet = f.transit;
-    } };
+    ghost view = { λ f. flight_with f.fabric.now
+        (sent_with f.source f.destination f.pieces.now f.header.now f.payload.now) f.turns
+        f.transit };
 
-    ghost invariant = { λ f. IsFlight (record {
-      fabric = f.fabric.now;
-      sent = record {
-        source = f.source;
-        destination = f.destination;
-        pieces = f.pieces.now;
-        header = f.header.now;
-        payload = f.payload.now;
-      };
-      turns = f.turns;
-      packet = f.transit;
-    }) };
+    ghost invariant = { λ f. IsFlight (flight_with f.fabric.now
+        (sent_with f.source f.destination f.pieces.now f.header.now f.payload.now) f.turns
+        f.transit) };
 }
 
 impl<'a> Flight<'a> {

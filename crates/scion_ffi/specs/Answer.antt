@@ -8,7 +8,7 @@ use Rattle.router_step.specs.declared.outcome.Outcome.{Outcome}
 use Rattle.router_step.specs.declared.outcome.Outcome.TheVariants.{ToLink, ToRouter, Deliver}
 use Rattle.router_step.specs.declared.fault.Refusal.{Refusal}
 use Rattle.router_step.specs.declared.fault.Refusal.TheVariants.{BadHeader}
-use Rattle.router_step.specs.Fault.{code_of}
+use Rattle.router_step.specs.Fault as router
 use Rattle.scion_ffi.specs.declared.answer.ScionAnswer.{ScionAnswer}
 
 -- the answer of a code and a number
@@ -27,13 +27,14 @@ outcome_answer Deliver = answer 2 0
 
 -- the answer about a refused packet, with the header's refusal if there is no path header
 abbrev pub refusal_answer : Refusal → ScionAnswer
-refusal_answer (BadHeader fault) = answer 90 (header.code_of fault)
-refusal_answer refusal = answer (code_of refusal) 0
+refusal_answer (BadHeader fault) =
+    answer (router.code_and_name (BadHeader fault)).0 (header.code_and_name fault).0
+refusal_answer refusal = answer (router.code_and_name refusal).0 0
 
 -- the answer about parts that are no router
 abbrev pub view_answer : TopologyFault → ScionAnswer
-view_answer fault = answer (topology.code_of fault) 0
+view_answer fault = answer (topology.code_and_name fault).0 0
 
 -- the answer about bytes without a path header
 abbrev pub header_answer : HeaderFault → ScionAnswer
-header_answer fault = answer (header.code_of fault) 0
+header_answer fault = answer (header.code_and_name fault).0 0

@@ -4,6 +4,7 @@ ghost use Rattle.std.specs.Prelude.{◌≡◌};
 ghost use Rattle.scion_ffi.specs.Answer.{answer, bad_call, header_answer, outcome_answer, refusal_answer, view_answer};
 
 use path_header::HeaderFault;
+use refusal::NumberedFault;
 use router_step::{Outcome, Refusal};
 use scion_topology::TopologyFault;
 

@@ -1,12 +1,12 @@
 -- The answers to requests for paths.
-use Rattle.std.specs.Prelude.{◌≡◌, ℕ, ◌&&◌, nat_le, List, [], Result, Ok, Err}
+use Rattle.std.specs.Prelude.{◌≡◌, ℕ, List, [], Result, Ok, Err}
 use Rattle.std.specs.List.{fold}
 use Rattle.refusal.specs.Refusal.{◌>>=◌, check, refused_as}
 use Rattle.path_segment.specs.Chain.{Chain}
 use Rattle.path_server.specs.Store.{registered}
 use Rattle.path_server.specs.Lookup.{Selection, segments_for}
 use Rattle.policy_expr.specs.Options.{WeighedRules, options_at}
-use Rattle.combinator.specs.Answer.{AnswerValue, AnswersWith}
+use Rattle.combinator.specs.Answer.{AnswerValue, AnswersWith, is_limit}
 use Rattle.combinator.specs.Fault.{ends_at}
 use Rattle.scion_ffi_paths.specs.declared.fault.RequestFault.{RequestFault}
 use Rattle.scion_ffi_paths.specs.declared.fault.RequestFault.TheVariants.{BadLimit, Policy, Ends}
@@ -16,7 +16,7 @@ use Rattle.scion_ffi_paths.specs.Text.{fault_text, paths_text}
 -- the options of a request, or its first refusal
 unfoldable pub options_of_request : PathsAsked → Result (List WeighedRules) RequestFault
 options_of_request request = do
-  _ ← check (nat_le 1 request.limit && nat_le request.limit 64) BadLimit
+  _ ← check (is_limit request.limit) BadLimit
   options ← refused_as Policy (options_at request.asked.options)
   _ ← refused_as Ends (ends_at request.asked.src request.asked.dst)
   Ok options

@@ -20,12 +20,6 @@ code_and_name (Ends fault) = ends.code_and_name fault
 code_and_name (Header fault) = headers.code_and_name fault
 code_and_name (Path fault) = paths.code_and_name fault
 
-abbrev pub code_of : RequestFault → ℕ
-code_of refusal = (code_and_name refusal).0
-
-abbrev pub name_of : RequestFault → List ℕ
-name_of refusal = (code_and_name refusal).1
-
 -- the refusal of a request because of a segment; a segment of the wrong form makes the request one
 abbrev pub of_segment : SegmentFault → RequestFault
 of_segment NotJson = BadRequest

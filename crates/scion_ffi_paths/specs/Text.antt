@@ -12,7 +12,7 @@ use Rattle.combinator.specs.Candidate.{PathValue}
 use Rattle.event_lines.specs.Text.{hops_text, kinds_text}
 use Rattle.scion_ffi_paths.specs.declared.fault.RequestFault.{RequestFault}
 use Rattle.scion_ffi_paths.specs.Expiry.{path_expiry}
-use Rattle.scion_ffi_paths.specs.Fault.{code_of, name_of}
+use Rattle.scion_ffi_paths.specs.Fault.{code_and_name}
 
 -- the place in the list of the first segment that equals this one
 unfoldable pub place_in_list : Chain → List Chain → ℕ
@@ -58,5 +58,5 @@ accepted_text pieces =
 -- a refusal: its number and its name
 unfoldable pub fault_text : RequestFault → List ℕ
 fault_text fault =
-    codes "{\"code\":" ++ (decimal (code_of fault)
-    ++ (codes ",\"name\":\"" ++ (name_of fault ++ codes "\"}")))
+    codes "{\"code\":" ++ (decimal (code_and_name fault).0
+    ++ (codes ",\"name\":\"" ++ ((code_and_name fault).1 ++ codes "\"}")))

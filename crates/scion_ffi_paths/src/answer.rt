@@ -7,15 +7,12 @@ ghost use Rattle.scion_ffi_paths.specs.Answer.{options_of_request, selection_of,
 
 use crate::fault::{RequestError, RequestFault};
 use crate::request::{PathsRequest, Request};
-use combinator::CombineFault;
+use combinator::{CombineFault, is_limit};
 use path_segment::Segment;
 use path_server::{PathStore, SegmentSet, StoreOp};
 use policy_expr::{OwnedOptionText, PolicyOption};
 use refusal::OrMemory;
 use std::alloc::{AllocError, Global};
-
-/// The largest number of paths that a request may ask for.
-const MAX_LIMIT: u32 = 64;
 
 /// The options of a request, or its first refusal.
 #[tactic(auto, unfolding(crate::specs::Answer::options_of_request))]
@@ -27,7 +24,7 @@ pub(crate) fn options(
     ensures some { OnOk result (0 < request.now.limit) }
     ensures ends { OnOk result (ends_at request.now.asked.src request.now.asked.dst ≡ Ok tt) }
 {
-    if request.limit == 0 || request.limit > MAX_LIMIT {
+    if !is_limit(request.limit as usize) {
         return Err(OrMemory::Refused(RequestFault::BadLimit));
     }
     let texts = OwnedOptionText::lend_all(alloc, &request.asked.options)?;

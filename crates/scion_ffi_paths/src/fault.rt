@@ -1,13 +1,13 @@
 ghost use Rattle.std.specs.Prelude.{◌≡◌};
-ghost use Rattle.refusal.specs.declared.fault.OrMemory.TheVariants.{Refused};
-ghost use Rattle.scion_ffi_paths.specs.Fault.{code_of, name_of, of_segment};
+ghost use Rattle.scion_ffi_paths.specs.Fault as faults;
+ghost use Rattle.scion_ffi_paths.specs.Fault.{of_segment};
 
 use combinator::CombineFault;
 use path_header::HeaderFault;
 use path_segment::SegmentFault;
 use path_verifier::VerifyFault;
 use policy_expr::OptionFault;
-use refusal::OrMemory;
+use refusal::{NumberedFault, OrMemory};
 use thiserror::Error;
 
 /// Why a request is refused.
@@ -46,45 +46,23 @@ impl RequestFault {
             broken => RequestFault::Segment(broken),
         }
     }
+}
 
-    /// The number by which answers report this refusal.
-    pub fn code(self) -> u16
-        ensures { result ≡ code_of self }
-    {
-        match self {
-            RequestFault::BadRequest => 150,
-            RequestFault::Segment(fault) => fault.code(),
-            RequestFault::BadLimit => 137,
-            RequestFault::Policy(fault) => fault.code(),
-            RequestFault::Ends(fault) => fault.code(),
-            RequestFault::Header(fault) => fault.code(),
-            RequestFault::Path(fault) => fault.code(),
-        }
-    }
+impl NumberedFault for RequestFault {
+    ghost code_and_name = { faults.code_and_name };
 
-    /// The name by which answers report this refusal.
-    pub fn name(self) -> &'static str
-        ensures { result.now ≡ name_of self }
-    {
+    fn code_and_name(self) -> (u16, &'static str) {
         match self {
-            RequestFault::BadRequest => "BadRequest",
-            RequestFault::Segment(fault) => fault.name(),
-            RequestFault::BadLimit => "BadLimit",
-            RequestFault::Policy(fault) => fault.name(),
-            RequestFault::Ends(fault) => fault.name(),
-            RequestFault::Header(fault) => fault.name(),
-            RequestFault::Path(fault) => fault.name(),
+            Self::BadRequest => (150, "BadRequest"),
+            Self::Segment(fault) => fault.code_and_name(),
+            Self::BadLimit => (137, "BadLimit"),
+            Self::Policy(fault) => fault.code_and_name(),
+            Self::Ends(fault) => fault.code_and_name(),
+            Self::Header(fault) => fault.code_and_name(),
+            Self::Path(fault) => fault.code_and_name(),
         }
     }
 }
 
 /// Why a call that takes memory returned nothing: memory ran out, or a refusal.
 pub(crate) type RequestError = OrMemory<RequestFault>;
-
-impl From<RequestFault> for OrMemory<RequestFault> {
-    ghost from_gives = { λ fault e. e ≡ Refused fault };
-
-    fn from(fault: RequestFault) -> OrMemory<RequestFault> {
-        OrMemory::Refused(fault)
-    }
-}

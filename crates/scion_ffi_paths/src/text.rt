@@ -16,6 +16,7 @@ use event_lines::{hops_text, kinds_text};
 use path_header::{Header, MAX_HEADER_LEN, encode};
 use path_segment::Segment;
 use path_verifier::{VerifiedPath, lend_all};
+use refusal::NumberedFault;
 use std::alloc::{AllocError, Global};
 
 /// The place of the first of these segments that equals this one.

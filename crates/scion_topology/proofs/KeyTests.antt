@@ -31,10 +31,7 @@ are_keys-AreKeys keys are =
     and_from _ _ (le-leb 1 (length keys) are.some)
     (and_from _ _ (le-leb (length keys) 2 are.few) (list_all-from_All is_key IsKey is_key-IsKey keys are.each))
 
--- a key by itself, and with one before it
-pub are_keys_first : (key : List ℕ) → is_key key ≡ true → are_keys (key ∷ []) ≡ true
-are_keys_first key fits = and_from (is_key key) true fits refl
-
+-- a key with the one before it
 pub are_keys_renewed : (key : List ℕ) (keys : List (List ℕ)) → is_key key ≡ true → are_keys keys ≡ true → are_keys (renewed key keys) ≡ true
 are_keys_renewed key [] fits are = absurd (true≢false (sym are))
 are_keys_renewed key (current ∷ older) fits are =

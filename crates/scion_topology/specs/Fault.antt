@@ -14,9 +14,3 @@ code_and_name BadKind = (15, codes "BadKind")
 code_and_name NoRouter = (16, codes "NoRouter")
 code_and_name NoLink = (17, codes "NoLink")
 code_and_name TooMany = (18, codes "TooMany")
-
-abbrev pub code_of : TopologyFault → ℕ
-code_of refusal = (code_and_name refusal).0
-
-abbrev pub name_of : TopologyFault → List ℕ
-name_of refusal = (code_and_name refusal).1

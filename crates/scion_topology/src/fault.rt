@@ -1,8 +1,6 @@
-ghost use Rattle.std.specs.Prelude.{◌≡◌};
-ghost use Rattle.scion_topology.specs.Fault.{code_of, name_of};
-ghost use Rattle.refusal.specs.declared.fault.OrMemory.TheVariants.{Refused};
+ghost use Rattle.scion_topology.specs.Fault as faults;
 
-use refusal::OrMemory;
+use refusal::{NumberedFault, OrMemory};
 use thiserror::Error;
 
 /// Why a topology was not read, answered or changed, or why a view was not built.
@@ -38,49 +36,23 @@ pub enum TopologyFault {
     TooMany,
 }
 
-impl TopologyFault {
-    /// The number by which lines of text report this refusal.
-    pub fn code(self) -> u16
-        ensures { result ≡ code_of self }
-    {
-        match self {
-            TopologyFault::NotJson => 10,
-            TopologyFault::BadField => 11,
-            TopologyFault::DuplicateAs => 12,
-            TopologyFault::DuplicateIf => 13,
-            TopologyFault::UnknownAs => 14,
-            TopologyFault::BadKind => 15,
-            TopologyFault::NoRouter => 16,
-            TopologyFault::NoLink => 17,
-            TopologyFault::TooMany => 18,
-        }
-    }
+impl NumberedFault for TopologyFault {
+    ghost code_and_name = { faults.code_and_name };
 
-    /// The name by which lines of text report this refusal.
-    pub fn name(self) -> &'static str
-        ensures { result.now ≡ name_of self }
-    {
+    fn code_and_name(self) -> (u16, &'static str) {
         match self {
-            TopologyFault::NotJson => "NotJson",
-            TopologyFault::BadField => "BadField",
-            TopologyFault::DuplicateAs => "DuplicateAs",
-            TopologyFault::DuplicateIf => "DuplicateIf",
-            TopologyFault::UnknownAs => "UnknownAs",
-            TopologyFault::BadKind => "BadKind",
-            TopologyFault::NoRouter => "NoRouter",
-            TopologyFault::NoLink => "NoLink",
-            TopologyFault::TooMany => "TooMany",
+            Self::NotJson => (10, "NotJson"),
+            Self::BadField => (11, "BadField"),
+            Self::DuplicateAs => (12, "DuplicateAs"),
+            Self::DuplicateIf => (13, "DuplicateIf"),
+            Self::UnknownAs => (14, "UnknownAs"),
+            Self::BadKind => (15, "BadKind"),
+            Self::NoRouter => (16, "NoRouter"),
+            Self::NoLink => (17, "NoLink"),
+            Self::TooMany => (18, "TooMany"),
         }
     }
 }
 
 /// Why a topology was not read: memory ran out, or the text is no topology.
 pub type ReadError = OrMemory<TopologyFault>;
-
-impl From<TopologyFault> for OrMemory<TopologyFault> {
-    ghost from_gives = { λ fault e. e ≡ Refused fault };
-
-    fn from(fault: TopologyFault) -> OrMemory<TopologyFault> {
-        OrMemory::Refused(fault)
-    }
-}

@@ -8,7 +8,7 @@ use Rattle.path_verifier.specs.Walk.{walk_of}
 use Rattle.combinator.specs.Candidate.{PathValue}
 use Rattle.network_core.specs.declared.fault.EventFault.{EventFault}
 use Rattle.network_core.specs.declared.fault.EventFault.TheVariants.{NoPacket, NoAnswer}
-use Rattle.network_core.specs.Fault.{code_of, name_of}
+use Rattle.network_core.specs.Fault.{code_and_name}
 use Rattle.network_core.specs.Value.{NetValue, PacketValue}
 use Rattle.network_view.specs.declared.marks.Router.{Router}
 use Rattle.network_view.specs.Dot.{dot_of}
@@ -19,7 +19,8 @@ use Rattle.scionet_view.specs.declared.words.Subject.TheVariants.{Packet, Answer
 -- the line with which a run answers an event that is refused for this reason
 abbrev pub refusal_line : EventFault → List ℕ
 refusal_line fault =
-    codes "no " ++ (decimal (code_of fault) ++ (codes " " ++ (name_of fault ++ codes "\n")))
+    codes "no " ++ (decimal (code_and_name fault).0 ++ (codes " " ++ ((code_and_name fault).1
+    ++ codes "\n")))
 
 -- the path of this number in the answer of this number
 abbrev pub path_at : NetValue → ℕ → ℕ → Option PathValue

@@ -15,6 +15,7 @@ use packet_view::fields_text;
 use path_segment::Entry;
 use path_verifier::{Piece, Pieces, VerifiedPath, VerifyFault, lend_all, verify};
 use policy_expr::Policy;
+use refusal::NumberedFault;
 use std::alloc::{AllocError, Global};
 use streams::Source;
 

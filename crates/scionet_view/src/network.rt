@@ -13,6 +13,7 @@ use event_lines::RunFault;
 use forwarding::PacketLocation;
 use network_core::{EventFault, Net, Packet};
 use network_view::{Router, network_dot};
+use refusal::NumberedFault;
 use scion_topology::Topology;
 use std::alloc::{AllocError, Global};
 use streams::Source;

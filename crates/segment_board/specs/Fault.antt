@@ -7,9 +7,3 @@ use Rattle.segment_board.specs.declared.fault.BoardFault.TheVariants.{NoPlace, N
 abbrev pub code_and_name : BoardFault → ℕ × List ℕ
 code_and_name NoPlace = (110, codes "NoPlace")
 code_and_name NoEntry = (111, codes "NoEntry")
-
-abbrev pub code_of : BoardFault → ℕ
-code_of refusal = (code_and_name refusal).0
-
-abbrev pub name_of : BoardFault → List ℕ
-name_of refusal = (code_and_name refusal).1

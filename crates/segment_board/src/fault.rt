@@ -1,7 +1,6 @@
-ghost use Rattle.std.specs.Prelude.{◌≡◌};
-ghost use Rattle.segment_board.specs.Fault.{code_of, name_of};
+ghost use Rattle.segment_board.specs.Fault as faults;
 
-use refusal::OrMemory;
+use refusal::{NumberedFault, OrMemory};
 use thiserror::Error;
 
 /// Why a board gave no reader, or a reader no segments.
@@ -15,24 +14,13 @@ pub enum BoardFault {
     NoEntry,
 }
 
-impl BoardFault {
-    /// The number by which lines of text report this refusal.
-    pub fn code(self) -> u16
-        ensures { result ≡ code_of self }
-    {
-        match self {
-            BoardFault::NoPlace => 110,
-            BoardFault::NoEntry => 111,
-        }
-    }
+impl NumberedFault for BoardFault {
+    ghost code_and_name = { faults.code_and_name };
 
-    /// The name by which lines of text report this refusal.
-    pub fn name(self) -> &'static str
-        ensures { result.now ≡ name_of self }
-    {
+    fn code_and_name(self) -> (u16, &'static str) {
         match self {
-            BoardFault::NoPlace => "NoPlace",
-            BoardFault::NoEntry => "NoEntry",
+            Self::NoPlace => (110, "NoPlace"),
+            Self::NoEntry => (111, "NoEntry"),
         }
     }
 }

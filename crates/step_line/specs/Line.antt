@@ -3,32 +3,29 @@ use Rattle.std.specs.Prelude.{ℕ, codes, List, ◌++◌, Option, option_map, Re
 use Rattle.std.specs.Fmt.{decimal}
 use Rattle.separators.specs.Blanks.{trimmed}
 use Rattle.hex.specs.Hex.{encode_lower}
-use Rattle.path_header.specs.Fault as header
 use Rattle.router_step.specs.declared.outcome.Outcome.{Outcome}
 use Rattle.router_step.specs.declared.outcome.Outcome.TheVariants.{ToLink, ToRouter, Deliver}
 use Rattle.router_step.specs.declared.fault.Refusal.{Refusal}
-use Rattle.router_step.specs.declared.fault.Refusal.TheVariants.{BadHeader}
-use Rattle.router_step.specs.Fault.{code_of, name_of}
+use Rattle.router_step.specs.Fault as router
 use Rattle.router_step.specs.Packet.{packet_step}
 use Rattle.step_line.specs.Fields.{hex_bytes_of}
 use Rattle.step_line.specs.Turn.{Turn}
 
--- a word, a code and a name: `WORD CODE Name`
-abbrev pub coded : List ℕ → ℕ → List ℕ → List ℕ
-coded word code name = word ++ (codes " " ++ (decimal code ++ (codes " " ++ name)))
-
 -- a refusal: `refused CODE Name`; for a packet without a path header, also the code and the name of
 -- the header's refusal
 abbrev pub refusal_text : Refusal → List ℕ
-refusal_text (BadHeader fault) =
-    coded (codes "refused 90 BadHeader") (header.code_of fault) (header.name_of fault)
-refusal_text refusal = coded (codes "refused") (code_of refusal) (name_of refusal)
+refusal_text refusal = codes "refused " ++ router.refusal_text refusal
+
+-- a word, a number, and the packet's bytes: `WORD N HEX`
+abbrev pub numbered_bytes : List ℕ → ℕ → List ℕ → List ℕ
+numbered_bytes word number packet =
+    word ++ (codes " " ++ (decimal number ++ (codes " " ++ encode_lower packet)))
 
 -- an outcome: `link IF HEX`, `router N HEX` or `deliver HEX`, with the packet's bytes after the
 -- step
 abbrev pub outcome_text : Outcome → List ℕ → List ℕ
-outcome_text (ToLink interface) packet = coded (codes "link") interface (encode_lower packet)
-outcome_text (ToRouter router) packet = coded (codes "router") router (encode_lower packet)
+outcome_text (ToLink interface) packet = numbered_bytes (codes "link") interface packet
+outcome_text (ToRouter router) packet = numbered_bytes (codes "router") router packet
 outcome_text Deliver packet = codes "deliver " ++ encode_lower packet
 
 -- the line, without its end

@@ -27,10 +27,7 @@ pub(crate) fn outcome_line(
 pub fn refusal_line(alloc: Global, refusal: Refusal) -> Result<String, AllocError>
     ensures { IfOk result (λ line. string_bytes line ≡ refusal_text refusal) }
 {
-    match refusal {
-        Refusal::BadHeader(fault) => {
-            format!(in alloc; "refused 90 BadHeader {} {}", fault.code(), fault.name())
-        }
-        _ => format!(in alloc; "refused {} {}", refusal.code(), refusal.name()),
-    }
+    let mut line = String::from_str(alloc, "refused ")?;
+    refusal.push_to(&mut line)?;
+    Ok(line)
 }

@@ -7,7 +7,7 @@ use Rattle.router_workers.specs.declared.end.End.{End}
 use Rattle.router_workers.specs.declared.end.End.TheVariants.{Delivered, Refused, Dropped}
 use Rattle.router_workers.specs.Flight.{FlightValue, departed, grounded, sent_packet_of}
 use Rattle.router_workers.specs.Run.{IsReport}
-use Rattle.event_lines.specs.Text.{refusal_text}
+use Rattle.router_step.specs.Fault.{refusal_text}
 use Rattle.event_lines.specs.Run.{ended_lines}
 
 -- a flight of this shipment at its start in this network

@@ -5,7 +5,6 @@ ghost use Rattle.std.specs.String.{string_bytes};
 ghost use Rattle.event_lines.specs.Run.{ended_lines};
 ghost use Rattle.work_lines.specs.Report.{flight_text, report_lines};
 
-use event_lines::refusal_text;
 use router_workers::End;
 use std::alloc::{AllocError, Global};
 
@@ -16,8 +15,9 @@ fn line(alloc: Global, number: usize, end: End) -> Result<String, AllocError>
     match end {
         End::Delivered(turns) => format!(in alloc; "flight {number} delivered {turns}"),
         End::Refused(cause, _) => {
-            let cause = refusal_text(alloc, cause)?;
-            format!(in alloc; "flight {number} refused {}", cause.as_str())
+            let mut line = format!(in alloc; "flight {number} refused ")?;
+            cause.push_to(&mut line)?;
+            Ok(line)
         }
         End::Dropped(_) => format!(in alloc; "flight {number} dropped"),
     }

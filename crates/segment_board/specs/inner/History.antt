@@ -4,7 +4,7 @@ use Rattle.std.specs.Prelude.{ℕ, ◌≡◌, ◌⊎◌, ◌==◌, ◌<◌, true
 use mathlib.Core.List.{IsPrefix}
 use Rattle.logbook.specs.Pages.{Cell, Step, View, Book, Named}
 use Rattle.segment_board.specs.declared.edition.Edition.{Edition}
-use Rattle.segment_board.specs.History.{edition, KnownHistory, newest}
+use Rattle.segment_board.specs.History.{KnownHistory, newest}
 
 -- the second edition equals the first, or is a later one that begins with its operations
 abbrev pub Follows : Edition → Edition → Type 0

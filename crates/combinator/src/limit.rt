@@ -1,0 +1,13 @@
+ghost use Rattle.std.specs.Prelude.{◌≡◌, ◌<◌, IsTrue};
+ghost use Rattle.combinator.specs.Answer.{is_limit};
+
+/// The largest number of paths of a request.
+pub const MAX_PATHS: usize = 64;
+
+/// Whether a request may be for at most this number of paths: 1 to 64.
+pub fn is_limit(limit: usize) -> bool
+    ensures value { result ≡ is_limit limit }
+    ensures some { IsTrue result → 0 < limit }
+{
+    (1..=MAX_PATHS).contains(&limit)
+}
