@@ -5,24 +5,12 @@ use Rattle.std.specs.Str.{bytes_eq}
 use Rattle.serde_json.specs.Data.{Data}
 use Rattle.refusal.specs.Optional.{◌>>=◌}
 use Rattle.network_core.specs.Event.{EventValue}
-use Rattle.event_lines.specs.Line.{bytes_at, send_in, back_in, rotate_in, plain_event, untexted_event}
+use Rattle.event_lines.specs.Line.{bytes_at, plain_event, untexted_event}
 use Rattle.event_lines.specs.inner.Seen.{bytes_in}
 
 found_none : {A B : Type 0} (first : Option A) (next : A → Option B) → first ≡ None → (first >>= next) ≡ None
 found_none None next none = refl
 found_none (Some x) next none = absurd cc
-
-no_send : (d : Data) → bytes_at (codes "payload") d ≡ None → send_in d ≡ None
-unfolding send_in
-no_send d none = found_none (bytes_at (codes "payload") d) _ none
-
-no_back : (d : Data) → bytes_at (codes "payload") d ≡ None → back_in d ≡ None
-unfolding back_in
-no_back d none = found_none (bytes_at (codes "payload") d) _ none
-
-no_rotate : (d : Data) → bytes_at (codes "key") d ≡ None → rotate_in d ≡ None
-unfolding rotate_in
-no_rotate d none = found_none (bytes_at (codes "key") d) _ none
 
 -- by the word: each of the three events wants its bytes, and the others none
 by_word : (send back rotate : Bool) (payload key : Option (List ℕ)) (one two three other : Option EventValue)
@@ -37,6 +25,7 @@ by_word false false false payload key one two three other first second third non
 pub no_event : (word : List ℕ) (d : Data) → bytes_in word d ≡ None → untexted_event word d ≡ None
 unfolding bytes_in untexted_event
 no_event word d none =
+    let payload = bytes_at (codes "payload") d in
+    let key = bytes_at (codes "key") d in
     by_word (bytes_eq word (codes "send")) (bytes_eq word (codes "back")) (bytes_eq word (codes "rotate"))
-    (bytes_at (codes "payload") d) (bytes_at (codes "key") d) (send_in d) (back_in d) (rotate_in d) (plain_event word d)
-    (no_send d) (no_back d) (no_rotate d) none
+    payload key _ _ _ (plain_event word d) (found_none payload _) (found_none payload _) (found_none key _) none

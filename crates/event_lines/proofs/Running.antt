@@ -183,6 +183,13 @@ still : (before after now : Option (List ℕ)) (read bytes : List ℕ) → bytes
 still before after now read bytes none first then =
     subst (Consumes before now) (ap (λ l. read ++ l) none ∙ append-nil read) (Consumes-trans before after now read bytes first then)
 
+-- nothing more came, and the run ended
+ended : (accepted : AcceptedLines) (result : Result NetValue RunFault) {before after held holds : Option (List ℕ)} (now with : Option (List ℕ)) {session : SessionValue} {count : ℕ} (bytes went : List ℕ)
+    (far : SoFar accepted before after held holds session count) → bytes ≡ [] → Consumes after now bytes → most_input ≤ most_read result
+    → Appends held with went → Ends accepted result (IsAtEnd now) far.read went → Listens accepted result before now held with
+ended accepted result {before} {after} now with bytes went far none more most appended ends =
+    (far.read, went, (still before after now far.read bytes none far.consumed more, (appended, (omega (arith, far.counted, far.few, most), ends))))
+
 -- at the end of the input the run stands in a network
 ends_reached : (accepted : AcceptedLines) (before after now held holds with : Option (List ℕ)) {session : SessionValue} {count : ℕ} (bytes : List ℕ)
     (stage : Stage) (net : NetValue)
@@ -190,20 +197,9 @@ ends_reached : (accepted : AcceptedLines) (before after now held holds with : Op
     → Finishes accepted (Ok tt) session stage holds with → stage ≡ Open net → Listens accepted (Ok net) before now held with
 ends_reached accepted before after now held holds with {session = session} bytes stage net far none more end finishes is =
     let passes = subst (λ s. Passes accepted (last_lines session) session s holds with) (sym finishes.1.0 ∙ is) finishes.1.1 in
-    let wrote = written_on accepted with (last_lines session) (Open net) far passes in (
-      far.read,
-      wrote.0,
-      (
-        still before after now far.read bytes none far.consumed more,
-        (
-          wrote.1.0,
-          (
-            omega (arith, far.counted, far.few),
-            (far.lines ++ last_lines session, (all_of accepted (IsAtEnd now) far end, wrote.1.1)),
-          ),
-        ),
-      ),
-    )
+    let wrote = written_on accepted with (last_lines session) (Open net) far passes in
+    ended accepted (Ok net) now with bytes wrote.0 far none more (omega arith) wrote.1.0
+    (far.lines ++ last_lines session, (all_of accepted (IsAtEnd now) far end, wrote.1.1))
 
 -- the last line could not be answered
 ends_unfinished : (accepted : AcceptedLines) (before after now held holds with : Option (List ℕ)) {session : SessionValue} {count : ℕ} (bytes : List ℕ)
@@ -211,74 +207,20 @@ ends_unfinished : (accepted : AcceptedLines) (before after now held holds with :
     → SoFar accepted before after held holds session count → bytes ≡ [] → Consumes after now bytes → IsAtEnd now
     → Finishes accepted (Err fault) session stage holds with → Listens accepted (Err fault) before now held with
 ends_unfinished accepted before after now held holds with {session = session} bytes stage faults.Topology far none more end finishes =
-    let wrote = written_on accepted with (last_lines session) Closed far finishes in (
-      far.read,
-      wrote.0,
-      (
-        still before after now far.read bytes none far.consumed more,
-        (
-          wrote.1.0,
-          (
-            omega (arith, far.counted, far.few),
-            (far.lines ++ last_lines session, (inr (all_of accepted (IsAtEnd now) far end), wrote.1.1)),
-          ),
-        ),
-      ),
-    )
-ends_unfinished accepted before after now held holds with {session = session} bytes stage faults.Memory far none more end finishes = (
-  far.read,
-  far.went,
-  (
-    still before after now far.read bytes none far.consumed more,
-    (
-      Appends-kept held holds with far.went far.appended finishes,
-      (
-        omega (arith, far.counted, far.few),
-        (far.lines, session.stage, (first_of accepted far, (far.texts, (as_run accepted far, far.same)))),
-      ),
-    ),
-  ),
-)
+    let wrote = written_on accepted with (last_lines session) Closed far finishes in
+    ended accepted (Err faults.Topology) now with bytes wrote.0 far none more (omega arith) wrote.1.0
+    (far.lines ++ last_lines session, (inr (all_of accepted (IsAtEnd now) far end), wrote.1.1))
+ends_unfinished accepted before after now held holds with {session = session} bytes stage faults.Memory far none more end finishes =
+    ended accepted (Err faults.Memory) now with bytes far.went far none more (omega arith) (Appends-kept held holds with far.went far.appended finishes)
+    (far.lines, session.stage, (first_of accepted far, (far.texts, (as_run accepted far, far.same))))
 ends_unfinished accepted before after now held holds with {session = session} bytes stage faults.Write far none more end (inl finishes) =
-    let wrote = some_on accepted with (last_lines session) far finishes in (
-      far.read,
-      wrote.0,
-      (
-        still before after now far.read bytes none far.consumed more,
-        (
-          wrote.1.0,
-          (
-            omega (arith, far.counted, far.few),
-            (far.lines ++ last_lines session, (inr (all_of accepted (IsAtEnd now) far end), wrote.1.1)),
-          ),
-        ),
-      ),
-    )
-ends_unfinished accepted before after now held holds with {session = session} bytes stage faults.Write far none more end (inr finishes) = (
-  far.read,
-  far.went,
-  (
-    still before after now far.read bytes none far.consumed more,
-    (
-      Appends-kept held holds with far.went far.appended finishes,
-      (
-        omega (arith, far.counted, far.few),
-        (
-          far.lines,
-          (
-            inl (first_of accepted far),
-            (
-              far.texts,
-              session.stage,
-              length far.went,
-              (as_run accepted far, sym (take_all (length far.went) far.went (omega arith)) ∙ ap (take (length far.went)) far.same),
-            ),
-          ),
-        ),
-      ),
-    ),
-  ),
-)
+    let wrote = some_on accepted with (last_lines session) far finishes in
+    ended accepted (Err faults.Write) now with bytes wrote.0 far none more (omega arith) wrote.1.0
+    (far.lines ++ last_lines session, (inr (all_of accepted (IsAtEnd now) far end), wrote.1.1))
+ends_unfinished accepted before after now held holds with {session = session} bytes stage faults.Write far none more end (inr finishes) =
+    let whole = sym (take_all (length far.went) far.went (omega arith)) ∙ ap (take (length far.went)) far.same in
+    ended accepted (Err faults.Write) now with bytes far.went far none more (omega arith) (Appends-kept held holds with far.went far.appended finishes)
+    (far.lines, (inl (first_of accepted far), (far.texts, session.stage, length far.went, (as_run accepted far, whole))))
 ends_unfinished accepted before after now held holds with bytes stage faults.Read far none more end finishes = absurd finishes
 ends_unfinished accepted before after now held holds with bytes stage faults.InputTooLong far none more end finishes = absurd finishes
 
@@ -341,59 +283,42 @@ ends_too_long accepted before after now held holds {session = session} (b ∷ []
 )
 ends_too_long accepted before after now held holds (b ∷ x ∷ bytes) far full some few more = absurd (omega (arith, few))
 
+-- what was read and written by a run that ended, and how it ended
+abbrev Ended : AcceptedLines → Result NetValue RunFault → Type 0 → Option (List ℕ) → Option (List ℕ) → Option (List ℕ) → Option (List ℕ) → Type 0
+Ended accepted result at_end before now held with = (read went : List ℕ) × (Consumes before now read × (Appends held with went
+    × ((length read ≤ most_read result) × Ends accepted result at_end read went)))
+
+-- these bytes came, and the run ended
+ended_on : (accepted : AcceptedLines) (result : Result NetValue RunFault) (at_end : Type 0) {before after held holds : Option (List ℕ)} (now with : Option (List ℕ)) {session : SessionValue} {count : ℕ}
+    (bytes went : List ℕ) (far : SoFar accepted before after held holds session count) → count + length bytes ≤ most_input → Consumes after now bytes
+    → most_input ≤ most_read result → Appends held with went → Ends accepted result at_end (far.read ++ bytes) went → Ended accepted result at_end before now held with
+ended_on accepted result at_end {before} {after} now with bytes went far few more most appended ends = (
+  far.read ++ bytes,
+  went,
+  (
+    Consumes-trans before after now far.read bytes far.consumed more,
+    (appended, (omega (arith, length-append far.read bytes, far.counted, few, most), ends)),
+  ),
+)
+
 -- the lines of what came could not all be answered
 pub ends_short : (accepted : AcceptedLines) (before after now held holds with : Option (List ℕ)) (session new : SessionValue) {count : ℕ} (bytes : List ℕ) (fault : RunFault) (at_end : Type 0)
     → SoFar accepted before after held holds session count → count + length bytes ≤ most_input → Consumes after now bytes
-    → Exchanges accepted (Err fault) bytes session new holds with
-    → (read went : List ℕ) × (Consumes before now read × (Appends held with went
-    × ((length read ≤ most_read (Err fault)) × Ends accepted (Err fault) at_end read went)))
+    → Exchanges accepted (Err fault) bytes session new holds with → Ended accepted (Err fault) at_end before now held with
 ends_short accepted before after now held holds with session new bytes faults.Topology at_end far few more exchanges =
     let (lines, later, rest, (are, passes)) = exchanges in
-    let wrote = written_on accepted with lines Closed far passes in (
-      far.read ++ bytes,
-      wrote.0,
-      (
-        Consumes-trans before after now far.read bytes far.consumed more,
-        (
-          wrote.1.0,
-          (
-            omega (arith, length-append far.read bytes, far.counted, few),
-            (far.lines ++ lines, (inl (first_on accepted bytes lines later rest far are), wrote.1.1)),
-          ),
-        ),
-      ),
-    )
+    let wrote = written_on accepted with lines Closed far passes in
+    ended_on accepted (Err faults.Topology) at_end now with bytes wrote.0 far few more (omega arith) wrote.1.0
+    (far.lines ++ lines, (inl (first_on accepted bytes lines later rest far are), wrote.1.1))
 ends_short accepted before after now held holds with session new bytes faults.Memory at_end far few more exchanges =
     let (lines, later, rest, (stage, (are, passes))) = exchanges in
-    let wrote = written_on accepted with lines stage far passes in (
-      far.read ++ bytes,
-      wrote.0,
-      (
-        Consumes-trans before after now far.read bytes far.consumed more,
-        (
-          wrote.1.0,
-          (
-            omega (arith, length-append far.read bytes, far.counted, few),
-            (far.lines ++ lines, stage, (first_on accepted bytes lines later rest far are, wrote.1.1)),
-          ),
-        ),
-      ),
-    )
+    let wrote = written_on accepted with lines stage far passes in
+    ended_on accepted (Err faults.Memory) at_end now with bytes wrote.0 far few more (omega arith) wrote.1.0
+    (far.lines ++ lines, stage, (first_on accepted bytes lines later rest far are, wrote.1.1))
 ends_short accepted before after now held holds with session new bytes faults.Write at_end far few more exchanges =
     let (lines, later, rest, (are, passes)) = exchanges in
-    let wrote = some_on accepted with lines far passes in (
-      far.read ++ bytes,
-      wrote.0,
-      (
-        Consumes-trans before after now far.read bytes far.consumed more,
-        (
-          wrote.1.0,
-          (
-            omega (arith, length-append far.read bytes, far.counted, few),
-            (far.lines ++ lines, (inl (first_on accepted bytes lines later rest far are), wrote.1.1)),
-          ),
-        ),
-      ),
-    )
+    let wrote = some_on accepted with lines far passes in
+    ended_on accepted (Err faults.Write) at_end now with bytes wrote.0 far few more (omega arith) wrote.1.0
+    (far.lines ++ lines, (inl (first_on accepted bytes lines later rest far are), wrote.1.1))
 ends_short accepted before after now held holds with session new bytes faults.Read at_end far few more exchanges = absurd exchanges
 ends_short accepted before after now held holds with session new bytes faults.InputTooLong at_end far few more exchanges = absurd exchanges

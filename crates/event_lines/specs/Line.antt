@@ -90,31 +90,6 @@ options_in d = if is_none (get (codes "options") d) then one_option d else liste
 
 -- ---- events, by their word
 
-unfoldable pub tick_in : Data → Option EventValue
-tick_in d = do
-  to ← long_at (codes "now") d
-  Some (Tick to)
-
-unfoldable pub originate_in : Data → Option EventValue
-originate_in d = do
-  ia ← ia_in (codes "ia") d
-  egress ← short_at (codes "egress") d
-  beta0 ← short_at (codes "beta0") d
-  Some (Originate ia egress beta0)
-
-unfoldable pub extend_in : Data → Option EventValue
-extend_in d = do
-  beacon ← long_at (codes "beacon") d
-  ia ← ia_in (codes "ia") d
-  egress ← short_at (codes "egress") d
-  Some (Extend beacon ia egress)
-
-unfoldable pub terminate_in : Data → Option EventValue
-terminate_in d = do
-  beacon ← long_at (codes "beacon") d
-  ia ← ia_in (codes "ia") d
-  Some (Terminate beacon ia)
-
 unfoldable pub ask_in : Data → Option EventValue
 ask_in d = do
   texts ← options_in d
@@ -123,75 +98,69 @@ ask_in d = do
   limit ← long_at (codes "limit") d
   Some (Ask src dst (options_at texts) limit)
 
-unfoldable pub send_in : Data → Option EventValue
-send_in d = do
-  payload ← bytes_at (codes "payload") d
-  ask ← long_at (codes "ask") d
-  path ← long_at (codes "path") d
-  Some (Send (ByAnswer ask path) payload)
-
-unfoldable pub turn_event_in : Data → Option EventValue
-turn_event_in d = do
-  packet ← long_at (codes "packet") d
-  Some (Turn packet)
-
-unfoldable pub lose_in : Data → Option EventValue
-lose_in d = do
-  packet ← long_at (codes "packet") d
-  Some (Lose packet)
-
-unfoldable pub alter_in : Data → Option EventValue
-alter_in d = do
-  packet ← long_at (codes "packet") d
-  at ← long_at (codes "at") d
-  change ← byte_at (codes "xor") d
-  Some (Alter packet at change)
-
-unfoldable pub back_in : Data → Option EventValue
-back_in d = do
-  payload ← bytes_at (codes "payload") d
-  packet ← long_at (codes "packet") d
-  Some (Send (BackOf packet) payload)
-
-unfoldable pub cut_in : Data → Option EventValue
-cut_in d = do
-  ia ← ia_in (codes "ia") d
-  interface ← short_at (codes "if") d
-  Some (CutLink ia interface)
-
-unfoldable pub mend_in : Data → Option EventValue
-mend_in d = do
-  ia ← ia_in (codes "ia") d
-  interface ← short_at (codes "if") d
-  Some (MendLink ia interface)
-
-unfoldable pub rotate_in : Data → Option EventValue
-rotate_in d = do
-  key ← bytes_at (codes "key") d
-  ia ← ia_in (codes "ia") d
-  Some (RotateKey ia key)
+-- the events of traffic that have neither bytes nor texts
+unfoldable pub traffic_event : List ℕ → Data → Option EventValue
+traffic_event word d =
+    if bytes_eq word (codes "turn") then (do
+      packet ← long_at (codes "packet") d
+      Some (Turn packet))
+    else if bytes_eq word (codes "lose") then (do
+      packet ← long_at (codes "packet") d
+      Some (Lose packet))
+    else if bytes_eq word (codes "alter") then (do
+      packet ← long_at (codes "packet") d
+      at ← long_at (codes "at") d
+      change ← byte_at (codes "xor") d
+      Some (Alter packet at change))
+    else if bytes_eq word (codes "cut") then (do
+      ia ← ia_in (codes "ia") d
+      interface ← short_at (codes "if") d
+      Some (CutLink ia interface))
+    else if bytes_eq word (codes "mend") then (do
+      ia ← ia_in (codes "ia") d
+      interface ← short_at (codes "if") d
+      Some (MendLink ia interface))
+    else None
 
 -- the events that have neither bytes nor texts
 unfoldable pub plain_event : List ℕ → Data → Option EventValue
 plain_event word d =
-    if bytes_eq word (codes "tick") then tick_in d
-    else if bytes_eq word (codes "originate") then originate_in d
-    else if bytes_eq word (codes "extend") then extend_in d
-    else if bytes_eq word (codes "terminate") then terminate_in d
+    if bytes_eq word (codes "tick") then (do
+      to ← long_at (codes "now") d
+      Some (Tick to))
+    else if bytes_eq word (codes "originate") then (do
+      ia ← ia_in (codes "ia") d
+      egress ← short_at (codes "egress") d
+      beta0 ← short_at (codes "beta0") d
+      Some (Originate ia egress beta0))
+    else if bytes_eq word (codes "extend") then (do
+      beacon ← long_at (codes "beacon") d
+      ia ← ia_in (codes "ia") d
+      egress ← short_at (codes "egress") d
+      Some (Extend beacon ia egress))
+    else if bytes_eq word (codes "terminate") then (do
+      beacon ← long_at (codes "beacon") d
+      ia ← ia_in (codes "ia") d
+      Some (Terminate beacon ia))
     else if bytes_eq word (codes "sweep") then Some Sweep
-    else if bytes_eq word (codes "turn") then turn_event_in d
-    else if bytes_eq word (codes "lose") then lose_in d
-    else if bytes_eq word (codes "alter") then alter_in d
-    else if bytes_eq word (codes "cut") then cut_in d
-    else if bytes_eq word (codes "mend") then mend_in d
-    else None
+    else traffic_event word d
 
 -- the events that have no texts
 unfoldable pub untexted_event : List ℕ → Data → Option EventValue
 untexted_event word d =
-    if bytes_eq word (codes "send") then send_in d
-    else if bytes_eq word (codes "back") then back_in d
-    else if bytes_eq word (codes "rotate") then rotate_in d
+    if bytes_eq word (codes "send") then (do
+      payload ← bytes_at (codes "payload") d
+      ask ← long_at (codes "ask") d
+      path ← long_at (codes "path") d
+      Some (Send (ByAnswer ask path) payload))
+    else if bytes_eq word (codes "back") then (do
+      payload ← bytes_at (codes "payload") d
+      packet ← long_at (codes "packet") d
+      Some (Send (BackOf packet) payload))
+    else if bytes_eq word (codes "rotate") then (do
+      key ← bytes_at (codes "key") d
+      ia ← ia_in (codes "ia") d
+      Some (RotateKey ia key))
     else plain_event word d
 
 -- all events

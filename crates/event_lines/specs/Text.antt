@@ -104,15 +104,15 @@ answer_text number paths =
     ++ (codes " " ++ (decimal (length paths) ++ flat_map path_text paths))
 
 -- whether the segment is new to the store
-abbrev pub segment_text : Bool → List ℕ
-segment_text true = codes "segment new"
-segment_text false = codes "segment known"
+abbrev pub registration_text : Bool → List ℕ
+registration_text true = codes "segment new"
+registration_text false = codes "segment known"
 
 -- the reply to an event, in the network after it
 abbrev pub reply_text : NetValue → Reply → List ℕ
 reply_text net Done = codes "ok"
 reply_text net (Begun beacon) = numbered (codes "beacon") beacon
-reply_text net (Registered is_new) = segment_text is_new
+reply_text net (Registered is_new) = registration_text is_new
 reply_text net (Swept count) = numbered (codes "swept") count
 reply_text net (Answered number) = answer_text number (paths_of (answer_in net number))
 reply_text net (Sent packet) = numbered (codes "packet") packet
