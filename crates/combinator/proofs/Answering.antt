@@ -19,7 +19,7 @@ use Rattle.combinator.specs.Candidate.{Question, IsOf, segments_of, PathValue, I
 use Rattle.combinator.specs.Order.{path_cmp, HaveOneWalk}
 use Rattle.combinator.specs.Answer.{IsBest, IsLeftOut, IsAnswer}
 use Rattle.combinator.specs.inner.Placed.{Tied, InOrder, Met}
-use Rattle.combinator.specs.inner.BestByWalk.{by_walk, IsNoWorse, IsMet, AreMatched}
+use Rattle.combinator.specs.inner.BestByWalk.{by_walk, IsNoWorse, IsMet, AreMatched, AreTried}
 use Rattle.combinator.specs.inner.UsablePieces.{outer_of, IsCut, IsWhole}
 use Rattle.combinator.proofs.Ranks.{walks_total, tied_walks, same_shown, tied_shown}
 use Rattle.combinator.proofs.Agreeing.{best_is_one}
@@ -83,10 +83,7 @@ module _ (question : Question) (usable_pieces : List PieceValue)
       })
 
   module _ (kept : List PathValue)
-      (one : (first : PieceValue) → Contains usable_pieces first → begins_in first ≡ question.src → AreMatched question kept (first ∷ []))
-      (two : (first second : PieceValue) → Contains usable_pieces first → begins_in first ≡ question.src → Contains usable_pieces second → begins_in second ≡ ends_in first → AreMatched question kept (first ∷ second ∷ []))
-      (three : (first second third : PieceValue) → Contains usable_pieces first → begins_in first ≡ question.src → Contains usable_pieces second → begins_in second ≡ ends_in first
-      → Contains usable_pieces third → begins_in third ≡ ends_in second → AreMatched question kept (first ∷ second ∷ third ∷ [])) where
+      (tried : AreTried question kept usable_pieces 3 [] question.src) where
     -- a piece at a place of a candidate
     at_place : (path : PathValue) (is : IsCandidate question path) (k : ℕ) (piece : PieceValue) → k < length path.pieces → get_or path.pieces k piece ≡ piece
         → (kind_of piece ≡ Up → begins_in piece ≡ question.src) → (kind_of piece ≡ Down → ends_in piece ≡ question.dst) → Contains usable_pieces piece
@@ -111,26 +108,25 @@ module _ (question : Question) (usable_pieces : List PieceValue)
 
     met_of : (pieces : List PieceValue) (header : _) → (is : IsCandidate question (path_with pieces header))
         → SpellsHeader (spelling header) header × IsMet kept (path_with pieces header)
-    unfolding AreMatched
+    unfolding AreMatched AreTried
     met_of [] header is = absurd (let some = is.accepted.path.some in omega arith)
     met_of (a ∷ []) header is =
         let path = is.accepted.path in
-        one a (at_place (path_with (a ∷ []) header) is 0 a (omega arith) refl (λ _. path.source) (λ _. path.destination)) path.source header is
+        (tried a (at_place (path_with (a ∷ []) header) is 0 a (omega arith) refl (λ _. path.source) (λ _. path.destination)) path.source).0 header is
     met_of (a ∷ b ∷ []) header is =
         let path = is.accepted.path in
         let may = pieces_adjoin [] [] a b question.src question.dst question.set.moment path in
-        two a b
-        (at_place (path_with (a ∷ b ∷ []) header) is 0 a (omega arith) refl (λ _. path.source) (λ down. absurd (not_down (kind_of a) (kind_of b) may down))) path.source
-        (at_place (path_with (a ∷ b ∷ []) header) is 1 b (omega arith) refl (λ up. absurd (not_up (kind_of a) (kind_of b) may up)) (λ _. path.destination)) (sym path.meet.0)
+        let one = tried a (at_place (path_with (a ∷ b ∷ []) header) is 0 a (omega arith) refl (λ _. path.source) (λ down. absurd (not_down (kind_of a) (kind_of b) may down))) path.source in
+        (one.1 b (at_place (path_with (a ∷ b ∷ []) header) is 1 b (omega arith) refl (λ up. absurd (not_up (kind_of a) (kind_of b) may up)) (λ _. path.destination)) (sym path.meet.0)).0
         header is
     met_of (a ∷ b ∷ c ∷ []) header is =
         let path = is.accepted.path in
         let may = pieces_adjoin [] (c ∷ []) a b question.src question.dst question.set.moment path in
         let also = pieces_adjoin (a ∷ []) [] b c question.src question.dst question.set.moment path in
-        three a b c
-        (at_place (path_with (a ∷ b ∷ c ∷ []) header) is 0 a (omega arith) refl (λ _. path.source) (λ down. absurd (not_down (kind_of a) (kind_of b) may down))) path.source
-        (at_place (path_with (a ∷ b ∷ c ∷ []) header) is 1 b (omega arith) refl (λ up. absurd (not_up (kind_of a) (kind_of b) may up)) (λ down. absurd (not_down (kind_of b) (kind_of c) also down))) (sym path.meet.0)
-        (at_place (path_with (a ∷ b ∷ c ∷ []) header) is 2 c (omega arith) refl (λ up. absurd (not_up (kind_of b) (kind_of c) also up)) (λ _. path.destination)) (sym path.meet.1.0)
+        let one = tried a (at_place (path_with (a ∷ b ∷ c ∷ []) header) is 0 a (omega arith) refl (λ _. path.source) (λ down. absurd (not_down (kind_of a) (kind_of b) may down))) path.source in
+        let two = one.1 b (at_place (path_with (a ∷ b ∷ c ∷ []) header) is 1 b (omega arith) refl (λ up. absurd (not_up (kind_of a) (kind_of b) may up))
+        (λ down. absurd (not_down (kind_of b) (kind_of c) also down))) (sym path.meet.0) in
+        (two.1 c (at_place (path_with (a ∷ b ∷ c ∷ []) header) is 2 c (omega arith) refl (λ up. absurd (not_up (kind_of b) (kind_of c) also up)) (λ _. path.destination)) (sym path.meet.1.0)).0
         header is
     met_of (a ∷ b ∷ c ∷ d ∷ more) header is =
         absurd (let few = path_is_short (a ∷ b ∷ c ∷ d ∷ more) question.src question.dst question.set.moment is.accepted.path in omega arith)

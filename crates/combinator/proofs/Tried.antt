@@ -1,12 +1,13 @@
 -- Trying lists of pieces one by one.
-use Rattle.std.proofs.Common.{◌≡◌, ℕ, List, [], ◌∷◌, All, sym, subst, ap, ◌∙◌}
-use Rattle.std.proofs.lemmas.List.Elements.{All-nil, All-cons}
+use Rattle.std.proofs.Common.{◌≡◌, ℕ, zero, suc, ◌+◌, List, [], ◌∷◌, ◌++◌, length, All, Contains, sym, subst, ap, ◌∙◌, arith}
+use Rattle.std.proofs.lemmas.List.{length-append}
+use Rattle.std.proofs.lemmas.List.Elements.{All-push}
 use Rattle.path_server.specs.Lookup.{Selection}
-use Rattle.path_verifier.specs.Piece.{PieceValue}
+use Rattle.path_verifier.specs.Piece.{PieceValue, begins_in, ends_in}
 use Rattle.path_verifier.specs.Header.{header_of}
 use Rattle.path_verifier.specs.Accepted.{Request, request_of, IsAccepted}
 use Rattle.combinator.specs.Candidate.{Question, IsOf, PathValue, IsCandidate, path_with}
-use Rattle.combinator.specs.inner.BestByWalk.{IsNoWorseThan, AreMatched}
+use Rattle.combinator.specs.inner.BestByWalk.{IsNoWorseThan, AreMatched, AreTried}
 
 pub settled_on : (question : Question) (old new : List PathValue) (pieces : List PieceValue) → IsNoWorseThan question old new → AreMatched question old pieces → AreMatched question new pieces
 unfolding AreMatched
@@ -15,18 +16,54 @@ settled_on question old new pieces goes best_by_walk = λ header candidate. (
   goes.met (path_with pieces header) (best_by_walk header candidate).1,
 )
 
-pub own_one : (set : Selection) (first : PieceValue) (pieces : List PieceValue) → pieces ≡ first ∷ [] → IsOf set first → All (IsOf set) pieces
-own_one set first pieces is one = subst (All (IsOf set)) (sym is) (All-cons (IsOf set) first [] one (All-nil (IsOf set)))
+pub tried_on : (question : Question) (old new : List PathValue) (usable_pieces : List PieceValue) (depth : ℕ) (pieces : List PieceValue) (at : ℕ) → IsNoWorseThan question old new
+    → AreTried question old usable_pieces depth pieces at → AreTried question new usable_pieces depth pieces at
+unfolding AreTried
+tried_on question old new usable_pieces zero pieces at goes tried = tt
+tried_on question old new usable_pieces (suc depth) pieces at goes tried = λ piece there begins. (
+  settled_on question old new (pieces ++ piece ∷ []) goes (tried piece there begins).0,
+  tried_on question old new usable_pieces depth (pieces ++ piece ∷ []) (ends_in piece) goes (tried piece there begins).1,
+)
 
-pub own_two : (set : Selection) (first second : PieceValue) (pieces : List PieceValue) → pieces ≡ first ∷ second ∷ [] → IsOf set first → IsOf set second → All (IsOf set) pieces
-own_two set first second pieces is one two =
-    subst (All (IsOf set)) (sym is) (All-cons (IsOf set) first (second ∷ []) one (All-cons (IsOf set) second [] two (All-nil (IsOf set))))
+-- each piece that begins here was tried, and what goes on from it
+abbrev pub WasTried : Question → List PathValue → List PieceValue → ℕ → List PieceValue → ℕ → PieceValue → Type 0
+WasTried question paths usable_pieces depth pieces at piece = begins_in piece ≡ at
+    → AreMatched question paths (pieces ++ piece ∷ []) × AreTried question paths usable_pieces depth (pieces ++ piece ∷ []) (ends_in piece)
 
-pub own_three : (set : Selection) (first second third : PieceValue) (pieces : List PieceValue) → pieces ≡ first ∷ second ∷ third ∷ [] → IsOf set first → IsOf set second → IsOf set third
-    → All (IsOf set) pieces
-own_three set first second third pieces is one two three =
-    subst (All (IsOf set)) (sym is)
-    (All-cons (IsOf set) first (second ∷ third ∷ []) one (All-cons (IsOf set) second (third ∷ []) two (All-cons (IsOf set) third [] three (All-nil (IsOf set)))))
+pub was_tried_on : (question : Question) (old new : List PathValue) (usable_pieces : List PieceValue) (depth : ℕ) (pieces : List PieceValue) (at : ℕ) → IsNoWorseThan question old new
+    → (piece : PieceValue) → WasTried question old usable_pieces depth pieces at piece → WasTried question new usable_pieces depth pieces at piece
+was_tried_on question old new usable_pieces depth pieces at goes piece was begins = (
+  settled_on question old new (pieces ++ piece ∷ []) goes (was begins).0,
+  tried_on question old new usable_pieces depth (pieces ++ piece ∷ []) (ends_in piece) goes (was begins).1,
+)
+
+pub tried_here : (question : Question) (paths : List PathValue) (usable_pieces : List PieceValue) (depth : ℕ) (pieces longer : List PieceValue) (piece : PieceValue) (end at : ℕ)
+    → longer ≡ pieces ++ piece ∷ [] → end ≡ ends_in piece → AreMatched question paths longer → AreTried question paths usable_pieces depth longer end
+    → WasTried question paths usable_pieces depth pieces at piece
+tried_here question paths usable_pieces depth pieces longer piece end at is ends matched tried = λ begins. (
+  subst (AreMatched question paths) is matched,
+  subst (λ more. AreTried question paths usable_pieces depth more (ends_in piece)) is (subst (AreTried question paths usable_pieces depth longer) ends tried),
+)
+
+pub none_tried : (question : Question) (paths : List PathValue) (usable_pieces : List PieceValue) (depth : ℕ) (pieces : List PieceValue) (at : ℕ) → depth ≡ 0
+    → AreTried question paths usable_pieces depth pieces at
+unfolding AreTried
+none_tried question paths usable_pieces zero pieces at is = tt
+none_tried question paths usable_pieces (suc depth) pieces at is = absurd (omega (arith, is))
+
+pub all_tried : (question : Question) (paths : List PathValue) (usable_pieces : List PieceValue) (depth left : ℕ) (pieces : List PieceValue) (at : ℕ) → left + 1 ≡ depth
+    → ((piece : PieceValue) → Contains usable_pieces piece → WasTried question paths usable_pieces left pieces at piece) → AreTried question paths usable_pieces depth pieces at
+unfolding AreTried
+all_tried question paths usable_pieces zero left pieces at is all = tt
+all_tried question paths usable_pieces (suc depth) left pieces at is all =
+    let same : left ≡ depth = omega (arith, is) in
+    subst (λ (n : ℕ). (piece : PieceValue) → Contains usable_pieces piece → WasTried question paths usable_pieces n pieces at piece) same all
+
+pub one_more : (pieces longer : List PieceValue) (piece : PieceValue) → longer ≡ pieces ++ piece ∷ [] → length longer ≡ length pieces + 1
+one_more pieces longer piece is = ap length is ∙ length-append pieces (piece ∷ [])
+
+pub own_more : (set : Selection) (pieces longer : List PieceValue) (piece : PieceValue) → longer ≡ pieces ++ piece ∷ [] → All (IsOf set) pieces → IsOf set piece → All (IsOf set) longer
+own_more set pieces longer piece is own one = subst (All (IsOf set)) (sym is) (All-push (IsOf set) pieces piece own one)
 
 -- what was accepted for what was asked is a candidate
 pub candidate_of : (question : Question) (pieces : List PieceValue) (path : Request) (found : PathValue) → All (IsOf question.set) pieces

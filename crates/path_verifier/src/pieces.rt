@@ -115,8 +115,8 @@ impl<'s> Pieces<'s> {
         }
     }
 
-    /// Copies of these pieces.
-    pub(crate) fn again(&self) -> Pieces<'s>
+    /// Copies of these pieces. It takes no memory.
+    pub fn again(&self) -> Pieces<'s>
         ensures { result ≡ self.now }
     {
         Pieces {

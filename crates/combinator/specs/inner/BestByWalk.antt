@@ -1,10 +1,10 @@
 -- How the best path of each walk is found (words of private functions' contracts).
-use Rattle.std.specs.Prelude.{◌≢◌, List, All, Any}
+use Rattle.std.specs.Prelude.{◌≡◌, ◌≢◌, ℕ, zero, suc, List, [], ◌∷◌, ◌++◌, All, Any, Contains}
 use Rattle.std.specs.declared.cmp.Ordering.{Ordering}
 use Rattle.std.specs.declared.cmp.Ordering.TheVariants.{Less}
 use Rattle.path_header.specs.Value.{HeaderValue}
 use Rattle.path_header.specs.Spelling.{SpellsHeader, spelling}
-use Rattle.path_verifier.specs.Piece.{PieceValue}
+use Rattle.path_verifier.specs.Piece.{PieceValue, begins_in, ends_in}
 use Rattle.path_verifier.specs.Walk.{walk_of}
 use Rattle.combinator.specs.Candidate.{Question, PathValue, path_with, IsCandidate}
 use Rattle.combinator.specs.Order.{walk_cmp, bytes_cmp, LastAsLong, HaveOneWalk}
@@ -35,3 +35,12 @@ unfoldable pub AreMatched : Question → List PathValue → List PieceValue → 
 AreMatched question paths pieces = (header : HeaderValue)
     → IsCandidate question (path_with pieces header)
     → SpellsHeader (spelling header) header × IsMet paths (path_with pieces header)
+
+-- so is each list that begins with these pieces and goes on, from this AS, with one to `depth`
+-- usable pieces, each of which begins where the one before it ends
+unfoldable pub AreTried : Question → List PathValue → List PieceValue → ℕ → List PieceValue → ℕ → Type 0
+AreTried question paths usable_pieces zero pieces at = Unit {0}
+AreTried question paths usable_pieces (suc depth) pieces at = (piece : PieceValue)
+    → Contains usable_pieces piece → begins_in piece ≡ at
+    → AreMatched question paths (pieces ++ piece ∷ [])
+    × AreTried question paths usable_pieces depth (pieces ++ piece ∷ []) (ends_in piece)

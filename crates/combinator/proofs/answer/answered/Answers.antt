@@ -17,7 +17,7 @@ returns g c =
     (λ piece is. subst (λ (pieces : List PieceValue). Contains pieces piece) (sym c.deref.ensures.value) (c.in_ok-usable_pieces.ensures.ups piece is))
     (λ piece is. subst (λ (pieces : List PieceValue). Contains pieces piece) (sym c.deref.ensures.value) (c.in_ok-usable_pieces.ensures.cores piece is))
     (λ piece is. subst (λ (pieces : List PieceValue). Contains pieces piece) (sym c.deref.ensures.value) (c.in_ok-usable_pieces.ensures.downs piece is))
-    c.in_ok-kept.kept c.in_ok-kept.ensures.one c.in_ok-kept.ensures.two c.in_ok-kept.ensures.three in record {
+    c.in_ok-kept.kept c.in_ok-kept.ensures.tried in record {
       answer = answer c.args.ask.now c.args.limit c.in_ok-kept.kept c.in_ok-found.found.items c.in_ok-kept.ensures.sound (subst (InOrder by_walk) c.into_list.ensures.all c.into_list.ensures.order)
           met c.in_ok-found.ensures.order c.in_ok-found.ensures.few
           (subst (λ (kept : List PathValue). (path : PathValue) → Contains kept path → Met path_cmp c.args.limit c.in_ok-found.found.items path) c.into_list.ensures.all c.in_ok-found.ensures.met)
