@@ -1,6 +1,6 @@
 -- The parts of a board's writer stay tied.
-use Rattle.std.proofs.Common.{◌≡◌, List, [], ◌∷◌, ◌++◌, fold, Option, Some, Result, Ok, Err, refl, ap, sym, ◌∙◌, subst}
-use Rattle.std.specs.Prelude.{MatchResult, OnOk, OnErr}
+use Rattle.std.proofs.Common.{◌≡◌, Bool, true, List, [], ◌∷◌, ◌++◌, fold, Option, Some, Result, Ok, Err, refl, ap, sym, ◌∙◌, subst}
+use Rattle.std.specs.Prelude.{MatchBool, MatchResult, OnOk, OnErr}
 use Rattle.std.proofs.lemmas.List.{append-nil, append_assoc}
 use mathlib.Core.List.{IsPrefix}
 use Rattle.left_right.specs.declared.writer.Writer.{Writer}
@@ -31,6 +31,18 @@ added old new op e = ap operations_of e ∙ operations-append old (Apply op ∷ 
 
 pub marked : (old new : List BoardOp) (f : KnownHistory) → new ≡ old ++ Mark f ∷ [] → operations_of new ≡ operations_of old
 marked old new f e = ap operations_of e ∙ (operations-append old (Mark f ∷ []) ∙ append-nil (operations_of old))
+
+-- a history that has grown by this edition
+abbrev pub with_edition : KnownHistory → Edition → KnownHistory
+with_edition history edition = record history { log = history.log ++ edition ∷ [] }
+
+pub has_grown : {grown : Bool} (next again latest : KnownHistory) (edition : Edition) → grown ≡ true
+    → MatchBool grown (next ≡ with_edition again edition) (next ≡ again) → again ≡ latest → next ≡ with_edition latest edition
+has_grown next again latest edition is grows same =
+    subst (λ (b : Bool). MatchBool b (next ≡ with_edition again edition) (next ≡ again)) is grows ∙ ap (λ (r : KnownHistory). with_edition r edition) same
+
+pub is_marked : (old new : List BoardOp) (f next : KnownHistory) → new ≡ old ++ Mark f ∷ [] → f ≡ next → new ≡ old ++ Mark next ∷ []
+is_marked old new f next queue same = queue ∙ ap (λ (r : KnownHistory). old ++ Mark r ∷ []) same
 
 pub on_ok : {T E : Type 0} (r : Result T E) (P Q R : Type 0) → MatchResult r (λ _. P) (λ _. Q) → (P → R) → OnOk r R
 on_ok (Ok x) P Q R h f = f h
@@ -95,7 +107,7 @@ module _ {P A S : Type 0} {g : _} (w v : Writer BoardValue BoardOp (Option Known
 
   module _ (next : KnownHistory) where
     -- the history has gone on by what is awaited
-    pub made_ready : IsInOrder w head root latest → v.desk ≡ w.desk → next ≡ record latest { log = latest.log ++ awaited w ∷ [] }
+    pub made_ready : IsInOrder w head root latest → v.desk ≡ w.desk → next ≡ with_edition latest (awaited w)
         → operations_of (queue_of v) ≡ operations_of (queue_of w) → IsInOrder v head root next
     made_ready o desk step same =
         let board : next.board ≡ latest.board = ap (λ (r : KnownHistory). r.board) step in
@@ -113,7 +125,7 @@ module _ {P A S : Type 0} {g : _} (w v : Writer BoardValue BoardOp (Option Known
           knows = knows_still o desk;
         }
 
-    pub is_ready : IsInOrder w head root latest → v.desk ≡ w.desk → next ≡ record latest { log = latest.log ++ awaited w ∷ [] }
+    pub is_ready : IsInOrder w head root latest → v.desk ≡ w.desk → next ≡ with_edition latest (awaited w)
         → queue_of v ≡ queue_of w ++ Mark next ∷ [] → IsReady (shown_of v) (queue_of v)
     is_ready o desk step queue =
         let ready : IsReady (shown_of w) (queue_of w ++ Mark next ∷ []) =
@@ -168,14 +180,14 @@ module _ {P A S : Type 0} {g : _} (w v : Writer BoardValue BoardOp (Option Known
       after_show (Ok x) o queue ready h = showed o queue ready h
       after_show (Err e) o queue ready h = kept o h
 
-      pub showed_view : next ≡ record latest { log = latest.log ++ awaited w ∷ [] } → queue_of v ≡ queue_of w ++ Mark next ∷ [] → Showed
+      pub showed_view : next ≡ with_edition latest (awaited w) → queue_of v ≡ queue_of w ++ Mark next ∷ [] → Showed
           → written next.board (edition_of u) (operations_of (queue_of u)) ≡ written latest.board (awaited w) []
       showed_view step queue s =
           let board : next.board ≡ latest.board = ap (λ (r : KnownHistory). r.board) step in
           let last : edition_of u ≡ awaited w = ap (λ (x : BoardValue). newest x.front.log) (shown_next queue s) ∙ (ap (λ (r : KnownHistory). newest r.log) step ∙ newest_last latest.log (awaited w)) in
           λ i. written (board i) (last i) (operations_of (s.1 i))
 
-      pub kept_view : v.desk ≡ w.desk → next ≡ record latest { log = latest.log ++ awaited w ∷ [] } → operations_of (queue_of v) ≡ operations_of (queue_of w) → Kept
+      pub kept_view : v.desk ≡ w.desk → next ≡ with_edition latest (awaited w) → operations_of (queue_of v) ≡ operations_of (queue_of w) → Kept
           → written next.board (edition_of u) (operations_of (queue_of u)) ≡ written latest.board (edition_of w) (operations_of (queue_of w))
       kept_view desk step same s =
           let board : next.board ≡ latest.board = ap (λ (r : KnownHistory). r.board) step in
