@@ -7,13 +7,13 @@ use crate::boards::{TRIES, Tally, destination, publish_six, seated, source};
 use crate::stores::NOW;
 use anyhow::{Context, Result};
 use daemon_cache::Daemon;
-use policy_expr::{OptionText, PolicyText};
 use segment_board::{BoardReader, BoardWriter, new_board};
 use std::alloc::{AllocError, Global};
 use std::sync::Wait;
 use std::sync::atomic::Ordering;
 use std::thread;
 use std::thread::Threads;
+use worked::option_text;
 
 /// The number of answers for which the cache has room.
 const CAPACITY: usize = 64;
@@ -44,11 +44,7 @@ fn ask<R: Wait>(
     reader: &mut BoardReader,
     weight: u32,
 ) -> Option<(u64, bool)> {
-    let text = PolicyText {
-        acl: None,
-        sequence: Some("0*"),
-    };
-    let options = [OptionText { text, weight }];
+    let options = [option_text(None, Some("0*"), weight)];
     for _ in 0..TRIES {
         let answer = daemon.ask(rt, alloc, reader, source(), destination(), &options, NOW, 8);
         if let Ok((paths, is_served)) = answer {

@@ -4,13 +4,13 @@ use isd_as::{IfId, IsdAs};
 use path_header::{MAX_HEADER_LEN, encode};
 use path_segment::{Entry, SegKind, Segment};
 use path_server::{PathStore, SegmentSet};
-use policy_expr::{AclText, OptionText, PolicyOption, PolicyText, WalkHop};
+use policy_expr::{AclText, OptionText, PolicyOption, WalkHop};
 use refusal::NumberedFault;
 use std::alloc::{AllocError, Global};
 use std::process::Abort;
 use std::slice;
 use std::test::Fail;
-use worked::{at, policy};
+use worked::{at, option_text, policy};
 
 /// An entry: its AS, its ways in and out, and the digits of its authenticator.
 type Row = (IsdAs, u16, u16, u64);
@@ -461,22 +461,11 @@ pub(crate) fn combine_in_a_row(alloc: Global, texts: &[OptionText<'_>]) -> Resul
 #[test]
 fn lighter_option(rt: HostRuntime) -> Result<(), Fail> {
     let acl = without_the_middle(rt.alloc())?;
-    let texts = [option_of(None, 1), option_of(Some(&acl), 5)];
+    let texts = [option_text(None, None, 1), option_text(Some(&acl), None, 5)];
     let list = combine_in_a_row(rt.alloc(), &texts)?;
     assert_eq!(rt; told_of(rt.alloc(), &list)?.as_str(), WAY_UP);
     assert!(rt; list.option() == Some(0));
     Ok(())
-}
-
-/// The option of a list alone, with this weight.
-pub(crate) fn option_of<'a>(acl: Option<&'a AclText>, weight: u32) -> OptionText<'a> {
-    OptionText {
-        text: PolicyText {
-            acl,
-            sequence: None,
-        },
-        weight,
-    }
 }
 
 /// The answer under options that are read into an arena and dropped with it; it equals the one that

@@ -1,26 +1,19 @@
-use crate::answers::{combine_in_a_row, option_of};
+use crate::answers::combine_in_a_row;
 use bumpalo::Bump;
-use policy_expr::{
-    AclText, OptionError, OptionFault, OptionText, PolicyFault, PolicyOption, PolicyText,
-};
+use policy_expr::{AclText, OptionError, OptionFault, OptionText, PolicyFault, PolicyOption};
 use refusal::NumberedFault;
 use std::alloc::{AllocError, Allocator, Global};
 use std::process::Abort;
 use std::slice;
 use std::test::Fail;
+use worked::option_text;
 
 /// The texts of options with these sequences; the weight of each is its place.
 fn texts_of<'a>(alloc: Global, sequences: &[&'a str]) -> Result<Vec<OptionText<'a>>, AllocError> {
     let mut texts = Vec::new(alloc);
     let mut weight = 0;
     for sequence in sequences {
-        texts.push(OptionText {
-            text: PolicyText {
-                acl: None,
-                sequence: Some(*sequence),
-            },
-            weight,
-        })?;
+        texts.push(option_text(None, Some(*sequence), weight))?;
         weight = if weight < 100 { weight + 1 } else { weight };
     }
     Ok(texts)
@@ -87,7 +80,7 @@ fn refusals_of_options(rt: HostRuntime) -> Result<(), Fail> {
 fn first_of_equal_options(rt: HostRuntime) -> Result<(), Fail> {
     let mut acl = AclText::new(rt.alloc());
     acl.push(rt.alloc(), "+")?;
-    let texts = [option_of(Some(&acl), 2), option_of(None, 2)];
+    let texts = [option_text(Some(&acl), None, 2), option_text(None, None, 2)];
     for text in &texts {
         assert_eq!(rt;
             combine_in_a_row(rt.alloc(), slice::from_ref(text))?.len(),

@@ -4,13 +4,13 @@ use crate::given_paths::step;
 use forwarding::PacketLocation;
 use isd_as::IfId;
 use network_core::{Event, Net, Stopped, run};
-use policy_expr::{OptionText, PolicyText, WalkHop};
+use policy_expr::{OptionText, WalkHop};
 use refusal::OrMemory;
 use refusing::Shortage;
 use scion_topology::Topology;
 use std::alloc::{AllocError, Global};
 use std::test::Fail;
-use worked::{at, hop, row};
+use worked::{at, hop, option_text, row};
 
 /// The events: a segment is made and registered, a path is asked for, and a packet is sent by it.
 /// It has its three turns, and a fourth turn finds it delivered.
@@ -66,13 +66,7 @@ fn topology(alloc: Global, shortage: &Shortage) -> Option<Topology> {
 /// The network after the events. If memory runs out at one of them, that event and all later ones
 /// are done again in the network that was returned.
 fn network(alloc: Global, shortage: &Shortage) -> Option<Net> {
-    let any = [OptionText {
-        text: PolicyText {
-            acl: None,
-            sequence: None,
-        },
-        weight: 0,
-    }];
+    let any = [option_text(None, None, 0)];
     let events = events(&any);
     let Stopped { mut net, done } = match run(alloc, topology(alloc, shortage)?, &events) {
         Ok(net) => return Some(net),

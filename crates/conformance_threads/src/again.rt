@@ -11,13 +11,14 @@ use daemon_cache::{AskError, AskFault, Daemon};
 use isd_as::IsdAs;
 use path_segment::Segment;
 use path_server::SegmentSet;
-use policy_expr::{OptionText, PolicyOption, PolicyText};
+use policy_expr::PolicyOption;
 use refusal::OrMemory;
 use refusing::Shortage;
 use segment_board::{BoardFault, BoardReader, BoardWriter, new_board};
 use std::alloc::Global;
 use std::sync::Wait;
 use std::thread;
+use worked::option_text;
 
 /// How often a reader's call is repeated.
 const TIMES: usize = 1_000;
@@ -150,17 +151,6 @@ pub(crate) fn daemon(alloc: Global, capacity: usize, shortage: &Shortage) -> Opt
     None
 }
 
-/// The option of weight 0 that allows each path.
-fn any<'a>() -> OptionText<'a> {
-    OptionText {
-        text: PolicyText {
-            acl: None,
-            sequence: None,
-        },
-        weight: 0,
-    }
-}
-
 /// The answer between these ends at second 100, and whether the cache gave it; or why there is
 /// none.
 fn asked_once<R: Wait>(
@@ -173,7 +163,7 @@ fn asked_once<R: Wait>(
 ) -> Result<(Answer, bool), AskError>
     ensures { reader.new.board ≡ reader.old.board }
 {
-    let options = [any()];
+    let options = [option_text(None, None, 0)];
     match daemon.ask(rt, alloc, reader, src, dst, &options, 100, 4) {
         Ok((paths, is_served)) => Ok((answer_of(&paths), is_served)),
         Err(error) => Err(error),
@@ -229,7 +219,7 @@ fn made_once(alloc: Global, reader: &mut BoardReader) -> Option<Answer> {
 /// The same from a lookup's set.
 fn made_of(alloc: Global, set: &SegmentSet) -> Option<Answer> {
     let arena = Bump::new(alloc);
-    let texts = [any()];
+    let texts = [option_text(None, None, 0)];
     let Ok(options) = PolicyOption::parse_all(&arena, &texts) else {
         return None;
     };

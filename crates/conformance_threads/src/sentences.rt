@@ -3,23 +3,13 @@
 use crate::segments::ia;
 use daemon_cache::{AskFault, Daemon};
 use isd_as::IsdAs;
-use policy_expr::{OptionText, PolicyText};
+use policy_expr::OptionText;
 use refusal::{NumberedFault, OrMemory};
 use segment_board::{BoardFault, BoardReader, BoardWriter, new_board};
 use std::alloc::Global;
 use std::sync::Wait;
 use std::test::Fail;
-
-/// The option of weight 0 without a list, and with this sequence.
-fn option(sequence: Option<&str>) -> OptionText<'_> {
-    OptionText {
-        text: PolicyText {
-            acl: None,
-            sequence,
-        },
-        weight: 0,
-    }
-}
+use worked::option_text;
 
 /// The code of the refusal of a request from 1-ff00:0:111, or 0 if there is none.
 fn code_of<R: Wait>(
@@ -44,8 +34,8 @@ fn code_of<R: Wait>(
 fn refusals<R: Wait>(rt: &R, alloc: Global, board: &mut BoardWriter) -> Option<[u16; 5]> {
     let mut reader = board.reader().ok()?;
     let same = ia(0x111);
-    let unread = [option(Some("1 |"))];
-    let plain = [option(None)];
+    let unread = [option_text(None, Some("1 |"), 0)];
+    let plain = [option_text(None, None, 0)];
     Some([
         code_of(rt, alloc, &mut reader, same, &[], 0)?,
         code_of(rt, alloc, &mut reader, same, &[], 65)?,

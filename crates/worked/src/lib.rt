@@ -1,14 +1,14 @@
 //! Worked examples for the tests of several crates: topologies, addresses, and paths in parts.
 #![tactic(auto)]
 
-ghost use Rattle.std.specs.Prelude.{◌≡◌, ◌+◌};
+ghost use Rattle.std.specs.Prelude.{◌≡◌, ◌+◌, option_map};
 ghost use Rattle.isd_as.specs.Address.{address_of};
 
 use isd_as::{IfId, IsdAs};
 use path_header::{Header, HopField, InfoField};
 use path_segment::{Entry, Segment};
 use path_verifier::{Piece, Pieces};
-use policy_expr::{AclText, Policy, PolicyText, WalkHop};
+use policy_expr::{AclText, OptionText, Policy, PolicyText, WalkHop};
 use std::alloc::Global;
 use std::test::Fail;
 
@@ -157,6 +157,24 @@ pub fn header_of(
         }
     }
     Ok(Header::new(lens, &infos, &hops)?)
+}
+
+/// The texts of an option; the list and the sequence may each be absent.
+pub fn option_text<'a>(
+    acl: Option<&'a AclText>,
+    sequence: Option<&'a str>,
+    weight: u32,
+) -> OptionText<'a>
+    ensures { result ≡ record {
+      acl = option_map (λ t. t.now) acl.entry;
+      sequence = option_map (λ t. t.now) sequence.entry;
+      weight = weight;
+    } }
+{
+    OptionText {
+        text: PolicyText { acl, sequence },
+        weight,
+    }
 }
 
 /// The policy of these texts; an empty list is no list, and a blank sequence is no sequence.
