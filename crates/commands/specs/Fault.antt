@@ -107,7 +107,7 @@ status_of (Usage text) = Refused
 status_of fault = Failed
 
 -- the exit status of the program
-abbrev pub code_of : Status → ℕ
-code_of Done = 0
-code_of Failed = 1
-code_of Refused = 2
+abbrev pub exit_code : Status → ℕ
+exit_code Done = 0
+exit_code Failed = 1
+exit_code Refused = 2

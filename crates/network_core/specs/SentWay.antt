@@ -4,6 +4,6 @@ use Rattle.network_core.specs.declared.way.SentWay.TheVariants.{Answered, Own}
 use Rattle.network_core.specs.Value.{Way}
 
 -- the stored way
-abbrev pub way_in : SentWay → Way
-way_in (Answered way) = way
-way_in (Own way) = way.value
+abbrev pub stored_way : SentWay → Way
+stored_way (Answered way) = way
+stored_way (Own way) = way.value

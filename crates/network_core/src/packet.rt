@@ -28,15 +28,15 @@ impl Model for Sent {
     ghost use Rattle.policy_expr.specs.Code.{coded_tree};
     ghost use Rattle.path_verifier.specs.Accepted.{IsAccepted};
     ghost use Rattle.network_core.specs.Value.{Shipment, asked_at};
-    ghost use Rattle.network_core.specs.SentWay.{way_in};
+    ghost use Rattle.network_core.specs.SentWay.{stored_way};
 
     ghost Value = { Shipment };
 
     ghost coded = { Prim.hlevel (codes, coded_tree) };
 
-    ghost view = { λ s. record { way = way_in s.way; payload = s.payload.items } };
+    ghost view = { λ s. record { way = stored_way s.way; payload = s.payload.items } };
 
-    ghost invariant = { λ s. ((moment : ℕ) × IsAccepted (asked_at moment (way_in s.way)))
+    ghost invariant = { λ s. ((moment : ℕ) × IsAccepted (asked_at moment (stored_way s.way)))
         × (length s.payload.items ≤ 1024) };
 }
 

@@ -6,7 +6,7 @@ ghost use Rattle.path_verifier.specs.Accepted.{IsAccepted};
 ghost use Rattle.forwarding.specs.Frame.{HasFrame};
 ghost use Rattle.network_core.specs.declared.fault.EventFault.TheVariants as faults;
 ghost use Rattle.network_core.specs.inner.Doing.{BeginsAt, DoesSend, JudgesEvent, Readies, ReadiesFrom};
-ghost use Rattle.network_core.specs.SentWay.{way_in};
+ghost use Rattle.network_core.specs.SentWay.{stored_way};
 ghost use Rattle.network_core.specs.Event.{BackOf, ByAnswer};
 ghost use Rattle.network_core.specs.Seen.{way_of};
 ghost use Rattle.network_core.specs.Value.{asked_at, way_on};
@@ -244,12 +244,12 @@ fn packet_of(
     moment: u32,
     router: u8,
 ) -> Result<Packet, AllocError>
-    requires accepted { IsAccepted (asked_at moment (way_in way)) }
+    requires accepted { IsAccepted (asked_at moment (stored_way way)) }
     requires few { length payload.now ≤ 1024 }
     ensures packet { IfOk result (λ p. p ≡ packet_of
-        (record { way = way_in way; payload = payload.now }) router) }
+        (record { way = stored_way way; payload = payload.now }) router) }
     ensures frame { OnOk result
-        (HasFrame (way_in way).source (way_in way).destination (way_in way).pieces) }
+        (HasFrame (stored_way way).source (stored_way way).destination (stored_way way).pieces) }
 {
     let lent = way.lent();
     lent.header.known();

@@ -3,7 +3,7 @@
 ghost use Rattle.std.specs.Prelude.{◌≡◌, IfOk, IsSome, slice_get};
 ghost use Rattle.network_core.specs.Seen.{way_of};
 ghost use Rattle.network_core.specs.AnsweredWay.{way_numbered};
-ghost use Rattle.network_core.specs.SentWay.{way_in};
+ghost use Rattle.network_core.specs.SentWay.{stored_way};
 
 use crate::answer::SharedAnswer;
 use crate::event::Given;
@@ -153,21 +153,21 @@ impl SentWay {
     /// The way by the path of this number, unless the answer has too many owners for their count.
     pub(crate) fn of_answer(answer: &SharedAnswer, path: usize) -> Result<SentWay, AllocError>
         requires { IsSome (slice_get answer.now.answer.paths path) }
-        ensures { IfOk result (λ way. way_in way ≡ way_numbered answer.now path) }
+        ensures { IfOk result (λ way. stored_way way ≡ way_numbered answer.now path) }
     {
         Ok(SentWay::Answered(AnsweredWay::of(answer, path)?))
     }
 
     /// A copy of a given way, unless memory runs out.
     pub(crate) fn of_given(alloc: Global, way: &Given<'_>) -> Result<SentWay, AllocError>
-        ensures { IfOk result (λ own. way_in own ≡ way_of way.now) }
+        ensures { IfOk result (λ own. stored_way own ≡ way_of way.now) }
     {
         Ok(SentWay::Own(Box::new(alloc, OwnWay::of(alloc, way)?)?))
     }
 
     /// Its parts.
     pub(crate) fn lent(&self) -> LentWay<'_>
-        ensures { result ≡ way_in self.now }
+        ensures { result ≡ stored_way self.now }
     {
         match self {
             SentWay::Answered(way) => way.lent(),

@@ -69,26 +69,26 @@ class_text Core = codes "penwidth=3"
 class_text Child = codes "dir=forward"
 
 -- the look of a link that the packet has passed: coloured, with the thickest line
-unfoldable pub passed_text : Bool → List ℕ
-passed_text true = codes ", color=red, penwidth=5"
-passed_text false = []
+unfoldable pub passed_look : Bool → List ℕ
+passed_look true = codes ", color=red, penwidth=5"
+passed_look false = []
 
 -- the look of a link that is cut: dashed
-unfoldable pub state_text : Bool → List ℕ
-state_text true = codes "];\n"
-state_text false = codes ", style=dashed];\n"
+unfoldable pub state_look : Bool → List ℕ
+state_look true = codes "];\n"
+state_look false = codes ", style=dashed];\n"
 
 -- the interfaces of a link, each at its end of the line
-unfoldable pub interfaces_text : Link → List ℕ
-interfaces_text link =
+unfoldable pub link_ends_text : Link → List ℕ
+link_ends_text link =
     codes " [taillabel=" ++ (decimal link.a.number ++ (codes ", headlabel="
     ++ (decimal link.b.number ++ codes ", ")))
 
 -- a link: a line between the routers that own its interfaces
 unfoldable pub link_text : List WalkHop → Link → List ℕ
 link_text passed link =
-    end_name link.a ++ (codes " -- " ++ (end_name link.b ++ (interfaces_text link
-    ++ (class_text link.class ++ (passed_text (was_passed passed link) ++ state_text link.up)))))
+    end_name link.a ++ (codes " -- " ++ (end_name link.b ++ (link_ends_text link
+    ++ (class_text link.class ++ (passed_look (was_passed passed link) ++ state_look link.up)))))
 
 -- ---- the network
 

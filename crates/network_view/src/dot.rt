@@ -1,7 +1,7 @@
 ghost use Rattle.std.specs.Prelude.{◌≡◌, ◌++◌, IfOk, OnOk, codes, flat_map};
 ghost use Rattle.std.specs.String.{string_bytes};
 ghost use Rattle.isd_as.specs.Address.{canonical};
-ghost use Rattle.network_view.specs.Dot.{as_text, box_name, class_text, core_text, dot_of, interfaces_text, isd_text, link_text, marked_text, passed_text, router_name, router_text, routers_text, state_text};
+ghost use Rattle.network_view.specs.Dot.{as_text, box_name, class_text, core_text, dot_of, link_ends_text, isd_text, link_text, marked_text, passed_look, router_name, router_text, routers_text, state_look};
 
 use crate::marks::{Router, is_at, was_passed};
 use isd_as::{Isd, IsdAs};
@@ -132,9 +132,9 @@ fn class_text(class: LinkClass) -> &'static str
 }
 
 /// The look of a link that the packet has passed.
-#[tactic(auto, unfolding(crate::specs::Dot::passed_text))]
-fn passed_text(passed: bool) -> &'static str
-    ensures { result.now ≡ passed_text passed }
+#[tactic(auto, unfolding(crate::specs::Dot::passed_look))]
+fn passed_look(passed: bool) -> &'static str
+    ensures { result.now ≡ passed_look passed }
 {
     if passed {
         ", color=red, penwidth=5"
@@ -144,18 +144,18 @@ fn passed_text(passed: bool) -> &'static str
 }
 
 /// The end of a link's line, with the look of a link that is cut.
-#[tactic(auto, unfolding(crate::specs::Dot::state_text))]
-fn state_text(up: bool) -> &'static str
-    ensures { result.now ≡ state_text up }
+#[tactic(auto, unfolding(crate::specs::Dot::state_look))]
+fn state_look(up: bool) -> &'static str
+    ensures { result.now ≡ state_look up }
 {
     if up { "];\n" } else { ", style=dashed];\n" }
 }
 
 /// Adds the interfaces of a link, each at its end of the line.
-#[tactic(auto, unfolding(crate::specs::Dot::interfaces_text))]
+#[tactic(auto, unfolding(crate::specs::Dot::link_ends_text))]
 fn add_interfaces(text: &mut String, link: &Link) -> Result<(), AllocError>
     ensures { OnOk result
-        (string_bytes text.new ≡ string_bytes text.old ++ interfaces_text link.now) }
+        (string_bytes text.new ≡ string_bytes text.old ++ link_ends_text link.now) }
 {
     let (a, b) = (link.a.number, link.b.number);
     write!(text, " [taillabel={a}, headlabel={b}, ")
@@ -168,8 +168,8 @@ fn add_link(text: &mut String, passed: &[WalkHop], link: &Link) -> Result<(), Al
         (string_bytes text.new ≡ string_bytes text.old ++ link_text passed.now link.now) }
 {
     let class = class_text(link.class);
-    let mark = passed_text(was_passed(passed, link));
-    let state = state_text(link.up);
+    let mark = passed_look(was_passed(passed, link));
+    let state = state_look(link.up);
     add_router_name(text, link.a.ia, link.a.router)?;
     text.push_str(" -- ")?;
     add_router_name(text, link.b.ia, link.b.router)?;

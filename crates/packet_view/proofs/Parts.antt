@@ -10,12 +10,12 @@ use Rattle.path_header.specs.declared.fields.InfoField.{InfoField}
 use Rattle.path_header.specs.declared.fields.HopField.{HopField}
 use Rattle.path_header.specs.Value.{HeaderValue, segment_at}
 use Rattle.router_step.specs.declared.arrival.Arrival.{Arrival}
-use Rattle.packet_view.specs.Fields.{place_text, lens_text}
+use Rattle.packet_view.specs.Fields.{indices_text, lens_text}
 use Rattle.packet_view.specs.Sides.{arrival_text, indices_sides, position_text, mac_under, mac_sides, right_text, before_text}
 
 -- of a packet's place
 pub indices_parts : (arrival : Arrival) (header : HeaderValue) (segment : ℕ) (place lens came : List ℕ)
-    → place ≡ place_text header → segment ≡ segment_at header.lens header.curr_hf → lens ≡ lens_text header.lens → came ≡ arrival_text arrival
+    → place ≡ indices_text header → segment ≡ segment_at header.lens header.curr_hf → lens ≡ lens_text header.lens → came ≡ arrival_text arrival
     → codes "2 indices: " ++ (place ++ (codes " of segment " ++ (decimal segment ++ (codes "; " ++ (lens ++ (codes "; from " ++ (came ++ []))))))) ≡ indices_sides arrival header
 unfolding indices_sides position_text
 indices_parts arrival header segment place lens came same_place same_segment same_lens same_came =
@@ -23,7 +23,7 @@ indices_parts arrival header segment place lens came same_place same_segment sam
     ∙ ap (λ (t : List ℕ). codes "2 indices: " ++ (place ++ (codes " of segment " ++ (decimal segment ++ (codes "; " ++ (t ++ (codes "; from " ++ arrival_text arrival))))))) same_lens
     ∙ ap (λ (n : ℕ). codes "2 indices: " ++ (place ++ (codes " of segment " ++ (decimal n ++ (codes "; " ++ (lens_text header.lens ++ (codes "; from " ++ arrival_text arrival))))))) same_segment
     ∙ ap (λ (t : List ℕ). codes "2 indices: " ++ (t ++ (codes " of segment " ++ (decimal (segment_at header.lens header.curr_hf) ++ (codes "; " ++ (lens_text header.lens ++ (codes "; from " ++ arrival_text arrival))))))) same_place
-    ∙ ap (λ (t : List ℕ). codes "2 indices: " ++ t) (sym (append_assoc (place_text header) (codes " of segment " ++ decimal (segment_at header.lens header.curr_hf)) (codes "; " ++ (lens_text header.lens ++ (codes "; from " ++ arrival_text arrival)))))
+    ∙ ap (λ (t : List ℕ). codes "2 indices: " ++ t) (sym (append_assoc (indices_text header) (codes " of segment " ++ decimal (segment_at header.lens header.curr_hf)) (codes "; " ++ (lens_text header.lens ++ (codes "; from " ++ arrival_text arrival)))))
 
 -- of an authenticator, whose parts are the right ones
 pub mac_parts : (number : ℕ) (view : View) (info : InfoField) (hop : HopField) (shown : ℕ) (right before : List ℕ)

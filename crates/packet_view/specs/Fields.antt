@@ -36,8 +36,8 @@ addresses_text packet =
     ++ address_text packet 8 (codes "source") (source_of packet)
 
 -- the place of the packet on its path
-unfoldable pub place_text : HeaderValue → List ℕ
-place_text header =
+unfoldable pub indices_text : HeaderValue → List ℕ
+indices_text header =
     codes "at info field " ++ (decimal header.curr_inf ++ (codes ", hop field "
     ++ decimal header.curr_hf))
 
@@ -49,7 +49,7 @@ lens_text lens =
 
 unfoldable pub meta_text : List ℕ → HeaderValue → List ℕ
 meta_text packet header =
-    field_text packet 16 1 (place_text header) ++ field_text packet 17 3 (lens_text header.lens)
+    field_text packet 16 1 (indices_text header) ++ field_text packet 17 3 (lens_text header.lens)
 
 -- ---- info and hop fields
 
@@ -58,8 +58,8 @@ abbrev pub flag_of : InfoField → ℕ
 flag_of info = if info.construction then 1 else 0
 
 -- the lines of the info field of this index, at this place of the packet
-unfoldable pub info_text : List ℕ → ℕ → ℕ → InfoField → List ℕ
-info_text packet start index info =
+unfoldable pub info_field_text : List ℕ → ℕ → ℕ → InfoField → List ℕ
+info_field_text packet start index info =
     number_text packet start 2 (codes "info") index (codes "construction direction") (flag_of info)
     ++ (number_text packet (start + 2) 2 (codes "info") index (codes "accumulator") info.seg_id
     ++ number_text packet (start + 4) 4 (codes "info") index (codes "made at second")
@@ -76,8 +76,8 @@ mac_text packet start index =
 
 -- the lines of the hop field of this index, at this place of the packet, on a segment with this
 -- timestamp
-unfoldable pub hop_text : List ℕ → ℕ → ℕ → ℕ → HopField → List ℕ
-hop_text packet start index timestamp hop =
+unfoldable pub hop_field_text : List ℕ → ℕ → ℕ → ℕ → HopField → List ℕ
+hop_field_text packet start index timestamp hop =
     number_text packet start 1 (codes "hop") index (codes "flags") 0
     ++ (number_text packet (start + 1) 1 (codes "hop") index (codes "live up to second")
     (last_live timestamp hop)
@@ -93,25 +93,25 @@ each_below one zero = []
 each_below one (suc n) = each_below one n ++ one n
 
 -- the lines of the info field of this index of a header
-abbrev pub info_text_at : List ℕ → HeaderValue → ℕ → List ℕ
-info_text_at packet header index =
-    info_text packet (20 + 8 * index) index (info_field_at header index)
+abbrev pub info_field_text_at : List ℕ → HeaderValue → ℕ → List ℕ
+info_field_text_at packet header index =
+    info_field_text packet (20 + 8 * index) index (info_field_at header index)
 
-unfoldable pub infos_text : List ℕ → HeaderValue → ℕ → List ℕ
-infos_text packet header count = each_below (info_text_at packet header) count
+unfoldable pub info_fields_text : List ℕ → HeaderValue → ℕ → List ℕ
+info_fields_text packet header count = each_below (info_field_text_at packet header) count
 
 -- the hop field of this index
 abbrev pub hop_field : HeaderValue → ℕ → HopField
 hop_field header index = current_hop (record header { curr_hf = index })
 
 -- the lines of the hop field of this index of a header
-abbrev pub hop_text_at : List ℕ → HeaderValue → ℕ → List ℕ
-hop_text_at packet header index =
-    hop_text packet (20 + 8 * length header.infos + 12 * index) index
+abbrev pub hop_field_text_at : List ℕ → HeaderValue → ℕ → List ℕ
+hop_field_text_at packet header index =
+    hop_field_text packet (20 + 8 * length header.infos + 12 * index) index
     (info_field_at header (segment_at header.lens index)).timestamp (hop_field header index)
 
-unfoldable pub hops_text : List ℕ → HeaderValue → ℕ → List ℕ
-hops_text packet header count = each_below (hop_text_at packet header) count
+unfoldable pub hop_fields_text : List ℕ → HeaderValue → ℕ → List ℕ
+hop_fields_text packet header count = each_below (hop_field_text_at packet header) count
 
 -- ---- the packet
 
@@ -124,8 +124,8 @@ payload_text packet start =
 -- the lines of a path header
 abbrev pub header_text : List ℕ → HeaderValue → List ℕ
 header_text packet header =
-    meta_text packet header ++ (infos_text packet header (length header.infos)
-    ++ hops_text packet header (length header.hops))
+    meta_text packet header ++ (info_fields_text packet header (length header.infos)
+    ++ hop_fields_text packet header (length header.hops))
 
 -- the lines after the addresses: of a path header and a payload
 unfoldable pub behind_text : List ℕ → Result (HeaderValue × ℕ) Refusal → List ℕ

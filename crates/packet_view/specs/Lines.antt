@@ -5,14 +5,14 @@ use Rattle.refusal.specs.Optional.{◌>>=◌}
 use Rattle.router_step.specs.declared.fault.Refusal.{Refusal}
 use Rattle.step_line.specs.Fields.{hex_bytes_of}
 use Rattle.step_line.specs.Turn.{Turn}
-use Rattle.step_line.specs.Line.{line_of, refusal_text}
+use Rattle.step_line.specs.Line.{line_of, refusal_line}
 use Rattle.packet_view.specs.Fields.{fields_text}
 use Rattle.packet_view.specs.Checks.{CheckValue, checks_of}
 
 -- `ok` if a check succeeds, else its refusal
 abbrev pub verdict_text : Result (Unit {0}) Refusal → List ℕ
 verdict_text (Ok done) = codes "ok"
-verdict_text (Err refusal) = refusal_text refusal
+verdict_text (Err refusal) = refusal_line refusal
 
 -- the line of a check
 unfoldable pub check_text : CheckValue → List ℕ

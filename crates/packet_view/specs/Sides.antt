@@ -15,7 +15,7 @@ use Rattle.path_header.specs.Value.{HeaderValue, segment_at}
 use Rattle.router_step.specs.declared.arrival.Arrival.{Arrival}
 use Rattle.router_step.specs.declared.arrival.Arrival.TheVariants.{FromHost, Inside, Link}
 use Rattle.router_step.specs.Place.{way_in, way_out}
-use Rattle.packet_view.specs.Fields.{last_live, place_text, lens_text}
+use Rattle.packet_view.specs.Fields.{last_live, indices_text, lens_text}
 
 -- ---- words
 
@@ -26,10 +26,10 @@ arrival_text Inside = codes "inside the AS"
 arrival_text (Link interface) = codes "interface " ++ decimal interface
 
 -- the kind of a link: what the AS at its far end is
-unfoldable pub kind_text : LinkKind → List ℕ
-kind_text Core = codes "core"
-kind_text Parent = codes "parent"
-kind_text Child = codes "child"
+unfoldable pub link_kind_text : LinkKind → List ℕ
+link_kind_text Core = codes "core"
+link_kind_text Parent = codes "parent"
+link_kind_text Child = codes "child"
 
 -- the router that owns an interface, if the AS has the interface
 unfoldable pub owner_text : Option IfEntry → List ℕ
@@ -43,7 +43,7 @@ origin_text view Inside = codes "inside the AS"
 origin_text view (Link interface) = far_text (entry_of view interface) where
   far_text : Option IfEntry → List ℕ
   far_text None = codes "no link"
-  far_text (Some entry) = kind_text entry.kind
+  far_text (Some entry) = link_kind_text entry.kind
 
 -- ---- sides
 
@@ -54,7 +54,7 @@ header_sides packet = codes "1 header: a packet of " ++ (decimal (length packet)
 -- the place of the packet, and the segment of its current hop field
 unfoldable pub position_text : HeaderValue → List ℕ
 position_text header =
-    place_text header ++ (codes " of segment " ++ decimal (segment_at header.lens header.curr_hf))
+    indices_text header ++ (codes " of segment " ++ decimal (segment_at header.lens header.curr_hf))
 
 -- check 2: the packet's place, the segment of its hop field, the segment lengths, and how it came
 unfoldable pub indices_sides : Arrival → HeaderValue → List ℕ
@@ -128,10 +128,10 @@ way_out_sides view info hop =
 -- check 11: the kinds of the links in and out, and whether there is a switch between them
 unfoldable pub kinds_sides : View → Arrival → Bool → LinkKind → List ℕ
 kinds_sides view arrival true out =
-    codes "11 link kinds: from " ++ (origin_text view arrival ++ (codes " to " ++ (kind_text out
+    codes "11 link kinds: from " ++ (origin_text view arrival ++ (codes " to " ++ (link_kind_text out
     ++ codes ", with a switch")))
 kinds_sides view arrival false out =
-    codes "11 link kinds: from " ++ (origin_text view arrival ++ (codes " to " ++ kind_text out))
+    codes "11 link kinds: from " ++ (origin_text view arrival ++ (codes " to " ++ link_kind_text out))
 
 -- check 12: the router that owns the way out, and this one
 unfoldable pub owner_sides : View → IfEntry → List ℕ

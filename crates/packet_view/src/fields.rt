@@ -3,7 +3,7 @@
 ghost use Rattle.std.specs.Prelude.{◌≡◌, ◌+◌, ◌<◌, ◌≤◌, ◌++◌, length, IfOk, OnOk};
 ghost use Rattle.std.specs.String.{string_bytes};
 ghost use Rattle.path_header.specs.Value.{header_len};
-ghost use Rattle.packet_view.specs.Fields.{address_text, behind_text, field_text, fields_text, flag_of, header_text, hop_text, hop_text_at, hops_text, info_text, info_text_at, infos_text, last_live, mac_text, meta_text, number_text, payload_text};
+ghost use Rattle.packet_view.specs.Fields.{address_text, behind_text, field_text, fields_text, flag_of, header_text, hop_field_text, hop_field_text_at, hop_fields_text, info_field_text, info_field_text_at, info_fields_text, last_live, mac_text, meta_text, number_text, payload_text};
 ghost use Rattle.packet_view.specs.inner.Part.{parts_text};
 ghost use Rattle.router_step.specs.Packet.{header_in};
 
@@ -117,7 +117,7 @@ pub(crate) fn last_live(timestamp: u32, hop: &HopField) -> u64
 }
 
 /// Adds the lines of the info field of this index, at this place of the packet.
-#[tactic(auto, unfolding(crate::specs::Fields::info_text))]
+#[tactic(auto, unfolding(crate::specs::Fields::info_field_text))]
 fn add_info(
     alloc: Global,
     text: &mut String,
@@ -128,7 +128,7 @@ fn add_info(
 ) -> Result<(), AllocError>
     requires { start + 8 ≤ length packet.now }
     ensures { OnOk result (string_bytes text.new
-        ≡ string_bytes text.old ++ info_text packet.now start index info.now) }
+        ≡ string_bytes text.old ++ info_field_text packet.now start index info.now) }
 {
     let flag = flag_of(info);
     let name = "construction direction";
@@ -184,7 +184,7 @@ fn add_mac(
 
 /// Adds the lines of the hop field of this index, at this place of the packet, on a segment with
 /// this timestamp.
-#[tactic(auto, unfolding(crate::specs::Fields::hop_text))]
+#[tactic(auto, unfolding(crate::specs::Fields::hop_field_text))]
 fn add_hop(
     alloc: Global,
     text: &mut String,
@@ -196,7 +196,7 @@ fn add_hop(
 ) -> Result<(), AllocError>
     requires { start + 12 ≤ length packet.now }
     ensures { OnOk result (string_bytes text.new
-        ≡ string_bytes text.old ++ hop_text packet.now start index timestamp hop.now) }
+        ≡ string_bytes text.old ++ hop_field_text packet.now start index timestamp hop.now) }
 {
     add_number(alloc, text, packet, start, 1, "hop", index, "flags", 0)?;
     let last = last_live(timestamp, hop);
@@ -242,7 +242,7 @@ fn add_info_at(
     requires within { index < length header.now.infos }
     requires whole { 16 + header_len header.now ≤ length packet.now }
     ensures { OnOk result (string_bytes text.new
-        ≡ string_bytes text.old ++ info_text_at packet.now header.now index) }
+        ≡ string_bytes text.old ++ info_field_text_at packet.now header.now index) }
 {
     header.known();
     let start = 20 + 8 * index;
@@ -250,11 +250,11 @@ fn add_info_at(
 }
 
 /// The info fields.
-#[tactic(auto, unfolding(crate::specs::Fields::infos_text, crate::specs::Fields::each_below))]
-fn infos_text(alloc: Global, packet: &[u8], header: &Header) -> Result<String, AllocError>
+#[tactic(auto, unfolding(crate::specs::Fields::info_fields_text, crate::specs::Fields::each_below))]
+fn info_fields_text(alloc: Global, packet: &[u8], header: &Header) -> Result<String, AllocError>
     requires { 16 + header_len header.now ≤ length packet.now }
     ensures { IfOk result (λ text. string_bytes text
-        ≡ infos_text packet.now header.now (length header.now.infos)) }
+        ≡ info_fields_text packet.now header.now (length header.now.infos)) }
 {
     let mut text = String::new(alloc);
     for index in 0..header.info_count() {
@@ -274,7 +274,7 @@ fn add_hop_at(
     requires within { index < length header.now.hops }
     requires whole { 16 + header_len header.now ≤ length packet.now }
     ensures { OnOk result (string_bytes text.new
-        ≡ string_bytes text.old ++ hop_text_at packet.now header.now index) }
+        ≡ string_bytes text.old ++ hop_field_text_at packet.now header.now index) }
 {
     header.known();
     let timestamp = header.info(header.segment_of(index)).timestamp;
@@ -284,11 +284,11 @@ fn add_hop_at(
 }
 
 /// The hop fields.
-#[tactic(auto, unfolding(crate::specs::Fields::hops_text, crate::specs::Fields::each_below))]
-fn hops_text(alloc: Global, packet: &[u8], header: &Header) -> Result<String, AllocError>
+#[tactic(auto, unfolding(crate::specs::Fields::hop_fields_text, crate::specs::Fields::each_below))]
+fn hop_fields_text(alloc: Global, packet: &[u8], header: &Header) -> Result<String, AllocError>
     requires { 16 + header_len header.now ≤ length packet.now }
     ensures { IfOk result (λ text. string_bytes text
-        ≡ hops_text packet.now header.now (length header.now.hops)) }
+        ≡ hop_fields_text packet.now header.now (length header.now.hops)) }
 {
     let mut text = String::new(alloc);
     for index in 0..header.hop_count() {
@@ -329,8 +329,8 @@ fn add_header(
         ++ header_text packet.now header.now) }
 {
     add_meta(alloc, text, packet, header)?;
-    text.push_str(infos_text(alloc, packet, header)?.as_str())?;
-    text.push_str(hops_text(alloc, packet, header)?.as_str())
+    text.push_str(info_fields_text(alloc, packet, header)?.as_str())?;
+    text.push_str(hop_fields_text(alloc, packet, header)?.as_str())
 }
 
 /// Adds the lines after the addresses: of a path header and a payload.

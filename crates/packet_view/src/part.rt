@@ -3,7 +3,7 @@
 ghost use Rattle.std.specs.Prelude.{◌≡◌, ◌++◌, OnOk};
 ghost use Rattle.std.specs.String.{string_bytes};
 ghost use Rattle.hex.specs.Hex.{encode_lower};
-ghost use Rattle.packet_view.specs.Fields.{lens_text, place_text};
+ghost use Rattle.packet_view.specs.Fields.{lens_text, indices_text};
 ghost use Rattle.packet_view.specs.inner.Part.{part_text, parts_text};
 ghost use Rattle.packet_view.specs.declared.part.Part.TheVariants.{Lens, Place};
 
@@ -35,9 +35,9 @@ pub(crate) enum Part<'a> {
 }
 
 /// The place of the packet on its path.
-#[tactic(auto, unfolding(crate::specs::Fields::place_text))]
+#[tactic(auto, unfolding(crate::specs::Fields::indices_text))]
 pub(crate) fn place_part(header: &Header) -> Part<'static>
-    ensures { part_text result ≡ place_text header.now }
+    ensures { part_text result ≡ indices_text header.now }
 {
     Part::Place(header.curr_inf(), header.curr_hf())
 }

@@ -3,7 +3,7 @@
 ghost use Rattle.std.specs.Prelude.{◌≡◌, ◌+◌, ◌<◌, ◌≤◌, length, slice_get};
 ghost use Rattle.std.specs.Option.{option_copied};
 ghost use Rattle.scion_topology.specs.Keys.{key_in_use};
-ghost use Rattle.packet_view.specs.Sides.{arrival_text, before_text, destination_sides, header_sides, indices_sides, kind_text, kinds_sides, link_sides, live_sides, mac_sides, mac_under, origin_text, owner_sides, owner_text, source_sides, switch_sides, way_in_sides, way_out_sides};
+ghost use Rattle.packet_view.specs.Sides.{arrival_text, before_text, destination_sides, header_sides, indices_sides, link_kind_text, kinds_sides, link_sides, live_sides, mac_sides, mac_under, origin_text, owner_sides, owner_text, source_sides, switch_sides, way_in_sides, way_out_sides};
 ghost use Rattle.packet_view.specs.inner.Part.{part_text, parts_text};
 
 use crate::fields::last_live;
@@ -27,9 +27,9 @@ fn arrival_part(arrival: Arrival) -> Part<'static>
 }
 
 /// The kind of a link: what the AS at its far end is.
-#[tactic(auto, unfolding(crate::specs::Sides::kind_text))]
-fn kind_text(kind: LinkKind) -> &'static str
-    ensures { result.now ≡ kind_text kind }
+#[tactic(auto, unfolding(crate::specs::Sides::link_kind_text))]
+fn link_kind_text(kind: LinkKind) -> &'static str
+    ensures { result.now ≡ link_kind_text kind }
 {
     match kind {
         LinkKind::Core => "core",
@@ -274,7 +274,7 @@ fn origin_text(at: &Situation<'_>) -> &'static str
         Arrival::Inside => "inside the AS",
         Arrival::Link(interface) => match at.view.entry(interface) {
             None => "no link",
-            Some(entry) => kind_text(entry.kind),
+            Some(entry) => link_kind_text(entry.kind),
         },
     }
 }
@@ -289,7 +289,7 @@ pub(crate) fn kinds_sides(at: &Situation<'_>, switched: bool, out: LinkKind) -> 
         Part::Words("11 link kinds: from "),
         Part::Words(origin_text(at)),
         Part::Words(" to "),
-        Part::Words(kind_text(out)),
+        Part::Words(link_kind_text(out)),
         Part::Words(if switched { ", with a switch" } else { "" }),
     ]
 }

@@ -11,7 +11,7 @@ use Rattle.combinator.specs.Fault.{ends_at}
 use Rattle.scion_ffi_paths.specs.declared.fault.RequestFault.{RequestFault}
 use Rattle.scion_ffi_paths.specs.declared.fault.RequestFault.TheVariants.{BadLimit, Policy, Ends}
 use Rattle.scion_ffi_paths.specs.Asked.{Asked, PathsAsked, paths_asked_in}
-use Rattle.scion_ffi_paths.specs.Text.{fault_text, paths_text}
+use Rattle.scion_ffi_paths.specs.Text.{fault_json, paths_json}
 
 -- the options of a request, or its first refusal
 unfoldable pub options_of_request : PathsAsked → Result (List WeighedRules) RequestFault
@@ -41,12 +41,12 @@ AreAnswer request options answer =
 abbrev pub AnswersUnder : PathsAsked → Result (List WeighedRules) RequestFault → List ℕ → Type 0
 AnswersUnder request (Ok options) text =
     (answer : AnswerValue) × (AreAnswer request options answer
-    × (text ≡ paths_text request.asked.segments answer.paths))
-AnswersUnder request (Err fault) text = text ≡ fault_text fault
+    × (text ≡ paths_json request.asked.segments answer.paths))
+AnswersUnder request (Err fault) text = text ≡ fault_json fault
 
 abbrev pub AnswersRequest : Result PathsAsked RequestFault → List ℕ → Type 0
 AnswersRequest (Ok request) text = AnswersUnder request (options_of_request request) text
-AnswersRequest (Err fault) text = text ≡ fault_text fault
+AnswersRequest (Err fault) text = text ≡ fault_json fault
 
 -- the text answers the request in these bytes
 abbrev pub AnswersPaths : List ℕ → List ℕ → Type 0

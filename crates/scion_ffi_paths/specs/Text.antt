@@ -21,42 +21,42 @@ place_in_list segment (one ∷ later) = if is_same one segment then 0
     else 1 + place_in_list segment later
 
 -- true or false
-abbrev pub truth_text : Bool → List ℕ
-truth_text true = codes "true"
-truth_text false = codes "false"
+abbrev pub truth_json : Bool → List ℕ
+truth_json true = codes "true"
+truth_json false = codes "false"
 
 -- a piece: the place of its segment in the request, the places of its entries, and its direction
-unfoldable pub piece_text : List Chain → PieceValue → List ℕ
-piece_text segments piece =
-    codes "{\"along\":" ++ (truth_text piece.along
+unfoldable pub piece_json : List Chain → PieceValue → List ℕ
+piece_json segments piece =
+    codes "{\"along\":" ++ (truth_json piece.along
     ++ (codes ",\"from\":" ++ (decimal piece.from
     ++ (codes ",\"segment\":" ++ (decimal (place_in_list piece.segment segments)
     ++ (codes ",\"to\":" ++ (decimal piece.to ++ codes "}")))))))
 
 -- a path: the half second at which it expires, its header in hexadecimal, the letters of its
 -- pieces, the pieces in order of travel, and its walk
-unfoldable pub path_text : List Chain → PathValue → List ℕ
-path_text segments path =
+unfoldable pub path_json : List Chain → PathValue → List ℕ
+path_json segments path =
     codes "{\"expiry\":" ++ (decimal (path_expiry path.pieces)
     ++ (codes ",\"header\":\"" ++ (encode_lower (spelling path.header)
     ++ (codes "\",\"kind\":\"" ++ (kinds_text path.pieces
-    ++ (codes "\",\"pieces\":[" ++ (join_by (piece_text segments) (codes ",") path.pieces
+    ++ (codes "\",\"pieces\":[" ++ (join_by (piece_json segments) (codes ",") path.pieces
     ++ (codes "],\"walk\":\"" ++ (hops_text (walk_of path.pieces) ++ codes "\"}")))))))))
 
 -- the paths of an answer, best first
-unfoldable pub paths_text : List Chain → List PathValue → List ℕ
-paths_text segments paths =
-    codes "{\"paths\":[" ++ (join_by (path_text segments) (codes ",") paths ++ codes "]}")
+unfoldable pub paths_json : List Chain → List PathValue → List ℕ
+paths_json segments paths =
+    codes "{\"paths\":[" ++ (join_by (path_json segments) (codes ",") paths ++ codes "]}")
 
 -- a path that may be sent
-unfoldable pub accepted_text : List PieceValue → List ℕ
-accepted_text pieces =
+unfoldable pub accepted_json : List PieceValue → List ℕ
+accepted_json pieces =
     codes "{\"expiry\":" ++ (decimal (path_expiry pieces)
     ++ (codes ",\"kind\":\"" ++ (kinds_text pieces
     ++ (codes "\",\"walk\":\"" ++ (hops_text (walk_of pieces) ++ codes "\"}")))))
 
 -- a refusal: its number and its name
-unfoldable pub fault_text : RequestFault → List ℕ
-fault_text fault =
+unfoldable pub fault_json : RequestFault → List ℕ
+fault_json fault =
     codes "{\"code\":" ++ (decimal (code_and_name fault).0
     ++ (codes ",\"name\":\"" ++ ((code_and_name fault).1 ++ codes "\"}")))

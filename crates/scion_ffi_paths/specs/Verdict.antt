@@ -6,19 +6,19 @@ use Rattle.path_verifier.specs.Accepted.{Request, IsAccepted, IsRefused}
 use Rattle.scion_ffi_paths.specs.declared.fault.RequestFault.{RequestFault}
 use Rattle.scion_ffi_paths.specs.declared.fault.RequestFault.TheVariants.{Path}
 use Rattle.scion_ffi_paths.specs.Given.{given_in, request_at}
-use Rattle.scion_ffi_paths.specs.Text.{accepted_text, fault_text}
+use Rattle.scion_ffi_paths.specs.Text.{accepted_json, fault_json}
 
 -- the path may be sent, and the text describes it; or it may not, and the text has the fault of the
 -- first rule that it breaks
 abbrev pub IsJudged : Request → List ℕ → Type 0
 IsJudged request text =
-    (IsAccepted request × (text ≡ accepted_text request.pieces))
-    ⊎ ((fault : VerifyFault) × (IsRefused request fault × (text ≡ fault_text (Path fault))))
+    (IsAccepted request × (text ≡ accepted_json request.pieces))
+    ⊎ ((fault : VerifyFault) × (IsRefused request fault × (text ≡ fault_json (Path fault))))
 
 -- the verifier has judged the request; or the text has the refusal before it
 abbrev pub AnswersVerdict : Result Request RequestFault → List ℕ → Type 0
 AnswersVerdict (Ok request) text = IsJudged request text
-AnswersVerdict (Err fault) text = text ≡ fault_text fault
+AnswersVerdict (Err fault) text = text ≡ fault_json fault
 
 -- the text answers the request to verify in these bytes
 abbrev pub AnswersVerify : List ℕ → List ℕ → Type 0

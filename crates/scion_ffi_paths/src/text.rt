@@ -7,7 +7,7 @@ ghost use Rattle.hex.specs.Hex.{encode_lower};
 ghost use Rattle.path_header.specs.Spelling.{spelling};
 ghost use Rattle.event_lines.specs.Text.{hops_text, kinds_text};
 ghost use Rattle.path_verifier.specs.Piece.{HasRange};
-ghost use Rattle.scion_ffi_paths.specs.Text.{accepted_text, fault_text, path_text, paths_text, piece_text, place_in_list, truth_text};
+ghost use Rattle.scion_ffi_paths.specs.Text.{accepted_json, fault_json, path_json, paths_json, piece_json, place_in_list, truth_json};
 
 use crate::expiry::{path_expiry, verified_expiry};
 use crate::fault::RequestFault;
@@ -34,15 +34,15 @@ fn place_in_list(segment: &Segment, segments: &[Segment]) -> usize
 
 /// True or false.
 fn truth(is_so: bool) -> &'static str
-    ensures { result.now ≡ truth_text is_so }
+    ensures { result.now ≡ truth_json is_so }
 {
     if is_so { "true" } else { "false" }
 }
 
 /// A piece.
-#[tactic(auto, unfolding(crate::specs::Text::piece_text))]
+#[tactic(auto, unfolding(crate::specs::Text::piece_json))]
 fn piece(alloc: Global, segments: &[Segment], piece: &OwnedPiece) -> Result<String, AllocError>
-    ensures { IfOk result (λ text. string_bytes text ≡ piece_text segments.now piece.now) }
+    ensures { IfOk result (λ text. string_bytes text ≡ piece_json segments.now piece.now) }
 {
     let (along, place) = (truth(piece.along), place_in_list(&piece.segment, segments));
     format!(in alloc;
@@ -59,7 +59,7 @@ fn push_pieces(
     pieces: &[OwnedPiece],
 ) -> Result<(), AllocError>
     ensures { OnOk result (string_bytes text.new ≡ string_bytes text.old
-        ++ join_by (piece_text segments.now) (codes ",") pieces.now) }
+        ++ join_by (piece_json segments.now) (codes ",") pieces.now) }
 {
     let Some((first, later)) = pieces.split_first() else {
         return Ok(());
@@ -75,7 +75,7 @@ fn push_pieces(
 /// Pieces, separated by commas.
 fn pieces(alloc: Global, segments: &[Segment], pieces: &[OwnedPiece]) -> Result<String, AllocError>
     ensures { IfOk result (λ text. string_bytes text
-        ≡ join_by (piece_text segments.now) (codes ",") pieces.now) }
+        ≡ join_by (piece_json segments.now) (codes ",") pieces.now) }
 {
     let mut text = String::new(alloc);
     push_pieces(alloc, &mut text, segments, pieces)?;
@@ -95,10 +95,10 @@ fn header(alloc: Global, header: &Header) -> Result<String, AllocError>
 }
 
 /// A path.
-#[tactic(auto, unfolding(crate::specs::Text::path_text))]
+#[tactic(auto, unfolding(crate::specs::Text::path_json))]
 fn path(alloc: Global, segments: &[Segment], path: &Path) -> Result<String, AllocError>
     requires { All HasRange path.now.pieces }
-    ensures { IfOk result (λ text. string_bytes text ≡ path_text segments.now path.now) }
+    ensures { IfOk result (λ text. string_bytes text ≡ path_json segments.now path.now) }
 {
     let expiry = path_expiry(path.pieces());
     let header = header(alloc, path.header())?;
@@ -124,7 +124,7 @@ fn push_paths(
 ) -> Result<(), AllocError>
     requires { All (λ path. All HasRange path.pieces) paths.now }
     ensures { OnOk result (string_bytes text.new ≡ string_bytes text.old
-        ++ join_by (path_text segments.now) (codes ",") paths.now) }
+        ++ join_by (path_json segments.now) (codes ",") paths.now) }
 {
     let Some((first, later)) = paths.split_first() else {
         return Ok(());
@@ -138,14 +138,14 @@ fn push_paths(
 }
 
 /// The paths of an answer.
-#[tactic(auto, unfolding(crate::specs::Text::paths_text))]
+#[tactic(auto, unfolding(crate::specs::Text::paths_json))]
 pub(crate) fn paths(
     alloc: Global,
     segments: &[Segment],
     paths: &[Path],
 ) -> Result<String, AllocError>
     requires { All (λ path. All HasRange path.pieces) paths.now }
-    ensures { IfOk result (λ text. string_bytes text ≡ paths_text segments.now paths.now) }
+    ensures { IfOk result (λ text. string_bytes text ≡ paths_json segments.now paths.now) }
 {
     let mut text = String::from_str(alloc, "{\"paths\":[")?;
     push_paths(alloc, &mut text, segments, paths)?;
@@ -154,12 +154,12 @@ pub(crate) fn paths(
 }
 
 /// A path that may be sent.
-#[tactic(auto, unfolding(crate::specs::Text::accepted_text))]
+#[tactic(auto, unfolding(crate::specs::Text::accepted_json))]
 pub(crate) fn accepted(
     alloc: Global,
     path: &VerifiedPath<'_, '_, Global>,
 ) -> Result<String, AllocError>
-    ensures { IfOk result (λ text. string_bytes text ≡ accepted_text path.entry.now.pieces) }
+    ensures { IfOk result (λ text. string_bytes text ≡ accepted_json path.entry.now.pieces) }
 {
     let kinds = kinds_text(alloc, path.pieces())?;
     let walk = hops_text(alloc, path.walk())?;
@@ -172,9 +172,9 @@ pub(crate) fn accepted(
 }
 
 /// A refusal.
-#[tactic(auto, unfolding(crate::specs::Text::fault_text))]
+#[tactic(auto, unfolding(crate::specs::Text::fault_json))]
 pub(crate) fn refusal(alloc: Global, fault: RequestFault) -> Result<String, AllocError>
-    ensures { IfOk result (λ text. string_bytes text ≡ fault_text fault) }
+    ensures { IfOk result (λ text. string_bytes text ≡ fault_json fault) }
 {
     format!(in alloc;
         "{{\"code\":{},\"name\":\"{}\"}}",

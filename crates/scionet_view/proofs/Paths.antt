@@ -8,7 +8,7 @@ use Rattle.policy_expr.specs.Policy.{Rules}
 use Rattle.path_verifier.specs.Piece.{PieceValue}
 use Rattle.path_verifier.specs.Accepted.{IsAccepted, IsExpiry, AreLive, request_of}
 use Rattle.network_core.specs.Value.{Way, asked_at}
-use Rattle.scionet_view.specs.Path.{TellsPath, path_text}
+use Rattle.scionet_view.specs.Path.{TellsPath, path_lines}
 
 live_at_once : (pieces : List PieceValue) → AreLive 0 pieces
 live_at_once pieces = λ k piece within. λ j entry inside. omega arith
@@ -49,6 +49,6 @@ request_accepted way pieces header src dst given same_pieces same_header same_sr
 
 -- the text with the second of its expiry tells of the path
 pub tells_path : {A F : Type 0} (result : Result (String A) F) (pieces : List PieceValue) (half : ℕ) → IsExpiry pieces half
-    → IfOk result (λ text. string_bytes text ≡ path_text pieces (half / 2)) → IfOk result (λ text. TellsPath pieces (string_bytes text))
+    → IfOk result (λ text. string_bytes text ≡ path_lines pieces (half / 2)) → IfOk result (λ text. TellsPath pieces (string_bytes text))
 tells_path (Ok text) pieces half expires is = (half, (expires, is))
 tells_path (Err fault) pieces half expires is = is

@@ -17,8 +17,8 @@ use Rattle.scionet_view.specs.declared.words.Subject.{Subject}
 use Rattle.scionet_view.specs.declared.words.Subject.TheVariants.{Packet, Answer}
 
 -- the line with which a run answers an event that is refused for this reason
-abbrev pub refusal_line : EventFault → List ℕ
-refusal_line fault =
+abbrev pub fault_line : EventFault → List ℕ
+fault_line fault =
     codes "no " ++ (decimal (code_and_name fault).0 ++ (codes " " ++ ((code_and_name fault).1
     ++ codes "\n")))
 
@@ -36,13 +36,13 @@ router_at place = None
 
 -- the picture of a network with this packet marked, or the line that there is no such packet
 abbrev pub picture_with_packet : Network → Option PacketValue → List ℕ
-picture_with_packet network None = refusal_line NoPacket
+picture_with_packet network None = fault_line NoPacket
 picture_with_packet network (Some packet) =
     dot_of network packet.packet.passed (router_at packet.packet.place)
 
 -- the picture of a network with the links of this path marked, or the line that there is none
 abbrev pub picture_with_path : Network → Option PathValue → List ℕ
-picture_with_path network None = refusal_line NoAnswer
+picture_with_path network None = fault_line NoAnswer
 picture_with_path network (Some path) = dot_of network (walk_of path.pieces) None
 
 -- the picture of a network, with the packet or the path marked that is named, if one is

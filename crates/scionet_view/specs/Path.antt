@@ -11,47 +11,47 @@ use Rattle.network_core.specs.declared.fault.EventFault.TheVariants.{NoPacket}
 use Rattle.network_core.specs.Value.{PacketValue}
 use Rattle.event_lines.specs.Text.{hops_text, kinds_text}
 use Rattle.packet_view.specs.Fields.{each_below, fields_text}
-use Rattle.scionet_view.specs.Network.{refusal_line}
+use Rattle.scionet_view.specs.Network.{fault_line}
 
 -- the name of a kind of piece
-unfoldable pub kind_text : PieceKind → List ℕ
-kind_text Up = codes "up"
-kind_text Core = codes "core"
-kind_text Down = codes "down"
+unfoldable pub piece_kind_name : PieceKind → List ℕ
+piece_kind_name Up = codes "up"
+piece_kind_name Core = codes "core"
+piece_kind_name Down = codes "down"
 
 -- the line of the piece of this number: its kind, and the ASes in which it begins and ends
-unfoldable pub piece_text : ℕ → PieceValue → List ℕ
-piece_text number piece =
-    codes "piece " ++ (decimal number ++ (codes " " ++ (kind_text (kind_of piece)
+unfoldable pub numbered_piece : ℕ → PieceValue → List ℕ
+numbered_piece number piece =
+    codes "piece " ++ (decimal number ++ (codes " " ++ (piece_kind_name (kind_of piece)
     ++ (codes " from " ++ (canonical (begins_in piece) ++ (codes " to "
     ++ (canonical (ends_in piece) ++ codes "\n")))))))
 
 -- the line of the piece, if there is one
 abbrev pub piece_line : ℕ → Option PieceValue → List ℕ
 piece_line number None = []
-piece_line number (Some piece) = piece_text number piece
+piece_line number (Some piece) = numbered_piece number piece
 
 -- the line of the piece of this number of a path, if there is one
 abbrev pub piece_line_at : List PieceValue → ℕ → List ℕ
 piece_line_at pieces number = piece_line number (slice_get pieces number)
 
 -- the lines of the pieces with numbers below this one
-unfoldable pub pieces_text : List PieceValue → ℕ → List ℕ
-pieces_text pieces count = each_below (piece_line_at pieces) count
+unfoldable pub piece_lines : List PieceValue → ℕ → List ℕ
+piece_lines pieces count = each_below (piece_line_at pieces) count
 
 -- what is said of a path: its pieces, its kind, its walk, and the last second at which it is live
-unfoldable pub path_text : List PieceValue → ℕ → List ℕ
-path_text pieces last =
-    pieces_text pieces (length pieces) ++ (codes "kind " ++ (kinds_text pieces
+unfoldable pub path_lines : List PieceValue → ℕ → List ℕ
+path_lines pieces last =
+    piece_lines pieces (length pieces) ++ (codes "kind " ++ (kinds_text pieces
     ++ (codes "\nwalk " ++ (hops_text (walk_of pieces)
     ++ (codes "\nlive up to second " ++ (decimal last ++ codes "\n"))))))
 
 -- the text says this of a path, which is live up to the half second at which its first hop expires
 abbrev pub TellsPath : List PieceValue → List ℕ → Type 0
-TellsPath pieces text = (half : ℕ) × (IsExpiry pieces half × (text ≡ path_text pieces (half / 2)))
+TellsPath pieces text = (half : ℕ) × (IsExpiry pieces half × (text ≡ path_lines pieces (half / 2)))
 
 -- the text is about this packet: what is said of its path, and its fields; or there is none
 abbrev pub TellsPacket : Option PacketValue → List ℕ → Type 0
-TellsPacket None text = text ≡ refusal_line NoPacket
+TellsPacket None text = text ≡ fault_line NoPacket
 TellsPacket (Some packet) text = (lines : List ℕ) × (TellsPath packet.sent.way.pieces lines
     × (text ≡ lines ++ fields_text packet.packet.bytes))

@@ -3,7 +3,7 @@
 ghost use Rattle.std.specs.Prelude.{◌≡◌, ◌||◌};
 ghost use Rattle.event_lines.specs.Run.{is_read_fault};
 
-use crate::network::{path_at, refusal_line};
+use crate::network::{fault_line, path_at};
 use crate::network_after::network_after;
 use crate::path::verified_text;
 use combinator::Path;
@@ -107,7 +107,7 @@ fn report_text(alloc: Global, way: &Given<'_>, now: u32) -> Result<String, Alloc
 /// so here it is verified without one.
 fn path_report(alloc: Global, path: &Path, now: u32) -> Result<String, AllocError> {
     let [first, .., last] = path.walk() else {
-        return refusal_line(alloc, EventFault::NoAnswer);
+        return fault_line(alloc, EventFault::NoAnswer);
     };
     let pieces = lend_all(path.pieces());
     let policy = Policy::any();
@@ -125,7 +125,7 @@ fn path_report(alloc: Global, path: &Path, now: u32) -> Result<String, AllocErro
 fn answer_text(alloc: Global, path: Option<&Path>, now: u32) -> Result<String, AllocError> {
     match path {
         Some(path) => path_report(alloc, path, now),
-        None => refusal_line(alloc, EventFault::NoAnswer),
+        None => fault_line(alloc, EventFault::NoAnswer),
     }
 }
 

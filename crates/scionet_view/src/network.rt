@@ -4,7 +4,7 @@ ghost use Rattle.std.specs.Prelude.{◌≡◌, ◌||◌, IfOk, option_map};
 ghost use Rattle.std.specs.String.{string_bytes};
 ghost use Rattle.event_lines.specs.Run.{is_read_fault};
 ghost use Rattle.scionet_view.specs.Reached.{Shows};
-ghost use Rattle.scionet_view.specs.Network.{path_at, picture_of, picture_with_packet, picture_with_path, refusal_line, router_at};
+ghost use Rattle.scionet_view.specs.Network.{path_at, picture_of, picture_with_packet, picture_with_path, fault_line, router_at};
 
 use crate::network_after::network_after;
 use crate::words::Subject;
@@ -19,8 +19,8 @@ use std::alloc::{AllocError, Global};
 use streams::Source;
 
 /// The line with which a run answers an event that is refused for this reason.
-pub(crate) fn refusal_line(alloc: Global, fault: EventFault) -> Result<String, AllocError>
-    ensures { IfOk result (λ text. string_bytes text ≡ refusal_line fault) }
+pub(crate) fn fault_line(alloc: Global, fault: EventFault) -> Result<String, AllocError>
+    ensures { IfOk result (λ text. string_bytes text ≡ fault_line fault) }
 {
     format!(in alloc; "no {} {}\n", fault.code(), fault.name())
 }
@@ -59,7 +59,7 @@ fn picture_with_packet(
         ≡ picture_with_packet topology.now (option_map (λ p. p.now) packet.entry)) }
 {
     match packet {
-        None => refusal_line(alloc, EventFault::NoPacket),
+        None => fault_line(alloc, EventFault::NoPacket),
         Some(packet) => {
             let at = router_at(&packet.place());
             network_dot(
@@ -84,7 +84,7 @@ fn picture_with_path(
         ≡ picture_with_path topology.now (option_map (λ p. p.now) path.entry)) }
 {
     match path {
-        None => refusal_line(alloc, EventFault::NoAnswer),
+        None => fault_line(alloc, EventFault::NoAnswer),
         Some(path) => network_dot(alloc, topology.ases(), topology.links(), path.walk(), None),
     }
 }

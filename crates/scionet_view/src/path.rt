@@ -6,9 +6,9 @@ ghost use Rattle.path_verifier.specs.Piece.{HasRange};
 ghost use Rattle.network_core.specs.Value.{asked_at};
 ghost use Rattle.event_lines.specs.Run.{is_read_fault};
 ghost use Rattle.scionet_view.specs.Reached.{Shows};
-ghost use Rattle.scionet_view.specs.Path.{TellsPacket, TellsPath, kind_text, path_text, piece_line_at, piece_text, pieces_text};
+ghost use Rattle.scionet_view.specs.Path.{TellsPacket, TellsPath, piece_kind_name, path_lines, piece_line_at, numbered_piece, piece_lines};
 
-use crate::network::refusal_line;
+use crate::network::fault_line;
 use crate::network_after::network_after;
 use event_lines::{RunFault, hops_text, kinds_text};
 use network_core::{EventFault, Packet, Sent};
@@ -18,9 +18,9 @@ use std::alloc::{AllocError, Global};
 use streams::Source;
 
 /// The name of a kind of piece.
-#[tactic(auto, unfolding(crate::specs::Path::kind_text))]
-fn kind_text(kind: PieceKind) -> &'static str
-    ensures { result.now ≡ kind_text kind }
+#[tactic(auto, unfolding(crate::specs::Path::piece_kind_name))]
+fn piece_kind_name(kind: PieceKind) -> &'static str
+    ensures { result.now ≡ piece_kind_name kind }
 {
     match kind {
         PieceKind::Up => "up",
@@ -30,12 +30,12 @@ fn kind_text(kind: PieceKind) -> &'static str
 }
 
 /// The line of the piece of this number: its kind, and the ASes in which it begins and ends.
-#[tactic(auto, unfolding(crate::specs::Path::piece_text))]
-fn piece_text(alloc: Global, number: usize, piece: &Piece<'_>) -> Result<String, AllocError>
+#[tactic(auto, unfolding(crate::specs::Path::numbered_piece))]
+fn numbered_piece(alloc: Global, number: usize, piece: &Piece<'_>) -> Result<String, AllocError>
     requires { HasRange piece.now }
-    ensures { IfOk result (λ text. string_bytes text ≡ piece_text number piece.now) }
+    ensures { IfOk result (λ text. string_bytes text ≡ numbered_piece number piece.now) }
 {
-    let kind = kind_text(piece.kind());
+    let kind = piece_kind_name(piece.kind());
     let from = piece.begins_in();
     let to = piece.ends_in();
     format!(in alloc; "piece {number} {kind} from {from} to {to}\n")
@@ -53,16 +53,16 @@ fn add_piece(
 {
     path.known();
     match path.pieces().get(number) {
-        Some(piece) => text.push_str(piece_text(alloc, number, piece)?.as_str()),
+        Some(piece) => text.push_str(numbered_piece(alloc, number, piece)?.as_str()),
         None => Ok(()),
     }
 }
 
 /// The pieces of a path.
-#[tactic(auto, unfolding(crate::specs::Path::pieces_text, packet_view::specs::Fields::each_below))]
-fn pieces_text(alloc: Global, path: &VerifiedPath<'_, '_, Global>) -> Result<String, AllocError>
+#[tactic(auto, unfolding(crate::specs::Path::piece_lines, packet_view::specs::Fields::each_below))]
+fn piece_lines(alloc: Global, path: &VerifiedPath<'_, '_, Global>) -> Result<String, AllocError>
     ensures { IfOk result (λ text. string_bytes text
-        ≡ pieces_text path.entry.now.pieces (length path.entry.now.pieces)) }
+        ≡ piece_lines path.entry.now.pieces (length path.entry.now.pieces)) }
 {
     let mut text = String::new(alloc);
     for number in 0..path.pieces().len() {
@@ -73,15 +73,15 @@ fn pieces_text(alloc: Global, path: &VerifiedPath<'_, '_, Global>) -> Result<Str
 
 /// What is said of a path: its pieces, its kind, its walk, and the last second at which all of its
 /// hops are live.
-#[tactic(auto, unfolding(crate::specs::Path::path_text))]
-fn path_text(
+#[tactic(auto, unfolding(crate::specs::Path::path_lines))]
+fn path_lines(
     alloc: Global,
     path: &VerifiedPath<'_, '_, Global>,
     last: u64,
 ) -> Result<String, AllocError>
-    ensures { IfOk result (λ text. string_bytes text ≡ path_text path.entry.now.pieces last) }
+    ensures { IfOk result (λ text. string_bytes text ≡ path_lines path.entry.now.pieces last) }
 {
-    let pieces = pieces_text(alloc, path)?;
+    let pieces = piece_lines(alloc, path)?;
     let kind = kinds_text(alloc, path.pieces())?;
     let walk = hops_text(alloc, path.walk())?;
     format!(in alloc;
@@ -100,7 +100,7 @@ pub(crate) fn verified_text(
 ) -> Result<String, AllocError>
     ensures { IfOk result (λ text. TellsPath path.entry.now.pieces (string_bytes text)) }
 {
-    path_text(alloc, path, path.expiry() / 2)
+    path_lines(alloc, path, path.expiry() / 2)
 }
 
 /// The path of a shipment.
@@ -131,7 +131,7 @@ fn packet_text(alloc: Global, packet: Option<&Packet>) -> Result<String, AllocEr
         (string_bytes text)) }
 {
     let Some(packet) = packet else {
-        return refusal_line(alloc, EventFault::NoPacket);
+        return fault_line(alloc, EventFault::NoPacket);
     };
     let path = path_of(packet.sent());
     let mut text = verified_text(alloc, &path)?;

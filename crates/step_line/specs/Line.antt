@@ -6,15 +6,15 @@ use Rattle.hex.specs.Hex.{encode_lower}
 use Rattle.router_step.specs.declared.outcome.Outcome.{Outcome}
 use Rattle.router_step.specs.declared.outcome.Outcome.TheVariants.{ToLink, ToRouter, Deliver}
 use Rattle.router_step.specs.declared.fault.Refusal.{Refusal}
-use Rattle.router_step.specs.Fault as router
+use Rattle.router_step.specs.Fault.{refusal_text}
 use Rattle.router_step.specs.Packet.{packet_step}
 use Rattle.step_line.specs.Fields.{hex_bytes_of}
 use Rattle.step_line.specs.Turn.{Turn}
 
 -- a refusal: `refused CODE Name`; for a packet without a path header, also the code and the name of
 -- the header's refusal
-abbrev pub refusal_text : Refusal → List ℕ
-refusal_text refusal = codes "refused " ++ router.refusal_text refusal
+abbrev pub refusal_line : Refusal → List ℕ
+refusal_line refusal = codes "refused " ++ refusal_text refusal
 
 -- a word, a number, and the packet's bytes: `WORD N HEX`
 abbrev pub numbered_bytes : List ℕ → ℕ → List ℕ → List ℕ
@@ -23,15 +23,15 @@ numbered_bytes word number packet =
 
 -- an outcome: `link IF HEX`, `router N HEX` or `deliver HEX`, with the packet's bytes after the
 -- step
-abbrev pub outcome_text : Outcome → List ℕ → List ℕ
-outcome_text (ToLink interface) packet = numbered_bytes (codes "link") interface packet
-outcome_text (ToRouter router) packet = numbered_bytes (codes "router") router packet
-outcome_text Deliver packet = codes "deliver " ++ encode_lower packet
+abbrev pub outcome_line : Outcome → List ℕ → List ℕ
+outcome_line (ToLink interface) packet = numbered_bytes (codes "link") interface packet
+outcome_line (ToRouter router) packet = numbered_bytes (codes "router") router packet
+outcome_line Deliver packet = codes "deliver " ++ encode_lower packet
 
 -- the line, without its end
 abbrev pub text_of : Result (Outcome × List ℕ) Refusal → List ℕ
-text_of (Ok stepped) = outcome_text stepped.0 stepped.1
-text_of (Err refusal) = refusal_text refusal
+text_of (Ok stepped) = outcome_line stepped.0 stepped.1
+text_of (Err refusal) = refusal_line refusal
 
 -- the line for the packet whose bytes this text gives in hexadecimal; blanks around it are ignored
 unfoldable pub line_of : Turn → List ℕ → Option (List ℕ)

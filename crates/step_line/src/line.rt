@@ -2,7 +2,7 @@
 
 ghost use Rattle.std.specs.Prelude.{◌≡◌, IfOk, reverse};
 ghost use Rattle.std.specs.String.{string_bytes};
-ghost use Rattle.step_line.specs.Line.{outcome_text, refusal_text};
+ghost use Rattle.step_line.specs.Line.{outcome_line, refusal_line};
 
 use router_step::{Outcome, Refusal};
 use std::alloc::{AllocError, Global};
@@ -13,7 +13,7 @@ pub(crate) fn outcome_line(
     outcome: Outcome,
     packet: &[u8],
 ) -> Result<String, AllocError>
-    ensures { IfOk result (λ line. string_bytes line ≡ outcome_text outcome packet.now) }
+    ensures { IfOk result (λ line. string_bytes line ≡ outcome_line outcome packet.now) }
 {
     let digits = hex::encode(alloc, packet)?;
     match outcome {
@@ -25,7 +25,7 @@ pub(crate) fn outcome_line(
 
 /// The line of a packet that was refused, without its end.
 pub fn refusal_line(alloc: Global, refusal: Refusal) -> Result<String, AllocError>
-    ensures { IfOk result (λ line. string_bytes line ≡ refusal_text refusal) }
+    ensures { IfOk result (λ line. string_bytes line ≡ refusal_line refusal) }
 {
     let mut line = String::from_str(alloc, "refused ")?;
     refusal.push_to(&mut line)?;

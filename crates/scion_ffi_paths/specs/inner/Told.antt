@@ -10,7 +10,7 @@ use Rattle.scion_ffi_paths.specs.declared.fault.RequestFault.{RequestFault}
 use Rattle.serde_json.specs.Data.{Data}
 use Rattle.scion_ffi_paths.specs.Asked.{Asked}
 use Rattle.scion_ffi_paths.specs.Given.{given_with, request_at}
-use Rattle.scion_ffi_paths.specs.Text.{fault_text}
+use Rattle.scion_ffi_paths.specs.Text.{fault_json}
 use Rattle.scion_ffi_paths.specs.Verdict.{AnswersVerdict}
 
 -- the text, or that of the refusal, is an answer; if memory ran out, nothing is claimed
@@ -18,7 +18,7 @@ abbrev pub Tells : (List ℕ → Type 0) → Result (String Global) (OrMemory Re
     → Type 0
 Tells answers (Ok text) = answers (string_bytes text)
 Tells answers (Err Memory) = Unit {0}
-Tells answers (Err (Refused fault)) = answers (fault_text fault)
+Tells answers (Err (Refused fault)) = answers (fault_json fault)
 
 -- the text answers the request to verify in this JSON value, whose common part is this one
 abbrev pub AnswersGiven : Asked → Data → List ℕ → Type 0

@@ -2,10 +2,10 @@
 use Rattle.std.proofs.Common.{◌≡◌, ◌++◌, take}
 use Rattle.std.specs.Prelude.{codes, flat_map}
 use Rattle.std.specs.String.{string_bytes}
-use Rattle.scion_ffi_paths.specs.Text.{path_text}
+use Rattle.scion_ffi_paths.specs.Text.{path_json}
 use Rattle.scion_ffi_paths.proofs.text.push_paths.Given as goal
 
 abbrev pub invariant-loop-one : goal.invariant-loop-one
 invariant-loop-one l =
     string_bytes l.text
-    ≡ string_bytes l.initial.text ++ flat_map (λ it. codes "," ++ path_text l.segments it) (take l.one-index l.later)
+    ≡ string_bytes l.initial.text ++ flat_map (λ it. codes "," ++ path_json l.segments it) (take l.one-index l.later)
