@@ -1,5 +1,5 @@
 -- Trying lists of pieces one by one.
-use Rattle.std.proofs.Common.{◌≡◌, ℕ, zero, suc, ◌+◌, List, [], ◌∷◌, ◌++◌, length, All, Contains, sym, subst, ap, ◌∙◌, arith}
+use Rattle.std.proofs.Common.{◌≡◌, ℕ, zero, suc, ◌+◌, ◌<◌, List, [], ◌∷◌, ◌++◌, length, get_or, take, All, Contains, sym, subst, ap, ◌∙◌, arith}
 use Rattle.std.proofs.lemmas.List.{length-append}
 use Rattle.std.proofs.lemmas.List.Elements.{All-push}
 use Rattle.path_server.specs.Lookup.{Selection}
@@ -8,12 +8,13 @@ use Rattle.path_verifier.specs.Header.{header_of}
 use Rattle.path_verifier.specs.Accepted.{Request, request_of, IsAccepted}
 use Rattle.combinator.specs.Candidate.{Question, IsOf, PathValue, IsCandidate, path_with}
 use Rattle.combinator.specs.inner.BestByWalk.{IsNoWorseThan, AreMatched, AreTried}
+use Rattle.combinator.proofs.Collected.{by_items}
 
 pub settled_on : (question : Question) (old new : List PathValue) (pieces : List PieceValue) → IsNoWorseThan question old new → AreMatched question old pieces → AreMatched question new pieces
 unfolding AreMatched
-settled_on question old new pieces goes best_by_walk = λ header candidate. (
-  (best_by_walk header candidate).0,
-  goes.met (path_with pieces header) (best_by_walk header candidate).1,
+settled_on question old new pieces goes matched = λ header candidate. (
+  (matched header candidate).0,
+  goes.met (path_with pieces header) (matched header candidate).1,
 )
 
 pub tried_on : (question : Question) (old new : List PathValue) (usable_pieces : List PieceValue) (depth : ℕ) (pieces : List PieceValue) (at : ℕ) → IsNoWorseThan question old new
@@ -30,7 +31,7 @@ abbrev pub WasTried : Question → List PathValue → List PieceValue → ℕ �
 WasTried question paths usable_pieces depth pieces at piece = begins_in piece ≡ at
     → AreMatched question paths (pieces ++ piece ∷ []) × AreTried question paths usable_pieces depth (pieces ++ piece ∷ []) (ends_in piece)
 
-pub was_tried_on : (question : Question) (old new : List PathValue) (usable_pieces : List PieceValue) (depth : ℕ) (pieces : List PieceValue) (at : ℕ) → IsNoWorseThan question old new
+was_tried_on : (question : Question) (old new : List PathValue) (usable_pieces : List PieceValue) (depth : ℕ) (pieces : List PieceValue) (at : ℕ) → IsNoWorseThan question old new
     → (piece : PieceValue) → WasTried question old usable_pieces depth pieces at piece → WasTried question new usable_pieces depth pieces at piece
 was_tried_on question old new usable_pieces depth pieces at goes piece was begins = (
   settled_on question old new (pieces ++ piece ∷ []) goes (was begins).0,
@@ -45,6 +46,14 @@ tried_here question paths usable_pieces depth pieces longer piece end at is ends
   subst (λ more. AreTried question paths usable_pieces depth more (ends_in piece)) is (subst (AreTried question paths usable_pieces depth longer) ends tried),
 )
 
+pub tried_more : (question : Question) (before after : List PathValue) (usable_pieces : List PieceValue) (depth : ℕ) (pieces : List PieceValue) (at i : ℕ) (piece : PieceValue)
+    → i < length usable_pieces → piece ≡ get_or usable_pieces i piece → IsNoWorseThan question before after
+    → ((one : PieceValue) → Contains (take i usable_pieces) one → WasTried question before usable_pieces depth pieces at one) → WasTried question after usable_pieces depth pieces at piece
+    → (one : PieceValue) → Contains (take (i + 1) usable_pieces) one → WasTried question after usable_pieces depth pieces at one
+tried_more question before after usable_pieces depth pieces at i piece within is goes =
+    by_items (WasTried question before usable_pieces depth pieces at) (WasTried question after usable_pieces depth pieces at) usable_pieces i piece within is
+    (was_tried_on question before after usable_pieces depth pieces at goes)
+
 pub none_tried : (question : Question) (paths : List PathValue) (usable_pieces : List PieceValue) (depth : ℕ) (pieces : List PieceValue) (at : ℕ) → depth ≡ 0
     → AreTried question paths usable_pieces depth pieces at
 unfolding AreTried
@@ -58,6 +67,9 @@ all_tried question paths usable_pieces zero left pieces at is all = tt
 all_tried question paths usable_pieces (suc depth) left pieces at is all =
     let same : left ≡ depth = omega (arith, is) in
     subst (λ (n : ℕ). (piece : PieceValue) → Contains usable_pieces piece → WasTried question paths usable_pieces n pieces at piece) same all
+
+pub longer_by : (pieces longer : List PieceValue) (copy piece : PieceValue) → longer ≡ pieces ++ copy ∷ [] → copy ≡ piece → longer ≡ pieces ++ piece ∷ []
+longer_by pieces longer copy piece is same = is ∙ ap (λ (p : PieceValue). pieces ++ p ∷ []) same
 
 pub one_more : (pieces longer : List PieceValue) (piece : PieceValue) → longer ≡ pieces ++ piece ∷ [] → length longer ≡ length pieces + 1
 one_more pieces longer piece is = ap length is ∙ length-append pieces (piece ∷ [])

@@ -1,6 +1,6 @@
 //! Tries all lists of pieces that may be paths.
 
-ghost use Rattle.std.specs.Prelude.{◌≡◌, ◌+◌, ◌<◌, ◌≤◌, [], ◌∷◌, ◌++◌, length, All, IfOk, OnOk};
+ghost use Rattle.std.specs.Prelude.{◌+◌, ◌<◌, ◌≤◌, [], length, All, IfOk, OnOk};
 ghost use Rattle.combinator.specs.Candidate.{IsOf, IsCandidate};
 ghost use Rattle.combinator.specs.inner.BestByWalk.{IsNoWorseThan, AreMatched, AreTried};
 
@@ -22,25 +22,13 @@ fn consider<'s, 'p, A: Allocator + Clone>(
 ) -> Result<(), AllocError>
     requires { All (IsOf ask.now.set) pieces.now }
     ensures goes { OnOk result (IsNoWorseThan ask.now kept.old kept.new) }
-    ensures best_by_walk { OnOk result (AreMatched ask.now kept.new pieces.now) }
+    ensures matched { OnOk result (AreMatched ask.now kept.new pieces.now) }
 {
     match accept(pieces, ask.src, ask.dst, ask.set.now(), ask.policy) {
         Err(_) => {}
         Ok(path) => kept.keep(RankedPath::new(alloc, path)?)?,
     }
     Ok(())
-}
-
-/// These pieces and one more.
-fn with_piece<'s>(pieces: &Pieces<'s>, piece: &UsablePiece<'s>) -> Pieces<'s>
-    requires { length pieces.now < 3 }
-    ensures { result ≡ pieces.now ++ piece.now ∷ [] }
-{
-    let mut longer = pieces.again();
-    let Ok(()) = longer.push(piece.piece()) else {
-        unreachable!();
-    };
-    longer
 }
 
 /// Tries the paths that begin with these pieces and go on, from the AS `at`, with one to `depth`
@@ -56,20 +44,23 @@ fn try_behind<'s, 'p, A: Allocator + Clone>(
 ) -> Result<(), AllocError>
     requires own { All (IsOf ask.now.set) usable_pieces.now }
     requires front { All (IsOf ask.now.set) pieces.now }
+    requires some { 0 < depth }
     requires few { length pieces.now + depth ≤ 3 }
     ensures goes { OnOk result (IsNoWorseThan ask.now kept.old kept.new) }
     ensures tried { OnOk result
         (AreTried ask.now kept.new usable_pieces.now depth pieces.now at) }
 {
-    if depth == 0 {
-        return Ok(());
-    }
     for piece in usable_pieces {
         if piece.begins() != at {
             continue;
         }
-        let longer = with_piece(pieces, piece);
+        let Some(longer) = pieces.with_piece(piece.piece()) else {
+            unreachable!();
+        };
         consider(alloc, ask, kept, &longer)?;
+        if depth == 1 {
+            continue;
+        }
         let end = piece.ends();
         try_behind(alloc, ask, kept, usable_pieces, &longer, end, depth - 1)?;
     }

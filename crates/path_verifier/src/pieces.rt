@@ -1,11 +1,10 @@
-ghost use Rattle.std.specs.Prelude.{◌≡◌, ◌==◌, ◌<◌, ◌↔◌, [], ◌∷◌, ◌++◌, length, slice_get, option_map, IsOk, IsTrue, OnOk, OnErr, IfErr};
+ghost use Rattle.std.specs.Prelude.{◌≡◌, ◌==◌, ◌<◌, ◌↔◌, [], ◌∷◌, ◌++◌, length, slice_get, option_map, IfErr, IfSome, IsOk, IsSome, IsTrue, OnErr, OnOk};
 ghost use Rattle.path_verifier.specs.PieceSlots.{pieces_in};
 ghost use Rattle.path_verifier.specs.Turned.{turned_pieces};
 
 use crate::fault::VerifyFault;
 use crate::piece::Piece;
 use std::marker::Model;
-use std::mem;
 
 /// The pieces of a path in order of travel, at most three.
 #[derive(Debug, Drop)]
@@ -50,25 +49,30 @@ impl<'s> Pieces<'s> {
         ensures fault { IfErr result (λ fault. fault ≡ VerifyFault.PieceCount) }
         ensures err { OnErr result (self.new ≡ self.old) }
     {
-        let held = &mut self.held;
-        match mem::replace(held, PieceSlots::Zero) {
-            PieceSlots::Zero => {
-                *held = PieceSlots::One(piece);
+        match self.with_piece(piece) {
+            Some(longer) => {
+                *self = longer;
                 Ok(())
             }
-            PieceSlots::One(first) => {
-                *held = PieceSlots::Two(first, piece);
-                Ok(())
-            }
-            PieceSlots::Two(first, second) => {
-                *held = PieceSlots::Three(first, second, piece);
-                Ok(())
-            }
-            PieceSlots::Three(first, second, third) => {
-                *held = PieceSlots::Three(first, second, third);
-                Err(VerifyFault::PieceCount)
-            }
+            None => Err(VerifyFault::PieceCount),
         }
+    }
+
+    /// These pieces and one more behind them, or `None` if there are three already. It takes no
+    /// memory.
+    pub fn with_piece(&self, piece: Piece<'s>) -> Option<Pieces<'s>>
+        ensures room { IsSome result ↔ (length self.now < 3) }
+        ensures more { IfSome result (λ longer. longer ≡ self.now ++ piece.entry ∷ []) }
+    {
+        let held = match &self.held {
+            PieceSlots::Zero => PieceSlots::One(piece),
+            PieceSlots::One(first) => PieceSlots::Two(first.again(), piece),
+            PieceSlots::Two(first, second) => {
+                PieceSlots::Three(first.again(), second.again(), piece)
+            }
+            PieceSlots::Three(_, _, _) => return None,
+        };
+        Some(Pieces { held })
     }
 
     /// The number of pieces.
@@ -115,8 +119,8 @@ impl<'s> Pieces<'s> {
         }
     }
 
-    /// Copies of these pieces. It takes no memory.
-    pub fn again(&self) -> Pieces<'s>
+    /// Copies of these pieces.
+    pub(crate) fn again(&self) -> Pieces<'s>
         ensures { result ≡ self.now }
     {
         Pieces {
