@@ -128,10 +128,11 @@ way_out_sides view info hop =
 -- check 11: the kinds of the links in and out, and whether there is a switch between them
 unfoldable pub kinds_sides : View → Arrival → Bool → LinkKind → List ℕ
 kinds_sides view arrival true out =
-    codes "11 link kinds: from " ++ (origin_text view arrival ++ (codes " to " ++ (link_kind_text out
-    ++ codes ", with a switch")))
+    codes "11 link kinds: from " ++ (origin_text view arrival ++ (codes " to "
+    ++ (link_kind_text out ++ codes ", with a switch")))
 kinds_sides view arrival false out =
-    codes "11 link kinds: from " ++ (origin_text view arrival ++ (codes " to " ++ link_kind_text out))
+    codes "11 link kinds: from " ++ (origin_text view arrival ++ (codes " to "
+    ++ link_kind_text out))
 
 -- check 12: the router that owns the way out, and this one
 unfoldable pub owner_sides : View → IfEntry → List ℕ

@@ -38,7 +38,8 @@ AreMatched question paths pieces = (header : HeaderValue)
 
 -- so is each list that begins with these pieces and goes on, from this AS, with one to `depth`
 -- usable pieces, each of which begins where the one before it ends
-unfoldable pub AreTried : Question → List PathValue → List PieceValue → ℕ → List PieceValue → ℕ → Type 0
+unfoldable pub AreTried : Question → List PathValue → List PieceValue → ℕ → List PieceValue
+    → ℕ → Type 0
 AreTried question paths usable_pieces zero pieces at = Unit {0}
 AreTried question paths usable_pieces (suc depth) pieces at = (piece : PieceValue)
     → Contains usable_pieces piece → begins_in piece ≡ at
