@@ -98,7 +98,7 @@ ask_in d = do
   limit ← long_at (codes "limit") d
   Some (Ask src dst (options_at texts) limit)
 
--- the events of traffic that have neither bytes nor texts
+-- the events of packets and links that have neither bytes nor texts
 unfoldable pub traffic_event : List ℕ → Data → Option EventValue
 traffic_event word d =
     if bytes_eq word (codes "turn") then (do

@@ -36,7 +36,7 @@ AreMatched question paths pieces = (header : HeaderValue)
     → IsCandidate question (path_with pieces header)
     → SpellsHeader (spelling header) header × IsMet paths (path_with pieces header)
 
--- so is each list that begins with these pieces and goes on, from this AS, with one to `depth`
+-- each list is matched that begins with these pieces and goes on, from this AS, with one to `depth`
 -- usable pieces, each of which begins where the one before it ends
 unfoldable pub AreTried : Question → List PathValue → List PieceValue → ℕ → List PieceValue
     → ℕ → Type 0
