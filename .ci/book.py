@@ -12,7 +12,10 @@ START = re.compile(
     r"(?=abbrev |unfoldable |pub |record |data |\S+ : )"
     r"(?:abbrev |unfoldable )?(?:pub )?(?:(?:record|data) )?([^\s:(]+)"
 )
-TYPE = r"((?:^///.*\n)*)(?:^#\[.*\n)*^pub(?:\(crate\))? (?:enum|struct) NAME\b[^;{]*(?:;|\{\n(?:.*\n)*?\})"
+TYPE = (
+    r"((?:^///.*\n)*)(?:^#\[.*\n)*"
+    r"^pub(?:\(crate\))? (?:enum|struct) NAME\b[^;{]*(?:;|\{\n(?:.*\n)*?\})"
+)
 WORD = re.compile(r"[A-Za-z_][\w'-]*(?:\.[A-Za-z_][\w'-]*)*")
 FRONT = """# The book of the headline
 
@@ -29,9 +32,9 @@ library (lists, numbers, options, results) are not in it, and nobody has to beli
 
 How to read it: a definition says what it takes and gives, and then what it is, case by case.
 `abbrev` and `unfoldable` tell the prover when to look inside, and say nothing to a reader; `pub`
-lets other files cite it. A `record` holds if each of its fields does, `A × B` if both do, `A ⊎ B` if
-one does, and `(x : A) × B` if B does for some x. `r >>= f` and `do` go on with the value of a step,
-up to the first refusal.
+lets other files cite it. A `record` holds if each of its fields does, `A × B` if both do, `A ⊎ B`
+if one does, and `(x : A) × B` if B does for some x. `r >>= f` and `do` go on with the value of a
+step, up to the first refusal.
 """
 
 

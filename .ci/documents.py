@@ -2,8 +2,9 @@
 """Runs the commands of README.md and docs/tutorial.md, and compares what they print.
 
 In a block of a document a line that begins with `$ ` is a command, `> ` goes on with it, and the
-lines behind it are what it prints. The commands of a document run one after the other in one shell, in
-`crates/scionet`, over the program that `rt ci` has proved and built: in sh, and in zsh where it is.
+lines behind it are what it prints. The commands of a document run one after the other in one shell,
+in `crates/scionet`, over the program that `rt ci` has proved and built: in sh, and in zsh where it
+is.
 """
 import re
 import shutil

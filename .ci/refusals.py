@@ -15,7 +15,8 @@ number and the name: `no 41 NoInterface` if an event is refused, `topology no 12
 topology is, and `refused 93 Expired` if a router refuses a packet; after `90 BadHeader` come the
 number and the name of the header's own refusal. A number has one name, and means the same
 everywhere. Each of these is a clause: the call refuses if and only if its cause holds, and if
-several causes hold it names the first in the order that its documentation gives.
+several causes hold it names the first in the order that its documentation gives. No clause says
+when 110, 111 and 121 come.
 
 `.ci/refusals.py` prints this document from the crates' definitions and the comments of their types;
 the gate checks that it is up to date.
@@ -29,7 +30,8 @@ Lines: each line after the first.
 
 | number | name | meaning |
 |---|---|---|
-| 140 | BadLine | The line is no object of the table of lines, or a value in it is out of its range. |
+| 140 | BadLine | The line is no object of the table of lines, or a value in it is out of its \
+range. |
 
 ## `scion_ffi`
 A call from another language whose numbers say nothing changes nothing. Its other answers are the
@@ -39,16 +41,18 @@ Calls: `scion_step`, `scion_step_all`.
 
 | number | name | meaning |
 |---|---|---|
-| 9 | BadCall | There is no such kind of link, state of a link or way in, or there are more than 256 interfaces. |
+| 9 | BadCall | There is no such kind of link, state of a link or way in, or there are more than \
+256 interfaces. |
 """
 
 # The type of each crate's refusals, which calls give them, and in answer to which lines.
 TYPES = {
-    "isd_as": [("AddrFault", "`IsdAs::parse`", "")],
+    "isd_as": [("AddrFault", "`IsdAs::parse`, `Isd::parse`, `AsNumber::parse`", "")],
     "path_header": [
         (
             "HeaderFault",
-            "`decode`, `Header::new`, `HeaderMut::new`, `encode`",
+            "`decode`, `encode`, `Header::new`, `Header::of_lists`, `HeaderMut::new`,"
+            " `HeaderMut::check`, `scion_verify`",
             "`turn`, and `scionet step`, behind 90",
         )
     ],
@@ -56,29 +60,46 @@ TYPES = {
         (
             "TopologyFault",
             "`Topology::from_json` and the questions and changes of a topology, `RouterView::new`,"
-            " `Key::new`, `Flight::new`",
+            " `Key::new`, `Keys::new`, `Flight::new`",
             "the first, behind `topology`; `send`, `cut`, `mend`, `rotate`",
         )
     ],
-    "router_step": [("Refusal", "`step`, `step_header`", "`turn`, `show`, `scionet step`, `work`")],
+    "router_step": [("Refusal", "`step`, `read_header`", "`turn`, `show`, `scionet step`, `work`")],
     "path_segment": [
-        ("SegmentFault", "`Segment::new`, `Segment::from_json`, `Beacon::new`", "")
+        (
+            "SegmentFault",
+            "`Segment::new`, `Segment::from_json`, `Beacon::first`, `Beacon::with_entry`,"
+            " `Beacon::finish`, `scion_paths`, `scion_verify`",
+            "",
+        )
     ],
     "path_server": [("StoreFault", "`PathStore::register`", "`terminate`")],
     "segment_board": [("BoardFault", "`BoardWriter::reader`, `BoardReader::lookup`", "")],
     "policy_expr": [
-        ("PolicyFault", "`Seq::parse`, `Acl::parse`, `Policy::parse`", "`ask`"),
-        ("OptionFault", "`PolicyOption::parse_all`", "`ask`"),
+        (
+            "PolicyFault",
+            "`HopPred::parse`, `Seq::parse`, `Acl::parse`, `Policy::parse`,"
+            " `PolicyOption::parse_all`, `OptionText::check_all`, `Daemon::ask`, `scion_paths`,"
+            " `scion_verify`",
+            "`ask`",
+        ),
+        (
+            "OptionFault",
+            "`PolicyOption::parse_all`, `OptionText::check_all`, `Daemon::ask`, `scion_paths`",
+            "`ask`",
+        ),
     ],
-    "path_verifier": [("VerifyFault", "`verify`, `Pieces::push`", "`send`, `back`")],
-    "combinator": [("CombineFault", "`combine`", "`ask`")],
+    "path_verifier": [
+        ("VerifyFault", "`verify`, `accept`, `Pieces::push`, `scion_verify`", "`send`, `back`")
+    ],
+    "combinator": [("CombineFault", "`combine`, `scion_paths`", "`ask`")],
     "daemon_cache": [("AskFault", "`Daemon::ask`", "")],
     "beaconing": [
         ("BeaconFault", "`originate`, `extend`, `terminate`", "`originate`, `extend`, `terminate`")
     ],
     "network_core": [("EventFault", "`Net::step`", "each of the events")],
     "router_workers": [("RunFault", "`run_workers`", "")],
-    "scion_ffi_paths": [("RequestFault", "`scion_paths`", "")],
+    "scion_ffi_paths": [("RequestFault", "`scion_paths`, `scion_verify`", "")],
 }
 
 ENUM = r"((?:^///.*\n)+)(?:^#\[.*\n)*^pub enum NAME \{\n((?:.*\n)*?)^\}"
@@ -88,7 +109,7 @@ VARIANT = re.compile(r"((?:    ///.*\n)*)((?:    #\[(?:.*\n)*?.*\]\n)*)    (\w+)
 def comment(lines):
     """The first paragraph of a comment, in one line and without links."""
     text = " ".join(line.strip().removeprefix("///").strip() for line in lines.splitlines())
-    text = text.split("  ")[0]
+    text = text.split("  ")[0].replace("`Self::", "`")
     return re.sub(r"\[(`[^`]*`)\](?:\([^)]*\))?", r"\1", text).strip()
 
 
