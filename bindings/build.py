@@ -1,8 +1,8 @@
 #!/usr/bin/env python3
 """Builds the libraries for hosts, and what is linked with them.
 
-    bindings/build.py                 proves and builds the router's static library, and links of it
-                                      the shared object bindings/out/libscion.so, for Python
+    bindings/build.py                 proves and builds the router's static library, and links the
+                                      shared object bindings/out/libscion.so from it, for Python
     bindings/build.py FILE.c PROGRAM  links a program in C with the static library
     bindings/build.py --paths ..      the same of both libraries; the second has more crates below
 
@@ -94,7 +94,8 @@ def is_current(uses, name):
 
 def over_gate(uses, name):
     """The words that prove and build a static library over the libraries that `rt ci` has built.
-    It leaves these without the stamp by which `rt lib` knows them, so that would prove each anew."""
+    It leaves these without the stamp by which `rt lib` knows them, so that would prove each
+    anew."""
     words = [os.path.join(kit(), "bin", "rattle"), "build", "--crate-name", name, "src/lib.rt"]
     rlibs = os.path.join(kit(), "rlibs")
     for it in ["std", *(it for it in uses[name] if it not in uses)]:

@@ -94,8 +94,8 @@ typedef struct {
 /* One step of a router on a packet, in place, at the second `now`. A packet is 8 bytes of
  * destination, 8 of source, a path header and a payload. Codes: 0, 1, 2; 9, 11, 13; 90 to 100.
  * If the packet goes on, only bytes of its header may have changed; else no byte has. */
-scion_answer scion_step(const scion_router *router, uint32_t now, uint8_t came, uint16_t interface,
-                        uint8_t *packet, size_t len);
+scion_answer scion_step(const scion_router *router, uint32_t now, uint8_t arrival,
+                        uint16_t interface, uint8_t *packet, size_t len);
 
 /* One step on each packet, as of scion_step, with the answer in its record. The router's keys are
  * hashed once for all packets. Codes: SCION_DONE; or 9, 11, 13 if there is no such router, and then

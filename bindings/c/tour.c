@@ -184,7 +184,8 @@ static void headers(void) {
     same("way back", packet, wanted, LEN);
     expect("no way back", scion_header_reverse(packet + META, 35), SCION_SHORT, 0);
     same("no way back", packet, wanted, LEN);
-    expect("mac", scion_hop_mac((const uint8_t *)"k", 1, 0xb396, 100, 63, 2, 0, mac), SCION_DONE, 0);
+    const uint8_t *key = (const uint8_t *)"k";
+    expect("mac", scion_hop_mac(key, 1, 0xb396, 100, 63, 2, 0, mac), SCION_DONE, 0);
     unhex(RIGHT, wanted);
     same("mac", mac, wanted, 6);
     expect("no mac", scion_hop_mac(empty, 0, 0xb396, 100, 63, 2, 0, mac), SCION_BAD_FIELD, 0);

@@ -31,17 +31,24 @@ function routerOf({ ia, key, previous, interfaces, router }) {
 }
 
 // If a call returns a record, its first parameter is the address for that record.
-function step(router, now, came, arrival, packet) {
+function step(router, now, arrival, interfaceNumber, packet) {
   const answer = put(new Uint8Array(4));
   const room = put(packet);
-  exports.scion_step(answer, router, now, came, arrival, room, BigInt(packet.length));
+  const length = BigInt(packet.length);
+  exports.scion_step(answer, router, now, arrival, interfaceNumber, room, length);
   const view = new DataView(memory.buffer, Number(answer), 4);
   const [code, number] = [view.getUint16(0, true), view.getUint16(2, true)];
   return `${code} ${number} ${hexOf(room, packet.length)}`;
 }
 
 const parent = { number: 2, kind: 1, router: 0, up: 1 };
-const parts = { ia: 0x0001ff0000000111n, key: [0x6b], previous: [], interfaces: [parent], router: 0 };
+const parts = {
+  ia: 0x0001ff0000000111n,
+  key: [0x6b],
+  previous: [],
+  interfaces: [parent],
+  router: 0,
+};
 const packet = bytesOf(
   "0001ff00000001100001ff0000000111" + "000020000000b39600000064" +
     "003f00020000110e4c1d3dad" + "003f00000001a1a2a3a4a5a6",

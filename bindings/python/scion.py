@@ -17,7 +17,7 @@ class Kind(enum.IntEnum):
     CHILD = 2
 
 
-class Came(enum.IntEnum):
+class Arrival(enum.IntEnum):
     """How a packet came to a router."""
 
     FROM_HOST = 0
@@ -59,7 +59,7 @@ Interface = collections.namedtuple("Interface", "number kind router up", default
 Router = collections.namedtuple("Router", "ia key interfaces previous router", defaults=(b"", 0))
 
 # A packet that came to a router, and the answer to a call: its code, its number and the new bytes.
-Packet = collections.namedtuple("Packet", "bytes came interface", defaults=(Came.FROM_HOST, 0))
+Packet = collections.namedtuple("Packet", "bytes arrival interface", defaults=(Arrival.FROM_HOST, 0))
 Answer = collections.namedtuple("Answer", "code number bytes")
 
 
@@ -103,7 +103,7 @@ class _Packet(ctypes.Structure):
         ("len", ctypes.c_size_t),
         ("interface", ctypes.c_uint16),
         ("answer", _Answer),
-        ("came", ctypes.c_uint8),
+        ("arrival", ctypes.c_uint8),
     ]
 
 
@@ -175,7 +175,7 @@ class Library:
         """One step of a router on a packet, at the second `now`."""
         room, length = _room(packet.bytes), len(packet.bytes)
         given = self._calls.scion_step(
-            _parts(router), now, packet.came, packet.interface, room, length
+            _parts(router), now, packet.arrival, packet.interface, room, length
         )
         return Answer(Code(given.code), given.number, room.raw[:length])
 
@@ -185,7 +185,7 @@ class Library:
         slots = (_Packet * max(len(rooms), 1))()
         for slot, room, packet in zip(slots, rooms, packets):
             slot.bytes, slot.len = ctypes.addressof(room), len(packet.bytes)
-            slot.came, slot.interface = packet.came, packet.interface
+            slot.arrival, slot.interface = packet.arrival, packet.interface
         self._done(self._calls.scion_step_all(_parts(router), now, slots, len(rooms)))
         return [
             Answer(Code(slot.answer.code), slot.answer.number, room.raw[: slot.len])

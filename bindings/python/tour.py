@@ -5,7 +5,7 @@ What is expected is said by the rules of a router, never by what the library ans
 the path of the shared object; the status is 1 if an answer differs."""
 import sys
 
-from scion import Came, Code, Interface, Kind, Library, Packet, Refused, Router
+from scion import Arrival, Code, Interface, Kind, Library, Packet, Refused, Router
 
 AT_111, AT_110 = 0x0001FF0000000111, 0x0001FF0000000110
 ADDRESSES = "0001ff00000001100001ff0000000111"
@@ -75,7 +75,7 @@ class Tour:
             self.expect(what, given, (code, number, after))
         inside = f"{ADDRESSES}010020000000b39600000064{OWN_HOP}{OTHER}{NEXT_HOP}7cc464f73e18"
         last = bytes.fromhex(inside)
-        given = self.library.step(Router(AT_110, b"k", []), 100, Packet(last, Came.INSIDE))
+        given = self.library.step(Router(AT_110, b"k", []), 100, Packet(last, Arrival.INSIDE))
         self.expect("delivered", given, (Code.DELIVER, 0, last))
 
     def hostile(self):
@@ -132,8 +132,8 @@ class Tour:
 
     def turns_along(self, what, packet, turns):
         """Turns of routers with a packet, each with its answer."""
-        for router, came, interface, *wanted in turns:
-            given = self.library.step(router, 1000, Packet(packet, came, interface))
+        for router, arrival, interface, *wanted in turns:
+            given = self.library.step(router, 1000, Packet(packet, arrival, interface))
             self.expect(what, [given.code, given.number], wanted)
             packet = given.bytes
 
@@ -159,15 +159,15 @@ class Tour:
             Router(last, keys[0], [Interface(1, Kind.CHILD)]),
         ]
         turns = [
-            (at[0], Came.FROM_HOST, 0, Code.TO_LINK, 1),
-            (at[1], Came.OVER_LINK, 2, Code.TO_LINK, 1),
-            (at[2], Came.OVER_LINK, 1, Code.DELIVER, 0),
+            (at[0], Arrival.FROM_HOST, 0, Code.TO_LINK, 1),
+            (at[1], Arrival.OVER_LINK, 2, Code.TO_LINK, 1),
+            (at[2], Arrival.OVER_LINK, 1, Code.DELIVER, 0),
         ]
         self.turns_along("row", packet, turns)
 
     def pair(self):
-        """Two ISDs, each a core AS, its child and the child's child. The core segment expires first,
-        675 half seconds after it begins."""
+        """Two ISDs, each a core AS, its child and the child's child. The core segment expires
+        first, 675 half seconds after it begins."""
         one, other = [[f"{isd}-ff00:0:{isd}1{it}" for it in range(3)] for isd in (1, 2)]
         ways = [(0, 1), (1, 2), (1, 0)]
         up = self.segment("intra", 1, [(ia, b"k", *way) for ia, way in zip(one, ways)])

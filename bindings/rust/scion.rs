@@ -76,19 +76,19 @@ pub struct Packet<'a> {
     len: usize,
     interface: u16,
     answer: Answer,
-    came: u8,
+    arrival: u8,
     of: PhantomData<&'a mut [u8]>,
 }
 
 impl<'a> Packet<'a> {
     pub fn new(bytes: &'a mut [u8], arrival: Arrival) -> Self {
-        let (came, interface) = arrival.numbers();
+        let (arrival, interface) = arrival.numbers();
         Self {
             bytes: bytes.as_mut_ptr(),
             len: bytes.len(),
             interface,
             answer: Answer::default(),
-            came,
+            arrival,
             of: PhantomData,
         }
     }
@@ -123,7 +123,7 @@ unsafe extern "C" {
     fn scion_step(
         router: *const Parts,
         now: u32,
-        came: u8,
+        arrival: u8,
         interface: u16,
         packet: *mut u8,
         len: usize,
@@ -167,9 +167,9 @@ impl Router {
 
     /// One step on a packet, in place, at the second `now`.
     pub fn step(&self, now: u32, arrival: Arrival, packet: &mut [u8]) -> Answer {
-        let (came, interface) = arrival.numbers();
+        let (arrival, interface) = arrival.numbers();
         let (bytes, len) = (packet.as_mut_ptr(), packet.len());
-        unsafe { scion_step(&self.parts(), now, came, interface, bytes, len) }
+        unsafe { scion_step(&self.parts(), now, arrival, interface, bytes, len) }
     }
 
     /// One step on each packet; the keys are hashed once for all.
