@@ -6,6 +6,7 @@ prints.
 `refusals.py --check` says whether docs/refusals.md is that, and ends with 1 where it is not."""
 import re
 import sys
+import textwrap
 from pathlib import Path
 
 FRONT = """# All refusals
@@ -113,6 +114,11 @@ def comment(lines):
     return re.sub(r"\[(`[^`]*`)\](?:\([^)]*\))?", r"\1", text).strip()
 
 
+def filled(text):
+    """A paragraph in lines of at most 100 columns."""
+    return textwrap.fill(text, 100, break_long_words=False, break_on_hyphens=False)
+
+
 def number_at(text, term):
     """The number and the name that a row of a table has: its own, or those of a refusal of a crate
     below. Nothing if the row passes on all refusals of a type."""
@@ -145,8 +151,8 @@ def section(crate, type_name, calls, lines):
     if len(found) != 1:
         sys.exit(f"{crate} has {len(found)} types {type_name}")
     meaning, body = found[0]
-    yield f"\n## `{crate}`: `{type_name}`\n{comment(meaning)}\n"
-    yield f"Calls: {calls}." + (f" Lines: {lines}.\n" if lines else "\n")
+    yield f"\n## `{crate}`: `{type_name}`\n{filled(comment(meaning))}\n"
+    yield filled(f"Calls: {calls}." + (f" Lines: {lines}." if lines else "")) + "\n"
     yield "| number | name | meaning |\n|---|---|---|"
     variants = {name: comment(text) for text, _, name in VARIANT.findall(body)}
     for variant, (number, name) in numbers.items():

@@ -59,7 +59,9 @@ Interface = collections.namedtuple("Interface", "number kind router up", default
 Router = collections.namedtuple("Router", "ia key interfaces previous router", defaults=(b"", 0))
 
 # A packet that came to a router, and the answer to a call: its code, its number and the new bytes.
-Packet = collections.namedtuple("Packet", "bytes arrival interface", defaults=(Arrival.FROM_HOST, 0))
+Packet = collections.namedtuple(
+    "Packet", "bytes arrival interface", defaults=(Arrival.FROM_HOST, 0)
+)
 Answer = collections.namedtuple("Answer", "code number bytes")
 
 
