@@ -12,44 +12,38 @@ use streams::{Reader, Writer};
 
 /// Adds the events of a segment from AS 1 over its interface of this number, down the line of
 /// children whose numbers follow. `count` beacons were made before.
-fn push_segment(
-    alloc: Global,
-    text: &mut String,
-    before: u32,
-    first: u32,
-) -> Result<(), AllocError> {
-    let begun = format!(in alloc;
-        "{{\"do\":\"originate\",\"ia\":\"1-1\",\"egress\":{first},\"beta0\":1}}\n"
+fn push_segment(text: &mut String, before: u32, first: u32) -> Result<(), AllocError> {
+    writeln!(
+        text,
+        r#"{{"do":"originate","ia":"1-1","egress":{first},"beta0":1}}"#
     )?;
-    text.push_str(begun.as_str())?;
     for step in 0..network::LINE - 2 {
         let beacon = before.wrapping_add(step);
         let child = first.wrapping_add(step).wrapping_add(1);
-        let passed = format!(in alloc;
-            "{{\"do\":\"extend\",\"beacon\":{beacon},\"ia\":\"1-{child}\",\"egress\":{child}}}\n"
+        writeln!(
+            text,
+            r#"{{"do":"extend","beacon":{beacon},"ia":"1-{child}","egress":{child}}}"#
         )?;
-        text.push_str(passed.as_str())?;
     }
-    let ended = format!(in alloc;
-        "{{\"do\":\"terminate\",\"beacon\":{},\"ia\":\"1-{}\"}}\n",
-        before.wrapping_add(network::LINE - 2),
-        first.wrapping_add(network::LINE - 1)
-    )?;
-    text.push_str(ended.as_str())
+    let beacon = before.wrapping_add(network::LINE - 2);
+    let last = first.wrapping_add(network::LINE - 1);
+    writeln!(
+        text,
+        r#"{{"do":"terminate","beacon":{beacon},"ia":"1-{last}"}}"#
+    )
 }
 
 /// The network, with the answer of one path from the end of the one line to that of the other.
 fn network(alloc: Global) -> Result<Net> {
     let mut text = network::lines(alloc)?;
     text.push_str("\n{\"do\":\"tick\",\"now\":1000}\n")?;
-    push_segment(alloc, &mut text, 0, 1)?;
-    push_segment(alloc, &mut text, network::LINE - 1, network::FIRST_END)?;
-    let asked = format!(in alloc;
-        "{{\"do\":\"ask\",\"src\":\"1-{}\",\"dst\":\"1-{}\",\"limit\":1}}\n",
-        network::FIRST_END,
-        network::SECOND_END
+    push_segment(&mut text, 0, 1)?;
+    push_segment(&mut text, network::LINE - 1, network::FIRST_END)?;
+    let (src, dst) = (network::FIRST_END, network::SECOND_END);
+    writeln!(
+        text,
+        r#"{{"do":"ask","src":"1-{src}","dst":"1-{dst}","limit":1}}"#
     )?;
-    text.push_str(asked.as_str())?;
     let mut source = Reader::new(text.as_bytes());
     let mut sink = Writer::new(Vec::new(alloc));
     Ok(listen(alloc, AcceptedLines::Preparing, &mut source, &mut sink)?)

@@ -2,7 +2,7 @@
 
 use anyhow::Result;
 use event_lines::run_lines;
-use std::alloc::Global;
+use std::alloc::{AllocError, Global};
 use streams::{Reader, Writer};
 
 /// The lines that lead, in a network of three ASes in a row, to an answer of one path.
@@ -62,52 +62,48 @@ fn asking() -> &'static str {
 }
 
 /// Several turns of a packet, which is then shown.
-fn push_turns(alloc: Global, text: &mut String, number: u32, count: u8) -> Result<()> {
-    let turn = format!(in alloc; "{{\"do\":\"turn\",\"packet\":{number}}}\n")?;
+fn push_turns(text: &mut String, number: u32, count: u8) -> Result<(), AllocError> {
     for _ in 0..count {
-        text.push_str(turn.as_str())?;
+        writeln!(text, r#"{{"do":"turn","packet":{number}}}"#)?;
     }
-    let show = format!(in alloc; "{{\"do\":\"show\",\"packet\":{number}}}\n")?;
-    text.push_str(show.as_str())?;
-    Ok(())
+    writeln!(text, r#"{{"do":"show","packet":{number}}}"#)
 }
 
 /// A beacon through the three ASes; its numbers are the next two, and at its second the segment
 /// before has expired.
-fn push_beacon(alloc: Global, text: &mut String, number: u32) -> Result<()> {
+fn push_beacon(text: &mut String, number: u32) -> Result<(), AllocError> {
     let first = number.saturating_mul(2).saturating_add(2);
     let second = first.saturating_add(1);
     let now = number.saturating_mul(21_601).saturating_add(22_601);
-    let clock = format!(in alloc; "{{\"do\":\"tick\",\"now\":{now}}}\n{{\"do\":\"sweep\"}}\n")?;
-    text.push_str(clock.as_str())?;
+    writeln!(text, r#"{{"do":"tick","now":{now}}}"#)?;
     text.push_str(
-        r#"{"do":"originate","ia":"1-ff00:0:110","egress":1,"beta0":4660}
+        r#"{"do":"sweep"}
+{"do":"originate","ia":"1-ff00:0:110","egress":1,"beta0":4660}
 "#,
     )?;
-    let passed = format!(in alloc;
-        "{{\"do\":\"extend\",\"beacon\":{first},\"ia\":\"1-ff00:0:111\",\"egress\":2}}\n"
+    writeln!(
+        text,
+        r#"{{"do":"extend","beacon":{first},"ia":"1-ff00:0:111","egress":2}}"#
     )?;
-    text.push_str(passed.as_str())?;
-    let ended = format!(in alloc;
-        "{{\"do\":\"terminate\",\"beacon\":{second},\"ia\":\"1-ff00:0:112\"}}\n"
-    )?;
-    text.push_str(ended.as_str())?;
-    Ok(())
+    writeln!(
+        text,
+        r#"{{"do":"terminate","beacon":{second},"ia":"1-ff00:0:112"}}"#
+    )
 }
 
 /// The lines of the work with this number.
-fn push_lines(alloc: Global, text: &mut String, about: About, number: u32) -> Result<()> {
+fn push_lines(text: &mut String, about: About, number: u32) -> Result<(), AllocError> {
     match about {
         About::All => {
             text.push_str(around())?;
-            push_turns(alloc, text, number, 4)
+            push_turns(text, number, 4)
         }
         About::Packets => {
             text.push_str(sending())?;
-            push_turns(alloc, text, number, 3)
+            push_turns(text, number, 3)
         }
-        About::Beacons => push_beacon(alloc, text, number),
-        About::Requests => Ok(text.push_str(asking())?),
+        About::Beacons => push_beacon(text, number),
+        About::Requests => text.push_str(asking()),
     }
 }
 
@@ -116,7 +112,7 @@ fn push_lines(alloc: Global, text: &mut String, about: About, number: u32) -> Re
 pub(crate) fn lines(alloc: Global, about: About, count: u32) -> Result<u64> {
     let mut text = format!(in alloc; "{}\n{}", worked::row(), start())?;
     for number in 0..count {
-        push_lines(alloc, &mut text, about, number)?;
+        push_lines(&mut text, about, number)?;
     }
     let mut source = Reader::new(text.as_bytes());
     let mut sink = Writer::new(Vec::new(alloc));

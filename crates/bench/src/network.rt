@@ -44,11 +44,11 @@ pub(crate) fn port(link: u32) -> u16 {
 pub(crate) fn text(alloc: Global) -> Result<String, AllocError> {
     let mut text = String::from_str(alloc, r#"{"ases":["#)?;
     for one in 1..=ASES {
-        push_as(alloc, &mut text, one, "true")?;
+        push_as(&mut text, one, "true")?;
     }
     text.push_str(r#"],"links":["#)?;
     for link in 0..LINKS {
-        push_link(alloc, &mut text, "core", link, from(link), to(link))?;
+        push_link(&mut text, "core", link, from(link), to(link))?;
     }
     text.push_str("]}")?;
     Ok(text)
@@ -64,34 +64,33 @@ pub(crate) fn lines(alloc: Global) -> Result<String, AllocError> {
         } else {
             "false"
         };
-        push_as(alloc, &mut text, one, core)?;
+        push_as(&mut text, one, core)?;
     }
     text.push_str(r#"],"links":["#)?;
     for link in 0..SECOND_END - 1 {
         let child = link + 2;
         let parent = if child == FIRST_END + 1 { 1 } else { child - 1 };
-        push_link(alloc, &mut text, "child", link, parent, child)?;
+        push_link(&mut text, "child", link, parent, child)?;
     }
     for link in SECOND_END - 1..LINKS {
         let (one, other) = (link % (ASES - RING), (link + 1) % (ASES - RING));
-        push_link(alloc, &mut text, "core", link, RING + one, RING + other)?;
+        push_link(&mut text, "core", link, RING + one, RING + other)?;
     }
     text.push_str("]}")?;
     Ok(text)
 }
 
 /// Adds an AS, which is core or not.
-fn push_as(alloc: Global, text: &mut String, one: u32, core: &str) -> Result<(), AllocError> {
+fn push_as(text: &mut String, one: u32, core: &str) -> Result<(), AllocError> {
     let comma = if one == 1 { "" } else { "," };
-    let row = format!(in alloc;
+    write!(
+        text,
         r#"{comma}{{"ia":"1-{one}","core":{core},"exp":63,"key":"6b","routers":1}}"#
-    )?;
-    text.push_str(row.as_str())
+    )
 }
 
 /// Adds a link of a kind, from one AS to another.
 fn push_link(
-    alloc: Global,
     text: &mut String,
     kind: &str,
     link: u32,
@@ -99,17 +98,16 @@ fn push_link(
     to: u32,
 ) -> Result<(), AllocError> {
     let comma = if link == 0 { "" } else { "," };
-    let a = end(alloc, from, u32::from(port(link)))?;
-    let b = end(alloc, to, 10_000 + link % LINKS)?;
-    let row = format!(in alloc;
-        r#"{comma}{{"kind":"{kind}","a":{},"b":{}}}"#,
-        a.as_str(),
-        b.as_str()
-    )?;
-    text.push_str(row.as_str())
+    write!(text, r#"{comma}{{"kind":"{kind}""#)?;
+    push_end(text, 'a', from, u32::from(port(link)))?;
+    push_end(text, 'b', to, 10_000 + link % LINKS)?;
+    text.push_str("}")
 }
 
-/// An end of a link as JSON.
-fn end(alloc: Global, one: u32, number: u32) -> Result<String, AllocError> {
-    format!(in alloc; r#"{{"ia":"1-{one}","if":{number},"router":0}}"#)
+/// Adds an end of a link.
+fn push_end(text: &mut String, name: char, one: u32, number: u32) -> Result<(), AllocError> {
+    write!(
+        text,
+        r#","{name}":{{"ia":"1-{one}","if":{number},"router":0}}"#
+    )
 }

@@ -4,7 +4,7 @@ use hop_mac::hop_mac;
 use isd_as::{IfId, IsdAs};
 use refusal::{NumberedFault, OrMemory};
 use scion_topology::{AsInfo, IfEntry, LinkKind, RouterView, Topology, TopologyFault};
-use std::alloc::Global;
+use std::alloc::{AllocError, Global};
 use std::process::Abort;
 use std::test::Fail;
 use worked::row;
@@ -232,29 +232,30 @@ fn changes_what_is_named(rt: HostRuntime) -> Result<(), Fail> {
 }
 
 /// A ring of core ASes, with several links between neighbours.
-fn ring(rt: &HostRuntime, ases: u32, links: u32) -> Result<String, Fail>
+fn ring(alloc: Global, ases: u32, links: u32) -> Result<String, AllocError>
     requires { 0 < ases }
 {
-    let alloc = rt.alloc();
     let mut text = String::from_str(alloc, r#"{"ases":["#)?;
     for one in 1..=ases {
         let comma = if one == 1 { "" } else { "," };
-        let row = format!(in alloc;
+        write!(
+            text,
             r#"{comma}{{"ia":"1-{one}","core":true,"exp":0,"key":"00","routers":1}}"#
         )?;
-        text.push_str(row.as_str())?;
     }
     text.push_str(r#"],"links":["#)?;
     for link in 1..=links {
         let comma = if link == 1 { "" } else { "," };
         let one = link % ases + 1;
-        let other = one % ases + 1;
-        let row = format!(in alloc;
-            "{comma}{{\"kind\":\"core\",\"a\":{{\"ia\":\"1-{one}\",\"if\":{link},\"router\":0}},\
-             \"b\":{{\"ia\":\"1-{other}\",\"if\":{},\"router\":0}}}}",
-            10_000 + link % 50_000
+        let (other, number) = (one % ases + 1, 10_000 + link % 50_000);
+        write!(
+            text,
+            r#"{comma}{{"kind":"core","a":{{"ia":"1-{one}","if":{link},"router":0}},"#
         )?;
-        text.push_str(row.as_str())?;
+        write!(
+            text,
+            r#""b":{{"ia":"1-{other}","if":{number},"router":0}}}}"#
+        )?;
     }
     text.push_str("]}")?;
     Ok(text)
@@ -263,11 +264,11 @@ fn ring(rt: &HostRuntime, ases: u32, links: u32) -> Result<String, Fail>
 /// The largest numbers of ASes and links are read, and one more of either is not.
 #[test]
 fn limits_are_exact(rt: HostRuntime) -> Result<(), Fail> {
-    let most = ring(&rt, 1024, 4096)?;
+    let most = ring(rt.alloc(), 1024, 4096)?;
     let topology = Topology::from_json(rt.alloc(), most.as_bytes())?;
     assert_eq!(rt; topology.as_info(IsdAs::parse("1-1024")?)?.position, 1023);
     for (ases, links) in [(1025, 0), (1024, 4097)] {
-        let text = ring(&rt, ases, links)?;
+        let text = ring(rt.alloc(), ases, links)?;
         let read = Topology::from_json(rt.alloc(), text.as_bytes());
         assert!(rt; read.err() == Some(OrMemory::Refused(TopologyFault::TooMany)));
     }
@@ -318,7 +319,7 @@ fn sentences(rt: HostRuntime) -> Result<(), Fail> {
 /// The largest network with one duplicate, each time at the very end.
 #[test]
 fn last_double_is_found(rt: HostRuntime) -> Result<(), Fail> {
-    let most = ring(&rt, 1024, 4096)?;
+    let most = ring(rt.alloc(), 1024, 4096)?;
     let rows = [
         (
             r#""1-1024","core""#,

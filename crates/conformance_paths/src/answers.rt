@@ -55,11 +55,10 @@ fn set_of(
 }
 
 /// Adds a walk in the form of reply lines.
-fn add_walk(alloc: Global, told: &mut String, walk: &[WalkHop]) -> Result<(), Fail> {
+fn push_walk(text: &mut String, walk: &[WalkHop]) -> Result<(), AllocError> {
     let mut front = "; ";
     for hop in walk {
-        let hop = format!(in alloc; "{front}{}#{},{}", hop.ia, hop.ingress, hop.egress)?;
-        told.push_str(hop.as_str())?;
+        write!(text, "{front}{}#{},{}", hop.ia, hop.ingress, hop.egress)?;
         front = " ";
     }
     Ok(())
@@ -70,7 +69,7 @@ fn told_of(alloc: Global, list: &PathList) -> Result<String, Fail> {
     let mut told = format!(in alloc; "{}", list.len())?;
     for place in 0..list.len() {
         if let Some(path) = list.get(place) {
-            add_walk(alloc, &mut told, path.walk())?;
+            push_walk(&mut told, path.walk())?;
         }
     }
     Ok(told)

@@ -1,8 +1,7 @@
 //! Packets that were cut or changed on their way, and the line of a router's turn with each.
 
-use crate::step::{UP, expect_line, up_packet, words};
+use crate::step::{UP, expect_line, first_mac, up_packet, words};
 use hex::{decode, encode};
-use hop_mac::hop_mac;
 use std::alloc::Global;
 use std::process::Abort;
 use std::test::Fail;
@@ -11,8 +10,7 @@ use std::test::Fail;
 /// addresses, the meta field from byte 16, the info field from byte 20, and hop fields from bytes
 /// 28 and 40.
 fn right_packet(alloc: Global) -> Result<Vec<u8>, Fail> {
-    let mac = hop_mac(b"k", 0xb396, 100, 63, 2, 0);
-    Ok(decode(alloc, up_packet(alloc, UP, mac)?)?)
+    Ok(decode(alloc, up_packet(alloc, UP, first_mac())?)?)
 }
 
 /// Its bytes with this one changed, by exclusive or.

@@ -80,25 +80,44 @@ pub(crate) fn up_packet(alloc: Global, front: &str, mac: [u8; 6]) -> Result<Stri
     format!(in alloc; "{front}{}{BEHIND}", digits.as_str())
 }
 
-/// A packet sent on over a link and inside the AS, and two with a wrong authenticator.
+/// The authenticator of the packet's first hop.
+pub(crate) fn first_mac() -> [u8; 6] {
+    hop_mac(b"k", 0xb396, 100, 63, 2, 0)
+}
+
+/// A packet sent on over a link, and refused if the link is down.
 #[test]
-fn sent_on(rt: HostRuntime) -> Result<(), Fail> {
+fn sent_over_a_link(rt: HostRuntime) -> Result<(), Fail> {
     let alloc = rt.alloc();
-    let mac = hop_mac(b"k", 0xb396, 100, 63, 2, 0);
-    let packet = up_packet(alloc, UP, mac)?;
-    let own = words("100", "host", "2,parent,0,up");
-    let line = format!(in alloc; "link 2 {}", up_packet(alloc, MOVED, mac)?.as_str())?;
-    expect_line(&rt, alloc, &own, &packet, &line)?;
-    let mut changed = mac;
-    changed[5] ^= 1;
-    for wrong in [up_packet(alloc, UP, changed)?.as_str(), WRONG] {
-        expect_line(&rt, alloc, &own, wrong, "refused 94 BadMac")?;
-    }
-    let other = words("100", "host", "2,parent,63,up");
-    let line = format!(in alloc; "router 63 {}", packet.as_str())?;
-    expect_line(&rt, alloc, &other, &packet, &line)?;
+    let packet = up_packet(alloc, UP, first_mac())?;
+    let moved = up_packet(alloc, MOVED, first_mac())?;
+    let line = format!(in alloc; "link 2 {}", moved.as_str())?;
+    let up = words("100", "host", "2,parent,0,up");
+    expect_line(&rt, alloc, &up, &packet, &line)?;
     let down = words("100", "host", "2,parent,0,down");
     expect_line(&rt, alloc, &down, &packet, "refused 100 LinkDown")
+}
+
+/// A packet sent on inside the AS, to the router that owns the link.
+#[test]
+fn sent_inside(rt: HostRuntime) -> Result<(), Fail> {
+    let alloc = rt.alloc();
+    let packet = up_packet(alloc, UP, first_mac())?;
+    let line = format!(in alloc; "router 63 {}", packet.as_str())?;
+    let other = words("100", "host", "2,parent,63,up");
+    expect_line(&rt, alloc, &other, &packet, &line)
+}
+
+/// Two packets with a wrong authenticator: one that differs in a bit, and another one.
+#[test]
+fn wrong_authenticators(rt: HostRuntime) -> Result<(), Fail> {
+    let alloc = rt.alloc();
+    let mut changed = first_mac();
+    changed[5] ^= 1;
+    let packet = up_packet(alloc, UP, changed)?;
+    let own = words("100", "host", "2,parent,0,up");
+    expect_line(&rt, alloc, &own, &packet, "refused 94 BadMac")?;
+    expect_line(&rt, alloc, &own, WRONG, "refused 94 BadMac")
 }
 
 /// A packet at its last hop is delivered.
@@ -146,15 +165,25 @@ fn is_refused(rt: &HostRuntime, words: &[&str]) -> bool {
     )
 }
 
-/// Each way in which a word can be wrong; the words are checked before the packet.
+/// A second that is none; the words are checked before the packet.
 #[test]
-fn bad_words(rt: HostRuntime) -> Result<(), Fail> {
+fn bad_seconds(rt: HostRuntime) {
     for now in ["4294967296", "-1", "x", "", "+5", "1.0"] {
         assert!(rt; is_refused(&rt, &words(now, "host", "2,parent,0,up")));
     }
+}
+
+/// A way in that is none.
+#[test]
+fn bad_ways_in(rt: HostRuntime) {
     for from in ["0", "65536", "hosts", "HOST", "", "+1"] {
         assert!(rt; is_refused(&rt, &words("1", from, "2,parent,0,up")));
     }
+}
+
+/// An interface that is none.
+#[test]
+fn bad_interfaces(rt: HostRuntime) {
     for interface in [
         "0,parent,0,up",
         "65536,parent,0,up",
@@ -170,8 +199,11 @@ fn bad_words(rt: HostRuntime) -> Result<(), Fail> {
     ] {
         assert!(rt; is_refused(&rt, &words("1", "host", interface)));
     }
-    let now = "--now=1";
-    let from = "--from=host";
+}
+
+/// An address, a number of a router or a key that is none.
+#[test]
+fn bad_routers(rt: HostRuntime) {
     for (ia, router, key) in [
         ("1-0", "0", "6b"),
         ("ff00", "0", "6b"),
@@ -184,13 +216,26 @@ fn bad_words(rt: HostRuntime) -> Result<(), Fail> {
         ("1-ff00:0:111", "0", long_key()),
     ] {
         let given = [
-            "step", "--ia", ia, "--router", router, "--key", key, now, from,
+            "step",
+            "--ia",
+            ia,
+            "--router",
+            router,
+            "--key",
+            key,
+            "--now=1",
+            "--from=host",
         ];
         assert!(rt; is_refused(&rt, &given));
     }
+}
+
+/// Words of which one is missing, stands twice or is of no turn.
+#[test]
+fn bad_lists_of_words(rt: HostRuntime) {
     let [step, ia, address, router, number, key, hex] = FRONT;
-    let core = "7,core,0,up";
-    let lists: [&[&str]; 12] = [
+    let (now, from, core) = ("--now=1", "--from=host", "7,core,0,up");
+    let lists: [&[&str]; 5] = [
         &[step, ia, address, router, number, key, hex, now],
         &[step, ia, address, router, number, key, hex, now, now, from],
         &[
@@ -200,7 +245,17 @@ fn bad_words(rt: HostRuntime) -> Result<(), Fail> {
             step, ia, address, router, number, key, hex, now, from, "--up",
         ],
         &[step, ia, address, router, number, key, hex, now, "--from"],
-        &[step, "--help"],
+    ];
+    for words in lists {
+        assert!(rt; is_refused(&rt, words));
+    }
+}
+
+/// Words that ask for help, for another command or for nothing.
+#[test]
+fn words_of_no_turn(rt: HostRuntime) {
+    let lists: [&[&str]; 7] = [
+        &["step", "--help"],
         &["--help"],
         &["help"],
         &["run"],
@@ -211,7 +266,28 @@ fn bad_words(rt: HostRuntime) -> Result<(), Fail> {
     for words in lists {
         assert!(rt; is_refused(&rt, words));
     }
-    Ok(())
+}
+
+/// The words of a turn of a router with the key `6a` in use, and this key before it.
+fn words_of_keys<'a>(previous: &'a str) -> [&'a str; 14] {
+    let [step, ia, address, router, number, key, _] = FRONT;
+    let interface = "2,parent,0,up";
+    [
+        step,
+        ia,
+        address,
+        router,
+        number,
+        key,
+        "6a",
+        "--previous",
+        previous,
+        "--now",
+        "100",
+        "--from",
+        "host",
+        interface,
+    ]
 }
 
 /// A key before the one in use: one under which the authenticator is right, another one, and one
@@ -219,36 +295,17 @@ fn bad_words(rt: HostRuntime) -> Result<(), Fail> {
 #[test]
 fn previous_key(rt: HostRuntime) -> Result<(), Fail> {
     let alloc = rt.alloc();
-    let mac = encode(alloc, hop_mac(b"k", 0xb396, 100, 63, 2, 0))?;
-    let packet = format!(in alloc; "{UP}{mac}{BEHIND}")?;
-    let moved = format!(in alloc; "link 2 {MOVED}{mac}{BEHIND}")?;
-    let rows = [
-        ("6b", Some(moved.as_str())),
-        ("6c", Some("refused 94 BadMac")),
-        ("6", None),
-    ];
-    for (previous, line) in rows {
-        let [step, ia, address, router, number, key, _] = FRONT;
-        let words = [
-            step,
-            ia,
-            address,
-            router,
-            number,
-            key,
-            "6a",
-            "--previous",
-            previous,
-            "--now",
-            "100",
-            "--from",
-            "host",
-            "2,parent,0,up",
-        ];
-        match line {
-            Some(line) => expect_line(&rt, alloc, &words, &packet, line)?,
-            None => assert!(rt; is_refused(&rt, &words)),
-        }
-    }
+    let packet = up_packet(alloc, UP, first_mac())?;
+    let moved = up_packet(alloc, MOVED, first_mac())?;
+    let line = format!(in alloc; "link 2 {}", moved.as_str())?;
+    expect_line(&rt, alloc, &words_of_keys("6b"), &packet, &line)?;
+    expect_line(
+        &rt,
+        alloc,
+        &words_of_keys("6c"),
+        &packet,
+        "refused 94 BadMac",
+    )?;
+    assert!(rt; is_refused(&rt, &words_of_keys("6")));
     Ok(())
 }

@@ -67,57 +67,65 @@ fn code_of_changed(header: &[u8], changes: &[(usize, u8)], len: usize) -> u16 {
     code_of(decode(&bytes[..len.min(48)]))
 }
 
+/// Bytes of [`WORKED`] that are changed, the length to which it is cut, and the number of the
+/// refusal.
+static CASES: [(&[(usize, u8)], usize, u16); 27] = [
+    (&[], 36, 0),
+    (&[(36, 0xff), (47, 0xff)], 48, 0),
+    (&[], 35, 20),
+    (&[], 0, 20),
+    // the meta field: Short, Reserved, SegLens, TooManyHops, and Short again
+    (&[(1, 0xfc), (2, 0x00)], 3, 20),
+    (&[(1, 0x04)], 36, 21),
+    (&[(1, 0x80), (2, 0x00)], 36, 21),
+    (&[(1, 0x0a), (2, 0x1f), (3, 0xff)], 36, 21),
+    (&[(0, 0xff), (1, 0x20), (4, 0x02), (12, 0x01)], 35, 21),
+    (&[(2, 0x00)], 36, 24),
+    (&[(0, 0xff), (3, 0x01), (4, 0x02), (12, 0x01)], 36, 24),
+    (&[(1, 0x00), (2, 0x0f), (3, 0xff)], 4, 24),
+    (
+        &[(0, 0xff), (1, 0x02), (2, 0x18), (4, 0x02), (6, 0x01)],
+        48,
+        25,
+    ),
+    (&[(1, 0x03), (2, 0xf0), (3, 0x40)], 4, 20),
+    (&[(0, 0xff), (4, 0x02), (5, 0x01), (12, 0x01)], 35, 20),
+    // the fields in order, and the indices after them
+    (&[(4, 0x02)], 36, 22),
+    (&[(4, 0x86), (5, 0x01)], 36, 22),
+    (&[(0, 0x3f), (4, 0x03), (12, 0x02)], 36, 22),
+    (&[(4, 0x04), (12, 0x01)], 36, 21),
+    (&[(0, 0xc0), (5, 0x01)], 36, 21),
+    (&[(12, 0x01)], 36, 23),
+    (&[(24, 0x02)], 36, 23),
+    (&[(0, 0x40), (24, 0x06)], 36, 23),
+    (&[(12, 0x80), (24, 0x02)], 36, 21),
+    (&[(0, 0x40), (24, 0x04)], 36, 21),
+    (&[(0, 0x40)], 36, 26),
+    (&[(0, 0x02)], 36, 26),
+];
+
 #[test]
 fn first_refusal_is_reported(rt: HostRuntime) {
-    let cases: [(&[(usize, u8)], usize, u16); 27] = [
-        (&[], 36, 0),
-        (&[(36, 0xff), (47, 0xff)], 48, 0),
-        (&[], 35, 20),
-        (&[], 0, 20),
-        // the meta field: Short, Reserved, SegLens, TooManyHops, and Short again
-        (&[(1, 0xfc), (2, 0x00)], 3, 20),
-        (&[(1, 0x04)], 36, 21),
-        (&[(1, 0x80), (2, 0x00)], 36, 21),
-        (&[(1, 0x0a), (2, 0x1f), (3, 0xff)], 36, 21),
-        (&[(0, 0xff), (1, 0x20), (4, 0x02), (12, 0x01)], 35, 21),
-        (&[(2, 0x00)], 36, 24),
-        (&[(0, 0xff), (3, 0x01), (4, 0x02), (12, 0x01)], 36, 24),
-        (&[(1, 0x00), (2, 0x0f), (3, 0xff)], 4, 24),
-        (
-            &[(0, 0xff), (1, 0x02), (2, 0x18), (4, 0x02), (6, 0x01)],
-            48,
-            25,
-        ),
-        (&[(1, 0x03), (2, 0xf0), (3, 0x40)], 4, 20),
-        (&[(0, 0xff), (4, 0x02), (5, 0x01), (12, 0x01)], 35, 20),
-        // the fields in order, and the indices after them
-        (&[(4, 0x02)], 36, 22),
-        (&[(4, 0x86), (5, 0x01)], 36, 22),
-        (&[(0, 0x3f), (4, 0x03), (12, 0x02)], 36, 22),
-        (&[(4, 0x04), (12, 0x01)], 36, 21),
-        (&[(0, 0xc0), (5, 0x01)], 36, 21),
-        (&[(12, 0x01)], 36, 23),
-        (&[(24, 0x02)], 36, 23),
-        (&[(0, 0x40), (24, 0x06)], 36, 23),
-        (&[(12, 0x80), (24, 0x02)], 36, 21),
-        (&[(0, 0x40), (24, 0x04)], 36, 21),
-        (&[(0, 0x40)], 36, 26),
-        (&[(0, 0x02)], 36, 26),
-    ];
-    for (changes, len, code) in cases {
-        assert_eq!(rt; code_of_changed(&WORKED, changes, len), code);
+    for (changes, len, code) in &CASES {
+        assert_eq!(rt; code_of_changed(&WORKED, changes, *len), *code);
     }
-    let two_segments = [0x00, 0x00, 0x10, 0x40];
-    assert_eq!(rt;
-        code_of_changed(&two_segments, &[(5, 0x01), (12, 0x02)], 44),
-        21
-    );
-    assert_eq!(rt;
-        code_of_changed(&two_segments, &[(4, 0x02), (13, 0x01)], 44),
-        22
-    );
-    assert_eq!(rt; code_of_changed(&two_segments, &[(0, 0x80)], 44), 26);
     assert_eq!(rt; HeaderFault::BadIndex.name(), "BadIndex");
+}
+
+/// The meta field of two segments of one hop each.
+const TWO_SEGMENTS: [u8; 4] = [0x00, 0x00, 0x10, 0x40];
+
+#[test]
+fn first_refusal_of_two_segments_is_reported(rt: HostRuntime) {
+    let cases: [(&[(usize, u8)], u16); 3] = [
+        (&[(5, 0x01), (12, 0x02)], 21),
+        (&[(4, 0x02), (13, 0x01)], 22),
+        (&[(0, 0x80)], 26),
+    ];
+    for (changes, code) in cases {
+        assert_eq!(rt; code_of_changed(&TWO_SEGMENTS, changes, 44), code);
+    }
 }
 
 #[test]

@@ -99,26 +99,50 @@ fn answers_to(
     Ok([first, again, answer_to(alloc, store, segment, 21_701)?])
 }
 
+/// Asserts that a segment is stored once, known the second time and refused when it has expired.
+fn expect_stored(
+    rt: &impl Abort,
+    alloc: Global,
+    store: &mut PathStore,
+    segment: &Segment,
+) -> Result<(), Fail> {
+    assert!(rt; store.is_empty());
+    assert_eq!(rt; answers_to(alloc, store, segment)?, [1, 0, 51]);
+    assert!(rt; store.len() == 1 && are_same(store.segments(), &[segment]));
+    assert!(rt; copies(alloc, store, segment)?);
+    Ok(())
+}
+
+/// Asserts that the worked segment is found from both its ends up to its last second.
+fn expect_found(
+    rt: &impl Abort,
+    alloc: Global,
+    store: &PathStore,
+    segment: &Segment,
+) -> Result<(), Fail> {
+    assert!(rt; looks_up(alloc, store, (0x111, 0x110), 100, &[segment], &[])?);
+    assert!(rt; looks_up(alloc, store, (0x110, 0x111), 21_700, &[], &[segment])?);
+    assert!(rt; looks_up(alloc, store, (0x111, 0x110), 21_701, &[], &[])?);
+    Ok(())
+}
+
+/// Asserts that the worked segment is swept after it has expired.
+fn expect_swept(rt: &impl Abort, store: &mut PathStore) {
+    assert_eq!(rt; store.sweep(21_700), 0);
+    assert_eq!(rt; store.sweep(21_701), 1);
+    assert_eq!(rt; store.sweep(21_701), 0);
+    assert!(rt; store.is_empty());
+}
+
 /// The worked segment is stored once, found from its last AS, and swept after it has expired.
 #[test]
 fn one_segment(rt: HostRuntime) -> Result<(), Fail> {
     let alloc = rt.alloc();
-    let s = worked(alloc, 4660)?;
+    let segment = worked(alloc, 4660)?;
     let mut store = PathStore::new(alloc);
-    assert!(rt; store.is_empty());
-    assert_eq!(rt; answers_to(alloc, &mut store, &s)?, [1, 0, 51]);
-    assert!(rt; store.len() == 1 && are_same(store.segments(), &[&s]));
-    assert!(rt; looks_up(alloc, &store, (0x111, 0x110), 100, &[&s], &[])?);
-    assert!(rt; copies(alloc, &store, &s)?);
-    assert!(rt; looks_up(alloc, &store, (0x110, 0x111), 21_700, &[], &[&s])?);
-    assert!(rt; looks_up(alloc, &store, (0x111, 0x110), 21_701, &[], &[])?);
-    let swept = [
-        store.sweep(21_700),
-        store.sweep(21_701),
-        store.sweep(21_701),
-    ];
-    assert_eq!(rt; swept, [0, 1, 0]);
-    assert!(rt; store.is_empty());
+    expect_stored(&rt, alloc, &mut store, &segment)?;
+    expect_found(&rt, alloc, &store, &segment)?;
+    expect_swept(&rt, &mut store);
     Ok(())
 }
 

@@ -39,14 +39,14 @@ fn network_once(alloc: Global, ways: &[(IsdAs, IsdAs)]) -> Result<Net, RunFault>
     text.push_str(issuing())?;
     let mut ask = 0u32;
     for (src, dst) in ways {
-        let asking = format!(in alloc;
-            "{{\"do\":\"ask\",\"src\":\"{src}\",\"dst\":\"{dst}\",\"limit\":4}}\n"
+        writeln!(
+            text,
+            r#"{{"do":"ask","src":"{src}","dst":"{dst}","limit":4}}"#
         )?;
-        text.push_str(asking.as_str())?;
-        let sending = format!(in alloc;
-            "{{\"do\":\"send\",\"ask\":{ask},\"path\":0,\"payload\":\"6869\"}}\n"
+        writeln!(
+            text,
+            r#"{{"do":"send","ask":{ask},"path":0,"payload":"6869"}}"#
         )?;
-        text.push_str(sending.as_str())?;
         ask = ask.saturating_add(1);
     }
     let mut source = Reader::new(text.as_bytes());
