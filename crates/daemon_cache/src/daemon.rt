@@ -43,7 +43,11 @@ fn empty_cache(alloc: Global, capacity: usize) -> Result<LruCache<u64, Arc<Entry
 /// The answer to a lawful request over a set. The options of its texts are read into an arena that
 /// is freed at the end.
 #[tactic(auto, using(crate::proofs::Lookups::lawful_wants))]
-fn made(alloc: Global, set: &SegmentSet, request: &Request<'_>) -> Result<PathList, AllocError>
+fn make_answer(
+    alloc: Global,
+    set: &SegmentSet,
+    request: &Request<'_>,
+) -> Result<PathList, AllocError>
     requires { lawful_at request.now ≡ Ok tt }
     ensures { IfOk result (IsAnswerToRequest request.now set.now) }
 {
@@ -82,7 +86,7 @@ impl Daemon {
     }
 
     /// The cached answer to a request over a set. It is copied after the lock was released.
-    fn cached<R: Wait>(
+    fn find_cached<R: Wait>(
         &self,
         rt: &R,
         alloc: Global,
@@ -93,7 +97,7 @@ impl Daemon {
         ensures { IfSome result (λ given. IfOk given (IsAnswerToRequest request.now set.now)) }
     {
         let entry = self.entry(rt, request.key())?;
-        entry.served(alloc, set, request)
+        entry.serve(alloc, set, request)
     }
 
     /// Keeps an answer if there is memory for it; else the cache stays as it was. An entry that
@@ -110,7 +114,7 @@ impl Daemon {
     }
 
     /// The answer to a lawful request over a set, and whether an entry of the cache gave it.
-    fn answered<R: Wait>(
+    fn answer_request<R: Wait>(
         &self,
         rt: &R,
         alloc: Global,
@@ -121,12 +125,12 @@ impl Daemon {
         requires live { AreAllLive set set.moment }
         ensures { IfOk result (λ given. IsAnswerToRequest request.now set given.0) }
     {
-        match self.cached(rt, alloc, &set, request) {
+        match self.find_cached(rt, alloc, &set, request) {
             Some(Ok(paths)) => return Ok((paths, true)),
             Some(Err(_)) => return Err(AllocError),
             None => {}
         }
-        let paths = made(alloc, &set, request)?;
+        let paths = make_answer(alloc, &set, request)?;
         if let Ok(entry) = Entry::of(alloc, set, request, &paths) {
             self.keep(rt, alloc, request.key(), entry);
         }
@@ -135,7 +139,8 @@ impl Daemon {
 
     /// At most `limit` paths from `src` to `dst` at the second `now`, best first, and whether they
     /// come from the cache. The paths are made of the segments that the reader finds on its board,
-    /// under the policies of the options' texts. It may wait for another thread's ask.
+    /// under the policies of the options' texts. It may wait for another thread's ask. No clause
+    /// speaks of the Boolean that says whether they come from the cache.
     ///
     /// The first of these refusals is returned: [`AskFault::BadLimit`] if the limit is not 1 to 64;
     /// those of [`PolicyOption::parse_all`]; [`AskFault::SameAs`] if both ends are the same AS;
@@ -155,6 +160,7 @@ impl Daemon {
     ) -> Result<(PathList, bool), AskError>
         ensures board { reader.new.board ≡ reader.old.board }
         ensures later { IsPrefix reader.old.seen reader.new.seen }
+        ensures told { reader.new.told ≡ reader.old.told }
         // The answer is one to the request over what the reader has then seen.
         ensures found { IfOk result
             (λ given. IsAnswerToRequest (request_value src dst options.now limit)
@@ -179,7 +185,7 @@ impl Daemon {
             Err(OrMemory::Refused(_)) => return Err(OrMemory::Refused(AskFault::NoEntry)),
             Err(OrMemory::Memory) => return Err(OrMemory::Memory),
         };
-        match self.answered(rt, alloc, set, &request) {
+        match self.answer_request(rt, alloc, set, &request) {
             Ok(given) => Ok(given),
             Err(_) => Err(OrMemory::Memory),
         }

@@ -80,7 +80,7 @@ impl Entry {
 
     /// A copy of the answer if it was made for this request and of this set's segments, whatever
     /// the set's second; else nothing.
-    pub(crate) fn served(
+    pub(crate) fn serve(
         &self,
         alloc: Global,
         set: &SegmentSet,

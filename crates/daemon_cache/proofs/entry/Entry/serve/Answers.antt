@@ -2,7 +2,7 @@ use Rattle.std.proofs.Common.{refl, sym, subst}
 use Rattle.std.proofs.lemmas.Result.{IfOk-weaker}
 use Rattle.daemon_cache.specs.Request.{RequestValue, IsAnswerToRequest}
 use Rattle.daemon_cache.proofs.Lookups.{served_answers}
-use Rattle.daemon_cache.proofs.entry.Entry.served.Goals as goal
+use Rattle.daemon_cache.proofs.entry.Entry.serve.Goals as goal
 
 pub returns-clause-answers : goal.returns-clause-answers
 returns-clause-answers c =
