@@ -1,6 +1,6 @@
 -- Choosing the option that is used, one after another.
 use Rattle.std.proofs.Common.{◌≡◌, ℕ, ◌+◌, ◌<◌, ◌≤◌, List, [], ◌∷◌, length, get_or, true, false, is_some, Option, Some, None, refl, sym, ap, subst, ◌∙◌, inl, inr, arith}
-use Rattle.std.specs.Prelude.{◌⊎◌, slice_get}
+use Rattle.std.specs.Prelude.{◌⊎◌, slice_get, IfSome}
 use Rattle.std.proofs.lemmas.Bool.{cases_lt}
 use Rattle.std.proofs.lemmas.Option.{same_Some, slice_get_within, slice_get-get_or}
 use Rattle.path_server.specs.Lookup.{Selection}
@@ -110,6 +110,13 @@ module _ (set : Selection) (src dst : ℕ) (options : List WeighedRules) (limit 
     answer = is.answer;
     first = λ j other at goes. is.first j other (let within = slice_get_within options j other at in omega arith) at goes;
   }
+
+-- a choice has the weight of the used option
+pub has_weight : (set : Selection) (src dst : ℕ) (options : List WeighedRules) (limit place : ℕ) (used : Option ℕ) (weight : ℕ) (paths : List PathValue)
+    → IsChosen set src dst options limit place used weight paths → IfSome used (λ u. IfSome (slice_get options u) (λ option. weight ≡ option.weight))
+has_weight set src dst options limit place None weight paths is = tt
+has_weight set src dst options limit place (Some used) weight paths is =
+    subst (λ (found : Option WeighedRules). IfSome found (λ option. weight ≡ option.weight)) (sym is.there) is.weighs
 
 -- ---- as the code sees it
 

@@ -97,11 +97,11 @@ pub fn paths_between<'s, 'p, A: Allocator + Clone>(
         dst,
         policy,
     };
-    answered(alloc, &ask, limit)
+    answer(alloc, &ask, limit)
 }
 
 /// The answer to a question.
-fn answered<'s, 'p, A: Allocator + Clone>(
+fn answer<'s, 'p, A: Allocator + Clone>(
     alloc: Global,
     ask: &PathRequest<'s, 'p, A>,
     limit: usize,

@@ -1,4 +1,4 @@
-ghost use Rattle.std.specs.Prelude.{◌≡◌, ◌+◌, ◌<◌, List, Some, slice_get, IfOk};
+ghost use Rattle.std.specs.Prelude.{◌≡◌, ◌+◌, ◌<◌, List, Some, slice_get, IfOk, IfSome};
 ghost use Rattle.policy_expr.specs.Options.{WeighedRules};
 ghost use Rattle.combinator.specs.Answer.{AnswersWith};
 ghost use Rattle.combinator.specs.inner.Choice.{IsChosen};
@@ -45,6 +45,7 @@ impl<'s, 'p, A: Allocator + Clone> Choice<'s, 'p, A> {
 /// Chooses the option with the largest weight among those that leave a path, and of equal weights
 /// the first; returns it with its paths of [`paths_between`]. An option is not tried if one of at
 /// least its weight was found to leave a path.
+#[tactic(auto, using(crate::proofs::Choosing::chosen_of_all, crate::proofs::Choosing::has_weight))]
 pub fn paths_with<'s, 'p, A: Allocator + Clone>(
     alloc: Global,
     set: &'s SegmentSet,
@@ -54,8 +55,11 @@ pub fn paths_with<'s, 'p, A: Allocator + Clone>(
     limit: usize,
 ) -> Result<Choice<'s, 'p, A>, AllocError>
     requires { 0 < limit }
-    ensures { IfOk result (λ choice.
+    ensures answers { IfOk result (λ choice.
         AnswersWith set.entry.now src dst options.entry.now limit choice.used choice.paths) }
+    // The weight is that of the used option.
+    ensures weight { IfOk result (λ choice. IfSome choice.used (λ used.
+        IfSome (slice_get options.entry.now used) (λ option. choice.weight ≡ option.weight))) }
 {
     let mut choice = Choice {
         option: None,
@@ -63,13 +67,13 @@ pub fn paths_with<'s, 'p, A: Allocator + Clone>(
         paths: Paths::none(alloc),
     };
     for (place, option) in options.iter().enumerate() {
-        choice = chosen(alloc, set, src, dst, choice, place, option, limit)?;
+        choice = choose(alloc, set, src, dst, choice, place, option, limit)?;
     }
     Ok(choice)
 }
 
 /// The choice after one more option.
-fn chosen<'s, 'p, A: Allocator + Clone>(
+fn choose<'s, 'p, A: Allocator + Clone>(
     alloc: Global,
     set: &'s SegmentSet,
     src: IsdAs,

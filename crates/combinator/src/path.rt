@@ -56,6 +56,14 @@ impl Path {
         &self.walk
     }
 
+    /// Does nothing; its contract tells the caller that the path may be sent.
+    pub fn known(&self)
+        ensures { MaySend self.now }
+    {
+        // Reading a field makes the type's invariants known here.
+        let _ = &self.pieces;
+    }
+
     /// A copy of this path, unless memory runs out.
     pub fn try_clone(&self, alloc: Global) -> Result<Path, AllocError>
         ensures { IfOk result (λ own. own ≡ self.now) }

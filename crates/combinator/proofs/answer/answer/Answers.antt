@@ -6,7 +6,7 @@ use Rattle.combinator.specs.Answer.{IsBest}
 use Rattle.combinator.specs.inner.Placed.{InOrder, Met}
 use Rattle.combinator.specs.inner.BestByWalk.{by_walk}
 use Rattle.combinator.proofs.Answering.{all_met, answer}
-use Rattle.combinator.proofs.answer.answered.Goals as goal
+use Rattle.combinator.proofs.answer.answer.Goals as goal
 
 pub best_by_walk-requires : goal.best_by_walk-requires
 best_by_walk-requires g c = subst (All (IsOf c.args.ask.now.set)) (sym c.deref.ensures.value) c.in_ok-usable_pieces.ensures.own

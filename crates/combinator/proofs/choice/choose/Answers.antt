@@ -1,8 +1,8 @@
 use Rattle.std.proofs.Common.{◌≡◌, true, false, is_some, Some, sym, ap, ◌∙◌, arith}
 use Rattle.combinator.specs.Choice.{ChosenValue}
 use Rattle.combinator.proofs.Choosing.{passed, left, taken_up}
-use Rattle.combinator.proofs.choice.chosen.Goals as goal
-use Rattle.combinator.proofs.choice.chosen.Goals.{else-is_some-via-then-is_some+else-option-choice, else-is_some-via-else-is_some}
+use Rattle.combinator.proofs.choice.choose.Goals as goal
+use Rattle.combinator.proofs.choice.choose.Goals.{else-is_some-via-then-is_some+else-option-choice, else-is_some-via-else-is_some}
 
 pub returns-then-option-choice : goal.returns-then-option-choice
 returns-then-option-choice g c = λ options here chosen.
