@@ -62,8 +62,9 @@ impl<'s> Piece<'s> {
         }
     }
 
-    /// Whether its places are the places of two entries, the first before the second.
-    pub(crate) fn has_range(&self) -> bool
+    /// Whether its places are the places of two entries of its segment, the first before the second
+    /// in construction order. `begins_in` and `ends_in` need this.
+    pub fn has_range(&self) -> bool
         ensures { IsTrue result ↔ HasRange self.now }
     {
         self.from < self.to && self.to < self.segment.entries().len()

@@ -88,7 +88,8 @@ fn mark(writer: &mut StoreWriter, front: HistoryPrefix) -> bool
 pub fn new_board<R: Wait>(rt: &R, alloc: Global, readers: usize) -> Result<BoardWriter, AllocError>
     requires some { 0 < readers }
     requires few { readers ≤ 8 }
-    ensures { IfOk result (λ board. (board.published ≡ []) × (board.pending ≡ [])) }
+    ensures { IfOk result (λ board.
+        (board.edition ≡ 0) × (board.published ≡ []) × (board.pending ≡ [])) }
 {
     let (head, root) = HistoryPrefix::start();
     let latest = root.again();
