@@ -1,4 +1,4 @@
-ghost use Rattle.std.specs.Prelude.{◌≡◌, ◌++◌, OnOk};
+ghost use Rattle.std.specs.Prelude.{◌≡◌, ◌++◌, OnErr, OnOk};
 ghost use Rattle.std.specs.String.{string_bytes};
 ghost use Rattle.router_step.specs.Fault as faults;
 ghost use Rattle.router_step.specs.Fault.{refusal_text};
@@ -9,8 +9,8 @@ use std::alloc::AllocError;
 use thiserror::Error;
 
 /// Why a router refuses a packet: the first check that fails, in the order of the variants. A
-/// switch to another segment checks expiry and authenticator once more, before
-/// [`Self::UnknownEgress`].
+/// switch to another segment checks expiry and authenticator once more, before the interface of the
+/// way out is looked for.
 #[derive(Clone, Copy, Debug, PartialEq, Eq, Error)]
 pub enum Refusal {
     /// The packet has fewer bytes than its addresses need, or no path header after them.
@@ -71,16 +71,21 @@ impl NumberedFault for Refusal {
 
 impl Refusal {
     /// Adds the number and the name to a text; for a packet without a path header, also those of
-    /// the header's refusal. `AllocError` if memory runs out; the text may then end with a part of
-    /// them.
+    /// the header's refusal. `AllocError` if memory runs out; the text is then as it was.
     pub fn push_to(self, text: &mut String) -> Result<(), AllocError>
-        ensures { OnOk result
+        ensures ok { OnOk result
             (string_bytes text.new ≡ string_bytes text.old ++ refusal_text self) }
+        ensures err { OnErr result (string_bytes text.new ≡ string_bytes text.old) }
     {
-        write!(text, "{} {}", self.code(), self.name())?;
-        match self {
-            Self::BadHeader(fault) => write!(text, " {} {}", fault.code(), fault.name()),
-            _ => Ok(()),
-        }
+        // `write!` to the text itself would not say what it leaves of it without memory.
+        let alloc = *text.allocator();
+        let (code, name) = self.code_and_name();
+        let words = match self {
+            Self::BadHeader(fault) => {
+                format!(in alloc; "{code} {name} {} {}", fault.code(), fault.name())?
+            }
+            _ => format!(in alloc; "{code} {name}")?,
+        };
+        text.push_str(&words)
     }
 }
