@@ -1,9 +1,10 @@
 -- Reading a list, where a front of it has been read.
-use Rattle.std.proofs.Common.{◌≡◌, List, [], ◌∷◌, ◌++◌, Option, Some, None, refl, ap, append_assoc, Bool, true}
+use Rattle.std.proofs.Common.{◌≡◌, List, [], ◌∷◌, ◌++◌, ◌<◌, ◌≤◌, Option, Some, None, refl, ap, append_assoc, Bool, true, arith}
 use Rattle.std.specs.List.{list_all}
 use Rattle.std.proofs.lemmas.Bool.{and_parts, and_from}
 use Rattle.refusal.specs.Optional.{◌>>=◌}
 use Rattle.serde_json.specs.Data.{Data, Items, item}
+use Rattle.serde_json.specs.Events.{items_len}
 use Rattle.json_fields.specs.Fields.{items_at}
 
 -- what was read so far, and then the rest
@@ -30,3 +31,10 @@ list_all-push test [] x all one = and_from (test x) true one refl
 list_all-push test (y ∷ xs) x all one =
     let parts = and_parts (test y) (list_all test xs) all in
     and_from (test y) (list_all test (xs ++ (x ∷ []))) parts.0 (list_all-push test xs x parts.1 one)
+
+-- the values behind the first of some of a list's values are no more than all; and there is one
+pub fewer_later : (left later all : Items) (d : Data) → left ≡ item d later → items_len left ≤ items_len all → items_len later ≤ items_len all
+fewer_later left later all d is fewer = let one = ap (λ (l : Items). items_len l) is in omega arith
+
+pub has_value : (left later all : Items) (d : Data) → left ≡ item d later → items_len left ≤ items_len all → 0 < items_len all
+has_value left later all d is fewer = let one = ap (λ (l : Items). items_len l) is in omega arith

@@ -11,7 +11,8 @@ use Rattle.json_fields.specs.declared.node.Node.{Node}
 abbrev pub IsReader : {F A : Type 0} → Shared F (Bor Node × Unit {0}) (Option A) → F
     → (Data → Option A) → Type 0
 IsReader {F} {A} calls one reader =
-    (node : Node) (found : Option A) → FnReturnsAt calls one node found → found ≡ reader (node_data node)
+    (node : Node) (found : Option A) → FnReturnsAt calls one node found
+    → found ≡ reader (node_data node)
 
 -- if a call of `one` returns something, it passes this test
 abbrev pub GivesPassing : {F A : Type 0} → Shared F (Bor Node × Unit {0}) (Option A) → F

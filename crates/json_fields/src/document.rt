@@ -1,4 +1,5 @@
-ghost use Rattle.std.specs.Prelude.{◌≡◌, ◌==◌, IfOk, length, option_map};
+ghost use Rattle.std.specs.Prelude.{◌≡◌, ◌==◌, IfOk, IsTrue, length, OnErr, option_map};
+ghost use Rattle.std.specs.Str.{is_utf8};
 ghost use Rattle.serde_json.specs.Read.{read};
 ghost use Rattle.json_fields.specs.Fields.{document_in};
 ghost use Rattle.json_fields.specs.Documents.{document_data, node_data};
@@ -22,14 +23,15 @@ pub struct Document<'a> {
 impl<'a> Document<'a> {
     /// The value of a JSON text: `None` if the bytes are not UTF-8 or no JSON.
     ///
-    /// [`AllocError`] if memory ran out.
+    /// [`AllocError`] if memory ran out, which it can only if the bytes are UTF-8.
     pub fn read(
         alloc: Global,
         room: &'a mut JsonRoom,
         bytes: &'a [u8],
     ) -> Result<Option<Document<'a>>, AllocError>
-        ensures { IfOk result (λ found. option_map (λ d. document_data d) found
+        ensures value { IfOk result (λ found. option_map (λ d. document_data d) found
             ≡ document_in bytes.now) }
+        ensures wanted { OnErr result (IsTrue (is_utf8 bytes.now)) }
     {
         let Ok(text) = str::from_utf8(bytes) else {
             return Ok(None);
@@ -66,7 +68,7 @@ impl<'a> Document<'a> {
     }
 }
 
-/// Does no token follow?
+/// Whether no token follows.
 fn is_at_end(reader: &mut Reader<'_>) -> bool
     ensures { result ≡ (length reader.old == 0) }
 {

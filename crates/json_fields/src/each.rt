@@ -1,6 +1,7 @@
-ghost use Rattle.std.specs.Prelude.{◌≡◌, IfOk, IfSome, IsTrue, Bool, Option, option_map};
+ghost use Rattle.std.specs.Prelude.{◌≡◌, ◌<◌, IfOk, IfSome, IsTrue, OnErr, Bool, Option, option_map};
 ghost use Rattle.std.specs.List.{list_all};
 ghost use Rattle.serde_json.specs.Data.{Data};
+ghost use Rattle.serde_json.specs.Events.{items_len};
 ghost use Rattle.json_fields.specs.Documents.{list_items};
 ghost use Rattle.json_fields.specs.Fields.{items_at};
 ghost use Rattle.json_fields.specs.Readers.{IsReader, GivesPassing};
@@ -11,7 +12,7 @@ use std::alloc::{AllocError, Global};
 
 /// The values of a list, each as `one` reads it: `None` if `one` returns `None` for any of them.
 ///
-/// [`AllocError`] if memory ran out.
+/// [`AllocError`] if memory ran out, which it can only if the list has a value.
 pub fn items<T: Drop, F: Fn(&Node<'_, '_>) -> Option<T>>(
     alloc: Global,
     list: NodeList<'_, '_>,
@@ -22,6 +23,7 @@ pub fn items<T: Drop, F: Fn(&Node<'_, '_>) -> Option<T>>(
         (λ found. option_map (λ v. v.items) found ≡ items_at reader (list_items list.entry)) }
     ensures pass { (test : T → Bool) → GivesPassing F.Fn one test → IfOk result
         (λ found. IfSome found (λ v. IsTrue (list_all test v.items))) }
+    ensures wanted { OnErr result (0 < items_len (list_items list.entry)) }
 {
     let mut items = Vec::new(alloc);
     let mut left = list;

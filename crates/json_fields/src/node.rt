@@ -32,7 +32,7 @@ impl<'v, 'a> Node<'v, 'a> {
         }
     }
 
-    /// Is there a member of this name?
+    /// Whether there is a member of this name.
     pub fn has(&self, name: &str) -> bool
         ensures { result ≡ is_some (get name.now (node_data self.now)) }
     {

@@ -37,7 +37,7 @@ impl<'v, 'a> NodeList<'v, 'a> {
         self.values.len()
     }
 
-    /// Has the list no values?
+    /// Whether the list has no values.
     pub fn is_empty(&self) -> bool
         ensures { result ≡ (items_len (list_items self.now) == 0) }
     {
