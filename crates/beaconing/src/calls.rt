@@ -17,7 +17,7 @@ use std::alloc::Global;
 ///
 /// The first of these refusals is returned: [`BeaconFault::NotCore`] if the topology has no such
 /// core AS, [`BeaconFault::NoInterface`] if the AS has no such interface, [`BeaconFault::LinkDown`]
-/// if its link is down.
+/// if its link is down. Memory can run out only if none of them is due.
 pub fn originate(
     alloc: Global,
     topology: &Topology,
@@ -45,6 +45,7 @@ pub fn originate(
 /// beacon already has an entry of this AS; [`BeaconFault::TooLong`] if it has 62 entries;
 /// [`BeaconFault::NoInterface`] if the AS has no such interface; [`BeaconFault::WrongKind`] if a
 /// beacon of this kind does not go over that link; [`BeaconFault::LinkDown`] if that link is down.
+/// Memory can run out only if none of them is due.
 pub fn extend(
     alloc: Global,
     topology: &Topology,
@@ -66,7 +67,7 @@ pub fn extend(
 ///
 /// The first of these refusals is returned: [`BeaconFault::NotHere`] if the last way out does not
 /// lead to this AS, [`BeaconFault::LinkDown`] if that link is down, [`BeaconFault::Loop`] if the
-/// beacon already has an entry of this AS.
+/// beacon already has an entry of this AS. Memory can run out only if none of them is due.
 pub fn terminate(
     alloc: Global,
     topology: &Topology,

@@ -1,4 +1,4 @@
--- Which of the options before a place is used (words of private functions' contracts).
+-- The value of a choice: the option that is used, its weight, and the paths that it leaves.
 use Rattle.std.specs.Prelude.{ℕ, List, Option}
 use Rattle.combinator.specs.Candidate.{PathValue}
 

@@ -77,6 +77,8 @@ impl<'s, 'p, A: Allocator + Clone> Paths<'s, 'p, A> {
 /// segments. With n of them, it tries all n after each list of pieces that meet. Of the paths found
 /// it keeps one for each walk. With w walks it compares each path that may be sent with about log w
 /// others, and moves at most w pointers.
+///
+/// [`AllocError`] if memory runs out.
 pub fn paths_between<'s, 'p, A: Allocator + Clone>(
     alloc: Global,
     set: &'s SegmentSet,

@@ -45,6 +45,8 @@ impl<'s, 'p, A: Allocator + Clone> Choice<'s, 'p, A> {
 /// Chooses the option with the largest weight among those that leave a path, and of equal weights
 /// the first; returns it with its paths of [`paths_between`]. An option is not tried if one of at
 /// least its weight was found to leave a path.
+///
+/// [`AllocError`] if memory runs out.
 #[tactic(auto, using(crate::proofs::Choosing::chosen_of_all, crate::proofs::Choosing::has_weight))]
 pub fn paths_with<'s, 'p, A: Allocator + Clone>(
     alloc: Global,

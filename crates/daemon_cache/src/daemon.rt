@@ -69,7 +69,7 @@ fn make_answer(
 }
 
 impl Daemon {
-    /// A daemon with an empty cache that has room for 1 to 1,024 answers.
+    /// A daemon with an empty cache that has room for 1 to 1,024 answers, unless memory runs out.
     pub fn new(alloc: Global, capacity: usize) -> Result<Daemon, AllocError>
         requires some { 0 < capacity }
         requires few { capacity ≤ 1024 }

@@ -39,7 +39,7 @@ impl Beacon {
     /// The beacon of its first AS. `timestamp` is in seconds; `beta0` is the accumulator under
     /// which the first hop is authenticated.
     ///
-    /// [`SegmentFault::BadEnds`] if the entry has a way in or no way out.
+    /// [`SegmentFault::BadEnds`] if the entry has a way in or no way out; else memory may run out.
     pub fn first(
         alloc: Global,
         kind: SegKind,
@@ -71,7 +71,8 @@ impl Beacon {
     ///
     /// The first of these refusals is returned: [`SegmentFault::TooLong`] if the beacon has 62
     /// entries, [`SegmentFault::BadEnds`] if the entry has no way in or no way out,
-    /// [`SegmentFault::Loop`] if the beacon already has an entry of its AS.
+    /// [`SegmentFault::Loop`] if the beacon already has an entry of its AS. Memory can run out only
+    /// if none of them is due.
     pub fn with_entry(&self, alloc: Global, entry: Entry) -> Result<Beacon, SegmentError>
         // The beacon of these entries, or the first rule that they break.
         ensures whole { Answers (λ b. b) result (beacon_of (with_last self.now entry)) }
@@ -95,6 +96,7 @@ impl Beacon {
     ///
     /// The first of these refusals is returned: [`SegmentFault::BadEnds`] if the entry has no way
     /// in or has a way out, [`SegmentFault::Loop`] if the beacon already has an entry of its AS.
+    /// Memory can run out only if neither is due.
     pub fn finish(&self, alloc: Global, entry: Entry) -> Result<Segment, SegmentError>
         // The segment of these entries, or the first rule that they break.
         ensures whole { Answers (λ s. s) result (segment_of (with_last self.now entry)) }
@@ -121,7 +123,7 @@ impl Beacon {
         self.entries.len() >= MAX_BEACON_LEN
     }
 
-    /// A copy of this beacon.
+    /// A copy of this beacon, unless memory runs out.
     pub fn try_clone(&self, alloc: Global) -> Result<Beacon, AllocError>
         ensures { IfOk result (λ b. b ≡ self.now) }
     {

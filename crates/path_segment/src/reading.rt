@@ -32,7 +32,7 @@ impl Segment {
     }
 
     /// The segment that an object of a JSON text describes, in the form and with the refusals of
-    /// [`Segment::from_json`].
+    /// [`Segment::from_json`]; or memory runs out.
     #[tactic(auto, unfolding(crate::specs::Reading::chain_at))]
     pub fn from_object(alloc: Global, object: &Node<'_, '_>) -> Result<Segment, SegmentError>
         ensures { Reads (λ s. s) result (chain_or_fault (chain_at (node_data object.now))) }

@@ -68,7 +68,7 @@ impl Segment {
         }
     }
 
-    /// A copy of this segment.
+    /// A copy of this segment, unless memory runs out.
     pub fn try_clone(&self, alloc: Global) -> Result<Segment, AllocError>
         ensures { IfOk result (λ s. s ≡ self.now) }
     {

@@ -19,7 +19,7 @@ use std::alloc::{AllocError, Global};
 impl Segment {
     /// The segment as JSON without white space, in one line, with the names in ascending order.
     ///
-    /// [`Segment::from_json`] gives the segment back.
+    /// [`Segment::from_json`] gives the segment back. [`AllocError`] if memory runs out.
     pub fn to_json(&self, alloc: Global) -> Result<String, AllocError>
         ensures text { IfOk result (λ text. string_bytes text ≡ segment_text self.now) }
         ensures back { IfOk result (λ text. segment_in (string_bytes text) ≡ Ok self.now) }

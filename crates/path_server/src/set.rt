@@ -59,7 +59,7 @@ impl SegmentSet {
         self.moment
     }
 
-    /// A copy of this set.
+    /// A copy of this set, unless memory runs out.
     pub fn try_clone(&self, alloc: Global) -> Result<SegmentSet, AllocError>
         ensures { IfOk result (λ set. set ≡ self.now) }
     {

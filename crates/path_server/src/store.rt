@@ -183,7 +183,8 @@ impl PathStore {
     ///
     /// It searches the index once for each side and once for each AS of both sides, and the core
     /// segments that end in an AS of one side once for each AS of the other. Apart from that its
-    /// time and memory grow with the number of segments that have these ends.
+    /// time and memory grow with the number of segments that have these ends. [`AllocError`] if
+    /// memory runs out.
     #[tactic(auto, unfolding(crate::specs::Lookup::segments_for))]
     pub fn segments_for(
         &self,

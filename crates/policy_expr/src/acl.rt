@@ -66,7 +66,8 @@ impl<A: Allocator + Clone> Acl<A> {
     /// The first of these refusals is returned: [`PolicyFault::BadPredicate`] for an entry that
     /// can't be read, [`PolicyFault::TooLarge`] for more than 256 entries,
     /// [`PolicyFault::NoDefault`] if there is no entry or the last has a predicate,
-    /// [`PolicyFault::AfterDefault`] if another one has none.
+    /// [`PolicyFault::AfterDefault`] if another one has none. Memory can run out only if none of
+    /// them is due.
     pub fn parse(alloc: A, text: &AclText) -> Result<Acl<A>, PolicyError>
         ensures { Answers (λ acl. acl) result (acl_at text.now) }
     {
@@ -75,7 +76,7 @@ impl<A: Allocator + Clone> Acl<A> {
         Ok(Acl { entries })
     }
 
-    /// A copy of this list in another allocator.
+    /// A copy of this list in another allocator, unless memory runs out.
     pub fn clone_in<B: Allocator + Clone>(&self, alloc: B) -> Result<Acl<B>, AllocError>
         ensures { IfOk result (λ acl. acl ≡ self.now) }
     {

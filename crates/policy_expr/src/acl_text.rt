@@ -39,7 +39,7 @@ impl AclText {
         Ok(())
     }
 
-    /// Copies of these texts.
+    /// Copies of these texts, unless memory runs out.
     pub fn try_clone(&self, alloc: Global) -> Result<AclText, AllocError>
         ensures { IfOk result (λ text. text ≡ self.now) }
     {

@@ -72,7 +72,8 @@ impl<A: Allocator + Clone> PolicyOption<A> {
     /// The options of these texts, in their order.
     ///
     /// The refusal is [`OptionFault::OptionCount`] unless there are 1 to 16; then that of
-    /// [`Policy::parse`] for the first option that has one.
+    /// [`Policy::parse`] for the first option that has one. Memory can run out only if there is no
+    /// refusal.
     #[tactic(auto, using(crate::proofs::Weighed::judged_read))]
     pub fn parse_all(
         alloc: A,
@@ -84,7 +85,7 @@ impl<A: Allocator + Clone> PolicyOption<A> {
         read_each(alloc, texts)
     }
 
-    /// A copy of this option in another allocator.
+    /// A copy of this option in another allocator, unless memory runs out.
     pub fn clone_in<B: Allocator + Clone>(&self, alloc: B) -> Result<PolicyOption<B>, AllocError>
         ensures { IfOk result (λ option. option ≡ self.now) }
     {

@@ -58,7 +58,8 @@ impl<A: Allocator + Clone> Policy<A> {
 
     /// The policy of these texts. A sequence of blanks alone counts as absent.
     ///
-    /// The refusals are those of [`Acl::parse`], then those of [`Seq::parse`].
+    /// The refusals are those of [`Acl::parse`], then those of [`Seq::parse`]. Memory can run out
+    /// only if none of them is due.
     #[tactic(auto, unfolding(crate::specs::Policy::policy_at))]
     pub fn parse(alloc: A, text: &PolicyText<'_>) -> Result<Policy<A>, PolicyError>
         ensures { Answers (λ p. p) result
@@ -71,7 +72,7 @@ impl<A: Allocator + Clone> Policy<A> {
         Ok(Policy { acl, sequence })
     }
 
-    /// A copy of this policy in another allocator.
+    /// A copy of this policy in another allocator, unless memory runs out.
     pub fn clone_in<B: Allocator + Clone>(&self, alloc: B) -> Result<Policy<B>, AllocError>
         ensures { IfOk result (λ p. p ≡ self.now) }
     {

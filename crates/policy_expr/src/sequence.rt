@@ -55,7 +55,8 @@ impl<A: Allocator + Clone> Seq<A> {
     /// other token that begins no item is [`PolicyFault::BadPredicate`]. After an item, a `)` with
     /// none open and the end with some open are [`PolicyFault::Unbalanced`], and an unknown
     /// character is [`PolicyFault::BadPredicate`]. A text without these faults is
-    /// [`PolicyFault::TooLarge`] if it has more than 256 nodes.
+    /// [`PolicyFault::TooLarge`] if it has more than 256 nodes. Memory can run out only if there is
+    /// none of these faults.
     pub fn parse(alloc: A, text: &str) -> Result<Seq<A>, PolicyError>
         // The text is a spelling of the sequence that is returned.
         ensures found { IfOk result (λ s. SpellsSequence text.now s × (node_count s ≤ 256)) }
@@ -114,7 +115,7 @@ impl<A: Allocator + Clone> Seq<A> {
 
     /// Its text, with no parentheses that the tree can do without. There is one space for following
     /// and no space around `|`. Addresses are in their canonical text; the ISD stands alone if the
-    /// AS and the interfaces are wildcards.
+    /// AS and the interfaces are wildcards. [`AllocError`] if memory runs out.
     pub fn print<B: Allocator>(&self, alloc: B) -> Result<String<B>, AllocError>
         ensures { IfOk result (λ text. string_bytes text ≡ printed self.now) }
     {
@@ -123,7 +124,7 @@ impl<A: Allocator + Clone> Seq<A> {
         Ok(text)
     }
 
-    /// A copy of this sequence in another allocator.
+    /// A copy of this sequence in another allocator, unless memory runs out.
     pub fn clone_in<B: Allocator + Clone>(&self, alloc: B) -> Result<Seq<B>, AllocError>
         ensures { IfOk result (λ s. s ≡ self.now) }
     {

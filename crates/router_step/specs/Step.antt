@@ -1,5 +1,5 @@
 -- One step of a router on the value of a path header: the checks and changes 2 to 13, in this order
--- (draft-dekater-scion-dataplane). Check 1, that the packet has a header, is in `Packet`.
+-- (draft-dekater-scion-dataplane). Step 1, that the packet has a header, is in `Packet`.
 use Rattle.std.specs.Prelude.{ℕ, Bool, true, false, not, ◌==◌, if◌then◌else◌, Result, Ok}
 use Rattle.std.specs.Option.{ok_or}
 use Rattle.refusal.specs.Refusal.{◌>>=◌, check}

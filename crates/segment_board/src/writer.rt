@@ -83,8 +83,8 @@ fn mark(writer: &mut StoreWriter, front: HistoryPrefix) -> bool
     writer.append(BoardOp::Mark(front)).is_ok()
 }
 
-/// A board with an empty store and room for 1 to 8 readers at once. Waits for nobody, since there
-/// is no reader yet.
+/// A board with an empty store and room for 1 to 8 readers at once, unless memory runs out. Waits
+/// for nobody, since there is no reader yet.
 pub fn new_board<R: Wait>(rt: &R, alloc: Global, readers: usize) -> Result<BoardWriter, AllocError>
     requires some { 0 < readers }
     requires few { readers ≤ 8 }
@@ -155,7 +155,8 @@ impl BoardWriter {
         }
     }
 
-    /// Adds a sweep at the second `now` to the pending operations.
+    /// Adds a sweep at the second `now` to the pending operations. [`AllocError`] if memory runs
+    /// out; then nothing is added.
     pub fn sweep(&mut self, now: u32) -> Result<(), AllocError>
         ensures done { OnOk result (self.new
             ≡ record self.old { pending = self.old.pending ++ Sweep now ∷ [] }) }

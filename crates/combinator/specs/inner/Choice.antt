@@ -1,4 +1,4 @@
--- Which of the options before a place is used (words of private functions' contracts).
+-- Which of the options before a place is used.
 use Rattle.std.specs.Prelude.{◌≡◌, ℕ, ◌<◌, List, [], length, Option, Some, None, slice_get}
 use Rattle.path_server.specs.Lookup.{Selection}
 use Rattle.policy_expr.specs.Options.{WeighedRules}

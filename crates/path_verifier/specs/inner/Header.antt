@@ -1,4 +1,4 @@
--- The header of a path: draft-dekater-scion-dataplane, the SCION path type.
+-- Lengths of segments that fit into their bits.
 use Rattle.std.specs.Prelude.{◌<◌}
 use Rattle.path_header.specs.declared.lens.SegLens.{SegLens}
 

@@ -1,5 +1,4 @@
--- Sequences as tables: the predicates of a sequence are numbered from left to right. The table says
--- which may come first, which last, and which right behind which.
+-- How the parts of a table are joined: which predicates may follow which.
 use Rattle.std.specs.Prelude.{◌≡◌, ◌⊎◌, ◌↔◌, ℕ, true, ◌&&◌, List, length}
 use Rattle.policy_expr.specs.declared.hop.WalkHop.{WalkHop}
 use Rattle.policy_expr.specs.declared.ends.Ends.{Ends}

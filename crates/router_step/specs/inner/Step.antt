@@ -1,5 +1,4 @@
--- One step of a router on the value of a path header: the checks and changes 2 to 13, in this order
--- (draft-dekater-scion-dataplane). Check 1, that the packet has a header, is in `Packet`.
+-- What a step on a header leaves.
 use Rattle.std.specs.Prelude.{◌≡◌, Result, Ok, Err}
 use Rattle.path_header.specs.Value.{HeaderValue}
 use Rattle.router_step.specs.declared.outcome.Outcome.{Outcome}

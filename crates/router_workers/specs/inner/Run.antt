@@ -1,4 +1,4 @@
--- A run of flights at one second, and its report about each.
+-- What is recorded of a run while its workers carry the flights.
 use Rattle.std.specs.Prelude.{◌≡◌, ℕ, List, Some, slice_get}
 use Rattle.router_workers.specs.Flight.{FlightValue}
 use Rattle.router_workers.specs.declared.end.End.{End}

@@ -1,5 +1,4 @@
--- Why a list of ASes and a list of links are no network: the first fault, in the order of
--- `cause_of`.
+-- Whether an AS and a link keep the rules, each by itself.
 use Rattle.std.specs.Prelude.{◌&&◌, not, nat_lt, nat_le, Bool}
 use Rattle.scion_topology.specs.declared.network.AsEntry.{AsEntry}
 use Rattle.scion_topology.specs.declared.network.Link.{Link}

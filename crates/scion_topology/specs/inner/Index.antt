@@ -1,5 +1,4 @@
--- The index that a topology keeps beside its lists to find ASes and links fast. No clause of a
--- public call cites it.
+-- The index that a topology keeps beside its lists to find ASes and links fast.
 use Rattle.std.specs.Prelude.{ℕ, zero, suc, ◌+◌, ◌==◌, Bool, if◌then◌else◌, List, [], ◌∷◌, ◌++◌, Option, Some, None, Result, Ok, option_map, position, slice_get}
 use Rattle.std.specs.List.{position_or_len}
 use Rattle.std.specs.Option.{ok_or, option_and_then}

@@ -1,5 +1,4 @@
--- The keys of an AS: the key in use and at most the one before it; authenticators under either are
--- accepted.
+-- The rule of a list of keys, as a test.
 use Rattle.std.specs.Prelude.{ℕ, ◌&&◌, nat_le, Bool, List, length}
 use Rattle.std.specs.List.{list_all}
 use Rattle.scion_topology.specs.Keys.{is_key}

@@ -1,4 +1,4 @@
--- The state of a board.
+-- What operations make of the state of a board, and how it is tied to its history.
 use Rattle.std.specs.Prelude.{◌≡◌, List, fold}
 use Rattle.path_server.specs.Store.{after_operation, store_of}
 use Rattle.segment_board.specs.History.{newest}

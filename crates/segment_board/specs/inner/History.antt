@@ -1,5 +1,4 @@
--- The history of a board: its editions. Each edition has the operations of the one before, and may
--- have more after them.
+-- How one history of a board goes on from another.
 use Rattle.std.specs.Prelude.{ℕ, ◌≡◌, ◌⊎◌, ◌==◌, ◌<◌, true, List, [], ◌∷◌, ◌++◌, length, MatchBool}
 use mathlib.Core.List.{IsPrefix}
 use Rattle.logbook.specs.Pages.{Cell, Step, View, Book, Named}

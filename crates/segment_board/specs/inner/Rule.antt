@@ -1,4 +1,5 @@
--- The rule of a board.
+-- What the rule of a board says: its state is tied to its history, which continues what each
+-- thread saw.
 use Rattle.std.specs.Prelude.{◌≡◌, ℕ, Option, None, Some, IfSome, List, [], ◌∷◌}
 use mathlib.Core.Option.{some}
 use lib.ListN.{get_elem?}
