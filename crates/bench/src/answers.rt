@@ -67,17 +67,16 @@ fn segments(alloc: Global, cores: u32) -> Result<SegmentSet> {
         let (near, far) = (address(1, core), address(2, core));
         let number = (place % SEGMENTS) as u16;
         let up = [near, address(1, 1000 + place), source()];
-        put(&mut store, segment(alloc, SegKind::Intra, number, up)?)?;
         let over = [near, address(1, 2000 + place), far];
-        put(
-            &mut store,
-            segment(alloc, SegKind::Core, 100 + number, over)?,
-        )?;
         let down = [far, address(2, 3000 + place), destination()];
-        put(
-            &mut store,
-            segment(alloc, SegKind::Intra, 200 + number, down)?,
-        )?;
+        let rows = [
+            (SegKind::Intra, number, up),
+            (SegKind::Core, 100 + number, over),
+            (SegKind::Intra, 200 + number, down),
+        ];
+        for (kind, number, ases) in rows {
+            put(&mut store, segment(alloc, kind, number, ases)?)?;
+        }
     }
     Ok(store.segments_for(alloc, source(), destination(), NOW)?)
 }

@@ -91,17 +91,17 @@ pub(crate) fn publish_six<R: Wait>(rt: &R, alloc: Global, board: &mut BoardWrite
     Ok(board.publish(rt)?)
 }
 
-/// Readers of the board.
-pub(crate) fn seated(
+/// Readers of the board, in this number.
+pub(crate) fn readers_of(
     alloc: Global,
     board: &mut BoardWriter,
     readers: usize,
 ) -> Result<Vec<BoardReader>> {
-    let mut seats = Vec::new(alloc);
+    let mut made = Vec::new(alloc);
     for _ in 0..readers {
-        seats.push(board.reader()?)?;
+        made.push(board.reader()?)?;
     }
-    Ok(seats)
+    Ok(made)
 }
 
 /// Publishes a segment between other ASes and then a sweep that removes it, again and again, until
@@ -148,9 +148,32 @@ fn look_up(alloc: Global, mut reader: BoardReader, tally: &Tally, count: u32) {
     tally.end(sum);
 }
 
-/// Looks the segments up `count` times with each of these readers, while the writer publishes
-/// others.
-fn looked_up<R: Threads + Wait + Sync>(
+/// Looks the segments up `count` times with each of these readers, in a thread each, while the
+/// writer publishes others.
+fn look_up_in_threads<R: Threads + Wait + Sync>(
+    rt: &R,
+    alloc: Global,
+    board: &mut BoardWriter,
+    readers: Vec<BoardReader>,
+    tally: &Tally,
+    count: u32,
+) -> Result<()> {
+    let threads = readers.len();
+    thread::scope(thread::scope_env(), rt, move |scope| -> Result<()> {
+        for reader in readers {
+            if scope
+                .spawn(move || look_up(alloc, reader, tally, count))
+                .is_err()
+            {
+                return Err(AllocError.into());
+            }
+        }
+        publish_others(rt, alloc, board, tally, threads)
+    })
+}
+
+/// The number of segments that these readers find while the writer publishes others.
+fn count_found<R: Threads + Wait + Sync>(
     rt: &R,
     alloc: Global,
     board: &mut BoardWriter,
@@ -158,20 +181,9 @@ fn looked_up<R: Threads + Wait + Sync>(
     count: u32,
 ) -> Result<u64> {
     publish_six(rt, alloc, board)?;
-    let seats = seated(alloc, board, readers)?;
+    let readers = readers_of(alloc, board, readers)?;
     let tally = Tally::new();
-    let shared = &tally;
-    thread::scope(thread::scope_env(), rt, move |scope| -> Result<()> {
-        for reader in seats {
-            if scope
-                .spawn(move || look_up(alloc, reader, shared, count))
-                .is_err()
-            {
-                return Err(AllocError.into());
-            }
-        }
-        publish_others(rt, alloc, board, shared, readers)
-    })?;
+    look_up_in_threads(rt, alloc, board, readers, &tally, count)?;
     Ok(tally.sum.load(Ordering::SeqCst))
 }
 
@@ -187,7 +199,7 @@ pub(crate) fn look_ups<R: Threads + Wait + Sync>(
     requires few { readers ≤ 8 }
 {
     let mut board = new_board(rt, alloc, readers)?;
-    let sum = looked_up(rt, alloc, &mut board, readers, count);
+    let sum = count_found(rt, alloc, &mut board, readers, count);
     board.close(rt);
     sum
 }

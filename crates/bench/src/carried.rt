@@ -69,7 +69,7 @@ fn is_delivery(outcome: Outcome) -> bool {
 }
 
 /// Does an event; its reply counts 1 if a packet is delivered.
-fn worth(alloc: Global, net: &mut Net, event: &Event<'_>) -> Result<u64> {
+fn worth(alloc: Global, net: &mut Net, event: &Event<'_>) -> Result<u64, AllocError> {
     let reply = net.step(alloc, event)?;
     if let Reply::Turned(TurnReply::Went(outcome)) = reply {
         return Ok(u64::from(is_delivery(outcome)));
@@ -78,7 +78,7 @@ fn worth(alloc: Global, net: &mut Net, event: &Event<'_>) -> Result<u64> {
 }
 
 /// Sends a packet.
-fn send(alloc: Global, net: &mut Net) -> Result<u64> {
+fn send(alloc: Global, net: &mut Net) -> Result<u64, AllocError> {
     match sending() {
         Some(event) => worth(alloc, net, &event),
         None => Ok(0),
@@ -86,7 +86,7 @@ fn send(alloc: Global, net: &mut Net) -> Result<u64> {
 }
 
 /// One turn of a packet.
-fn turn(alloc: Global, net: &mut Net, packet: u32) -> Result<u64> {
+fn turn(alloc: Global, net: &mut Net, packet: u32) -> Result<u64, AllocError> {
     match turning(packet) {
         Some(event) => worth(alloc, net, &event),
         None => Ok(0),
@@ -100,15 +100,21 @@ pub(crate) fn sent(alloc: Global) -> Result<Net> {
     Ok(net)
 }
 
+/// Sends the packet of this number and makes several turns of it; counts 1 if it is delivered.
+fn carry(alloc: Global, net: &mut Net, turns: u32, packet: u32) -> Result<u64, AllocError> {
+    let mut sum = send(alloc, net)?;
+    for _ in 0..turns {
+        sum = sum.wrapping_add(turn(alloc, net, packet)?);
+    }
+    Ok(sum)
+}
+
 /// Sends `count` packets, makes several turns of each, and counts those that are delivered.
 pub(crate) fn carried(alloc: Global, turns: u32, count: u32) -> Result<u64> {
     let mut net = network(alloc)?;
     let mut sum = 0u64;
     for packet in 0..count {
-        sum = sum.wrapping_add(send(alloc, &mut net)?);
-        for _ in 0..turns {
-            sum = sum.wrapping_add(turn(alloc, &mut net, packet)?);
-        }
+        sum = sum.wrapping_add(carry(alloc, &mut net, turns, packet)?);
     }
     Ok(sum)
 }

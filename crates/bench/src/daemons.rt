@@ -3,7 +3,7 @@
 
 ghost use Rattle.std.specs.Prelude.{◌<◌, ◌≤◌};
 
-use crate::boards::{TRIES, Tally, destination, publish_six, seated, source};
+use crate::boards::{TRIES, Tally, destination, publish_six, readers_of, source};
 use crate::stores::NOW;
 use anyhow::{Context, Result};
 use daemon_cache::Daemon;
@@ -79,9 +79,43 @@ fn ask_all<R: Wait>(
     tally.end(sum);
 }
 
-/// Asks `count` times with each of the readers, after the cache has the answer to requests of
+/// Asks `count` times with each of these readers, in a thread each.
+fn ask_in_threads<R: Threads + Wait + Sync>(
+    rt: &R,
+    alloc: Global,
+    daemon: &Daemon,
+    readers: Vec<BoardReader>,
+    asking: Asking,
+    count: u32,
+    tally: &Tally,
+) -> Result<(), AllocError> {
+    thread::scope(
+        thread::scope_env(),
+        rt,
+        move |scope| -> Result<(), AllocError> {
+            let mut first = 1u32;
+            for reader in readers {
+                let round = Round {
+                    asking,
+                    first,
+                    count,
+                };
+                if scope
+                    .spawn(move || ask_all(rt, alloc, daemon, reader, round, tally))
+                    .is_err()
+                {
+                    return Err(AllocError);
+                }
+                first = first.wrapping_add(count);
+            }
+            Ok(())
+        },
+    )
+}
+
+/// The number of paths that these readers get, after the cache has the answer to requests of
 /// weight 0.
-fn answered<R: Threads + Wait + Sync>(
+fn count_paths<R: Threads + Wait + Sync>(
     rt: &R,
     alloc: Global,
     daemon: &Daemon,
@@ -93,31 +127,9 @@ fn answered<R: Threads + Wait + Sync>(
     publish_six(rt, alloc, board)?;
     let mut own = board.reader()?;
     ask(rt, alloc, daemon, &mut own, 0).context("the first request was not answered")?;
-    let seats = seated(alloc, board, threads)?;
+    let readers = readers_of(alloc, board, threads)?;
     let tally = Tally::new();
-    let shared = &tally;
-    thread::scope(
-        thread::scope_env(),
-        rt,
-        move |scope| -> Result<(), AllocError> {
-            let mut first = 1u32;
-            for reader in seats {
-                let round = Round {
-                    asking,
-                    first,
-                    count,
-                };
-                if scope
-                    .spawn(move || ask_all(rt, alloc, daemon, reader, round, shared))
-                    .is_err()
-                {
-                    return Err(AllocError);
-                }
-                first = first.wrapping_add(count);
-            }
-            Ok(())
-        },
-    )?;
+    ask_in_threads(rt, alloc, daemon, readers, asking, count, &tally)?;
     Ok(tally.sum.load(Ordering::SeqCst))
 }
 
@@ -134,7 +146,7 @@ pub(crate) fn asks<R: Threads + Wait + Sync>(
 {
     let daemon = Daemon::new(alloc, CAPACITY)?;
     let mut board = new_board(rt, alloc, threads + 1)?;
-    let sum = answered(rt, alloc, &daemon, &mut board, asking, threads, count);
+    let sum = count_paths(rt, alloc, &daemon, &mut board, asking, threads, count);
     board.close(rt);
     sum
 }

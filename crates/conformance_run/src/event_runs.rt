@@ -3,12 +3,13 @@
 use crate::given_paths::step;
 use forwarding::PacketLocation;
 use isd_as::IfId;
-use network_core::{Event, Net, Stopped, run};
+use network_core::{Event, Net, Packet, Sent, Stopped, run};
 use policy_expr::{OptionText, WalkHop};
 use refusal::OrMemory;
 use refusing::Shortage;
 use scion_topology::Topology;
 use std::alloc::{AllocError, Global};
+use std::process::Abort;
 use std::test::Fail;
 use worked::{at, hop, option_text, row};
 
@@ -90,16 +91,28 @@ fn walk() -> [WalkHop; 3] {
     ]
 }
 
+/// Asserts that the packet was delivered over these hops.
+fn expect_delivered(rt: &impl Abort, packet: &Packet) {
+    assert_eq!(rt; packet.place(), PacketLocation::Delivered);
+    assert_eq!(rt; packet.passed(), walk().as_slice());
+}
+
+/// Asserts that this was sent from the last AS to the first.
+fn expect_sent(rt: &impl Abort, sent: &Sent) {
+    assert_eq!(rt; sent.source(), at(1, 0x112));
+    assert_eq!(rt; sent.destination(), at(1, 0x110));
+    assert_eq!(rt; sent.pieces().len(), 1);
+    assert_eq!(rt; sent.header().hop_count(), 3);
+    assert_eq!(rt; sent.payload(), b"hi".as_slice());
+}
+
 #[test]
 fn a_run_delivers_its_packet(rt: HostRuntime) -> Result<(), Fail> {
     let shortage = Shortage::new();
     let net = network(rt.alloc(), &shortage).ok_or(AllocError)?;
     shortage.tell(&rt);
-    assert_eq!(rt; net.now(), 1000);
-    assert_eq!(rt; net.packets().len(), 1);
-    let packet = net.packet(0).ok_or(AllocError)?;
-    assert_eq!(rt; packet.place(), PacketLocation::Delivered);
-    assert_eq!(rt; packet.passed(), walk().as_slice());
+    assert!(rt; net.now() == 1000 && net.packets().len() == 1);
+    expect_delivered(&rt, net.packet(0).ok_or(AllocError)?);
     Ok(())
 }
 
@@ -108,12 +121,7 @@ fn what_was_sent_is_kept(rt: HostRuntime) -> Result<(), Fail> {
     let shortage = Shortage::new();
     let net = network(rt.alloc(), &shortage).ok_or(AllocError)?;
     shortage.tell(&rt);
-    let sent = net.sent(0).ok_or(AllocError)?;
-    assert_eq!(rt; sent.source(), at(1, 0x112));
-    assert_eq!(rt; sent.destination(), at(1, 0x110));
-    assert_eq!(rt; sent.pieces().len(), 1);
-    assert_eq!(rt; sent.header().hop_count(), 3);
-    assert_eq!(rt; sent.payload(), b"hi".as_slice());
+    expect_sent(&rt, net.sent(0).ok_or(AllocError)?);
     assert!(rt; net.sent(1).is_none());
     Ok(())
 }

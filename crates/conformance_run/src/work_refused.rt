@@ -40,9 +40,15 @@ fn numbers_of_workers(rt: HostRuntime) -> Result<(), Fail> {
         let ended = run_work(&rt, rt.alloc(), workers, "1", &lines);
         assert!(rt; ended.is(1, &replies, "scionet: workers refused\n"));
     }
-    let bare = lines_of(rt.alloc(), &[&row])?;
+    Ok(())
+}
+
+#[test]
+fn numbers_of_workers_without_a_packet(rt: HostRuntime) -> Result<(), Fail> {
+    let row = row_asked();
+    let lines = lines_of(rt.alloc(), &[&row])?;
     let replies = output_of(rt.alloc(), &[&row], &[])?;
-    let ended = run_work(&rt, rt.alloc(), "9", "1", &bare);
+    let ended = run_work(&rt, rt.alloc(), "9", "1", &lines);
     assert!(rt; ended.is(1, &replies, "scionet: workers refused\n"));
     Ok(())
 }

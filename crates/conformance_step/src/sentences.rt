@@ -10,7 +10,7 @@ fn is_sentence<F: Display>(alloc: Global, fault: &F, sentence: &str) -> Result<b
     Ok(fault.to_string(alloc)?.as_str() == sentence)
 }
 
-/// The sentences of the faults of streams, of a turn and of a command.
+/// The sentences of the faults of streams and of a turn.
 #[test]
 fn sentences(rt: HostRuntime) -> Result<(), Fail> {
     let alloc = rt.alloc();
@@ -20,17 +20,22 @@ fn sentences(rt: HostRuntime) -> Result<(), Fail> {
     assert!(rt; is_sentence(alloc, &WriteFailed, "write failed")?);
     assert!(rt; is_sentence(alloc, &StepFault::PacketText, "bad packet text")?);
     assert!(rt; is_sentence(alloc, &StepFault::Memory, "out of memory")?);
-    assert!(rt; is_sentence(alloc, &CommandFault::PacketText, "scionet: bad packet text")?);
-    assert!(rt; is_sentence(alloc, &CommandFault::Topology, "scionet: topology refused")?);
-    assert!(rt; is_sentence(alloc, &CommandFault::Read, "scionet: read failed")?);
-    assert!(rt; is_sentence(alloc, &CommandFault::Write, "scionet: write failed")?);
-    assert!(rt;
-        is_sentence(
-            alloc,
-            &CommandFault::InputTooLong,
-            "scionet: input too long"
-        )?
-    );
-    assert!(rt; is_sentence(alloc, &CommandFault::Memory, "scionet: out of memory")?);
+    Ok(())
+}
+
+/// The sentences of the faults of a command.
+#[test]
+fn sentences_of_commands(rt: HostRuntime) -> Result<(), Fail> {
+    let rows = [
+        (CommandFault::PacketText, "scionet: bad packet text"),
+        (CommandFault::Topology, "scionet: topology refused"),
+        (CommandFault::Read, "scionet: read failed"),
+        (CommandFault::Write, "scionet: write failed"),
+        (CommandFault::InputTooLong, "scionet: input too long"),
+        (CommandFault::Memory, "scionet: out of memory"),
+    ];
+    for (fault, sentence) in &rows {
+        assert!(rt; is_sentence(rt.alloc(), fault, sentence)?);
+    }
     Ok(())
 }
