@@ -34,6 +34,11 @@ abbrev pub IsWordsFault : WordsFault → Type 0
 IsWordsFault (words.Usage text) = string_bytes text ≡ usage_text
 IsWordsFault words.Memory = Unit {0}
 
+-- if the fault is one of usage, its message is our own
+abbrev pub IsOwnUsage : CommandFault → Type 0
+IsOwnUsage (Usage text) = string_bytes text ≡ usage_text
+IsOwnUsage fault = Unit {0}
+
 -- a fault of usage is one for which `clap` refuses the words
 abbrev pub Explains : WordsFault → Error → Type 0
 Explains (words.Usage text) error = kind_of error ≢ OutOfMemory

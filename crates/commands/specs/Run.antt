@@ -130,10 +130,14 @@ DoesCommand answer (Some (command.Work workers slots)) source sink =
     CarriesPackets answer workers slots source sink
 DoesCommand answer (Some (command.Step turn)) source sink = Steps answer turn source sink
 
--- a message about the fault was written to standard error, whole if no write failed
+-- the message was written to standard error, whole if no write failed
+abbrev pub Tells : List ℕ → Change → Type 0
+Tells message errors = AppendsFront errors.old errors.new message
+    × (errors.has_failed ≡ false → Appends errors.old errors.new message)
+
+-- the message about the fault was written to standard error
 abbrev pub TellsOf : CommandFault → Change → Type 0
-TellsOf fault errors = AppendsFront errors.old errors.new (text_of_fault fault)
-    × (errors.has_failed ≡ false → Appends errors.old errors.new (text_of_fault fault))
+TellsOf fault errors = Tells (text_of_fault fault) errors
 
 -- if the result is a fault, there is a message about it, and else none
 abbrev pub TellsFault : {A : Type 0} → Result A CommandFault → Change → Type 0

@@ -1,7 +1,7 @@
 ghost use Rattle.std.specs.Prelude.{◌≡◌, IfErr, IfOk, IfSome, map};
 ghost use Rattle.clap.specs.Words.{subcommand_rows_of};
 ghost use Rattle.commands.specs.Words.{IsCommandLine, IsInRange, asked, command_in, turn_asked};
-ghost use Rattle.commands.specs.Fault.{AnswersTurn, AsksFor, Explains, IsWordsFault};
+ghost use Rattle.commands.specs.Fault.{AnswersTurn, AsksFor, Explains, IsOwnUsage, IsWordsFault};
 
 use crate::fault::{CommandFault, WordsFault};
 use crate::matched::{turn, work};
@@ -30,7 +30,7 @@ pub enum Command {
 
 /// The fault of words that `clap` refuses with this error: [`WordsFault::Usage`] with its text, or
 /// [`WordsFault::Memory`] if memory ran out, there or for the text.
-pub fn explained(alloc: Global, error: &Error) -> WordsFault
+pub fn explain_refusal(alloc: Global, error: &Error) -> WordsFault
     ensures { Explains result error.now }
 {
     if error.kind() == ErrorKind::OutOfMemory {
@@ -43,7 +43,7 @@ pub fn explained(alloc: Global, error: &Error) -> WordsFault
 }
 
 /// The command that the matches name, and [`Command::Run`] if they name none.
-fn named(alloc: Global, matches: &ArgMatches<'_>) -> Result<Option<Command>, AllocError>
+fn read_command(alloc: Global, matches: &ArgMatches<'_>) -> Result<Option<Command>, AllocError>
     ensures value { IfOk result (λ o. o ≡ command_in (subcommand_rows_of matches.now)) }
     ensures range { IfOk result (λ o. IfSome o IsInRange) }
 {
@@ -78,9 +78,9 @@ impl Command {
     {
         let matches = match program(alloc)?.try_get_matches_from(words) {
             Ok(matches) => matches,
-            Err(error) => return Err(explained(alloc, &error)),
+            Err(error) => return Err(explain_refusal(alloc, &error)),
         };
-        match named(alloc, &matches)? {
+        match read_command(alloc, &matches)? {
             Some(command) => Ok(command),
             None => Err(WordsFault::no_command(alloc)),
         }
@@ -98,8 +98,11 @@ pub fn step_line<'a>(
     words: &'a [&'a str],
     packet: &str,
 ) -> Result<String, CommandFault>
-    ensures { AnswersTurn result (turn_asked (asked (map (λ word. word.now) words.entry.now)))
-        packet.now }
+    ensures answers { AnswersTurn result (turn_asked (asked (map (λ word. word.now)
+        words.entry.now))) packet.now }
+    // For words that `clap` accepts and that are no turn, the text is our own.
+    ensures usage { IfErr result (λ fault.
+        IsCommandLine (map (λ word. word.now) words.entry.now) → IsOwnUsage fault) }
 {
     match Command::parse(alloc, words)? {
         Command::Step(command) => Ok(command.line(alloc, packet.as_bytes())?),

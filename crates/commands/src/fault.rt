@@ -1,4 +1,5 @@
 ghost use Rattle.std.specs.Prelude.{◌≡◌};
+ghost use Rattle.std.specs.IoError.{error_kind};
 ghost use Rattle.commands.specs.Fault.{IsWordsFault, of_input, of_run, of_step, of_words, of_work, status_of, text_of_fault};
 ghost use Rattle.commands.specs.declared.fault.CommandFault.TheVariants as command;
 ghost use Rattle.commands.specs.declared.fault.WordsFault.TheVariants as words;
@@ -35,10 +36,11 @@ impl WordsFault {
         }
     }
 
-    /// The fault of words that can't be read: memory ran out, or the words are refused because they
-    /// are no UTF-8.
+    /// The fault of words that can't be read: [`WordsFault::Memory`] if the system says that memory
+    /// ran out, and else [`WordsFault::Usage`], since the words are no UTF-8.
     pub fn unreadable(alloc: Global, error: &io::Error) -> WordsFault
-        ensures { IsWordsFault result }
+        ensures text { IsWordsFault result }
+        ensures memory { error_kind error.now ≡ ErrorKind.OutOfMemory → result ≡ words.Memory }
     {
         match error.kind() {
             ErrorKind::OutOfMemory => WordsFault::Memory,

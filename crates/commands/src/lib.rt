@@ -12,7 +12,7 @@ mod program;
 mod status;
 mod words;
 
-pub use command::{Command, explained, step_line};
+pub use command::{Command, explain_refusal, step_line};
 pub use fault::{CommandFault, WordsFault};
 pub use matched::turn;
 pub use program::{end, execute, run};

@@ -1,9 +1,9 @@
 //! A run of the program over any source and sinks.
 
 ghost use Rattle.std.specs.Prelude.{◌≡◌, ◌<◌, ◌≤◌, IfErr, map};
-ghost use Rattle.commands.specs.Words.{asked};
-ghost use Rattle.commands.specs.Fault.{status_of};
-ghost use Rattle.commands.specs.Run.{AnswersSource, CarriesPackets, DoesCommand, EndsWith, Steps, TellsOf, change_of};
+ghost use Rattle.commands.specs.Words.{IsCommandLine, asked};
+ghost use Rattle.commands.specs.Fault.{IsOwnUsage, status_of, usage_text};
+ghost use Rattle.commands.specs.Run.{AnswersSource, CarriesPackets, DoesCommand, EndsWith, Steps, Tells, TellsOf, change_of};
 ghost use Rattle.commands.specs.declared.status.Status.TheVariants.{Done, Refused};
 
 use crate::command::Command;
@@ -88,6 +88,9 @@ pub fn execute<'a, R: Threads + Wait + Sync, S: Source, K: Sink>(
         (change_of K.held K.failed sink.old sink.new) }
     ensures silent { IfErr result (λ fault. status_of fault ≡ Refused
         → (source.new ≡ source.old) × (sink.new ≡ sink.old)) }
+    // For words that `clap` accepts and that are no command, the text is our own.
+    ensures usage { IfErr result (λ fault.
+        IsCommandLine (map (λ word. word.now) words.entry.now) → IsOwnUsage fault) }
 {
     match Command::parse(alloc, words)? {
         Command::Step(command) => run_step(alloc, &command, source, sink),
@@ -124,6 +127,9 @@ pub fn run<'a, R: Threads + Wait + Sync, S: Source, K: Sink, E: Sink>(
         (change_of E.held E.failed errors.old errors.new) }
     ensures quiet { result ≡ Done → errors.new ≡ errors.old }
     ensures silent { result ≡ Refused → (source.new ≡ source.old) × (sink.new ≡ sink.old) }
+    // The message about words that `clap` accepts and that are no command is our own.
+    ensures usage { result ≡ Refused → IsCommandLine (map (λ word. word.now) words.entry.now)
+        → Tells usage_text (change_of E.held E.failed errors.old errors.new) }
 {
     match execute(rt, alloc, words, source, sink) {
         Ok(()) => Status::Done,

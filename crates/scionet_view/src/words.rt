@@ -2,7 +2,7 @@
 
 use clap::builder::ValueParser;
 use clap::{Arg, ArgGroup, ArgMatches, Command};
-use commands::{VERSION, WordsFault, explained, turn, with_turn};
+use commands::{VERSION, WordsFault, explain_refusal, turn, with_turn};
 use std::alloc::{AllocError, Global};
 use step_line::{StepCommand, number};
 
@@ -214,7 +214,7 @@ fn view_asked(alloc: Global, matches: &ArgMatches<'_>) -> Result<Option<View>, A
 pub(crate) fn asked<'a>(alloc: Global, words: &'a [&'a str]) -> Result<View, WordsFault> {
     let matches = match program(alloc)?.try_get_matches_from(words) {
         Ok(matches) => matches,
-        Err(error) => return Err(explained(alloc, &error)),
+        Err(error) => return Err(explain_refusal(alloc, &error)),
     };
     match view_asked(alloc, &matches)? {
         Some(view) => Ok(view),

@@ -11,14 +11,14 @@ returns-in-Err-clause-asks c =
     let words : List Text = map (λ word. word.now) c.args.words.now in
     let app = c.in_ok-program.ensures in
     let has = subst (λ (a : App). HasKind (fault_of a words) c.in-Err.error) app (c.in-Err.ensures.kinds (ap is_simple_and_free app ∙ is_program_free)) in
-    asked-refused words c.in-Err.error c.explained.result c.explained.ensures has
+    asked-refused words c.in-Err.error c.explain_refusal.result c.explain_refusal.ensures has
 
 pub returns-in-Err-clause-usage : goal.returns-in-Err-clause-usage
 returns-in-Err-clause-usage c accepted =
     let words : List Text = map (λ word. word.now) c.args.words.now in
     let app = c.in_ok-program.ensures in
     let has = subst (λ (a : App). HasKind (fault_of a words) c.in-Err.error) app (c.in-Err.ensures.kinds (ap is_simple_and_free app ∙ is_program_free)) in
-    told-refused words c.in-Err.error c.explained.result c.explained.ensures has accepted
+    told-refused words c.in-Err.error c.explain_refusal.result c.explain_refusal.ensures has accepted
 
 pub returns-in-Some-clause-asks : goal.returns-in-Some-clause-asks
 returns-in-Some-clause-asks c =
