@@ -21,7 +21,7 @@ use std::thread;
 use std::thread::Threads;
 
 /// The largest number of workers of a run.
-const MOST_WORKERS: usize = 8;
+pub const MOST_WORKERS: usize = 8;
 
 /// Carries flights at the second `now` through the network of `topology`, on `workers` workers.
 /// Each worker is a thread with an inbox of `slots` places. The report says for each flight, in

@@ -23,8 +23,8 @@ Prepares net before after held holds = Listens Preparing (Ok net) before after h
 
 -- a run with workers. The first two contents are what the source still had before and after it; the
 -- last two are what the sink held before and after it. If the lines prepared a network: its flights
--- were reported; or the number of workers is not allowed; or memory ran out; or a beginning of the
--- report was written. Else the lines were not answered to their end.
+-- were reported; or the number of workers is not allowed; or it is, and memory ran out or a
+-- beginning of the report was written. Else the lines were not answered to their end.
 abbrev pub Works : Result (Unit {0}) WorkFault → ℕ → ℕ → Option (List ℕ) → Option (List ℕ)
     → Option (List ℕ) → Option (List ℕ) → Type 0
 Works (Ok done) workers slots before after held holds =
@@ -34,7 +34,7 @@ Works (Ok done) workers slots before after held holds =
 Works (Err faults.Workers) workers slots before after held holds = (net : NetValue)
     × (Prepares net before after held holds × ¬ (IsNumberOfWorkers workers))
 Works (Err faults.Memory) workers slots before after held holds =
-    (net : NetValue) × Prepares net before after held holds
+    (net : NetValue) × (Prepares net before after held holds × IsNumberOfWorkers workers)
 Works (Err faults.Write) workers slots before after held holds =
     (net : NetValue) × (replied : Option (List ℕ)) × (report : List ℕ)
     × (Prepares net before after held replied

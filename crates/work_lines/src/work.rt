@@ -12,13 +12,15 @@ use crate::flights::flights_of;
 use crate::report::report;
 use event_lines::{AcceptedLines, listen};
 use network_core::Net;
-use router_workers::{OpenGate, run_workers};
+use router_workers::{MOST_WORKERS, OpenGate, run_workers};
 use std::alloc::Global;
 use std::sync::Wait;
 use std::thread::Threads;
 use streams::{Sink, Source, write_all};
 
 /// The report about the flights of a network's packets, after `workers` workers have carried them.
+///
+/// The number of workers is judged before a flight is made.
 fn carry<R: Threads + Wait + Sync>(
     rt: &R,
     alloc: Global,
@@ -33,6 +35,9 @@ fn carry<R: Threads + Wait + Sync>(
     ensures workers { IfOk result (λ _. IsNumberOfWorkers workers) }
     ensures fault { IfErr result (Stops workers) }
 {
+    if workers == 0 || workers > MOST_WORKERS {
+        return Err(WorkFault::Workers);
+    }
     let flights = flights_of(alloc, net)?;
     let carried = run_workers(
         rt,
@@ -68,8 +73,8 @@ fn write_report<K: Sink>(text: &str, sink: &mut K) -> Result<(), WorkFault>
 /// N refused CODE Name`, or `flight N dropped`.
 ///
 /// [`WorkFault::Lines`] if the lines were not answered to their end; no packet is carried then.
-/// [`WorkFault::Workers`] if there are not 1 to 8 workers, also if there is no packet;
-/// [`WorkFault::Memory`] if memory runs out for a flight, the run or the report;
+/// [`WorkFault::Workers`] if there are not 1 to 8 workers, also if there is no packet; else
+/// [`WorkFault::Memory`] if memory runs out for a flight, the run or the report; else
 /// [`WorkFault::Write`] if the sink failed at the report. These three come after all replies were
 /// written.
 ///

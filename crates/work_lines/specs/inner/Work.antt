@@ -6,10 +6,11 @@ use Rattle.work_lines.specs.declared.fault.WorkFault.{WorkFault}
 use Rattle.work_lines.specs.declared.fault.WorkFault.TheVariants as faults
 use Rattle.work_lines.specs.Work.{IsNumberOfWorkers}
 
--- why flights could not be carried by these workers
+-- why flights could not be carried by these workers: their number is not allowed; or it is, and
+-- memory ran out
 abbrev pub Stops : ℕ → WorkFault → Type 0
 Stops workers faults.Workers = ¬ (IsNumberOfWorkers workers)
-Stops workers faults.Memory = Unit {0}
+Stops workers faults.Memory = IsNumberOfWorkers workers
 Stops workers fault = ⊥
 
 -- the report was written, or a beginning of it
