@@ -80,7 +80,7 @@ Listens-unbegun accepted before after held holds still quiet = (
       Appends-none held holds quiet,
       (
         omega arith,
-        ([], Unbegun, (([], [], record { whole = refl; apart = refl; last = refl }), ([], ((refl, refl), refl)))),
+        ([], (([], [], [], [], (record { whole = refl; apart = refl; last = refl }, refl)), (Unbegun, (tt, ([], ((refl, refl), refl)))))),
       ),
     ),
   ),

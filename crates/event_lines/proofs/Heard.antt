@@ -1,12 +1,13 @@
 -- Bytes that come, up to where they were heard.
-use Rattle.std.proofs.Common.{◌≡◌, ℕ, List, [], ◌∷◌, ◌++◌, false, refl, sym, ap, ◌∙◌, append_assoc, append-nil, subst, Err}
+use Rattle.std.proofs.Common.{arith, ◌≡◌, ℕ, ◌<◌, length, List, [], ◌∷◌, ◌++◌, false, refl, sym, ap, ◌∙◌, append_assoc, append-nil, subst, Err}
 use Rattle.event_lines.specs.declared.fault.RunFault.{RunFault}
 use Rattle.event_lines.specs.declared.fault.RunFault.TheVariants as faults
 use Rattle.event_lines.specs.declared.accepted.AcceptedLines.{AcceptedLines}
 use Rattle.event_lines.specs.Run.{AreLines, ended_lines, has_line_end, line_end}
 use Rattle.event_lines.specs.inner.Replies.{RepliesTo}
-use Rattle.event_lines.specs.Answers.{Stage, Closed}
-use Rattle.event_lines.specs.inner.Session.{AnswersLines, AnswersBytes, IsLineCut, SessionValue, RepliesOrFails}
+use Rattle.event_lines.specs.Answers.{Stage, Closed, GoesOn}
+use Rattle.std.proofs.lemmas.List.{length-append}
+use Rattle.event_lines.specs.inner.Session.{AnswersLines, AnswersBytes, HasMore, IsLineCut, SessionValue, RepliesOrFails}
 use Rattle.event_lines.proofs.Lines.{closed, cut_of, ended_more, grown, joined, none_read}
 use Rattle.event_lines.proofs.Telling.{told_append, told_one}
 
@@ -67,12 +68,19 @@ heard_line accepted bytes left line behind old now next after text heard cut say
 }
 
 -- what is left is heard to its end, whatever it is
-pub record Later (bytes : List ℕ) (old : SessionValue) (lines : List (List ℕ)) : Type 0 where
+pub record Later (bytes left : List ℕ) (old : SessionValue) (lines : List (List ℕ)) : Type 0 where
   pub later : List (List ℕ)
   pub rest : List ℕ
   pub are : AreLines (old.rest ++ bytes) (lines ++ later) rest
+  pub more : 0 < length left → HasMore later rest
 
-pub later_of : (accepted : AcceptedLines) (bytes left : List ℕ) (old now : SessionValue) → (heard : Heard accepted bytes left old now) → Later bytes old heard.lines
+-- bytes are lines, or a beginning of one
+has_more : (bytes : List ℕ) (lines : List (List ℕ)) (rest : List ℕ) → AreLines bytes lines rest → 0 < length bytes → HasMore lines rest
+has_more bytes [] [] are some = absurd (omega (arith, some, ap (λ l. length l) are.whole))
+has_more bytes [] (b ∷ rest) are some = tt
+has_more bytes (line ∷ lines) rest are some = tt
+
+pub later_of : (accepted : AcceptedLines) (bytes left : List ℕ) (old now : SessionValue) → (heard : Heard accepted bytes left old now) → Later bytes left old heard.lines
 later_of accepted bytes left old now heard =
     let cut = cut_of (now.rest ++ left) in record {
       later = cut.lines;
@@ -80,6 +88,7 @@ later_of accepted bytes left old now heard =
       are = subst (λ l. AreLines l (heard.lines ++ cut.lines) cut.rest)
           (append_assoc old.rest heard.front left ∙ ap (λ l. old.rest ++ l) (sym heard.whole))
           (joined left heard.are cut.are);
+      more = λ some. has_more (now.rest ++ left) cut.lines cut.rest cut.are (omega (arith, some, length-append now.rest left));
     }
 
 -- the topology of the line that was heard last is refused
@@ -94,8 +103,8 @@ heard_closed accepted bytes left line behind old now new text heard cut says gro
 
 -- memory ran out
 pub heard_short : (accepted : AcceptedLines) (bytes left : List ℕ) (old now new : SessionValue) → Heard accepted bytes left old now → new.replies ≡ now.replies
-    → AnswersBytes accepted (Err faults.Memory) bytes old new
-heard_short accepted bytes left old now new heard same =
+    → 0 < length left → GoesOn now.stage → AnswersBytes accepted (Err faults.Memory) bytes old new
+heard_short accepted bytes left old now new heard same some on =
     let all = later_of accepted bytes left old now heard in (
       heard.lines,
       all.later,
@@ -104,7 +113,7 @@ heard_short accepted bytes left old now new heard same =
         now.stage,
         (
           all.are,
-          record { texts = heard.heard.texts; told = heard.heard.told; kept = same ∙ heard.heard.kept },
+          (all.more some, (on, record { texts = heard.heard.texts; told = heard.heard.told; kept = same ∙ heard.heard.kept })),
         ),
       ),
     )
@@ -113,11 +122,12 @@ heard_short accepted bytes left old now new heard same =
 pub heard_failed : (accepted : AcceptedLines) (bytes left line behind : List ℕ) (old now new : SessionValue) (fault : RunFault)
     → Heard accepted bytes left old now → IsLineCut left line behind
     → RepliesOrFails {A = Unit {0}} accepted (λ _. new.stage) (Err fault) now.stage (now.rest ++ line) now.replies new.replies
-    → AnswersBytes accepted (Err fault) bytes old new
-heard_failed accepted bytes left line behind old now new faults.Topology heard cut tells =
+    → GoesOn now.stage → AnswersBytes accepted (Err fault) bytes old new
+heard_failed accepted bytes left line behind old now new faults.Topology heard cut tells on =
     heard_closed accepted bytes left line behind old now new tells.0 heard cut tells.1.0 tells.1.1
-heard_failed accepted bytes left line behind old now new faults.Memory heard cut tells =
+heard_failed accepted bytes left line behind old now new faults.Memory heard cut tells on =
     heard_short accepted bytes left old now new heard tells
-heard_failed accepted bytes left line behind old now new faults.Read heard cut tells = absurd tells
-heard_failed accepted bytes left line behind old now new faults.Write heard cut tells = absurd tells
-heard_failed accepted bytes left line behind old now new faults.InputTooLong heard cut tells = absurd tells
+    (omega (arith, ap (λ l. length l) cut.whole, length-append line (line_end ∷ behind))) on
+heard_failed accepted bytes left line behind old now new faults.Read heard cut tells on = absurd tells
+heard_failed accepted bytes left line behind old now new faults.Write heard cut tells on = absurd tells
+heard_failed accepted bytes left line behind old now new faults.InputTooLong heard cut tells on = absurd tells

@@ -7,11 +7,11 @@ use Rattle.event_lines.specs.declared.fault.RunFault.{RunFault}
 use Rattle.event_lines.specs.declared.fault.RunFault.TheVariants as faults
 use Rattle.event_lines.specs.declared.accepted.AcceptedLines.{AcceptedLines}
 use Rattle.streams.specs.Streams.{most_input}
-use Rattle.event_lines.specs.Run.{AreAll, AreFirst, AreLines, Ends, Listens, Wrote, WroteSome, all_lines, ended_lines, most_read}
+use Rattle.event_lines.specs.Run.{AreAll, AreFirst, AreLines, Ends, HaveNext, Listens, Wrote, WroteSome, all_lines, ended_lines, most_read}
 use Rattle.network_core.specs.Value.{NetValue}
 use Rattle.event_lines.specs.inner.Replies.{RepliesTo, RepliesToAll}
-use Rattle.event_lines.specs.Answers.{Stage, Unbegun, Open, Closed, RepliesToInput}
-use Rattle.event_lines.specs.inner.Session.{Exchanges, Finishes, Hears, Passes, PassesSome, SessionValue, last_after, last_lines}
+use Rattle.event_lines.specs.Answers.{Stage, Unbegun, Open, Closed, GoesOn, RepliesToInput}
+use Rattle.event_lines.specs.inner.Session.{Exchanges, Finishes, HasMore, Hears, Passes, PassesSome, SessionValue, last_after, last_lines}
 use Rattle.event_lines.proofs.Lines.{ended_append, joined, none_read}
 use Rattle.event_lines.proofs.Telling.{told_append}
 use Rattle.event_lines.proofs.Ran.{told_as_run}
@@ -31,6 +31,7 @@ pub record SoFar (accepted : AcceptedLines) (before after held holds : Option (L
   pub same : went ≡ ended_lines texts
   pub none : session.replies ≡ []
   pub few : count ≤ most_input
+  pub on : GoesOn session.stage
 
 -- nothing was read yet
 pub begun : (accepted : AcceptedLines) (left held : Option (List ℕ)) (session : SessionValue) → session ≡ record { stage = Unbegun; rest = []; replies = [] }
@@ -48,15 +49,16 @@ begun accepted left held session is = record {
   same = refl;
   none = ap (λ (t : SessionValue). t.replies) is;
   few = omega arith;
+  on = subst (λ (t : SessionValue). GoesOn t.stage) (sym is) tt;
 }
 
 -- lines more were told, and their replies written
 pub passed_on : (accepted : AcceptedLines) (before after now held holds with : Option (List ℕ)) {session : SessionValue} {count : ℕ} (bytes : List ℕ) (next : SessionValue)
     → SoFar accepted before after held holds session count → Consumes after now bytes → count + length bytes ≤ most_input
     → (lines : List (List ℕ)) → AreLines (session.rest ++ bytes) lines next.rest
-    → Passes accepted lines session next.stage holds with → next.replies ≡ []
+    → Passes accepted lines session next.stage holds with → next.replies ≡ [] → GoesOn next.stage
     → SoFar accepted before now held with next (count + length bytes)
-passed_on accepted before after now held holds with {session} {count} bytes next far more few lines are passes none = record {
+passed_on accepted before after now held holds with {session} {count} bytes next far more few lines are passes none on = record {
   read = far.read ++ bytes;
   consumed = Consumes-trans before after now far.read bytes far.consumed more;
   counted = length-append far.read bytes ∙ ap (λ n. n + length bytes) far.counted;
@@ -69,6 +71,7 @@ passed_on accepted before after now held holds with {session} {count} bytes next
   same = ap (λ l. l ++ ended_lines passes.texts) far.same ∙ sym (ended_append far.texts passes.texts);
   none = none;
   few = few;
+  on = on;
 }
 
 -- what was told so far is a run
@@ -143,6 +146,27 @@ first_of : (accepted : AcceptedLines) {before after held holds : Option (List �
     → (far : SoFar accepted before after held holds session count) → AreFirst far.read far.lines
 first_of accepted {session} far = ([], session.rest, subst (λ ls. AreLines far.read ls session.rest) (sym (append-nil far.lines)) far.are)
 
+-- a line follows these
+next_of : (lines later : List (List ℕ)) (rest : List ℕ) → HasMore later rest
+    → (next : List ℕ) × (after : List (List ℕ)) × (all_lines (lines ++ later) rest ≡ lines ++ next ∷ after)
+next_of lines [] [] more = absurd more
+next_of [] (line ∷ later) [] more = (line, later, refl)
+next_of (l ∷ ls) (line ∷ later) [] more = (line, later, refl)
+next_of [] (line ∷ later) (b ∷ rest) more = (line, later ++ (b ∷ rest) ∷ [], refl)
+next_of (l ∷ ls) (line ∷ later) (b ∷ rest) more =
+    (line, later ++ (b ∷ rest) ∷ [], ap (λ x. l ∷ x) (append_assoc ls (line ∷ later) ((b ∷ rest) ∷ [])))
+next_of [] [] (b ∷ rest) more = (b ∷ rest, [], refl)
+next_of (l ∷ ls) [] (b ∷ rest) more = (b ∷ rest, [], ap (λ x. l ∷ (x ++ (b ∷ rest) ∷ [])) (append-nil ls))
+
+-- a line of what was read follows these
+next_on : (accepted : AcceptedLines) {before after held holds : Option (List ℕ)} {session : SessionValue} {count : ℕ} (bytes : List ℕ) (lines later : List (List ℕ)) (rest : List ℕ)
+    → (far : SoFar accepted before after held holds session count) → AreLines (session.rest ++ bytes) (lines ++ later) rest → HasMore later rest
+    → HaveNext (far.read ++ bytes) (far.lines ++ lines)
+next_on accepted bytes lines later rest far are more =
+    let (next, after, same) = next_of (far.lines ++ lines) later rest more in
+    let first = subst (λ ls. AreLines (far.read ++ bytes) ls rest) (sym (append_assoc far.lines lines later)) (joined bytes far.are are) in
+    ((far.lines ++ lines) ++ later, rest, next, after, (first, same))
+
 -- where lines were told a run has begun
 says_begun : (accepted : AcceptedLines) (start next : Stage) (line text : List ℕ) → RepliesTo accepted start line text next → IsBegun next
 says_begun accepted start Unbegun line text says = absurd (unbegun_says accepted start line text says)
@@ -174,6 +198,17 @@ all_of : (accepted : AcceptedLines) {before after held holds : Option (List ℕ)
     → (far : SoFar accepted before after held holds session count) → at_end → AreAll at_end far.read (far.lines ++ last_lines session)
 all_of accepted {session} at_end far end =
     (far.lines, session.rest, (far.are, (end, all_told accepted far.lines far.texts session.stage session.rest far.told)))
+
+-- the last line of what was read follows those that were told
+next_last : (accepted : AcceptedLines) {before after held holds : Option (List ℕ)} {session : SessionValue} {count : ℕ}
+    → (far : SoFar accepted before after held holds session count) → last_lines session ≡ session.rest ∷ [] → HaveNext far.read far.lines
+next_last accepted {session} far one = (
+  far.lines,
+  session.rest,
+  session.rest,
+  [],
+  (far.are, sym (all_told accepted far.lines far.texts session.stage session.rest far.told) ∙ ap (λ ls. far.lines ++ ls) one),
+)
 
 -- ---- how a run ends
 
@@ -211,8 +246,8 @@ ends_unfinished accepted before after now held holds with {session = session} by
     ended accepted (Err faults.Topology) now with bytes wrote.0 far none more (omega arith) wrote.1.0
     (far.lines ++ last_lines session, (inr (all_of accepted (IsAtEnd now) far end), wrote.1.1))
 ends_unfinished accepted before after now held holds with {session = session} bytes stage faults.Memory far none more end finishes =
-    ended accepted (Err faults.Memory) now with bytes far.went far none more (omega arith) (Appends-kept held holds with far.went far.appended finishes)
-    (far.lines, session.stage, (first_of accepted far, (far.texts, (as_run accepted far, far.same))))
+    ended accepted (Err faults.Memory) now with bytes far.went far none more (omega arith) (Appends-kept held holds with far.went far.appended finishes.1)
+    (far.lines, (next_last accepted far finishes.0, (session.stage, (far.on, (far.texts, (as_run accepted far, far.same))))))
 ends_unfinished accepted before after now held holds with {session = session} bytes stage faults.Write far none more end (inl finishes) =
     let wrote = some_on accepted with (last_lines session) far finishes in
     ended accepted (Err faults.Write) now with bytes wrote.0 far none more (omega arith) wrote.1.0
@@ -246,7 +281,7 @@ ends_unread accepted before after now held holds {session} far kept = (
       far.appended,
       (
         omega (arith, far.counted, far.few),
-        (far.lines, session.rest, session.stage, (far.are, (far.texts, (as_run accepted far, far.same)))),
+        (far.lines, session.rest, (far.are, (session.stage, (far.on, (far.texts, (as_run accepted far, far.same)))))),
       ),
     ),
   ),
@@ -273,7 +308,7 @@ ends_too_long accepted before after now held holds {session = session} (b ∷ []
             refl,
             (
               far.counted ∙ full,
-              (far.lines, session.rest, session.stage, (far.are, (far.texts, (as_run accepted far, far.same)))),
+              (far.lines, session.rest, (far.are, (session.stage, (far.on, (far.texts, (as_run accepted far, far.same)))))),
             ),
           ),
         ),
@@ -311,10 +346,10 @@ ends_short accepted before after now held holds with session new bytes faults.To
     ended_on accepted (Err faults.Topology) at_end now with bytes wrote.0 far few more (omega arith) wrote.1.0
     (far.lines ++ lines, (inl (first_on accepted bytes lines later rest far are), wrote.1.1))
 ends_short accepted before after now held holds with session new bytes faults.Memory at_end far few more exchanges =
-    let (lines, later, rest, (stage, (are, passes))) = exchanges in
+    let (lines, later, rest, (stage, (are, (left, (on, passes))))) = exchanges in
     let wrote = written_on accepted with lines stage far passes in
     ended_on accepted (Err faults.Memory) at_end now with bytes wrote.0 far few more (omega arith) wrote.1.0
-    (far.lines ++ lines, stage, (first_on accepted bytes lines later rest far are, wrote.1.1))
+    (far.lines ++ lines, (next_on accepted bytes lines later rest far are left, (stage, (on, wrote.1.1))))
 ends_short accepted before after now held holds with session new bytes faults.Write at_end far few more exchanges =
     let (lines, later, rest, (are, passes)) = exchanges in
     let wrote = some_on accepted with lines far passes in

@@ -11,7 +11,7 @@ use Rattle.event_lines.specs.declared.fault.RunFault.TheVariants as faults
 use Rattle.event_lines.specs.declared.accepted.AcceptedLines.{AcceptedLines}
 use Rattle.event_lines.specs.Run.{AreLines, ended_lines, line_end}
 use Rattle.event_lines.specs.inner.Replies.{Opens, RepliesTo}
-use Rattle.event_lines.specs.Answers.{Stage, Unbegun, Open, Closed}
+use Rattle.event_lines.specs.Answers.{Stage, Unbegun, Open, Closed, GoesOn}
 use Rattle.event_lines.specs.inner.Session.{Exchanges, Finishes, AnswersLines, AnswersBytes, IsRunDone, Passes, PassesSome, SessionValue, RepliesOrFails, WritesRest, last_lines, stage_of}
 use Rattle.event_lines.proofs.Telling.{told_one}
 
@@ -44,7 +44,7 @@ write_failed accepted (Err faults.Topology) bytes old mid new held holds none ac
     let (lines, later, rest, (are, told)) = accepts in
     (lines, later, rest, (are, some_written accepted lines old mid Closed held holds none told wrote))
 write_failed accepted (Err faults.Memory) bytes old mid new held holds none accepts wrote =
-    let (lines, later, rest, (stage, (are, told))) = accepts in
+    let (lines, later, rest, (stage, (are, (more, (on, told))))) = accepts in
     (lines, later, rest, (are, some_written accepted lines old mid stage held holds none told wrote))
 write_failed accepted (Err faults.Read) bytes old mid new held holds none accepts wrote = absurd accepts
 write_failed accepted (Err faults.Write) bytes old mid new held holds none accepts wrote = absurd accepts
@@ -91,6 +91,11 @@ IsBegun Unbegun = ⊥
 IsBegun (Open net) = Unit {0}
 IsBegun Closed = Unit {0}
 
+-- a run that has a network, or that has not begun, may go on
+pub on_stage : (net : Option NetValue) → GoesOn (stage_of net)
+on_stage None = tt
+on_stage (Some net) = tt
+
 -- nothing more was written
 same_kept : (a b : Option (List ℕ)) → Appends a b [] → Keeps a b
 same_kept None b wrote = tt
@@ -133,7 +138,7 @@ finished accepted (Ok done) old net after held holds none one tells wrote =
 finished accepted (Err faults.Topology) old net after held holds none one tells wrote =
     last_passes accepted old Closed tells.0 after held holds none one tells.1.0 tells.1.1 wrote
 finished accepted (Err faults.Memory) old net after held holds none one tells wrote =
-    same_kept held holds (subst (Appends held holds) (tells ∙ none) wrote)
+    (one, same_kept held holds (subst (Appends held holds) (tells ∙ none) wrote))
 finished accepted (Err faults.Read) old net after held holds none one tells wrote = absurd tells
 finished accepted (Err faults.Write) old net after held holds none one tells wrote = absurd tells
 finished accepted (Err faults.InputTooLong) old net after held holds none one tells wrote = absurd tells

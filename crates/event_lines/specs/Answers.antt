@@ -73,6 +73,11 @@ pub data Stage : Type 0 where
   Open : NetValue → Stage
   Closed : Stage
 
+-- the run may go on in this state: its topology was not refused
+abbrev pub GoesOn : Stage → Type 0
+GoesOn Closed = ⊥
+GoesOn stage = Unit {0}
+
 -- a topology begins a run of the later lines; if it is refused, the run ends
 abbrev pub Begins : AcceptedLines → Result Network TopologyFault → List ℕ → List (List ℕ)
     → List (List ℕ) → Stage → Type 0

@@ -8,7 +8,7 @@ use Rattle.event_lines.specs.declared.fault.RunFault.TheVariants as faults
 use Rattle.event_lines.specs.declared.accepted.AcceptedLines.{AcceptedLines}
 use Rattle.event_lines.specs.declared.accepted.AcceptedLines.TheVariants.{All}
 use Rattle.network_core.specs.Value.{NetValue}
-use Rattle.event_lines.specs.Answers.{Stage, Open, Closed, RepliesToInput}
+use Rattle.event_lines.specs.Answers.{Stage, Open, Closed, GoesOn, RepliesToInput}
 
 -- ---- lines of bytes
 
@@ -42,6 +42,13 @@ abbrev pub AreFirst : List ℕ → List (List ℕ) → Type 0
 AreFirst read lines =
     (later : List (List ℕ)) × (rest : List ℕ) × AreLines read (lines ++ later) rest
 
+-- these are the first of the lines that were read, and one more was read, or a beginning of it; if
+-- nothing was read yet, that one is an empty line
+abbrev pub HaveNext : List ℕ → List (List ℕ) → Type 0
+HaveNext read lines =
+    (whole : List (List ℕ)) × (rest : List ℕ) × (next : List ℕ) × (later : List (List ℕ))
+    × (AreLines read whole rest × (all_lines whole rest ≡ lines ++ next ∷ later))
+
 -- all of the input was read, and these are its lines
 abbrev pub AreAll : Type 0 → List ℕ → List (List ℕ) → Type 0
 AreAll at_end read lines = (whole : List (List ℕ)) × (rest : List ℕ)
@@ -64,14 +71,20 @@ abbrev pub WroteSome : AcceptedLines → List (List ℕ) → List ℕ → Type 0
 WroteSome accepted lines went = (texts : List (List ℕ)) × (stage : Stage) × (n : ℕ)
     × (RepliesToInput accepted lines texts stage × (went ≡ take n (ended_lines texts)))
 
--- the replies to all complete lines of what was read were written
+-- exactly the replies to these lines were written, and the run may go on after them
+abbrev pub WroteSoFar : AcceptedLines → List (List ℕ) → List ℕ → Type 0
+WroteSoFar accepted lines went =
+    (stage : Stage) × (GoesOn stage × Wrote accepted lines went stage)
+
+-- the replies to all complete lines of what was read were written, and the run may go on after them
 abbrev pub WroteWhole : AcceptedLines → List ℕ → List ℕ → Type 0
-WroteWhole accepted read went = (lines : List (List ℕ)) × (rest : List ℕ) × (stage : Stage)
-    × (AreLines read lines rest × Wrote accepted lines went stage)
+WroteWhole accepted read went = (lines : List (List ℕ)) × (rest : List ℕ)
+    × (AreLines read lines rest × WroteSoFar accepted lines went)
 
 -- what was read and written, by the result of the run. All lines were answered, and the run ended
--- with this network; or the topology was refused; a read failed; the input had more than the
--- largest number of bytes; memory ran out at a line; or a write failed.
+-- with this network; or the topology was refused; or, if it was not refused, a read failed, the
+-- input had more than the largest number of bytes, or memory ran out at a line that had no answer
+-- yet; or a write failed.
 abbrev pub Ends : AcceptedLines → Result NetValue RunFault → Type 0 → List ℕ → List ℕ → Type 0
 Ends accepted (Ok net) at_end read went = (lines : List (List ℕ))
     × (AreAll at_end read lines × Wrote accepted lines went (Open net))
@@ -80,8 +93,8 @@ Ends accepted (Err faults.Topology) at_end read went = (lines : List (List ℕ))
 Ends accepted (Err faults.Read) at_end read went = WroteWhole accepted read went
 Ends accepted (Err faults.InputTooLong) at_end read went = (front : List ℕ) × (byte : ℕ)
     × ((read ≡ front ++ byte ∷ []) × ((length front ≡ most_input) × WroteWhole accepted front went))
-Ends accepted (Err faults.Memory) at_end read went = (lines : List (List ℕ)) × (stage : Stage)
-    × (AreFirst read lines × Wrote accepted lines went stage)
+Ends accepted (Err faults.Memory) at_end read went = (lines : List (List ℕ))
+    × (HaveNext read lines × WroteSoFar accepted lines went)
 Ends accepted (Err faults.Write) at_end read went = (lines : List (List ℕ))
     × (AreHeard at_end read lines × WroteSome accepted lines went)
 

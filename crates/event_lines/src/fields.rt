@@ -1,10 +1,10 @@
 //! The members of a line's JSON object, also for other readers of such objects.
 
-ghost use Rattle.std.specs.Prelude.{◌≡◌, IfOk, option_map};
+ghost use Rattle.std.specs.Prelude.{◌≡◌, IfOk, IsSome, OnErr, option_map};
 ghost use Rattle.std.specs.String.{string_bytes};
 ghost use Rattle.serde_json.specs.Find.{as_str};
 ghost use Rattle.json_fields.specs.Documents.{list_items, node_data};
-ghost use Rattle.json_fields.specs.Fields.{items_at};
+ghost use Rattle.json_fields.specs.Fields.{items_at, text_at};
 ghost use Rattle.event_lines.specs.Line.{byte_at, bytes_at, ia_in, long_at, maybe_text_at, one_option, option_in, option_with, options_in, listed_options, short_at, texts_at};
 
 use hex::FromHexError;
@@ -14,7 +14,7 @@ use policy_expr::{AclText, OwnedOptionText};
 use std::alloc::{AllocError, Global};
 
 /// A member that is a number of 32 bits.
-pub fn long(object: &Node<'_, '_>, name: &str) -> Option<u32>
+pub fn read_u32(object: &Node<'_, '_>, name: &str) -> Option<u32>
     ensures { result ≡ long_at name.now (node_data object.now) }
 {
     let number = object.whole(name, 0, 4_294_967_295)?;
@@ -22,7 +22,7 @@ pub fn long(object: &Node<'_, '_>, name: &str) -> Option<u32>
 }
 
 /// A member that is a number of 16 bits.
-pub(crate) fn short(object: &Node<'_, '_>, name: &str) -> Option<u16>
+pub(crate) fn read_u16(object: &Node<'_, '_>, name: &str) -> Option<u16>
     ensures { result ≡ short_at name.now (node_data object.now) }
 {
     let number = object.whole(name, 0, 65535)?;
@@ -30,7 +30,7 @@ pub(crate) fn short(object: &Node<'_, '_>, name: &str) -> Option<u16>
 }
 
 /// A member that is a number of 8 bits.
-pub(crate) fn byte(object: &Node<'_, '_>, name: &str) -> Option<u8>
+pub(crate) fn read_u8(object: &Node<'_, '_>, name: &str) -> Option<u8>
     ensures { result ≡ byte_at name.now (node_data object.now) }
 {
     let number = object.whole(name, 0, 255)?;
@@ -41,13 +41,13 @@ pub(crate) fn byte(object: &Node<'_, '_>, name: &str) -> Option<u8>
 pub(crate) fn interface(object: &Node<'_, '_>, name: &str) -> Option<IfId>
     ensures { result ≡ short_at name.now (node_data object.now) }
 {
-    let number = short(object, name)?;
+    let number = read_u16(object, name)?;
     Some(IfId(number))
 }
 
 /// A member that is an address.
 #[tactic(auto, unfolding(crate::specs::Line::ia_in))]
-pub fn ia(object: &Node<'_, '_>, name: &str) -> Option<IsdAs>
+pub fn read_address(object: &Node<'_, '_>, name: &str) -> Option<IsdAs>
     ensures { result ≡ ia_in name.now (node_data object.now) }
 {
     let text = object.text(name)?;
@@ -55,14 +55,17 @@ pub fn ia(object: &Node<'_, '_>, name: &str) -> Option<IsdAs>
 }
 
 /// A member that is bytes in hexadecimal, with digits of either case.
+///
+/// [`AllocError`] if memory runs out, which it may only if the member is a text.
 #[tactic(auto, unfolding(crate::specs::Line::bytes_at))]
-pub fn bytes(
+pub fn read_bytes(
     alloc: Global,
     object: &Node<'_, '_>,
     name: &str,
 ) -> Result<Option<Vec<u8>>, AllocError>
-    ensures { IfOk result (λ o. option_map (λ v. v.items) o
+    ensures bytes { IfOk result (λ o. option_map (λ v. v.items) o
         ≡ bytes_at name.now (node_data object.now)) }
+    ensures wanted { OnErr result (IsSome (text_at name.now (node_data object.now))) }
 {
     let Some(text) = object.text(name) else {
         return Ok(None);
@@ -132,7 +135,7 @@ fn maybe_text(
 
 /// An option of this weight from the members `acl` and `sequence`.
 #[tactic(auto, unfolding(crate::specs::Line::option_with))]
-fn weighed(
+fn option_of_weight(
     alloc: Global,
     weight: u32,
     object: &Node<'_, '_>,
@@ -157,10 +160,10 @@ fn weighed(
 fn option(alloc: Global, object: &Node<'_, '_>) -> Result<Option<OwnedOptionText>, AllocError>
     ensures { IfOk result (λ o. o ≡ option_in (node_data object.now)) }
 {
-    let Some(weight) = long(object, "weight") else {
+    let Some(weight) = read_u32(object, "weight") else {
         return Ok(None);
     };
-    weighed(alloc, weight, object)
+    option_of_weight(alloc, weight, object)
 }
 
 /// The policy options of a list.
@@ -185,7 +188,10 @@ fn each_option(
 
 /// The policy options of the member `options`, with which neither `acl` nor `sequence` may occur.
 #[tactic(auto, unfolding(crate::specs::Line::listed_options))]
-fn listed(alloc: Global, object: &Node<'_, '_>) -> Result<Option<Vec<OwnedOptionText>>, AllocError>
+fn read_list(
+    alloc: Global,
+    object: &Node<'_, '_>,
+) -> Result<Option<Vec<OwnedOptionText>>, AllocError>
     ensures { IfOk result (λ o. option_map (λ v. v.items) o
         ≡ listed_options (node_data object.now)) }
 {
@@ -203,7 +209,7 @@ fn listed(alloc: Global, object: &Node<'_, '_>) -> Result<Option<Vec<OwnedOption
 fn single(alloc: Global, object: &Node<'_, '_>) -> Result<Option<Vec<OwnedOptionText>>, AllocError>
     ensures { IfOk result (λ o. option_map (λ v. v.items) o ≡ one_option (node_data object.now)) }
 {
-    let Some(option) = weighed(alloc, 0, object)? else {
+    let Some(option) = option_of_weight(alloc, 0, object)? else {
         return Ok(None);
     };
     let mut options = Vec::new(alloc);
@@ -212,7 +218,7 @@ fn single(alloc: Global, object: &Node<'_, '_>) -> Result<Option<Vec<OwnedOption
 }
 
 /// The policy options of a request: those of `options`, or one of weight 0.
-pub fn options(
+pub fn read_options(
     alloc: Global,
     object: &Node<'_, '_>,
 ) -> Result<Option<Vec<OwnedOptionText>>, AllocError>
@@ -221,6 +227,6 @@ pub fn options(
     if !object.has("options") {
         single(alloc, object)
     } else {
-        listed(alloc, object)
+        read_list(alloc, object)
     }
 }

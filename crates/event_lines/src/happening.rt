@@ -13,8 +13,8 @@ ghost use Rattle.event_lines.specs.inner.Seen.{line_value};
 ghost use Rattle.event_lines.specs.inner.Replies.{Replies};
 
 use crate::accepted::AcceptedLines;
-use crate::fields::options;
-use crate::line::{Line, ask, payload, show, untexted};
+use crate::fields::read_options;
+use crate::line::{Line, ask, event_without_texts, payload, show};
 use crate::text::{push_bad_line, push_outcome, push_packet, push_reply};
 use forwarding::TurnReply;
 use json_fields::{Document, JsonRoom, Node};
@@ -109,7 +109,7 @@ fn answer_ask(
         (accepted_as accepted (option_map Happens (ask_in (node_data object.now))))
         (string_bytes reply.new) net.new) }
 {
-    let Some(options) = options(alloc, object)? else {
+    let Some(options) = read_options(alloc, object)? else {
         return push_bad_line(reply);
     };
     let lent = OwnedOptionText::lend_all(alloc, &options)?;
@@ -137,7 +137,7 @@ fn answer_untexted(
     let Some(payload) = payload(alloc, word, object)? else {
         return push_bad_line(reply);
     };
-    match untexted(word, object, &payload) {
+    match event_without_texts(word, object, &payload) {
         Some(event) => answer_accepted(alloc, accepted, net, &Line::Happens(event), reply),
         None => push_bad_line(reply),
     }

@@ -6,7 +6,7 @@ ghost use Rattle.network_core.specs.Seen as events;
 ghost use Rattle.event_lines.specs.Line.{ask_in, options_in, plain_event, show_in, traffic_event, untexted_event};
 ghost use Rattle.event_lines.specs.inner.Seen.{bytes_in, line_value};
 
-use crate::fields::{byte, bytes, ia, interface, long, short};
+use crate::fields::{interface, read_address, read_bytes, read_u8, read_u16, read_u32};
 use json_fields::Node;
 use network_core::Event;
 use policy_expr::OptionText;
@@ -29,7 +29,7 @@ pub(crate) enum Line<'a> {
 pub(crate) fn show<'a>(object: &Node<'_, '_>) -> Option<Line<'a>>
     ensures { option_map line_value result ≡ show_in (node_data object.now) }
 {
-    let packet = long(object, "packet")?;
+    let packet = read_u32(object, "packet")?;
     Some(Line::Show { packet })
 }
 
@@ -45,16 +45,16 @@ pub(crate) fn payload(
         ≡ bytes_in word.now (node_data object.now)) }
 {
     match word {
-        "send" => bytes(alloc, object, "payload"),
-        "back" => bytes(alloc, object, "payload"),
-        "rotate" => bytes(alloc, object, "key"),
+        "send" => read_bytes(alloc, object, "payload"),
+        "back" => read_bytes(alloc, object, "payload"),
+        "rotate" => read_bytes(alloc, object, "key"),
         _ => Ok(Some(Vec::new(alloc))),
     }
 }
 
 /// The event of a line without texts, with the bytes that it carries.
 #[tactic(auto, unfolding(crate::specs::Line::untexted_event, crate::specs::inner::Seen::bytes_in))]
-pub(crate) fn untexted<'a>(
+pub(crate) fn event_without_texts<'a>(
     word: &str,
     object: &Node<'_, '_>,
     payload: &'a [u8],
@@ -65,16 +65,16 @@ pub(crate) fn untexted<'a>(
 {
     match word {
         "send" => Some(Event::Send {
-            ask: long(object, "ask")?,
-            path: long(object, "path")?,
+            ask: read_u32(object, "ask")?,
+            path: read_u32(object, "path")?,
             payload,
         }),
         "back" => Some(Event::Back {
-            packet: long(object, "packet")?,
+            packet: read_u32(object, "packet")?,
             payload,
         }),
         "rotate" => Some(Event::RotateKey {
-            ia: ia(object, "ia")?,
+            ia: read_address(object, "ia")?,
             key: payload,
         }),
         _ => plain(word, object),
@@ -88,21 +88,21 @@ fn plain<'a>(word: &str, object: &Node<'_, '_>) -> Option<Event<'a>>
 {
     match word {
         "tick" => Some(Event::Tick {
-            now: long(object, "now")?,
+            now: read_u32(object, "now")?,
         }),
         "originate" => Some(Event::Originate {
-            ia: ia(object, "ia")?,
+            ia: read_address(object, "ia")?,
             egress: interface(object, "egress")?,
-            beta0: short(object, "beta0")?,
+            beta0: read_u16(object, "beta0")?,
         }),
         "extend" => Some(Event::Extend {
-            beacon: long(object, "beacon")?,
-            ia: ia(object, "ia")?,
+            beacon: read_u32(object, "beacon")?,
+            ia: read_address(object, "ia")?,
             egress: interface(object, "egress")?,
         }),
         "terminate" => Some(Event::Terminate {
-            beacon: long(object, "beacon")?,
-            ia: ia(object, "ia")?,
+            beacon: read_u32(object, "beacon")?,
+            ia: read_address(object, "ia")?,
         }),
         "sweep" => Some(Event::Sweep),
         _ => traffic(word, object),
@@ -117,22 +117,22 @@ fn traffic<'a>(word: &str, object: &Node<'_, '_>) -> Option<Event<'a>>
 {
     match word {
         "turn" => Some(Event::Turn {
-            packet: long(object, "packet")?,
+            packet: read_u32(object, "packet")?,
         }),
         "lose" => Some(Event::Lose {
-            packet: long(object, "packet")?,
+            packet: read_u32(object, "packet")?,
         }),
         "alter" => Some(Event::Alter {
-            packet: long(object, "packet")?,
-            at: long(object, "at")?,
-            xor: byte(object, "xor")?,
+            packet: read_u32(object, "packet")?,
+            at: read_u32(object, "at")?,
+            xor: read_u8(object, "xor")?,
         }),
         "cut" => Some(Event::CutLink {
-            ia: ia(object, "ia")?,
+            ia: read_address(object, "ia")?,
             interface: interface(object, "if")?,
         }),
         "mend" => Some(Event::MendLink {
-            ia: ia(object, "ia")?,
+            ia: read_address(object, "ia")?,
             interface: interface(object, "if")?,
         }),
         _ => None,
@@ -145,9 +145,9 @@ pub(crate) fn ask<'a>(object: &Node<'_, '_>, options: &'a [OptionText<'a>]) -> O
     requires { options_in (node_data object.now) ≡ Some options.now }
     ensures { option_map events.event_value result ≡ ask_in (node_data object.now) }
 {
-    let src = ia(object, "src")?;
-    let dst = ia(object, "dst")?;
-    let limit = long(object, "limit")?;
+    let src = read_address(object, "src")?;
+    let dst = read_address(object, "dst")?;
+    let limit = read_u32(object, "limit")?;
     Some(Event::Ask {
         src,
         dst,

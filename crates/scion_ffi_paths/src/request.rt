@@ -6,7 +6,7 @@ ghost use Rattle.scion_ffi_paths.specs.Asked.{asked_in, paths_asked_in};
 
 use crate::fault::{RequestError, RequestFault};
 use crate::segment::segments;
-use event_lines::fields::{ia, long, options};
+use event_lines::fields::{read_address, read_options, read_u32};
 use isd_as::IsdAs;
 use json_fields::{Document, JsonRoom, Node};
 use path_segment::Segment;
@@ -52,10 +52,10 @@ impl Request {
     pub(crate) fn of(alloc: Global, object: &Node<'_, '_>) -> Result<Request, RequestError>
         ensures { Reads (λ r. r) result (asked_in (node_data object.now)) }
     {
-        let options = options(alloc, object)?.ok_or(RequestFault::BadRequest)?;
-        let src = ia(object, "src").ok_or(RequestFault::BadRequest)?;
-        let dst = ia(object, "dst").ok_or(RequestFault::BadRequest)?;
-        let moment = long(object, "now").ok_or(RequestFault::BadRequest)?;
+        let options = read_options(alloc, object)?.ok_or(RequestFault::BadRequest)?;
+        let src = read_address(object, "src").ok_or(RequestFault::BadRequest)?;
+        let dst = read_address(object, "dst").ok_or(RequestFault::BadRequest)?;
+        let moment = read_u32(object, "now").ok_or(RequestFault::BadRequest)?;
         let values = object.list("segments").ok_or(RequestFault::BadRequest)?;
         let segments = segments(alloc, values)?;
         Ok(Request {
@@ -95,7 +95,7 @@ impl PathsRequest {
         let document = Document::read(alloc, &mut room, bytes)?.ok_or(RequestFault::BadRequest)?;
         let object = document.root();
         let asked = Request::of(alloc, &object)?;
-        let limit = long(&object, "limit").ok_or(RequestFault::BadRequest)?;
+        let limit = read_u32(&object, "limit").ok_or(RequestFault::BadRequest)?;
         Ok(PathsRequest { asked, limit })
     }
 }

@@ -6,7 +6,7 @@ ghost use Rattle.json_fields.specs.Fields.{items_at};
 ghost use Rattle.path_verifier.specs.declared.fault.VerifyFault.TheVariants.{PieceCount};
 ghost use Rattle.scion_ffi_paths.specs.Stretch.{piece_at};
 
-use event_lines::fields::long;
+use event_lines::fields::read_u32;
 use json_fields::{Node, NodeList};
 use path_segment::Segment;
 use path_verifier::{Piece, Pieces, VerifyFault};
@@ -17,10 +17,10 @@ use std::alloc::{AllocError, Global};
 fn piece<'s>(segments: &'s [Segment], object: &Node<'_, '_>) -> Option<Piece<'s>>
     ensures { result ≡ piece_at segments.now (node_data object.now) }
 {
-    let place = long(object, "segment")?;
+    let place = read_u32(object, "segment")?;
     let segment = segments.get(place as usize)?;
-    let from = long(object, "from")? as usize;
-    let to = long(object, "to")? as usize;
+    let from = read_u32(object, "from")? as usize;
+    let to = read_u32(object, "to")? as usize;
     let along = object.truth("along")?;
     Some(Piece {
         segment,

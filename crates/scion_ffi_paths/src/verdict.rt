@@ -15,7 +15,7 @@ use crate::request::Request;
 use crate::room::{ScionText, put};
 use crate::stretch::{joined, pieces};
 use crate::text;
-use event_lines::fields::bytes;
+use event_lines::fields::read_bytes;
 use json_fields::{Document, JsonRoom, Node};
 use path_header::{Header, decode};
 use path_verifier::{Piece, Pieces, verify};
@@ -109,7 +109,7 @@ fn verdict_with(
 {
     let values = object.list("pieces").ok_or(RequestFault::BadRequest)?;
     let pieces = pieces(alloc, &request.segments, values)?.ok_or(RequestFault::BadRequest)?;
-    let header = bytes(alloc, object, "header")?.ok_or(RequestFault::BadRequest)?;
+    let header = read_bytes(alloc, object, "header")?.ok_or(RequestFault::BadRequest)?;
     verdict_of(alloc, request, &pieces, &header)
 }
 

@@ -8,7 +8,7 @@ use Rattle.event_lines.specs.declared.fault.RunFault.{RunFault}
 use Rattle.event_lines.specs.declared.fault.RunFault.TheVariants as faults
 use Rattle.event_lines.specs.declared.accepted.AcceptedLines.{AcceptedLines}
 use Rattle.event_lines.specs.inner.Replies.{RepliesTo, RepliesToAll}
-use Rattle.event_lines.specs.Answers.{Stage, Unbegun, Open, Closed}
+use Rattle.event_lines.specs.Answers.{Stage, Unbegun, Open, Closed, GoesOn}
 use Rattle.event_lines.specs.Run.{AreLines, Listens, ended_lines, has_line_end, line_end}
 
 -- the state of a run whose network is this one, if it has begun
@@ -61,8 +61,13 @@ pub record AnswersLines (accepted : AcceptedLines) (lines : List (List ℕ)) (ol
   pub told : RepliesToAll accepted old.stage lines texts stage
   pub kept : replies ≡ old.replies ++ ended_lines texts
 
+-- lines were read, or a beginning of one
+abbrev pub HasMore : List (List ℕ) → List ℕ → Type 0
+HasMore [] [] = ⊥
+HasMore lines rest = Unit {0}
+
 -- the lines of these bytes were answered: all of them; or those up to a topology that was refused;
--- or those before memory ran out
+-- or those before memory ran out, in a run that may go on
 abbrev pub AnswersBytes : AcceptedLines → Result (Unit {0}) RunFault → List ℕ → SessionValue
     → SessionValue
     → Type 0
@@ -77,7 +82,8 @@ AnswersBytes accepted (Err faults.Memory) bytes old new =
     (lines later : List (List ℕ)) × (rest : List ℕ)
     × ((stage : Stage)
     × (AreLines (old.rest ++ bytes) (lines ++ later) rest
-    × AnswersLines accepted lines old stage new.replies))
+    × (HasMore later rest × (GoesOn stage
+    × AnswersLines accepted lines old stage new.replies))))
 AnswersBytes accepted (Err fault) bytes old new = ⊥
 
 -- the line in the rest after the last end; none if it is empty and the run has begun
@@ -129,7 +135,8 @@ pub record PassesSome (accepted : AcceptedLines) (lines : List (List ℕ)) (old 
   pub kept : Appends held holds (take most (ended_lines texts))
 
 -- the lines of these bytes were answered, and the replies written: all; or those up to a topology
--- that was refused; or those before memory ran out; or a beginning of the replies
+-- that was refused; or those before memory ran out, in a run that may go on; or a beginning of the
+-- replies
 abbrev pub Exchanges : AcceptedLines → Result (Unit {0}) RunFault → List ℕ → SessionValue
     → SessionValue
     → Option (List ℕ) → Option (List ℕ) → Type 0
@@ -144,7 +151,8 @@ Exchanges accepted (Err faults.Memory) bytes old new held holds =
     (lines later : List (List ℕ)) × (rest : List ℕ)
     × ((stage : Stage)
     × (AreLines (old.rest ++ bytes) (lines ++ later) rest
-    × Passes accepted lines old stage held holds))
+    × (HasMore later rest × (GoesOn stage
+    × Passes accepted lines old stage held holds))))
 Exchanges accepted (Err faults.Write) bytes old new held holds =
     (lines later : List (List ℕ)) × (rest : List ℕ)
     × (AreLines (old.rest ++ bytes) (lines ++ later) rest
@@ -152,7 +160,7 @@ Exchanges accepted (Err faults.Write) bytes old new held holds =
 Exchanges accepted (Err fault) bytes old new held holds = ⊥
 
 -- at the end of the input, the line in the rest was answered, if there is one, and its reply
--- written; the run has this network then
+-- written; the run has this network then. Memory runs out only if there is one.
 abbrev pub Finishes : AcceptedLines → Result (Unit {0}) RunFault → SessionValue → Stage
     → Option (List ℕ)
     → Option (List ℕ) → Type 0
@@ -160,7 +168,8 @@ Finishes accepted (Ok done) old stage held holds = (net : NetValue)
     × ((stage ≡ Open net) × Passes accepted (last_lines old) old (Open net) held holds)
 Finishes accepted (Err faults.Topology) old stage held holds =
     Passes accepted (last_lines old) old Closed held holds
-Finishes accepted (Err faults.Memory) old stage held holds = Keeps held holds
+Finishes accepted (Err faults.Memory) old stage held holds =
+    (last_lines old ≡ old.rest ∷ []) × Keeps held holds
 Finishes accepted (Err faults.Write) old stage held holds =
     PassesSome accepted (last_lines old) old held holds ⊎ Keeps held holds
 Finishes accepted (Err fault) old stage held holds = ⊥

@@ -5,6 +5,7 @@ use Rattle.std.proofs.lemmas.Result.{err_from_is_err_and}
 use Rattle.std.specs.Io.KnownBytes.{IsAtEnd}
 use Rattle.event_lines.specs.inner.Session.{session_value}
 use Rattle.event_lines.proofs.Running.{ends_finished, ends_short, ends_unread, ends_too_long, passed_on}
+use Rattle.event_lines.proofs.Writing.{on_stage}
 use Rattle.event_lines.proofs.run.hear.Goals as goal
 
 pub returns-then-is_empty-clause-heard : goal.returns-then-is_empty-clause-heard
@@ -50,7 +51,7 @@ loop-bytes-preserved g c =
           (g.K.Sink.held c.args.sink.now) (g.K.Sink.held c.loop-bytes.sink) (g.K.Sink.held c.exchange.new.sink)
           c.in-Some.bytes.now (session_value c.exchange.new.session) c.loop-bytes.invariant.far brought.0
           (let fits = c.wanted_after-wanted.ensures.fits (omega (arith, c.loop-bytes.invariant.far.few, c.if-count-eq-MAX_INPUT_LEN.false)) in grind (arith, common_steps, brought.1.1, fits))
-          exchanged.0 exchanged.1.0 exchanged.1.1.0 exchanged.1.1.1;
+          exchanged.0 exchanged.1.0 exchanged.1.1.0 exchanged.1.1.1 (on_stage c.exchange.new.session.net);
       source = search rules;
       sink = search rules;
     }

@@ -1,7 +1,8 @@
 -- Of the bytes a front was heard, line by line.
-use Rattle.std.proofs.Common.{refl}
+use Rattle.std.proofs.Common.{arith, refl}
 use Rattle.std.proofs.lemmas.Result.{err_from_is_err_and}
 use Rattle.event_lines.specs.inner.Session.{stage_of, session_value}
+use Rattle.event_lines.proofs.Writing.{on_stage}
 use Rattle.event_lines.proofs.Heard.{heard_none, heard_line, heard_failed, heard_short}
 use Rattle.event_lines.proofs.session.Session.answer_bytes.Goals as goal
 
@@ -15,7 +16,7 @@ returns-in_err-end_line c =
     let p = err_from_is_err_and c.from_residual.result c.from_residual.ensures.1 in
     rw (p.1, p.2) (heard_failed c.args.accepted c.args.bytes.now l.left.now c.in-Some.line.now c.in-Some.behind.now
     (session_value c.args.self.now) (session_value l.self) (session_value c.end_line.new.self) c.in_err-end_line.field-0.0 l.invariant cut
-    c.in_err-end_line.ensures.told)
+    c.in_err-end_line.ensures.told (on_stage l.self.net))
 
 pub loop-line-preserved : goal.loop-line-preserved
 loop-line-preserved c =
@@ -28,4 +29,5 @@ loop-line-preserved c =
 pub returns-in_err-extend_from_slice : goal.returns-in_err-extend_from_slice
 returns-in_err-extend_from_slice c =
     let p = err_from_is_err_and c.from_residual-in_err-extend_from_slice.result c.from_residual-in_err-extend_from_slice.ensures.1 in
-    rw (p.1, p.2) (heard_short c.args.accepted c.args.bytes.now c.loop-line.left.now (session_value c.args.self.now) (session_value c.loop-line.self) (session_value c.loop-line.self) c.loop-line.invariant refl)
+    rw (p.1, p.2) (heard_short c.args.accepted c.args.bytes.now c.loop-line.left.now (session_value c.args.self.now) (session_value c.loop-line.self) (session_value c.loop-line.self) c.loop-line.invariant refl
+    (omega (arith, c.in_err-extend_from_slice.ensures.full, c.loop-line.self.rest.ok.1)) (on_stage c.loop-line.self.net))
