@@ -17,3 +17,4 @@ pub mod Asked
 pub mod Packets
 pub mod Allowing
 pub mod Present
+pub mod Full

@@ -284,12 +284,12 @@ abbrev pub Departs : NetValue → Result Shipment EventFault → Type 0
 Departs net (Ok sent) = IsAccepted (asked_at net.moment sent.way) × IsOk (departs net sent)
 Departs net (Err fault) = ⊥
 
--- when memory may run out: the event is not refused, and makes a beacon, a segment, an answer or a
--- packet
+-- when memory may run out: the event makes a beacon, an answer or a packet and is not refused, or
+-- it makes a segment, which the store may still refuse
 abbrev pub TakesMemory : NetValue → EventValue → Type 0
 TakesMemory net (Tick to) = ⊥
-TakesMemory net (Originate ia egress beta0) = IsOk (begun net ia egress beta0)
-TakesMemory net (Extend beacon ia egress) = IsOk (passed_on net beacon ia egress)
+TakesMemory net (Originate ia egress beta0) = IsOk (originates net ia egress beta0)
+TakesMemory net (Extend beacon ia egress) = IsOk (extends net beacon ia egress)
 TakesMemory net (Terminate beacon ia) = IsOk (ended net beacon ia)
 TakesMemory net Sweep = ⊥
 TakesMemory net (Ask src dst read limit) = IsOk (options_asked net src dst read limit)

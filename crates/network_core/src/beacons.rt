@@ -1,11 +1,14 @@
 //! Events of the control plane: beaconing, registration, and changes of links and keys.
 
-ghost use Rattle.std.specs.Prelude.{◌≡◌, IsOk, Ok, false, true};
+ghost use Rattle.std.specs.Prelude.{◌≡◌, IsOk, Ok, Result, false, true};
+ghost use Rattle.refusal.specs.Refusal.{Fails};
 ghost use Rattle.refusal.specs.declared.fault.OrMemory.TheVariants.{Refused};
+ghost use Rattle.path_segment.specs.Chain.{Chain};
+ghost use Rattle.beaconing.specs.declared.fault.BeaconFault.{BeaconFault};
 ghost use Rattle.scion_topology.specs.Topology.{set_up, rotated};
 ghost use Rattle.network_core.specs.declared.fault.EventFault.TheVariants as faults;
-ghost use Rattle.network_core.specs.inner.Doing.{DoesOrFails, JudgesEvent, error_as};
-ghost use Rattle.network_core.specs.Step.{ticked, beacon_at, begun, passed_on, ended, originates, extends, terminates, with_beacon, with_segment, with_network, cleared};
+ghost use Rattle.network_core.specs.inner.Doing.{DoesOrFails, JudgesEvent, error_as, with_made};
+ghost use Rattle.network_core.specs.Step.{ticked, beacon_at, ended, originates, extends, terminates, with_beacon, with_segment, with_network, cleared};
 
 use crate::fault::EventFault;
 use crate::net::{EventError, Net};
@@ -42,10 +45,12 @@ impl Net {
         beta0: u16,
     ) -> Result<Reply, EventError>
         ensures { DoesOrFails (originates self.old ia egress beta0)
-            (IsOk (begun self.old ia egress beta0)) self.old self.new result }
+            (IsOk (originates self.old ia egress beta0)) self.old self.new result }
     {
-        let begun = originate(alloc, &self.topology, ia, egress, self.moment, beta0);
-        self.keep_beacon(begun.map_err(of_beacon)?)
+        match originate(alloc, &self.topology, ia, egress, self.moment, beta0) {
+            Ok(beacon) => self.keep_beacon(beacon),
+            Err(error) => Err(self.beacon_error(error)),
+        }
     }
 
     /// An AS passes a beacon on.
@@ -57,11 +62,13 @@ impl Net {
         egress: IfId,
     ) -> Result<Reply, EventError>
         ensures { DoesOrFails (extends self.old beacon ia egress)
-            (IsOk (passed_on self.old beacon ia egress)) self.old self.new result }
+            (IsOk (extends self.old beacon ia egress)) self.old self.new result }
     {
         let old = self.beacon(beacon)?;
-        let passed_on = extend(alloc, &self.topology, old, ia, egress);
-        self.keep_beacon(passed_on.map_err(of_beacon)?)
+        match extend(alloc, &self.topology, old, ia, egress) {
+            Ok(passed_on) => self.keep_beacon(passed_on),
+            Err(error) => Err(self.beacon_error(error)),
+        }
     }
 
     /// An AS ends a beacon, and the segment is registered.
@@ -90,9 +97,25 @@ impl Net {
 }
 
 impl Net {
-    /// Adds a beacon to the network.
+    /// The error of an event for which beaconing has this error. If memory ran out there and the
+    /// network has no room for a beacon, the event is refused as TooMany.
+    fn beacon_error(&self, error: BeaconError) -> EventError
+        ensures { (made : Result Chain BeaconFault) → Fails error made
+            → Fails result (with_made self.now made) }
+    {
+        if self.beacons.len() < MAX_OBJECTS {
+            return of_beacon(error);
+        }
+        match error {
+            OrMemory::Memory => OrMemory::Refused(EventFault::TooMany),
+            OrMemory::Refused(fault) => OrMemory::Refused(EventFault::Beacon(fault)),
+        }
+    }
+
+    /// Adds a beacon to the network. Memory can run out only if there is room.
     fn keep_beacon(&mut self, beacon: Beacon) -> Result<Reply, EventError>
-        ensures { DoesOrFails (with_beacon self.old beacon) (Unit {0}) self.old self.new result }
+        ensures { DoesOrFails (with_beacon self.old beacon) (IsOk (with_beacon self.old beacon))
+            self.old self.new result }
     {
         let number = self.beacons.len();
         if number >= MAX_OBJECTS {

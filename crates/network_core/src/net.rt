@@ -135,8 +135,8 @@ impl Net {
     }
 
     /// Does one event, and returns its reply. An event that is refused changes nothing. Running out
-    /// of memory changes nothing either, and is possible only if the event makes a beacon, a
-    /// segment, an answer or a packet.
+    /// of memory changes nothing either, and is possible only if the event makes a beacon, an
+    /// answer or a packet and is not refused, or makes a segment, which the store may still refuse.
     ///
     /// The time grows with the entries of the beacon that the event names, with the stored segments
     /// if one is registered or the store is swept, and with the bytes of the packet that it names.

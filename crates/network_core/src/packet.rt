@@ -45,7 +45,7 @@ impl Sent {
     pub fn source(&self) -> IsdAs
         ensures { result ≡ self.now.way.source }
     {
-        let way = self.way.lent();
+        let way = self.way.lend();
         way.source
     }
 
@@ -53,7 +53,7 @@ impl Sent {
     pub fn destination(&self) -> IsdAs
         ensures { result ≡ self.now.way.destination }
     {
-        let way = self.way.lent();
+        let way = self.way.lend();
         way.destination
     }
 
@@ -61,7 +61,7 @@ impl Sent {
     pub fn pieces(&self) -> &[OwnedPiece]
         ensures { result.now ≡ self.now.way.pieces }
     {
-        let way = self.way.lent();
+        let way = self.way.lend();
         way.pieces
     }
 
@@ -69,7 +69,7 @@ impl Sent {
     pub fn header(&self) -> &Header
         ensures { result.now ≡ self.now.way.header }
     {
-        let way = self.way.lent();
+        let way = self.way.lend();
         way.header
     }
 
@@ -77,7 +77,7 @@ impl Sent {
     pub fn policy(&self) -> &Policy<Global>
         ensures { result.now ≡ self.now.way.rules }
     {
-        let way = self.way.lent();
+        let way = self.way.lend();
         way.policy
     }
 
@@ -93,7 +93,7 @@ impl Sent {
     pub fn way_out(&self) -> IfId
         ensures { result ≡ first_out (walk_of self.now.way.pieces) }
     {
-        let way = self.way.lent();
+        let way = self.way.lend();
         first_out(way.pieces)
     }
 

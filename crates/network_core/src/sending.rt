@@ -251,7 +251,7 @@ fn packet_of(
     ensures frame { OnOk result
         (HasFrame (stored_way way).source (stored_way way).destination (stored_way way).pieces) }
 {
-    let lent = way.lent();
+    let lent = way.lend();
     lent.header.known();
     let source = lent.source;
     let bytes = frame(alloc, source, lent.destination, lent.header, payload)?;

@@ -74,7 +74,7 @@ impl AnsweredWay {
     }
 
     /// Its parts.
-    fn lent(&self) -> LentWay<'_>
+    fn lend(&self) -> LentWay<'_>
         ensures { result ≡ self.now }
     {
         let answer = self.answer.answer();
@@ -129,7 +129,7 @@ impl OwnWay {
     }
 
     /// Its parts.
-    fn lent(&self) -> LentWay<'_>
+    fn lend(&self) -> LentWay<'_>
         ensures { result ≡ self.now }
     {
         LentWay {
@@ -166,12 +166,12 @@ impl SentWay {
     }
 
     /// Its parts.
-    pub(crate) fn lent(&self) -> LentWay<'_>
+    pub(crate) fn lend(&self) -> LentWay<'_>
         ensures { result ≡ stored_way self.now }
     {
         match self {
-            SentWay::Answered(way) => way.lent(),
-            SentWay::Own(way) => way.lent(),
+            SentWay::Answered(way) => way.lend(),
+            SentWay::Own(way) => way.lend(),
         }
     }
 }

@@ -2,15 +2,19 @@
 use Rattle.std.specs.Prelude.{◌≡◌, ◌⊎◌, List, ◌∷◌, ◌++◌, [], length, slice_get, ℕ, Some, Result, Ok, Err, IsOk}
 use Rattle.refusal.specs.declared.fault.OrMemory.{OrMemory}
 use Rattle.refusal.specs.declared.fault.OrMemory.TheVariants.{Memory, Refused}
+use Rattle.refusal.specs.Refusal.{◌>>=◌, refused_as}
+use Rattle.path_segment.specs.Chain.{Chain}
+use Rattle.beaconing.specs.declared.fault.BeaconFault.{BeaconFault}
 use Rattle.policy_expr.specs.Options.{WeighedRules}
 use Rattle.forwarding.specs.Frame.{HasFrame}
 use Rattle.network_core.specs.declared.fault.EventFault.{EventFault}
 use Rattle.network_core.specs.declared.reply.Reply.{Reply}
+use Rattle.network_core.specs.declared.fault.EventFault.TheVariants as faults
 use Rattle.network_core.specs.declared.fault.EventFault.TheVariants.{Path}
 use Rattle.network_core.specs.declared.reply.Reply.TheVariants as replies
 use Rattle.network_core.specs.Event.{EventValue}
 use Rattle.network_core.specs.Value.{Way, KeptAnswer, asked_at, Shipment, PacketValue, NetValue}
-use Rattle.network_core.specs.Step.{Made, flying_at, packet_of, departs, IsAnswerTo, Asks, Sends, Departs, Step, TakesMemory}
+use Rattle.network_core.specs.Step.{Made, with_beacon, flying_at, packet_of, departs, IsAnswerTo, Asks, Sends, Departs, Step, TakesMemory}
 use Rattle.network_core.specs.Delivery.{HasSentFrame, IsFramed}
 use Rattle.path_verifier.specs.declared.fault.VerifyFault.{VerifyFault}
 use Rattle.path_verifier.specs.Accepted.{IsAccepted, IsRefused}
@@ -27,6 +31,10 @@ DoesOrFails made takes old new (Err Memory) = takes × (new ≡ old)
 abbrev pub error_as : {F : Type 0} → (F → EventFault) → OrMemory F → OrMemory EventFault
 error_as of_fault Memory = Memory
 error_as of_fault (Refused fault) = Refused (of_fault fault)
+
+-- the network with the beacon that was made, or the refusal: first that of beaconing, then TooMany
+abbrev pub with_made : NetValue → Result Chain BeaconFault → Made
+with_made net made = refused_as faults.Beacon made >>= with_beacon net
 
 -- the event was done, and what it sent has a frame; or the call returns the refusal or that memory
 -- ran out, and changed nothing
