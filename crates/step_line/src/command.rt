@@ -1,5 +1,6 @@
-ghost use Rattle.std.specs.Prelude.{◌≡◌, IfOk, option_map};
+ghost use Rattle.std.specs.Prelude.{◌≡◌, IfOk, IsSome, OnErr, option_map};
 ghost use Rattle.std.specs.Option.{option_copied};
+ghost use Rattle.step_line.specs.Fields.{as_address_at, bounded_number_at};
 ghost use Rattle.step_line.specs.Turn.{items_of, previous_of, turn_from, turn_with};
 ghost use Rattle.step_line.specs.Line.{line_of};
 ghost use Rattle.step_line.specs.Fault.{PrintsTurn};
@@ -48,13 +49,16 @@ impl Model for StepCommand {
 impl StepCommand {
     /// The turn of these texts, or `None` if one of them can't be read or the parts are no view.
     ///
-    /// `AllocError` if memory runs out.
+    /// [`AllocError`] if memory runs out, which it may only if the address and the number of the
+    /// router can be read.
     #[tactic(auto, unfolding(crate::specs::Turn::turn_from))]
     pub fn from_texts(
         alloc: Global,
         texts: StepArgs<'_, '_>,
     ) -> Result<Option<StepCommand>, AllocError>
-        ensures { IfOk result (λ o. o ≡ turn_from texts.entry) }
+        ensures turn { IfOk result (λ o. o ≡ turn_from texts.entry) }
+        ensures wanted { OnErr result (IsSome (as_address_at texts.entry.ia)
+            × IsSome (bounded_number_at 0 63 texts.entry.router)) }
     {
         let Ok(ia) = IsdAs::parse(texts.ia) else {
             return Ok(None);
@@ -93,7 +97,7 @@ impl StepCommand {
         ensures { result
             ≡ turn_with ia router key.items (items_of previous) moment arrival table.items }
     {
-        if RouterView::new(ia, router, &key, lent(&previous), &table).is_err() {
+        if RouterView::new(ia, router, &key, lend(&previous), &table).is_err() {
             return None;
         }
         Some(StepCommand {
@@ -115,7 +119,7 @@ impl StepCommand {
             self.ia,
             self.router,
             &self.key,
-            lent(&self.previous),
+            lend(&self.previous),
             &self.table,
         ) {
             Ok(view) => view,
@@ -170,7 +174,7 @@ fn previous_key(alloc: Global, text: Option<&str>) -> Result<Option<Option<Vec<u
 }
 
 /// The bytes of a key, if there is one.
-fn lent(key: &Option<Vec<u8>>) -> Option<&[u8]>
+fn lend(key: &Option<Vec<u8>>) -> Option<&[u8]>
     ensures { option_copied result ≡ items_of key.now }
 {
     match key {
