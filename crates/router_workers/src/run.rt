@@ -21,7 +21,7 @@ use std::thread;
 use std::thread::Threads;
 
 /// The largest number of workers of a run.
-pub const MOST_WORKERS: usize = 8;
+pub const MAX_WORKERS: usize = 8;
 
 /// Carries flights at the second `now` through the network of `topology`, on `workers` workers.
 /// Each worker is a thread with an inbox of `slots` places. The report says for each flight, in
@@ -51,7 +51,7 @@ pub fn run_workers<'f, R: Threads + Wait + Sync, G: Gate>(
     ensures refused { IfErr result (λ fault.
         (fault ≡ RunFault.Workers) ↔ ((workers ≡ 0) ⊎ (8 < workers))) }
 {
-    if workers == 0 || workers > MOST_WORKERS {
+    if workers == 0 || workers > MAX_WORKERS {
         return Err(RunFault::Workers);
     }
     match run_with::<Brand, R, G>(rt, alloc, topology, now, workers, slots, flights, gate) {

@@ -12,7 +12,7 @@ use crate::flights::flights_of;
 use crate::report::report;
 use event_lines::{AcceptedLines, listen};
 use network_core::Net;
-use router_workers::{MOST_WORKERS, OpenGate, run_workers};
+use router_workers::{MAX_WORKERS, OpenGate, run_workers};
 use std::alloc::Global;
 use std::sync::Wait;
 use std::thread::Threads;
@@ -35,7 +35,7 @@ fn carry<R: Threads + Wait + Sync>(
     ensures workers { IfOk result (λ _. IsNumberOfWorkers workers) }
     ensures fault { IfErr result (Stops workers) }
 {
-    if workers == 0 || workers > MOST_WORKERS {
+    if workers == 0 || workers > MAX_WORKERS {
         return Err(WorkFault::Workers);
     }
     let flights = flights_of(alloc, net)?;
