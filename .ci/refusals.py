@@ -31,8 +31,8 @@ Lines: each line after the first.
 
 | number | name | meaning |
 |---|---|---|
-| 140 | BadLine | The line is no object of the table of lines, or a value in it is out of its \
-range. |
+| 140 | BadLine | The line has none of the forms that `docs/lines.md` lists, or a value in it is \
+out of its range. |
 
 ## `scion_ffi`
 A call from another language whose numbers say nothing changes nothing. Its other answers are the

@@ -16,10 +16,10 @@ static PROGRAM_HELP: &str = "\
 Without a command, 'run' is meant. Times are seconds since 1970, keys, payloads and packets \
 hexadecimal digits, two for each byte, and an AS is written as 1-ff00:0:111.
 
-The status is 0 where the command was done, 2 where the words are refused or ask for help, and 1 \
-after any other fault. What is wrong is told on standard error.
+The status is 0 if the command was done, 2 if the words are refused or ask for help, and 1 after \
+any other fault. The message about a fault goes to standard error.
 
-Example: a network of one AS, in which it becomes second 1000; answered by 'topology ok' and 'ok'
+Example: a network of one AS, whose clock is set to second 1000; answered by 'topology ok' and 'ok'
   printf '%s\\n' \\
     '{\"ases\":[{\"ia\":\"1-ff00:0:110\",\"core\":true,\"exp\":63,\"key\":\"6b\",\"routers\":1}],\
 \"links\":[]}' \\
@@ -34,7 +34,8 @@ static STEP_HELP: &str = "\
 The packet is 8 bytes of the destination's address, 8 of the source's, the path header and the \
 payload, in hexadecimal, with or without blanks at both ends; at most 67,108,864 bytes of text. \
 The answer is one line: 'link IF HEX' (it leaves over the link of interface IF), 'router N HEX' \
-(it goes to router N of the AS), 'deliver HEX', or 'refused CODE NAME'.
+(it goes to router N of the AS), 'deliver HEX', or 'refused CODE NAME'. The number 90, for a \
+packet without a path header, is followed by the number and name of the header's own refusal.
 
 Example: at second 100, a packet of a host leaves 1-ff00:0:111 over interface 2, to a parent
   printf 0001ff00000001100001ff0000000111000020000000b39600000064003f00020000\
@@ -45,9 +46,9 @@ Example: at second 100, a packet of a host leaves 1-ff00:0:111 over interface 2,
 static RUN_HELP: &str = "\
 Standard input has a topology on its first line, and on each line after it an event of its network \
 or the question 'show', each a JSON object; at most 67,108,864 bytes in all. A line is answered by \
-a line before more is read: the topology by 'topology ok', an event by what came of it, or by 'no \
-CODE NAME' where it is refused. A topology that is refused is answered by 'topology no CODE NAME' \
-and ends the run.
+a line before more is read: the topology by 'topology ok', an event by its result, or by 'no CODE \
+NAME' if it is refused; a turn in which a router refuses the packet is answered by 'refused CODE \
+NAME'. A topology that is refused is answered by 'topology no CODE NAME' and ends the run.
 
 The member 'do' is the event's word; these are the words with the other members:
   tick now                  originate ia egress beta0  extend beacon ia egress
@@ -87,8 +88,8 @@ which is answered by
 static WORK_HELP: &str = "\
 Standard input has the lines of 'run' that prepare a network: all but 'turn', 'lose', 'alter', \
 'back' and 'show', which are answered by 'no 140 BadLine'. They are answered as 'run' answers \
-them. Then the packets that were sent are carried through the network, as it is then, at its \
-moment: each worker is a thread with an inbox of SLOTS places. There are 1 to 8 workers.
+them. Then worker threads carry the packets that were sent through this network, at its current \
+second: 1 to 8 workers, each with an inbox of SLOTS places.
 
 After the replies comes a line for each packet, in their order: 'flight N delivered TURNS', \
 'flight N refused CODE NAME', or 'flight N dropped', if its next inbox was full; none is \
@@ -268,7 +269,7 @@ fn work_command<'a>(alloc: Global) -> Result<Command<'a>, AllocError>
             u32::MAX,
             "workers",
             "N",
-            "The number of workers, 1 to 8; another is refused once the lines are answered",
+            "The number of workers, 1 to 8; another is refused after the lines were answered",
         ))?
         .arg(range_option(
             alloc,
