@@ -167,9 +167,9 @@ fn answer_object(
 }
 
 /// Writes the reply to a line without its end, in a run that accepts these lines. A line is bad if
-/// it is not accepted, or if it has none of the forms that `docs/lines.md` lists: it is no JSON, the
-/// member `do` is missing or has an unknown word, or a member of the word is missing or has another
-/// form.
+/// it is not accepted, or if it has none of the forms that `docs/lines.md` lists: it is no JSON, or
+/// the member `do` is missing or has an unknown word, or a member of the word is missing or has
+/// another form.
 ///
 /// It takes the time and memory of the line's event, and more in proportion to its bytes.
 #[tactic(auto, unfolding(crate::specs::Line::line_in))]

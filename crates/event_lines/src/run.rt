@@ -137,10 +137,10 @@ fn hear<S: Source, K: Sink>(
 /// of its history. So the guarantees of a run ([`network_core::run`]) hold for them, also for the
 /// lines that were answered before a fault.
 ///
-/// [`RunFault::Topology`] if the first line is no topology, after its reply, and no other fault then
-/// but [`RunFault::Write`]; [`RunFault::Read`] and [`RunFault::Write`] if the source or the sink
-/// failed; [`RunFault::Memory`] if memory ran out at a line, after the replies to the lines before;
-/// [`RunFault::InputTooLong`] at byte 67,108,865.
+/// [`RunFault::Topology`] if the first line is no topology, after its reply; no other fault but
+/// [`RunFault::Write`] may come then. [`RunFault::Read`] and [`RunFault::Write`] if the source or
+/// the sink failed; [`RunFault::Memory`] if memory ran out at a line, after the replies to those
+/// before; [`RunFault::InputTooLong`] at byte 67,108,865.
 ///
 /// It ends for every source that ends or passes that limit. A line takes the time and memory of its
 /// event, and more in proportion to its bytes. The bytes of one line, and the replies to the lines
