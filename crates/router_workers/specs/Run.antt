@@ -1,5 +1,5 @@
 -- A run of flights at one second, and its report about each.
-use Rattle.std.specs.Prelude.{◌≡◌, ℕ, zero, suc, ◌<◌, List, Some, length, slice_get}
+use Rattle.std.specs.Prelude.{◌≡◌, ℕ, zero, suc, ◌<◌, nat_le, Bool, ◌&&◌, List, Some, length, slice_get}
 use Rattle.scion_topology.specs.Network.{Network}
 use Rattle.router_step.specs.declared.fault.Refusal.{Refusal}
 use Rattle.forwarding.specs.declared.location.PacketLocation.{PacketLocation}
@@ -9,6 +9,10 @@ use Rattle.network_core.specs.Delivery.{IsAtRouter}
 use Rattle.router_workers.specs.Flight.{FlightValue}
 use Rattle.router_workers.specs.declared.end.End.{End}
 use Rattle.router_workers.specs.declared.end.End.TheVariants.{Delivered, Refused, Dropped}
+
+-- a run may have this number of workers
+abbrev pub is_number_of_workers : ℕ → Bool
+is_number_of_workers workers = nat_le 1 workers && nat_le workers 8
 
 -- a packet after this number of turns, all at one second
 abbrev pub repeated : Network → ℕ → Packet → ℕ → Packet

@@ -118,7 +118,7 @@ impl<'f, J: RunFacts> CarriedFlight<'f, J> {
     }
 
     /// The end of a flight for which there was no room.
-    pub(crate) fn dropped(self) -> FlightEnd<J>
+    pub(crate) fn into_dropped(self) -> FlightEnd<J>
         requires under_way { IsAtRouter self.packet.place }
         requires crowded { J.slots < length J.flights }
     {

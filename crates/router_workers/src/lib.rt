@@ -21,5 +21,5 @@ pub use end::End;
 pub use fault::RunFault;
 pub use flight::Flight;
 pub use report::Report;
-pub use run::{MAX_WORKERS, run_workers};
+pub use run::{MAX_WORKERS, is_number_of_workers, run_workers};
 pub use worker::{Gate, OpenGate, worker_of};

@@ -1,7 +1,7 @@
 //! A run of flights on 1 to 8 workers.
 
-ghost use Rattle.std.specs.Prelude.{◌≡◌, ◌↔◌, ◌⊎◌, ◌<◌, ◌≤◌, IfOk, IfErr, All, length, vec_capacity};
-ghost use Rattle.router_workers.specs.Run.{IsReport};
+ghost use Rattle.std.specs.Prelude.{◌≡◌, ◌↔◌, ◌<◌, ◌≤◌, false, IsTrue, IfOk, IfErr, All, length, vec_capacity};
+ghost use Rattle.router_workers.specs.Run.{IsReport, is_number_of_workers};
 ghost use Rattle.router_workers.specs.inner.Run.{IsEndOfFlight, AreEnds};
 
 use crate::carried::{CarriedFlight, FlightEnd, RunFacts};
@@ -22,6 +22,14 @@ use std::thread::Threads;
 
 /// The largest number of workers of a run.
 pub const MAX_WORKERS: usize = 8;
+
+/// Whether a run may have this number of workers: 1 to 8.
+pub fn is_number_of_workers(workers: usize) -> bool
+    ensures value { result ≡ is_number_of_workers workers }
+    ensures some { IsTrue result → 0 < workers }
+{
+    (1..=MAX_WORKERS).contains(&workers)
+}
 
 /// Carries flights at the second `now` through the network of `topology`, on `workers` workers.
 /// Each worker is a thread with an inbox of `slots` places. The report says for each flight, in
@@ -47,11 +55,11 @@ pub fn run_workers<'f, R: Threads + Wait + Sync, G: Gate>(
     requires some { 0 < slots }
     requires few { slots ≤ 4096 }
     ensures report { IfOk result (λ report. IsReport flights.now now slots report) }
-    ensures workers { IfOk result (λ _. (0 < workers) × (workers ≤ 8)) }
+    ensures workers { IfOk result (λ _. IsTrue (is_number_of_workers workers)) }
     ensures refused { IfErr result (λ fault.
-        (fault ≡ RunFault.Workers) ↔ ((workers ≡ 0) ⊎ (8 < workers))) }
+        (fault ≡ RunFault.Workers) ↔ (is_number_of_workers workers ≡ false)) }
 {
-    if workers == 0 || workers > MAX_WORKERS {
+    if !is_number_of_workers(workers) {
         return Err(RunFault::Workers);
     }
     match run_with::<Brand, R, G>(rt, alloc, topology, now, workers, slots, flights, gate) {

@@ -134,7 +134,7 @@ fn push_or_drop<'f, J: RunFacts, R: Wait, G: Gate>(
             Ok(()) => return,
             Err(back) => {
                 if state.crowded {
-                    settle(state, back.dropped());
+                    settle(state, back.into_dropped());
                     return;
                 }
                 carried = back;

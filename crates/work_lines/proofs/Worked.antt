@@ -1,16 +1,17 @@
 -- How a run ends whose flights were carried.
-use Rattle.std.proofs.Common.{ℕ, List, Option, Result, Ok, Err}
+use Rattle.std.proofs.Common.{ℕ, IsTrue, List, Option, Result, Ok, Err}
 use Rattle.network_core.specs.Value.{NetValue}
+use Rattle.router_workers.specs.Run.{is_number_of_workers}
 use Rattle.work_lines.specs.declared.fault.WorkFault.{WorkFault}
 use Rattle.work_lines.specs.declared.fault.WorkFault.TheVariants as faults
 use Rattle.work_lines.specs.Report.{Reports}
-use Rattle.work_lines.specs.Work.{IsNumberOfWorkers, Prepares, Works}
+use Rattle.work_lines.specs.Work.{Prepares, Works}
 use Rattle.work_lines.specs.inner.Work.{WritesReport}
 
 -- the report was written, or a beginning of it
 pub worked : (result : Result (Unit {0}) WorkFault) (net : NetValue) (workers slots : ℕ)
     (before after held replied holds : Option (List ℕ)) (text : List ℕ)
-    → Prepares net before after held replied → IsNumberOfWorkers workers → Reports net slots text
+    → Prepares net before after held replied → IsTrue (is_number_of_workers workers) → Reports net slots text
     → WritesReport result text replied holds → Works result workers slots before after held holds
 worked (Ok done) net workers slots before after held replied holds text prepares number reports writes =
     (net, replied, text, (prepares, (number, (reports, writes))))

@@ -1,8 +1,9 @@
 -- A run of lines and then of the flights that they prepare: what was read, and what was written.
-use Rattle.std.specs.Prelude.{◌<◌, ◌≤◌, ℕ, Bool, true, false, List, Option, Result, Ok, Err}
+use Rattle.std.specs.Prelude.{◌≡◌, ℕ, Bool, true, false, IsTrue, List, Option, Result, Ok, Err}
 use Rattle.std.specs.Io.KnownBytes.{Appends}
 use Rattle.streams.specs.Streams.{AppendsFront}
 use Rattle.network_core.specs.Value.{NetValue}
+use Rattle.router_workers.specs.Run.{is_number_of_workers}
 use Rattle.router_workers.specs.declared.fault.RunFault.{RunFault}
 use Rattle.router_workers.specs.declared.fault.RunFault.TheVariants as run
 use Rattle.event_lines.specs.declared.fault.RunFault.TheVariants as lines
@@ -11,10 +12,6 @@ use Rattle.event_lines.specs.Run.{Listens}
 use Rattle.work_lines.specs.declared.fault.WorkFault.{WorkFault}
 use Rattle.work_lines.specs.declared.fault.WorkFault.TheVariants as faults
 use Rattle.work_lines.specs.Report.{Reports}
-
--- the number of workers is allowed
-abbrev pub IsNumberOfWorkers : ℕ → Type 0
-IsNumberOfWorkers workers = (0 < workers) × (workers ≤ 8)
 
 -- the lines prepared this network, and after their replies the sink held these bytes
 abbrev pub Prepares : NetValue → Option (List ℕ) → Option (List ℕ) → Option (List ℕ)
@@ -30,15 +27,18 @@ abbrev pub Works : Result (Unit {0}) WorkFault → ℕ → ℕ → Option (List 
 Works (Ok done) workers slots before after held holds =
     (net : NetValue) × (replied : Option (List ℕ)) × (report : List ℕ)
     × (Prepares net before after held replied
-    × (IsNumberOfWorkers workers × (Reports net slots report × Appends replied holds report)))
+    × (IsTrue (is_number_of_workers workers)
+    × (Reports net slots report × Appends replied holds report)))
 Works (Err faults.Workers) workers slots before after held holds = (net : NetValue)
-    × (Prepares net before after held holds × ¬ (IsNumberOfWorkers workers))
+    × (Prepares net before after held holds × (is_number_of_workers workers ≡ false))
 Works (Err faults.Memory) workers slots before after held holds =
-    (net : NetValue) × (Prepares net before after held holds × IsNumberOfWorkers workers)
+    (net : NetValue)
+    × (Prepares net before after held holds × IsTrue (is_number_of_workers workers))
 Works (Err faults.Write) workers slots before after held holds =
     (net : NetValue) × (replied : Option (List ℕ)) × (report : List ℕ)
     × (Prepares net before after held replied
-    × (IsNumberOfWorkers workers × (Reports net slots report × AppendsFront replied holds report)))
+    × (IsTrue (is_number_of_workers workers)
+    × (Reports net slots report × AppendsFront replied holds report)))
 Works (Err (faults.Lines fault)) workers slots before after held holds =
     Listens Preparing (Err fault) before after held holds
 

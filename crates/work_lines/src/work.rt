@@ -1,10 +1,11 @@
 //! A run of lines over streams, and of the flights that they prepare.
 
-ghost use Rattle.std.specs.Prelude.{◌≡◌, ◌<◌, ◌≤◌, ◌||◌, IfOk, IfErr};
+ghost use Rattle.std.specs.Prelude.{◌≡◌, ◌<◌, ◌≤◌, ◌||◌, IsTrue, IfOk, IfErr};
 ghost use Rattle.std.specs.String.{string_bytes};
 ghost use Rattle.network_core.specs.Delivery.{AllMayDepart};
 ghost use Rattle.work_lines.specs.Report.{Reports};
-ghost use Rattle.work_lines.specs.Work.{IsNumberOfWorkers, Works, is_work_read_fault, is_work_write_fault};
+ghost use Rattle.router_workers.specs.Run.{is_number_of_workers};
+ghost use Rattle.work_lines.specs.Work.{Works, is_work_read_fault, is_work_write_fault};
 ghost use Rattle.work_lines.specs.inner.Work.{Stops, WritesReport, is_unwritten};
 
 use crate::fault::WorkFault;
@@ -12,7 +13,7 @@ use crate::flights::flights_of;
 use crate::report::report;
 use event_lines::{AcceptedLines, listen};
 use network_core::Net;
-use router_workers::{MAX_WORKERS, OpenGate, run_workers};
+use router_workers::{OpenGate, is_number_of_workers, run_workers};
 use std::alloc::Global;
 use std::sync::Wait;
 use std::thread::Threads;
@@ -32,10 +33,10 @@ fn carry<R: Threads + Wait + Sync>(
     requires some { 0 < slots }
     requires few { slots ≤ 4096 }
     ensures report { IfOk result (λ text. Reports net.now slots (string_bytes text)) }
-    ensures workers { IfOk result (λ _. IsNumberOfWorkers workers) }
+    ensures workers { IfOk result (λ _. IsTrue (is_number_of_workers workers)) }
     ensures fault { IfErr result (Stops workers) }
 {
-    if workers == 0 || workers > MAX_WORKERS {
+    if !is_number_of_workers(workers) {
         return Err(WorkFault::Workers);
     }
     let flights = flights_of(alloc, net)?;

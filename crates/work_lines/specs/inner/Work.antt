@@ -1,16 +1,16 @@
 -- A run of lines and then of the flights that they prepare: what was read, and what was written.
-use Rattle.std.specs.Prelude.{ℕ, Bool, true, false, List, Option, Result, Ok, Err}
+use Rattle.std.specs.Prelude.{◌≡◌, ℕ, Bool, true, false, IsTrue, List, Option, Result, Ok, Err}
 use Rattle.std.specs.Io.KnownBytes.{Appends}
 use Rattle.streams.specs.Streams.{AppendsFront}
+use Rattle.router_workers.specs.Run.{is_number_of_workers}
 use Rattle.work_lines.specs.declared.fault.WorkFault.{WorkFault}
 use Rattle.work_lines.specs.declared.fault.WorkFault.TheVariants as faults
-use Rattle.work_lines.specs.Work.{IsNumberOfWorkers}
 
 -- why flights could not be carried by these workers: their number is not allowed; or it is, and
 -- memory ran out
 abbrev pub Stops : ℕ → WorkFault → Type 0
-Stops workers faults.Workers = ¬ (IsNumberOfWorkers workers)
-Stops workers faults.Memory = IsNumberOfWorkers workers
+Stops workers faults.Workers = is_number_of_workers workers ≡ false
+Stops workers faults.Memory = IsTrue (is_number_of_workers workers)
 Stops workers fault = ⊥
 
 -- the report was written, or a beginning of it
