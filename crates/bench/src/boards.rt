@@ -128,7 +128,7 @@ fn publish_others<R: Wait>(
 }
 
 /// The number of segments that a lookup finds; 0 if memory ran out.
-fn found(alloc: Global, reader: &mut BoardReader) -> u64 {
+fn count_segments(alloc: Global, reader: &mut BoardReader) -> u64 {
     for _ in 0..TRIES {
         if let Ok(set) = reader.lookup(alloc, source(), destination(), NOW) {
             let count = set.ups().len() + set.cores().len() + set.downs().len();
@@ -143,7 +143,7 @@ fn found(alloc: Global, reader: &mut BoardReader) -> u64 {
 fn look_up(alloc: Global, mut reader: BoardReader, tally: &Tally, count: u32) {
     let mut sum = 0u64;
     for _ in 0..count {
-        sum = sum.wrapping_add(found(alloc, &mut reader));
+        sum = sum.wrapping_add(count_segments(alloc, &mut reader));
     }
     tally.end(sum);
 }

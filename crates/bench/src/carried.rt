@@ -94,7 +94,7 @@ fn turn(alloc: Global, net: &mut Net, packet: u32) -> Result<u64, AllocError> {
 }
 
 /// The network in which one packet was sent.
-pub(crate) fn sent(alloc: Global) -> Result<Net> {
+pub(crate) fn network_with_packet(alloc: Global) -> Result<Net> {
     let mut net = network(alloc)?;
     send(alloc, &mut net)?;
     Ok(net)
@@ -110,7 +110,7 @@ fn carry(alloc: Global, net: &mut Net, turns: u32, packet: u32) -> Result<u64, A
 }
 
 /// Sends `count` packets, makes several turns of each, and counts those that are delivered.
-pub(crate) fn carried(alloc: Global, turns: u32, count: u32) -> Result<u64> {
+pub(crate) fn carry_all(alloc: Global, turns: u32, count: u32) -> Result<u64> {
     let mut net = network(alloc)?;
     let mut sum = 0u64;
     for packet in 0..count {

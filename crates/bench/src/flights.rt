@@ -120,7 +120,7 @@ pub(crate) fn even_flights<R: Threads + Wait + Sync>(
     workers: usize,
     count: u32,
 ) -> Result<u64> {
-    let net = carried::sent(alloc)?;
+    let net = carried::network_with_packet(alloc)?;
     let packet = net.packet(0).context("the packet was not sent")?;
     let flights = flights_of(alloc, &net, packet, packet)?;
     turns_of(rt, alloc, net.topology(), &flights, workers, count)

@@ -93,8 +93,8 @@ fn work_on_input<R: io::Input>(rt: &R, alloc: Global, name: &str, count: u32) ->
         "decode" => packets::decodes(&input, count),
         "step" => packets::ways(alloc, &input, 1, count),
         "way" => packets::ways(alloc, &input, usize::MAX, count),
-        "bad-mac" => packets::flawed(alloc, &input, Flaw::Authenticator, count),
-        "bad" => packets::flawed(alloc, &input, Flaw::Cut, count),
+        "bad-mac" => packets::step_flawed(alloc, &input, Flaw::Authenticator, count),
+        "bad" => packets::step_flawed(alloc, &input, Flaw::Cut, count),
         "parse-seq" => paths::parses(alloc, &input, count),
         "match" => paths::matches(alloc, &input, count),
         "verify" => paths::verifies(&input, count),
@@ -160,8 +160,8 @@ fn work<R: Threads + Wait + Sync + io::Input>(
         "packet-lines" => lines::lines(alloc, About::Packets, count),
         "beacon-lines" => lines::lines(alloc, About::Beacons, count),
         "request-lines" => lines::lines(alloc, About::Requests, count),
-        "sent-64" => carried::carried(alloc, 0, count),
-        "carried-64" => carried::carried(alloc, network::SECOND_END, count),
+        "sent-64" => carried::carry_all(alloc, 0, count),
+        "carried-64" => carried::carry_all(alloc, network::SECOND_END, count),
         _ => work_of_threads(rt, alloc, name, count),
     }
 }

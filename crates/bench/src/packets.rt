@@ -107,7 +107,7 @@ pub(crate) fn ways(alloc: Global, input: &Input, most: usize, count: u32) -> Res
 
 /// Gives a packet with a flaw to its first router `count` times, with another accumulator each
 /// time, and counts the refusals.
-pub(crate) fn flawed(alloc: Global, input: &Input, flaw: Flaw, count: u32) -> Result<u64> {
+pub(crate) fn step_flawed(alloc: Global, input: &Input, flaw: Flaw, count: u32) -> Result<u64> {
     let topology = Topology::from_json(alloc, input.topology.as_bytes())?;
     let (ia, router, arrival) = input.stops.first().context("the packet has no way")?;
     let view = topology.view(*ia, *router)?;

@@ -125,7 +125,7 @@ fn store(alloc: Global, src: IsdAs, dst: IsdAs) -> Result<PathStore> {
 }
 
 /// The number of segments that a lookup found.
-fn found(set: &SegmentSet) -> u64 {
+fn count_segments(set: &SegmentSet) -> u64 {
     (set.ups().len() as u64)
         .wrapping_add(set.cores().len() as u64)
         .wrapping_add(set.downs().len() as u64)
@@ -139,7 +139,7 @@ pub(crate) fn look_up(alloc: Global, count: u32) -> Result<u64> {
     let mut sum = 0u64;
     for turn in 0..count {
         let set = store.segments_for(alloc, src, dst, NOW + turn % 2)?;
-        sum = sum.wrapping_add(found(&set));
+        sum = sum.wrapping_add(count_segments(&set));
     }
     Ok(sum)
 }
@@ -151,7 +151,7 @@ pub(crate) fn copy(alloc: Global, count: u32) -> Result<u64> {
     let set = store(alloc, src, dst)?.segments_for(alloc, src, dst, NOW)?;
     let mut sum = 0u64;
     for _ in 0..count {
-        sum = sum.wrapping_add(found(&set.try_clone(alloc)?));
+        sum = sum.wrapping_add(count_segments(&set.try_clone(alloc)?));
     }
     Ok(sum)
 }

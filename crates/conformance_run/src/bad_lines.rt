@@ -1,7 +1,7 @@
 //! Bad lines, and first lines that are no topology.
 
 use crate::row::row_sent;
-use crate::table::{answers_of, expect_talk, lines_of, told};
+use crate::table::{answers_of, expect_talk, lines_of, run_over};
 use event_lines::RunFault;
 use std::alloc::Global;
 use std::test::Fail;
@@ -131,7 +131,7 @@ fn ends_at(alloc: Global, line: &str, answer: &str) -> Result<bool, Fail> {
     input.push_str("\n{\"do\":\"sweep\"}\n")?;
     let mut wanted = String::from_str(alloc, answer)?;
     wanted.push_str("\n")?;
-    let (result, output) = told(alloc, input.as_bytes());
+    let (result, output) = run_over(alloc, input.as_bytes());
     Ok(result == Err(RunFault::Topology) && output.as_slice() == wanted.as_bytes())
 }
 
@@ -148,7 +148,7 @@ fn no_topologies(rt: HostRuntime) -> Result<(), Fail> {
 
 /// Whether a run over these bytes replies that they are no JSON, and ends.
 fn is_no_json(alloc: Global, input: &[u8]) -> bool {
-    let (result, output) = told(alloc, input);
+    let (result, output) = run_over(alloc, input);
     result == Err(RunFault::Topology) && output.as_slice() == "topology no 10 NotJson\n".as_bytes()
 }
 
@@ -169,7 +169,7 @@ fn the_last_line_may_lack_its_end(rt: HostRuntime) -> Result<(), Fail> {
     input.push_str(r#"{"do":"turn","packet":0}"#)?;
     let mut wanted = answers_of(alloc, &[&row_sent()])?;
     wanted.push_str("link 1\n")?;
-    let (result, output) = told(alloc, input.as_bytes());
+    let (result, output) = run_over(alloc, input.as_bytes());
     assert!(rt; result.is_ok());
     assert!(rt; output.as_slice() == wanted.as_bytes());
     Ok(())

@@ -26,7 +26,7 @@ fn segment(alloc: Global, macs: [[u8; 6]; 3]) -> Result<Segment, Fail> {
 }
 
 /// The segment that the row's ASes issue at second 1000 with accumulator 4660.
-fn issued(alloc: Global) -> Result<Segment, Fail> {
+fn issued_segment(alloc: Global) -> Result<Segment, Fail> {
     segment(alloc, authenticators(b"a2"))
 }
 
@@ -111,14 +111,14 @@ fn answers(alloc: Global, segment: &Segment, other: Option<u16>) -> Result<[u16;
 
 #[test]
 fn what_was_issued_arrives(rt: HostRuntime) -> Result<(), Fail> {
-    let issued = issued(rt.alloc())?;
+    let issued = issued_segment(rt.alloc())?;
     assert_eq!(rt; answers(rt.alloc(), &issued, None)?, [0, 1, 1, 3]);
     Ok(())
 }
 
 #[test]
 fn another_accumulator_is_refused(rt: HostRuntime) -> Result<(), Fail> {
-    let issued = issued(rt.alloc())?;
+    let issued = issued_segment(rt.alloc())?;
     assert_eq!(rt;
         answers(rt.alloc(), &issued, Some(0x1234))?,
         [80, 130, 130, 130]

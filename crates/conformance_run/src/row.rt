@@ -62,7 +62,7 @@ pub(crate) fn row_turns() -> [Row; 3] {
 }
 
 /// All lines of the row, its packet's turns and what is asked of it then, and their answers.
-pub(crate) fn row_told(alloc: Global) -> Result<(String, String), Fail> {
+pub(crate) fn row_and_replies(alloc: Global) -> Result<(String, String), Fail> {
     let sent = row_sent();
     let [first, second, third] = row_turns();
     let shown = (

@@ -1,6 +1,6 @@
 //! Streams that give little at a time, that fail, and that do not end.
 
-use crate::row::{row_sent, row_told};
+use crate::row::{row_and_replies, row_sent};
 use crate::table::lines_of;
 use event_lines::{RunFault, run_lines};
 use std::alloc::Global;
@@ -156,7 +156,7 @@ fn ran<R: Read + Drop, W: Write + Drop>(
 #[test]
 fn reads_of_one_byte(rt: HostRuntime) -> Result<(), Fail> {
     let alloc = rt.alloc();
-    let (input, wanted) = row_told(alloc)?;
+    let (input, wanted) = row_and_replies(alloc)?;
     let reader = Slow {
         bytes: input.as_bytes(),
         at_most: 1,
@@ -171,7 +171,7 @@ fn reads_of_one_byte(rt: HostRuntime) -> Result<(), Fail> {
 /// Whether a run answers exactly the lines that were read whole, if its reads give at most this
 /// many bytes and fail after this number.
 fn answers_what_was_read(alloc: Global, at_most: usize, reads: u32) -> Result<bool, Fail> {
-    let (input, wanted) = row_told(alloc)?;
+    let (input, wanted) = row_and_replies(alloc)?;
     let reader = Slow {
         bytes: input.as_bytes(),
         at_most,
@@ -200,7 +200,7 @@ fn each_read_fails(rt: HostRuntime) -> Result<(), Fail> {
 /// Whether a run whose reads give little at a time ends without a fault after all replies, or with
 /// this writer's fault after a beginning of them.
 fn writes_a_front(alloc: Global, writer: Narrow) -> Result<bool, Fail> {
-    let (input, wanted) = row_told(alloc)?;
+    let (input, wanted) = row_and_replies(alloc)?;
     let reader = Slow {
         bytes: input.as_bytes(),
         at_most: 50,
@@ -231,7 +231,7 @@ fn each_flush_fails(rt: HostRuntime) -> Result<(), Fail> {
     for flushes in 0..15 {
         assert!(rt; writes_a_front(alloc, Narrow::new(alloc, 4096, u32::MAX, flushes))?);
     }
-    let (input, _) = row_told(alloc)?;
+    let (input, _) = row_and_replies(alloc)?;
     let writer = Narrow::new(alloc, 4096, u32::MAX, 0);
     let (result, _) = ran(alloc, input.as_bytes(), writer)?;
     assert!(rt; result == Err(RunFault::Write));
@@ -241,7 +241,7 @@ fn each_flush_fails(rt: HostRuntime) -> Result<(), Fail> {
 #[test]
 fn answers_are_flushed_before_the_next_read(rt: HostRuntime) -> Result<(), Fail> {
     let alloc = rt.alloc();
-    let (input, wanted) = row_told(alloc)?;
+    let (input, wanted) = row_and_replies(alloc)?;
     let answered = Cell::new(0);
     let reader = Patient {
         bytes: input.as_bytes(),
@@ -261,7 +261,7 @@ fn answers_are_flushed_before_the_next_read(rt: HostRuntime) -> Result<(), Fail>
 #[test]
 fn a_write_that_takes_nothing(rt: HostRuntime) -> Result<(), Fail> {
     let alloc = rt.alloc();
-    let (input, _) = row_told(alloc)?;
+    let (input, _) = row_and_replies(alloc)?;
     let writer = Narrow::new(alloc, 0, u32::MAX, u32::MAX);
     let (result, output) = ran(alloc, input.as_bytes(), writer)?;
     assert!(rt; result == Err(RunFault::Write));

@@ -10,7 +10,7 @@ use streams::{Reader, Writer};
 pub(crate) type Row = (&'static str, &'static str);
 
 /// The output of a run over this input, and how the run ends.
-pub(crate) fn told(alloc: Global, input: &[u8]) -> (Result<(), RunFault>, Vec<u8>) {
+pub(crate) fn run_over(alloc: Global, input: &[u8]) -> (Result<(), RunFault>, Vec<u8>) {
     let mut source = Reader::new(input);
     let mut sink = Writer::new(Vec::new(alloc));
     let result = run_lines(alloc, &mut source, &mut sink);
@@ -47,7 +47,7 @@ fn talk(alloc: Global, first: &[Row], then: &[Row]) -> Result<(String, String), 
     let tables = [first, then];
     let input = lines_of(alloc, &tables)?;
     let wanted = answers_of(alloc, &tables)?;
-    let (result, output) = told(alloc, input.as_bytes());
+    let (result, output) = run_over(alloc, input.as_bytes());
     result?;
     let answers = String::from_str(alloc, std::str::from_utf8(&output)?)?;
     Ok((answers, wanted))

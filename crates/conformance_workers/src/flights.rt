@@ -36,7 +36,7 @@ pub(crate) fn after_turn<'a>(flight: Flight<'a>) -> Flight<'a>
 }
 
 /// The network with a packet from the row's last AS to its first.
-fn sent(alloc: Global) -> Result<Net, Fail> {
+fn network_with_packet(alloc: Global) -> Result<Net, Fail> {
     let net = network(alloc, &[(last(), first())], &Shortage::new());
     Ok(net.ok_or(AllocError)?)
 }
@@ -53,7 +53,7 @@ fn refusal(alloc: Global, net: &Net, topology: &str) -> Result<Option<TopologyFa
 
 #[test]
 fn three_turns_deliver(rt: HostRuntime) -> Result<(), Fail> {
-    let net = sent(rt.alloc())?;
+    let net = network_with_packet(rt.alloc())?;
     let packet = net.packet(0).ok_or(EventFault::NoPacket)?;
     let flight = Flight::new(rt.alloc(), net.topology(), packet.sent())?;
     let flight = after_turn(after_turn(after_turn(flight)));
@@ -65,7 +65,7 @@ fn three_turns_deliver(rt: HostRuntime) -> Result<(), Fail> {
 
 #[test]
 fn a_flight_needs_its_first_as(rt: HostRuntime) -> Result<(), Fail> {
-    let net = sent(rt.alloc())?;
+    let net = network_with_packet(rt.alloc())?;
     let refusal = refusal(rt.alloc(), &net, ELSEWHERE)?;
     assert_eq!(rt; refusal, Some(TopologyFault::UnknownAs));
     Ok(())
@@ -73,7 +73,7 @@ fn a_flight_needs_its_first_as(rt: HostRuntime) -> Result<(), Fail> {
 
 #[test]
 fn a_flight_needs_its_first_interface(rt: HostRuntime) -> Result<(), Fail> {
-    let net = sent(rt.alloc())?;
+    let net = network_with_packet(rt.alloc())?;
     let refusal = refusal(rt.alloc(), &net, RENUMBERED)?;
     assert_eq!(rt; refusal, Some(TopologyFault::NoLink));
     Ok(())
@@ -81,7 +81,7 @@ fn a_flight_needs_its_first_interface(rt: HostRuntime) -> Result<(), Fail> {
 
 #[test]
 fn an_inbox_of_one_place_hands_the_second_flight_back(rt: HostRuntime) -> Result<(), Fail> {
-    let net = sent(rt.alloc())?;
+    let net = network_with_packet(rt.alloc())?;
     let packet = net.packet(0).ok_or(EventFault::NoPacket)?;
     let first = Flight::new(rt.alloc(), net.topology(), packet.sent())?;
     let second = after_turn(Flight::new(rt.alloc(), net.topology(), packet.sent())?);

@@ -97,7 +97,7 @@ pub(crate) fn flights_of<'n>(
 }
 
 /// The report of a run. One that runs out of memory has made no turn, and is repeated.
-fn reported<R: Threads + Wait + Sync>(
+fn report_of<R: Threads + Wait + Sync>(
     rt: &R,
     alloc: Global,
     case: Case<'_>,
@@ -134,7 +134,7 @@ fn expect_ends<R: Threads + Wait + Sync + Abort + Print>(
     requires few { case.slots ≤ 4096 }
 {
     let shortage = Shortage::new();
-    let report = reported(rt, alloc, case, &shortage).ok_or(AllocError)??;
+    let report = report_of(rt, alloc, case, &shortage).ok_or(AllocError)??;
     shortage.tell(rt);
     assert_eq!(rt; report.ends(), ends);
     Ok(())
@@ -184,7 +184,7 @@ fn a_run_has_one_to_eight_workers(rt: HostRuntime) -> Result<(), Fail> {
             workers,
             slots: 2,
         };
-        let report = reported(&rt, rt.alloc(), case, &shortage).ok_or(AllocError)?;
+        let report = report_of(&rt, rt.alloc(), case, &shortage).ok_or(AllocError)?;
         shortage.tell(&rt);
         assert_eq!(rt; report.err(), Some(RunFault::Workers));
     }

@@ -18,7 +18,7 @@ with_answer (Err refused) packet = record packet { answer = refused }
 -- a packet after the step on it
 unfoldable pub packet_after : View → ℕ → ScionPacket → ScionPacket
 packet_after view now packet =
-    with_answer (step_at view now packet.came packet.interface packet.bytes.now) packet
+    with_answer (step_at view now packet.arrival packet.interface packet.bytes.now) packet
 
 -- the packets after a step on each, in their order, or why there is no such router
 abbrev pub packets_told : ScionRouter → ℕ → List ScionPacket → Result (List ScionPacket) ScionAnswer

@@ -44,6 +44,6 @@ previous_told key = if length key == 0 then None else Some key
 
 -- how a packet came, from its number
 abbrev pub arrival_told : ℕ → ℕ → Option Arrival
-arrival_told came interface =
-    if came == 0 then Some FromHost else if came == 1 then Some Inside
-    else if came == 2 then Some (Link interface) else None
+arrival_told number interface =
+    if number == 0 then Some FromHost else if number == 1 then Some Inside
+    else if number == 2 then Some (Link interface) else None

@@ -24,15 +24,15 @@ view_told router = do
 
 -- the step of a router with this view, on a packet that came in this way
 abbrev pub step_at : View → ℕ → ℕ → ℕ → List ℕ → Result (Outcome × List ℕ) ScionAnswer
-step_at view now came interface packet = do
-  arrival ← or_bad_call (arrival_told came interface)
-  refused_as refusal_answer (packet_step view now arrival packet)
+step_at view now arrival interface packet = do
+  way ← or_bad_call (arrival_told arrival interface)
+  refused_as refusal_answer (packet_step view now way packet)
 
 -- the step of a router of these parts
 abbrev pub step_told : ScionRouter → ℕ → ℕ → ℕ → List ℕ → Result (Outcome × List ℕ) ScionAnswer
-step_told router now came interface packet = do
+step_told router now arrival interface packet = do
   view ← view_told router
-  step_at view now came interface packet
+  step_at view now arrival interface packet
 
 -- the step succeeds, and the answer is the outcome; or the answer is the refusal, and the packet is
 -- as it was

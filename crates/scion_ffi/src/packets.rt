@@ -15,7 +15,7 @@ use scion_topology::RouterView;
 fn step_one(view: &RouterView<'_>, now: u32, packet: &mut ScionPacket<'_>)
     ensures { packet.new ≡ packet_after view.now now packet.old }
 {
-    packet.answer = step_packet(view, now, packet.came, packet.interface, packet.bytes);
+    packet.answer = step_packet(view, now, packet.arrival, packet.interface, packet.bytes);
 }
 
 /// One step on each packet, in their order.

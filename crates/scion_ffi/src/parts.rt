@@ -126,10 +126,10 @@ pub(crate) fn view<'r>(
 }
 
 /// How a packet came.
-pub(crate) fn arrival(came: u8, interface: u16) -> Option<Arrival>
-    ensures { result ≡ arrival_told came interface }
+pub(crate) fn arrival_of(number: u8, interface: u16) -> Option<Arrival>
+    ensures { result ≡ arrival_told number interface }
 {
-    match came {
+    match number {
         0 => Some(Arrival::FromHost),
         1 => Some(Arrival::Inside),
         2 => Some(Arrival::Link(IfId(interface))),

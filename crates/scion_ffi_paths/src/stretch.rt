@@ -52,7 +52,7 @@ pub(crate) fn pieces<'s>(
 }
 
 /// The pieces of a path, unless there are more than three.
-pub(crate) fn joined<'s>(list: &[Piece<'s>]) -> Result<Pieces<'s>, VerifyFault>
+pub(crate) fn join<'s>(list: &[Piece<'s>]) -> Result<Pieces<'s>, VerifyFault>
     ensures value { IfOk result (λ pieces. pieces ≡ list.now) }
     ensures few { IsOk result → length list.now ≤ 3 }
     ensures only { length list.now ≤ 3 → IsOk result }

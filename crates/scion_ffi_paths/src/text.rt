@@ -155,7 +155,7 @@ pub(crate) fn paths(
 
 /// A path that may be sent.
 #[tactic(auto, unfolding(crate::specs::Text::accepted_json))]
-pub(crate) fn accepted(
+pub(crate) fn verified_path(
     alloc: Global,
     path: &VerifiedPath<'_, '_, Global>,
 ) -> Result<String, AllocError>

@@ -13,7 +13,7 @@ ghost use Rattle.scion_ffi_paths.specs.Verdict.{AnswersVerdict, AnswersVerify, I
 use crate::fault::{RequestError, RequestFault};
 use crate::request::Request;
 use crate::room::{ScionText, put};
-use crate::stretch::{joined, pieces};
+use crate::stretch::{join, pieces};
 use crate::text;
 use event_lines::fields::read_bytes;
 use json_fields::{Document, JsonRoom, Node};
@@ -54,7 +54,7 @@ fn path_verdict(
 {
     let (src, dst, now) = (request.src, request.dst, request.moment);
     match verify(pieces, header, src, dst, now, policy) {
-        Ok(path) => Ok(text::accepted(alloc, &path)?),
+        Ok(path) => Ok(text::verified_path(alloc, &path)?),
         Err(fault) => Err(OrMemory::Refused(RequestFault::Path(fault))),
     }
 }
@@ -76,7 +76,7 @@ fn verdict_under(
         Ok((header, _)) => header,
         Err(fault) => return Err(OrMemory::Refused(RequestFault::Header(fault))),
     };
-    let pieces = match joined(list) {
+    let pieces = match join(list) {
         Ok(pieces) => pieces,
         Err(fault) => return Err(OrMemory::Refused(RequestFault::Path(fault))),
     };

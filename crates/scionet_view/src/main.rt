@@ -22,7 +22,7 @@ use std::env;
 use std::process::ExitCode;
 use step_line::StepCommand;
 use streams::{MAX_INPUT_LEN, Reader, Sink, Source, Writer, read_all, write_all};
-use words::{Subject, View, asked};
+use words::{Subject, View, read_view};
 
 /// The words after the program's name.
 fn words_behind(rt: &HostRuntime) -> Result<Vec<String>, CommandFault> {
@@ -72,7 +72,7 @@ fn show<'a, S: Source, K: Sink>(
     source: &mut S,
     sink: &mut K,
 ) -> Result<(), CommandFault> {
-    let view = asked(alloc, words)?;
+    let view = read_view(alloc, words)?;
     let text = view_text(alloc, &view, source)?;
     write_all(sink, text.as_bytes())?;
     Ok(())

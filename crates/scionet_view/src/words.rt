@@ -190,7 +190,7 @@ fn path(matches: &ArgMatches<'_>) -> Option<View> {
 }
 
 /// The view of the matches, if there is one.
-fn view_asked(alloc: Global, matches: &ArgMatches<'_>) -> Result<Option<View>, AllocError> {
+fn view_in(alloc: Global, matches: &ArgMatches<'_>) -> Result<Option<View>, AllocError> {
     let Some((name, given)) = matches.subcommand() else {
         return Ok(None);
     };
@@ -211,12 +211,12 @@ fn view_asked(alloc: Global, matches: &ArgMatches<'_>) -> Result<Option<View>, A
 /// [`WordsFault::Usage`] with the text of `clap`, if it refuses the words or they ask for help. The
 /// same fault with the text `scionet_view: usage`, if the words give no turn or a number can't be
 /// read. [`WordsFault::Memory`] if memory runs out.
-pub(crate) fn asked<'a>(alloc: Global, words: &'a [&'a str]) -> Result<View, WordsFault> {
+pub(crate) fn read_view<'a>(alloc: Global, words: &'a [&'a str]) -> Result<View, WordsFault> {
     let matches = match program(alloc)?.try_get_matches_from(words) {
         Ok(matches) => matches,
         Err(error) => return Err(explain_refusal(alloc, &error)),
     };
-    match view_asked(alloc, &matches)? {
+    match view_in(alloc, &matches)? {
         Some(view) => Ok(view),
         None => Err(usage(alloc)?),
     }

@@ -8,7 +8,7 @@ use Rattle.scion_ffi.proofs.packets.step_each.Goals as goal
 
 pub loop-packet-preserved : goal.loop-packet-preserved
 loop-packet-preserved c =
-    let none : ScionPacket = record { bytes = record { ref_ptr = (0, 0); ghost_name = 0; now = [] }; interface = 0; answer = answer 0 0; came = 0 } in
+    let none : ScionPacket = record { bytes = record { ref_ptr = (0, 0); ghost_name = 0; now = [] }; interface = 0; answer = answer 0 0; arrival = 0 } in
     let i = c.loop-packet.packet-index in
     let x = slice_index_or c.loop-packet.packets i none in
     let below : i < length c.loop-packet.packets = omega arith in
