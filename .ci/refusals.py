@@ -124,6 +124,10 @@ def number_at(text, term):
     below. Nothing if the row passes on all refusals of a type."""
     if own := re.fullmatch(r'\((\d+), codes "(\w+)"\)', term):
         return int(own[1]), own[2]
+    if one := re.fullmatch(r"(\w+)\.(\w+)", term):
+        file = re.search(rf"^use Rattle\.(\w+)\.specs\.(\w+) as {one[1]}$", text, re.M)
+        below = Path("crates", file[1], "specs", f"{file[2]}.antt").read_text()
+        return number_at(below, re.search(rf"^{one[2]} = (.*)$", below, re.M)[1])
     if one := re.fullmatch(r"(\w+)\.code_and_name \w+\.(\w+)", term):
         below = re.search(rf"^use Rattle\.(\w+)\.specs\.\w+ as {one[1]}$", text, re.M)[1]
         (type_name, *_), *_ = TYPES[below]

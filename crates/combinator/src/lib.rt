@@ -25,6 +25,6 @@ pub use answer::{Paths, paths_between};
 pub use choice::{Choice, paths_with};
 pub use combination::combine;
 pub use fault::{CombineError, CombineFault};
-pub use limit::{MAX_PATHS, is_limit};
+pub use limit::{BAD_LIMIT, MAX_PATHS, is_limit};
 pub use path::{Path, PathList};
 pub use path_verifier::OwnedPiece;

@@ -1,5 +1,5 @@
 -- The refusals of a daemon, as lines of text report them.
-use Rattle.std.specs.Prelude.{ℕ, List, codes}
+use Rattle.std.specs.Prelude.{ℕ, List}
 use Rattle.policy_expr.specs.Options as options
 use Rattle.combinator.specs.Fault as ends
 use Rattle.combinator.specs.declared.fault.CombineFault.TheVariants as end
@@ -10,7 +10,7 @@ use Rattle.daemon_cache.specs.declared.fault.AskFault.TheVariants.{BadLimit, Opt
 
 -- the number and the name of a refusal
 abbrev pub code_and_name : AskFault → ℕ × List ℕ
-code_and_name BadLimit = (137, codes "BadLimit")
+code_and_name BadLimit = ends.bad_limit
 code_and_name (Options fault) = options.code_and_name fault
 code_and_name SameAs = ends.code_and_name end.SameAs
 code_and_name NoEntry = boards.code_and_name board.NoEntry

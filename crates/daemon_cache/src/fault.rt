@@ -1,6 +1,6 @@
 ghost use Rattle.daemon_cache.specs.Fault as faults;
 
-use combinator::CombineFault;
+use combinator::{BAD_LIMIT, CombineFault};
 use policy_expr::OptionFault;
 use refusal::{NumberedFault, OrMemory};
 use segment_board::BoardFault;
@@ -28,7 +28,7 @@ impl NumberedFault for AskFault {
 
     fn code_and_name(self) -> (u16, &'static str) {
         match self {
-            Self::BadLimit => (137, "BadLimit"),
+            Self::BadLimit => BAD_LIMIT,
             Self::Options(fault) => fault.code_and_name(),
             Self::SameAs => CombineFault::SameAs.code_and_name(),
             Self::NoEntry => BoardFault::NoEntry.code_and_name(),

@@ -12,7 +12,7 @@ use std::alloc::{AllocError, Global};
 use std::str;
 
 /// How deep arrays and objects may nest, as in `serde_json`.
-const MAX_DEPTH: usize = 127;
+pub const MAX_DEPTH: usize = 127;
 
 /// The value of a JSON text. Its texts are borrowed.
 #[derive(Drop)]

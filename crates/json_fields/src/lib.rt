@@ -15,7 +15,7 @@ mod node_list;
 mod numbers;
 mod room;
 
-pub use document::Document;
+pub use document::{Document, MAX_DEPTH};
 pub use each::items;
 pub use node::Node;
 pub use node_list::NodeList;

@@ -24,6 +24,6 @@ code_and_name NoAnswer = (133, codes "NoAnswer")
 code_and_name TimeBack = (134, codes "TimeBack")
 code_and_name PayloadTooLong = (135, codes "PayloadTooLong")
 code_and_name BadOffset = (136, codes "BadOffset")
-code_and_name BadLimit = (137, codes "BadLimit")
+code_and_name BadLimit = combination.bad_limit
 code_and_name TooMany = (138, codes "TooMany")
 code_and_name NotDelivered = (139, codes "NotDelivered")

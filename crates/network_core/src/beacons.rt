@@ -22,7 +22,7 @@ use scion_topology::TopologyFault;
 use std::alloc::Global;
 
 /// The largest number of beacons, of answers, and of packets.
-pub(crate) const MAX_OBJECTS: usize = 1_000_000;
+pub const MAX_OBJECTS: usize = 1_000_000;
 
 impl Net {
     /// Sets the time of the network.

@@ -1,7 +1,7 @@
 ghost use Rattle.network_core.specs.Fault as faults;
 
 use beaconing::BeaconFault;
-use combinator::CombineFault;
+use combinator::{BAD_LIMIT, CombineFault};
 use path_server::StoreFault;
 use path_verifier::VerifyFault;
 use policy_expr::OptionFault;
@@ -80,7 +80,7 @@ impl NumberedFault for EventFault {
             Self::TimeBack => (134, "TimeBack"),
             Self::PayloadTooLong => (135, "PayloadTooLong"),
             Self::BadOffset => (136, "BadOffset"),
-            Self::BadLimit => (137, "BadLimit"),
+            Self::BadLimit => BAD_LIMIT,
             Self::TooMany => (138, "TooMany"),
             Self::NotDelivered => (139, "NotDelivered"),
         }

@@ -17,9 +17,11 @@ mod sending;
 mod turning;
 mod way;
 
+pub use beacons::MAX_OBJECTS;
 pub use event::{Event, Given};
 pub use fault::EventFault;
 pub use net::Net;
 pub use packet::{Packet, Sent};
 pub use reply::Reply;
 pub use running::{Stopped, run};
+pub use sending::MAX_PAYLOAD_LEN;

@@ -30,7 +30,7 @@ use router_step::{destination_in, read_header, source_in};
 use std::alloc::{AllocError, Global};
 
 /// The largest number of bytes of a payload.
-const MAX_PAYLOAD: usize = 1024;
+pub const MAX_PAYLOAD_LEN: usize = 1024;
 
 impl Net {
     /// Sends a packet by a path of an answer.
@@ -213,7 +213,7 @@ fn check_payload(payload: &[u8]) -> Result<(), EventError>
         (check (nat_le (length payload.now) 1024) faults.PayloadTooLong) }
     ensures few { IfOk result (λ _. length payload.now ≤ 1024) }
 {
-    if payload.len() > MAX_PAYLOAD {
+    if payload.len() > MAX_PAYLOAD_LEN {
         return Err(OrMemory::Refused(EventFault::PayloadTooLong));
     }
     Ok(())

@@ -10,12 +10,12 @@ ghost use Rattle.router_step.specs.Packet.{header_in};
 use crate::part::{Part, add_hex, add_parts, lens_part, place_part};
 use hop_mac::expiry;
 use isd_as::IsdAs;
-use path_header::{Header, HopField, InfoField};
-use router_step::{destination_in, read_header, source_in};
+use path_header::{HOP_LEN, Header, HopField, INFO_LEN, InfoField, META_LEN};
+use router_step::{ADDRESSES_LEN, destination_in, read_header, source_in};
 use std::alloc::{AllocError, Global};
 
-/// The length of the addresses in front of the path header.
-const ADDRESSES_LEN: usize = 16;
+/// Where the fields after the meta field begin.
+const FIELDS_START: usize = ADDRESSES_LEN + META_LEN;
 
 /// Adds the line of `len` bytes of the packet from this place on, with their meaning.
 #[tactic(auto, unfolding(crate::specs::Fields::field_text))]
@@ -245,7 +245,7 @@ fn add_info_at(
         ≡ string_bytes text.old ++ info_field_text_at packet.now header.now index) }
 {
     header.known();
-    let start = 20 + 8 * index;
+    let start = FIELDS_START + INFO_LEN * index;
     add_info(alloc, text, packet, start, index, &header.info(index))
 }
 
@@ -278,7 +278,7 @@ fn add_hop_at(
 {
     header.known();
     let timestamp = header.info(header.segment_of(index)).timestamp;
-    let start = 20 + 8 * header.info_count() + 12 * index;
+    let start = FIELDS_START + INFO_LEN * header.info_count() + HOP_LEN * index;
     let hop = header.hop(index);
     add_hop(alloc, text, packet, start, index, timestamp, &hop)
 }

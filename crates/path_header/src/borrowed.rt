@@ -6,10 +6,13 @@ ghost use Rattle.path_header.specs.Shown.{has_header, header_at_front};
 use crate::checking::check;
 use crate::fault::HeaderFault;
 use crate::fields::{HopField, InfoField};
-use crate::lens::SegLens;
+use crate::lens::{HOP_LEN, INFO_LEN, META_LEN, SegLens};
 use crate::meta::Meta;
 use crate::reading::{hop_in, info_in, meta_in, word_of};
 use crate::writing::put;
+
+/// Where the accumulator of the first info field begins.
+const SEG_ID_START: usize = META_LEN + 2;
 
 /// Does nothing; its contract tells the caller what holds for bytes that begin with a header.
 fn begins(bytes: &[u8])
@@ -145,7 +148,7 @@ impl<'a> HeaderMut<'a> {
         ensures { slice_get (value_of self.now).infos index ≡ Some result }
     {
         self.known();
-        let (_, rest) = self.bytes.split_at(4 + 8 * index);
+        let (_, rest) = self.bytes.split_at(META_LEN + INFO_LEN * index);
         info_in(rest)
     }
 
@@ -156,7 +159,8 @@ impl<'a> HeaderMut<'a> {
         ensures { slice_get (value_of self.now).hops index ≡ Some result }
     {
         self.known();
-        let (_, rest) = self.bytes.split_at(4 + 8 * self.info_count() + 12 * index);
+        let start = META_LEN + INFO_LEN * self.info_count() + HOP_LEN * index;
+        let (_, rest) = self.bytes.split_at(start);
         hop_in(rest)
     }
 
@@ -209,7 +213,11 @@ impl<'a> HeaderMut<'a> {
         ensures same_reference { self.new.bytes.ghost_name ≡ self.old.bytes.ghost_name }
     {
         self.known();
-        put(self.bytes, 6 + 8 * info, &seg_id.to_be_bytes());
+        put(
+            self.bytes,
+            SEG_ID_START + INFO_LEN * info,
+            &seg_id.to_be_bytes(),
+        );
     }
 
     /// Sets the current info field and the current hop field; only the first byte changes.

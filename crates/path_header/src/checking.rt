@@ -5,6 +5,7 @@ ghost use Rattle.path_header.specs.Reading.{info_at, hop_at, fields_at, header_a
 ghost use Rattle.path_header.specs.Shown.{judged};
 
 use crate::fault::HeaderFault;
+use crate::lens::{HOP_LEN, INFO_LEN, META_LEN};
 use crate::reading::{check_hop, check_info, meta_of};
 
 /// Checks `count` info fields, one after another.
@@ -14,7 +15,7 @@ fn check_infos(bytes: &[u8], count: usize) -> Result<(), HeaderFault>
     ensures { result ≡ judged (fields_at info_at 8 count bytes.now) }
 {
     for i in 0..count {
-        let (_, rest) = bytes.split_at(8 * i);
+        let (_, rest) = bytes.split_at(INFO_LEN * i);
         check_info(rest)?;
     }
     Ok(())
@@ -27,7 +28,7 @@ fn check_hops(bytes: &[u8], count: usize) -> Result<(), HeaderFault>
     ensures { result ≡ judged (fields_at hop_at 12 count bytes.now) }
 {
     for i in 0..count {
-        let (_, rest) = bytes.split_at(12 * i);
+        let (_, rest) = bytes.split_at(HOP_LEN * i);
         check_hop(rest)?;
     }
     Ok(())
@@ -41,9 +42,9 @@ pub(crate) fn check(bytes: &[u8]) -> Result<(), HeaderFault>
     let meta = meta_of(bytes)?;
     let info_count = meta.lens.info_count();
     let hop_count = meta.lens.hop_count();
-    let (_, after_meta) = bytes.split_at(4);
+    let (_, after_meta) = bytes.split_at(META_LEN);
     check_infos(after_meta, info_count)?;
-    let (_, after_infos) = bytes.split_at(4 + 8 * info_count);
+    let (_, after_infos) = bytes.split_at(META_LEN + INFO_LEN * info_count);
     check_hops(after_infos, hop_count)?;
     if usize::from(meta.curr_inf) >= info_count || usize::from(meta.curr_hf) >= hop_count {
         return Err(HeaderFault::BadIndex);

@@ -4,13 +4,13 @@ ghost use Rattle.path_header.specs.Building.{first_header, new_header};
 
 use crate::fault::HeaderFault;
 use crate::fields::{HopField, InfoField};
-use crate::lens::{MAX_HOPS, SegLens};
+use crate::lens::{HOP_LEN, INFO_LEN, MAX_HOPS, META_LEN, SegLens};
 use arrayvec::ArrayVec;
 use std::marker::Model;
 
 /// The largest number of bytes of a path header, 796: 4 of the meta field, 8 for each of three info
 /// fields, and 12 for each of 64 hop fields.
-pub const MAX_HEADER_LEN: usize = 4 + 8 * 3 + 12 * MAX_HOPS;
+pub const MAX_HEADER_LEN: usize = META_LEN + 3 * INFO_LEN + MAX_HOPS * HOP_LEN;
 
 /// A path header: the fields of one to three segments, and the place of the packet on the path.
 ///

@@ -5,11 +5,20 @@ ghost use Rattle.path_header.specs.Reversal.{reversed_lens};
 
 use crate::fault::HeaderFault;
 
+/// The length of a meta field in bytes.
+pub const META_LEN: usize = 4;
+
+/// The length of an info field in bytes.
+pub const INFO_LEN: usize = 8;
+
+/// The length of a hop field in bytes.
+pub const HOP_LEN: usize = 12;
+
 /// The largest number of hop fields of a path.
 pub const MAX_HOPS: usize = 64;
 
 /// The largest length of a segment, which has six bits.
-const MAX_SEGMENT_HOPS: u8 = 63;
+pub const MAX_SEGMENT_HOPS: u8 = 63;
 
 /// The number of hop fields in each of the up to three segments of a path; 0 means no segment.
 #[derive(Clone, Copy, Debug, PartialEq, Eq)]
@@ -41,12 +50,11 @@ impl SegLens {
         usize::from(self.first) + usize::from(self.second) + usize::from(self.third)
     }
 
-    /// The length in bytes of a header with these lengths: 4, and 8 for each info field and 12 for
-    /// each hop field.
+    /// The length in bytes of a header with these lengths.
     pub(crate) fn encoded_len(self) -> usize
         ensures { result ≡ len_for self }
     {
-        4 + 8 * self.info_count() + 12 * self.hop_count()
+        META_LEN + INFO_LEN * self.info_count() + HOP_LEN * self.hop_count()
     }
 
     /// These lengths, or why no path header may have them.

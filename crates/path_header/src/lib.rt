@@ -22,6 +22,6 @@ pub use borrowed::HeaderMut;
 pub use fault::HeaderFault;
 pub use fields::{HopField, InfoField};
 pub use header::{Header, MAX_HEADER_LEN};
-pub use lens::{MAX_HOPS, SegLens};
+pub use lens::{HOP_LEN, INFO_LEN, MAX_HOPS, MAX_SEGMENT_HOPS, META_LEN, SegLens};
 pub use reading::decode;
 pub use writing::encode;

@@ -7,7 +7,7 @@ ghost use Rattle.refusal.specs.Refusal.{Gives};
 use crate::fault::HeaderFault;
 use crate::fields::{HopField, InfoField};
 use crate::header::Header;
-use crate::lens::{MAX_HOPS, SegLens};
+use crate::lens::{HOP_LEN, INFO_LEN, MAX_HOPS, META_LEN, SegLens};
 use crate::meta::Meta;
 use arrayvec::ArrayVec;
 use isd_as::IfId;
@@ -174,7 +174,7 @@ fn infos_of(bytes: &[u8], count: usize) -> Result<ArrayVec<InfoField, 3>, Header
 {
     let mut infos = ArrayVec::new();
     for i in 0..count {
-        let (_, rest) = bytes.split_at(8 * i);
+        let (_, rest) = bytes.split_at(INFO_LEN * i);
         infos.push(info_of(rest)?);
     }
     Ok(infos)
@@ -190,7 +190,7 @@ fn hops_of(bytes: &[u8], count: usize) -> Result<ArrayVec<HopField, MAX_HOPS>, H
 {
     let mut hops = ArrayVec::new();
     for i in 0..count {
-        let (_, rest) = bytes.split_at(12 * i);
+        let (_, rest) = bytes.split_at(HOP_LEN * i);
         hops.push(hop_of(rest)?);
     }
     Ok(hops)
@@ -204,9 +204,9 @@ fn header_of(bytes: &[u8]) -> Result<Header, HeaderFault>
     let meta = meta_of(bytes)?;
     let info_count = meta.lens.info_count();
     let hop_count = meta.lens.hop_count();
-    let (_, after_meta) = bytes.split_at(4);
+    let (_, after_meta) = bytes.split_at(META_LEN);
     let infos = infos_of(after_meta, info_count)?;
-    let (_, after_infos) = bytes.split_at(4 + 8 * info_count);
+    let (_, after_infos) = bytes.split_at(META_LEN + INFO_LEN * info_count);
     let hops = hops_of(after_infos, hop_count)?;
     if usize::from(meta.curr_inf) >= info_count || usize::from(meta.curr_hf) >= hop_count {
         return Err(HeaderFault::BadIndex);

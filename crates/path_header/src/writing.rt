@@ -7,6 +7,7 @@ ghost use Rattle.path_header.specs.Spelling.{meta_of, meta_word, info_spelling, 
 use crate::fault::HeaderFault;
 use crate::fields::{HopField, InfoField};
 use crate::header::Header;
+use crate::lens::{HOP_LEN, INFO_LEN, META_LEN};
 
 /// Writes the encoding of this header to the front of the room, and returns its length in bytes.
 ///
@@ -34,8 +35,8 @@ fn put_header(room: &mut [u8], header: &Header)
     ensures rest { drop (header_len header.now) room.new ≡ drop (header_len header.now) room.old }
 {
     put(room, 0, &meta_bytes(header));
-    put_infos(room, 4, &header.infos);
-    put_hops(room, 4 + 8 * header.infos.len(), &header.hops);
+    put_infos(room, META_LEN, &header.infos);
+    put_hops(room, META_LEN + INFO_LEN * header.infos.len(), &header.hops);
 }
 
 /// Writes these bytes to this place of the room.
@@ -110,7 +111,7 @@ fn put_infos(room: &mut [u8], at: usize, infos: &[InfoField])
     ensures fits { AllByRecursion InfoFits infos.now }
 {
     for (i, info) in infos.iter().enumerate() {
-        put(room, at + 8 * i, &info_bytes(info));
+        put(room, at + INFO_LEN * i, &info_bytes(info));
     }
 }
 
@@ -124,6 +125,6 @@ fn put_hops(room: &mut [u8], at: usize, hops: &[HopField])
     ensures fits { AllByRecursion HopFits hops.now }
 {
     for (i, hop) in hops.iter().enumerate() {
-        put(room, at + 12 * i, &hop_bytes(*hop));
+        put(room, at + HOP_LEN * i, &hop_bytes(*hop));
     }
 }

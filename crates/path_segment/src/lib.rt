@@ -22,4 +22,5 @@ pub use beacon::Beacon;
 pub use entry::Entry;
 pub use fault::{SegmentError, SegmentFault};
 pub use kind::SegKind;
+pub use rules::{MAX_BEACON_LEN, MAX_SEGMENT_LEN};
 pub use segment::Segment;

@@ -7,10 +7,10 @@ use crate::fault::SegmentFault;
 use isd_as::{IfId, IsdAs};
 
 /// The largest number of entries of a beacon. A segment may have one more: that of its last AS.
-pub(crate) const MAX_BEACON_LEN: usize = 62;
+pub const MAX_BEACON_LEN: usize = 62;
 
 /// The largest number of entries of a segment.
-const MAX_SEGMENT_LEN: usize = 63;
+pub const MAX_SEGMENT_LEN: usize = 63;
 
 /// The first rule that a segment of these entries breaks.
 #[tactic(auto, unfolding(crate::specs::Rules::segment_fault))]

@@ -17,5 +17,6 @@ mod store;
 
 pub use fault::{StoreError, StoreFault};
 pub use op::StoreOp;
+pub use same_ends::MAX_ALIKE;
 pub use set::SegmentSet;
 pub use store::PathStore;

@@ -14,7 +14,7 @@ use crate::index::range;
 use path_segment::Segment;
 
 /// The largest number of segments with the same kind, first AS and last AS.
-const MAX_ALIKE: usize = 32;
+pub const MAX_ALIKE: usize = 32;
 
 /// The answer to a registration, before memory is requested.
 #[tactic(auto, unfolding(crate::specs::Store::answer_to))]

@@ -41,16 +41,16 @@ tree_code (optional a) = gcons (gnum 0) (tree_code a)
 tree_code (repeated a) = gcons (gnum 1) (tree_code a)
 tree_code (once_or_more a) = gcons (gnum 2) (tree_code a)
 
-abbrev hop_from : Gv → Tree
-hop_from gnil = hop (record { ia = 0; interfaces = Any })
-hop_from (gnum n) = hop (record { ia = 0; interfaces = Any })
-hop_from (gcons ia interfaces) =
+abbrev coded_hop : Gv → Tree
+coded_hop gnil = hop (record { ia = 0; interfaces = Any })
+coded_hop (gnum n) = hop (record { ia = 0; interfaces = Any })
+coded_hop (gcons ia interfaces) =
     hop (record { ia = number_from ia; interfaces = interfaces_from interfaces })
 
 abbrev pub tree_from : Gv → Tree
-tree_from gnil = hop_from gnil
-tree_from (gnum n) = hop_from gnil
-tree_from (gcons gnil pred) = hop_from pred
+tree_from gnil = coded_hop gnil
+tree_from (gnum n) = coded_hop gnil
+tree_from (gcons gnil pred) = coded_hop pred
 tree_from (gcons (gnum kind) a) = unary kind (tree_from a)
 tree_from (gcons (gcons kind a) b) = binary (number_from kind) (tree_from a) (tree_from b)
 

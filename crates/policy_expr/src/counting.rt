@@ -11,11 +11,14 @@ use crate::room::Tokens;
 use crate::token::Token;
 
 /// The largest number of parentheses open at once.
-pub(crate) const MAX_OPEN: usize = 32;
+pub const MAX_NESTING: usize = 32;
 
-/// The weight of the tokens of a sequence of 256 nodes. A predicate weighs 2 and a sign after an
-/// item weighs 1; the sum is one more than the number of nodes.
-const MAX_WEIGHT: usize = 257;
+/// The largest number of nodes of a sequence.
+pub const MAX_NODES: usize = 256;
+
+/// The weight of the tokens of the largest sequence. A predicate weighs 2 and a sign after an item
+/// weighs 1; the sum is one more than the number of nodes.
+const MAX_WEIGHT: usize = MAX_NODES + 1;
 
 /// The first refusal of a sequence's text with these tokens. Takes no memory.
 pub(crate) fn check_tokens(all: Tokens<'_>) -> Result<(), PolicyFault>
@@ -69,7 +72,7 @@ impl Place {
                 depth,
                 has_item: true,
             }),
-            Token::Open if depth < MAX_OPEN => Ok(Place {
+            Token::Open if depth < MAX_NESTING => Ok(Place {
                 depth: depth + 1,
                 has_item: false,
             }),

@@ -12,7 +12,7 @@ use separators::text::{trim, trim_start};
 use std::alloc::Allocator;
 
 /// The largest number of entries of a list.
-const MAX_ENTRIES: usize = 256;
+pub const MAX_ACL_ENTRIES: usize = 256;
 
 /// The first refusal of a list's texts. Takes no memory.
 pub(crate) fn check_acl(text: &AclText) -> Result<(), PolicyFault>
@@ -32,7 +32,7 @@ fn check_entries(texts: &[String]) -> Result<(), PolicyFault>
         is_other_bare = is_other_bare || is_last_bare;
         is_last_bare = is_bare;
     }
-    if texts.len() > MAX_ENTRIES {
+    if texts.len() > MAX_ACL_ENTRIES {
         return Err(PolicyFault::TooLarge);
     }
     if !is_last_bare {

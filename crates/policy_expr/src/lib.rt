@@ -30,11 +30,13 @@ mod token;
 
 pub use acl::{Acl, AclEntry, Denied};
 pub use acl_text::AclText;
+pub use counting::{MAX_NESTING, MAX_NODES};
+pub use entry::MAX_ACL_ENTRIES;
 pub use fault::{PolicyError, PolicyFault};
 pub use hop::{HopPred, Interfaces, WalkHop};
 pub use node::SeqNode;
 pub use option_fault::{OptionError, OptionFault};
-pub use options::{OptionText, PolicyOption};
+pub use options::{MAX_OPTIONS, OptionText, PolicyOption};
 pub use owned_option::OwnedOptionText;
 pub use policy::{Policy, PolicyText};
 pub use sequence::Seq;

@@ -30,30 +30,30 @@ impl<A: Allocator + Clone> SeqNode<A> {
         match self {
             SeqNode::Hop(pred) => Ok(SeqNode::Hop(*pred)),
             SeqNode::Then(first, second) => {
-                let first = boxed_result(alloc, first.clone_in(alloc))?;
-                let second = boxed_result(alloc, second.clone_in(alloc))?;
+                let first = box_result(alloc, first.clone_in(alloc))?;
+                let second = box_result(alloc, second.clone_in(alloc))?;
                 Ok(SeqNode::Then(first, second))
             }
             SeqNode::Or(first, second) => {
-                let first = boxed_result(alloc, first.clone_in(alloc))?;
-                let second = boxed_result(alloc, second.clone_in(alloc))?;
+                let first = box_result(alloc, first.clone_in(alloc))?;
+                let second = box_result(alloc, second.clone_in(alloc))?;
                 Ok(SeqNode::Or(first, second))
             }
             SeqNode::Optional(item) => {
-                Ok(SeqNode::Optional(boxed_result(alloc, item.clone_in(alloc))?))
+                Ok(SeqNode::Optional(box_result(alloc, item.clone_in(alloc))?))
             }
             SeqNode::Repeated(item) => {
-                Ok(SeqNode::Repeated(boxed_result(alloc, item.clone_in(alloc))?))
+                Ok(SeqNode::Repeated(box_result(alloc, item.clone_in(alloc))?))
             }
             SeqNode::OnceOrMore(item) => {
-                Ok(SeqNode::OnceOrMore(boxed_result(alloc, item.clone_in(alloc))?))
+                Ok(SeqNode::OnceOrMore(box_result(alloc, item.clone_in(alloc))?))
             }
         }
     }
 }
 
 /// The node in a box of a copy of the allocator.
-pub(crate) fn boxed<A: Allocator + Clone>(
+pub(crate) fn box_node<A: Allocator + Clone>(
     alloc: &A,
     node: SeqNode<A>,
 ) -> Result<Box<SeqNode<A>, A>, AllocError>
@@ -63,23 +63,23 @@ pub(crate) fn boxed<A: Allocator + Clone>(
 }
 
 /// The node in a box, if there was memory for it.
-fn boxed_result<A: Allocator + Clone>(
+fn box_result<A: Allocator + Clone>(
     alloc: &A,
     node: Result<SeqNode<A>, AllocError>,
 ) -> Result<Box<SeqNode<A>, A>, AllocError>
     ensures { IfOk result (λ b. node ≡ Ok b.value) }
 {
-    boxed(alloc, node?)
+    box_node(alloc, node?)
 }
 
 /// Both nodes in boxes.
-pub(crate) fn both_boxed<A: Allocator + Clone>(
+pub(crate) fn box_both<A: Allocator + Clone>(
     alloc: &A,
     one: SeqNode<A>,
     other: SeqNode<A>,
 ) -> Result<(Box<SeqNode<A>, A>, Box<SeqNode<A>, A>), AllocError>
     ensures { IfOk result (λ boxes. (boxes.0.value ≡ one) × (boxes.1.value ≡ other)) }
 {
-    let one = boxed(alloc, one)?;
-    Ok((one, boxed(alloc, other)?))
+    let one = box_node(alloc, one)?;
+    Ok((one, box_node(alloc, other)?))
 }

@@ -9,7 +9,7 @@ use std::alloc::{AllocError, Allocator};
 use std::marker::Model;
 
 /// The largest number of options of a request.
-const MAX_OPTIONS: usize = 16;
+pub const MAX_OPTIONS: usize = 16;
 
 /// The texts of a policy, and its weight among the options of a request.
 #[derive(Drop)]

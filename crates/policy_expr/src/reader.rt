@@ -6,9 +6,9 @@ ghost use Rattle.policy_expr.specs.Language.{either, followed, tree_of};
 ghost use Rattle.policy_expr.specs.Reading.{item_behind, new_level, read_rest, whole};
 ghost use Rattle.policy_expr.specs.inner.Views.{GoesOn, gives, gives_behind, level_of, remaining};
 
-use crate::counting::MAX_OPEN;
+use crate::counting::MAX_NESTING;
 use crate::fault::{PolicyError, PolicyFault};
-use crate::node::{SeqNode, both_boxed, boxed};
+use crate::node::{SeqNode, box_both, box_node};
 use crate::room::Tokens;
 use crate::token::Token;
 use std::alloc::{AllocError, Allocator};
@@ -59,7 +59,7 @@ fn join_choices<A: Allocator + Clone>(
     match choices {
         None => Ok(item),
         Some(choices) => {
-            let (choices, item) = both_boxed(alloc, choices, item)?;
+            let (choices, item) = box_both(alloc, choices, item)?;
             Ok(SeqNode::Or(choices, item))
         }
     }
@@ -77,7 +77,7 @@ fn join_before<A: Allocator + Clone>(
     match before {
         None => Ok(item),
         Some(before) => {
-            let (before, item) = both_boxed(alloc, before, item)?;
+            let (before, item) = box_both(alloc, before, item)?;
             Ok(SeqNode::Then(before, item))
         }
     }
@@ -149,7 +149,7 @@ impl<A: Allocator + Clone> Reader<A> {
         requires { self.old.item ≡ None }
         ensures { GoesOn (λ rest. gives self.old (signs.Open ∷ rest)) self.new result }
     {
-        if self.levels.len() >= MAX_OPEN {
+        if self.levels.len() >= MAX_NESTING {
             return Err(PolicyError::Refused(PolicyFault::TooDeep));
         }
         let outer = mem::replace(&mut self.level, Level::new());
@@ -165,15 +165,15 @@ impl<A: Allocator + Clone> Reader<A> {
     {
         match token {
             Token::Optional => {
-                self.item = Some(SeqNode::Optional(boxed(&self.alloc, item)?));
+                self.item = Some(SeqNode::Optional(box_node(&self.alloc, item)?));
                 Ok(())
             }
             Token::OnceOrMore => {
-                self.item = Some(SeqNode::OnceOrMore(boxed(&self.alloc, item)?));
+                self.item = Some(SeqNode::OnceOrMore(box_node(&self.alloc, item)?));
                 Ok(())
             }
             Token::Repeated => {
-                self.item = Some(SeqNode::Repeated(boxed(&self.alloc, item)?));
+                self.item = Some(SeqNode::Repeated(box_node(&self.alloc, item)?));
                 Ok(())
             }
             Token::Or => {

@@ -18,7 +18,7 @@ use path_header::{Header, HeaderFault, HeaderMut, decode};
 use scion_topology::RouterView;
 
 /// The length of the addresses in front of the path header, destination and source.
-const ADDRESSES_LEN: usize = 16;
+pub const ADDRESSES_LEN: usize = 16;
 
 /// One step of the router with this view, at the second `now`, on a packet that came to it by
 /// `arrival`. It returns where the packet goes and changes its path header, or returns the first

@@ -14,7 +14,7 @@ use Rattle.scion_ffi_paths.specs.declared.fault.RequestFault.TheVariants.{BadReq
 abbrev pub code_and_name : RequestFault → ℕ × List ℕ
 code_and_name BadRequest = (150, codes "BadRequest")
 code_and_name (Segment fault) = segments.code_and_name fault
-code_and_name BadLimit = (137, codes "BadLimit")
+code_and_name BadLimit = ends.bad_limit
 code_and_name (Policy fault) = options.code_and_name fault
 code_and_name (Ends fault) = ends.code_and_name fault
 code_and_name (Header fault) = headers.code_and_name fault

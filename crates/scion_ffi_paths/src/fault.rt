@@ -2,7 +2,7 @@ ghost use Rattle.std.specs.Prelude.{◌≡◌};
 ghost use Rattle.scion_ffi_paths.specs.Fault as faults;
 ghost use Rattle.scion_ffi_paths.specs.Fault.{of_segment};
 
-use combinator::CombineFault;
+use combinator::{BAD_LIMIT, CombineFault};
 use path_header::HeaderFault;
 use path_segment::SegmentFault;
 use path_verifier::VerifyFault;
@@ -55,7 +55,7 @@ impl NumberedFault for RequestFault {
         match self {
             Self::BadRequest => (150, "BadRequest"),
             Self::Segment(fault) => fault.code_and_name(),
-            Self::BadLimit => (137, "BadLimit"),
+            Self::BadLimit => BAD_LIMIT,
             Self::Policy(fault) => fault.code_and_name(),
             Self::Ends(fault) => fault.code_and_name(),
             Self::Header(fault) => fault.code_and_name(),

@@ -43,7 +43,7 @@ impl<'a> AsLookup<'a> {
     }
 
     /// The AS of this address.
-    pub(crate) fn named(&self, ia: IsdAs) -> Option<&AsEntry>
+    pub(crate) fn get(&self, ia: IsdAs) -> Option<&AsEntry>
         ensures { option_copied result ≡ as_named self.now ia }
     {
         let Ok(indexes) = &self.indexes else {
@@ -59,7 +59,7 @@ impl<'a> AsLookup<'a> {
     pub(crate) fn has(&self, ia: IsdAs) -> bool
         ensures { result ≡ is_listed self.now ia }
     {
-        self.named(ia).is_some()
+        self.get(ia).is_some()
     }
 
     /// The indexes of these ASes, with the interfaces at the ends of these links.

@@ -32,7 +32,7 @@ impl Topology {
     pub fn rotate_key(&mut self, ia: IsdAs, key: &[u8]) -> Result<(), TopologyFault>
         ensures { Becomes (rotated ia key.now self.old) self.old self.new result }
     {
-        let (_, index) = self.indexed(ia)?;
+        let (_, index) = self.as_and_index(ia)?;
         let place = index.position;
         let key = Key::new(key)?;
         put_key(&mut self.ases, place, key);

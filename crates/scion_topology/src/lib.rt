@@ -29,4 +29,5 @@ pub use fault::{ReadError, TopologyFault};
 pub use keys::{Key, Keys, MAX_KEY_LEN};
 pub use network::{AsEntry, AsInfo, End, Link, LinkClass};
 pub use topology::Topology;
+pub use validation::{MAX_ASES, MAX_LINKS};
 pub use view::RouterView;

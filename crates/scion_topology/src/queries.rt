@@ -34,7 +34,7 @@ impl Topology {
     pub fn as_info(&self, ia: IsdAs) -> Result<AsInfo, TopologyFault>
         ensures { result ≡ info_in self.now ia }
     {
-        let (one, index) = self.indexed(ia)?;
+        let (one, index) = self.as_and_index(ia)?;
         Ok(AsInfo {
             position: index.position,
             core: one.core,
@@ -82,7 +82,7 @@ impl Topology {
     {
         // Reading a field makes the type's invariants known here.
         let _ = &self.links;
-        let (one, index) = self.indexed(ia)?;
+        let (one, index) = self.as_and_index(ia)?;
         if router >= one.routers {
             return Err(TopologyFault::NoRouter);
         }
@@ -95,7 +95,7 @@ impl Topology {
         ensures named { MatchResult result (λ one. as_named self.now.ases ia ≡ Some one.now)
             (λ _. as_named self.now.ases ia ≡ None) }
     {
-        let (one, _) = self.indexed(ia)?;
+        let (one, _) = self.as_and_index(ia)?;
         Ok(one)
     }
 
@@ -106,7 +106,7 @@ impl Topology {
     {
         // Reading a field makes the type's invariants known here.
         let _ = &self.links;
-        let (_, index) = self.indexed(ia)?;
+        let (_, index) = self.as_and_index(ia)?;
         index.table.get(number).ok_or(TopologyFault::NoLink)
     }
 
@@ -120,7 +120,7 @@ impl Topology {
 
     /// An AS and its index.
     #[inline]
-    pub(crate) fn indexed(&self, ia: IsdAs) -> Result<(&AsEntry, &AsIndex), TopologyFault>
+    pub(crate) fn as_and_index(&self, ia: IsdAs) -> Result<(&AsEntry, &AsIndex), TopologyFault>
         ensures { Gives (λ x. (x.0.now, value_of_index x.1.now)) result (index_in self.now ia) }
     {
         let Some(index) = self.indexes.get(ia) else {
@@ -136,7 +136,7 @@ impl Topology {
     {
         // Reading a field makes the type's invariants known here.
         let _ = &self.links;
-        let (_, index) = self.indexed(ia)?;
+        let (_, index) = self.as_and_index(ia)?;
         index.place(number).ok_or(TopologyFault::NoLink)
     }
 

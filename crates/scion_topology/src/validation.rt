@@ -12,10 +12,10 @@ use isd_as::{IfId, IsdAs};
 use std::alloc::Global;
 
 /// The largest number of ASes of a topology.
-const MAX_ASES: usize = 1024;
+pub const MAX_ASES: usize = 1024;
 
 /// The largest number of links of a topology.
-const MAX_LINKS: usize = 4096;
+pub const MAX_LINKS: usize = 4096;
 
 /// The first fault of these ASes and links, if they are no network. Each rule is checked for the
 /// whole lists before the next.
@@ -67,7 +67,7 @@ fn is_any_end_unknown(listed: &AsLookup<'_>, links: &[Link]) -> bool
 fn lacks_router(listed: &AsLookup<'_>, end: &End) -> bool
     ensures { result ≡ lacks_router listed.now end.now }
 {
-    match listed.named(end.ia) {
+    match listed.get(end.ia) {
         Some(one) => one.routers <= end.router,
         None => false,
     }
@@ -90,7 +90,7 @@ fn is_any_router_missing(listed: &AsLookup<'_>, links: &[Link]) -> bool
 fn is_core(listed: &AsLookup<'_>, ia: IsdAs) -> bool
     ensures { result ≡ is_core listed.now ia }
 {
-    match listed.named(ia) {
+    match listed.get(ia) {
         Some(one) => one.core,
         None => false,
     }

@@ -14,22 +14,22 @@ returns-in_err-is_bare c =
     cc (c.in_err-is_bare.ensures, c.as_str.ensures.value) in
     rw (p.1, p.2) (judged_refused string_bytes c.args.texts.now c.loop-text.text-index _ _ c.loop-text.invariant c.text-item.result c.in_err-is_bare.field-0.0 c.loop-text-test.true c.text-item.is read)
 
-pub returns-then-texts-gt-MAX_ENTRIES : goal.returns-then-texts-gt-MAX_ENTRIES
-returns-then-texts-gt-MAX_ENTRIES c =
+pub returns-then-texts-gt-MAX_ACL_ENTRIES : goal.returns-then-texts-gt-MAX_ACL_ENTRIES
+returns-then-texts-gt-MAX_ACL_ENTRIES c =
     judged_end string_bytes c.args.texts.now c.loop-text.text-index _ _ c.loop-text.invariant _ c.loop-text-test.false
-    (λ n count. too_large n _ _ (rw count c.if-texts-gt-MAX_ENTRIES.true))
+    (λ n count. too_large n _ _ (rw count c.if-texts-gt-MAX_ACL_ENTRIES.true))
 
 pub returns-then-not-is_last_bare : goal.returns-then-not-is_last_bare
 returns-then-not-is_last_bare c =
     judged_end string_bytes c.args.texts.now c.loop-text.text-index _ _ c.loop-text.invariant _ c.loop-text-test.false
-    (λ n count. no_default n _ _ (rw count c.if-texts-gt-MAX_ENTRIES.false) c.if-not-is_last_bare.true)
+    (λ n count. no_default n _ _ (rw count c.if-texts-gt-MAX_ACL_ENTRIES.false) c.if-not-is_last_bare.true)
 
 pub returns-then-is_other_bare-2 : goal.returns-then-is_other_bare-2
 returns-then-is_other_bare-2 c =
     judged_end string_bytes c.args.texts.now c.loop-text.text-index _ _ c.loop-text.invariant _ c.loop-text-test.false
-    (λ n count. after_default n _ _ (rw count c.if-texts-gt-MAX_ENTRIES.false) c.if-not-is_last_bare.false c.if-is_other_bare-2.true)
+    (λ n count. after_default n _ _ (rw count c.if-texts-gt-MAX_ACL_ENTRIES.false) c.if-not-is_last_bare.false c.if-is_other_bare-2.true)
 
 pub returns : goal.returns
 returns c =
     judged_end string_bytes c.args.texts.now c.loop-text.text-index _ _ c.loop-text.invariant _ c.loop-text-test.false
-    (λ n count. no_fault n _ _ (rw count c.if-texts-gt-MAX_ENTRIES.false) c.if-not-is_last_bare.false c.if-is_other_bare-2.false)
+    (λ n count. no_fault n _ _ (rw count c.if-texts-gt-MAX_ACL_ENTRIES.false) c.if-not-is_last_bare.false c.if-is_other_bare-2.false)

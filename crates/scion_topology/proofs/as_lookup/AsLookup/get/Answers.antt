@@ -9,7 +9,7 @@ use Rattle.scion_topology.specs.declared.network.AsEntry.{AsEntry}
 use Rattle.scion_topology.specs.Network.{Network}
 use Rattle.scion_topology.specs.Index.{value_of_index}
 use Rattle.scion_topology.proofs.Indexes.{index_in-some, unlisted}
-use Rattle.scion_topology.proofs.as_lookup.AsLookup.named.Goals as goal
+use Rattle.scion_topology.proofs.as_lookup.AsLookup.get.Goals as goal
 
 -- what stands at a place that is within the list
 got : (ases : List AsEntry) (k : ℕ) (o : Option (Bor AsEntry)) → is_some o ≡ ltb k (length ases) → IfSome o (λ x. x.now ≡ get_or ases k x.now) → k < length ases → option_copied o ≡ slice_get ases k

@@ -3,7 +3,7 @@ use Rattle.std.proofs.Common.{◌∙◌, sym, arith}
 use Rattle.scion_topology.specs.Index.{value_of_index}
 use Rattle.scion_topology.specs.Network.{Network}
 use Rattle.scion_topology.proofs.Indexes.{index_in-none, index_in-some}
-use Rattle.scion_topology.proofs.topology.Topology.indexed.Goals as goal
+use Rattle.scion_topology.proofs.topology.Topology.as_and_index.Goals as goal
 
 pub returns-in_default : goal.returns-in_default
 returns-in_default c =
