@@ -72,6 +72,20 @@ impl<A: Allocator + Clone> Policy<A> {
         Ok(Policy { acl, sequence })
     }
 
+    /// The access control list, if there is one.
+    pub fn acl(&self) -> Option<&Acl<A>>
+        ensures { option_map (λ acl. acl.now) result ≡ self.now.acl }
+    {
+        self.acl.as_ref()
+    }
+
+    /// The sequence, if there is one.
+    pub fn sequence(&self) -> Option<&Seq<A>>
+        ensures { option_map (λ sequence. sequence.now) result ≡ self.now.sequence }
+    {
+        self.sequence.as_ref()
+    }
+
     /// A copy of this policy in another allocator, unless memory runs out.
     pub fn clone_in<B: Allocator + Clone>(&self, alloc: B) -> Result<Policy<B>, AllocError>
         ensures { IfOk result (λ p. p ≡ self.now) }

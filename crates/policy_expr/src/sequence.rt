@@ -1,7 +1,7 @@
 ghost use Rattle.std.specs.Prelude.{◌≡◌, ◌↔◌, ◌≤◌, ℕ, List, IsTrue, IfErr, IfOk, Ok};
 ghost use Rattle.std.specs.String.{string_bytes};
 ghost use Rattle.refusal.specs.Refusal.{Answers};
-ghost use Rattle.policy_expr.specs.Language.{Lang, Tree};
+ghost use Rattle.policy_expr.specs.Language.{Lang, Tree, tree_of};
 ghost use Rattle.policy_expr.specs.Printing.{IsSequence, printed};
 ghost use Rattle.policy_expr.specs.Grammar.{SpellsSequence};
 ghost use Rattle.policy_expr.specs.Reading.{node_count, sequence_at, IsTextRefusal};
@@ -111,6 +111,13 @@ impl<A: Allocator + Clone> Seq<A> {
         ensures again { sequence_at (printed self.now) ≡ Ok self.now }
     {
         let _ = &self.root;
+    }
+
+    /// The node at the top of its tree. Takes no memory.
+    pub fn root(&self) -> &SeqNode<A>
+        ensures { tree_of result.now ≡ self.now }
+    {
+        &self.root
     }
 
     /// Its text, with no parentheses that the tree can do without. There is one space for following
