@@ -1,6 +1,6 @@
 -- Reading a segment from JSON: an object with the named members and any others, in any order. A
 -- whole number is written without fraction and exponent.
-use Rattle.std.specs.Prelude.{ℕ, if◌then◌else◌, codes, List, Option, Some, None, Result, Err}
+use Rattle.std.specs.Prelude.{ℕ, if◌then◌else◌, codes, List, Option, Some, None, IsSome, Result, Err}
 use Rattle.std.specs.Result.{result_ok}
 use Rattle.std.specs.Str.{bytes_eq}
 use Rattle.hex.specs.Hex.{decode_sized}
@@ -50,6 +50,13 @@ entry_in d = do
     exp_time = exp_time;
     mac = mac;
   })
+
+-- the object has a kind, a timestamp and a first accumulator in their form, and a list of entries
+abbrev pub HasMembers : Data → Type 0
+HasMembers d = IsSome (segment_kind_at (codes "kind") d)
+    × IsSome (whole_at 0 4294967295 (codes "timestamp") d)
+    × IsSome (whole_at 0 65535 (codes "beta0") d)
+    × IsSome (list_at (codes "entries") d)
 
 -- the chain of an object in this form; the rules of segments are not checked yet
 unfoldable pub chain_at : Data → Option Chain

@@ -1,7 +1,8 @@
-ghost use Rattle.std.specs.Prelude.{◌≡◌};
+ghost use Rattle.std.specs.Prelude.{◌≡◌, IfErr, IsTrue};
+ghost use Rattle.std.specs.Str.{is_utf8};
 ghost use Rattle.json_fields.specs.Documents.{node_data};
 ghost use Rattle.refusal.specs.Refusal.{Reads};
-ghost use Rattle.path_segment.specs.Reading.{any_address_in, mac_at, segment_kind_at, entry_in, chain_at, chain_or_fault, segment_in};
+ghost use Rattle.path_segment.specs.Reading.{any_address_in, mac_at, segment_kind_at, entry_in, HasMembers, chain_at, chain_or_fault, segment_in};
 
 use crate::entry::Entry;
 use crate::fault::{SegmentError, SegmentFault};
@@ -22,9 +23,13 @@ impl Segment {
     /// ignored.
     ///
     /// [`SegmentFault::NotJson`] if the text is not of this form, and then the refusals of
-    /// [`Segment::new`]. Running out of memory is [`OrMemory::Memory`].
+    /// [`Segment::new`]. Running out of memory is [`OrMemory::Memory`], which comes only if the
+    /// bytes are UTF-8.
+    #[tactic(auto, unfolding(json_fields::specs::Fields::document_in))]
     pub fn from_json(alloc: Global, bytes: &[u8]) -> Result<Segment, SegmentError>
-        ensures { Reads (λ s. s) result (segment_in bytes.now) }
+        ensures value { Reads (λ s. s) result (segment_in bytes.now) }
+        ensures wanted { IfErr result (λ error. error ≡ OrMemory.Memory
+            → IsTrue (is_utf8 bytes.now)) }
     {
         let mut room = JsonRoom::new(alloc);
         let document = Document::read(alloc, &mut room, bytes)?.ok_or(SegmentFault::NotJson)?;
@@ -32,10 +37,13 @@ impl Segment {
     }
 
     /// The segment that an object of a JSON text describes, in the form and with the refusals of
-    /// [`Segment::from_json`]; or memory runs out.
+    /// [`Segment::from_json`]; or memory runs out, which it can only if `kind`, `timestamp` and
+    /// `beta0` are right and `entries` is a list.
     #[tactic(auto, unfolding(crate::specs::Reading::chain_at))]
     pub fn from_object(alloc: Global, object: &Node<'_, '_>) -> Result<Segment, SegmentError>
-        ensures { Reads (λ s. s) result (chain_or_fault (chain_at (node_data object.now))) }
+        ensures value { Reads (λ s. s) result (chain_or_fault (chain_at (node_data object.now))) }
+        ensures wanted { IfErr result (λ error. error ≡ OrMemory.Memory
+            → HasMembers (node_data object.now)) }
     {
         let kind = kind(object, "kind").ok_or(SegmentFault::NotJson)?;
         let timestamp = object

@@ -1,4 +1,5 @@
-ghost use Rattle.std.specs.Prelude.{◌≡◌, Err, IfSome, IsTrue};
+ghost use Rattle.std.specs.Prelude.{◌≡◌, Err, IfErr, IfSome, IsTrue};
+ghost use Rattle.std.specs.Str.{is_utf8};
 ghost use Rattle.std.specs.List.{list_all};
 ghost use Rattle.json_fields.specs.Documents.{node_data};
 ghost use Rattle.refusal.specs.Refusal.{Reads, unless};
@@ -55,9 +56,13 @@ impl Topology {
     /// The refusals, each checked for the whole text before the next: [`TopologyFault::NotJson`],
     /// [`TopologyFault::BadField`], [`TopologyFault::TooMany`], [`TopologyFault::DuplicateAs`],
     /// [`TopologyFault::UnknownAs`], [`TopologyFault::NoRouter`], [`TopologyFault::BadKind`],
-    /// [`TopologyFault::DuplicateIf`]. Running out of memory is [`OrMemory::Memory`].
+    /// [`TopologyFault::DuplicateIf`]. Running out of memory is [`OrMemory::Memory`], which comes
+    /// only if the bytes are UTF-8.
+    #[tactic(auto, unfolding(json_fields::specs::Fields::document_in))]
     pub fn from_json(alloc: Global, bytes: &[u8]) -> Result<Topology, ReadError>
-        ensures { Reads (λ n. n) result (network_in bytes.now) }
+        ensures value { Reads (λ n. n) result (network_in bytes.now) }
+        ensures wanted { IfErr result (λ error. error ≡ OrMemory.Memory
+            → IsTrue (is_utf8 bytes.now)) }
     {
         let mut room = JsonRoom::new(alloc);
         let document = Document::read(alloc, &mut room, bytes)?.ok_or(TopologyFault::NotJson)?;
