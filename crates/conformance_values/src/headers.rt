@@ -246,21 +246,34 @@ fn accumulator_is_set_where_it_stands(rt: HostRuntime) -> Result<(), Fail> {
     Ok(())
 }
 
-/// Each refusal of a header in borrowed bytes: the bytes stay as they were, which no contract says.
+/// The first bytes of a header with some of them changed, and a payload behind it.
+fn room_with(changes: &[(usize, u8)]) -> [u8; 48] {
+    let mut room = [0xee; 48];
+    for (byte, value) in room.iter_mut().zip(&up_with(changes)) {
+        *byte = *value;
+    }
+    room
+}
+
+/// Each refusal of a header in borrowed bytes, in rooms that end within its first field, within its
+/// last, behind it, and behind a payload: the bytes stay as they were, which no contract says.
 #[test]
 fn refused_bytes_stay(rt: HostRuntime) {
-    let refused: [(&[(usize, u8)], u16); 7] = [
-        (&[(1, 0x03), (2, 0xf0), (3, 0x40)], 20),
-        (&[(1, 0x04)], 21),
-        (&[(4, 0x02)], 22),
-        (&[(12, 0x01)], 23),
-        (&[(2, 0x00)], 24),
-        (&[(1, 0x02), (2, 0x18)], 25),
-        (&[(0, 0x40)], 26),
+    let refused: [(&[(usize, u8)], [u16; 4]); 7] = [
+        (&[(1, 0x03), (2, 0xf0), (3, 0x40)], [20, 20, 20, 20]),
+        (&[(1, 0x04)], [20, 21, 21, 21]),
+        (&[(4, 0x02)], [20, 20, 22, 22]),
+        (&[(12, 0x01)], [20, 20, 23, 23]),
+        (&[(2, 0x00)], [20, 24, 24, 24]),
+        (&[(1, 0x02), (2, 0x18)], [20, 25, 25, 25]),
+        (&[(0, 0x40)], [20, 20, 26, 26]),
     ];
-    for (changes, code) in refused {
-        let mut bytes = up_with(changes);
-        assert_eq!(rt; code_of(HeaderMut::new(&mut bytes)), code);
-        assert_eq!(rt; bytes, up_with(changes));
+    for (changes, codes) in refused {
+        for (len, code) in [3, 35, 36, 48].iter().zip(&codes) {
+            let mut room = room_with(changes);
+            let bytes = &mut room[..(*len).min(48)];
+            assert_eq!(rt; code_of(HeaderMut::new(bytes)), *code);
+            assert_eq!(rt; room, room_with(changes));
+        }
     }
 }

@@ -47,7 +47,8 @@ impl<'a> HeaderMut<'a> {
     /// The header at the front of these bytes, which it borrows; with the refusals of
     /// [`crate::decode`], in their order.
     ///
-    /// It takes no memory and reads each field once, at most 3 info and 64 hop fields.
+    /// Bytes that it refuses stay as they were; that is tested, and no clause says it. It takes no
+    /// memory and reads each field once, at most 3 info and 64 hop fields.
     pub fn new(bytes: &'a mut [u8]) -> Result<HeaderMut<'a>, HeaderFault>
         ensures exact { Gives value_of result (header_at bytes.old) }
         ensures same_bytes { IfOk result (λ h. bytes_of h ≡ bytes.old) }
