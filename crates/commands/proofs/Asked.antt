@@ -1,6 +1,6 @@
 -- What a parse of the words says of what they ask for.
-use Rattle.std.proofs.Common.{◌≡◌, ◌∙◌, sym, ap, refl, subst, true, List, [], ◌∷◌, Option, None, inl, inr}
-use Rattle.std.specs.Prelude.{Err}
+use Rattle.std.proofs.Common.{◌≡◌, ◌∙◌, sym, ap, refl, subst, true, List, [], ◌∷◌, length, map, Option, Some, None, inl, inr, arith}
+use Rattle.std.specs.Prelude.{◌≢◌, Result, Err}
 use Rattle.clap.specs.Words.{Row, Text, is_simple, subcommand_of}
 use Rattle.clap.specs.Faults.{fault_of, is_simple_and_free}
 use Rattle.clap.specs.Kinds.{HasKind, IsAmong, Kinds}
@@ -8,9 +8,10 @@ use Rattle.clap.specs.declared.error.Error.{Error}
 use Rattle.clap.specs.declared.error.kind.ErrorKind.{ErrorKind}
 use Rattle.clap.proofs.OnLiterals.{clap_on_literals}
 use Rattle.commands.specs.declared.command.Command.{Command}
+use Rattle.commands.specs.declared.command.Command.TheVariants.{Run}
 use Rattle.commands.specs.declared.fault.WordsFault.{WordsFault}
 use Rattle.commands.specs.declared.fault.WordsFault.TheVariants.{Usage, Memory}
-use Rattle.commands.specs.Words.{asked, command_in, program_app, unless_faulty}
+use Rattle.commands.specs.Words.{asked, command_in, named_by, program_app, unless_faulty}
 use Rattle.commands.specs.Fault.{AsksFor, Explains, IsWordsFault}
 
 -- the command line is one whose matches and faults `clap` states
@@ -26,15 +27,31 @@ none_of : (kinds : Kinds) (kind : ErrorKind) (command : Option Command) → IsAm
 none_of [] kind command among = absurd among
 none_of (k ∷ ks) kind command among = refl
 
--- words that `clap` refuses ask for nothing
-pub asked-refused : (words : List Text) (error : Error) (fault : WordsFault) → Explains fault error
-    → HasKind (fault_of program_app words) error → AsksFor (Err fault) (asked words)
+-- no words ask for a run
+pub asked-nothing : {A : Type 0} (text : A → Text) (words : List A) → length words ≡ 0 → asked (map text words) ≡ Some Run
 unfolding asked
-asked-refused words error (Usage text) differs has = elim has [
+asked-nothing text [] none = refl
+asked-nothing text (word ∷ words) none = absurd (omega (none, arith))
+
+-- words ask for what they name
+pub asked-words : {A : Type 0} (text : A → Text) (words : List A) → length words ≢ 0
+    → asked (map text words) ≡ named_by (map text words)
+unfolding asked
+asked-words text [] some = absurd (some refl)
+asked-words text (word ∷ words) some = refl
+
+pub Asks-words : {A : Type 0} (words : List A) (text : A → Text) (answer : Result Command WordsFault) → length words ≢ 0
+    → AsksFor answer (named_by (map text words)) → AsksFor answer (asked (map text words))
+Asks-words words text answer some asks = subst (AsksFor answer) (sym (asked-words text words some)) asks
+
+-- words that `clap` refuses name nothing
+pub named-refused : (words : List Text) (error : Error) (fault : WordsFault) → Explains fault error
+    → HasKind (fault_of program_app words) error → AsksFor (Err fault) (named_by words)
+named-refused words error (Usage text) differs has = elim has [
   | inl memory ↦ absurd (differs memory)
   | inr among ↦ none_of (fault_of program_app words) _ _ among
 ]
-asked-refused words error Memory explained has = tt
+named-refused words error Memory explained has = tt
 
 -- it has a fault of its own for them, or memory ran out
 pub told-refused : (words : List Text) (error : Error) (fault : WordsFault) → Explains fault error
@@ -45,12 +62,11 @@ told-refused words error (Usage text) differs has none = elim has [
 ]
 told-refused words error Memory explained has none = tt
 
--- words that `clap` accepts ask for what the matches name
-pub asked-named : (words : List Text) (found : Option (Text × List Row)) (command : Option Command)
+-- words that `clap` accepts name what the matches name
+pub named-found : (words : List Text) (found : Option (Text × List Row)) (command : Option Command)
     → fault_of program_app words ≡ [] → found ≡ subcommand_of program_app words → command ≡ command_in found
-    → asked words ≡ command
-unfolding asked
-asked-named words found command none is named =
+    → named_by words ≡ command
+named-found words found command none is named =
     ap (λ kinds. unless_faulty kinds (command_in (subcommand_of program_app words))) none
     ∙ (ap command_in (sym is) ∙ sym named)
 

@@ -7,8 +7,8 @@ use Rattle.std.proofs.KnownBytes.{Keeps-refl}
 use Rattle.streams.specs.declared.fault.InputFault.{InputFault}
 use Rattle.streams.specs.declared.fault.InputFault.TheVariants as input
 use Rattle.streams.specs.Streams.{AppendsFront}
-use Rattle.step_line.specs.declared.fault.StepFault.{StepFault}
-use Rattle.step_line.specs.declared.fault.StepFault.TheVariants as step
+use Rattle.step_line.specs.declared.fault.TurnFault.{TurnFault}
+use Rattle.step_line.specs.declared.fault.TurnFault.TheVariants as turns
 use Rattle.step_line.specs.Turn.{Turn}
 use Rattle.step_line.specs.Line.{line_of}
 use Rattle.step_line.specs.Fault.{PrintsTurn as StepPrints}
@@ -24,7 +24,7 @@ use Rattle.commands.specs.declared.fault.WordsFault.{WordsFault}
 use Rattle.commands.specs.declared.fault.WordsFault.TheVariants as words
 use Rattle.commands.specs.declared.fault.CommandFault.{CommandFault}
 use Rattle.commands.specs.declared.fault.CommandFault.TheVariants.{Write, Memory}
-use Rattle.commands.specs.Fault.{AsksFor, of_input, of_step, of_words}
+use Rattle.commands.specs.Fault.{AsksFor, of_input, of_turn, of_words}
 use Rattle.commands.specs.Run.{Change, DoesCommand, IsUntouched, PrintsLine, ReadsInput, SetsFlag, Steps, change_of, whole_line}
 
 -- a stream that is left alone is still
@@ -39,11 +39,11 @@ Steps-unread (Ok x) fault turn source sink is read still = absurd is
 Steps-unread (Err e) fault turn source sink is read still = (Err fault, (read, (ap Err is, still)))
 
 -- so is a turn that gave no line
-pub Prints-fault : {A : Type 0} (answer : Result A CommandFault) (fault : StepFault) (line : Option (List ℕ)) (sink : Change)
-    → IsErrAnd answer (λ e. e ≡ of_step fault) → StepPrints {A = List ℕ} (Err fault) line → IsUntouched sink → PrintsLine answer line sink
+pub Prints-fault : {A : Type 0} (answer : Result A CommandFault) (fault : TurnFault) (line : Option (List ℕ)) (sink : Change)
+    → IsErrAnd answer (λ e. e ≡ of_turn fault) → StepPrints {A = List ℕ} (Err fault) line → IsUntouched sink → PrintsLine answer line sink
 Prints-fault (Ok x) fault line sink is none still = absurd is
-Prints-fault (Err e) step.PacketText line sink is none still = rw (is, none) still
-Prints-fault (Err e) step.Memory line sink is none still = rw is still
+Prints-fault (Err e) turns.PacketText line sink is none still = rw (is, none) still
+Prints-fault (Err e) turns.Memory line sink is none still = rw is still
 
 -- so is want of memory for the line's end
 pub Prints-memory : {A : Type 0} (answer : Result A CommandFault) (line : Option (List ℕ)) (sink : Change)

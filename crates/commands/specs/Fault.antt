@@ -6,8 +6,8 @@ use Rattle.clap.specs.declared.error.Error.{Error}
 use Rattle.clap.specs.declared.error.kind.ErrorKind.TheVariants.{OutOfMemory}
 use Rattle.streams.specs.declared.fault.InputFault.{InputFault}
 use Rattle.streams.specs.declared.fault.InputFault.TheVariants as input
-use Rattle.step_line.specs.declared.fault.StepFault.{StepFault}
-use Rattle.step_line.specs.declared.fault.StepFault.TheVariants as step
+use Rattle.step_line.specs.declared.fault.TurnFault.{TurnFault}
+use Rattle.step_line.specs.declared.fault.TurnFault.TheVariants as turns
 use Rattle.event_lines.specs.declared.fault.RunFault.{RunFault}
 use Rattle.event_lines.specs.declared.fault.RunFault.TheVariants as run
 use Rattle.work_lines.specs.declared.fault.WorkFault.{WorkFault}
@@ -19,6 +19,8 @@ use Rattle.commands.specs.declared.fault.WordsFault.{WordsFault}
 use Rattle.commands.specs.declared.fault.WordsFault.TheVariants as words
 use Rattle.commands.specs.declared.fault.CommandFault.{CommandFault}
 use Rattle.commands.specs.declared.fault.CommandFault.TheVariants.{Usage, PacketText, Topology, Workers, Read, Write, InputTooLong, Memory}
+use Rattle.commands.specs.declared.step_fault.StepFault.{StepFault}
+use Rattle.commands.specs.declared.step_fault.StepFault.TheVariants as step
 use Rattle.commands.specs.declared.status.Status.{Status}
 use Rattle.commands.specs.declared.status.Status.TheVariants.{Done, Failed, Refused}
 
@@ -39,6 +41,11 @@ abbrev pub IsOwnUsage : CommandFault → Type 0
 IsOwnUsage (Usage text) = string_bytes text ≡ usage_text
 IsOwnUsage fault = Unit {0}
 
+-- the same of the fault of a turn
+abbrev pub IsStepUsage : StepFault → Type 0
+IsStepUsage (step.Usage text) = string_bytes text ≡ usage_text
+IsStepUsage fault = Unit {0}
+
 -- a fault of usage is one for which `clap` refuses the words
 abbrev pub Explains : WordsFault → Error → Type 0
 Explains (words.Usage text) error = kind_of error ≢ OutOfMemory
@@ -52,15 +59,13 @@ AsksFor (Err words.Memory) asked = Unit {0}
 
 -- the line of the turn in the words was returned; or the words have no turn; or they have one, and
 -- the packet's text is no packet; or memory ran out
-abbrev pub AnswersTurn : {A : Type 0} → Result (String A) CommandFault → Option Turn → List ℕ
-    → Type 0
+abbrev pub AnswersTurn : {A : Type 0} → Result (String A) StepFault → Option Turn → List ℕ → Type 0
 AnswersTurn (Ok line) asked packet =
     (turn : Turn) × ((asked ≡ Some turn) × (line_of turn packet ≡ Some (string_bytes line)))
-AnswersTurn (Err (Usage text)) asked packet = asked ≡ None
-AnswersTurn (Err PacketText) asked packet =
+AnswersTurn (Err (step.Usage text)) asked packet = asked ≡ None
+AnswersTurn (Err step.PacketText) asked packet =
     (turn : Turn) × ((asked ≡ Some turn) × (line_of turn packet ≡ None))
-AnswersTurn (Err Memory) asked packet = Unit {0}
-AnswersTurn (Err fault) asked packet = ⊥
+AnswersTurn (Err step.Memory) asked packet = Unit {0}
 
 -- ---- faults
 
@@ -69,6 +74,16 @@ abbrev pub of_words : WordsFault → CommandFault
 of_words (words.Usage text) = Usage text
 of_words words.Memory = Memory
 
+-- the fault of a turn whose words are refused
+abbrev pub step_of_words : WordsFault → StepFault
+step_of_words (words.Usage text) = step.Usage text
+step_of_words words.Memory = step.Memory
+
+-- the fault of a turn that gave no line
+abbrev pub step_of_turn : TurnFault → StepFault
+step_of_turn turns.PacketText = step.PacketText
+step_of_turn turns.Memory = step.Memory
+
 -- the fault of a command whose input was not read to its end
 abbrev pub of_input : InputFault → CommandFault
 of_input input.Read = Read
@@ -76,9 +91,9 @@ of_input input.TooLong = InputTooLong
 of_input input.Memory = Memory
 
 -- the fault of a command whose turn gave no line
-abbrev pub of_step : StepFault → CommandFault
-of_step step.PacketText = PacketText
-of_step step.Memory = Memory
+abbrev pub of_turn : TurnFault → CommandFault
+of_turn turns.PacketText = PacketText
+of_turn turns.Memory = Memory
 
 -- the fault of a command whose run ended before its input did
 abbrev pub of_run : RunFault → CommandFault

@@ -108,9 +108,9 @@ work_in rows = do
   slots ← bounded_number_at 1 4096 slots_text
   Some (Work workers slots)
 
--- the command with this name and these matches; without a name it is `run`
+-- the command with this name and these matches; without a name there is none
 abbrev pub command_in : Option (Text × List Row) → Option Asked
-command_in None = Some Run
+command_in None = None
 command_in (Some named) =
     if bytes_eq named.0 (codes "run") then Some Run
     else if bytes_eq named.0 (codes "work") then work_in named.1
@@ -126,10 +126,15 @@ abbrev pub unless_faulty : Kinds → Option Asked → Option Asked
 unless_faulty [] command = command
 unless_faulty (kind ∷ kinds) command = None
 
--- the command of the words after the program's name, if `clap` accepts them
-unfoldable pub asked : List Text → Option Asked
-asked words =
+-- the command of these words, if `clap` accepts them
+abbrev pub named_by : List Text → Option Asked
+named_by words =
     unless_faulty (fault_of program_app words) (command_in (subcommand_of program_app words))
+
+-- the command of the words after the program's name; without any it is `run`
+unfoldable pub asked : List Text → Option Asked
+asked [] = Some Run
+asked (word ∷ words) = named_by (word ∷ words)
 
 -- `clap` accepts the words after the program's name
 abbrev pub IsCommandLine : List Text → Type 0

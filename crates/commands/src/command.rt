@@ -1,10 +1,11 @@
 ghost use Rattle.std.specs.Prelude.{◌≡◌, IfErr, IfOk, IfSome, map};
 ghost use Rattle.clap.specs.Words.{subcommand_rows_of};
 ghost use Rattle.commands.specs.Words.{IsCommandLine, IsInRange, asked, command_in, turn_asked};
-ghost use Rattle.commands.specs.Fault.{AnswersTurn, AsksFor, Explains, IsOwnUsage, IsWordsFault};
+ghost use Rattle.commands.specs.Fault.{AnswersTurn, AsksFor, Explains, IsStepUsage, IsWordsFault};
 
-use crate::fault::{CommandFault, WordsFault};
+use crate::fault::WordsFault;
 use crate::matched::{turn, work};
+use crate::step_fault::StepFault;
 use crate::words::program;
 use clap::error::ErrorKind;
 use clap::{ArgMatches, Error};
@@ -42,32 +43,28 @@ pub fn explain_refusal(alloc: Global, error: &Error) -> WordsFault
     }
 }
 
-/// The command that the matches name, and [`Command::Run`] if they name none.
+/// The command that the matches name, if they name one.
 fn read_command(alloc: Global, matches: &ArgMatches<'_>) -> Result<Option<Command>, AllocError>
     ensures value { IfOk result (λ o. o ≡ command_in (subcommand_rows_of matches.now)) }
     ensures range { IfOk result (λ o. IfSome o IsInRange) }
 {
     let Some((name, given)) = matches.subcommand() else {
-        return Ok(Some(Command::Run));
-    };
-    if name == "run" {
-        return Ok(Some(Command::Run));
-    }
-    if name == "work" {
-        return Ok(work(given));
-    }
-    let Some(command) = turn(alloc, given)? else {
         return Ok(None);
     };
-    Ok(Some(Command::Step(command)))
+    match name {
+        "run" => Ok(Some(Command::Run)),
+        "work" => Ok(work(given)),
+        _ => Ok(turn(alloc, given)?.map(Command::Step)),
+    }
 }
 
 impl Command {
-    /// The command of the words after the program's name.
+    /// The command of the words after the program's name; without any it is [`Command::Run`].
     ///
     /// [`WordsFault::Usage`] with the text of `clap`, if it refuses the words or they ask for help.
-    /// The same fault with the text `scionet: usage`, if the words of `step` give no turn or a
-    /// number of `work` can't be read. [`WordsFault::Memory`] if memory runs out.
+    /// The same fault with the text `scionet: usage`, if the words name no command, those of `step`
+    /// give no turn, or a number of `work` can't be read. [`WordsFault::Memory`] if memory runs
+    /// out.
     #[tactic(auto, unfolding(crate::specs::Words::asked))]
     pub fn parse<'a>(alloc: Global, words: &'a [&'a str]) -> Result<Command, WordsFault>
         ensures asks { AsksFor result (asked (map (λ word. word.now) words.entry.now)) }
@@ -76,6 +73,9 @@ impl Command {
         ensures usage { IfErr result (λ fault.
             IsCommandLine (map (λ word. word.now) words.entry.now) → IsWordsFault fault) }
     {
+        if words.is_empty() {
+            return Ok(Command::Run);
+        }
         let matches = match program(alloc)?.try_get_matches_from(words) {
             Ok(matches) => matches,
             Err(error) => return Err(explain_refusal(alloc, &error)),
@@ -90,24 +90,19 @@ impl Command {
 /// The line, without its end, that `scionet step` prints for these words and this text on standard
 /// input. The words are those after the program's name.
 ///
-/// [`CommandFault::Usage`] as in [`Command::parse`], and if the words are another command; then
-/// [`CommandFault::PacketText`] as in [`StepCommand::line`]; [`CommandFault::Memory`] if memory
-/// runs out.
-pub fn step_line<'a>(
-    alloc: Global,
-    words: &'a [&'a str],
-    packet: &str,
-) -> Result<String, CommandFault>
+/// [`StepFault::Usage`] as in [`Command::parse`], and if the words are another command; then
+/// [`StepFault::PacketText`] as in [`StepCommand::line`]; [`StepFault::Memory`] if memory runs out.
+pub fn step_line<'a>(alloc: Global, words: &'a [&'a str], packet: &str) -> Result<String, StepFault>
     ensures answers { AnswersTurn result (turn_asked (asked (map (λ word. word.now)
         words.entry.now))) packet.now }
     // For words that `clap` accepts and that are no turn, the text is our own.
     ensures usage { IfErr result (λ fault.
-        IsCommandLine (map (λ word. word.now) words.entry.now) → IsOwnUsage fault) }
+        IsCommandLine (map (λ word. word.now) words.entry.now) → IsStepUsage fault) }
 {
     match Command::parse(alloc, words)? {
         Command::Step(command) => Ok(command.line(alloc, packet.as_bytes())?),
         Command::Run | Command::Work { .. } => {
-            Err(CommandFault::from(WordsFault::no_command(alloc)))
+            Err(StepFault::from(WordsFault::no_command(alloc)))
         }
     }
 }

@@ -1,6 +1,6 @@
 ghost use Rattle.std.specs.Prelude.{◌≡◌};
 ghost use Rattle.std.specs.IoError.{error_kind};
-ghost use Rattle.commands.specs.Fault.{IsWordsFault, of_input, of_run, of_step, of_words, of_work, status_of, text_of_fault};
+ghost use Rattle.commands.specs.Fault.{IsWordsFault, of_input, of_run, of_turn, of_words, of_work, status_of, text_of_fault};
 ghost use Rattle.commands.specs.declared.fault.CommandFault.TheVariants as command;
 ghost use Rattle.commands.specs.declared.fault.WordsFault.TheVariants as words;
 
@@ -9,7 +9,7 @@ use event_lines::RunFault;
 use std::alloc::{AllocError, Global};
 use std::io;
 use std::io::ErrorKind;
-use step_line::StepFault;
+use step_line::TurnFault;
 use streams::{InputFault, WriteFailed};
 use thiserror::Error;
 use work_lines::WorkFault;
@@ -138,13 +138,13 @@ impl From<InputFault> for CommandFault {
     }
 }
 
-impl From<StepFault> for CommandFault {
-    ghost from_gives = { λ fault e. e ≡ of_step fault };
+impl From<TurnFault> for CommandFault {
+    ghost from_gives = { λ fault e. e ≡ of_turn fault };
 
-    fn from(fault: StepFault) -> CommandFault {
+    fn from(fault: TurnFault) -> CommandFault {
         match fault {
-            StepFault::PacketText => CommandFault::PacketText,
-            StepFault::Memory => CommandFault::Memory,
+            TurnFault::PacketText => CommandFault::PacketText,
+            TurnFault::Memory => CommandFault::Memory,
         }
     }
 }

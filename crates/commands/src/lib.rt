@@ -10,6 +10,7 @@ mod fault;
 mod matched;
 mod program;
 mod status;
+mod step_fault;
 mod words;
 
 pub use command::{Command, explain_refusal, step_line};
@@ -17,4 +18,5 @@ pub use fault::{CommandFault, WordsFault};
 pub use matched::turn;
 pub use program::{end, execute, run};
 pub use status::Status;
+pub use step_fault::StepFault;
 pub use words::{VERSION, with_turn};

@@ -2,7 +2,7 @@ use packet_view::packet_lines;
 use std::alloc::Global;
 use std::process::Abort;
 use std::test::Fail;
-use step_line::{StepArgs, StepCommand, StepFault};
+use step_line::{StepArgs, StepCommand, TurnFault};
 
 /// A packet of two hops from 1-ff00:0:111 to 1-ff00:0:110, at its first hop.
 const RIGHT: &str =
@@ -152,6 +152,6 @@ fn bad_text(rt: HostRuntime) -> Result<(), Fail> {
     let alloc = rt.alloc();
     let command = StepCommand::from_texts(alloc, texts("100", None, &[]))?.ok_or("a turn")?;
     let refused = packet_lines(alloc, &command, b"0g");
-    assert!(&rt; matches!(refused, Err(StepFault::PacketText)));
+    assert!(&rt; matches!(refused, Err(TurnFault::PacketText)));
     Ok(())
 }

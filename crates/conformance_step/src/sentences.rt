@@ -1,8 +1,8 @@
-use commands::CommandFault;
+use commands::{CommandFault, StepFault};
 use std::alloc::Global;
 use std::fmt::Display;
 use std::test::Fail;
-use step_line::StepFault;
+use step_line::TurnFault;
 use streams::{InputFault, WriteFailed};
 
 /// Whether this is the sentence of a fault.
@@ -18,8 +18,10 @@ fn sentences(rt: HostRuntime) -> Result<(), Fail> {
     assert!(rt; is_sentence(alloc, &InputFault::TooLong, "input too long")?);
     assert!(rt; is_sentence(alloc, &InputFault::Memory, "out of memory")?);
     assert!(rt; is_sentence(alloc, &WriteFailed, "write failed")?);
-    assert!(rt; is_sentence(alloc, &StepFault::PacketText, "bad packet text")?);
-    assert!(rt; is_sentence(alloc, &StepFault::Memory, "out of memory")?);
+    assert!(rt; is_sentence(alloc, &TurnFault::PacketText, "bad packet text")?);
+    assert!(rt; is_sentence(alloc, &TurnFault::Memory, "out of memory")?);
+    assert!(rt; is_sentence(alloc, &StepFault::PacketText, "scionet: bad packet text")?);
+    assert!(rt; is_sentence(alloc, &StepFault::Memory, "scionet: out of memory")?);
     Ok(())
 }
 

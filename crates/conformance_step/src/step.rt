@@ -1,4 +1,4 @@
-use commands::{CommandFault, step_line};
+use commands::{StepFault, step_line};
 use hex::encode;
 use hop_mac::hop_mac;
 use std::alloc::{AllocError, Global};
@@ -146,7 +146,7 @@ fn bad_packets(rt: HostRuntime) -> Result<(), Fail> {
     let right = words("100", "host", "2,parent,0,up");
     for packet in ["0", "0g", "00 00", "\u{c}00", "0x00", "é"] {
         let answer = step_line(rt.alloc(), &right, packet);
-        assert!(rt; matches!(answer, Err(CommandFault::PacketText)));
+        assert!(rt; matches!(answer, Err(StepFault::PacketText)));
     }
     Ok(())
 }
@@ -159,10 +159,7 @@ fn long_key() -> &'static str {
 
 /// Whether the words are refused.
 fn is_refused(rt: &HostRuntime, words: &[&str]) -> bool {
-    matches!(
-        step_line(rt.alloc(), words, "zz"),
-        Err(CommandFault::Usage(_))
-    )
+    matches!(step_line(rt.alloc(), words, "zz"), Err(StepFault::Usage(_)))
 }
 
 /// A second that is none; the words are checked before the packet.

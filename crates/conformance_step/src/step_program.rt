@@ -199,6 +199,10 @@ fn bad_words(rt: HostRuntime) -> Result<(), Fail> {
     assert!(rt; no_number.is_refused_with("invalid value 'soon' for '--now <T>'"));
     let signed = ran(&rt, rt.alloc(), &words("+1"), Broken(io::ErrorKind::Other));
     assert!(rt; signed.is(2, "", "scionet: usage\n"));
+    let nothing = ran(&rt, rt.alloc(), &["--"], Broken(io::ErrorKind::Other));
+    assert!(rt; nothing.is(2, "", "scionet: usage\n"));
+    let empty = ran(&rt, rt.alloc(), &[""], Broken(io::ErrorKind::Other));
+    assert!(rt; empty.is_refused_with("''"));
     let help = ran(
         &rt,
         rt.alloc(),

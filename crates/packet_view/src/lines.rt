@@ -11,7 +11,7 @@ use crate::checks::checks_of;
 use crate::fields::fields_text;
 use separators::bytes::trim;
 use std::alloc::{AllocError, Global};
-use step_line::{StepCommand, StepFault, bytes, refusal_line};
+use step_line::{StepCommand, TurnFault, bytes, refusal_line};
 
 /// Adds the line of a check.
 #[tactic(auto, unfolding(crate::specs::Lines::check_text))]
@@ -62,14 +62,14 @@ fn add_checks(
 /// fields of the packet, the checks up to the first that fails, and the line of
 /// [`StepCommand::line`], which has no line end.
 ///
-/// [`StepFault::PacketText`] if the text is not hexadecimal digits, two for each byte;
-/// [`StepFault::Memory`] if memory runs out.
+/// [`TurnFault::PacketText`] if the text is not hexadecimal digits, two for each byte;
+/// [`TurnFault::Memory`] if memory runs out.
 #[tactic(auto, unfolding(crate::specs::Lines::lines_of))]
-pub fn packet_lines(alloc: Global, command: &StepCommand, text: &[u8]) -> Result<String, StepFault>
+pub fn packet_lines(alloc: Global, command: &StepCommand, text: &[u8]) -> Result<String, TurnFault>
     ensures { PrintsTurn result (lines_of command.now text.now) }
 {
     let Some(packet) = bytes(alloc, trim(text))? else {
-        return Err(StepFault::PacketText);
+        return Err(TurnFault::PacketText);
     };
     let mut lines = fields_text(alloc, &packet)?;
     add_checks(alloc, &mut lines, command, &packet)?;

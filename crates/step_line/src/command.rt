@@ -5,7 +5,7 @@ ghost use Rattle.step_line.specs.Turn.{items_of, previous_of, turn_from, turn_wi
 ghost use Rattle.step_line.specs.Line.{line_of};
 ghost use Rattle.step_line.specs.Fault.{PrintsTurn};
 
-use crate::fault::StepFault;
+use crate::fault::TurnFault;
 use crate::fields::{arrival, bytes, interfaces, number, number_of_router};
 use crate::line::{outcome_line, refusal_line};
 use crate::texts::StepArgs;
@@ -145,13 +145,13 @@ impl StepCommand {
     /// hexadecimal. Letters may be of either case; spaces, tabs, CR and LF around the digits are
     /// ignored. The text need not be UTF-8.
     ///
-    /// [`StepFault::PacketText`] if the text is not hexadecimal digits, two for each byte.
+    /// [`TurnFault::PacketText`] if the text is not hexadecimal digits, two for each byte.
     #[tactic(auto, unfolding(crate::specs::Line::line_of))]
-    pub fn line(&self, alloc: Global, text: &[u8]) -> Result<String, StepFault>
+    pub fn line(&self, alloc: Global, text: &[u8]) -> Result<String, TurnFault>
         ensures { PrintsTurn result (line_of self.now text.now) }
     {
         let Some(mut packet) = bytes(alloc, trim(text))? else {
-            return Err(StepFault::PacketText);
+            return Err(TurnFault::PacketText);
         };
         match step(&self.view(), self.moment, self.arrival, &mut packet) {
             Ok(outcome) => Ok(outcome_line(alloc, outcome, &packet)?),

@@ -1,12 +1,12 @@
 ghost use Rattle.std.specs.Prelude.{◌≡◌};
-ghost use Rattle.step_line.specs.declared.fault.StepFault.TheVariants.{Memory};
+ghost use Rattle.step_line.specs.declared.fault.TurnFault.TheVariants.{Memory};
 
 use std::alloc::AllocError;
 use thiserror::Error;
 
 /// Why a turn returned no line.
 #[derive(Clone, Copy, Debug, PartialEq, Eq, Error)]
-pub enum StepFault {
+pub enum TurnFault {
     /// The packet's text is not hexadecimal digits, two for each byte.
     #[error("bad packet text")]
     PacketText,
@@ -15,10 +15,10 @@ pub enum StepFault {
     Memory,
 }
 
-impl From<AllocError> for StepFault {
+impl From<AllocError> for TurnFault {
     ghost from_gives = { λ _ e. e ≡ Memory };
 
-    fn from(_error: AllocError) -> StepFault {
-        StepFault::Memory
+    fn from(_error: AllocError) -> TurnFault {
+        TurnFault::Memory
     }
 }

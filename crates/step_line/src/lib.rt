@@ -11,7 +11,7 @@ mod line;
 mod texts;
 
 pub use command::StepCommand;
-pub use fault::StepFault;
+pub use fault::TurnFault;
 pub use fields::{bytes, number};
 pub use line::refusal_line;
 pub use texts::StepArgs;
