@@ -1,7 +1,5 @@
 ghost use Rattle.std.specs.Prelude.{◌≡◌, ℕ, ◌<◌, ◌≤◌, List, length, vec_capacity, IfOk, IfErr};
 ghost use Rattle.scion_topology.specs.Topology.{far_end_in};
-ghost use Rattle.forwarding.specs.declared.location.RouterStop.{RouterStop};
-ghost use Rattle.forwarding.specs.declared.location.PacketLocation.TheVariants.{AtRouter};
 ghost use Rattle.forwarding.specs.inner.Parts.{packet_with};
 ghost use Rattle.forwarding.specs.Turn.{altered, hop_by, lost, put_at, over_link, put, turn_under, turn_of};
 
@@ -16,8 +14,7 @@ use std::alloc::{AllocError, Global};
 use std::marker::Model;
 
 /// A packet in a network: its bytes, its place, and the hops that it has passed, at most 64. The
-/// room for them is taken when the packet is made, and what is left of it is given back once the
-/// packet has no more turns.
+/// room for them is taken when the packet is made, so that no turn calls the allocator.
 #[derive(Debug, Drop)]
 pub struct PacketInFlight {
     bytes: Vec<u8>,
@@ -144,7 +141,17 @@ impl PacketInFlight {
         ensures { self.new ≡ lost self.old }
     {
         self.place = PacketLocation::Lost;
-        self.passed.close();
+    }
+
+    /// Gives back the room for hops that are not passed any more, if the packet is at no router. It
+    /// calls the allocator; if that fails, the packet keeps its room.
+    pub fn shrink_to_fit(&mut self)
+        ensures { self.new ≡ self.old }
+    {
+        match self.place {
+            PacketLocation::AtRouter(_) => {}
+            _ => self.passed.shrink_to_fit(),
+        }
     }
 
     /// Changes the byte at this place by exclusive or.
@@ -172,8 +179,7 @@ fn answer(
         × (place.new ≡ PacketLocation.Refused stop.ia stop.router refusal)
         × (passed.new.hops.items ≡ passed.old.hops.items)) }
     ensures few { length passed.old.hops.items ≤ 64 → length passed.new.hops.items ≤ 64 }
-    ensures room { (next : RouterStop) → place.new ≡ AtRouter next
-        → 64 ≤ vec_capacity passed.new.hops }
+    ensures room { vec_capacity passed.new.hops ≡ vec_capacity passed.old.hops }
 {
     match &stepped {
         Ok(outcome) => {
@@ -182,7 +188,6 @@ fn answer(
         }
         Err(refusal) => {
             *place = PacketLocation::Refused(stop.ia, stop.router, *refusal);
-            passed.close();
             TurnReply::Refused(*refusal)
         }
     }
@@ -200,8 +205,7 @@ fn put(
     ensures put { (bytes : List ℕ) → packet_with bytes place.new passed.new.hops.items
         ≡ put topology.now (packet_with bytes place.old passed.old.hops.items) stop outcome }
     ensures few { length passed.old.hops.items ≤ 64 → length passed.new.hops.items ≤ 64 }
-    ensures room { (next : RouterStop) → place.new ≡ AtRouter next
-        → 64 ≤ vec_capacity passed.new.hops }
+    ensures room { vec_capacity passed.new.hops ≡ vec_capacity passed.old.hops }
 {
     match outcome {
         Outcome::ToLink(out) => cross(topology, stop, out, place, passed),
@@ -214,7 +218,6 @@ fn put(
         }
         Outcome::Deliver => {
             passed.note(hop_by(stop, IfId::NONE));
-            passed.close();
             *place = PacketLocation::Delivered;
         }
     }

@@ -5,8 +5,8 @@ use path_header::MAX_HOPS;
 use policy_expr::WalkHop;
 use std::alloc::{AllocError, Global};
 
-/// The hops that a packet has passed, at most the first 64. It has room for 64 until it is closed,
-/// so that a turn takes no memory.
+/// The hops that a packet has passed, at most the first 64. It has room for 64 from the start, so
+/// that a turn takes no memory.
 #[derive(Debug, Drop)]
 pub(crate) struct HopTrace {
     hops: Vec<WalkHop>,
@@ -51,8 +51,8 @@ impl HopTrace {
         }
     }
 
-    /// Gives back the room for further hops.
-    pub(crate) fn close(&mut self)
+    /// Gives back the room for further hops, by a call of the allocator.
+    pub(crate) fn shrink_to_fit(&mut self)
         ensures { self.new.hops.items ≡ self.old.hops.items }
     {
         self.hops.shrink_to_fit();

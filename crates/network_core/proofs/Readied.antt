@@ -18,17 +18,24 @@ leads_refused : (made : Made) (fault : EventFault) (old new : NetValue) → made
 leads_refused (Ok done) fault old new is same = absurd cc
 leads_refused (Err other) fault old new is same = (cc, same)
 
--- the call's answer is that of the event
-pub not_ready : {X : Type 0} (view : X → PacketValue) (old new : NetValue)
+not_ready_in : {X : Type 0} (view : X → PacketValue) (old new : NetValue)
     (sent : Result Shipment EventFault) (error : OrMemory EventFault) → new ≡ old
     → ReadiesFrom view old sent (Err error) → DoesSend sent old new (Err error)
-not_ready view old new (Ok sent) Memory same ready = (ready, same)
-not_ready view old new (Ok sent) (Refused fault) same ready = elim ready [
+not_ready_in view old new (Ok sent) Memory same ready = (ready, same)
+not_ready_in view old new (Ok sent) (Refused fault) same ready = elim ready [
   | inl path ↦ inr (path.0, (path.1.0, (ap (λ f. replies.Refused f) path.1.1, same)))
   | inr late ↦ inl (late.0, leads_refused (departs old sent) fault old new late.1 same)
 ]
-not_ready view old new (Err other) Memory same ready = absurd cc
-not_ready view old new (Err other) (Refused fault) same ready = (cc, same)
+not_ready_in view old new (Err other) Memory same ready = absurd cc
+not_ready_in view old new (Err other) (Refused fault) same ready = (cc, same)
+
+-- the call's answer is that of the event
+pub not_ready : {X : Type 0} (view : X → PacketValue) (old new : NetValue)
+    (sent : NetValue → Result Shipment EventFault) (error : OrMemory EventFault) → new ≡ old
+    → ReadiesFrom view new (sent new) (Err error) → DoesSend (sent old) old new (Err error)
+not_ready view old new sent error same ready =
+    subst (λ (net : NetValue). DoesSend (sent net) net new (Err error)) same
+    (not_ready_in view new new (sent new) error refl ready)
 
 -- ---- a packet that was ready, and was taken in
 
@@ -60,11 +67,11 @@ framed_last old new reply packet replied left frame p one sent there =
     subst (λ (q : PacketValue). HasFrame q.sent.way.source q.sent.way.destination q.sent.way.pieces)
     (same_Some packet one last) frame
 
-pub ready_kept : {X : Type 0} (view : X → PacketValue) (old new : NetValue)
+ready_kept_in : {X : Type 0} (view : X → PacketValue) (old new : NetValue)
     (sent : Result Shipment EventFault) (packet : X) (answer : Result Reply (OrMemory EventFault))
     → ReadiesFrom view old sent (Ok packet) → KeepsPacket (view packet) old new answer
     → DoesSend sent old new answer
-ready_kept view old new (Ok sent) packet (Ok reply) ready keeps = (
+ready_kept_in view old new (Ok sent) packet (Ok reply) ready keeps = (
   inl (
     ready.0,
     leads_made (departs old sent) old new reply
@@ -73,7 +80,7 @@ ready_kept view old new (Ok sent) packet (Ok reply) ready keeps = (
   ),
   framed_last old new reply (view packet) keeps.0 keeps.1 ready.1.1,
 )
-ready_kept view old new (Ok sent) packet (Err Memory) ready keeps = (
+ready_kept_in view old new (Ok sent) packet (Err Memory) ready keeps = (
   (
     ready.0,
     is_ok_of (departs old sent)
@@ -81,5 +88,14 @@ ready_kept view old new (Ok sent) packet (Err Memory) ready keeps = (
   ),
   keeps,
 )
-ready_kept view old new (Ok sent) packet (Err (Refused fault)) ready keeps = absurd keeps
-ready_kept view old new (Err other) packet answer ready keeps = absurd cc
+ready_kept_in view old new (Ok sent) packet (Err (Refused fault)) ready keeps = absurd keeps
+ready_kept_in view old new (Err other) packet answer ready keeps = absurd cc
+
+pub ready_kept : {X : Type 0} (view : X → PacketValue) (old ready new : NetValue)
+    (sent : NetValue → Result Shipment EventFault) (packet : X)
+    (answer : Result Reply (OrMemory EventFault)) → ready ≡ old
+    → ReadiesFrom view ready (sent ready) (Ok packet) → KeepsPacket (view packet) ready new answer
+    → DoesSend (sent old) old new answer
+ready_kept view old ready new sent packet answer same is keeps =
+    subst (λ (net : NetValue). DoesSend (sent net) net new answer) same
+    (ready_kept_in view ready new (sent ready) packet answer is keeps)

@@ -44,6 +44,7 @@ impl Net {
         ensures { DoesSend (shipment_by self.old (ByAnswer ask path) payload.now)
             self.old self.new result }
     {
+        self.shrink_last_packet();
         match self.ready_answered(alloc, ask, path, payload) {
             Ok(packet) => self.keep_packet(packet),
             Err(error) => Err(error),
@@ -59,6 +60,7 @@ impl Net {
     ) -> Result<Reply, EventError>
         ensures { DoesSend (shipment_of (way_of way.now) payload.now) self.old self.new result }
     {
+        self.shrink_last_packet();
         match self.ready_given(alloc, way, payload) {
             Ok(packet) => self.keep_packet(packet),
             Err(error) => Err(error),
@@ -75,9 +77,20 @@ impl Net {
         ensures { DoesSend (shipment_by self.old (BackOf packet) payload.now)
             self.old self.new result }
     {
+        self.shrink_last_packet();
         match self.ready_back(alloc, packet, payload) {
             Ok(packet) => self.keep_packet(packet),
             Err(error) => Err(error),
+        }
+    }
+
+    /// Gives back the room that the last packet no longer needs, if it has ended. This calls the
+    /// allocator, so it is done where a packet is sent, which takes memory anyway.
+    fn shrink_last_packet(&mut self)
+        ensures { self.new ≡ self.old }
+    {
+        if let Some(last) = self.packets.last_mut() {
+            last.transit.shrink_to_fit();
         }
     }
 
@@ -256,8 +269,8 @@ fn packet_of(
     let source = lent.source;
     let bytes = frame(alloc, source, lent.destination, lent.header, payload)?;
     let payload = Vec::from_slice(alloc, payload)?;
-    // The room for passed hops comes last, so that what the packet gives back of it at its end lies
-    // at the end of the memory that is in use, where the next packet can take it.
+    // The room for passed hops comes last, so that what is given back of it lies at the end of the
+    // memory that is in use, where the next packet can take it.
     let transit = PacketInFlight::at_router(alloc, bytes, source, router)?;
     Ok(Packet {
         sent: Sent { way, payload },

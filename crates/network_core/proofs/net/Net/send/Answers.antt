@@ -1,4 +1,3 @@
-use Rattle.std.proofs.Common.{refl}
 use Rattle.network_core.specs.Event.{ByAnswer}
 use Rattle.network_core.specs.Step.{shipment_by}
 use Rattle.network_core.proofs.Readied.{not_ready, ready_kept}
@@ -6,11 +5,12 @@ use Rattle.network_core.proofs.net.Net.send.Goals as goal
 
 pub returns-in-Err : goal.returns-in-Err
 returns-in-Err c =
-    not_ready (λ p. p) c.args.self.now c.args.self.now
-    (shipment_by c.args.self.now (ByAnswer c.args.ask c.args.path) c.args.payload.now) c.in-Err.error refl c.in-Err.ensures
+    not_ready (λ p. p) c.args.self.now c.shrink_last_packet.new.self
+    (λ net. shipment_by net (ByAnswer c.args.ask c.args.path) c.args.payload.now) c.in-Err.error
+    c.shrink_last_packet.ensures c.in-Err.ensures
 
 pub returns-in-Ok : goal.returns-in-Ok
 returns-in-Ok c =
-    ready_kept (λ p. p) c.args.self.now c.keep_packet.new.self
-    (shipment_by c.args.self.now (ByAnswer c.args.ask c.args.path) c.args.payload.now) c.in-Ok.packet c.keep_packet.result
-    c.in-Ok.ensures c.keep_packet.ensures
+    ready_kept (λ p. p) c.args.self.now c.shrink_last_packet.new.self c.keep_packet.new.self
+    (λ net. shipment_by net (ByAnswer c.args.ask c.args.path) c.args.payload.now) c.in-Ok.packet
+    c.keep_packet.result c.shrink_last_packet.ensures c.in-Ok.ensures c.keep_packet.ensures
