@@ -91,6 +91,26 @@ fn a_turn_after_the_expiry_refuses(rt: HostRuntime) -> Result<(), Fail> {
     )
 }
 
+/// Nothing that happens after the delivery stops the reply, up to the expiry of the path.
+#[test]
+fn a_delivered_packet_is_answered_beside_a_cut_link(rt: HostRuntime) -> Result<(), Fail> {
+    let [first, second, third] = row_turns();
+    expect_talk(
+        &rt,
+        rt.alloc(),
+        &row_sent(),
+        &[
+            first,
+            second,
+            third,
+            (r#"{"do":"cut","ia":"1-ff00:0:111","if":1}"#, "ok"),
+            (r#"{"do":"back","packet":0,"payload":""}"#, "packet 1"),
+            (r#"{"do":"tick","now":22601}"#, "ok"),
+            (r#"{"do":"back","packet":0,"payload":""}"#, "no 79 Expired"),
+        ],
+    )
+}
+
 /// A link is mended from either end.
 #[test]
 fn a_mended_link_carries(rt: HostRuntime) -> Result<(), Fail> {

@@ -181,9 +181,10 @@ module _ (start : NetValue) (history : List EventRecord) (is : IsHistory start h
         sent.way.destination (net_at start history number).moment
         (accepted start history is network number p sent sends frame).path in
         (forwarded k after quiet).exact.1 (omega arith));
-    answerable = λ k after quiet delivered payload few. (
+    answerable = λ k j after order quiet delivered payload few. (
         let f = forwarded k after quiet in
-        answerable (net_at start history k) p (net_at start history number).moment sent f.packet f.there
+        answerable (net_at start history j) p (net_at start history number).moment sent f.packet
+        (delivered_stays start history p k j f.packet is order f.there delivered)
         f.holds (f.whole delivered) (accepted start history is network number p sent sends frame).path
         frame payload few);
     stays = λ k j one order there delivered. delivered_stays start history p k j one is order there delivered;

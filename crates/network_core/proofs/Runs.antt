@@ -14,6 +14,7 @@ use Rattle.network_core.specs.Ran.{IsRun, Ran}
 use Rattle.network_core.proofs.Issuing.{stored_all}
 use Rattle.network_core.proofs.Headlines.{of_send}
 use Rattle.network_core.proofs.Asked.{asked_all, of_answer}
+use Rattle.network_core.proofs.Present.{no_turn_is_still}
 
 -- a history goes on by one step
 history_more : (start : NetValue) (history : List EventRecord) (m : EventRecord) → IsHistory start history
@@ -41,7 +42,9 @@ are_asked network history known is k =
 pub is_run : (network : Network) (history : List EventRecord) → IsNetwork network
     → IsHistory (new_net network) history → AllFramed history → IsRun network history
 is_run network history known is framed = record {
+  lawful = known;
   is = is;
+  turned = λ k p occurs. no_turn_is_still network history k p known is occurs;
   issued = are_issued network history known is;
   asked = are_asked network history known is;
   delivered = λ number p route payload occurs.

@@ -84,9 +84,9 @@ pub record IsAnswerable (net : NetValue) (p : ℕ) (sent : Shipment) (payload : 
       → (reply ≡ Refused (Path Expired)) × (new ≡ net)
 
 -- the guarantees for the packet that event number `number` sent. Its path was accepted. After `k`
--- events, if the packet was undisturbed so far, it is forwarded as `IsForwarded` says; it is
--- delivered once it has had two turns for each hop field; and a delivered packet can be answered
--- with up to 1,024 bytes. A delivered packet stays as it is, whatever happens then.
+-- events, if the packet was undisturbed so far, it is forwarded as `IsForwarded` says; and it is
+-- delivered once it has had two turns for each hop field. Once it is delivered, whatever happens
+-- then, it stays as it is, and can be answered with up to 1,024 bytes.
 pub record Headline (start : NetValue) (history : List EventRecord) (number p : ℕ) (sent : Shipment)
     : Type 0 where
   pub accepted : IsAccepted (asked_at (net_at start history number).moment sent.way)
@@ -98,10 +98,10 @@ pub record Headline (start : NetValue) (history : List EventRecord) (number p : 
       → (quiet : Undisturbed start (take k history) number p sent.way.pieces)
       → 2 * total_hops sent.way.pieces ≤ turns_since history number p k
       → (forwarded k after quiet).packet.packet.place ≡ Delivered
-  pub answerable : (k : ℕ) → (after : number < k)
+  pub answerable : (k j : ℕ) → (after : number < k) → k ≤ j
       → (quiet : Undisturbed start (take k history) number p sent.way.pieces)
       → (forwarded k after quiet).packet.packet.place ≡ Delivered → (payload : List ℕ)
-      → length payload ≤ 1024 → IsAnswerable (net_at start history k) p sent payload
+      → length payload ≤ 1024 → IsAnswerable (net_at start history j) p sent payload
   pub stays : (k j : ℕ) (one : PacketValue) → k ≤ j
       → slice_get (net_at start history k).packets p ≡ Some one
       → one.packet.place ≡ Delivered → slice_get (net_at start history j).packets p ≡ Some one
