@@ -1,7 +1,8 @@
 pub mod Delivered
 pub mod Unlost
 pub mod Numbered
-pub mod Posted
+pub mod Pairs
+pub mod Inboxes
 pub mod Flying
 pub mod TurnByTurn
 pub mod Reported

@@ -10,15 +10,21 @@ use forwarding::PacketLocation;
 use std::alloc::{AllocError, Global};
 use std::marker::{Brand, Model, PhantomData};
 
-/// The constants of a run: the flights as they were given, the second, and the places of an inbox.
-/// No value has this type; it occurs as a parameter of the types of carried flights.
+/// The constants of a run: the flights as they were given, the network, the second, the number of
+/// workers, and the places of an inbox. No value has this type; it occurs as a parameter of the
+/// types of carried flights and of workers.
 pub(crate) trait RunFacts {
     ghost use Rattle.std.specs.Prelude.{List, ℕ};
+    ghost use Rattle.scion_topology.specs.Network.{Network};
     ghost use Rattle.router_workers.specs.Flight.{FlightValue};
 
     ghost flights: { List FlightValue };
 
+    ghost network: { Network };
+
     ghost now: { ℕ };
+
+    ghost workers: { ℕ };
 
     ghost slots: { ℕ };
 }
@@ -28,7 +34,11 @@ impl RunFacts for Brand {
 
     ghost flights = { [] };
 
+    ghost network = { record { ases = []; links = [] } };
+
     ghost now = { 0 };
+
+    ghost workers = { 0 };
 
     ghost slots = { 0 };
 }

@@ -13,6 +13,7 @@ mod fault;
 mod flight;
 pub mod laws;
 mod pass_pairs;
+mod posted;
 mod report;
 mod run;
 mod worker;

@@ -1,9 +1,11 @@
 //! The inboxes of a run, and their passes.
 
-ghost use Rattle.std.specs.Prelude.{◌≡◌, ◌<◌, ◌≤◌, IfOk, length};
-ghost use Rattle.router_workers.specs.inner.PassPairs.{ArePassPairs};
+ghost use Rattle.std.specs.Prelude.{◌≡◌, ◌<◌, ◌≤◌, IfOk, length, map};
+ghost use Rattle.std.specs.List.{range_with_len};
+ghost use Rattle.router_workers.specs.inner.PassPairs.{AreInboxes, ArePassPairs, inboxes_of};
 
-use crate::carried::{CarriedFlight, RunFacts};
+use crate::carried::RunFacts;
+use crate::posted::PostedFlight;
 use crate::worker::Worker;
 use inbox::{Inbox, Receiver, ReceiverPass, Sender, SenderPass};
 use std::alloc::{AllocError, Global};
@@ -11,8 +13,6 @@ use std::alloc::{AllocError, Global};
 /// The two passes of a new inbox.
 #[derive(Drop)]
 pub(crate) struct PassPair<T: Drop> {
-    /// The inbox's number.
-    pub(crate) at: usize,
     pub(crate) sender: SenderPass<T>,
     pub(crate) receiver: ReceiverPass<T>,
 }
@@ -24,21 +24,19 @@ pub(crate) fn inboxes_of<T: Drop>(
     workers: usize,
     slots: usize,
 ) -> Result<(Vec<Inbox<T>>, Vec<PassPair<T>>), AllocError>
+    requires workers { 0 < workers }
     requires some { 0 < slots }
     requires few { slots ≤ 4096 }
-    ensures count { IfOk result (λ r. (length r.0.items ≡ workers) × (length r.1.items ≡ workers)) }
+    ensures inboxes { IfOk result (λ r. AreInboxes workers slots r.0.items) }
+    ensures count { IfOk result (λ r. length r.1.items ≡ length r.0.items) }
     ensures pairs { IfOk result (λ r. ArePassPairs r.0.items r.1.items) }
 {
     let mut inboxes = Vec::with_capacity(alloc, workers)?;
     let mut pairs = Vec::with_capacity(alloc, workers)?;
-    for at in 0..workers {
+    for _ in 0..workers {
         let (inbox, sender, receiver) = Inbox::new(alloc, slots)?;
         inboxes.push(inbox)?;
-        pairs.push(PassPair {
-            at,
-            sender,
-            receiver,
-        })?;
+        pairs.push(PassPair { sender, receiver })?;
     }
     Ok((inboxes, pairs))
 }
@@ -51,8 +49,8 @@ pub(crate) fn ends_of<'a, T: Drop>(
 ) -> Result<(Vec<Sender<'a, T>>, Vec<Receiver<'a, T>>), AllocError>
     requires pairs { ArePassPairs inboxes.now.items pairs.items }
     requires count { length pairs.items ≡ length inboxes.now.items }
-    ensures { IfOk result (λ r. (length r.0.items ≡ length pairs.items)
-        × (length r.1.items ≡ length pairs.items)) }
+    ensures senders { IfOk result (λ r. inboxes_of r.0.items ≡ inboxes.now.items) }
+    ensures receivers { IfOk result (λ r. inboxes_of r.1.items ≡ inboxes.now.items) }
 {
     let mut first_senders = Vec::with_capacity(alloc, pairs.len())?;
     let mut receivers = Vec::with_capacity(alloc, pairs.len())?;
@@ -65,34 +63,28 @@ pub(crate) fn ends_of<'a, T: Drop>(
 }
 
 /// The workers, by their numbers, unless memory runs out: each has its own inbox and a way into
-/// every inbox. The ways by which the inboxes were filled are the first worker's; those of the
-/// others are split off them.
+/// every inbox. Their ways are split off those by which the inboxes were filled.
 pub(crate) fn workers_of<'a, 'f, J: RunFacts>(
     alloc: Global,
-    first_senders: Vec<Sender<'a, CarriedFlight<'f, J>>>,
-    receivers: Vec<Receiver<'a, CarriedFlight<'f, J>>>,
+    first_senders: Vec<Sender<'a, PostedFlight<'f, J>>>,
+    receivers: Vec<Receiver<'a, PostedFlight<'f, J>>>,
 ) -> Result<Vec<Worker<'a, 'f, J>>, AllocError>
-    requires { 0 < length first_senders.items }
+    requires inboxes { AreInboxes J.workers J.slots (inboxes_of first_senders.items) }
+    requires own { inboxes_of receivers.items ≡ inboxes_of first_senders.items }
+    ensures { IfOk result (λ worker_list.
+        map (λ worker. worker.number) worker_list.items ≡ range_with_len 0 J.workers) }
 {
     let mut first_senders = first_senders;
     let mut worker_list = Vec::with_capacity(alloc, receivers.len())?;
-    let mut rest = receivers.into_iter();
-    let Some(first) = rest.next() else {
-        return Ok(worker_list);
-    };
-    for (before, receiver) in rest.enumerate() {
+    for receiver in receivers {
+        let number = worker_list.len();
         let senders = split_all(alloc, &mut first_senders)?;
         worker_list.push(Worker {
-            number: before + 1,
+            number,
             receiver,
             senders,
         })?;
     }
-    worker_list.push(Worker {
-        number: 0,
-        receiver: first,
-        senders: first_senders,
-    })?;
     Ok(worker_list)
 }
 
@@ -101,8 +93,9 @@ fn split_all<'a, T: Drop>(
     alloc: Global,
     first_senders: &mut Vec<Sender<'a, T>>,
 ) -> Result<Vec<Sender<'a, T>>, AllocError>
-    ensures kept { length first_senders.new.items ≡ length first_senders.old.items }
-    ensures count { IfOk result (λ further. length further.items ≡ length first_senders.old.items) }
+    ensures kept { inboxes_of first_senders.new.items ≡ inboxes_of first_senders.old.items }
+    ensures further { IfOk result (λ further.
+        inboxes_of further.items ≡ inboxes_of first_senders.old.items) }
 {
     let mut further = Vec::with_capacity(alloc, first_senders.len())?;
     for first_sender in first_senders.iter_mut() {

@@ -1,7 +1,9 @@
 //! A run of flights on 1 to 8 workers.
 
-ghost use Rattle.std.specs.Prelude.{◌≡◌, ◌↔◌, ◌<◌, ◌≤◌, false, IsTrue, IfOk, IfErr, All, length, vec_capacity};
+ghost use Rattle.std.specs.Prelude.{◌≡◌, ◌↔◌, ◌<◌, ◌≤◌, false, IsTrue, IfOk, IfErr, All, length, map, vec_capacity};
+ghost use Rattle.std.specs.List.{range_with_len};
 ghost use Rattle.router_workers.specs.Run.{IsReport, is_number_of_workers};
+ghost use Rattle.router_workers.specs.inner.PassPairs.{AreInboxes, inboxes_of};
 ghost use Rattle.router_workers.specs.inner.Run.{IsEndOfFlight, AreEnds};
 
 use crate::carried::{CarriedFlight, FlightEnd, RunFacts};
@@ -9,6 +11,7 @@ use crate::end::End;
 use crate::fault::RunFault;
 use crate::flight::Flight;
 use crate::pass_pairs::{ends_of, inboxes_of, workers_of};
+use crate::posted::PostedFlight;
 use crate::report::Report;
 use crate::worker::{Gate, RunState, Worker, send_on, work};
 use inbox::Sender;
@@ -68,6 +71,7 @@ pub fn run_workers<'f, R: Threads + Wait + Sync, G: Gate>(
     }
 }
 
+/// The run of these facts, or nothing if memory runs out or a thread can't be started.
 fn run_with<'f, J: RunFacts + Send + Sync, R: Threads + Wait + Sync, G: Gate>(
     rt: &R,
     alloc: Global,
@@ -78,18 +82,20 @@ fn run_with<'f, J: RunFacts + Send + Sync, R: Threads + Wait + Sync, G: Gate>(
     flights: &[Flight<'f>],
     gate: &G,
 ) -> Result<Report, AllocError>
-    requires workers { 0 < workers }
+    requires some_workers { 0 < workers }
     requires some { 0 < slots }
     requires few { slots ≤ 4096 }
     requires flights { flights.now ≡ J.flights }
+    requires network { topology.now ≡ J.network }
     requires now { now ≡ J.now }
+    requires workers { workers ≡ J.workers }
     requires slots { slots ≡ J.slots }
     ensures { IfOk result (λ report. IsReport flights.now now slots report) }
 {
     let places = places_for::<J>(alloc, flights.len())?;
     let left = AtomicUsize::new(flights.len());
     let begun = AtomicBool::new(false);
-    let (inboxes, pairs) = inboxes_of::<CarriedFlight<'f, J>>(alloc, workers, slots)?;
+    let (inboxes, pairs) = inboxes_of::<PostedFlight<'f, J>>(alloc, workers, slots)?;
     let state = RunState {
         ends: &places,
         left: &left,
@@ -129,12 +135,12 @@ fn fill<'f, J: RunFacts, R: Wait, G: Gate>(
     rt: &R,
     alloc: Global,
     state: &RunState<'_, J, G>,
-    first_senders: &mut Vec<Sender<'_, CarriedFlight<'f, J>>>,
+    first_senders: &mut Vec<Sender<'_, PostedFlight<'f, J>>>,
     flights: &[Flight<'f>],
 ) -> Result<(), AllocError>
-    requires some { 0 < length first_senders.old.items }
+    requires inboxes { AreInboxes J.workers J.slots (inboxes_of first_senders.old.items) }
     requires flights { flights.now ≡ J.flights }
-    ensures { 0 < length first_senders.new.items }
+    ensures { inboxes_of first_senders.new.items ≡ inboxes_of first_senders.old.items }
 {
     for (number, flight) in flights.iter().enumerate() {
         let carried = CarriedFlight::new(alloc, number, flight)?;
@@ -149,7 +155,9 @@ fn start<'f, J: RunFacts + Send + Sync, R: Threads + Wait + Sync, G: Gate>(
     rt: &R,
     state: &RunState<'_, J, G>,
     worker_list: Vec<Worker<'_, 'f, J>>,
-) -> Result<(), AllocError> {
+) -> Result<(), AllocError>
+    requires { map (λ worker. worker.number) worker_list.items ≡ range_with_len 0 J.workers }
+{
     thread::scope(
         thread::scope_env(),
         rt,

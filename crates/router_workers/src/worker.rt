@@ -1,11 +1,14 @@
 //! A worker: it takes flights from its inbox, makes the turn of each, and passes it on.
 
-ghost use Rattle.std.specs.Prelude.{◌≡◌, ◌<◌, ◌%◌, ◌+◌, true, length, IfOk, IfSome, IsOk, Some, None, MatchResult};
+ghost use Rattle.std.specs.Prelude.{◌≡◌, ◌↔◌, ◌<◌, ◌≤◌, ◌%◌, ◌+◌, true, length, slice_get};
+ghost use Rattle.std.specs.Prelude.{IfOk, IfSome, IsOk, Some, None, MatchResult};
 ghost use Rattle.scion_topology.specs.Topology.{info_in};
 ghost use Rattle.network_core.specs.Delivery.{IsAtRouter};
-ghost use Rattle.router_workers.specs.inner.PassPairs.{IsNext, IsPutIn, IsPassedTo};
+ghost use Rattle.router_workers.specs.inner.PassPairs.{AreInboxes, inboxes_of};
+ghost use Rattle.router_workers.specs.inner.PassPairs.{IsNext, put_in, IsPutIn, IsPassedTo};
 
 use crate::carried::{CarriedFlight, FlightEnd, RunFacts};
+use crate::posted::PostedFlight;
 use forwarding::PacketLocation;
 use inbox::{Receiver, Sender};
 use isd_as::IsdAs;
@@ -48,17 +51,20 @@ pub(crate) struct RunState<'d, J: RunFacts, G> {
     pub(crate) now: u32,
     /// Whether more flights were given than an inbox has places, so that an inbox may be full.
     pub(crate) crowded: bool,
+    ghost network: { topology.now ≡ J.network },
     ghost now_is: { now ≡ J.now },
-    ghost crowd: { crowded ≡ true → J.slots < length J.flights },
+    ghost crowd: { crowded ≡ true ↔ (J.slots < length J.flights) },
 }
 
-/// A worker: its number, its inbox, and the ways into all inboxes, by their numbers.
+/// A worker: its number, its inbox, and the ways into all inboxes, by the numbers of their workers.
+/// There are as many inboxes as the run has workers, with as many places as it was asked for.
 #[derive(Drop)]
 pub(crate) struct Worker<'a, 'f, J: RunFacts> {
     pub(crate) number: usize,
-    pub(crate) receiver: Receiver<'a, CarriedFlight<'f, J>>,
-    pub(crate) senders: Vec<Sender<'a, CarriedFlight<'f, J>>>,
-    ghost some: { 0 < length senders.items },
+    pub(crate) receiver: Receiver<'a, PostedFlight<'f, J>>,
+    pub(crate) senders: Vec<Sender<'a, PostedFlight<'f, J>>>,
+    ghost inboxes: { AreInboxes J.workers J.slots (inboxes_of senders.items) },
+    ghost own: { slice_get (inboxes_of senders.items) number ≡ Some receiver.of },
 }
 
 /// The worker for flights at this router: the place of its AS in the topology plus the router's
@@ -99,46 +105,56 @@ pub(crate) fn settle<J: RunFacts, G: Gate>(state: &RunState<'_, J, G>, done: Fli
     state.left.fetch_sub(1, Ordering::SeqCst);
 }
 
-/// Passes a flight on to the inbox of `next`, the worker for its router. If that inbox is full, the
-/// flight is dropped if more flights were given than an inbox has places, and is tried again if
-/// not. No other inbox is used.
-pub(crate) fn pass_on<'f, J: RunFacts, R: Wait, G: Gate>(
+/// Passes a flight on to the inbox of its worker. If more flights were given than an inbox has
+/// places, and that inbox is full, the flight is dropped. No other inbox is used.
+fn pass_on<'f, J: RunFacts, R: Wait, G: Gate>(
     rt: &R,
     state: &RunState<'_, J, G>,
-    senders: &mut [Sender<'_, CarriedFlight<'f, J>>],
-    next: usize,
-    carried: CarriedFlight<'f, J>,
+    senders: &mut [Sender<'_, PostedFlight<'f, J>>],
+    posted: PostedFlight<'f, J>,
 )
-    requires under_way { IsAtRouter carried.packet.place }
-    requires within { next < length senders.old }
-    requires next { IsNext state.now.topology.now (length senders.old) carried.packet.place next }
-    ensures { IsPassedTo state.entry.now.crowded carried.entry next senders.old senders.new }
+    requires { AreInboxes J.workers J.slots (inboxes_of senders.old) }
+    ensures passed { IsPassedTo state.entry.now.crowded posted.entry posted.entry.0
+        senders.old senders.new }
+    ensures inboxes { inboxes_of senders.new ≡ inboxes_of senders.old }
 {
-    push_or_drop(rt, state, &mut senders[next], carried);
+    let worker = posted.worker();
+    push_or_drop(rt, state, &mut senders[worker], posted);
 }
 
-/// Puts a flight into an inbox by this way. If the inbox is full, the flight is dropped if more
-/// flights were given than an inbox has places, and is tried again if not.
+/// Puts a flight into an inbox by this way. If more flights were given than an inbox has places,
+/// and the inbox is full, the flight is dropped.
 fn push_or_drop<'f, J: RunFacts, R: Wait, G: Gate>(
     rt: &R,
     state: &RunState<'_, J, G>,
-    sender: &mut Sender<'_, CarriedFlight<'f, J>>,
-    carried: CarriedFlight<'f, J>,
+    sender: &mut Sender<'_, PostedFlight<'f, J>>,
+    posted: PostedFlight<'f, J>,
 )
-    requires { IsAtRouter carried.packet.place }
-    ensures { IsPutIn state.entry.now.crowded carried.entry sender.old sender.new }
+    requires { sender.old.of.slots ≡ J.slots }
+    ensures { IsPutIn state.entry.now.crowded posted.entry sender.old sender.new }
 {
-    let mut carried = carried;
+    if !state.crowded {
+        push(rt, sender, posted);
+    } else if let Err(back) = sender.push(rt, posted) {
+        settle(state, back.into_dropped());
+    }
+}
+
+/// Puts a flight into an inbox that has a place for every flight of the run. While the inbox seems
+/// full, another thread is about to take a flight out, so it tries again.
+fn push<'f, J: RunFacts, R: Wait>(
+    rt: &R,
+    sender: &mut Sender<'_, PostedFlight<'f, J>>,
+    posted: PostedFlight<'f, J>,
+)
+    requires { length J.flights ≤ sender.old.of.slots }
+    ensures { sender.new ≡ put_in posted.entry sender.old }
+{
+    let mut posted = posted;
     for _ in rt.forever() {
-        match sender.push(rt, carried) {
+        match sender.push(rt, posted) {
             Ok(()) => return,
-            Err(back) => {
-                if state.crowded {
-                    settle(state, back.into_dropped());
-                    return;
-                }
-                carried = back;
-            }
+            Err(back) => posted = back,
         }
         thread::yield_now();
     }
@@ -163,16 +179,17 @@ fn next_worker(topology: &Topology, place: PacketLocation, workers: usize) -> us
 pub(crate) fn send_on<'f, J: RunFacts, R: Wait, G: Gate>(
     rt: &R,
     state: &RunState<'_, J, G>,
-    senders: &mut [Sender<'_, CarriedFlight<'f, J>>],
+    senders: &mut [Sender<'_, PostedFlight<'f, J>>],
     carried: CarriedFlight<'f, J>,
 )
-    requires { 0 < length senders.old }
+    requires { AreInboxes J.workers J.slots (inboxes_of senders.old) }
+    ensures { inboxes_of senders.new ≡ inboxes_of senders.old }
 {
     match carried.into_end() {
         Ok(done) => settle(state, done),
         Err(carried) => {
-            let next = next_worker(state.topology, carried.place(), senders.len());
-            pass_on(rt, state, senders, next, carried);
+            let worker = next_worker(state.topology, carried.place(), senders.len());
+            pass_on(rt, state, senders, PostedFlight::new(carried, worker));
         }
     }
 }
@@ -193,25 +210,26 @@ pub(crate) fn work<'f, J: RunFacts, R: Wait, G: Gate>(
         if state.left.load(Ordering::SeqCst) == 0 {
             return;
         }
-        empty(rt, state, number, &mut receiver, &mut senders);
+        empty_inbox(rt, state, number, &mut receiver, &mut senders);
         thread::yield_now();
     }
 }
 
 /// Takes flights until the inbox is empty. It does not read the number of flights left: each end of
 /// a flight changes it, and each read would wait for that.
-fn empty<'f, J: RunFacts, R: Wait, G: Gate>(
+fn empty_inbox<'f, J: RunFacts, R: Wait, G: Gate>(
     rt: &R,
     state: &RunState<'_, J, G>,
     number: usize,
-    receiver: &mut Receiver<'_, CarriedFlight<'f, J>>,
-    senders: &mut [Sender<'_, CarriedFlight<'f, J>>],
+    receiver: &mut Receiver<'_, PostedFlight<'f, J>>,
+    senders: &mut [Sender<'_, PostedFlight<'f, J>>],
 )
-    requires { 0 < length senders.old }
+    requires { AreInboxes J.workers J.slots (inboxes_of senders.old) }
+    ensures { inboxes_of senders.new ≡ inboxes_of senders.old }
 {
     for _ in rt.forever() {
         match receiver.pop(rt) {
-            Some(carried) => carry(rt, state, number, senders, carried),
+            Some(posted) => carry(rt, state, number, senders, posted),
             None => return,
         }
     }
@@ -227,29 +245,24 @@ fn wait_for_beginning<R: Wait>(rt: &R, begun: &AtomicBool) {
     }
 }
 
-/// Carries a flight that the worker of this number took from its inbox. If it is at a router of
-/// this worker, it has one turn, and is then recorded or passed on, possibly to this worker's own
-/// inbox. Any other flight is recorded or passed on at once.
+/// Carries a flight that the worker of this number took from its inbox: it has one turn, and is
+/// then recorded or passed on, possibly to this worker's own inbox. A flight of another worker,
+/// which no inbox but that worker's is given, is passed on at once.
 fn carry<'f, J: RunFacts, R: Wait, G: Gate>(
     rt: &R,
     state: &RunState<'_, J, G>,
     number: usize,
-    senders: &mut [Sender<'_, CarriedFlight<'f, J>>],
-    carried: CarriedFlight<'f, J>,
+    senders: &mut [Sender<'_, PostedFlight<'f, J>>],
+    posted: PostedFlight<'f, J>,
 )
-    requires { 0 < length senders.old }
+    requires { AreInboxes J.workers J.slots (inboxes_of senders.old) }
+    ensures { inboxes_of senders.new ≡ inboxes_of senders.old }
 {
-    match carried.into_end() {
-        Ok(done) => settle(state, done),
-        Err(carried) => {
-            let next = next_worker(state.topology, carried.place(), senders.len());
-            if next != number {
-                pass_on(rt, state, senders, next, carried);
-            } else {
-                let turned = turn(state, number, senders.len(), carried);
-                send_on(rt, state, senders, turned);
-            }
-        }
+    if posted.worker() != number {
+        pass_on(rt, state, senders, posted);
+    } else {
+        let turned = turn(state, number, posted.into_carried());
+        send_on(rt, state, senders, turned);
     }
 }
 
@@ -258,11 +271,10 @@ fn carry<'f, J: RunFacts, R: Wait, G: Gate>(
 fn turn<'f, J: RunFacts, G: Gate>(
     state: &RunState<'_, J, G>,
     number: usize,
-    _workers: usize,
     carried: CarriedFlight<'f, J>,
 ) -> CarriedFlight<'f, J>
     requires under_way { IsAtRouter carried.packet.place }
-    requires own { IsNext state.now.topology.now _workers carried.packet.place number }
+    requires own { IsNext J.network J.workers carried.packet.place number }
 {
     state.gate.enter(number);
     let turned = carried.advance(state.now);

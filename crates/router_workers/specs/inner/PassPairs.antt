@@ -1,12 +1,14 @@
 -- The inboxes of a run: their passes, and the inbox that a flight goes into (words of no public
 -- clause).
-use Rattle.std.specs.Prelude.{◌≡◌, ◌⊎◌, ℕ, ◌+◌, ◌%◌, Bool, true, List, Some, slice_get, slice_set, IfOk}
+use Rattle.std.specs.Prelude.{◌≡◌, ◌⊎◌, ℕ, ◌+◌, ◌%◌, ◌<◌, Bool, true, List, All, map, length, Some, slice_get, slice_set, IfOk}
 use Rattle.scion_topology.specs.Network.{Network}
 use Rattle.scion_topology.specs.Topology.{info_in}
 use Rattle.forwarding.specs.declared.location.PacketLocation.{PacketLocation}
 use Rattle.forwarding.specs.declared.location.PacketLocation.TheVariants as places
 use Rattle.inbox.specs.Account.{with_put}
 use Rattle.inbox.specs.Inbox.{Opened, WayThrough}
+use Rattle.network_core.specs.Delivery.{IsAtRouter}
+use Rattle.router_workers.specs.Flight.{FlightValue}
 use Rattle.router_workers.specs.declared.pass_pairs.PassPair.{PassPair}
 
 -- the passes belong to the inboxes, in their order
@@ -16,12 +18,27 @@ ArePassPairs inboxes pairs =
     → slice_get pairs i ≡ Some pair
     → (pair.sender.inbox ≡ inbox.inbox) × (pair.receiver.inbox ≡ inbox.inbox)
 
+-- the inboxes of a run: one for each of its workers, of which there is at least one, and each with
+-- this number of places
+abbrev pub AreInboxes : ℕ → ℕ → List Opened → Type 0
+AreInboxes workers slots inboxes =
+    (0 < workers) × (length inboxes ≡ workers) × All (λ inbox. inbox.slots ≡ slots) inboxes
+
+-- the inboxes of these ways, in their order
+abbrev pub inboxes_of : {T : Type 0} → List (WayThrough T) → List Opened
+inboxes_of ways = map (λ way. way.of) ways
+
 -- the worker for a packet's router, among `workers` workers: the place of the router's AS in the
 -- network plus the router's number, modulo the number of workers
 abbrev pub IsNext : Network → ℕ → PacketLocation → ℕ → Type 0
 IsNext n workers (places.AtRouter stop) next =
     IfOk (info_in n stop.ia) (λ info. next ≡ (info.position + stop.router) % workers)
 IsNext n workers place next = Unit {0}
+
+-- the packet of this flight is at a router, whose worker is this one
+abbrev pub IsPosted : Network → ℕ → ℕ → FlightValue → Type 0
+IsPosted n workers worker flight =
+    (worker < workers) × IsAtRouter flight.packet.place × IsNext n workers flight.packet.place worker
 
 -- a way into an inbox after this flight was put in
 abbrev pub put_in : {T : Type 0} → T → WayThrough T → WayThrough T
