@@ -49,7 +49,7 @@ fn last_entry() -> Entry {
 }
 
 /// The code of a refusal, 0 if there is none, and 1 if memory ran out.
-fn code_of<T: Drop>(answer: Result<T, SegmentError>) -> u16 {
+pub(crate) fn code_of<T: Drop>(answer: Result<T, SegmentError>) -> u16 {
     match answer {
         Ok(_) => 0,
         Err(OrMemory::Memory) => 1,
@@ -68,7 +68,7 @@ fn expect_worked(rt: &impl Abort, segment: &Segment) {
 }
 
 /// Whether the text is that of the segment.
-fn is_text_of(alloc: Global, segment: &Segment, text: &str) -> Result<bool, Fail> {
+pub(crate) fn is_text_of(alloc: Global, segment: &Segment, text: &str) -> Result<bool, Fail> {
     Ok(Segment::from_json(alloc, text.as_bytes())?.is_same(segment))
 }
 
@@ -100,7 +100,7 @@ fn under_way(rt: HostRuntime) -> Result<(), Fail> {
 }
 
 /// This number of entries, which are a segment if there are neither too few nor too many.
-fn entries_of(alloc: Global, count: u16) -> Result<Vec<Entry>, Fail> {
+pub(crate) fn entries_of(alloc: Global, count: u16) -> Result<Vec<Entry>, Fail> {
     let mut entries = Vec::new(alloc);
     for i in 0..count {
         let egress = if i < count - 1 { 1 } else { 0 };

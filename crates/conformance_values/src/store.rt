@@ -43,7 +43,7 @@ fn worked(alloc: Global, beta0: u16) -> Result<Segment, Fail> {
 
 /// The code of registering a copy of a segment: 1 if it is new, 0 if it is known, or the code of
 /// the refusal; 2 if memory ran out, and 3 if another segment was returned.
-fn answer_to(
+pub(crate) fn answer_to(
     alloc: Global,
     store: &mut PathStore,
     segment: &Segment,
@@ -58,7 +58,7 @@ fn answer_to(
 }
 
 /// Whether these are the same segments in the same order.
-fn are_same(segments: &[Segment], others: &[&Segment]) -> bool {
+pub(crate) fn are_same(segments: &[Segment], others: &[&Segment]) -> bool {
     segments.len() == others.len()
         && segments
             .iter()
