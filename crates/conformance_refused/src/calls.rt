@@ -72,16 +72,17 @@ fn without_options(error: OptionError) -> Gift {
     }
 }
 
-/// Whether a sequence prints as its row says, has the first walk as a word, and not the second.
-fn of_sequence<A: Allocator + Clone>(
-    alloc: Global,
-    sequence: &Seq<A>,
-    row: &SequenceRow<'_>,
-) -> Result<Gift, AllocError> {
-    let printed = sequence.print(alloc)?;
-    let is_printed = printed.as_str() == row.printed;
-    let are_judged = sequence.matches(row.word) && !sequence.matches(row.other);
-    Ok(judged(is_printed && are_judged))
+/// Whether a sequence, printed at this place, has its row's text, and has the first walk as a word
+/// and not the second.
+fn of_sequence<A: Allocator + Copy>(place: A, sequence: &Seq<A>, row: &SequenceRow<'_>) -> Gift {
+    match sequence.print(place) {
+        Ok(printed) => judged(
+            printed.as_str() == row.printed
+                && sequence.matches(row.word)
+                && !sequence.matches(row.other),
+        ),
+        Err(AllocError) => Gift::Memory,
+    }
 }
 
 /// Whether these are the two entries of the list.
@@ -113,28 +114,23 @@ fn of_options<A: Allocator + Clone>(options: &[PolicyOption<A>]) -> Gift {
     }
 }
 
-/// Reads a sequence at a place.
-fn read_sequence<A: Allocator + Clone>(
-    alloc: Global,
-    place: A,
-    row: &SequenceRow<'_>,
-) -> Result<Gift, AllocError> {
+/// Reads a sequence at a place, and prints it there.
+fn read_sequence<A: Allocator + Copy>(place: A, row: &SequenceRow<'_>) -> Gift {
     match Seq::parse(place, row.text) {
-        Ok(sequence) => of_sequence(alloc, &sequence, row),
-        Err(error) => Ok(without_policy(error)),
+        Ok(sequence) => of_sequence(place, &sequence, row),
+        Err(error) => without_policy(error),
     }
 }
 
-/// Clones a sequence to a place.
-fn clone_sequence<A: Allocator + Clone>(
-    alloc: Global,
+/// Clones a sequence to a place, and prints the clone there.
+fn clone_sequence<A: Allocator + Copy>(
     place: A,
     sequence: &Seq<Global>,
     row: &SequenceRow<'_>,
-) -> Result<Gift, AllocError> {
+) -> Gift {
     match sequence.clone_in(place) {
-        Ok(clone) => of_sequence(alloc, &clone, row),
-        Err(AllocError) => Ok(Gift::Memory),
+        Ok(clone) => of_sequence(place, &clone, row),
+        Err(AllocError) => Gift::Memory,
     }
 }
 
@@ -187,21 +183,18 @@ fn clone_option<A: Allocator + Clone>(place: A, option: &PolicyOption<Global>) -
 }
 
 impl Call<'_> {
-    /// Makes the call in an allocator. Its result is checked with enough memory, and dropped.
-    pub(crate) fn at<A: Allocator + Clone>(
-        &self,
-        alloc: Global,
-        place: A,
-    ) -> Result<Gift, AllocError> {
+    /// Makes the call in an allocator. Its result is checked and dropped; a sequence is also
+    /// printed there.
+    pub(crate) fn at<A: Allocator + Copy>(&self, place: A) -> Gift {
         match *self {
-            Call::ReadSequence(row) => read_sequence(alloc, place, &row),
-            Call::CloneSequence(sequence, row) => clone_sequence(alloc, place, sequence, &row),
-            Call::ReadList(text) => Ok(read_list(place, text)),
-            Call::CloneList(list) => Ok(clone_list(place, list)),
-            Call::ReadPolicy(text) => Ok(read_policy(place, &text)),
-            Call::ClonePolicy(policy) => Ok(clone_policy(place, policy)),
-            Call::ReadOptions(texts) => Ok(read_options(place, texts)),
-            Call::CloneOption(option) => Ok(clone_option(place, option)),
+            Call::ReadSequence(row) => read_sequence(place, &row),
+            Call::CloneSequence(sequence, row) => clone_sequence(place, sequence, &row),
+            Call::ReadList(text) => read_list(place, text),
+            Call::CloneList(list) => clone_list(place, list),
+            Call::ReadPolicy(text) => read_policy(place, &text),
+            Call::ClonePolicy(policy) => clone_policy(place, policy),
+            Call::ReadOptions(texts) => read_options(place, texts),
+            Call::CloneOption(option) => clone_option(place, option),
         }
     }
 }
