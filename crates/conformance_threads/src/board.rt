@@ -15,7 +15,7 @@ use std::thread::{Threads, join};
 
 /// What is found before the segment is published, after that, at a second at which it has expired,
 /// and after it was swept. The reader learns what was published.
-fn row<R: Wait>(
+pub(crate) fn row<R: Wait>(
     rt: &R,
     alloc: Global,
     board: &mut BoardWriter,

@@ -27,7 +27,7 @@ fn down() -> (IsdAs, IsdAs) {
 }
 
 /// Publishes the worked segment, and a reader that has learnt it.
-fn published<R: Wait>(
+pub(crate) fn published<R: Wait>(
     rt: &R,
     alloc: Global,
     board: &mut BoardWriter,
@@ -43,18 +43,20 @@ fn published<R: Wait>(
     Some(reader)
 }
 
-/// Whether this is the answer, and whether the cache gave it as expected. The latter may differ if
-/// memory ran out when an answer was to be kept.
+/// Whether this is the answer, and whether the cache gave it as expected. An answer that the cache
+/// was to give may also be made anew, if memory ran out when it was to be kept.
 fn is(given: Option<(Answer, bool)>, answer: Answer, is_served: bool, shortage: &Shortage) -> bool {
     match given {
-        Some((found, flag)) => found == answer && (flag == is_served || shortage.may_miss()),
+        Some((found, flag)) => {
+            found == answer && (flag == is_served || (is_served && shortage.may_miss()))
+        }
         None => false,
     }
 }
 
 /// Whether the path is answered, then given by the cache, and no longer answered after its segment
 /// was swept.
-fn row<R: Wait>(
+pub(crate) fn row<R: Wait>(
     rt: &R,
     alloc: Global,
     board: &mut BoardWriter,

@@ -3,7 +3,8 @@
 //!
 //! Each call may run out of memory, and is then repeated; but only one call of a test may. So these
 //! tests pass if any one of their allocations is refused, each in turn, and a test prints on
-//! standard output what ran out of memory. The sentences of refusals are tested separately.
+//! standard output what ran out of memory. In the tests of `strictly` and of `sizes` no allocation
+//! is refused, so there memory may not run out. The sentences of refusals are tested separately.
 #![tactic(auto)]
 
 #[cfg(test)]
@@ -18,3 +19,7 @@ mod letters;
 mod segments;
 #[cfg(test)]
 mod sentences;
+#[cfg(test)]
+mod sizes;
+#[cfg(test)]
+mod strictly;

@@ -3,7 +3,7 @@
 use crate::segments::ia;
 use daemon_cache::{AskFault, Daemon};
 use isd_as::IsdAs;
-use policy_expr::OptionText;
+use policy_expr::{OptionFault, OptionText};
 use refusal::{NumberedFault, OrMemory};
 use segment_board::{BoardFault, BoardReader, BoardWriter, new_board};
 use std::alloc::Global;
@@ -64,6 +64,10 @@ fn refusals_of_a_daemon_have_sentences(rt: HostRuntime) -> Result<(), Fail> {
             "the source and the destination are one AS",
         ),
         (AskFault::NoEntry, "the reader could not enter the board"),
+        (
+            AskFault::Options(OptionFault::OptionCount),
+            "a request has 1 to 16 policy options",
+        ),
     ];
     for (fault, sentence) in told {
         assert_eq!(rt; format!(in alloc; "{fault}")?.as_str(), sentence);

@@ -3,10 +3,11 @@
 use std::io::Print;
 use std::sync::atomic::{AtomicUsize, Ordering};
 
-/// How often memory ran out in a test. That may happen once: at most one allocation of the test's
-/// process is refused, and none in a plain run.
+/// How often memory ran out in a test. That may happen once if an allocation may be refused: at
+/// most one of the test's process is, and none in a plain run.
 #[derive(Drop)]
 pub struct Shortage {
+    is_possible: bool,
     wants: AtomicUsize,
     misses: AtomicUsize,
 }
@@ -15,6 +16,16 @@ impl Shortage {
     /// A test in which memory did not run out yet.
     pub fn new() -> Shortage {
         Shortage {
+            is_possible: true,
+            wants: AtomicUsize::new(0),
+            misses: AtomicUsize::new(0),
+        }
+    }
+
+    /// A test in which no allocation is ever refused, so that memory may not run out.
+    pub fn none() -> Shortage {
+        Shortage {
+            is_possible: false,
             wants: AtomicUsize::new(0),
             misses: AtomicUsize::new(0),
         }
@@ -24,13 +35,13 @@ impl Shortage {
     /// again.
     pub fn may_want(&self) -> bool {
         let before = self.wants.fetch_add(1, Ordering::SeqCst);
-        before == 0 && self.misses.load(Ordering::SeqCst) == 0
+        self.is_possible && before == 0 && self.misses.load(Ordering::SeqCst) == 0
     }
 
     /// Notes that a call returned its answer but did not keep it, and returns whether that may be.
     pub fn may_miss(&self) -> bool {
         let before = self.misses.fetch_add(1, Ordering::SeqCst);
-        before == 0 && self.wants.load(Ordering::SeqCst) == 0
+        self.is_possible && before == 0 && self.wants.load(Ordering::SeqCst) == 0
     }
 
     /// Prints which of the two happened, for those who refuse the allocation.
