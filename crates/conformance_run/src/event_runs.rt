@@ -66,7 +66,7 @@ fn topology(alloc: Global, shortage: &Shortage) -> Option<Topology> {
 
 /// The network after the events. If memory runs out at one of them, that event and all later ones
 /// are done again in the network that was returned.
-fn network(alloc: Global, shortage: &Shortage) -> Option<Net> {
+pub(crate) fn network(alloc: Global, shortage: &Shortage) -> Option<Net> {
     let any = [option_text(None, None, 0)];
     let events = events(&any);
     let Stopped { mut net, done } = match run(alloc, topology(alloc, shortage)?, &events) {
@@ -92,7 +92,7 @@ fn walk() -> [WalkHop; 3] {
 }
 
 /// Asserts that the packet was delivered over these hops.
-fn expect_delivered(rt: &impl Abort, packet: &Packet) {
+pub(crate) fn expect_delivered(rt: &impl Abort, packet: &Packet) {
     assert_eq!(rt; packet.place(), PacketLocation::Delivered);
     assert_eq!(rt; packet.passed(), walk().as_slice());
 }

@@ -47,10 +47,10 @@ fn sending<'x>(
     Some(Event::SendGiven { way, payload })
 }
 
-/// The code of a router's outcome.
+/// The code of a router's outcome: 1,000 more than the interface if it is over a link.
 fn code_of_outcome(outcome: Outcome) -> u16 {
     match outcome {
-        Outcome::ToLink(_) => 1,
+        Outcome::ToLink(way_out) => way_out.0.saturating_add(1000),
         Outcome::ToRouter(_) => 2,
         Outcome::Deliver => 3,
     }
@@ -67,8 +67,9 @@ fn code_of(reply: Reply) -> u16 {
     }
 }
 
-/// Does an event and returns the code of its reply: 1 if the packet went over a link, 2 if it went
-/// to a router of its AS, 3 if it was delivered; else that of [`code_of`].
+/// Does an event and returns the code of its reply: 1,000 more than the interface if the packet
+/// went over a link, 2 if it went to a router of its AS, 3 if it was delivered; else that of
+/// [`code_of`].
 pub(crate) fn step(alloc: Global, net: &mut Net, event: &Event<'_>) -> Result<u16, AllocError> {
     let reply = net.step(alloc, event)?;
     if let Reply::Turned(TurnReply::Went(outcome)) = reply {
@@ -112,7 +113,7 @@ fn answers(alloc: Global, segment: &Segment, other: Option<u16>) -> Result<[u16;
 #[test]
 fn what_was_issued_arrives(rt: HostRuntime) -> Result<(), Fail> {
     let issued = issued_segment(rt.alloc())?;
-    assert_eq!(rt; answers(rt.alloc(), &issued, None)?, [0, 1, 1, 3]);
+    assert_eq!(rt; answers(rt.alloc(), &issued, None)?, [0, 1001, 1001, 3]);
     Ok(())
 }
 

@@ -1,32 +1,31 @@
-//! Tests of `run_lines`: whole networks, given as lines of text.
+//! Tests of `run_lines` and of `run`: streams that fail, calls without lines, and sentences.
 //!
-//! Each test is a table of lines and their replies. Tests have crates of their own and use public
-//! calls only, since a crate with tests is proved twice.
+//! Whole networks as lines are among the cases of `cases/`, which the built `scionet` is run over.
+//! Tests have crates of their own and use public calls only, since a crate with tests is proved
+//! twice.
 #![tactic(auto)]
 
 #[cfg(test)]
-mod asks;
-#[cfg(test)]
-mod bad_lines;
-#[cfg(test)]
-mod disturbed;
+mod cut_lines;
 #[cfg(test)]
 mod event_runs;
 #[cfg(test)]
 mod given_paths;
 #[cfg(test)]
+mod keys;
+#[cfg(test)]
 mod replies;
 #[cfg(test)]
 mod row;
 #[cfg(test)]
-mod scripts;
+mod sentences;
 #[cfg(test)]
 mod streams_fail;
+#[cfg(test)]
+mod strictly;
 #[cfg(test)]
 mod table;
 #[cfg(test)]
 mod work_flights;
 #[cfg(test)]
 mod work_program;
-#[cfg(test)]
-mod work_refused;
