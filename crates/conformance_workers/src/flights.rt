@@ -17,11 +17,14 @@ use std::test::Fail;
 static ELSEWHERE: &str =
     r#"{"ases":[{"ia":"1-9","core":true,"exp":63,"key":"61","routers":1}],"links":[]}"#;
 
-/// The row's last link, at another interface of the last AS.
+/// The row, with another number for the interface of the last AS.
 static RENUMBERED: &str = concat!(
-    r#"{"ases":[{"ia":"1-ff00:0:111","core":false,"exp":63,"key":"6131","routers":1},"#,
+    r#"{"ases":[{"ia":"1-ff00:0:110","core":true,"exp":63,"key":"6130","routers":1},"#,
+    r#"{"ia":"1-ff00:0:111","core":false,"exp":63,"key":"6131","routers":1},"#,
     r#"{"ia":"1-ff00:0:112","core":false,"exp":63,"key":"6132","routers":1}],"#,
-    r#""links":[{"kind":"child","a":{"ia":"1-ff00:0:111","if":2,"router":0},"#,
+    r#""links":[{"kind":"child","a":{"ia":"1-ff00:0:110","if":1,"router":0},"#,
+    r#""b":{"ia":"1-ff00:0:111","if":1,"router":0}},"#,
+    r#"{"kind":"child","a":{"ia":"1-ff00:0:111","if":2,"router":0},"#,
     r#""b":{"ia":"1-ff00:0:112","if":9,"router":0}}]}"#,
 );
 
@@ -37,7 +40,7 @@ pub(crate) fn after_turn<'a>(flight: Flight<'a>) -> Flight<'a>
 
 /// The network with a packet from the row's last AS to its first.
 fn network_with_packet(alloc: Global) -> Result<Net, Fail> {
-    let net = network(alloc, &[(last(), first())], &Shortage::new());
+    let net = network(alloc, &[(last(), first())], &Shortage::none());
     Ok(net.ok_or(AllocError)?)
 }
 

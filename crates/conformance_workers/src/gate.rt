@@ -77,7 +77,7 @@ fn expect_meeting<R: Threads + Wait + Sync + Abort>(
     gate: &Meeting,
     workers: usize,
 ) -> Result<(), Fail> {
-    let shortage = Shortage::new();
+    let shortage = Shortage::none();
     let ways = [(last(), first()), (middle(), last())];
     let net = network(alloc, &ways, &shortage).ok_or(AllocError)?;
     let flights = flights_of(alloc, &net, 2, &shortage).ok_or(AllocError)?;

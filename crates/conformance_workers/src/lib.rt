@@ -11,3 +11,5 @@ mod network;
 mod runs;
 #[cfg(test)]
 mod sentences;
+#[cfg(test)]
+mod sizes;
