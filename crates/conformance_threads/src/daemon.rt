@@ -43,15 +43,21 @@ pub(crate) fn published<R: Wait>(
     Some(reader)
 }
 
-/// Whether this is the answer, and whether the cache gave it as expected. An answer that the cache
-/// was to give may also be made anew, if memory ran out when it was to be kept.
-fn is(given: Option<(Answer, bool)>, answer: Answer, is_served: bool, shortage: &Shortage) -> bool {
-    match given {
-        Some((found, flag)) => {
-            found == answer && (flag == is_served || (is_served && shortage.may_miss()))
-        }
-        None => false,
-    }
+/// Whether this is the answer, and whether a cache with room for so many gave it as expected. If
+/// memory ran out when an answer was to be kept, the cache lacks it, and a cache for one may still
+/// have the answer before it.
+fn is(
+    given: Option<(Answer, bool)>,
+    answer: Answer,
+    is_served: bool,
+    capacity: usize,
+    shortage: &Shortage,
+) -> bool {
+    let Some((found, flag)) = given else {
+        return false;
+    };
+    let may_differ = is_served || capacity == 1;
+    found == answer && (flag == is_served || (may_differ && shortage.may_miss()))
 }
 
 /// Whether the path is answered, then given by the cache, and no longer answered after its segment
@@ -66,7 +72,7 @@ pub(crate) fn row<R: Wait>(
     let mut reader = published(rt, alloc, board, shortage)?;
     let first = asked(rt, alloc, &daemon, &mut reader, up(), shortage);
     let second = asked(rt, alloc, &daemon, &mut reader, up(), shortage);
-    let is_second = is(second, Answer::Up, true, shortage);
+    let is_second = is(second, Answer::Up, true, 4, shortage);
     sweeps(board, AFTER_EARLY, shortage)?;
     publishes(rt, board, shortage)?;
     reader.learn(board.tell());
@@ -131,19 +137,22 @@ fn an_answer_is_made(rt: HostRuntime) -> Result<(), Fail> {
     Ok(())
 }
 
-/// Whether the answer for both directions, one after the other, is right and not from the cache.
+/// Whether the answer for both directions, one after the other, is right and not from the cache,
+/// which has room for so many.
 fn both<R: Wait>(
     rt: &R,
     alloc: Global,
     daemon: &Daemon,
     reader: &mut BoardReader,
+    capacity: usize,
     shortage: &Shortage,
 ) -> bool
     ensures { reader.new.board ≡ reader.old.board }
 {
     let above = asked(rt, alloc, daemon, reader, up(), shortage);
     let below = asked(rt, alloc, daemon, reader, down(), shortage);
-    is(above, Answer::Up, false, shortage) && is(below, Answer::Down, false, shortage)
+    is(above, Answer::Up, false, capacity, shortage)
+        && is(below, Answer::Down, false, capacity, shortage)
 }
 
 /// Whether a cache with room for one answer, asked for both directions in turn three times each,
@@ -156,9 +165,9 @@ fn in_turn<R: Wait>(
 ) -> Option<[bool; 3]> {
     let daemon = daemon(alloc, 1, shortage)?;
     let mut reader = published(rt, alloc, board, shortage)?;
-    let first = both(rt, alloc, &daemon, &mut reader, shortage);
-    let second = both(rt, alloc, &daemon, &mut reader, shortage);
-    let third = both(rt, alloc, &daemon, &mut reader, shortage);
+    let first = both(rt, alloc, &daemon, &mut reader, 1, shortage);
+    let second = both(rt, alloc, &daemon, &mut reader, 1, shortage);
+    let third = both(rt, alloc, &daemon, &mut reader, 1, shortage);
     Some([first, second, third])
 }
 
@@ -182,11 +191,11 @@ fn both_served<R: Wait>(
 ) -> Option<[bool; 3]> {
     let daemon = daemon(alloc, 4, shortage)?;
     let mut reader = published(rt, alloc, board, shortage)?;
-    let are_made = both(rt, alloc, &daemon, &mut reader, shortage);
+    let are_made = both(rt, alloc, &daemon, &mut reader, 4, shortage);
     let above = asked(rt, alloc, &daemon, &mut reader, up(), shortage);
     let below = asked(rt, alloc, &daemon, &mut reader, down(), shortage);
-    let is_up = is(above, Answer::Up, true, shortage);
-    let is_down = is(below, Answer::Down, true, shortage);
+    let is_up = is(above, Answer::Up, true, 4, shortage);
+    let is_down = is(below, Answer::Down, true, 4, shortage);
     Some([are_made, is_up, is_down])
 }
 
