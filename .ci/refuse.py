@@ -3,13 +3,18 @@
 
 In each run one allocation of the process is refused: the first, the second, and so on, until a run
 asks for no more. `scionet` must write its whole answer and end with status 0, or write the first
-lines of it, say that it is out of memory and end with status 1. A test that may be short of memory
-once must pass. Where no allocation is refused, no test may be short of memory at all.
+lines of it, say that it is out of memory and end with status 1. Then `scionet run` must have
+written the replies to all lines before the one that asked for this allocation; which line did is
+known from how many allocations the first lines alone ask for. A test that may be short of memory
+once must pass. Where no allocation is refused, no test may be short of memory at all. In some run
+of the daemon's test an answer must not have been kept.
 
 The last line says how many runs there were and how many were wrong; the status is 1 where one was.
 """
+import bisect
 import collections
 import concurrent.futures
+import json
 import os
 import resource
 import shutil
@@ -33,6 +38,12 @@ WANTED, UNKEPT = b"a call wanted memory", b"an answer was not kept"
 # A daemon's answer, and the same without one: the first wants memory in no more runs than the
 # second, so in none for keeping the answer.
 ASKED, MADE = "daemon::an_answer_is_asked_for", "daemon::an_answer_is_made"
+
+# An answer that the daemon's cache gives later, unless it could not be kept.
+SERVED = "daemon::an_answer_is_served_while_its_segments_stay"
+
+# The case whose lines have policies.
+POLICIES = "access lists, sequences and options"
 
 # More allocations than any of these runs makes; how many runs are begun together; the seconds of
 # each.
@@ -74,6 +85,15 @@ def built(room):
     return library
 
 
+def case(name):
+    """What a case of networks gives the program, and its answer."""
+    with open(os.path.join(os.path.dirname(HERE), "cases", "networks.jsonl")) as lines:
+        named = {it["name"]: it for it in map(json.loads, lines)}
+    if name not in named:
+        stop(f"there is no case of networks {name!r}")
+    return named[name]["stdin"].encode(), named[name]["stdout"].encode()
+
+
 def ran(library, words, given, number):
     """A run in which the allocation of this number is refused; none is where it is 0."""
     seen, tells = os.pipe()
@@ -90,6 +110,18 @@ def ran(library, words, given, number):
         return Run(number, *ended, it.read() != b"")
 
 
+def asked(library, words, given):
+    """How many allocations a run asks for."""
+    last, none = 0, MANY
+    while none - last > 1:
+        middle = (last + none) // 2
+        if ran(library, words, given, middle).was_refused:
+            last = middle
+        else:
+            none = middle
+    return last
+
+
 class Program:
     """The program with some words: what it is given, and what it has to write."""
 
@@ -104,6 +136,24 @@ class Program:
         is_whole = run.output[-1:] in (b"", b"\n")
         return run.was_refused and is_told and is_whole and self.answer.startswith(run.output)
 
+    def losses(self, library, pool, runs):
+        """Of several threads the same allocation has another number in each run."""
+        return []
+
+
+class Lines(Program):
+    """`scionet run`, which has one reply for each line."""
+
+    def losses(self, library, pool, runs):
+        """The runs that lack a reply to a line before the one at which memory ran out."""
+        lines, replies = self.given.splitlines(True), self.answer.splitlines(True)
+        fronts = [b"".join(lines[:count]) for count in range(1, len(lines) + 1)]
+        counts = [*pool.map(lambda front: asked(library, self.words, front), fronts)]
+        for run in runs:
+            before = replies[: bisect.bisect_left(counts, run.number)]
+            if run.status == 1 and run.output != b"".join(before):
+                yield f"allocation {run.number}: not all replies before its line: {run.output}"
+
 
 class Test:
     """A test in which memory may be short once."""
@@ -117,11 +167,18 @@ class Test:
         has_passed = run.status == 0 and b"test result: ok" in run.output
         return has_passed and (run.was_refused or not is_short)
 
+    def losses(self, library, pool, runs):
+        """A daemon's answer has to be lost once, or the sweep has missed where it is kept."""
+        if self.words[-1] == SERVED and not any(UNKEPT in run.output for run in runs):
+            yield "an answer was kept in each run"
+
 
 def programs():
-    """The stored run, and packets that are sent twice by its path and carried by workers."""
+    """The stored run, a run with policies, and packets that are sent twice by the path of the
+    stored run and carried by workers."""
     given, answer = contents("scionet", "stdin"), contents("scionet", "stdout")
-    yield Program(["run"], given, answer)
+    yield Lines(["run"], given, answer)
+    yield Lines(["run"], *case(POLICIES))
     lines, replies = given.splitlines(True), answer.splitlines(True)
     at = next(place for place, line in enumerate(lines) if b'"send"' in line)
     twice = b"".join([*lines[:at], lines[at], lines[at]])
@@ -156,6 +213,7 @@ def swept(library, subject, pool):
         for run in runs
         if not subject.is_right(run)
     ]
+    wrong += subject.losses(library, pool, runs)
     if runs[-1].was_refused:
         wrong.append("it asks without an end")
     if not any(run.was_refused for run in runs):
