@@ -2,7 +2,6 @@
 use Rattle.std.proofs.Common.{◌≡◌, ℕ, suc, ◌+◌, ◌<◌, ◌≤◌, Bool, true, false, cond, List, [], ◌∷◌, length, get_or, All, Any, AllPairs, Contains, refl, sym, ap, subst, ◌∙◌, inl, inr, arith}
 use Rattle.std.specs.Prelude.{◌⊎◌}
 use Rattle.std.specs.declared.cmp.Ordering.TheVariants.{Less}
-use Rattle.std.proofs.lemmas.Bool.{cases_lt}
 use Rattle.std.proofs.lemmas.List.Elements.{All-from_recursion}
 use Rattle.std.proofs.lemmas.List.Kept.{AllPairs-cons}
 use Rattle.path_segment.specs.declared.kind.SegKind.{SegKind}
@@ -11,19 +10,19 @@ use Rattle.policy_expr.specs.declared.hop.WalkHop.{WalkHop}
 use Rattle.path_verifier.specs.declared.kind.PieceKind.{PieceKind}
 use Rattle.path_verifier.specs.declared.kind.PieceKind.TheVariants.{Up, Core, Down}
 use Rattle.path_verifier.specs.Piece.{PieceValue, HasRange, kind_in, kind_of, begins_in, ends_in}
-use Rattle.path_verifier.specs.Walk.{walk_of}
 use Rattle.path_verifier.specs.Accepted.{IsCore, MayAdjoin}
 use Rattle.path_verifier.proofs.Lengths.{path_is_short, pieces_adjoin}
-use Rattle.path_header.specs.Spelling.{SpellsHeader, spelling}
+use Rattle.path_header.specs.Value.{HeaderValue}
+use Rattle.std.specs.List.{AllByRecursion}
 use Rattle.combinator.specs.Candidate.{Question, IsOf, segments_of, PathValue, IsCandidate, path_with, AreSpelled}
 use Rattle.combinator.specs.Order.{path_cmp, HaveOneWalk}
 use Rattle.combinator.specs.Answer.{IsBest, IsLeftOut, IsAnswer}
 use Rattle.combinator.specs.inner.Placed.{Tied, InOrder, Met}
-use Rattle.combinator.specs.inner.BestByWalk.{by_walk, IsNoWorse, IsMet, AreMatched, AreTried}
+use Rattle.combinator.specs.inner.Search.{HaveAll, OfEachBehind, IsMetBy}
 use Rattle.combinator.specs.inner.UsablePieces.{outer_of, IsCut, IsWhole}
-use Rattle.combinator.proofs.Ranks.{walks_total, tied_walks, same_shown, tied_shown}
+use Rattle.combinator.proofs.Ranks.{same_shown, tied_shown}
 use Rattle.combinator.proofs.Agreeing.{best_is_one}
-use Rattle.combinator.proofs.Searched.{default_of, stand_before}
+use Rattle.combinator.proofs.Best.{GoesOn, best_there}
 
 -- ---- each piece of a candidate is listed
 
@@ -82,131 +81,136 @@ module _ (question : Question) (usable_pieces : List PieceValue)
         end = outer_down piece question.dst parts.1 (down refl);
       })
 
-  module _ (kept : List PathValue)
-      (tried : AreTried question kept usable_pieces 3 [] question.src) where
-    -- a piece at a place of a candidate
-    at_place : (path : PathValue) (is : IsCandidate question path) (k : ℕ) (piece : PieceValue) → k < length path.pieces → get_or path.pieces k piece ≡ piece
-        → (kind_of piece ≡ Up → begins_in piece ≡ question.src) → (kind_of piece ≡ Down → ends_in piece ≡ question.dst) → Contains usable_pieces piece
-    at_place path is k piece within at up down =
-        let own : IsOf question.set piece = subst (IsOf question.set) at (is.own k piece within) in
-        let range : HasRange piece = subst HasRange at (is.accepted.path.ranges k piece within) in
-        let whole : IsCore piece → (piece.from ≡ 0) × (piece.to + 1 ≡ length piece.segment.entries) = λ core. (
-        let cut = subst (λ (p : PieceValue). (p.from ≡ 0) × (IsCore p → p.to + 1 ≡ length p.segment.entries)) at (is.accepted.path.cuts.with_core (k, piece, within, at, core) k piece within) in
-        (cut.0, cut.1 core)) in
-        listed (kind_of piece) piece refl own range whole up down
+  -- a piece at a place of a candidate
+  at_place : (path : PathValue) (is : IsCandidate question path) (k : ℕ) (piece : PieceValue) → k < length path.pieces → get_or path.pieces k piece ≡ piece
+      → (kind_of piece ≡ Up → begins_in piece ≡ question.src) → (kind_of piece ≡ Down → ends_in piece ≡ question.dst) → Contains usable_pieces piece
+  at_place path is k piece within at up down =
+      let own : IsOf question.set piece = subst (IsOf question.set) at (is.own k piece within) in
+      let range : HasRange piece = subst HasRange at (is.accepted.path.ranges k piece within) in
+      let whole : IsCore piece → (piece.from ≡ 0) × (piece.to + 1 ≡ length piece.segment.entries) = λ core. (
+      let cut = subst (λ (p : PieceValue). (p.from ≡ 0) × (IsCore p → p.to + 1 ≡ length p.segment.entries)) at (is.accepted.path.cuts.with_core (k, piece, within, at, core) k piece within) in
+      (cut.0, cut.1 core)) in
+      listed (kind_of piece) piece refl own range whole up down
 
-    no_up : (kind : PieceKind) → MayAdjoin kind Up → ⊥
-    no_up Up h = h
-    no_up Core h = h
-    no_up Down h = h
+  no_up : (kind : PieceKind) → MayAdjoin kind Up → ⊥
+  no_up Up h = h
+  no_up Core h = h
+  no_up Down h = h
 
-    not_up : (one next : PieceKind) → MayAdjoin one next → next ≡ Up → ⊥
-    not_up one next may is = no_up one (subst (MayAdjoin one) is may)
+  not_up : (one next : PieceKind) → MayAdjoin one next → next ≡ Up → ⊥
+  not_up one next may is = no_up one (subst (MayAdjoin one) is may)
 
-    not_down : (one next : PieceKind) → MayAdjoin one next → one ≡ Down → ⊥
-    not_down one next may is = (let h : MayAdjoin Down next = subst (λ (kind : PieceKind). MayAdjoin kind next) is may in h)
+  not_down : (one next : PieceKind) → MayAdjoin one next → one ≡ Down → ⊥
+  not_down one next may is = (let h : MayAdjoin Down next = subst (λ (kind : PieceKind). MayAdjoin kind next) is may in h)
 
-    met_of : (pieces : List PieceValue) (header : _) → (is : IsCandidate question (path_with pieces header))
-        → SpellsHeader (spelling header) header × IsMet kept (path_with pieces header)
-    unfolding AreMatched AreTried
-    met_of [] header is = absurd (let some = is.accepted.path.some in omega arith)
-    met_of (a ∷ []) header is =
+  all_of : (pieces : List PieceValue) (header : HeaderValue) → IsCandidate question (path_with pieces header) → AllByRecursion (Contains usable_pieces) pieces
+  all_of [] header is = tt
+  all_of (a ∷ []) header is =
+      let path = is.accepted.path in
+      (at_place (path_with (a ∷ []) header) is 0 a (omega arith) refl (λ _. path.source) (λ _. path.destination), tt)
+  all_of (a ∷ b ∷ []) header is =
+      let path = is.accepted.path in
+      let may = pieces_adjoin [] [] a b question.src question.dst question.set.moment path in (
+        at_place (path_with (a ∷ b ∷ []) header) is 0 a (omega arith) refl (λ _. path.source) (λ down. absurd (not_down (kind_of a) (kind_of b) may down)),
+        (at_place (path_with (a ∷ b ∷ []) header) is 1 b (omega arith) refl (λ up. absurd (not_up (kind_of a) (kind_of b) may up)) (λ _. path.destination), tt),
+      )
+  all_of (a ∷ b ∷ c ∷ []) header is =
+      let path = is.accepted.path in
+      let may = pieces_adjoin [] (c ∷ []) a b question.src question.dst question.set.moment path in
+      let also = pieces_adjoin (a ∷ []) [] b c question.src question.dst question.set.moment path in (
+        at_place (path_with (a ∷ b ∷ c ∷ []) header) is 0 a (omega arith) refl (λ _. path.source) (λ down. absurd (not_down (kind_of a) (kind_of b) may down)),
+        (
+          at_place (path_with (a ∷ b ∷ c ∷ []) header) is 1 b (omega arith) refl (λ up. absurd (not_up (kind_of a) (kind_of b) may up))
+              (λ down. absurd (not_down (kind_of b) (kind_of c) also down)),
+          (at_place (path_with (a ∷ b ∷ c ∷ []) header) is 2 c (omega arith) refl (λ up. absurd (not_up (kind_of b) (kind_of c) also up)) (λ _. path.destination), tt),
+        ),
+      )
+  all_of (a ∷ b ∷ c ∷ d ∷ more) header is =
+      absurd (let few = path_is_short (a ∷ b ∷ c ∷ d ∷ more) question.src question.dst question.set.moment is.accepted.path in omega arith)
+
+  pub have_all : HaveAll question usable_pieces
+  have_all path is = All-from_recursion (Contains usable_pieces) path.pieces (all_of path.pieces path.header is)
+
+-- ---- what was tried
+
+module _ (question : Question) (usable_pieces : List PieceValue) (whole : HaveAll question usable_pieces) where
+  module _ (P : List PieceValue → Type 0) (tried : OfEachBehind P usable_pieces 3 [] question.src) where
+    of_pieces : (pieces : List PieceValue) (header : HeaderValue) → IsCandidate question (path_with pieces header) → P pieces
+    unfolding OfEachBehind
+    of_pieces [] header is = absurd (let some = is.accepted.path.some in omega arith)
+    of_pieces (a ∷ []) header is =
         let path = is.accepted.path in
-        (tried a (at_place (path_with (a ∷ []) header) is 0 a (omega arith) refl (λ _. path.source) (λ _. path.destination)) path.source).0 header is
-    met_of (a ∷ b ∷ []) header is =
+        (tried a (whole (path_with (a ∷ []) header) is 0 a (omega arith)) path.source).0
+    of_pieces (a ∷ b ∷ []) header is =
         let path = is.accepted.path in
-        let may = pieces_adjoin [] [] a b question.src question.dst question.set.moment path in
-        let one = tried a (at_place (path_with (a ∷ b ∷ []) header) is 0 a (omega arith) refl (λ _. path.source) (λ down. absurd (not_down (kind_of a) (kind_of b) may down))) path.source in
-        (one.1 b (at_place (path_with (a ∷ b ∷ []) header) is 1 b (omega arith) refl (λ up. absurd (not_up (kind_of a) (kind_of b) may up)) (λ _. path.destination)) (sym path.meet.0)).0
-        header is
-    met_of (a ∷ b ∷ c ∷ []) header is =
+        let there = whole (path_with (a ∷ b ∷ []) header) is in
+        ((tried a (there 0 a (omega arith)) path.source).1 b (there 1 b (omega arith)) (sym path.meet.0)).0
+    of_pieces (a ∷ b ∷ c ∷ []) header is =
         let path = is.accepted.path in
-        let may = pieces_adjoin [] (c ∷ []) a b question.src question.dst question.set.moment path in
-        let also = pieces_adjoin (a ∷ []) [] b c question.src question.dst question.set.moment path in
-        let one = tried a (at_place (path_with (a ∷ b ∷ c ∷ []) header) is 0 a (omega arith) refl (λ _. path.source) (λ down. absurd (not_down (kind_of a) (kind_of b) may down))) path.source in
-        let two = one.1 b (at_place (path_with (a ∷ b ∷ c ∷ []) header) is 1 b (omega arith) refl (λ up. absurd (not_up (kind_of a) (kind_of b) may up))
-        (λ down. absurd (not_down (kind_of b) (kind_of c) also down))) (sym path.meet.0) in
-        (two.1 c (at_place (path_with (a ∷ b ∷ c ∷ []) header) is 2 c (omega arith) refl (λ up. absurd (not_up (kind_of b) (kind_of c) also up)) (λ _. path.destination)) (sym path.meet.1.0)).0
-        header is
-    met_of (a ∷ b ∷ c ∷ d ∷ more) header is =
+        let there = whole (path_with (a ∷ b ∷ c ∷ []) header) is in
+        (((tried a (there 0 a (omega arith)) path.source).1 b (there 1 b (omega arith)) (sym path.meet.0)).1 c (there 2 c (omega arith)) (sym path.meet.1.0)).0
+    of_pieces (a ∷ b ∷ c ∷ d ∷ more) header is =
         absurd (let few = path_is_short (a ∷ b ∷ c ∷ d ∷ more) question.src question.dst question.set.moment is.accepted.path in omega arith)
 
-    pub all_met : (path : PathValue) → IsCandidate question path → SpellsHeader (spelling path.header) path.header × IsMet kept path
-    all_met path is = met_of path.pieces path.header is
+    -- what holds of each list that was tried holds of the pieces of each candidate
+    pub of_candidate : (path : PathValue) → IsCandidate question path → P path.pieces
+    of_candidate path is = of_pieces path.pieces path.header is
 
--- ---- each path that is kept stands for its walk
+  goes_of : (pieces : List PieceValue) (header : HeaderValue) → IsCandidate question (path_with pieces header) → GoesOn usable_pieces 3 [] (path_with pieces header)
+  goes_of [] header is = absurd (let some = is.accepted.path.some in omega arith)
+  goes_of (a ∷ []) header is =
+      let there = whole (path_with (a ∷ []) header) is in
+      inr (a, there 0 a (omega arith), inl (ap (path_with (a ∷ [])) is.accepted.header))
+  goes_of (a ∷ b ∷ []) header is =
+      let there = whole (path_with (a ∷ b ∷ []) header) is in
+      inr (a, there 0 a (omega arith), inr (b, there 1 b (omega arith), inl (ap (path_with (a ∷ b ∷ [])) is.accepted.header)))
+  goes_of (a ∷ b ∷ c ∷ []) header is =
+      let there = whole (path_with (a ∷ b ∷ c ∷ []) header) is in
+      inr (a, there 0 a (omega arith), inr (b, there 1 b (omega arith), inr (c, there 2 c (omega arith), ap (path_with (a ∷ b ∷ c ∷ [])) is.accepted.header)))
+  goes_of (a ∷ b ∷ c ∷ d ∷ more) header is =
+      absurd (let few = path_is_short (a ∷ b ∷ c ∷ d ∷ more) question.src question.dst question.set.moment is.accepted.path in omega arith)
 
-apart_at : (paths : List PathValue) (j k : ℕ) (d e : PathValue) → InOrder by_walk paths → j < k → k < length paths → walk_of (get_or paths j d).pieces ≡ walk_of (get_or paths k e).pieces → ⊥
-apart_at paths j k d e order less within same =
-    let before = stand_before by_walk walks_total paths order j k d less within in
-    let tie = tied_walks (get_or paths j d) (get_or paths k d) (same ∙ ap (λ (p : PathValue). walk_of p.pieces) (default_of paths k e d within)) in
-    let both = sym before ∙ tie in
-    cc
+  pub goes_on : (path : PathValue) → IsCandidate question path → GoesOn usable_pieces 3 [] path
+  goes_on path is = goes_of path.pieces path.header is
 
-same_one : (paths : List PathValue) (j k : ℕ) (d e : PathValue) → InOrder by_walk paths → j < length paths → k < length paths
-    → walk_of (get_or paths j d).pieces ≡ walk_of (get_or paths k e).pieces → get_or paths j d ≡ get_or paths k e
-same_one paths j k d e apart inside within same = elim (cases_lt j k) [
-  | inl less ↦ absurd (apart_at paths j k d e apart less within same)
-  | inr upto ↦ elim (cases_lt k j) [
-    | inl more ↦ absurd (apart_at paths k j e d apart more inside (sym same))
-    | inr equal ↦ (let place : j ≡ k = omega arith in ap (λ (i : ℕ). get_or paths i d) place ∙ default_of paths k d e within)
-  ]
-]
+-- ---- the answer
 
-module _ (question : Question) (limit : ℕ) (kept ordered : List PathValue) (sound : All (IsCandidate question) kept) (apart : InOrder by_walk kept)
-    (met : (path : PathValue) → IsCandidate question path → SpellsHeader (spelling path.header) path.header × IsMet kept path) where
-  spelled : AreSpelled question
-  spelled path is = (met path is).0
+module _ (question : Question) (limit : ℕ) (usable_pieces : List PieceValue) (ordered : List PathValue) (own : All (IsOf question.set) usable_pieces)
+    (whole : HaveAll question usable_pieces) (spelled : AreSpelled question) (order : InOrder path_cmp ordered) (few : length ordered ≤ limit) (best : All (IsBest question) ordered)
+    (met : OfEachBehind (IsMetBy question limit ordered) usable_pieces 3 [] question.src) where
+  pairs : (paths : List PathValue) → InOrder path_cmp paths → AllPairs (λ one other. path_cmp one other ≡ Less) paths
+  pairs [] is = λ i j d less within. absurd (omega arith)
+  pairs (path ∷ paths) is =
+      AllPairs-cons (λ one other. path_cmp one other ≡ Less) path paths (All-from_recursion (λ other. path_cmp path other ≡ Less) paths is.0) (pairs paths is.1)
 
-  no_worse_than_any : (k : ℕ) (d : PathValue) → k < length kept → (other : PathValue) → IsCandidate question other → HaveOneWalk other (get_or kept k d) → IsNoWorse (get_or kept k d) other
-  no_worse_than_any k d within other is same =
-      let some = (met other is).1 in
-      let walks : walk_of (get_or kept some.0 some.1).pieces ≡ walk_of (get_or kept k d).pieces = ap (λ (p : PathValue). walk_of p.pieces) some.3 ∙ some.4.0 ∙ same in
-      let one : some.1 ≡ get_or kept k d = sym some.3 ∙ same_one kept some.0 k some.1 d apart some.2 within walks in
-      subst (λ (p : PathValue). IsNoWorse p other) one some.4.1
+  once : AllPairs (λ one other. ¬ (HaveOneWalk one other)) ordered
+  once i j d less within same =
+      let first = best i d (omega arith) in
+      let second = best j d within in
+      let tie = tied_shown (get_or ordered i d) (get_or ordered j d) (best_is_one question spelled (get_or ordered i d) (get_or ordered j d) first second same) in
+      let both = sym (pairs ordered order i j d less within) ∙ tie in
+      cc
 
-  all_best : All (IsBest question) kept
-  all_best k d within = record {
-    candidate = sound k d within;
-    latest = λ other is same. (no_worse_than_any k d within other is same).latest;
-    least = λ other is same. (no_worse_than_any k d within other is same).least;
-  }
+  tied_walk : (paths : List PathValue) (one path : PathValue) → All (IsBest question) paths → IsCandidate question one → HaveOneWalk one path → Tied path_cmp one paths → Any (λ p. HaveOneWalk p path) paths
+  tied_walk [] one path all is same tied = absurd tied
+  tied_walk (first ∷ paths) one path all is same (inl tie) =
+      let shows = same_shown one first (spelled one is) (spelled first (all 0 first (omega arith)).candidate) tie in
+      (0, first, omega arith, refl, sym (ap (λ (s : _ × List WalkHop). s.1) shows) ∙ same)
+  tied_walk (first ∷ paths) one path all is same (inr tied) =
+      let some = tied_walk paths one path (λ k d within. all (suc k) d (omega arith)) is same tied in
+      (suc some.0, some.1, (let within = some.2 in omega arith), some.3, some.4)
 
-  module _ (order : InOrder path_cmp ordered) (few : length ordered ≤ limit) (taken : (path : PathValue) → Contains kept path → Met path_cmp limit ordered path)
-      (best_too : All (IsBest question) kept → All (IsBest question) ordered) where
-    best : All (IsBest question) ordered
-    best = best_too all_best
+  met_best : (path : PathValue) → IsBest question path → Met path_cmp limit ordered path
+  unfolding IsMetBy
+  met_best path is = of_candidate question usable_pieces whole (IsMetBy question limit ordered) met path is.candidate path.header is
 
-    pairs : (paths : List PathValue) → InOrder path_cmp paths → AllPairs (λ one other. path_cmp one other ≡ Less) paths
-    pairs [] is = λ i j d less within. absurd (omega arith)
-    pairs (path ∷ paths) is =
-        AllPairs-cons (λ one other. path_cmp one other ≡ Less) path paths (All-from_recursion (λ other. path_cmp path other ≡ Less) paths is.0) (pairs paths is.1)
+  each : (path : PathValue) → IsCandidate question path → Any (λ one. HaveOneWalk one path) ordered ⊎ IsLeftOut question limit ordered path
+  each path is =
+      let first = best_there question path is usable_pieces own (goes_on question usable_pieces whole) in
+      elim (met_best first.0 first.1) [
+        | inl tied ↦ inl (tied_walk ordered first.0 path best first.1.candidate first.2 tied)
+        | inr full ↦ inr (record { full = full.0; best = first.0; is_best = first.1; same = first.2; behind = All-from_recursion (λ one. path_cmp one first.0 ≡ Less) ordered full.1 })
+      ]
 
-    once : AllPairs (λ one other. ¬ (HaveOneWalk one other)) ordered
-    once i j d less within same =
-        let first = best i d (omega arith) in
-        let second = best j d within in
-        let tie = tied_shown (get_or ordered i d) (get_or ordered j d) (best_is_one question spelled (get_or ordered i d) (get_or ordered j d) first second same) in
-        let both = sym (pairs ordered order i j d less within) ∙ tie in
-        cc
-
-    tied_walk : (paths : List PathValue) (one path : PathValue) → All (IsBest question) paths → IsCandidate question one → HaveOneWalk one path → Tied path_cmp one paths → Any (λ p. HaveOneWalk p path) paths
-    tied_walk [] one path all is same tied = absurd tied
-    tied_walk (first ∷ paths) one path all is same (inl tie) =
-        let shows = same_shown one first (spelled one is) (spelled first (all 0 first (omega arith)).candidate) tie in
-        (0, first, omega arith, refl, sym (ap (λ (s : _ × List WalkHop). s.1) shows) ∙ same)
-    tied_walk (first ∷ paths) one path all is same (inr tied) =
-        let some = tied_walk paths one path (λ k d within. all (suc k) d (omega arith)) is same tied in
-        (suc some.0, some.1, (let within = some.2 in omega arith), some.3, some.4)
-
-    whole : (path : PathValue) → IsCandidate question path → Any (λ one. HaveOneWalk one path) ordered ⊎ IsLeftOut question limit ordered path
-    whole path is =
-        let some = (met path is).1 in
-        let here : IsBest question some.1 = subst (IsBest question) some.3 (all_best some.0 some.1 some.2) in
-        elim (taken some.1 (some.0, some.2, some.3)) [
-          | inl tied ↦ inl (tied_walk ordered some.1 path best here.candidate some.4.0 tied)
-          | inr full ↦ inr (record { full = full.0; best = some.1; is_best = here; same = some.4.0; behind = All-from_recursion (λ one. path_cmp one some.1 ≡ Less) ordered full.1 })
-        ]
-
-    pub answer : IsAnswer question limit ordered
-    answer = record { best = best; once = once; ordered = pairs ordered order; few = few; whole = whole }
+  pub answer : IsAnswer question limit ordered
+  answer = record { best = best; once = once; ordered = pairs ordered order; few = few; whole = each }

@@ -1,47 +1,14 @@
 -- What loops collect.
-use Rattle.std.proofs.Common.{◌≡◌, ℕ, zero, suc, ◌+◌, ◌<◌, ◌≤◌, Bool, List, [], ◌∷◌, ◌++◌, length, get_or, take, All, Contains, Option, Some, None, MatchOption, refl, sym, ap, subst, ◌∙◌, inl, inr, arith, add-one}
+use Rattle.std.proofs.Common.{◌≡◌, ℕ, zero, suc, ◌+◌, ◌<◌, ◌≤◌, Bool, List, [], ◌∷◌, ◌++◌, length, get_or, take, All, Contains, refl, sym, ap, subst, ◌∙◌, inl, inr, arith, add-one}
 use Rattle.std.specs.Prelude.{◌⊎◌}
-use Rattle.std.proofs.lemmas.List.Elements.{All-pop, Contains-push_cases}
+use Rattle.std.specs.Prelude.{slice_get}
+use Rattle.std.proofs.lemmas.Bool.{cases_lt}
+use Rattle.std.proofs.lemmas.Option.{same_Some}
+use Rattle.std.proofs.lemmas.List.Elements.{All-push, Contains-push_cases}
 use Rattle.path_segment.specs.declared.kind.SegKind.TheVariants as kinds
 use Rattle.path_segment.specs.Chain.{Chain}
 use Rattle.path_verifier.specs.Piece.{PieceValue, HasRange}
-use Rattle.combinator.specs.Candidate.{Question, PathValue}
-use Rattle.combinator.specs.Order.{path_cmp}
-use Rattle.combinator.specs.Answer.{IsBest}
-use Rattle.combinator.specs.inner.Placed.{Met}
 use Rattle.combinator.specs.inner.UsablePieces.{piece_of, outer_of, IsCut, IsWhole, AreIn}
-
--- ---- paths taken into an answer one by one
-
-pub step_met : (limit : ℕ) (kept rest rest' ordered ordered' : List PathValue) (found : PathValue) → rest ≡ rest' ++ found ∷ [] → Met path_cmp limit ordered' found
-    → ((path : PathValue) → Met path_cmp limit ordered path → Met path_cmp limit ordered' path)
-    → ((path : PathValue) → Contains kept path → Contains rest path ⊎ Met path_cmp limit ordered path)
-    → (path : PathValue) → Contains kept path → Contains rest' path ⊎ Met path_cmp limit ordered' path
-step_met limit kept rest rest' ordered ordered' found is new others so_far path there = elim (so_far path there) [
-  | inl left ↦ elim (Contains-push_cases rest' found path (subst (λ (paths : List PathValue). Contains paths path) is left)) [
-    | inl still ↦ inl still
-    | inr same ↦ inr (subst (λ (one : PathValue). Met path_cmp limit ordered' one) same new)
-  ]
-  | inr met ↦ inr (others path met)
-]
-
-pub step_best : (question : Question) (rest rest' ordered ordered' : List PathValue) (found : PathValue) → rest ≡ rest' ++ found ∷ []
-    → (All (IsBest question) ordered → IsBest question found → All (IsBest question) ordered')
-    → All (IsBest question) rest × All (IsBest question) ordered → All (IsBest question) rest' × All (IsBest question) ordered'
-step_best question rest rest' ordered ordered' found is more both =
-    let parts = All-pop (IsBest question) rest rest' (Some found) is both.0 in
-    (parts.0, more both.1 parts.1)
-
-pub none_left : (limit : ℕ) (kept rest ordered : List PathValue) → length rest ≡ 0 → ((path : PathValue) → Contains kept path → Contains rest path ⊎ Met path_cmp limit ordered path)
-    → (path : PathValue) → Contains kept path → Met path_cmp limit ordered path
-none_left limit kept rest ordered none so_far path there = elim (so_far path there) [
-  | inl left ↦ absurd (let within = left.1 in omega arith)
-  | inr met ↦ met
-]
-
-pub popped : (result : Option PathValue) (n m : ℕ) → MatchOption result ((n ≡ 0) × (m ≡ 0)) (λ _. m + 1 ≡ n) → ((x : PathValue) → result ≡ Some x → ⊥) → n ≡ 0
-popped None n m cases never = cases.0
-popped (Some x) n m cases never = absurd (never x refl)
 
 -- ---- pieces of segments
 
@@ -76,6 +43,30 @@ by_items P Q xs i x within is lasts so_far here y there = elim (taken_more xs i 
 
 pub at_end : {X : Type 0} (P : X → Type 0) (xs : List X) (i : ℕ) → length xs ≤ i → ((y : X) → Contains (take i xs) y → P y) → (y : X) → Contains xs y → P y
 at_end {X} P xs i past so_far y there = so_far y (subst (λ (ys : List X). Contains ys y) (sym (take_past xs i past)) there)
+
+pub all_more : {X : Type 0} (P : X → Type 0) (xs : List X) (i : ℕ) (x : X) → i < length xs → x ≡ get_or xs i x → All P (take i xs) → P x → All P (take (i + 1) xs)
+all_more {X} P xs i x within is so_far here =
+    subst (All P) (sym (front xs i x within ∙ ap (λ (y : X). take i xs ++ y ∷ []) (sym is))) (All-push P (take i xs) x so_far here)
+
+pub all_taken : {X : Type 0} (P : X → Type 0) (xs : List X) (i : ℕ) → length xs ≤ i → All P (take i xs) → All P xs
+all_taken P xs i past all = subst (All P) (take_past xs i past) all
+
+-- lists that are the same up to a place, and at it
+pub same_upto : {X : Type 0} (xs ys : List X) (i : ℕ) → ((k : ℕ) → k < i → slice_get xs k ≡ slice_get ys k) → slice_get xs i ≡ slice_get ys i
+    → (k : ℕ) → k < i + 1 → slice_get xs k ≡ slice_get ys k
+same_upto xs ys i so_far here k less = elim (cases_lt k i) [
+  | inl before ↦ so_far k before
+  | inr upto ↦ (let same : i ≡ k = omega (arith, less, upto) in subst (λ (n : ℕ). slice_get xs n ≡ slice_get ys n) same here)
+]
+
+pub same_lists : {X : Type 0} (xs ys : List X) → length xs ≡ length ys → ((k : ℕ) → k < length xs → slice_get xs k ≡ slice_get ys k) → xs ≡ ys
+same_lists [] [] count all = refl
+same_lists [] (y ∷ ys) count all = absurd (omega (arith, count))
+same_lists (x ∷ xs) [] count all = absurd (omega (arith, count))
+same_lists (x ∷ xs) (y ∷ ys) count all =
+    let first = same_Some x y (all 0 (omega arith)) in
+    let later = same_lists xs ys (omega (arith, count)) (λ k within. all (suc k) (omega (arith, within))) in
+    ap (λ z. z ∷ xs) first ∙ ap (λ zs. y ∷ zs) later
 
 -- a piece of this segment is among what was collected of it
 cut_here : (segment : Chain) (along : Bool) (outer : ℕ) (usable_pieces : List PieceValue)

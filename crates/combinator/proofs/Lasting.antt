@@ -1,19 +1,20 @@
 -- Comparing two paths of one walk by the moment at which they expire, and by the bytes of their
 -- headers.
-use Rattle.std.proofs.Common.{◌≡◌, ℕ, ◌<◌, ◌≤◌, List, All, refl, sym, ap, subst, ◌∙◌, arith}
+use Rattle.std.proofs.Common.{◌≡◌, ℕ, ◌<◌, ◌≤◌, false, List, All, refl, sym, ap, ◌∙◌, arith}
 use Rattle.std.specs.Prelude.{◌≢◌}
 use Rattle.std.specs.declared.cmp.Ordering.{Ordering}
 use Rattle.std.specs.declared.cmp.Ordering.TheVariants.{Less, Equal, Greater}
-use Rattle.std.specs.Ordering.{nat_cmp, ordering_reverse}
+use Rattle.std.specs.Ordering.{nat_cmp, ordering_reverse, is_gt}
 use Rattle.std.specs.Cmp.Lexicographic.{slice_cmp}
 use Rattle.hop_mac.specs.Lifetime.{expiry_of}
+use Rattle.path_header.specs.Value.{HeaderValue}
 use Rattle.path_header.specs.Spelling.{SpellsHeader, spelling}
 use Rattle.path_verifier.specs.Piece.{PieceValue, entries_of}
 use Rattle.path_verifier.specs.Accepted.{IsExpiry}
-use Rattle.std.proofs.lemmas.Cmp.{nat_list_cmp_total}
+use Rattle.std.proofs.lemmas.Cmp.{upto, tied_itself}
 use Rattle.combinator.specs.Candidate.{PathValue}
 use Rattle.combinator.specs.Order.{bytes_cmp, LastTo, LastAsLong}
-use Rattle.combinator.specs.inner.BestByWalk.{IsNoWorse}
+use Rattle.combinator.specs.inner.Search.{IsNoWorse}
 use Rattle.combinator.proofs.Ranks.{bytes_total}
 
 last_to : (pieces : List PieceValue) (least half : ℕ) → IsExpiry pieces least → half ≤ least → LastTo half pieces
@@ -44,21 +45,60 @@ not_less Less one other e upto less = (let back : bytes_cmp other.header one.hea
 not_less Equal one other e upto less = (let back : bytes_cmp other.header one.header ≡ Equal = bytes_total.antisymm other.header one.header ∙ ap ordering_reverse e in let both = sym less ∙ back in cc)
 not_less Greater one other e upto less = upto refl
 
-pub fewer_bytes : (one other : PathValue) (e f : ℕ) (bytes text : List ℕ) → IsExpiry one.pieces e → IsExpiry other.pieces f → e ≡ f
-    → SpellsHeader bytes one.header → SpellsHeader text other.header → slice_cmp nat_cmp bytes text ≢ Greater → IsNoWorse one other
-unfolding bytes_cmp
-fewer_bytes one other e f bytes text is also same first second upto = record {
+-- of two paths that expire at the same time, one whose header's bytes are no greater is no worse
+pub no_more_bytes : (one other : PathValue) (e f : ℕ) → IsExpiry one.pieces e → IsExpiry other.pieces f → e ≡ f → bytes_cmp one.header other.header ≢ Greater → IsNoWorse one other
+no_more_bytes one other e f is also same upto = record {
   latest = as_long one other e f is also (omega arith);
-  least = λ as_late. not_less (bytes_cmp one.header other.header) one other refl (λ more. upto (ap (λ (b : List ℕ). slice_cmp nat_cmp b text) first.spelled ∙ ap (slice_cmp nat_cmp (spelling one.header)) second.spelled ∙ more));
+  least = λ as_late. not_less (bytes_cmp one.header other.header) one other refl upto;
 }
 
--- ---- as the code sees two paths
+-- ---- a better path of the same walk
 
-pub seen : (p q one other : PathValue) → p ≡ one → q ≡ other → IsNoWorse p q → IsNoWorse one other
-seen p q one other first second fact = subst (λ (path : PathValue). IsNoWorse path other) first (subst (λ (path : PathValue). IsNoWorse p path) second fact)
+pub never_worse_later : (one other : PathValue) (e f : ℕ) → IsExpiry one.pieces e → IsExpiry other.pieces f → e < f → ¬ (IsNoWorse one other)
+never_worse_later one other e f is also later no_worse =
+    let lasts = no_worse.latest f (last_to other.pieces f f also (omega arith)) in
+    let up = up_to one.pieces e f is lasts in
+    omega (arith, later, up)
 
-pub turned_cmp : (bytes text : List ℕ) → slice_cmp nat_cmp bytes text ≡ Greater → slice_cmp nat_cmp text bytes ≢ Greater
-turned_cmp bytes text greater again =
-    let back : slice_cmp nat_cmp text bytes ≡ Less = nat_list_cmp_total.antisymm text bytes ∙ ap ordering_reverse greater in
-    let both = sym again ∙ back in
-    cc
+pub never_worse_bytes : (one other : PathValue) (e f : ℕ) (bytes text : List ℕ) → IsExpiry one.pieces e → IsExpiry other.pieces f → e ≡ f
+    → SpellsHeader bytes one.header → SpellsHeader text other.header → slice_cmp nat_cmp text bytes ≡ Less → ¬ (IsNoWorse one other)
+unfolding bytes_cmp
+never_worse_bytes one other e f bytes text is also same first second less no_worse =
+    no_worse.least (as_long other one f e also is (omega (arith, same)))
+    (ap (λ (b : List ℕ). slice_cmp nat_cmp b (spelling one.header)) (sym second.spelled) ∙ ap (slice_cmp nat_cmp text) (sym first.spelled) ∙ less)
+
+pub no_fewer_bytes : (one other : PathValue) (e f : ℕ) (bytes text : List ℕ) → IsExpiry one.pieces e → IsExpiry other.pieces f → e ≡ f
+    → SpellsHeader bytes one.header → SpellsHeader text other.header → slice_cmp nat_cmp text bytes ≢ Less → IsNoWorse one other
+unfolding bytes_cmp
+no_fewer_bytes one other e f bytes text is also same first second upto = record {
+  latest = as_long one other e f is also (omega (arith, same));
+  least = λ as_late less. upto
+      (ap (λ (b : List ℕ). slice_cmp nat_cmp b bytes) second.spelled ∙ ap (slice_cmp nat_cmp (spelling other.header)) first.spelled ∙ less);
+}
+
+-- ---- no worse, one after another
+
+not_greater : (c : Ordering) (one other : HeaderValue) → bytes_cmp one other ≡ c → bytes_cmp other one ≢ Less → is_gt (bytes_cmp one other) ≡ false
+not_greater Less one other e upto = rw e refl
+not_greater Equal one other e upto = rw e refl
+not_greater Greater one other e upto = absurd (upto (bytes_total.antisymm other one ∙ ap ordering_reverse e))
+
+still_not_less : (c : Ordering) (one other : HeaderValue) → bytes_cmp one other ≡ c → is_gt c ≡ false → bytes_cmp other one ≢ Less
+still_not_less Less one other e upto less = (let back : bytes_cmp other one ≡ Greater = bytes_total.antisymm other one ∙ ap ordering_reverse e in let both = sym less ∙ back in cc)
+still_not_less Equal one other e upto less = (let back : bytes_cmp other one ≡ Equal = bytes_total.antisymm other one ∙ ap ordering_reverse e in let both = sym less ∙ back in cc)
+still_not_less Greater one other e upto less = absurd cc
+
+pub no_worse_on : (one other third : PathValue) → IsNoWorse one other → IsNoWorse other third → IsNoWorse one third
+no_worse_on one other third first second = record {
+  latest = λ half lasts. first.latest half (second.latest half lasts);
+  least = λ as_late.
+      let here = not_greater (bytes_cmp one.header other.header) one.header other.header refl (first.least (λ half lasts. second.latest half (as_late half lasts))) in
+      let there = not_greater (bytes_cmp other.header third.header) other.header third.header refl (second.least (λ half lasts. as_late half (first.latest half lasts))) in
+      still_not_less (bytes_cmp one.header third.header) one.header third.header refl (upto bytes_total one.header other.header third.header here there);
+}
+
+pub no_worse_itself : (one : PathValue) → IsNoWorse one one
+no_worse_itself one = record {
+  latest = λ half lasts. lasts;
+  least = λ _. still_not_less Equal one.header one.header (tied_itself bytes_total one.header) refl;
+}

@@ -6,9 +6,13 @@ pub mod Agreeing
 pub mod TakingIn
 pub mod Moments
 pub mod Lasting
-pub mod Keeping
+pub mod Decided
+pub mod Best
+pub mod WaysOut
+pub mod Spelled
 pub mod Collected
 pub mod Tried
 pub mod Answering
+pub mod Rivals
 pub mod Choosing
 pub mod Preferring

@@ -11,10 +11,8 @@ use Rattle.path_header.specs.Value.{HeaderValue}
 use Rattle.path_header.specs.Spelling.{SpellsHeader, spelling}
 use Rattle.path_header.proofs.WholeHeader.{spelled_once}
 use Rattle.policy_expr.specs.declared.hop.WalkHop.{WalkHop}
-use Rattle.path_verifier.specs.Walk.{walk_of}
 use Rattle.combinator.specs.Candidate.{PathValue}
-use Rattle.combinator.specs.Order.{header_and_walk, hop_cmp, walk_cmp, bytes_cmp, shown_cmp, path_cmp, HaveOneWalk}
-use Rattle.combinator.specs.inner.BestByWalk.{by_walk}
+use Rattle.combinator.specs.Order.{header_and_walk, hop_cmp, walk_cmp, bytes_cmp, shown_cmp, path_cmp}
 
 pub hop_total : IsTotalOrder hop_cmp
 hop_total =
@@ -33,9 +31,6 @@ shown_total =
 
 pub path_total : IsTotalOrder path_cmp
 path_total = on_total header_and_walk shown_total
-
-pub walks_total : IsTotalOrder by_walk
-walks_total = on_total (λ (path : PathValue). walk_of path.pieces) (lists_total hop_total)
 
 -- ---- ties
 
@@ -65,10 +60,6 @@ same_walk (hop ∷ one) (next ∷ other) e =
     let first = same_hop hop next parts.0 in
     let later = same_walk one other parts.1 in
     cc
-
--- paths of one walk stand at one place of the order of walks
-pub tied_walks : (one other : PathValue) → HaveOneWalk one other → by_walk one other ≡ Equal
-tied_walks one other same = ap (walk_cmp (walk_of one.pieces)) (sym same) ∙ tied_itself walks_total one
 
 -- headers of the grammar with the same bytes are one
 pub same_header : (one other : HeaderValue) → SpellsHeader (spelling one) one → SpellsHeader (spelling other) other → bytes_cmp one other ≡ Equal → one ≡ other

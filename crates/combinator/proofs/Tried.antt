@@ -1,72 +1,89 @@
 -- Trying lists of pieces one by one.
-use Rattle.std.proofs.Common.{◌≡◌, ℕ, zero, suc, ◌+◌, ◌<◌, List, [], ◌∷◌, ◌++◌, length, get_or, take, All, Contains, sym, subst, ap, ◌∙◌, arith}
-use Rattle.std.proofs.lemmas.List.{length-append}
-use Rattle.std.proofs.lemmas.List.Elements.{All-push}
+use Rattle.std.proofs.Common.{◌≡◌, ℕ, zero, suc, ◌+◌, ◌-◌, ◌<◌, ◌≤◌, Bool, true, false, cond, ltb, eqb, List, [], ◌∷◌, ◌++◌, length, get_or, take, All, Contains, Some, refl, sym, subst, ap, ◌∙◌, inr, arith, append_assoc, length-append}
+use Rattle.std.specs.List.{AllByRecursion, flat_map}
+use Rattle.std.specs.Ordering.{nat_cmp, ordering_then}
+use Rattle.std.specs.declared.cmp.Ordering.{Ordering}
+use Rattle.std.specs.declared.cmp.Ordering.TheVariants.{Less, Equal, Greater}
+use Rattle.std.specs.Prelude.{slice_get}
+use Rattle.std.proofs.lemmas.Bool.{lt-ltb, ltb-true, eqb-true}
+use Rattle.std.proofs.lemmas.Option.{same_Some}
+use Rattle.std.proofs.lemmas.List.Elements.{All-push, All-from_recursion, recursion_from_All}
+use Rattle.std.proofs.lemmas.List.Sums.{sum_by-cons}
+use Rattle.path_header.specs.Value.{HeaderValue}
 use Rattle.path_server.specs.Lookup.{Selection}
-use Rattle.path_verifier.specs.Piece.{PieceValue, begins_in, ends_in}
-use Rattle.path_verifier.specs.Header.{header_of}
+use Rattle.path_verifier.specs.Piece.{PieceValue, HasRange, begins_in, ends_in}
+use Rattle.path_verifier.specs.Header.{header_of, fields_of, len_of, total_hops}
 use Rattle.path_verifier.specs.Accepted.{Request, request_of, IsAccepted}
+use Rattle.path_verifier.proofs.Headers.{length_fields_of}
+use Rattle.path_verifier.proofs.TurnedCounts.{long_of}
 use Rattle.combinator.specs.Candidate.{Question, IsOf, PathValue, IsCandidate, path_with}
-use Rattle.combinator.specs.inner.BestByWalk.{IsNoWorseThan, AreMatched, AreTried}
+use Rattle.combinator.specs.Order.{path_cmp, shown_cmp}
+use Rattle.combinator.specs.Answer.{IsBest}
+use Rattle.combinator.specs.inner.Placed.{InOrder, Met}
+use Rattle.combinator.specs.inner.Search.{OfEachBehind, IsMetBy, StillMeet}
 use Rattle.combinator.proofs.Collected.{by_items}
 
-pub settled_on : (question : Question) (old new : List PathValue) (pieces : List PieceValue) → IsNoWorseThan question old new → AreMatched question old pieces → AreMatched question new pieces
-unfolding AreMatched
-settled_on question old new pieces goes matched = λ header candidate. (
-  (matched header candidate).0,
-  goes.met (path_with pieces header) (matched header candidate).1,
+-- ---- lists that begin with some pieces
+
+pub behind_on : (P Q : List PieceValue → Type 0) (usable_pieces : List PieceValue) (depth : ℕ) (pieces : List PieceValue) (at : ℕ) → ((list : List PieceValue) → P list → Q list)
+    → OfEachBehind P usable_pieces depth pieces at → OfEachBehind Q usable_pieces depth pieces at
+unfolding OfEachBehind
+behind_on P Q usable_pieces zero pieces at goes all = tt
+behind_on P Q usable_pieces (suc depth) pieces at goes all = λ piece there begins. (
+  goes (pieces ++ piece ∷ []) (all piece there begins).0,
+  behind_on P Q usable_pieces depth (pieces ++ piece ∷ []) (ends_in piece) goes (all piece there begins).1,
 )
 
-pub tried_on : (question : Question) (old new : List PathValue) (usable_pieces : List PieceValue) (depth : ℕ) (pieces : List PieceValue) (at : ℕ) → IsNoWorseThan question old new
-    → AreTried question old usable_pieces depth pieces at → AreTried question new usable_pieces depth pieces at
-unfolding AreTried
-tried_on question old new usable_pieces zero pieces at goes tried = tt
-tried_on question old new usable_pieces (suc depth) pieces at goes tried = λ piece there begins. (
-  settled_on question old new (pieces ++ piece ∷ []) goes (tried piece there begins).0,
-  tried_on question old new usable_pieces depth (pieces ++ piece ∷ []) (ends_in piece) goes (tried piece there begins).1,
+-- what holds of each longer list holds of each that is tried
+pub all_behind : (P : List PieceValue → Type 0) (usable_pieces : List PieceValue) (depth : ℕ) (pieces : List PieceValue) (at : ℕ)
+    → ((piece : PieceValue) (later : List PieceValue) → P (pieces ++ piece ∷ later)) → OfEachBehind P usable_pieces depth pieces at
+unfolding OfEachBehind
+all_behind P usable_pieces zero pieces at all = tt
+all_behind P usable_pieces (suc depth) pieces at all = λ piece there begins. (
+  all piece [],
+  all_behind P usable_pieces depth (pieces ++ piece ∷ []) (ends_in piece) (λ next later. subst P (sym (append_assoc pieces (piece ∷ []) (next ∷ later))) (all piece (next ∷ later))),
 )
 
 -- each piece that begins here was tried, and what goes on from it
-abbrev pub WasTried : Question → List PathValue → List PieceValue → ℕ → List PieceValue → ℕ → PieceValue → Type 0
-WasTried question paths usable_pieces depth pieces at piece = begins_in piece ≡ at
-    → AreMatched question paths (pieces ++ piece ∷ []) × AreTried question paths usable_pieces depth (pieces ++ piece ∷ []) (ends_in piece)
+abbrev pub WasTried : (List PieceValue → Type 0) → List PieceValue → ℕ → List PieceValue → ℕ → PieceValue → Type 0
+WasTried P usable_pieces depth pieces at piece = begins_in piece ≡ at → P (pieces ++ piece ∷ []) × OfEachBehind P usable_pieces depth (pieces ++ piece ∷ []) (ends_in piece)
 
-was_tried_on : (question : Question) (old new : List PathValue) (usable_pieces : List PieceValue) (depth : ℕ) (pieces : List PieceValue) (at : ℕ) → IsNoWorseThan question old new
-    → (piece : PieceValue) → WasTried question old usable_pieces depth pieces at piece → WasTried question new usable_pieces depth pieces at piece
-was_tried_on question old new usable_pieces depth pieces at goes piece was begins = (
-  settled_on question old new (pieces ++ piece ∷ []) goes (was begins).0,
-  tried_on question old new usable_pieces depth (pieces ++ piece ∷ []) (ends_in piece) goes (was begins).1,
+was_tried_on : (P Q : List PieceValue → Type 0) (usable_pieces : List PieceValue) (depth : ℕ) (pieces : List PieceValue) (at : ℕ) → ((list : List PieceValue) → P list → Q list)
+    → (piece : PieceValue) → WasTried P usable_pieces depth pieces at piece → WasTried Q usable_pieces depth pieces at piece
+was_tried_on P Q usable_pieces depth pieces at goes piece was begins = (
+  goes (pieces ++ piece ∷ []) (was begins).0,
+  behind_on P Q usable_pieces depth (pieces ++ piece ∷ []) (ends_in piece) goes (was begins).1,
 )
 
-pub tried_here : (question : Question) (paths : List PathValue) (usable_pieces : List PieceValue) (depth : ℕ) (pieces longer : List PieceValue) (piece : PieceValue) (end at : ℕ)
-    → longer ≡ pieces ++ piece ∷ [] → end ≡ ends_in piece → AreMatched question paths longer → AreTried question paths usable_pieces depth longer end
-    → WasTried question paths usable_pieces depth pieces at piece
-tried_here question paths usable_pieces depth pieces longer piece end at is ends matched tried = λ begins. (
-  subst (AreMatched question paths) is matched,
-  subst (λ more. AreTried question paths usable_pieces depth more (ends_in piece)) is (subst (AreTried question paths usable_pieces depth longer) ends tried),
+pub tried_here : (P : List PieceValue → Type 0) (usable_pieces : List PieceValue) (depth : ℕ) (pieces longer : List PieceValue) (piece : PieceValue) (end at : ℕ)
+    → longer ≡ pieces ++ piece ∷ [] → end ≡ ends_in piece → P longer → OfEachBehind P usable_pieces depth longer end → WasTried P usable_pieces depth pieces at piece
+tried_here P usable_pieces depth pieces longer piece end at is ends here behind = λ begins. (
+  subst P is here,
+  subst (λ more. OfEachBehind P usable_pieces depth more (ends_in piece)) is (subst (OfEachBehind P usable_pieces depth longer) ends behind),
 )
 
-pub tried_more : (question : Question) (before after : List PathValue) (usable_pieces : List PieceValue) (depth : ℕ) (pieces : List PieceValue) (at i : ℕ) (piece : PieceValue)
-    → i < length usable_pieces → piece ≡ get_or usable_pieces i piece → IsNoWorseThan question before after
-    → ((one : PieceValue) → Contains (take i usable_pieces) one → WasTried question before usable_pieces depth pieces at one) → WasTried question after usable_pieces depth pieces at piece
-    → (one : PieceValue) → Contains (take (i + 1) usable_pieces) one → WasTried question after usable_pieces depth pieces at one
-tried_more question before after usable_pieces depth pieces at i piece within is goes =
-    by_items (WasTried question before usable_pieces depth pieces at) (WasTried question after usable_pieces depth pieces at) usable_pieces i piece within is
-    (was_tried_on question before after usable_pieces depth pieces at goes)
+pub tried_more : (P Q : List PieceValue → Type 0) (usable_pieces : List PieceValue) (depth : ℕ) (pieces : List PieceValue) (at i : ℕ) (piece : PieceValue)
+    → i < length usable_pieces → piece ≡ get_or usable_pieces i piece → ((list : List PieceValue) → P list → Q list)
+    → ((one : PieceValue) → Contains (take i usable_pieces) one → WasTried P usable_pieces depth pieces at one) → WasTried Q usable_pieces depth pieces at piece
+    → (one : PieceValue) → Contains (take (i + 1) usable_pieces) one → WasTried Q usable_pieces depth pieces at one
+tried_more P Q usable_pieces depth pieces at i piece within is goes =
+    by_items (WasTried P usable_pieces depth pieces at) (WasTried Q usable_pieces depth pieces at) usable_pieces i piece within is
+    (was_tried_on P Q usable_pieces depth pieces at goes)
 
-pub none_tried : (question : Question) (paths : List PathValue) (usable_pieces : List PieceValue) (depth : ℕ) (pieces : List PieceValue) (at : ℕ) → depth ≡ 0
-    → AreTried question paths usable_pieces depth pieces at
-unfolding AreTried
-none_tried question paths usable_pieces zero pieces at is = tt
-none_tried question paths usable_pieces (suc depth) pieces at is = absurd (omega (arith, is))
+pub none_tried : (P : List PieceValue → Type 0) (usable_pieces : List PieceValue) (depth : ℕ) (pieces : List PieceValue) (at : ℕ) → depth ≡ 0 → OfEachBehind P usable_pieces depth pieces at
+unfolding OfEachBehind
+none_tried P usable_pieces zero pieces at is = tt
+none_tried P usable_pieces (suc depth) pieces at is = absurd (omega (arith, is))
 
-pub all_tried : (question : Question) (paths : List PathValue) (usable_pieces : List PieceValue) (depth left : ℕ) (pieces : List PieceValue) (at : ℕ) → left + 1 ≡ depth
-    → ((piece : PieceValue) → Contains usable_pieces piece → WasTried question paths usable_pieces left pieces at piece) → AreTried question paths usable_pieces depth pieces at
-unfolding AreTried
-all_tried question paths usable_pieces zero left pieces at is all = tt
-all_tried question paths usable_pieces (suc depth) left pieces at is all =
+pub all_tried : (P : List PieceValue → Type 0) (usable_pieces : List PieceValue) (depth left : ℕ) (pieces : List PieceValue) (at : ℕ) → left + 1 ≡ depth
+    → ((piece : PieceValue) → Contains usable_pieces piece → WasTried P usable_pieces left pieces at piece) → OfEachBehind P usable_pieces depth pieces at
+unfolding OfEachBehind
+all_tried P usable_pieces zero left pieces at is all = tt
+all_tried P usable_pieces (suc depth) left pieces at is all =
     let same : left ≡ depth = omega (arith, is) in
-    subst (λ (n : ℕ). (piece : PieceValue) → Contains usable_pieces piece → WasTried question paths usable_pieces n pieces at piece) same all
+    subst (λ (n : ℕ). (piece : PieceValue) → Contains usable_pieces piece → WasTried P usable_pieces n pieces at piece) same all
+
+-- ---- a list with one more piece
 
 pub longer_by : (pieces longer : List PieceValue) (copy piece : PieceValue) → longer ≡ pieces ++ copy ∷ [] → copy ≡ piece → longer ≡ pieces ++ piece ∷ []
 longer_by pieces longer copy piece is same = is ∙ ap (λ (p : PieceValue). pieces ++ p ∷ []) same
@@ -76,6 +93,144 @@ one_more pieces longer piece is = ap length is ∙ length-append pieces (piece �
 
 pub own_more : (set : Selection) (pieces longer : List PieceValue) (piece : PieceValue) → longer ≡ pieces ++ piece ∷ [] → All (IsOf set) pieces → IsOf set piece → All (IsOf set) longer
 own_more set pieces longer piece is own one = subst (All (IsOf set)) (sym is) (All-push (IsOf set) pieces piece own one)
+
+pub ranges_more : (pieces longer : List PieceValue) (piece : PieceValue) → longer ≡ pieces ++ piece ∷ [] → AllByRecursion HasRange pieces → HasRange piece → AllByRecursion HasRange longer
+ranges_more pieces longer piece is ranges one =
+    subst (AllByRecursion HasRange) (sym is) (recursion_from_All HasRange (pieces ++ piece ∷ []) (All-push HasRange pieces piece (All-from_recursion HasRange pieces ranges) one))
+
+-- ---- what was met
+
+pub met_on : (question : Question) (limit : ℕ) (old new : List PathValue) → StillMeet limit old new → (pieces : List PieceValue) → IsMetBy question limit old pieces → IsMetBy question limit new pieces
+unfolding IsMetBy
+met_on question limit old new still pieces met = λ header best. still (path_with pieces header) (met header best)
+
+-- ---- numbers of hop fields
+
+flat_count : (pieces : List PieceValue) → length (flat_map fields_of pieces) ≡ total_hops pieces
+flat_count [] = refl
+flat_count (piece ∷ pieces) =
+    let both = length-append (fields_of piece) (flat_map fields_of pieces) in
+    let one = length_fields_of piece in
+    let more = flat_count pieces in
+    let sum = sum_by-cons len_of piece pieces in
+    omega (arith, both, one, more, sum)
+
+pub count_fields : (pieces : List PieceValue) → length (header_of pieces).hops ≡ total_hops pieces
+unfolding header_of
+count_fields pieces = flat_count pieces
+
+total_both : (front later : List PieceValue) → total_hops (front ++ later) ≡ total_hops front + total_hops later
+total_both [] later = (let none : total_hops [] ≡ 0 = refl in omega (arith, none))
+total_both (piece ∷ front) later =
+    let more = total_both front later in
+    let sum = sum_by-cons len_of piece front in
+    let whole = sum_by-cons len_of piece (front ++ later) in
+    omega (arith, more, sum, whole)
+
+-- a piece more has two hop fields more at least
+pub two_more : (front : List PieceValue) (piece : PieceValue) (later : List PieceValue) → All HasRange (front ++ piece ∷ later) → total_hops front + 2 ≤ total_hops (front ++ piece ∷ later)
+two_more [] piece later ranges =
+    let long = long_of piece (ranges 0 piece (omega arith)) in
+    let sum = sum_by-cons len_of piece later in
+    omega (arith, long, sum)
+two_more (first ∷ front) piece later ranges =
+    let more = two_more front piece later (λ k d within. ranges (suc k) d (omega (arith, within))) in
+    let sum = sum_by-cons len_of first front in
+    let whole = sum_by-cons len_of first (front ++ piece ∷ later) in
+    omega (arith, more, sum, whole)
+
+-- ---- paths that are full
+
+nat_less : (n m : ℕ) → n < m → nat_cmp n m ≡ Less
+nat_less n m less = rw (lt-ltb n m less) refl
+
+fewer_hops : (one other : PathValue) → length one.header.hops < length other.header.hops → path_cmp one other ≡ Less
+unfolding shown_cmp
+fewer_hops one other less = rw (nat_less (length one.header.hops) (length other.header.hops) less) refl
+
+all_before : (paths : List PathValue) (hops : ℕ) (path : PathValue) → AllByRecursion (λ (one : PathValue). length one.header.hops < hops) paths → hops ≤ length path.header.hops
+    → AllByRecursion (λ (one : PathValue). path_cmp one path ≡ Less) paths
+all_before [] hops path all upto = tt
+all_before (one ∷ paths) hops path all upto = (fewer_hops one path (let less = all.0 in omega (arith, less, upto)), all_before paths hops path all.1 upto)
+
+-- the paths are full, and each has fewer hop fields than this number
+abbrev pub AreFullBelow : ℕ → List PathValue → ℕ → Type 0
+AreFullBelow limit paths hops = (length paths ≡ limit) × AllByRecursion (λ (one : PathValue). length one.header.hops < hops) paths
+
+-- then they come before each path with so many
+pub met_below : (question : Question) (limit : ℕ) (paths : List PathValue) (hops : ℕ) (pieces : List PieceValue) → AreFullBelow limit paths hops
+    → (All HasRange pieces → hops ≤ total_hops pieces) → IsMetBy question limit paths pieces
+unfolding IsMetBy
+met_below question limit paths hops pieces full upto = λ header best.
+    let count : length header.hops ≡ total_hops pieces = ap (λ (h : HeaderValue). length h.hops) best.candidate.accepted.header ∙ count_fields pieces in
+    let many = upto best.candidate.accepted.path.ranges in
+    inr (full.0, all_before paths hops (path_with pieces header) full.1 (omega (arith, count, many)))
+
+-- and before all that begin with such pieces
+pub met_behind : (question : Question) (limit : ℕ) (paths : List PathValue) (hops : ℕ) (usable_pieces : List PieceValue) (depth : ℕ) (front : List PieceValue) (at : ℕ)
+    → AreFullBelow limit paths (hops + 2) → hops ≡ total_hops front → OfEachBehind (IsMetBy question limit paths) usable_pieces depth front at
+met_behind question limit paths hops usable_pieces depth front at full same =
+    all_behind (IsMetBy question limit paths) usable_pieces depth front at
+    (λ piece later. met_below question limit paths (hops + 2) (front ++ piece ∷ later) full (λ ranges. (let more = two_more front piece later ranges in omega (arith, same, more))))
+
+cond_less : (less same : Bool) → cond less Less (cond same Equal Greater) ≡ Less → less ≡ true
+cond_less true same is = refl
+cond_less false true is = absurd cc
+cond_less false false is = absurd cc
+
+cond_equal : (less same : Bool) → cond less Less (cond same Equal Greater) ≡ Equal → same ≡ true
+cond_equal true same is = absurd cc
+cond_equal false true is = refl
+cond_equal false false is = absurd cc
+
+less_upto : (n m : ℕ) → nat_cmp n m ≡ Less → n ≤ m
+less_upto n m is = (let less = ltb-true n m (cond_less (ltb n m) (eqb n m) is) in omega (arith, less))
+
+equal_upto : (n m : ℕ) → nat_cmp n m ≡ Equal → n ≤ m
+equal_upto n m is = (let same = eqb-true n m (cond_equal (ltb n m) (eqb n m) is) in omega (arith, same))
+
+upto_of : (c : Ordering) (n m : ℕ) (rest : Ordering) → nat_cmp n m ≡ c → ordering_then c rest ≡ Less → n ≤ m
+upto_of Less n m rest is less = less_upto n m is
+upto_of Equal n m rest is less = equal_upto n m is
+upto_of Greater n m rest is less = absurd cc
+
+fewer_before : (one other : PathValue) → path_cmp one other ≡ Less → length one.header.hops ≤ length other.header.hops
+unfolding shown_cmp
+fewer_before one other less =
+    upto_of (nat_cmp (length one.header.hops) (length other.header.hops)) (length one.header.hops) (length other.header.hops) _ refl less
+
+-- in order, the last path has the most hop fields
+pub full_below : (paths : List PathValue) (hops : ℕ) (last : PathValue) → InOrder path_cmp paths → slice_get paths (length paths - 1) ≡ Some last → length last.header.hops < hops
+    → AllByRecursion (λ (one : PathValue). length one.header.hops < hops) paths
+full_below [] hops last order is less = tt
+full_below (one ∷ []) hops last order is less = (subst (λ (path : PathValue). length path.header.hops < hops) (sym (same_Some one last is)) less, tt)
+full_below (one ∷ next ∷ paths) hops last order is less =
+    let place : length (one ∷ next ∷ paths) - 1 ≡ suc (length (next ∷ paths) - 1) = omega arith in
+    let more = full_below (next ∷ paths) hops last order.1 (subst (λ (n : ℕ). slice_get (one ∷ next ∷ paths) n ≡ Some last) place is) less in
+    let first = fewer_before one next order.0.0 in
+    let second = more.0 in
+    (omega (arith, first, second), more)
+
+-- ---- a list that was looked at
+
+pub met_none : (question : Question) (limit : ℕ) (paths : List PathValue) (pieces : List PieceValue) → ((header : HeaderValue) → ¬ (IsCandidate question (path_with pieces header))) → IsMetBy question limit paths pieces
+unfolding IsMetBy
+met_none question limit paths pieces never = λ header best. absurd (never header best.candidate)
+
+module _ (question : Question) (limit : ℕ) (paths : List PathValue) (pieces : List PieceValue) (found : PathValue) (is : found ≡ path_with pieces (header_of pieces)) where
+  pub met_not_best : ¬ (IsBest question found) → IsMetBy question limit paths pieces
+  unfolding IsMetBy
+  met_not_best never = λ header best. absurd (never (subst (IsBest question) (ap (path_with pieces) best.candidate.accepted.header ∙ sym is) best))
+
+  pub met_taken : Met path_cmp limit paths found → IsMetBy question limit paths pieces
+  unfolding IsMetBy
+  met_taken met = λ header best. subst (Met path_cmp limit paths) (is ∙ ap (path_with pieces) (sym best.candidate.accepted.header)) met
+
+pub path_is : (pieces own : List PieceValue) (header : HeaderValue) (found : PathValue) → found ≡ path_with own header → own ≡ pieces → header ≡ header_of pieces → found ≡ path_with pieces (header_of pieces)
+path_is pieces own header found is same_pieces same_header =
+    is ∙ ap (λ (ps : List PieceValue). path_with ps header) same_pieces ∙ ap (path_with pieces) same_header
+
+-- ---- what was accepted
 
 -- what was accepted for what was asked is a candidate
 pub candidate_of : (question : Question) (pieces : List PieceValue) (path : Request) (found : PathValue) → All (IsOf question.set) pieces

@@ -1,5 +1,5 @@
 -- Words of private functions' contracts alone: no clause of a public call cites one.
-pub mod BestByWalk
 pub mod Choice
 pub mod Placed
+pub mod Search
 pub mod UsablePieces

@@ -2,12 +2,12 @@
 //! it answers the path that expires last, in a fixed order and up to a limit.
 //!
 //! It lists the usable pieces once, each with the ASes at its ends, and joins pieces that meet. The
-//! verifier decides about each list of pieces. For each walk one path that may be sent is kept.
-//! These are then put in order and cut at the limit.
+//! verifier decides about each list of pieces. A path is kept if it is among the first of the
+//! answer and no path of the same walk is better. Lists with too many hop fields to be among the
+//! first are passed over.
 #![tactic(auto)]
 
 mod answer;
-mod best_by_walk;
 mod choice;
 mod combination;
 mod fault;

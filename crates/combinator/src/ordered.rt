@@ -1,38 +1,17 @@
-//! Puts paths into the order of an answer, up to its limit.
+//! Keeps paths in the order of an answer, up to its limit.
 
-ghost use Rattle.std.specs.Prelude.{◌≤◌, length, All, Contains, IfSome, IfNone, IfOk, OnOk};
+ghost use Rattle.std.specs.Prelude.{◌≤◌, length, All, IfSome, IfNone, IsTrue, OnOk};
 ghost use Rattle.combinator.specs.Candidate.{Question, PathValue};
 ghost use Rattle.combinator.specs.Order.{path_cmp};
 ghost use Rattle.combinator.specs.Answer.{IsBest};
 ghost use Rattle.combinator.specs.inner.Placed.{Tied, InOrder, IsGap, Met};
 
 use crate::ranked::RankedPath;
-use std::alloc::{AllocError, Allocator, Global};
+use std::alloc::{AllocError, Allocator};
 use std::cmp::Ordering;
 
-/// The first `limit` of these paths in the order of answers.
-pub(crate) fn in_order<'s, 'p, A: Allocator + Clone>(
-    alloc: Global,
-    kept: Vec<RankedPath<'s, 'p, A>>,
-    limit: usize,
-) -> Result<Vec<RankedPath<'s, 'p, A>>, AllocError>
-    ensures order { IfOk result (λ ordered. InOrder path_cmp ordered.items) }
-    ensures few { IfOk result (λ ordered. length ordered.items ≤ limit) }
-    ensures met { IfOk result (λ ordered. (path : PathValue) → Contains kept.entry.items path
-        → Met path_cmp limit ordered.items path) }
-    ensures best { IfOk result (λ ordered. (question : Question)
-        → All (IsBest question) kept.entry.items → All (IsBest question) ordered.items) }
-{
-    let mut rest = kept;
-    let mut ordered = Vec::new(alloc);
-    while let Some(found) = rest.pop() {
-        take_in(&mut ordered, found, limit)?;
-    }
-    Ok(ordered)
-}
-
 /// Adds a path to those in order; at most `limit` are kept.
-fn take_in<'s, 'p, A: Allocator + Clone>(
+pub(crate) fn take_in<'s, 'p, A: Allocator + Clone>(
     ordered: &mut Vec<RankedPath<'s, 'p, A>>,
     found: RankedPath<'s, 'p, A>,
     limit: usize,
@@ -56,6 +35,22 @@ fn take_in<'s, 'p, A: Allocator + Clone>(
     ordered.insert(place, found)?;
     ordered.truncate(limit);
     Ok(())
+}
+
+/// Whether a path is among those in order, or these are `limit` paths that come before it.
+pub(crate) fn is_met<'s, 'p, A: Allocator + Clone>(
+    ordered: &[RankedPath<'s, 'p, A>],
+    found: &RankedPath<'s, 'p, A>,
+    limit: usize,
+) -> bool
+    requires order { InOrder path_cmp ordered.now }
+    requires few { length ordered.now ≤ limit }
+    ensures { IsTrue result → Met path_cmp limit ordered.now found.now }
+{
+    match place_in(ordered, found) {
+        Some(place) => place >= limit,
+        None => true,
+    }
 }
 
 /// The place where a path belongs, or nothing if a path with the same header and walk is there.

@@ -1,9 +1,14 @@
-ghost use Rattle.std.specs.Prelude.{◌≡◌, ◌⊎◌, IfOk, OnOk, IsTrue};
+ghost use Rattle.std.specs.Prelude.{◌≡◌, ◌≢◌, length, IfOk, OnOk, IsTrue, IsFalse};
+ghost use Rattle.std.specs.Ordering.{nat_cmp};
+ghost use Rattle.std.specs.Cmp.Lexicographic.{slice_cmp};
+ghost use Rattle.std.specs.declared.cmp.Ordering.TheVariants.{Less};
 ghost use Rattle.path_header.specs.Spelling.{SpellsHeader, spelling};
+ghost use Rattle.path_verifier.specs.Walk.{walk_of};
+ghost use Rattle.combinator.specs.Candidate.{path_with};
 ghost use Rattle.combinator.specs.Order.{path_cmp, walk_cmp, hop_cmp};
-ghost use Rattle.combinator.specs.inner.BestByWalk.{by_walk, IsNoWorse};
+ghost use Rattle.combinator.specs.inner.Search.{IsNoWorse};
 
-use path_header::{MAX_HEADER_LEN, encode};
+use path_header::{Header, MAX_HEADER_LEN, encode};
 use path_verifier::VerifiedPath;
 use policy_expr::{Policy, WalkHop};
 use std::alloc::{AllocError, Allocator, Global};
@@ -98,31 +103,54 @@ impl<'s, 'p, A: Allocator + Clone> RankedPath<'s, 'p, A> {
         }
     }
 
-    /// Compares the walks of both paths.
-    pub(crate) fn compare_walk(&self, other: &RankedPath<'s, 'p, A>) -> Ordering
-        ensures { result ≡ by_walk self.now other.now }
+    /// The number of its hop fields.
+    pub(crate) fn hop_count(&self) -> usize
+        ensures { result ≡ length self.now.header.hops }
     {
-        compare_walks(self.parts.path.walk(), other.parts.path.walk())
+        self.parts.path.header().hop_count()
     }
 
-    /// Whether this path expires no earlier than the other and, if both expire at the same time,
-    /// has no greater header bytes. If not, the other path is no worse.
-    #[tactic(auto, using(crate::proofs::Lasting::later_wins, crate::proofs::Lasting::fewer_bytes))]
-    pub(crate) fn is_no_worse(&self, other: &RankedPath<'s, 'p, A>) -> bool
-        ensures it { IsTrue result → IsNoWorse self.now other.now }
-        ensures other { IsTrue result ⊎ IsNoWorse other.now self.now }
+    /// Whether another path has the same walk.
+    pub(crate) fn has_walk_of(&self, other: &VerifiedPath<'s, 'p, A>) -> bool
+        ensures same { IsTrue result → walk_of other.entry.now.pieces ≡ walk_of self.now.pieces }
+        ensures other { IsFalse result → ¬ (walk_of other.entry.now.pieces ≡ walk_of self.now.pieces) }
     {
-        let (one, other) = (&*self.parts, &*other.parts);
-        if one.expiry > other.expiry {
-            return true;
+        match compare_walks(self.parts.path.walk(), other.walk()) {
+            Ordering::Equal => true,
+            _ => false,
         }
-        if one.expiry < other.expiry {
-            return false;
+    }
+
+    /// Whether another path expires later, or at the same time and has smaller header bytes.
+    pub(crate) fn is_worse(&self, other: &VerifiedPath<'s, 'p, A>) -> bool
+        ensures worse { IsTrue result
+            → ¬ (IsNoWorse self.now (path_with other.entry.now.pieces other.entry.now.header)) }
+        ensures no_worse { IsFalse result
+            → IsNoWorse self.now (path_with other.entry.now.pieces other.entry.now.header) }
+    {
+        let expiry = other.expiry();
+        let mine = self.parts.expiry;
+        if expiry != mine {
+            return expiry > mine;
         }
-        match one.bytes.as_slice().cmp(other.bytes.as_slice()) {
-            Ordering::Greater => false,
-            _ => true,
-        }
+        comes_before(other.header(), &self.parts.bytes)
+    }
+}
+
+/// Whether the bytes of a header come before these bytes.
+fn comes_before(header: &Header, bytes: &[u8]) -> bool
+    ensures less { IsTrue result → slice_cmp nat_cmp (spelling header.now) bytes.now ≡ Less }
+    ensures not_less { IsFalse result → slice_cmp nat_cmp (spelling header.now) bytes.now ≢ Less }
+    ensures spelled { SpellsHeader (spelling header.now) header.now }
+{
+    let mut room = [0; MAX_HEADER_LEN];
+    let _len = header.encoded_len();
+    let Ok(len) = encode(header, &mut room) else {
+        unreachable!();
+    };
+    match room[..len].cmp(bytes) {
+        Ordering::Less => true,
+        _ => false,
     }
 }
 

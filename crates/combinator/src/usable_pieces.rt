@@ -3,12 +3,15 @@
 ghost use Rattle.std.specs.Prelude.{◌≡◌, ◌<◌, ◌+◌, ℕ, Bool, true, false, length, All, Contains, OnOk, IfOk};
 ghost use Rattle.path_segment.specs.declared.kind.SegKind.TheVariants.{Intra, Core};
 ghost use Rattle.path_server.specs.Lookup.{Selection};
+ghost use Rattle.path_header.specs.Spelling.{HopFits};
 ghost use Rattle.path_verifier.specs.Piece.{PieceValue, kind_in};
+ghost use Rattle.path_verifier.specs.Header.{field_of};
 ghost use Rattle.combinator.specs.Candidate.{IsOf, segments_of};
 ghost use Rattle.combinator.specs.inner.UsablePieces.{piece_of, outer_of, IsCut, IsWhole, AreIn};
+ghost use Rattle.combinator.specs.inner.Search.{HasFields};
 
 use crate::request::PathRequest;
-use crate::usable_piece::UsablePiece;
+use crate::usable_piece::{UsablePiece, know_hops};
 use isd_as::IsdAs;
 use path_segment::{SegKind, Segment};
 use std::alloc::{AllocError, Allocator, Global};
@@ -26,13 +29,25 @@ pub(crate) fn usable_pieces_of<'s, 'p, A: Allocator + Clone>(
         → IsWhole ask.now.set.cores piece → Contains usable_pieces.items piece) }
     ensures downs { IfOk result (λ usable_pieces. (piece : PieceValue)
         → IsCut ask.now.set.downs true ask.now.dst piece → Contains usable_pieces.items piece) }
+    ensures fields { IfOk result (λ usable_pieces. All HasFields usable_pieces.items) }
 {
     let set = ask.set;
     let mut usable_pieces = Vec::new(alloc);
+    // Pieces that end in the destination come first: with them paths are short.
+    add_cuts(&mut usable_pieces, set.downs(), true, ask.dst)?;
     add_cuts(&mut usable_pieces, set.ups(), false, ask.src)?;
     add_cores(&mut usable_pieces, set.cores())?;
-    add_cuts(&mut usable_pieces, set.downs(), true, ask.dst)?;
+    know_all(&usable_pieces);
     Ok(usable_pieces)
+}
+
+/// Tells the caller that the numbers of the fields of these pieces fit into their bits.
+fn know_all(usable_pieces: &[UsablePiece<'_>])
+    ensures { All HasFields usable_pieces.now }
+{
+    for piece in usable_pieces {
+        piece.known();
+    }
 }
 
 /// Adds the pieces of these intra segments in a direction that have an AS at their outer end.
@@ -74,7 +89,10 @@ fn add_cuts_of<'s>(
 {
     match segment.kind() {
         SegKind::Core => {}
-        SegKind::Intra => add_pieces_of(usable_pieces, segment, along, outer)?,
+        SegKind::Intra => {
+            know_hops(segment.entries());
+            add_pieces_of(usable_pieces, segment, along, outer)?;
+        }
     }
     Ok(())
 }
@@ -86,6 +104,7 @@ fn add_pieces_of<'s>(
     along: bool,
     outer: IsdAs,
 ) -> Result<(), AllocError>
+    requires { All (λ entry. HopFits (field_of entry)) segment.now.entries }
     ensures more { OnOk result (AreIn usable_pieces.old.items usable_pieces.new.items) }
     ensures own { OnOk result ((set : Selection)
         → Contains (segments_of set (kind_in segment.entry.now.kind along)) segment.entry.now
@@ -108,7 +127,8 @@ fn add_cuts_to<'s>(
     along: bool,
     outer: IsdAs,
 ) -> Result<(), AllocError>
-    requires { to < length segment.now.entries }
+    requires within { to < length segment.now.entries }
+    requires fits { All (λ entry. HopFits (field_of entry)) segment.now.entries }
     ensures more { OnOk result (AreIn usable_pieces.old.items usable_pieces.new.items) }
     ensures own { OnOk result ((set : Selection)
         → Contains (segments_of set (kind_in segment.entry.now.kind along)) segment.entry.now
@@ -178,6 +198,7 @@ fn add_core<'s>(
     match segment.kind() {
         SegKind::Intra => {}
         SegKind::Core => {
+            know_hops(segment.entries());
             add_whole(usable_pieces, segment, true)?;
             add_whole(usable_pieces, segment, false)?;
         }
@@ -191,6 +212,7 @@ fn add_whole<'s>(
     segment: &'s Segment,
     along: bool,
 ) -> Result<(), AllocError>
+    requires { All (λ entry. HopFits (field_of entry)) segment.now.entries }
     ensures more { OnOk result (AreIn usable_pieces.old.items usable_pieces.new.items) }
     ensures own { OnOk result ((set : Selection)
         → Contains (segments_of set (kind_in segment.entry.now.kind along)) segment.entry.now

@@ -24,4 +24,4 @@ pub use fields::{HopField, InfoField};
 pub use header::{Header, MAX_HEADER_LEN};
 pub use lens::{HOP_LEN, INFO_LEN, MAX_HOPS, MAX_SEGMENT_HOPS, META_LEN, SegLens};
 pub use reading::decode;
-pub use writing::encode;
+pub use writing::{encode, hop_bytes, info_bytes};

@@ -58,8 +58,8 @@ fn meta_bytes(header: &Header) -> [u8; 4]
     (indices + lens).to_be_bytes()
 }
 
-/// The bytes of an info field.
-fn info_bytes(info: &InfoField) -> [u8; 8]
+/// The 8 bytes of an info field in a header.
+pub fn info_bytes(info: &InfoField) -> [u8; 8]
     ensures text { result ≡ info_spelling info.now }
     ensures fits { InfoFits info.now }
 {
@@ -77,8 +77,8 @@ fn info_bytes(info: &InfoField) -> [u8; 8]
     ]
 }
 
-/// The bytes of a hop field.
-fn hop_bytes(hop: HopField) -> [u8; 12]
+/// The 12 bytes of a hop field in a header.
+pub fn hop_bytes(hop: HopField) -> [u8; 12]
     ensures text { result ≡ hop_spelling hop }
     ensures fits { HopFits hop }
 {

@@ -84,8 +84,9 @@ fn infos_of(held: &PieceSlots<'_>) -> ArrayVec<InfoField, 3>
     infos
 }
 
-/// The info field of a piece.
-fn info_of(piece: &Piece<'_>) -> InfoField
+/// The info field of a piece: its direction, the accumulator at the first entry travelled, and the
+/// segment's timestamp.
+pub fn info_of(piece: &Piece<'_>) -> InfoField
     requires { HasRange piece.now }
     ensures { result ≡ info_of piece.now }
 {
@@ -132,7 +133,7 @@ fn push_fields(fields: &mut ArrayVec<HopField, MAX_HOPS>, piece: &Piece<'_>)
 }
 
 /// The hop field of an entry.
-fn field_of(entry: &Entry) -> HopField
+pub fn field_of(entry: &Entry) -> HopField
     ensures { result ≡ field_of entry.now }
 {
     HopField {

@@ -19,6 +19,7 @@ mod verification;
 mod walk;
 
 pub use fault::VerifyFault;
+pub use header::{field_of, info_of};
 pub use kind::PieceKind;
 pub use owned::{OwnedPiece, lend_all, to_owned_pieces};
 pub use path::VerifiedPath;

@@ -152,9 +152,9 @@ impl<'s> Piece<'s> {
         if self.along { self.from } else { self.to }
     }
 
-    /// The number of its entries, at most 63.
+    /// The number of its entries, which is that of its hop fields: 2 to 63.
     #[tactic(auto, using(crate::proofs::Entries::length_travelled))]
-    pub(crate) fn len(&self) -> usize
+    pub fn len(&self) -> usize
         requires { HasRange self.now }
         ensures value { result ≡ length (travelled self.now) }
         ensures few { result ≤ 63 }
@@ -165,7 +165,7 @@ impl<'s> Piece<'s> {
     }
 
     /// The entry at this place in order of travel, from 0.
-    pub(crate) fn entry(&self, place: usize) -> &'s Entry
+    pub fn entry(&self, place: usize) -> &'s Entry
         requires range { HasRange self.now }
         requires within { place < length (travelled self.now) }
         ensures { slice_get (travelled self.now) place ≡ Some result.now }

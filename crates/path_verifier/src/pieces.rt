@@ -1,9 +1,13 @@
-ghost use Rattle.std.specs.Prelude.{◌≡◌, ◌==◌, ◌<◌, ◌↔◌, [], ◌∷◌, ◌++◌, length, slice_get, option_map, IfErr, IfSome, IsOk, IsSome, IsTrue, OnErr, OnOk};
+ghost use Rattle.std.specs.Prelude.{◌≡◌, ◌==◌, ◌<◌, ◌≤◌, ◌↔◌, [], ◌∷◌, ◌++◌, length, slice_get, option_map, IfErr, IfSome, IsOk, IsSome, IsTrue, OnErr, OnOk};
+ghost use Rattle.std.specs.List.{AllByRecursion};
+ghost use Rattle.path_verifier.specs.Piece.{HasRange};
+ghost use Rattle.path_verifier.specs.Header.{total_hops};
 ghost use Rattle.path_verifier.specs.PieceSlots.{pieces_in};
 ghost use Rattle.path_verifier.specs.Turned.{turned_pieces};
 
 use crate::fault::VerifyFault;
 use crate::piece::Piece;
+use crate::shape::total_hops;
 use std::marker::Model;
 
 /// The pieces of a path in order of travel, at most three.
@@ -92,6 +96,15 @@ impl<'s> Pieces<'s> {
         ensures { IsTrue result ↔ (self.now ≡ []) }
     {
         self.held.is_empty()
+    }
+
+    /// The number of hop fields of all pieces together.
+    pub fn hop_count(&self) -> usize
+        requires { AllByRecursion HasRange self.now }
+        ensures value { result ≡ total_hops self.now }
+        ensures few { result ≤ 189 }
+    {
+        total_hops(&self.held)
     }
 
     /// The piece at this place in order of travel, from 0.

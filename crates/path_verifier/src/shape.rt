@@ -219,9 +219,10 @@ fn end_in(held: &PieceSlots<'_>, dst: IsdAs) -> bool
 }
 
 /// The number of hop fields of all pieces together.
-fn total_hops(held: &PieceSlots<'_>) -> usize
+pub(crate) fn total_hops(held: &PieceSlots<'_>) -> usize
     requires { AllByRecursion HasRange (pieces_in held.now) }
-    ensures { result ≡ total_hops (pieces_in held.now) }
+    ensures value { result ≡ total_hops (pieces_in held.now) }
+    ensures few { result ≤ 189 }
 {
     match held {
         PieceSlots::Zero => 0,

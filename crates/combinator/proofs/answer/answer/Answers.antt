@@ -1,27 +1,32 @@
-use Rattle.std.proofs.Common.{List, All, Contains, sym, subst}
-use Rattle.path_verifier.specs.Piece.{PieceValue}
-use Rattle.combinator.specs.Candidate.{IsOf, PathValue}
-use Rattle.combinator.specs.Order.{path_cmp}
-use Rattle.combinator.specs.Answer.{IsBest}
-use Rattle.combinator.specs.inner.Placed.{InOrder, Met}
-use Rattle.combinator.specs.inner.BestByWalk.{by_walk}
-use Rattle.combinator.proofs.Answering.{all_met, answer}
+use Rattle.std.proofs.Common.{All, sym, subst}
+use Rattle.combinator.specs.Candidate.{IsOf}
+use Rattle.combinator.specs.inner.Search.{HaveAll}
+use Rattle.combinator.proofs.Answering.{have_all, answer}
+use Rattle.combinator.proofs.Spelled.{all_spelled}
 use Rattle.combinator.proofs.answer.answer.Goals as goal
 
-pub best_by_walk-requires : goal.best_by_walk-requires
-best_by_walk-requires g c = subst (All (IsOf c.args.ask.now.set)) (sym c.deref.ensures.value) c.in_ok-usable_pieces.ensures.own
+pub first_paths-requires-clause-own : goal.first_paths-requires-clause-own
+first_paths-requires-clause-own g c = subst (All (IsOf c.args.ask.now.set)) (sym c.deref.ensures.value) c.in_ok-usable_pieces.ensures.own
 
-pub returns : goal.returns
-returns g c =
-    let met = all_met c.args.ask.now c.deref.result.now
-    (λ piece is. subst (λ (pieces : List PieceValue). Contains pieces piece) (sym c.deref.ensures.value) (c.in_ok-usable_pieces.ensures.ups piece is))
-    (λ piece is. subst (λ (pieces : List PieceValue). Contains pieces piece) (sym c.deref.ensures.value) (c.in_ok-usable_pieces.ensures.cores piece is))
-    (λ piece is. subst (λ (pieces : List PieceValue). Contains pieces piece) (sym c.deref.ensures.value) (c.in_ok-usable_pieces.ensures.downs piece is))
-    c.in_ok-kept.kept c.in_ok-kept.ensures.tried in record {
-      answer = answer c.args.ask.now c.args.limit c.in_ok-kept.kept c.in_ok-found.found.items c.in_ok-kept.ensures.sound (subst (InOrder by_walk) c.into_list.ensures.all c.into_list.ensures.order)
-          met c.in_ok-found.ensures.order c.in_ok-found.ensures.few
-          (subst (λ (kept : List PathValue). (path : PathValue) → Contains kept path → Met path_cmp c.args.limit c.in_ok-found.found.items path) c.into_list.ensures.all c.in_ok-found.ensures.met)
-          (subst (λ (kept : List PathValue). All (IsBest c.args.ask.now) kept → All (IsBest c.args.ask.now) c.in_ok-found.found.items) c.into_list.ensures.all
-          (c.in_ok-found.ensures.best c.args.ask.now));
-      spelled = λ path is. (met path is).0;
-    }
+pub first_paths-requires-clause-whole : goal.first_paths-requires-clause-whole
+first_paths-requires-clause-whole g c =
+    let pieces = c.in_ok-usable_pieces.ensures in
+    subst (HaveAll c.args.ask.now) (sym c.deref.ensures.value) (have_all c.args.ask.now c.in_ok-usable_pieces.usable_pieces.items pieces.ups pieces.cores pieces.downs)
+
+pub returns-clause-answer : goal.returns-clause-answer
+returns-clause-answer g c =
+    let question = c.args.ask.now in
+    let pieces = c.in_ok-usable_pieces.ensures in
+    let all = c.in_ok-usable_pieces.usable_pieces.items in
+    let usable_pieces = c.deref.result.now in
+    let whole = have_all question all pieces.ups pieces.cores pieces.downs in
+    answer question c.args.limit usable_pieces c.in_ok-found.found.items
+    (subst (All (IsOf question.set)) (sym c.deref.ensures.value) pieces.own) (subst (HaveAll question) (sym c.deref.ensures.value) whole) (all_spelled question all whole pieces.fields)
+    c.in_ok-found.ensures.order c.in_ok-found.ensures.few c.in_ok-found.ensures.best c.in_ok-found.ensures.met
+
+pub returns-clause-spelled : goal.returns-clause-spelled
+returns-clause-spelled g c =
+    let question = c.args.ask.now in
+    let pieces = c.in_ok-usable_pieces.ensures in
+    let all = c.in_ok-usable_pieces.usable_pieces.items in
+    all_spelled question all (have_all question all pieces.ups pieces.cores pieces.downs) pieces.fields

@@ -1,68 +1,113 @@
-use Rattle.std.proofs.Common.{◌<◌, ◌-◌, refl, sym, subst, arith}
+use Rattle.std.proofs.Common.{◌+◌, ◌-◌, ◌<◌, List, refl, sym, subst, arith}
 use Rattle.path_verifier.specs.Piece.{ends_in}
-use Rattle.combinator.specs.Candidate.{IsOf}
-use Rattle.combinator.proofs.Keeping.{goes_further}
+use Rattle.combinator.specs.Candidate.{IsOf, PathValue}
+use Rattle.combinator.specs.inner.Search.{IsMetBy, StillMeet}
 use Rattle.combinator.proofs.Collected.{at_end}
-use Rattle.combinator.proofs.Tried.{WasTried, none_tried, all_tried, settled_on, tried_here, tried_more, longer_by, one_more, own_more}
+use Rattle.combinator.proofs.Tried.{WasTried, AreFullBelow, none_tried, all_tried, tried_here, tried_more, longer_by, one_more, own_more, ranges_more, met_on, met_behind}
 use Rattle.combinator.proofs.search.+try_behind.Goals as goal
 
-pub consider-requires : goal.consider-requires
-consider-requires g c = λ x.
-    let is = longer_by x.args.pieces.now x.in-Some.longer x.piece.result x.piece-item.result x.in-Some.ensures.more x.piece.ensures in
-    own_more x.args.ask.now.set x.args.pieces.now x.in-Some.longer x.piece-item.result is x.requires.front
-    (subst (IsOf x.args.ask.now.set) (sym x.piece-item.is) (x.requires.own x.loop-piece.piece-index x.piece-item.result x.loop-piece-test.true))
+pub consider-requires-clause-front : goal.consider-requires-clause-front
+consider-requires-clause-front g t c =
+    let a = c.args in
+    let is = longer_by a.pieces.now c.in-Some.longer c.piece.result c.piece-item.result c.in-Some.ensures.more c.piece.ensures.value in
+    own_more a.ask.now.set a.pieces.now c.in-Some.longer c.piece-item.result is c.requires.front
+    (subst (IsOf a.ask.now.set) (sym c.piece-item.is) (c.requires.own c.loop-piece.piece-index c.piece-item.result c.loop-piece-test.true))
+
+pub loop-piece-preserved-then-depth-eq1 : goal.loop-piece-preserved-then-depth-eq1
+loop-piece-preserved-then-depth-eq1 g t c =
+    let a = c.args in
+    let before = c.loop-piece.kept.items in
+    let after = c.consider.new.kept.items in
+    let fact = IsMetBy a.ask.now a.limit after in
+    let is = longer_by a.pieces.now c.in-Some.longer c.piece.result c.piece-item.result c.in-Some.ensures.more c.piece.ensures.value in
+    let none = none_tried fact a.usable_pieces.now (a.depth - 1) c.in-Some.longer (ends_in c.piece-item.result) (omega (arith, c.if-depth-eq1.true)) in
+    let here = tried_here fact a.usable_pieces.now (a.depth - 1) a.pieces.now c.in-Some.longer c.piece-item.result (ends_in c.piece-item.result) a.at is refl c.in_ok-consider.ensures.met none in record {
+      order = c.in_ok-consider.ensures.order;
+      room = c.in_ok-consider.ensures.room;
+      best = c.in_ok-consider.ensures.best;
+      still = λ path met. c.in_ok-consider.ensures.still path (c.loop-piece.invariant.still path met);
+      met = tried_more (IsMetBy a.ask.now a.limit before) fact a.usable_pieces.now (a.depth - 1) a.pieces.now a.at c.loop-piece.piece-index c.piece-item.result
+          c.loop-piece-test.true c.piece-item.is (met_on a.ask.now a.limit before after c.in_ok-consider.ensures.still) c.loop-piece.invariant.met here;
+    }
+
+pub loop-piece-preserved-then-is_full_below : goal.loop-piece-preserved-then-is_full_below
+loop-piece-preserved-then-is_full_below g t c =
+    let a = c.args in
+    let before = c.loop-piece.kept.items in
+    let after = c.consider.new.kept.items in
+    let fact = IsMetBy a.ask.now a.limit after in
+    let is = longer_by a.pieces.now c.in-Some.longer c.piece.result c.piece-item.result c.in-Some.ensures.more c.piece.ensures.value in
+    let full = subst (λ (paths : List PathValue). AreFullBelow a.limit paths (c.hop_count-hops.result + 2)) c.deref.ensures.value (c.is_full_below.ensures c.if-is_full_below.true) in
+    let behind = met_behind a.ask.now a.limit after c.hop_count-hops.result a.usable_pieces.now (a.depth - 1) c.in-Some.longer (ends_in c.piece-item.result) full c.hop_count-hops.ensures.value in
+    let here = tried_here fact a.usable_pieces.now (a.depth - 1) a.pieces.now c.in-Some.longer c.piece-item.result (ends_in c.piece-item.result) a.at is refl c.in_ok-consider.ensures.met behind in record {
+      order = c.in_ok-consider.ensures.order;
+      room = c.in_ok-consider.ensures.room;
+      best = c.in_ok-consider.ensures.best;
+      still = λ path met. c.in_ok-consider.ensures.still path (c.loop-piece.invariant.still path met);
+      met = tried_more (IsMetBy a.ask.now a.limit before) fact a.usable_pieces.now (a.depth - 1) a.pieces.now a.at c.loop-piece.piece-index c.piece-item.result
+          c.loop-piece-test.true c.piece-item.is (met_on a.ask.now a.limit before after c.in_ok-consider.ensures.still) c.loop-piece.invariant.met here;
+    }
 
 pub try_behind-requires : goal.try_behind-requires
-try_behind-requires g c = λ x κs outlives.
-    let is = longer_by x.args.pieces.now x.in-Some.longer x.piece.result x.piece-item.result x.in-Some.ensures.more x.piece.ensures in
-    let more : 1 < x.args.depth = omega (arith, x.requires.some, x.if-depth-eq1.false) in
-    let long = one_more x.args.pieces.now x.in-Some.longer x.piece-item.result is in (
-      omega (arith, more, x.decreases),
+try_behind-requires g t c κs within =
+    let a = c.args in
+    let is = longer_by a.pieces.now c.in-Some.longer c.piece.result c.piece-item.result c.in-Some.ensures.more c.piece.ensures.value in
+    let some = c.requires.some in
+    let few = c.requires.few in
+    let more : 1 < a.depth = omega (arith, some, c.if-depth-eq1.false) in
+    let long = one_more a.pieces.now c.in-Some.longer c.piece-item.result is in (
+      (let nearer = c.decreases in omega (arith, more, nearer)),
       (
-        outlives,
+        within,
         (
-          x.requires.own,
+          c.requires.own,
           (
-            own_more x.args.ask.now.set x.args.pieces.now x.in-Some.longer x.piece-item.result is x.requires.front
-                (subst (IsOf x.args.ask.now.set) (sym x.piece-item.is) (x.requires.own x.loop-piece.piece-index x.piece-item.result x.loop-piece-test.true)),
-            (omega (arith, more), omega (arith, more, long, x.requires.few)),
+            c.requires.whole,
+            (
+              c.in_ok-consider.ensures.order,
+              (
+                c.in_ok-consider.ensures.room,
+                (
+                  c.in_ok-consider.ensures.best,
+                  (
+                    own_more a.ask.now.set a.pieces.now c.in-Some.longer c.piece-item.result is c.requires.front
+                        (subst (IsOf a.ask.now.set) (sym c.piece-item.is) (c.requires.own c.loop-piece.piece-index c.piece-item.result c.loop-piece-test.true)),
+                    (
+                      ranges_more a.pieces.now c.in-Some.longer c.piece-item.result is c.requires.ranges c.piece.ensures.range,
+                      (omega (arith, more), omega (arith, more, long, few)),
+                    ),
+                  ),
+                ),
+              ),
+            ),
           ),
         ),
       ),
     )
 
-pub loop-piece-preserved-then-depth-eq1 : goal.loop-piece-preserved-then-depth-eq1
-loop-piece-preserved-then-depth-eq1 g c = λ x.
-    let is = longer_by x.args.pieces.now x.in-Some.longer x.piece.result x.piece-item.result x.in-Some.ensures.more x.piece.ensures in
-    let a = x.args in
-    let before = x.loop-piece.kept in
-    let after = x.consider.new.kept in
-    let none = none_tried a.ask.now after a.usable_pieces.now (a.depth - 1) x.in-Some.longer (ends_in x.piece-item.result) (omega (arith, x.if-depth-eq1.true)) in
-    let here = tried_here a.ask.now after a.usable_pieces.now (a.depth - 1) a.pieces.now x.in-Some.longer x.piece-item.result (ends_in x.piece-item.result) a.at
-    is refl x.in_ok-consider.ensures.matched none in record {
-      goes = goes_further a.ask.now a.kept.now before after x.loop-piece.invariant.goes x.in_ok-consider.ensures.goes;
-      tried = tried_more a.ask.now before after a.usable_pieces.now (a.depth - 1) a.pieces.now a.at x.loop-piece.piece-index x.piece-item.result
-          x.loop-piece-test.true x.piece-item.is x.in_ok-consider.ensures.goes x.loop-piece.invariant.tried here;
-    }
-
 pub loop-piece-preserved : goal.loop-piece-preserved
-loop-piece-preserved g c = λ x.
-    let is = longer_by x.args.pieces.now x.in-Some.longer x.piece.result x.piece-item.result x.in-Some.ensures.more x.piece.ensures in
-    let a = x.args in
-    let before = x.loop-piece.kept in
-    let mid = x.consider.new.kept in
-    let after = x.try_behind.new.kept in
-    let goes = goes_further a.ask.now before mid after x.in_ok-consider.ensures.goes x.in_ok-try_behind.ensures.goes in
-    let here = tried_here a.ask.now after a.usable_pieces.now (a.depth - 1) a.pieces.now x.in-Some.longer x.piece-item.result x.ends-end.result a.at
-    is x.ends-end.ensures
-    (settled_on a.ask.now mid after x.in-Some.longer x.in_ok-try_behind.ensures.goes x.in_ok-consider.ensures.matched) x.in_ok-try_behind.ensures.tried in record {
-      goes = goes_further a.ask.now a.kept.now before after x.loop-piece.invariant.goes goes;
-      tried = tried_more a.ask.now before after a.usable_pieces.now (a.depth - 1) a.pieces.now a.at x.loop-piece.piece-index x.piece-item.result
-          x.loop-piece-test.true x.piece-item.is goes x.loop-piece.invariant.tried here;
+loop-piece-preserved g t c =
+    let a = c.args in
+    let before = c.loop-piece.kept.items in
+    let mid = c.consider.new.kept.items in
+    let after = c.try_behind.new.kept.items in
+    let fact = IsMetBy a.ask.now a.limit after in
+    let is = longer_by a.pieces.now c.in-Some.longer c.piece.result c.piece-item.result c.in-Some.ensures.more c.piece.ensures.value in
+    let still : StillMeet a.limit before after = λ path met. c.in_ok-try_behind.ensures.still path (c.in_ok-consider.ensures.still path met) in
+    let here = tried_here fact a.usable_pieces.now (a.depth - 1) a.pieces.now c.in-Some.longer c.piece-item.result c.ends-end.result a.at is c.ends-end.ensures
+    (met_on a.ask.now a.limit mid after c.in_ok-try_behind.ensures.still c.in-Some.longer c.in_ok-consider.ensures.met) c.in_ok-try_behind.ensures.met in record {
+      order = c.in_ok-try_behind.ensures.order;
+      room = c.in_ok-try_behind.ensures.room;
+      best = c.in_ok-try_behind.ensures.best;
+      still = λ path met. still path (c.loop-piece.invariant.still path met);
+      met = tried_more (IsMetBy a.ask.now a.limit before) fact a.usable_pieces.now (a.depth - 1) a.pieces.now a.at c.loop-piece.piece-index c.piece-item.result
+          c.loop-piece-test.true c.piece-item.is (met_on a.ask.now a.limit before after still) c.loop-piece.invariant.met here;
     }
 
-pub returns-clause-tried : goal.returns-clause-tried
-returns-clause-tried g c = λ x.
-    all_tried x.args.ask.now x.loop-piece.kept x.args.usable_pieces.now x.args.depth (x.args.depth - 1) x.args.pieces.now x.args.at (omega (arith, x.requires.some))
-    (at_end (WasTried x.args.ask.now x.loop-piece.kept x.args.usable_pieces.now (x.args.depth - 1) x.args.pieces.now x.args.at)
-    x.args.usable_pieces.now x.loop-piece.piece-index x.loop-piece-test.false x.loop-piece.invariant.tried)
+pub returns-clause-met : goal.returns-clause-met
+returns-clause-met g t c =
+    let a = c.args in
+    let fact = IsMetBy a.ask.now a.limit c.loop-piece.kept.items in
+    let some = c.requires.some in
+    all_tried fact a.usable_pieces.now a.depth (a.depth - 1) a.pieces.now a.at (omega (arith, some))
+    (at_end (WasTried fact a.usable_pieces.now (a.depth - 1) a.pieces.now a.at) a.usable_pieces.now c.loop-piece.piece-index c.loop-piece-test.false c.loop-piece.invariant.met)

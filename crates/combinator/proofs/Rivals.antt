@@ -1,0 +1,68 @@
+-- Whether a path is the best for its walk: no candidate of the same walk is better.
+use Rattle.std.proofs.Common.{◌≡◌, ℕ, List, [], ◌∷◌, ◌++◌, length, Some, sym, ap, subst, ◌∙◌, append_assoc}
+use Rattle.std.specs.Prelude.{slice_get}
+use Rattle.path_header.specs.Value.{HeaderValue}
+use Rattle.path_verifier.specs.Piece.{PieceValue, ends_in}
+use Rattle.path_verifier.specs.Walk.{walk_of}
+use Rattle.path_verifier.specs.Header.{header_of}
+use Rattle.policy_expr.specs.declared.hop.WalkHop.{WalkHop}
+use Rattle.combinator.specs.Candidate.{Question, PathValue, IsCandidate, path_with}
+use Rattle.combinator.specs.Order.{HaveOneWalk}
+use Rattle.combinator.specs.Answer.{IsBest}
+use Rattle.combinator.specs.inner.Search.{HaveAll, IsNoBetter, IsNoWorse, OfEachBehind, LeavesBy, ways_out, ways_out_of}
+use Rattle.combinator.proofs.Lasting.{no_worse_itself}
+use Rattle.combinator.proofs.Tried.{WasTried, all_behind}
+use Rattle.combinator.proofs.WaysOut.{way_behind}
+use Rattle.combinator.proofs.Answering.{of_candidate}
+
+module _ (question : Question) (found : PathValue) (pieces : List PieceValue) where
+  pub no_better_none : ((header : HeaderValue) → ¬ (IsCandidate question (path_with pieces header))) → IsNoBetter question found pieces
+  unfolding IsNoBetter
+  no_better_none never = λ header is same. absurd (never header is)
+
+  module _ (rival : List PieceValue) (same_pieces : rival ≡ pieces) where
+    pub no_better_apart : ¬ (walk_of rival ≡ walk_of found.pieces) → IsNoBetter question found pieces
+    unfolding IsNoBetter
+    no_better_apart never = λ header is same. absurd (never (ap walk_of same_pieces ∙ same))
+
+    pub no_better_worse : (header : HeaderValue) → header ≡ header_of pieces → IsNoWorse found (path_with rival header) → IsNoBetter question found pieces
+    unfolding IsNoBetter
+    no_better_worse header same_header fact = λ own is same.
+        subst (λ (ps : List PieceValue). IsNoWorse found (path_with ps own)) same_pieces
+        (subst (λ (h : HeaderValue). IsNoWorse found (path_with rival h)) (same_header ∙ sym is.accepted.header) fact)
+
+-- a path is no better than itself
+pub no_better_itself : (question : Question) (found : PathValue) (pieces : List PieceValue) → pieces ≡ found.pieces → found.header ≡ header_of found.pieces → IsNoBetter question found pieces
+unfolding IsNoBetter
+no_better_itself question found pieces same_pieces own = λ header is same.
+    let same_header : header ≡ found.header = is.accepted.header ∙ ap header_of same_pieces ∙ sym own in
+    subst (IsNoWorse found) (sym (ap (λ (ps : List PieceValue). path_with ps header) same_pieces ∙ ap (path_with found.pieces) same_header)) (no_worse_itself found)
+
+pub not_best : (question : Question) (found rival : PathValue) → IsCandidate question rival → HaveOneWalk rival found → ¬ (IsNoWorse found rival) → ¬ (IsBest question found)
+not_best question found rival is same never best = never (record { latest = best.latest rival is same; least = best.least rival is same })
+
+pub found_best : (question : Question) (usable_pieces : List PieceValue) (found : PathValue) → HaveAll question usable_pieces → IsCandidate question found
+    → OfEachBehind (IsNoBetter question found) usable_pieces 3 [] question.src → IsBest question found
+unfolding IsNoBetter
+found_best question usable_pieces found whole candidate tried =
+    let none = of_candidate question usable_pieces whole (IsNoBetter question found) tried in
+    record {
+      candidate = candidate;
+      latest = λ other is same. (none other is other.header is same).latest;
+      least = λ other is same. (none other is other.header is same).least;
+    }
+
+-- where a piece leaves its AS by another way than the walk, no path that begins so has that walk
+module _ (question : Question) (found : PathValue) (pieces : List PieceValue) (piece : PieceValue) (place way : ℕ) (leaves : LeavesBy piece way) (here : place ≡ length (ways_out_of pieces))
+    (never : ¬ (slice_get (ways_out (walk_of found.pieces)) place ≡ Some way)) where
+  apart : (later : List PieceValue) → IsNoBetter question found (pieces ++ piece ∷ later)
+  unfolding IsNoBetter
+  apart later = λ header is same. absurd (never (subst (λ (n : ℕ). slice_get (ways_out (walk_of found.pieces)) n ≡ Some way) (sym here)
+      (subst (λ (walk : List WalkHop). slice_get (ways_out walk) (length (ways_out_of pieces)) ≡ Some way) same (way_behind pieces piece later way leaves is.accepted.path.ranges))))
+
+  pub passed_over : (usable_pieces : List PieceValue) (depth at : ℕ) → WasTried (IsNoBetter question found) usable_pieces depth pieces at piece
+  passed_over usable_pieces depth at = λ begins. (
+    apart [],
+    all_behind (IsNoBetter question found) usable_pieces depth (pieces ++ piece ∷ []) (ends_in piece)
+        (λ next later. subst (IsNoBetter question found) (sym (append_assoc pieces (piece ∷ []) (next ∷ later))) (apart (next ∷ later))),
+  )

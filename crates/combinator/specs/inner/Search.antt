@@ -1,0 +1,72 @@
+-- How the paths of an answer are found (words of private functions' contracts).
+use Rattle.std.specs.Prelude.{◌≡◌, ◌≢◌, ℕ, ◌≤◌, zero, suc, List, [], ◌∷◌, ◌++◌, length, slice_get, All, Contains, Some}
+use Rattle.std.specs.List.{flat_map}
+use Rattle.std.specs.declared.cmp.Ordering.TheVariants.{Less}
+use Rattle.path_header.specs.Value.{HeaderValue}
+use Rattle.path_header.specs.Spelling.{InfoFits, HopFits}
+use Rattle.policy_expr.specs.declared.hop.WalkHop.{WalkHop}
+use Rattle.path_verifier.specs.Piece.{PieceValue, begins_in, ends_in}
+use Rattle.path_verifier.specs.Walk.{hops_of}
+use Rattle.path_verifier.specs.Header.{field_of, info_of}
+use Rattle.combinator.specs.Candidate.{Question, PathValue, path_with, IsCandidate}
+use Rattle.combinator.specs.Order.{bytes_cmp, path_cmp, LastAsLong, HaveOneWalk}
+use Rattle.combinator.specs.Answer.{IsBest}
+use Rattle.combinator.specs.inner.Placed.{Met}
+
+-- the first path is no worse: it expires no earlier, and if it expires at the same time, its header
+-- bytes are no greater
+pub record IsNoWorse (one other : PathValue) : Type 0 where
+  pub latest : LastAsLong one.pieces other.pieces
+  pub least : LastAsLong other.pieces one.pieces → bytes_cmp other.header one.header ≢ Less
+
+-- the fact holds of each list that begins with these pieces and goes on, from this AS, with one to
+-- `depth` usable pieces, each of which begins where the one before it ends
+unfoldable pub OfEachBehind : (List PieceValue → Type 0) → List PieceValue → ℕ → List PieceValue
+    → ℕ → Type 0
+OfEachBehind fact usable_pieces zero pieces at = Unit {0}
+OfEachBehind fact usable_pieces (suc depth) pieces at = (piece : PieceValue)
+    → Contains usable_pieces piece → begins_in piece ≡ at
+    → fact (pieces ++ piece ∷ [])
+    × OfEachBehind fact usable_pieces depth (pieces ++ piece ∷ []) (ends_in piece)
+
+-- if a path of these pieces is the best for its walk, it is among the first `limit` paths, or all
+-- of these come before it
+unfoldable pub IsMetBy : Question → ℕ → List PathValue → List PieceValue → Type 0
+IsMetBy question limit paths pieces = (header : HeaderValue)
+    → IsBest question (path_with pieces header) → Met path_cmp limit paths (path_with pieces header)
+
+-- whatever the old paths met, the new ones do
+abbrev pub StillMeet : ℕ → List PathValue → List PathValue → Type 0
+StillMeet limit old new = (path : PathValue) → Met path_cmp limit old path
+    → Met path_cmp limit new path
+
+-- no candidate of these pieces is better than this path of the same walk
+unfoldable pub IsNoBetter : Question → PathValue → List PieceValue → Type 0
+IsNoBetter question path pieces = (header : HeaderValue)
+    → IsCandidate question (path_with pieces header) → HaveOneWalk (path_with pieces header) path
+    → IsNoWorse path (path_with pieces header)
+
+-- the pieces of each candidate are usable pieces
+abbrev pub HaveAll : Question → List PieceValue → Type 0
+HaveAll question usable_pieces = (path : PathValue) → IsCandidate question path
+    → All (Contains usable_pieces) path.pieces
+
+-- the ways out of all hops but the last
+abbrev pub ways_out : List WalkHop → List ℕ
+ways_out [] = []
+ways_out (hop ∷ []) = []
+ways_out (hop ∷ next ∷ later) = hop.egress ∷ ways_out (next ∷ later)
+
+-- the ways out of pieces, one after another
+abbrev pub ways_out_of : List PieceValue → List ℕ
+ways_out_of pieces = flat_map (λ piece. ways_out (hops_of piece)) pieces
+
+-- the piece leaves the AS in which it begins by this interface
+unfoldable pub LeavesBy : PieceValue → ℕ → Type 0
+LeavesBy piece way = slice_get (ways_out (hops_of piece)) 0 ≡ Some way
+
+-- the numbers of the piece's fields fit into their bits, and its segment has at most 63 entries
+unfoldable pub HasFields : PieceValue → Type 0
+HasFields piece = InfoFits (info_of piece)
+    × All (λ entry. HopFits (field_of entry)) piece.segment.entries
+    × (length piece.segment.entries ≤ 63)
