@@ -3,7 +3,8 @@
 
 It builds the static libraries over what `rt ci` has proved, since that leaves none, and runs the
 tour in C by each compiler that is there (the kit's clang is), and the one in Python. Their answers
-are held to what the rules of routers and of paths say. The status is 1 where one differs."""
+are held to what the rules of routers and of paths say. Then `answers.py` compares random requests
+for paths with a search that tries every list of pieces. The status is 1 where one differs."""
 import os
 import subprocess
 import sys
@@ -42,7 +43,8 @@ def main():
             build.link_program(compiler, build.BOTH, source, program)
             build.link_shared(compiler, build.BOTH, shared)
             tour = [sys.executable, "-B", os.path.join(BINDINGS, "python", "tour.py"), shared]
-            is_well = toured(program) and toured(*tour) and is_well
+            answers = [sys.executable, "-B", os.path.join(TOP, ".ci", "answers.py"), shared]
+            is_well = toured(program) and toured(*tour) and toured(*answers) and is_well
     return 0 if is_well else 1
 
 
