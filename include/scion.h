@@ -93,7 +93,9 @@ typedef struct {
 
 /* One step of a router on a packet, in place, at the second `now`. A packet is 8 bytes of
  * destination, 8 of source, a path header and a payload. Codes: 0, 1, 2; 9, 11, 13; 90 to 100.
- * If the packet goes on, only bytes of its header may have changed; else no byte has. */
+ * With code 0, 1 or 2 only bytes of its header may have changed, with any other code no byte has. A
+ * packet that came over a link and is delivered may have changed too: a reply needs its bytes as
+ * they are then. */
 scion_answer scion_step(const scion_router *router, uint32_t now, uint8_t arrival,
                         uint16_t interface, uint8_t *packet, size_t len);
 

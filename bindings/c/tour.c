@@ -104,6 +104,22 @@ static void ends(void) {
     same("inside", packet, wanted, len);
 }
 
+/* The packet of three ASes in a row before its last turn, and after it: against construction
+ * direction the last router takes its own authenticator out of the accumulator too. */
+#define ROW(accumulator) \
+    "0001ff0000000110" "0001ff0000000112" "02003000" "0000" accumulator "000003e8" \
+    "003f00010000ad8a52e6ab61" "003f0001000239b948f8a321" "003f00000001aef522c41890"
+
+static void delivered(void) {
+    const scion_interface child = {1, SCION_CHILD, 0, 1};
+    uint8_t packet[64], wanted[64];
+    size_t len = unhex(ROW("bcc1"), packet);
+    unhex(ROW("1234"), wanted);
+    scion_router at = router(0x0001ff0000000110, "a0", "", &child, 1);
+    expect("by link", scion_step(&at, 1000, SCION_OVER_LINK, 1, packet, len), SCION_DELIVER, 0);
+    same("by link", packet, wanted, len);
+}
+
 /* The answers of a router if one byte is changed by exclusive or. */
 static const struct {
     unsigned byte, flip, code, number;
@@ -245,6 +261,7 @@ static void verdicts(void) {
 int main(void) {
     turns();
     ends();
+    delivered();
     hostile();
     many();
     headers();

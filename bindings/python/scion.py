@@ -1,7 +1,7 @@
 """The proved router for Python, over ctypes.
 
-`Library(path)` loads the shared object that `bindings/build.py` links. Each of its calls copies
-what it is given, so that a host has no duties of its own. docs/library.md says what is proved.
+`Library(path)` loads the shared object that `bindings/build.py` links. Its calls copy what they are
+given. The library is proved, and this module is not: docs/library.md says what a host has to keep.
 """
 import collections
 import ctypes

@@ -131,14 +131,23 @@ class Tour:
         return bytes.fromhex(header)
 
     def turns_along(self, what, packet, turns):
-        """Turns of routers with a packet, each with its answer."""
-        for router, arrival, interface, *wanted in turns:
+        """Turns of routers with a packet of one segment: for each its answer, and the first byte of
+        the meta field and the accumulator after it. No other byte changes. The packets after each
+        turn are returned."""
+        packets = []
+        for router, arrival, interface, code, number, first, accumulator in turns:
+            wanted = packet[:16] + bytes([first]) + packet[17:22]
+            wanted += accumulator.to_bytes(2, "big") + packet[24:]
             given = self.library.step(router, 1000, Packet(packet, arrival, interface))
-            self.expect(what, [given.code, given.number], wanted)
+            self.expect(what, given, (code, number, wanted))
             packet = given.bytes
+            packets.append(packet)
+        return packets
 
     def row(self):
-        """Three ASes in a row."""
+        """Three ASes in a row, and a reply from the last one. On the way, against construction
+        direction, each router at a link takes its own authenticator out of the accumulator, the
+        last one too: a reply with the bytes of before is refused."""
         ias = [f"1-ff00:0:11{it}" for it in range(3)]
         ways = [(0, 1), (1, 2), (1, 0)]
         keys = [b"a0", b"a1", b"a2"]
@@ -159,11 +168,23 @@ class Tour:
             Router(last, keys[0], [Interface(1, Kind.CHILD)]),
         ]
         turns = [
-            (at[0], Arrival.FROM_HOST, 0, Code.TO_LINK, 1),
-            (at[1], Arrival.OVER_LINK, 2, Code.TO_LINK, 1),
-            (at[2], Arrival.OVER_LINK, 1, Code.DELIVER, 0),
+            (at[0], Arrival.FROM_HOST, 0, Code.TO_LINK, 1, 1, 0x1234 ^ 0xAEF5 ^ 0x39B9),
+            (at[1], Arrival.OVER_LINK, 2, Code.TO_LINK, 1, 2, 0x1234 ^ 0xAEF5),
+            (at[2], Arrival.OVER_LINK, 1, Code.DELIVER, 0, 2, 0x1234),
         ]
-        self.turns_along("row", packet, turns)
+        _, before, delivered = self.turns_along("row", packet, turns)
+        back = [
+            (at[2], Arrival.FROM_HOST, 0, Code.TO_LINK, 1, 1, 0x1234 ^ 0xAEF5),
+            (at[1], Arrival.OVER_LINK, 1, Code.TO_LINK, 2, 2, 0x1234 ^ 0xAEF5 ^ 0x39B9),
+            (at[0], Arrival.OVER_LINK, 1, Code.DELIVER, 0, 2, 0x1234 ^ 0xAEF5 ^ 0x39B9),
+        ]
+        self.turns_along("reply", self.reply(delivered), back)
+        given = self.library.step(at[2], 1000, Packet(self.reply(before)))
+        self.expect("reply to the bytes before", given.code, Code.BAD_MAC)
+
+    def reply(self, packet):
+        """The packet of the way back."""
+        return packet[8:16] + packet[:8] + self.library.header_reverse(packet[16:])
 
     def pair(self):
         """Two ISDs, each a core AS, its child and the child's child. The core segment expires
