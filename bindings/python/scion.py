@@ -1,12 +1,32 @@
 """The proved router for Python, over ctypes.
 
 `Library(path)` loads the shared object that `bindings/build.py` links. Its calls copy what they are
-given. The library is proved, and this module is not: docs/library.md says what a host has to keep.
+given: of bytes, the length of the copy is what counts, so that another thread may change them. They
+refuse what is no bytes with TypeError, and a number that has too many bits for its place, or none
+at all, with ValueError or TypeError. The library is proved, and this module is not:
+docs/library.md says what a host has to keep.
 """
-import collections
 import ctypes
 import enum
 import json
+import operator
+import os
+from typing import Any, Iterable, List, NamedTuple, Sequence, Union
+
+__all__ = [
+    "Answer",
+    "Arrival",
+    "Code",
+    "Interface",
+    "Kind",
+    "Library",
+    "Packet",
+    "Refused",
+    "Router",
+]
+
+# What holds bytes: each object with a buffer of items of one byte.
+Bytes = Union[bytes, bytearray, memoryview]
 
 
 class Kind(enum.IntEnum):
@@ -54,21 +74,46 @@ class Code(enum.IntEnum):
     LINK_DOWN = 100
 
 
-# An interface of an AS, and a router with the interfaces of its whole AS.
-Interface = collections.namedtuple("Interface", "number kind router up", defaults=(0, True))
-Router = collections.namedtuple("Router", "ia key interfaces previous router", defaults=(b"", 0))
+class Interface(NamedTuple):
+    """An interface of an AS. A kind or a state without meaning is answered with BAD_CALL."""
 
-# A packet that came to a router, and the answer to a call: its code, its number and the new bytes.
-Packet = collections.namedtuple(
-    "Packet", "bytes arrival interface", defaults=(Arrival.FROM_HOST, 0)
-)
-Answer = collections.namedtuple("Answer", "code number bytes")
+    number: int
+    kind: int
+    router: int = 0
+    up: int = True
+
+
+class Router(NamedTuple):
+    """A router, with the interfaces of its whole AS. `ia` has 16 bits of ISD and 48 of AS number;
+    `previous` is the key before, or empty; `router` is its number in the AS."""
+
+    ia: int
+    key: Bytes
+    interfaces: Iterable[Interface]
+    previous: Bytes = b""
+    router: int = 0
+
+
+class Packet(NamedTuple):
+    """A packet that came to a router, over the link at `interface` if it came over a link."""
+
+    bytes: Bytes
+    arrival: int = Arrival.FROM_HOST
+    interface: int = 0
+
+
+class Answer(NamedTuple):
+    """The answer to a step: its code, its number, and the bytes of the packet after it."""
+
+    code: Code
+    number: int
+    bytes: bytes
 
 
 class Refused(Exception):
     """A call was refused for all of its packets, or has no value to return."""
 
-    def __init__(self, code):
+    def __init__(self, code: Code) -> None:
         super().__init__(f"{code.value} {code.name}")
         self.code = code
 
@@ -115,126 +160,178 @@ class _Text(ctypes.Structure):
 
 _MAC = ctypes.c_uint8 * 6
 
+_SLICE = [ctypes.c_char_p, ctypes.c_size_t]
+
+# The types of each call's arguments and of its answer.
 _CALLS = {
-    "scion_step": [
-        ctypes.POINTER(_Router),
-        ctypes.c_uint32,
-        ctypes.c_uint8,
-        ctypes.c_uint16,
-        ctypes.c_char_p,
-        ctypes.c_size_t,
-    ],
-    "scion_step_all": [
-        ctypes.POINTER(_Router),
-        ctypes.c_uint32,
-        ctypes.POINTER(_Packet),
-        ctypes.c_size_t,
-    ],
-    "scion_header_check": [ctypes.c_char_p, ctypes.c_size_t],
-    "scion_header_reverse": [ctypes.c_char_p, ctypes.c_size_t],
-    "scion_hop_mac": [
-        ctypes.c_char_p,
-        ctypes.c_size_t,
-        ctypes.c_uint16,
-        ctypes.c_uint32,
-        ctypes.c_uint8,
-        ctypes.c_uint16,
-        ctypes.c_uint16,
-        ctypes.POINTER(_MAC),
-    ],
+    "scion_step": (
+        [ctypes.POINTER(_Router), ctypes.c_uint32, ctypes.c_uint8, ctypes.c_uint16, *_SLICE],
+        _Answer,
+    ),
+    "scion_step_all": (
+        [ctypes.POINTER(_Router), ctypes.c_uint32, ctypes.POINTER(_Packet), ctypes.c_size_t],
+        _Answer,
+    ),
+    "scion_header_check": (_SLICE, _Answer),
+    "scion_header_reverse": (_SLICE, _Answer),
+    "scion_hop_mac": (
+        [
+            *_SLICE,
+            ctypes.c_uint16,
+            ctypes.c_uint32,
+            ctypes.c_uint8,
+            ctypes.c_uint16,
+            ctypes.c_uint16,
+            ctypes.POINTER(_MAC),
+        ],
+        _Answer,
+    ),
+    "scion_paths": ([*_SLICE, *_SLICE], _Text),
+    "scion_verify": ([*_SLICE, *_SLICE], _Text),
 }
 
 
-def _room(data):
+def _whole(name: str, value: int, bits: int) -> int:
+    """The number, which ctypes would cut to this many bits without a word."""
+    number = operator.index(value)
+    if not 0 <= number < 1 << bits:
+        raise ValueError(f"{name} is {number}, which is no number of {bits} bits")
+    return number
+
+
+def _copy(name: str, data: Bytes) -> bytes:
+    """The bytes as they are now, whatever another thread writes there later."""
+    if isinstance(data, (bytes, bytearray)) or memoryview(data).itemsize == 1:
+        return b"".join([data])
+    raise TypeError(f"the items of {name} have more than one byte")
+
+
+def _room(data: bytes) -> Any:
     """A copy of some bytes that a call may change, never of length 0."""
-    return ctypes.create_string_buffer(bytes(data), max(len(data), 1))
+    return ctypes.create_string_buffer(data, max(len(data), 1))
 
 
-def _parts(router):
+def _way_in(packet: Packet) -> Sequence[int]:
+    """How a packet came, and by which interface."""
+    return _whole("arrival", packet.arrival, 8), _whole("interface", packet.interface, 16)
+
+
+def _row(it: Interface) -> _Interface:
+    return _Interface(
+        _whole("number", it.number, 16),
+        _whole("kind", it.kind, 8),
+        _whole("router", it.router, 8),
+        _whole("up", it.up, 8),
+    )
+
+
+def _parts(router: Router) -> _Router:
     """The record of a router, which also keeps alive what it points to."""
-    rows = [_Interface(it.number, it.kind, it.router, it.up) for it in router.interfaces]
+    rows = [_row(it) for it in router.interfaces]
     table = (_Interface * max(len(rows), 1))(*rows)
-    key, previous = bytes(router.key), bytes(router.previous)
+    key, previous = _copy("key", router.key), _copy("previous", router.previous)
     return _Router(
-        router.ia, key, len(key), previous, len(previous), table, len(rows), router.router
+        _whole("ia", router.ia, 64),
+        key,
+        len(key),
+        previous,
+        len(previous),
+        table,
+        len(rows),
+        _whole("router", router.router, 8),
     )
 
 
 class Library:
     """The calls of the shared object at this path."""
 
-    def __init__(self, path):
-        self._calls = ctypes.CDLL(path)
-        for name, types in _CALLS.items():
-            call = getattr(self._calls, name)
-            call.argtypes, call.restype = types, _Answer
-        if hasattr(self._calls, "scion_paths"):
-            slice_of = [ctypes.c_char_p, ctypes.c_size_t]
-            for call in (self._calls.scion_paths, self._calls.scion_verify):
-                call.argtypes, call.restype = [*slice_of, *slice_of], _Text
+    def __init__(self, path: str) -> None:
+        self._calls = ctypes.CDLL(os.path.abspath(path))
+        for name, (types, result) in _CALLS.items():
+            if hasattr(self._calls, name):
+                call = getattr(self._calls, name)
+                call.argtypes, call.restype = types, result
 
-    def step(self, router, now, packet):
+    def step(self, router: Router, now: int, packet: Packet) -> Answer:
         """One step of a router on a packet, at the second `now`."""
-        room, length = _room(packet.bytes), len(packet.bytes)
-        given = self._calls.scion_step(
-            _parts(router), now, packet.arrival, packet.interface, room, length
-        )
-        return Answer(Code(given.code), given.number, room.raw[:length])
+        data, now = _copy("packet", packet.bytes), _whole("now", now, 32)
+        room = _room(data)
+        given = self._calls.scion_step(_parts(router), now, *_way_in(packet), room, len(data))
+        return Answer(Code(given.code), given.number, room.raw[: len(data)])
 
-    def step_all(self, router, now, packets):
+    def step_all(self, router: Router, now: int, packets: Iterable[Packet]) -> List[Answer]:
         """One step on each packet; `Refused` if there is no such router."""
-        rooms = [_room(it.bytes) for it in packets]
+        packets, now = list(packets), _whole("now", now, 32)
+        copies = [_copy("packet", it.bytes) for it in packets]
+        rooms = [_room(it) for it in copies]
         slots = (_Packet * max(len(rooms), 1))()
-        for slot, room, packet in zip(slots, rooms, packets):
-            slot.bytes, slot.len = ctypes.addressof(room), len(packet.bytes)
-            slot.arrival, slot.interface = packet.arrival, packet.interface
+        for slot, room, data, packet in zip(slots, rooms, copies, packets):
+            slot.bytes, slot.len = ctypes.addressof(room), len(data)
+            slot.arrival, slot.interface = _way_in(packet)
         self._done(self._calls.scion_step_all(_parts(router), now, slots, len(rooms)))
         return [
             Answer(Code(slot.answer.code), slot.answer.number, room.raw[: slot.len])
             for slot, room in zip(slots, rooms)
         ]
 
-    def header_length(self, data):
+    def header_length(self, data: Bytes) -> int:
         """The length of the path header at the front; `Refused` if there is none."""
-        return self._done(self._calls.scion_header_check(bytes(data), len(data)))
+        data = _copy("data", data)
+        return self._done(self._calls.scion_header_check(data, len(data)))
 
-    def header_reverse(self, data):
+    def header_reverse(self, data: Bytes) -> bytes:
         """The bytes with the header of the way back; `Refused` if there is no header."""
+        data = _copy("data", data)
         room = _room(data)
         self._done(self._calls.scion_header_reverse(room, len(data)))
         return room.raw[: len(data)]
 
-    def hop_mac(self, key, beta, timestamp, exp_time, cons_ingress, cons_egress):
+    def hop_mac(
+        self,
+        key: Bytes,
+        beta: int,
+        timestamp: int,
+        exp_time: int,
+        cons_ingress: int,
+        cons_egress: int,
+    ) -> bytes:
         """The authenticator of a hop; `Refused` if the key is not of 1 to 64 bytes."""
-        mac, key = _MAC(), bytes(key)
-        values = (beta, timestamp, exp_time, cons_ingress, cons_egress)
+        mac, key = _MAC(), _copy("key", key)
+        values = (
+            _whole("beta", beta, 16),
+            _whole("timestamp", timestamp, 32),
+            _whole("exp_time", exp_time, 8),
+            _whole("cons_ingress", cons_ingress, 16),
+            _whole("cons_egress", cons_egress, 16),
+        )
         self._done(self._calls.scion_hop_mac(key, len(key), *values, mac))
         return bytes(mac)
 
-    def paths(self, **request):
+    def paths(self, **request: Any) -> Any:
         """The answer to a request for paths (docs/library.md), as an object of JSON.
 
         The shared object has to be linked from both libraries."""
-        return self._asked(self._calls.scion_paths, request)
+        return self._asked("scion_paths", request)
 
-    def verify(self, **request):
+    def verify(self, **request: Any) -> Any:
         """Whether the path of a request may be sent (docs/library.md), as an object of JSON."""
-        return self._asked(self._calls.scion_verify, request)
+        return self._asked("scion_verify", request)
 
-    @staticmethod
-    def _asked(call, request):
-        text = json.dumps(request).encode()
+    def _asked(self, name: str, request: Any) -> Any:
+        if not hasattr(self._calls, name):
+            raise NotImplementedError(f"this shared object has no {name}: build it with --paths")
+        text = json.dumps(request, allow_nan=False).encode()
         length, status = 4096, 1
         while status == 1:
             room = _room(bytes(length))
-            given = call(text, len(text), room, length)
+            given = getattr(self._calls, name)(text, len(text), room, length)
             status, length = given.status, given.len
         if status:
             raise MemoryError
         return json.loads(room.raw[:length])
 
     @staticmethod
-    def _done(given):
+    def _done(given: _Answer) -> int:
         if given.code:
             raise Refused(Code(given.code))
         return given.number

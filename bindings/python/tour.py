@@ -3,7 +3,10 @@
 
 What is expected is said by the rules of a router, never by what the library answered. The word is
 the path of the shared object; the status is 1 if an answer differs."""
+import array
 import sys
+import threading
+import time
 
 from scion import Arrival, Code, Interface, Kind, Library, Packet, Refused, Router
 
@@ -38,6 +41,27 @@ CHANGES = [
     *((byte, flip, Code.BAD_MAC, 0) for byte in range(34, 40) for flip in range(1, 256)),
     *((byte, flip, Code.TO_LINK, 2) for byte in range(42, 52) for flip in range(1, 256)),
 ]
+
+
+def packet_gone():
+    """The packet of README.md behind its first router."""
+    return packet("01", RIGHT)
+
+
+class Longer(bytearray):
+    """Bytes that say that they are more."""
+
+    def __len__(self):
+        return 52
+
+
+def cut_and_extend(shared, whole, is_over):
+    """Changes the length of shared bytes until it is told to end."""
+    while not is_over.is_set():
+        if len(shared) > 12:
+            del shared[12:]
+        else:
+            shared.extend(whole[12:])
 
 
 class Tour:
@@ -107,6 +131,77 @@ class Tour:
         self.refuses("no mac", Code.BAD_FIELD, library.hop_mac, b"", 0xB396, 100, 63, 2, 0)
         nobody = Router(AT_111, b"", [PARENT])
         self.refuses("no router", Code.BAD_FIELD, library.step_all, nobody, 100, [])
+
+    def raises(self, what, fault, call, *words):
+        """A call whose arguments don't fit, which ctypes would have cut."""
+        try:
+            self.expect(what, call(*words), fault.__name__)
+        except (TypeError, ValueError) as found:
+            self.expect(what, type(found), fault)
+
+    def unfit(self):
+        library, parts = self.library, {"ia": AT_111, "key": b"k", "interfaces": [PARENT]}
+        at111, wide = Router(**parts), array.array("H", range(26))
+        turns = [
+            ("milliseconds", ValueError, parts, 2**32 + 100, Packet(SENT)),
+            ("second -1", ValueError, parts, -1, Packet(SENT)),
+            ("half a second", TypeError, parts, 100.5, Packet(SENT)),
+            ("arrival 256", ValueError, parts, 100, Packet(SENT, 256)),
+            ("interface 65538", ValueError, parts, 100, Packet(SENT, Arrival.OVER_LINK, 65538)),
+            ("address", ValueError, {**parts, "ia": AT_111 + 2**64}, 100, Packet(SENT)),
+            ("router 256", ValueError, {**parts, "router": 256}, 100, Packet(SENT)),
+            ("key 5", TypeError, {**parts, "key": 5}, 100, Packet(SENT)),
+            ("key of text", TypeError, {**parts, "key": "k"}, 100, Packet(SENT)),
+            ("previous 5", TypeError, {**parts, "previous": 5}, 100, Packet(SENT)),
+            ("wide items", TypeError, parts, 100, Packet(wide)),
+            ("view of wide items", TypeError, parts, 100, Packet(memoryview(wide))),
+            ("packet 5", TypeError, parts, 100, Packet(5)),
+        ]
+        for row in ((65538, 1), (-1, 1), (2, 257), (2, 1, 256), (2, 1, 0, 257)):
+            broken = {**parts, "interfaces": [Interface(*row)]}
+            turns.append((f"interface {row}", ValueError, broken, 100, Packet(SENT)))
+        for what, fault, router, now, packet in turns:
+            self.raises(what, fault, library.step, Router(**router), now, packet)
+            self.raises(f"{what}, all", fault, library.step_all, Router(**router), now, [packet])
+        right = (0xB396, 100, 63, 2, 0)
+        for place, width in enumerate((16, 32, 8, 16, 16)):
+            for change in (1 << width, -(1 << width)):
+                wrong = [it + change * (at == place) for at, it in enumerate(right)]
+                self.raises(f"mac of {wrong}", ValueError, library.hop_mac, b"k", *wrong)
+        for call in (library.header_length, library.header_reverse):
+            self.raises("header 36", TypeError, call, 36)
+            self.raises("header of wide items", TypeError, call, wide)
+        for like in (bytearray(SENT), memoryview(SENT), array.array("B", SENT)):
+            given = library.step(at111, 100, Packet(like))
+            self.expect("like bytes", given, (Code.TO_LINK, 2, packet_gone()))
+
+    def copied(self):
+        """The length that counts is that of the copy: of bytes that say another length, and of
+        bytes that a thread cuts and extends meanwhile."""
+        library, header = self.library, SENT[16:]
+        back = library.header_reverse(header)
+        longer = Longer(header[:12])
+        self.refuses("said longer", Code.SHORT, library.header_length, longer)
+        self.refuses("said longer, turned", Code.SHORT, library.header_reverse, longer)
+        at111 = Router(AT_111, b"k", [PARENT])
+        given = library.step(at111, 100, Packet(Longer(SENT[:12])))
+        self.expect("said longer, packet", given, (Code.BAD_HEADER, Code.SHORT, SENT[:12]))
+        shared, is_over = bytearray(header), threading.Event()
+        other = threading.Thread(target=cut_and_extend, args=(shared, header, is_over))
+        pause = sys.getswitchinterval()
+        sys.setswitchinterval(1e-6)
+        other.start()
+        found, ends = set(), time.monotonic() + 0.5
+        while time.monotonic() < ends:
+            for call in (library.header_length, library.header_reverse):
+                try:
+                    found.add(call(shared))
+                except Refused as refusal:
+                    found.add(refusal.code)
+        is_over.set()
+        other.join()
+        sys.setswitchinterval(pause)
+        self.expect("shared bytes", found - {len(header), back, Code.SHORT}, set())
 
     def segment(self, kind, beta0, hops, exp=63):
         """A segment that begins at second 1000 with this accumulator: for each AS its address, key,
@@ -273,6 +368,8 @@ def main():
     tour.turns()
     tour.hostile()
     tour.headers()
+    tour.unfit()
+    tour.copied()
     tour.row()
     tour.pair()
     tour.fork()
