@@ -1,10 +1,11 @@
 #!/usr/bin/env python3
 """Checks that the header and the modules of bindings/ fit what the libraries export.
 
-It builds the static libraries over what `rt ci` has proved, since that leaves none, and runs the
-tour in C by each compiler that is there (the kit's clang is), and the one in Python. Their answers
-are held to what the rules of routers and of paths say. Then `answers.py` compares random requests
-for paths with a search that tries every list of pieces. The status is 1 where one differs."""
+First it compares their numbers with the tables of the crates (`host_numbers.py`). Then it builds
+the static libraries over what `rt ci` has proved, since that leaves none, and runs the tour in C by
+each compiler that is there (the kit's clang is), and the one in Python. Their answers are held to
+what the rules of routers and of paths say. Then `answers.py` compares random requests for paths
+with a search that tries every list of pieces. The status is 1 where one differs."""
 import os
 import subprocess
 import sys
@@ -14,8 +15,10 @@ TOP = os.path.dirname(os.path.dirname(os.path.realpath(__file__)))
 BINDINGS = os.path.join(TOP, "bindings")
 sys.path.append(BINDINGS)
 sys.dont_write_bytecode = True
+os.chdir(TOP)
 
 import build  # noqa: E402
+import host_numbers  # noqa: E402
 
 
 def toured(*words):
@@ -29,12 +32,12 @@ def toured(*words):
 
 
 def main():
+    is_well = host_numbers.check()
     build.prove(build.BOTH)
     compilers = list(build.compilers())
     if not compilers:
         print("bindings: no compiler for C, so no tour is run")
         return 0
-    is_well = True
     with tempfile.TemporaryDirectory() as room:
         for number, compiler in enumerate(compilers):
             program = os.path.join(room, f"tour-by-{os.path.basename(compiler[0][0])}-{number}")

@@ -189,4 +189,5 @@ def main():
         sys.exit("docs/refusals.md is not what .ci/refusals.py prints")
 
 
-main()
+if __name__ == "__main__":
+    main()
