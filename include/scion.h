@@ -4,12 +4,19 @@
  * memory, keep no pointer, and return after a time that the lengths bound. They answer all values
  * of their arguments, so that a host need not check them first.
  *
- * A host keeps three duties, which nothing checks:
+ * A host keeps these duties, which nothing checks:
  * - no pointer is null, not even if its length is 0;
- * - each points to as many items as its length says; they are aligned and initialized;
- * - while a call runs, nobody else reads or writes what it may write, or writes what it reads; so
- *   two packets of one call share no byte.
+ * - each points to as many items as its length says, and they are aligned;
+ * - what a call reads is initialized. What it only writes need not be: `mac`, a room, and the
+ *   answers in the records of packets;
+ * - what a call may write lies apart from all else that it is given: a packet from other packets,
+ *   keys, interfaces and records; `mac` from the key; a room from the request;
+ * - while a call runs, nobody else writes what it reads, or reads or writes what it may write.
  * Calls on different bytes may run on different threads at the same time.
+ *
+ * No call reads a clock. `now` and timestamps are seconds of one clock, that of the ASes which made
+ * the segments. Nothing is promised about the secrecy of keys: a call may leave parts of them on
+ * its stack, and its time may depend on them and on the authenticators that it compares.
  */
 #ifndef SCION_H
 #define SCION_H
@@ -68,7 +75,7 @@ typedef struct {
 typedef struct {
     uint16_t number; /* not 0 */
     uint8_t kind;    /* SCION_CORE, SCION_PARENT or SCION_CHILD */
-    uint8_t router;  /* the number of the router that owns it */
+    uint8_t router;  /* the number of the router that owns it, 0 to 255 */
     uint8_t up;      /* 1, or 0 for a link that is down */
 } scion_interface;
 
@@ -80,7 +87,7 @@ typedef struct {
     size_t previous_len;               /* 0 if there is none, else 1 to 64 */
     const scion_interface *interfaces; /* of the whole AS, in any order */
     size_t interfaces_len;             /* at most 256 */
-    uint8_t router;                    /* its number in the AS */
+    uint8_t router;                    /* its number in the AS, 0 to 255 */
 } scion_router;
 
 typedef struct {
