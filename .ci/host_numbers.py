@@ -64,7 +64,7 @@ def statuses():
     return {name: int(number) for name, number in names.items()}
 
 
-def in_header():
+def in_c():
     """The constants of the header."""
     text = Path("include/scion.h").read_text()
     enums = re.findall(r"^enum \{(.*?)\};", text, re.M | re.S)
@@ -72,37 +72,72 @@ def in_header():
     return {name: int(number) for name, number in rows}
 
 
+def in_rust():
+    """The constants of the Rust crate."""
+    text = Path("bindings/rust/src/raw.rs").read_text()
+    rows = re.findall(r"^pub const SCION_(\w+): u\d+ = (\d+);$", text, re.M)
+    return {name: int(number) for name, number in rows}
+
+
+def variants_in_rust():
+    """The constants of the Rust crate and the variants beside which they stand, each pair once."""
+    files = sorted(Path("bindings/rust/src").glob("*.rs"))
+    text = "".join(it.read_text() for it in files)
+    pairs = re.findall(r"raw::SCION_(\w+) => (?:Ok\()?Self::(\w+)", text)
+    behind = r"Self::(\w+)(?:\(\w+\))? => \(?raw::SCION_(\w+)|^    (\w+) = raw::SCION_(\w+),$"
+    for variant, name, other, its_name in re.findall(behind, text, re.M):
+        pairs.append((name or its_name, variant or other))
+    return {*pairs}
+
+
 def in_python(name):
     """The members of a class of the Python module."""
-    text = Path("bindings/python/scion.py").read_text()
+    text = Path("bindings/python/scion/__init__.py").read_text()
     body = re.search(rf"^class {name}\(.*\n((?:    .*\n|\n)+)", text, re.M)[1]
     return {it: int(number) for it, number in re.findall(r"^    (\w+) = (\d+)$", body, re.M)}
 
 
-def in_rust(name):
-    """The variants of an enum of the Rust file, or the ways in that it makes of them."""
-    text = Path("bindings/rust/scion.rs").read_text()
-    if name == "Arrival":
-        rows = re.findall(r"Self::(\w+)(?:\(\w+\))? => \((\d+), \w+\)", text)
-    else:
-        body = re.search(rf"^pub enum {name} \{{\n(.*?)^\}}", text, re.M | re.S)[1]
-        rows = re.findall(r"^    (\w+) = (\d+),$", body, re.M)
-    names = {constant(it): int(number) for it, number in rows}
-    return {RENAMED.get(it, it): number for it, number in names.items()}
+def in_javascript(name):
+    """The members of an object of the JavaScript module."""
+    text = Path("bindings/js/scion.mjs").read_text()
+    body = re.search(rf"^export const {name} = Object.freeze\(\{{\n(.*?)^\}}", text, re.M | re.S)[1]
+    return {it: int(number) for it, number in re.findall(r"^  (\w+): (\d+),$", body, re.M)}
+
+
+# Where the version of the calls stands.
+VERSIONS = {
+    "include/scion.h": r'^#define SCION_VERSION "(.*)"$',
+    "bindings/c/scion.pc": r"^Version: (.*)$",
+    "bindings/c/scion-paths.pc": r"^Version: (.*)$",
+    "bindings/python/pyproject.toml": r'^version = "(.*)"$',
+    "bindings/python/scion/__init__.py": r'^__version__ = "(.*)"$',
+    "bindings/rust/Cargo.toml": r'^version = "(.*)"$',
+    "bindings/js/package.json": r'^  "version": "(.*)",$',
+    "bindings/js/scion.mjs": r'^export const VERSION = "(.*)";$',
+}
+
+
+def is_one_version():
+    """Whether all files have the same version."""
+    texts = {path: Path(path).read_text() for path in VERSIONS}
+    found = {path: re.findall(VERSIONS[path], texts[path], re.M) for path in texts}
+    if len({tuple(it) for it in found.values()}) == 1 and len(found["include/scion.h"]) == 1:
+        return True
+    print(f"numbers: versions differ: {found}")
+    return False
 
 
 def check():
     """Whether all numbers are those of the tables; the differences are told."""
     kinds, arrivals, answers = told("kind_told"), told("arrival_told"), codes()
-    header = {"DONE": 0, **kinds, **arrivals, **answers, **statuses()}
-    pairs = [
-        ("include/scion.h", in_header(), header),
-        ("Kind of scion.py", in_python("Kind"), kinds),
-        ("Arrival of scion.py", in_python("Arrival"), arrivals),
-        ("Code of scion.py", in_python("Code"), answers),
-        ("Kind of scion.rs", in_rust("Kind"), kinds),
-        ("Arrival of scion.rs", in_rust("Arrival"), arrivals),
-    ]
+    constants = {"DONE": 0, **kinds, **arrivals, **answers, **statuses()}
+    pairs = [("include/scion.h", in_c(), constants), ("raw.rs", in_rust(), constants)]
+    for name, wanted in (("Kind", kinds), ("Arrival", arrivals), ("Code", answers)):
+        pairs.append((f"{name} in Python", in_python(name), wanted))
+        pairs.append((f"{name} in JavaScript", in_javascript(name), wanted))
+    wanted = {name: name for name in [*kinds, *arrivals, *answers]}
+    given = {name: constant(variant) for name, variant in variants_in_rust()}
+    pairs.append(("the variants of Rust", given, wanted))
     wrong = 0
     for what, given, wanted in pairs:
         for name in sorted(given.keys() | wanted.keys()):
@@ -110,7 +145,7 @@ def check():
                 wrong += 1
                 print(f"numbers: {what}: {name} is {given.get(name)}, not {wanted.get(name)}")
     print(f"numbers: {sum(len(given) for _, given, _ in pairs)} compared, {wrong} wrong")
-    return not wrong
+    return is_one_version() and not wrong
 
 
 if __name__ == "__main__":

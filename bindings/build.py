@@ -1,10 +1,12 @@
 #!/usr/bin/env python3
 """Builds the libraries for hosts, and what is linked with them.
 
-    bindings/build.py                 proves and builds the router's static library, and links the
-                                      shared object bindings/out/libscion.so from it, for Python
+    bindings/build.py                 proves and builds the router's static library, puts it into
+                                      bindings/out, and links libscion.so there from it, for Python
     bindings/build.py FILE.c PROGRAM  links a program in C with the static library
     bindings/build.py --paths ..      the same of both libraries; the second has more crates below
+    bindings/build.py --wasm          proves the router's library for WebAssembly, and builds
+                                      bindings/out/scion.wasm
 
 The compiler is $CC, or else cc, or else the clang of the kit that `rt` is of, which needs no
 headers of the machine."""
@@ -17,6 +19,10 @@ HERE = os.path.dirname(os.path.realpath(__file__))
 TOP = os.path.dirname(HERE)
 OUT = os.path.join(HERE, "out")
 ROUTER, BOTH = ("scion_ffi",), ("scion_ffi", "scion_ffi_paths")
+WASM = "wasm64-unknown-unknown"
+
+# The bytes of memory of the module: its stack has 1 MiB, and the arguments of a call what is left.
+WASM_MEMORY = 36 * 65536
 
 
 def stop(why):
@@ -78,11 +84,11 @@ def rlib(name):
     return os.path.join(TOP, "crates", name, "out", "rlib")
 
 
-def is_current(uses, name):
-    """Whether the archive is newer than all that it is made of."""
-    if not os.path.exists(archive(name)):
+def is_current(uses, name, path):
+    """Whether what was built of a crate is newer than all that it is made of."""
+    if not os.path.exists(path):
         return False
-    made = os.path.getmtime(archive(name))
+    made = os.path.getmtime(path)
     parts = [
         os.path.join(TOP, "crates", it, part)
         for it in [*below(uses, name), name]
@@ -92,10 +98,8 @@ def is_current(uses, name):
     return all(os.path.getmtime(it) < made for it in files)
 
 
-def over_gate(uses, name):
-    """The words that prove and build a static library over the libraries that `rt ci` has built.
-    It leaves these without the stamp by which `rt lib` knows them, so that would prove each
-    anew."""
+def over_libraries(uses, name, path, *target):
+    """The words that prove and build a static library over libraries that are built."""
     words = [os.path.join(kit(), "bin", "rattle"), "build", "--crate-name", name, "src/lib.rt"]
     rlibs = os.path.join(kit(), "rlibs")
     for it in ["std", *(it for it in uses[name] if it not in uses)]:
@@ -109,20 +113,44 @@ def over_gate(uses, name):
     words += ["--logic-built", os.path.join(kit(), "logic_built"), "--links", f"{name}="]
     words += ["--jobs", "2", "--crate-type", "staticlib"]
     words += ["--toolchain", os.path.join(kit(), "toolchain"), "--backend", "llvm"]
-    return [*words, "-o", archive(name)]
+    return [*words, *target, "-o", path]
 
 
 def prove(libraries):
-    """Proves and builds static libraries, unless they stand and nothing has changed since."""
+    """Proves and builds static libraries, unless they stand and nothing has changed since. `rt ci`
+    leaves the libraries below without the stamp by which `rt lib` knows them, so that this would
+    prove each anew."""
     uses = used()
     for name in libraries:
-        if is_current(uses, name):
+        path = archive(name)
+        if is_current(uses, name, path):
             continue
         is_built = all(os.path.isdir(f"{rlib(it)}/{it}.rlib") for it in below(uses, name))
         is_known = any(os.path.exists(f"{rlib(it)}/stamp") for it in below(uses, name))
-        words = over_gate(uses, name) if is_built and not is_known else ["rt", "lib"]
-        os.makedirs(os.path.dirname(archive(name)), exist_ok=True)
+        words = over_libraries(uses, name, path) if is_built and not is_known else ["rt", "lib"]
+        os.makedirs(os.path.dirname(path), exist_ok=True)
         run(words, os.path.join(TOP, "crates", name))
+
+
+def gather(libraries):
+    """Puts static libraries into bindings/out, where a program finds all that it links."""
+    for path in [*map(archive, libraries), *[allocator()] * (libraries == BOTH)]:
+        shutil.copy2(path, OUT)
+
+
+def build_wasm(path):
+    """Proves the router's library for WebAssembly, and links the module, unless it is current."""
+    uses, (name,) = used(), ROUTER
+    prove(ROUTER)
+    if is_current(uses, name, path):
+        return
+    part = f"{path}.a"
+    words = over_libraries(uses, name, part, "--target", WASM)
+    run(words, os.path.join(TOP, "crates", name))
+    link = [os.path.join(kit(), "bin", "rattle-link"), "--target", WASM]
+    link += ["--toolchain", os.path.join(kit(), "toolchain"), "--memory", str(WASM_MEMORY)]
+    run([*link, "-o", path, part])
+    os.remove(part)
 
 
 def link_shared(compiler, libraries, path):
@@ -132,23 +160,26 @@ def link_shared(compiler, libraries, path):
     run([*front, "-shared", "-o", path, *whole, allocator(), *behind])
 
 
-def link_program(compiler, libraries, source, path):
+def link_program(compiler, libraries, source, path, flags=("-O2", "-Wall")):
     """Compiles a program in C and links it with static libraries."""
     front, behind = compiler
-    flags = ["-O2", "-Wall", "-I", os.path.join(TOP, "include")]
-    run([*front, *flags, "-o", path, source, *map(archive, libraries), allocator(), *behind])
+    words = [*front, *flags, "-I", os.path.join(TOP, "include"), "-o", path, source]
+    run([*words, *map(archive, libraries), allocator(), *behind])
 
 
 def main():
+    words = [os.path.abspath(it) for it in sys.argv[1:] if it not in ("--paths", "--wasm")]
+    if len(words) not in (0, 2):
+        stop("give a file in C and the program's path, or neither")
+    os.makedirs(OUT, exist_ok=True)
+    if "--wasm" in sys.argv:
+        return build_wasm(os.path.join(OUT, "scion.wasm"))
     compiler = next(compilers(), None)
     if compiler is None:
         stop("no compiler for C")
-    words = [os.path.abspath(it) for it in sys.argv[1:] if it != "--paths"]
-    if len(words) not in (0, 2):
-        stop("give a file in C and the program's path, or neither")
     libraries = BOTH if "--paths" in sys.argv else ROUTER
     prove(libraries)
-    os.makedirs(OUT, exist_ok=True)
+    gather(libraries)
     if words:
         link_program(compiler, libraries, *words)
     else:

@@ -26,6 +26,9 @@
 extern "C" {
 #endif
 
+/* The version of these calls. */
+#define SCION_VERSION "0.1.0"
+
 /* The result. A call that does not step a packet answers SCION_DONE. */
 enum {
     SCION_DONE = 0,

@@ -216,10 +216,12 @@ static void answers(const char *what, call *asked, const char *request, const ch
     uint8_t room[512] = {0}, zeros[512] = {0};
     size_t len = strlen(wanted);
     scion_text given = asked((const uint8_t *)request, strlen(request), room, len - 1);
-    expect(what, (scion_answer){given.status, (uint16_t)given.len}, SCION_ROOM_TOO_SMALL, len);
+    scion_answer small = {given.status, (uint16_t)given.len};
+    expect(what, small, SCION_ROOM_TOO_SMALL, len);
     same(what, room, zeros, sizeof room);
     given = asked((const uint8_t *)request, strlen(request), room, sizeof room);
-    expect(what, (scion_answer){given.status, (uint16_t)given.len}, SCION_WRITTEN, len);
+    scion_answer written = {given.status, (uint16_t)given.len};
+    expect(what, written, SCION_WRITTEN, len);
     same(what, room, (const uint8_t *)wanted, len);
     same(what, room + len, zeros, sizeof room - len);
 }

@@ -1,57 +1,262 @@
-// One turn of a router in WebAssembly with 64-bit addresses (docs/library.md says how it is built):
-//   node --experimental-wasm-memory64 bindings/js/scion.mjs scion_ffi.wasm
-import { readFileSync } from "node:fs";
+// The proved router for JavaScript, over WebAssembly with 64-bit addresses.
+//
+//   import { readFile } from "node:fs/promises";
+//   import { load } from "./scion.mjs";
+//   const library = await load(await readFile("scion.wasm"));
+//
+// Calls copy what they are given into a fixed part of the module's memory, and clear it before they
+// return. They refuse what is no Uint8Array by TypeError, and by RangeError a number that does not
+// fit its place, or bytes for which that part has no room. The library is proved, and this module
+// is not: docs/library.md says what a host has to keep.
 
-const library = await WebAssembly.compile(readFileSync(process.argv[2]));
-const { exports } = await WebAssembly.instantiate(library, {});
-const memory = exports.memory;
+export const VERSION = "0.1.0";
 
-// The module allocates nothing: a host puts its arguments into the memory from __heap_base on.
-let free = Number(exports.__heap_base.value);
-function put(bytes) {
-  const at = (free + 15) & ~15;
-  free = at + Math.max(bytes.length, 1);
-  if (free > memory.buffer.byteLength) memory.grow(BigInt((free >> 16) + 1));
-  new Uint8Array(memory.buffer).set(bytes, at);
-  return BigInt(at);
+/** The kind of a link: what the AS at its far end is. */
+export const Kind = Object.freeze({
+  CORE: 0,
+  PARENT: 1,
+  CHILD: 2,
+});
+
+/** How a packet came to a router. */
+export const Arrival = Object.freeze({
+  FROM_HOST: 0,
+  INSIDE: 1,
+  OVER_LINK: 2,
+});
+
+/** The result of a call, or why it was refused. */
+export const Code = Object.freeze({
+  TO_LINK: 0,
+  TO_ROUTER: 1,
+  DELIVER: 2,
+  BAD_CALL: 9,
+  BAD_FIELD: 11,
+  DUPLICATE_IF: 13,
+  SHORT: 20,
+  RESERVED: 21,
+  PEER_FLAG: 22,
+  ALERT_FLAG: 23,
+  SEG_LENS: 24,
+  TOO_MANY_HOPS: 25,
+  BAD_INDEX: 26,
+  BAD_HEADER: 90,
+  INDEX_MISMATCH: 91,
+  WRONG_INGRESS: 92,
+  EXPIRED: 93,
+  BAD_MAC: 94,
+  SOURCE_AS: 95,
+  DESTINATION_AS: 96,
+  SWITCH_INSIDE: 97,
+  UNKNOWN_EGRESS: 98,
+  LINK_KINDS: 99,
+  LINK_DOWN: 100,
+});
+
+const NAMES = new Map(Object.entries(Code).map(([name, code]) => [code, name]));
+
+/** A call was refused for all of its packets, or has no value to return. */
+export class Refused extends Error {
+  constructor(code) {
+    super(`${code} ${NAMES.get(code)}`);
+    this.name = "Refused";
+    this.code = code;
+  }
 }
 
-const bytesOf = (text) => Uint8Array.from(text.match(/../g) ?? [], (two) => parseInt(two, 16));
-const hexOf = (at, length) => Buffer.from(memory.buffer, Number(at), length).toString("hex");
+const LARGEST_ALIGNMENT = 16;
 
-// A scion_interface, and a scion_router: addresses and lengths are words of 64 bits.
-function interfaceOf({ number, kind, router, up }) {
-  return [number & 255, number >> 8, kind, router, up, 0];
-}
-function routerOf({ ia, key, previous, interfaces, router }) {
-  const table = put(interfaces.flatMap(interfaceOf));
-  const slices = [put(key), key.length, put(previous), previous.length, table, interfaces.length];
-  const record = new BigUint64Array([ia, ...slices, router].map(BigInt));
-  return put(new Uint8Array(record.buffer));
+/** The number, a whole one that has at most this many bits. */
+function whole(name, value, bits) {
+  if (!Number.isInteger(value) || value < 0 || value >= 2 ** bits) {
+    throw new RangeError(`${name} is ${value}, which is no number of ${bits} bits`);
+  }
+  return value;
 }
 
-// If a call returns a record, its first parameter is the address for that record.
-function step(router, now, arrival, interfaceNumber, packet) {
-  const answer = put(new Uint8Array(4));
-  const room = put(packet);
-  const length = BigInt(packet.length);
-  exports.scion_step(answer, router, now, arrival, interfaceNumber, room, length);
-  const view = new DataView(memory.buffer, Number(answer), 4);
-  const [code, number] = [view.getUint16(0, true), view.getUint16(2, true)];
-  return `${code} ${number} ${hexOf(room, packet.length)}`;
+/** An address of an AS, a BigInt of 64 bits. */
+function address(ia) {
+  if (typeof ia !== "bigint" || BigInt.asUintN(64, ia) !== ia) {
+    throw new RangeError(`ia is ${ia}, which is no BigInt of 64 bits`);
+  }
+  return ia;
 }
 
-const parent = { number: 2, kind: 1, router: 0, up: 1 };
-const parts = {
-  ia: 0x0001ff0000000111n,
-  key: [0x6b],
-  previous: [],
-  interfaces: [parent],
-  router: 0,
-};
-const packet = bytesOf(
-  "0001ff00000001100001ff0000000111" + "000020000000b39600000064" +
-    "003f00020000110e4c1d3dad" + "003f00000001a1a2a3a4a5a6",
-);
-console.log(step(routerOf(parts), 100, 0, 0, packet));
-console.log(step(routerOf(parts), 21701, 0, 0, packet));
+/** The bytes as they are now: their length may change if they are shared. */
+function copy(name, bytes) {
+  if (!(bytes instanceof Uint8Array)) throw new TypeError(`${name} is no Uint8Array`);
+  return new Uint8Array(bytes);
+}
+
+/** A scion_interface. */
+function row({ number, kind, router = 0, up = true }) {
+  whole("number", number, 16);
+  const own = [whole("kind", kind, 8), whole("router", router, 8), whole("up", Number(up), 8)];
+  return [number & 255, number >> 8, ...own, 0];
+}
+
+/** The part of the memory in which the arguments of a call are: what the module does not use. */
+class Arena {
+  constructor({ memory, __heap_base: base }) {
+    this.memory = memory;
+    this.base = Math.ceil(Number(base.value) / LARGEST_ALIGNMENT) * LARGEST_ALIGNMENT;
+    this.free = this.base;
+    this.end = memory.buffer.byteLength;
+  }
+
+  /** Copies bytes there, and returns their address. No two share a byte. */
+  put(bytes) {
+    const length = Math.max(bytes.length, 1);
+    const ends = this.free + Math.ceil(length / LARGEST_ALIGNMENT) * LARGEST_ALIGNMENT;
+    if (ends > this.end) throw new RangeError(`a call has room for ${this.end - this.base} bytes`);
+    const at = this.free;
+    new Uint8Array(this.memory.buffer).set(bytes, at);
+    this.free = ends;
+    return at;
+  }
+
+  /** Copies words of 64 bits there. */
+  words(values) {
+    return this.put(new Uint8Array(new BigUint64Array(values.map(BigInt)).buffer));
+  }
+
+  /** The bytes that are there now. */
+  bytes(at, length) {
+    return new Uint8Array(this.memory.buffer, at, length).slice();
+  }
+
+  /** A scion_answer. */
+  answer(at) {
+    const view = new DataView(this.memory.buffer, at, 4);
+    return { code: view.getUint16(0, true), number: view.getUint16(2, true) };
+  }
+
+  /** What this makes of the arena, which is cleared and given back after it. */
+  within(call) {
+    try {
+      return call(this);
+    } finally {
+      new Uint8Array(this.memory.buffer).fill(0, this.base, this.free);
+      this.free = this.base;
+    }
+  }
+}
+
+/** A scion_router. */
+function parts(arena, { ia, key, interfaces, previous = new Uint8Array(), router = 0 }) {
+  const keys = [copy("key", key), copy("previous", previous)];
+  const rows = Array.from(interfaces, row);
+  const slices = keys.flatMap((it) => [arena.put(it), it.length]);
+  const table = arena.put(rows.flat());
+  return arena.words([address(ia), ...slices, table, rows.length, whole("router", router, 8)]);
+}
+
+/** How a packet came, and by which interface. */
+function wayIn({ arrival = Arrival.FROM_HOST, interface: number = 0 }) {
+  return [whole("arrival", arrival, 8), whole("interface", number, 16)];
+}
+
+/** The calls of a module. A router is `{ ia, key, interfaces, previous, router }`, whose interfaces
+ * are `{ number, kind, router, up }`; a packet is `{ bytes, arrival, interface }`. */
+export class Library {
+  #calls;
+  #arena;
+
+  constructor(instance) {
+    this.#calls = instance.exports;
+    this.#arena = new Arena(instance.exports);
+  }
+
+  /** The bytes that the arguments of a call may have, those of all its packets together. */
+  get room() {
+    return this.#arena.end - this.#arena.base;
+  }
+
+  /** One step of a router on a packet, at the second `now`: the code, the number and the bytes
+   * after it. */
+  step(router, now, packet) {
+    return this.#arena.within((arena) => {
+      const bytes = copy("packet", packet.bytes);
+      const words = [parts(arena, router), arena.put(bytes), arena.put([0, 0, 0, 0])];
+      const [at, room, answer] = words.map(BigInt);
+      const second = whole("now", now, 32);
+      const length = BigInt(bytes.length);
+      this.#calls.scion_step(answer, at, second, ...wayIn(packet), room, length);
+      return { ...arena.answer(words[2]), bytes: arena.bytes(words[1], bytes.length) };
+    });
+  }
+
+  /** One step on each packet; Refused if there is no such router. */
+  stepAll(router, now, packets) {
+    return this.#arena.within((arena) => {
+      const copies = Array.from(packets, (it) => [copy("packet", it.bytes), ...wayIn(it)]);
+      const rooms = copies.map(([bytes]) => arena.put(bytes));
+      // A scion_packet has 24 bytes: its answer is at 18, and how it came at 22.
+      const records = copies.flatMap(([bytes, arrival, number], i) => {
+        const came = BigInt(number) | (BigInt(arrival) << 48n);
+        return [BigInt(rooms[i]), BigInt(bytes.length), came];
+      });
+      const table = arena.words(records);
+      const given = arena.put([0, 0, 0, 0]);
+      const words = [given, parts(arena, router)].map(BigInt);
+      const second = whole("now", now, 32);
+      const counted = [BigInt(table), BigInt(copies.length)];
+      this.#calls.scion_step_all(...words, second, ...counted);
+      done(arena.answer(given));
+      return copies.map(([bytes], i) => {
+        return { ...arena.answer(table + 24 * i + 18), bytes: arena.bytes(rooms[i], bytes.length) };
+      });
+    });
+  }
+
+  /** The length of the path header at the front; Refused if there is none. */
+  headerLength(bytes) {
+    return this.#header(this.#calls.scion_header_check, bytes).number;
+  }
+
+  /** The bytes with the header of the way back; Refused if there is no header. */
+  headerReverse(bytes) {
+    return this.#header(this.#calls.scion_header_reverse, bytes).bytes;
+  }
+
+  #header(call, bytes) {
+    return this.#arena.within((arena) => {
+      const data = copy("bytes", bytes);
+      const [room, answer] = [arena.put(data), arena.put([0, 0, 0, 0])];
+      call(BigInt(answer), BigInt(room), BigInt(data.length));
+      return { number: done(arena.answer(answer)), bytes: arena.bytes(room, data.length) };
+    });
+  }
+
+  /** The authenticator of a hop; Refused if the key is not of 1 to 64 bytes. */
+  hopMac(key, beta, timestamp, expTime, consIngress, consEgress) {
+    return this.#arena.within((arena) => {
+      const data = copy("key", key);
+      const values = [
+        whole("beta", beta, 16),
+        whole("timestamp", timestamp, 32),
+        whole("expTime", expTime, 8),
+        whole("consIngress", consIngress, 16),
+        whole("consEgress", consEgress, 16),
+      ];
+      const [at, answer] = [arena.put(data), arena.put([0, 0, 0, 0])];
+      const mac = arena.put(new Uint8Array(6));
+      const slice = [BigInt(at), BigInt(data.length)];
+      this.#calls.scion_hop_mac(BigInt(answer), ...slice, ...values, BigInt(mac));
+      done(arena.answer(answer));
+      return arena.bytes(mac, 6);
+    });
+  }
+}
+
+/** The number of an answer that is no refusal. */
+function done({ code, number }) {
+  if (code !== 0) throw new Refused(code);
+  return number;
+}
+
+/** The library of a module's bytes. */
+export async function load(bytes) {
+  const { instance } = await WebAssembly.instantiate(bytes, {});
+  return new Library(instance);
+}

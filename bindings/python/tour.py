@@ -1,8 +1,8 @@
 #!/usr/bin/env python3
 """The turns of README.md by hand, and packets that were cut or changed on their way.
 
-What is expected is said by the rules of a router, never by what the library answered. The word is
-the path of the shared object; the status is 1 if an answer differs."""
+What is expected is said by the rules of a router, never by what the library answered. A word is the
+path of a shared object, in place of that of the package; the status is 1 if an answer differs."""
 import array
 import sys
 import threading
@@ -67,7 +67,7 @@ def cut_and_extend(shared, whole, is_over):
 class Tour:
     """The calls of the library that were made, and the number of wrong answers."""
 
-    def __init__(self, path):
+    def __init__(self, path=None):
         self.library, self.count, self.wrong = Library(path), 0, 0
 
     def expect(self, what, given, wanted):
@@ -364,7 +364,7 @@ class Tour:
 
 
 def main():
-    tour = Tour(sys.argv[1])
+    tour = Tour(*sys.argv[1:])
     tour.turns()
     tour.hostile()
     tour.headers()

@@ -1,17 +1,17 @@
 """The proved router for Python, over ctypes.
 
-`Library(path)` loads the shared object that `bindings/build.py` links. Its calls copy what they are
-given: of bytes, the length of the copy is what counts, so that another thread may change them. They
-refuse what is no bytes with TypeError, and a number that has too many bits for its place, or none
-at all, with ValueError or TypeError. The library is proved, and this module is not:
-docs/library.md says what a host has to keep.
+`Library()` loads the shared object of the package, and `Library(path)` one that `bindings/build.py`
+has linked. Their calls copy what they are given, so that another thread may change it. They refuse
+what is no bytes or no whole number by TypeError, and a number that has too many bits for its place
+by ValueError. The library is proved, and this module is not: docs/library.md says what a host has
+to keep.
 """
 import ctypes
 import enum
 import json
 import operator
 import os
-from typing import Any, Iterable, List, NamedTuple, Sequence, Union
+from typing import Any, Iterable, List, NamedTuple, Optional, Sequence, Union
 
 __all__ = [
     "Answer",
@@ -24,6 +24,8 @@ __all__ = [
     "Refused",
     "Router",
 ]
+
+__version__ = "0.1.0"
 
 # What holds bytes: each object with a buffer of items of one byte.
 Bytes = Union[bytes, bytearray, memoryview]
@@ -243,10 +245,11 @@ def _parts(router: Router) -> _Router:
 
 
 class Library:
-    """The calls of the shared object at this path."""
+    """The calls of the shared object at this path, or of that of the package."""
 
-    def __init__(self, path: str) -> None:
-        self._calls = ctypes.CDLL(os.path.abspath(path))
+    def __init__(self, path: Optional[str] = None) -> None:
+        own = os.path.join(os.path.dirname(__file__), "libscion.so")
+        self._calls = ctypes.CDLL(os.path.abspath(own if path is None else path))
         for name, (types, result) in _CALLS.items():
             if hasattr(self._calls, name):
                 call = getattr(self._calls, name)
