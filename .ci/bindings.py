@@ -76,6 +76,17 @@ class Gate:
         tour = os.path.join(BINDINGS, "python", "tour.py")
         self.run(f"Python over {name}", [*python, tour, shared])
         self.run(f"answers over {name}", [*python, os.path.join(".ci", "answers.py"), shared])
+        self.routers(name, compiler)
+
+    def routers(self, name, compiler):
+        """The routers of a network as processes: examples/udp, which ends well if a packet crosses
+        them and a changed one is refused."""
+        program = self.path(f"router-by-{name}")
+        source = os.path.join("examples", "udp", "router.c")
+        build.link_program(compiler, build.ROUTER, source, program, ("-std=gnu11", *STRICT))
+        words = [sys.executable, "-B", os.path.join("examples", "udp", "network.py"), program]
+        with open("examples/pair.txt", "rb") as it:
+            self.run(f"routers by {name}", words, stdin=it)
 
     def tour_in_cxx(self):
         if self.has(CXX):

@@ -1,4 +1,4 @@
-/* What the tour takes of <stdint.h>, for a compiler that has no headers. */
+/* What the programs here take of <stdint.h>, for a compiler that has no headers. */
 typedef __UINT8_TYPE__ uint8_t;
 typedef __UINT16_TYPE__ uint16_t;
 typedef __UINT32_TYPE__ uint32_t;

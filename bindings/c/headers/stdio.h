@@ -1,3 +1,7 @@
-/* What the tour takes of <stdio.h>, for a compiler that has no headers. */
+/* What the programs here take of <stdio.h>, for a compiler that has no headers. */
+typedef struct scion_stream FILE;
+extern FILE *stdout, *stderr;
+int fflush(FILE *stream);
+int fprintf(FILE *stream, const char *format, ...);
 int printf(const char *format, ...);
 int sscanf(const char *text, const char *format, ...);

@@ -1,0 +1,193 @@
+#!/usr/bin/env python3
+"""Runs a network whose routers are processes, which send its packets as datagrams.
+
+    network.py PROGRAM < examples/row.txt
+
+The program is `router.c`, built. The lines are those of `scionet run`: a topology, and then the
+events that make segments, answers and packets. Here a hop's authenticator is that of
+`scion_hop_mac`, an answer that of `scion_paths`, and a packet of `send` is sent through the routers
+twice: as it is, and with another last byte of its header, which is in the last hop's authenticator.
+Events behind it are left out: routers take their turns when a packet comes.
+
+It is an example of a host, and not proved. All sockets are on 127.0.0.1, and each process ends
+after some packets or seconds."""
+import itertools
+import json
+import os
+import select
+import socket
+import subprocess
+import sys
+
+TOP = os.path.dirname(os.path.dirname(os.path.dirname(os.path.realpath(__file__))))
+sys.path.append(os.path.join(TOP, "bindings", "python"))
+sys.dont_write_bytecode = True
+
+from scion import Kind, Library  # noqa: E402
+
+LOOPBACK = "127.0.0.1"
+PACKETS, SECONDS = 100, 20
+
+# The kinds of a link's interfaces: what the AS at the other end is to the AS at `a`, and at `b`.
+KINDS = {"core": (Kind.CORE, Kind.CORE), "child": (Kind.CHILD, Kind.PARENT)}
+
+
+def number_of(ia):
+    """An address, as 16 bits of ISD and 48 of AS number."""
+    isd, _, number = ia.partition("-")
+    groups = [int(it, 16) for it in number.split(":")] if ":" in number else None
+    low = (groups[0] << 32) + (groups[1] << 16) + groups[2] if groups else int(number)
+    return (int(isd) << 48) + low
+
+
+def bound():
+    """A socket at a free port of the loopback address."""
+    one = socket.socket(socket.AF_INET, socket.SOCK_DGRAM)
+    one.bind((LOOPBACK, 0))
+    return one
+
+
+class Network:
+    """The ASes and links of a topology, and what was made of them: beacons, segments, answers."""
+
+    def __init__(self, topology, library):
+        self.library, self.now = library, 0
+        self.ases = {it["ia"]: it for it in topology["ases"]}
+        self.ends, self.beacons, self.segments, self.answers = {}, [], [], []
+        pairs = []
+        for link in topology["links"]:
+            one, other = link["a"], link["b"]
+            for near, far, kind in zip((one, other), (other, one), KINDS[link["kind"]]):
+                self.ends[near["ia"], near["if"]] = (near["router"], far, kind)
+            pair = {(it["ia"], it["router"]) for it in (one, other)}
+            if pair in pairs:
+                sys.exit("network: there are two links between two routers")
+            pairs.append(pair)
+
+    def passed_on(self, beacon, ia, ingress, egress):
+        """The beacon with one more entry."""
+        own, beta = self.ases[ia], beacon["beta0"]
+        for entry in beacon["entries"]:
+            beta ^= int(entry["mac"][:4], 16)
+        values = (beta, beacon["timestamp"], own["exp"], ingress, egress)
+        mac = self.library.hop_mac(bytes.fromhex(own["key"]), *values).hex()
+        entry = {"ia": ia, "ingress": ingress, "egress": egress, "exp": own["exp"], "mac": mac}
+        return {**beacon, "entries": [*beacon["entries"], entry]}
+
+    def arrived(self, beacon):
+        """The interface at which a beacon arrives."""
+        last = beacon["entries"][-1]
+        return self.ends[last["ia"], last["egress"]][1]["if"]
+
+    def take(self, event):
+        """An event before packets are sent."""
+        if event["do"] == "tick":
+            self.now = event["now"]
+        elif event["do"] == "originate":
+            kind = self.ends[event["ia"], event["egress"]][2]
+            begun = {"kind": "core" if kind == Kind.CORE else "intra", "timestamp": self.now}
+            begun.update({"beta0": event["beta0"], "entries": []})
+            self.beacons.append(self.passed_on(begun, event["ia"], 0, event["egress"]))
+        elif event["do"] in ("extend", "terminate"):
+            beacon, egress = self.beacons[event["beacon"]], event.get("egress", 0)
+            longer = self.passed_on(beacon, event["ia"], self.arrived(beacon), egress)
+            (self.beacons if egress else self.segments).append(longer)
+        elif event["do"] == "ask":
+            asked = {name: it for name, it in event.items() if name != "do"}
+            given = self.library.paths(now=self.now, segments=self.segments, **asked)
+            self.answers.append((event, given["paths"]))
+        else:
+            sys.exit(f"network: no event {event['do']} is known here")
+
+    def packet(self, event):
+        """The packet of an event `send`, its AS, and how many of its bytes are payload."""
+        asked, paths = self.answers[event["ask"]]
+        path = paths[event["path"]]
+        print(f"path {path['walk']}", flush=True)
+        ends = [number_of(asked[it]).to_bytes(8, "big") for it in ("dst", "src")]
+        payload = bytes.fromhex(event["payload"])
+        return b"".join([*ends, bytes.fromhex(path["header"]), payload]), asked["src"], len(payload)
+
+
+class Routers:
+    """A process for each router, and a socket for the hosts of all ASes."""
+
+    def __init__(self, network, program):
+        self.hosts, self.children = bound(), []
+        self.hosts.settimeout(SECONDS)
+        owners = [(ia, it) for ia, own in network.ases.items() for it in range(own["routers"])]
+        sockets = {owner: bound() for owner in owners}
+        self.ports = {owner: one.getsockname()[1] for owner, one in sockets.items()}
+        self.lines, end = os.pipe()
+        for owner, one in sockets.items():
+            one.close()
+            words = [program, *map(str, self.words(network, *owner))]
+            self.children.append(subprocess.Popen(words, stdout=end))
+        os.close(end)
+        self.told = self.read()
+        for _ in owners:
+            if next(self.told) != "ready":
+                sys.exit("network: a router did not begin")
+
+    def words(self, network, ia, router):
+        """The command line of a router."""
+        yield from (self.ports[ia, router], ia, f"{number_of(ia):016x}", router)
+        yield from (network.ases[ia]["key"], network.now, PACKETS, SECONDS)
+        yield self.hosts.getsockname()[1]
+        for (at, number), (owner, far, kind) in network.ends.items():
+            if at == ia:
+                port = self.ports[far["ia"], far["router"]]
+                yield f"link:{number}:{int(kind)}:{owner}:{port}"
+        for it in range(network.ases[ia]["routers"]):
+            if it != router:
+                yield f"router:{it}:{self.ports[ia, it]}"
+
+    def read(self):
+        """The lines of all routers, as they are written."""
+        text = b""
+        while select.select([self.lines], [], [], SECONDS)[0]:
+            part = os.read(self.lines, 4096)
+            text += part
+            *lines, text = text.split(b"\n")
+            yield from (line.decode() for line in lines)
+            if not part:
+                break
+        sys.exit("network: a router ended, or said nothing for too long")
+
+    def send(self, packet, ia):
+        """Gives a packet to the first router of its AS, and tells its turns up to the last one."""
+        self.hosts.sendto(packet, (LOOPBACK, self.ports[ia, 0]))
+        for line in self.told:
+            print(line, flush=True)
+            if line.endswith("delivered"):
+                return self.hosts.recv(1 << 16)
+            if ", refused" in line:
+                return None
+
+    def end(self):
+        for child in self.children:
+            child.terminate()
+            child.wait()
+
+
+def main():
+    topology, *events = map(json.loads, sys.stdin)
+    library = Library(os.path.join(TOP, "bindings", "out", "libscion.so"))
+    network = Network(topology, library)
+    for event in itertools.takewhile(lambda it: it["do"] != "send", events):
+        network.take(event)
+    packet, ia, payload = network.packet(next(it for it in events if it["do"] == "send"))
+    routers = Routers(network, sys.argv[1])
+    try:
+        received = routers.send(packet, ia) or sys.exit("network: the packet was refused")
+        print(f"received {received[len(received) - payload:].hex()}", flush=True)
+        changed = bytearray(packet)
+        changed[len(packet) - payload - 1] ^= 1
+        print("a byte of the last hop's authenticator is changed", flush=True)
+        if routers.send(changed, ia) is not None:
+            sys.exit("network: the changed packet was delivered")
+    finally:
+        routers.end()
+
+
+main()
