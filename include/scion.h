@@ -98,7 +98,7 @@ typedef struct {
     size_t len;
     uint16_t interface;  /* by which it came, if it came over a link */
     scion_answer answer; /* written by scion_step_all */
-    uint8_t came;        /* SCION_FROM_HOST, SCION_INSIDE or SCION_OVER_LINK */
+    uint8_t arrival;     /* SCION_FROM_HOST, SCION_INSIDE or SCION_OVER_LINK */
 } scion_packet;
 
 /* One step of a router on a packet, in place, at the second `now`. A packet is 8 bytes of
