@@ -42,7 +42,7 @@ class Gate:
     """What was run so far, and whether all of it ended well."""
 
     def __init__(self, room):
-        self.room, self.is_well = room, True
+        self.room, self.is_well, self.missing = room, True, set()
 
     def run(self, what, words, **how):
         """Runs a command, whose last line is told, and all of them if its status is not 0."""
@@ -55,10 +55,11 @@ class Gate:
         return done.returncode == 0
 
     def has(self, *tools):
-        """Whether these commands are on the machine; those that are not are told."""
-        missing = [it for it in tools if not shutil.which(it)]
-        for it in missing:
+        """Whether these commands are on the machine; those that are not are told once."""
+        missing = {it for it in tools if not shutil.which(it)}
+        for it in sorted(missing - self.missing):
             print(f"bindings: {it} is not here, and what needs it is left out")
+        self.missing |= missing
         return not missing
 
     def path(self, name):
