@@ -24,7 +24,7 @@ front_suc (y ∷ ys) (suc k) x inside = ap (λ zs. y ∷ zs) (front_suc ys k x (
 front : {X : Type 0} (xs : List X) (k : ℕ) (x : X) → k < length xs → take (k + 1) xs ≡ take k xs ++ get_or xs k x ∷ []
 front xs k x inside = rw add-one (front_suc xs k x inside)
 
-take_past : {X : Type 0} (xs : List X) (n : ℕ) → length xs ≤ n → take n xs ≡ xs
+pub take_past : {X : Type 0} (xs : List X) (n : ℕ) → length xs ≤ n → take n xs ≡ xs
 take_past [] zero past = refl
 take_past [] (suc n) past = refl
 take_past (x ∷ xs) zero past = absurd (omega arith)

@@ -12,6 +12,7 @@ pub mod WaysOut
 pub mod Spelled
 pub mod Collected
 pub mod Tried
+pub mod Before
 pub mod Answering
 pub mod Rivals
 pub mod Choosing

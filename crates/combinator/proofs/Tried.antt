@@ -1,12 +1,9 @@
 -- Trying lists of pieces one by one.
-use Rattle.std.proofs.Common.{◌≡◌, ℕ, zero, suc, ◌+◌, ◌-◌, ◌<◌, ◌≤◌, Bool, true, false, cond, ltb, eqb, List, [], ◌∷◌, ◌++◌, length, get_or, take, All, Contains, Some, refl, sym, subst, ap, ◌∙◌, inr, arith, append_assoc, length-append}
+use Rattle.std.proofs.Common.{◌≡◌, ℕ, zero, suc, ◌+◌, ◌<◌, List, [], ◌∷◌, ◌++◌, length, get_or, take, All, Contains, refl, sym, subst, ap, ◌∙◌, arith, append_assoc, length-append}
 use Rattle.std.specs.List.{AllByRecursion, flat_map}
-use Rattle.std.specs.Ordering.{nat_cmp, ordering_then}
-use Rattle.std.specs.declared.cmp.Ordering.{Ordering}
-use Rattle.std.specs.declared.cmp.Ordering.TheVariants.{Less, Equal, Greater}
-use Rattle.std.specs.Prelude.{slice_get}
-use Rattle.std.proofs.lemmas.Bool.{lt-ltb, ltb-true, eqb-true}
-use Rattle.std.proofs.lemmas.Option.{same_Some}
+use Rattle.std.specs.Ordering.{nat_cmp}
+use Rattle.std.specs.declared.cmp.Ordering.TheVariants.{Less}
+use Rattle.std.proofs.lemmas.Bool.{lt-ltb}
 use Rattle.std.proofs.lemmas.List.Elements.{All-push, All-from_recursion, recursion_from_All}
 use Rattle.std.proofs.lemmas.List.Sums.{sum_by-cons}
 use Rattle.path_header.specs.Value.{HeaderValue}
@@ -15,11 +12,10 @@ use Rattle.path_verifier.specs.Piece.{PieceValue, HasRange, begins_in, ends_in}
 use Rattle.path_verifier.specs.Header.{header_of, fields_of, len_of, total_hops}
 use Rattle.path_verifier.specs.Accepted.{Request, request_of, IsAccepted}
 use Rattle.path_verifier.proofs.Headers.{length_fields_of}
-use Rattle.path_verifier.proofs.TurnedCounts.{long_of}
 use Rattle.combinator.specs.Candidate.{Question, IsOf, PathValue, IsCandidate, path_with}
 use Rattle.combinator.specs.Order.{path_cmp, shown_cmp}
 use Rattle.combinator.specs.Answer.{IsBest}
-use Rattle.combinator.specs.inner.Placed.{InOrder, Met}
+use Rattle.combinator.specs.inner.Placed.{Met}
 use Rattle.combinator.specs.inner.Search.{OfEachBehind, IsMetBy, StillMeet}
 use Rattle.combinator.proofs.Collected.{by_items}
 
@@ -119,7 +115,7 @@ pub count_fields : (pieces : List PieceValue) → length (header_of pieces).hops
 unfolding header_of
 count_fields pieces = flat_count pieces
 
-total_both : (front later : List PieceValue) → total_hops (front ++ later) ≡ total_hops front + total_hops later
+pub total_both : (front later : List PieceValue) → total_hops (front ++ later) ≡ total_hops front + total_hops later
 total_both [] later = (let none : total_hops [] ≡ 0 = refl in omega (arith, none))
 total_both (piece ∷ front) later =
     let more = total_both front later in
@@ -127,89 +123,14 @@ total_both (piece ∷ front) later =
     let whole = sum_by-cons len_of piece (front ++ later) in
     omega (arith, more, sum, whole)
 
--- a piece more has two hop fields more at least
-pub two_more : (front : List PieceValue) (piece : PieceValue) (later : List PieceValue) → All HasRange (front ++ piece ∷ later) → total_hops front + 2 ≤ total_hops (front ++ piece ∷ later)
-two_more [] piece later ranges =
-    let long = long_of piece (ranges 0 piece (omega arith)) in
-    let sum = sum_by-cons len_of piece later in
-    omega (arith, long, sum)
-two_more (first ∷ front) piece later ranges =
-    let more = two_more front piece later (λ k d within. ranges (suc k) d (omega (arith, within))) in
-    let sum = sum_by-cons len_of first front in
-    let whole = sum_by-cons len_of first (front ++ piece ∷ later) in
-    omega (arith, more, sum, whole)
-
--- ---- paths that are full
+-- ---- paths of fewer hop fields
 
 nat_less : (n m : ℕ) → n < m → nat_cmp n m ≡ Less
 nat_less n m less = rw (lt-ltb n m less) refl
 
-fewer_hops : (one other : PathValue) → length one.header.hops < length other.header.hops → path_cmp one other ≡ Less
+pub fewer_hops : (one other : PathValue) → length one.header.hops < length other.header.hops → path_cmp one other ≡ Less
 unfolding shown_cmp
 fewer_hops one other less = rw (nat_less (length one.header.hops) (length other.header.hops) less) refl
-
-all_before : (paths : List PathValue) (hops : ℕ) (path : PathValue) → AllByRecursion (λ (one : PathValue). length one.header.hops < hops) paths → hops ≤ length path.header.hops
-    → AllByRecursion (λ (one : PathValue). path_cmp one path ≡ Less) paths
-all_before [] hops path all upto = tt
-all_before (one ∷ paths) hops path all upto = (fewer_hops one path (let less = all.0 in omega (arith, less, upto)), all_before paths hops path all.1 upto)
-
--- the paths are full, and each has fewer hop fields than this number
-abbrev pub AreFullBelow : ℕ → List PathValue → ℕ → Type 0
-AreFullBelow limit paths hops = (length paths ≡ limit) × AllByRecursion (λ (one : PathValue). length one.header.hops < hops) paths
-
--- then they come before each path with so many
-pub met_below : (question : Question) (limit : ℕ) (paths : List PathValue) (hops : ℕ) (pieces : List PieceValue) → AreFullBelow limit paths hops
-    → (All HasRange pieces → hops ≤ total_hops pieces) → IsMetBy question limit paths pieces
-unfolding IsMetBy
-met_below question limit paths hops pieces full upto = λ header best.
-    let count : length header.hops ≡ total_hops pieces = ap (λ (h : HeaderValue). length h.hops) best.candidate.accepted.header ∙ count_fields pieces in
-    let many = upto best.candidate.accepted.path.ranges in
-    inr (full.0, all_before paths hops (path_with pieces header) full.1 (omega (arith, count, many)))
-
--- and before all that begin with such pieces
-pub met_behind : (question : Question) (limit : ℕ) (paths : List PathValue) (hops : ℕ) (usable_pieces : List PieceValue) (depth : ℕ) (front : List PieceValue) (at : ℕ)
-    → AreFullBelow limit paths (hops + 2) → hops ≡ total_hops front → OfEachBehind (IsMetBy question limit paths) usable_pieces depth front at
-met_behind question limit paths hops usable_pieces depth front at full same =
-    all_behind (IsMetBy question limit paths) usable_pieces depth front at
-    (λ piece later. met_below question limit paths (hops + 2) (front ++ piece ∷ later) full (λ ranges. (let more = two_more front piece later ranges in omega (arith, same, more))))
-
-cond_less : (less same : Bool) → cond less Less (cond same Equal Greater) ≡ Less → less ≡ true
-cond_less true same is = refl
-cond_less false true is = absurd cc
-cond_less false false is = absurd cc
-
-cond_equal : (less same : Bool) → cond less Less (cond same Equal Greater) ≡ Equal → same ≡ true
-cond_equal true same is = absurd cc
-cond_equal false true is = refl
-cond_equal false false is = absurd cc
-
-less_upto : (n m : ℕ) → nat_cmp n m ≡ Less → n ≤ m
-less_upto n m is = (let less = ltb-true n m (cond_less (ltb n m) (eqb n m) is) in omega (arith, less))
-
-equal_upto : (n m : ℕ) → nat_cmp n m ≡ Equal → n ≤ m
-equal_upto n m is = (let same = eqb-true n m (cond_equal (ltb n m) (eqb n m) is) in omega (arith, same))
-
-upto_of : (c : Ordering) (n m : ℕ) (rest : Ordering) → nat_cmp n m ≡ c → ordering_then c rest ≡ Less → n ≤ m
-upto_of Less n m rest is less = less_upto n m is
-upto_of Equal n m rest is less = equal_upto n m is
-upto_of Greater n m rest is less = absurd cc
-
-fewer_before : (one other : PathValue) → path_cmp one other ≡ Less → length one.header.hops ≤ length other.header.hops
-unfolding shown_cmp
-fewer_before one other less =
-    upto_of (nat_cmp (length one.header.hops) (length other.header.hops)) (length one.header.hops) (length other.header.hops) _ refl less
-
--- in order, the last path has the most hop fields
-pub full_below : (paths : List PathValue) (hops : ℕ) (last : PathValue) → InOrder path_cmp paths → slice_get paths (length paths - 1) ≡ Some last → length last.header.hops < hops
-    → AllByRecursion (λ (one : PathValue). length one.header.hops < hops) paths
-full_below [] hops last order is less = tt
-full_below (one ∷ []) hops last order is less = (subst (λ (path : PathValue). length path.header.hops < hops) (sym (same_Some one last is)) less, tt)
-full_below (one ∷ next ∷ paths) hops last order is less =
-    let place : length (one ∷ next ∷ paths) - 1 ≡ suc (length (next ∷ paths) - 1) = omega arith in
-    let more = full_below (next ∷ paths) hops last order.1 (subst (λ (n : ℕ). slice_get (one ∷ next ∷ paths) n ≡ Some last) place is) less in
-    let first = fewer_before one next order.0.0 in
-    let second = more.0 in
-    (omega (arith, first, second), more)
 
 -- ---- a list that was looked at
 

@@ -74,9 +74,9 @@ impl<'s, 'p, A: Allocator + Clone> Paths<'s, 'p, A> {
 ///
 /// The search takes the pieces that begin in the source, end in the destination, or are whole core
 /// segments. With n of them, it tries all n after each list of pieces that meet, unless `limit`
-/// paths are known that have fewer hop fields than any longer list. A path that would be among the
-/// first `limit` is kept if none of the pieces that leave the same ASes by the same interfaces make
-/// a better one of its walk. So it takes the memory of n pieces of 56 bytes and of `limit` paths of
+/// paths are known that surely come before all longer lists. A path that would be among the first
+/// `limit` is kept if none of the pieces that leave the same ASes by the same interfaces make a
+/// better one of its walk. So it takes the memory of n pieces of 64 bytes and of `limit` paths of
 /// some 2,300 bytes each, and at most the time of n³ lists.
 ///
 /// [`AllocError`] if memory runs out.

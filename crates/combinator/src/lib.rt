@@ -3,8 +3,8 @@
 //!
 //! It lists the usable pieces once, each with the ASes at its ends, and joins pieces that meet. The
 //! verifier decides about each list of pieces. A path is kept if it is among the first of the
-//! answer and no path of the same walk is better. Lists with too many hop fields to be among the
-//! first are passed over.
+//! answer and no path of the same walk is better. Lists are passed over if their hop fields and
+//! info fields tell that they are not among the first.
 #![tactic(auto)]
 
 mod answer;

@@ -1,4 +1,8 @@
-ghost use Rattle.std.specs.Prelude.{◌≡◌, ◌≢◌, length, IfOk, OnOk, IsTrue, IsFalse};
+ghost use Rattle.std.specs.Prelude.{◌≡◌, ◌≢◌, ◌+◌, ◌≤◌, [], ◌∷◌, ◌++◌, length, map, take, drop, replicate, IfOk, OnOk, IsTrue, IsFalse};
+ghost use Rattle.std.specs.List.{AllByRecursion};
+ghost use Rattle.path_header.specs.Value.{lens_from};
+ghost use Rattle.path_verifier.specs.Piece.{HasRange};
+ghost use Rattle.path_verifier.specs.Header.{len_of};
 ghost use Rattle.std.specs.Ordering.{nat_cmp};
 ghost use Rattle.std.specs.Cmp.Lexicographic.{slice_cmp};
 ghost use Rattle.std.specs.declared.cmp.Ordering.TheVariants.{Less};
@@ -6,10 +10,11 @@ ghost use Rattle.path_header.specs.Spelling.{SpellsHeader, spelling};
 ghost use Rattle.path_verifier.specs.Walk.{walk_of};
 ghost use Rattle.combinator.specs.Candidate.{path_with};
 ghost use Rattle.combinator.specs.Order.{path_cmp, walk_cmp, hop_cmp};
-ghost use Rattle.combinator.specs.inner.Search.{IsNoWorse};
+ghost use Rattle.combinator.specs.inner.Search.{ComesBefore, infos_of, IsNoWorse};
 
-use path_header::{Header, MAX_HEADER_LEN, encode};
-use path_verifier::VerifiedPath;
+use crate::usable_piece::UsablePiece;
+use path_header::{Header, MAX_HEADER_LEN, META_LEN, SegLens, encode};
+use path_verifier::{Pieces, VerifiedPath};
 use policy_expr::{Policy, WalkHop};
 use std::alloc::{AllocError, Allocator, Global};
 use std::cmp::Ordering;
@@ -113,7 +118,8 @@ impl<'s, 'p, A: Allocator + Clone> RankedPath<'s, 'p, A> {
     /// Whether another path has the same walk.
     pub(crate) fn has_walk_of(&self, other: &VerifiedPath<'s, 'p, A>) -> bool
         ensures same { IsTrue result → walk_of other.entry.now.pieces ≡ walk_of self.now.pieces }
-        ensures other { IsFalse result → ¬ (walk_of other.entry.now.pieces ≡ walk_of self.now.pieces) }
+        ensures other { IsFalse result
+            → ¬ (walk_of other.entry.now.pieces ≡ walk_of self.now.pieces) }
     {
         match compare_walks(self.parts.path.walk(), other.walk()) {
             Ordering::Equal => true,
@@ -134,6 +140,101 @@ impl<'s, 'p, A: Allocator + Clone> RankedPath<'s, 'p, A> {
             return expiry > mine;
         }
         comes_before(other.header(), &self.parts.bytes)
+    }
+}
+
+impl<'s, 'p, A: Allocator + Clone> RankedPath<'s, 'p, A> {
+    /// Whether this path surely comes before each path that begins with these pieces and one more,
+    /// and goes on with at least `further` pieces, 0 or 1. `infos` has the bytes of the info fields
+    /// of the pieces.
+    ///
+    /// A further piece has two hop fields at least. So a path with as many hop fields as this one
+    /// has exactly two for it, and the lengths and the first info fields decide.
+    pub(crate) fn comes_before(
+        &self,
+        pieces: &Pieces<'s>,
+        infos: &[u8],
+        piece: &UsablePiece<'s>,
+        further: usize,
+    ) -> bool
+        requires ranges { AllByRecursion HasRange pieces.now }
+        requires infos { infos.now ≡ infos_of pieces.now }
+        requires few { length pieces.now + further ≤ 2 }
+        requires one { further ≤ 1 }
+        ensures { IsTrue result → ComesBefore self.now (pieces.now ++ piece.now ∷ []) further }
+    {
+        let path = self.path();
+        path.known();
+        let mine = self.hop_count();
+        let least = pieces.hop_count() + piece.len() + 2 * further;
+        if mine != least {
+            return mine < least;
+        }
+        if !is_same(path.header().seg_lens(), lens_with(pieces, piece, further)) {
+            return false;
+        }
+        info_fields_come_before(&self.parts.bytes, infos, piece.info())
+    }
+}
+
+/// Whether both are the same lengths.
+fn is_same(one: SegLens, other: SegLens) -> bool
+    ensures { IsTrue result → one ≡ other }
+{
+    one.first == other.first && one.second == other.second && one.third == other.third
+}
+
+/// The lengths of a path of these pieces, one more and `further` pieces of two hop fields.
+fn lens_with(pieces: &Pieces<'_>, piece: &UsablePiece<'_>, further: usize) -> SegLens
+    requires ranges { AllByRecursion HasRange pieces.now }
+    requires few { length pieces.now + further ≤ 2 }
+    requires one { further ≤ 1 }
+    ensures { result ≡ lens_from
+        (map len_of (pieces.now ++ piece.now ∷ []) ++ replicate further 2) }
+{
+    let last = piece.len() as u8;
+    let more = 2 * further as u8;
+    match (pieces.get(0), pieces.get(1)) {
+        (Some(first), Some(second)) => SegLens {
+            first: first.len() as u8,
+            second: second.len() as u8,
+            third: last,
+        },
+        (Some(first), None) => SegLens {
+            first: first.len() as u8,
+            second: last,
+            third: more,
+        },
+        _ => SegLens {
+            first: last,
+            second: more,
+            third: 0,
+        },
+    }
+}
+
+/// Whether the info fields in the bytes of a header come before these and one more.
+fn info_fields_come_before(bytes: &[u8], infos: &[u8], info: &[u8]) -> bool
+    ensures room { IsTrue result → 4 + (length infos.now + length info.now) ≤ length bytes.now }
+    ensures less { IsTrue result → slice_cmp nat_cmp
+        (take (length infos.now + length info.now) (drop 4 bytes.now)) (infos.now ++ info.now)
+        ≡ Less }
+{
+    if bytes.len() < META_LEN {
+        return false;
+    }
+    let fields = &bytes[META_LEN..];
+    if fields.len() < infos.len() || fields.len() - infos.len() < info.len() {
+        return false;
+    }
+    let (first, later) = fields.split_at(infos.len());
+    match first.cmp(infos) {
+        Ordering::Less => true,
+        Ordering::Equal => match later[..info.len()].cmp(info) {
+            Ordering::Less => true,
+            _ => false,
+        },
+        Ordering::Greater => false,
     }
 }
 

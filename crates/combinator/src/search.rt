@@ -2,25 +2,30 @@
 //!
 //! All lists of pieces that meet are tried, but for those that can't be among the first paths.
 
-ghost use Rattle.std.specs.Prelude.{◌≡◌, ◌+◌, ◌<◌, ◌≤◌, [], length, slice_get, All, IfOk, IfSome, IfNone, IsTrue, IsFalse, OnOk, Some};
+ghost use Rattle.std.specs.Prelude.{◌≡◌, ◌+◌, ◌<◌, ◌≤◌, [], ◌∷◌, ◌++◌, length, slice_get, All, IfOk, IfSome, IfNone, IsTrue, IsFalse, OnOk, Some};
 ghost use Rattle.std.specs.List.{AllByRecursion};
 ghost use Rattle.path_verifier.specs.Piece.{HasRange};
 ghost use Rattle.path_header.specs.Value.{HeaderValue};
-ghost use Rattle.path_verifier.specs.Header.{header_of, total_hops};
+ghost use Rattle.path_verifier.specs.Header.{header_of};
 ghost use Rattle.combinator.specs.Candidate.{IsOf, IsCandidate, path_with};
 ghost use Rattle.combinator.specs.Order.{path_cmp};
 ghost use Rattle.combinator.specs.Answer.{IsBest};
 ghost use Rattle.combinator.specs.inner.Placed.{InOrder};
-ghost use Rattle.combinator.specs.inner.Search.{HaveAll, IsMetBy, IsNoBetter, OfEachBehind, StillMeet, ways_out, ways_out_of};
+ghost use Rattle.combinator.specs.inner.Search.{AreBefore, HaveAll, infos_of, IsMetBy, IsNoBetter, OfEachBehind, StillMeet, ways_out, ways_out_of};
 
 use crate::ordered::{is_met, take_in};
 use crate::ranked::RankedPath;
 use crate::request::PathRequest;
 use crate::usable_piece::UsablePiece;
+use arrayvec::ArrayVec;
 use isd_as::{IfId, IsdAs};
+use path_header::INFO_LEN;
 use path_verifier::{Piece, Pieces, VerifiedPath, accept};
 use policy_expr::WalkHop;
 use std::alloc::{AllocError, Allocator, Global};
+
+/// The largest length of the info fields of a path in bytes.
+const MAX_INFOS_LEN: usize = 3 * INFO_LEN;
 
 /// The first `limit` paths in the order of answers, of those that are the best for their walks.
 pub(crate) fn first_paths<'s, 'p, A: Allocator + Clone>(
@@ -46,6 +51,7 @@ pub(crate) fn first_paths<'s, 'p, A: Allocator + Clone>(
         limit,
         &mut kept,
         &none,
+        &[],
         ask.src,
         3,
     )?;
@@ -53,7 +59,7 @@ pub(crate) fn first_paths<'s, 'p, A: Allocator + Clone>(
 }
 
 /// Tries the paths that begin with these pieces and go on, from the AS `at`, with one to `depth`
-/// usable pieces.
+/// usable pieces. `infos` has the bytes of the info fields of the pieces.
 fn try_behind<'s, 'p, A: Allocator + Clone>(
     alloc: Global,
     ask: &PathRequest<'s, 'p, A>,
@@ -61,6 +67,7 @@ fn try_behind<'s, 'p, A: Allocator + Clone>(
     limit: usize,
     kept: &mut Vec<RankedPath<'s, 'p, A>>,
     pieces: &Pieces<'s>,
+    infos: &[u8],
     at: IsdAs,
     depth: usize,
 ) -> Result<(), AllocError>
@@ -71,6 +78,7 @@ fn try_behind<'s, 'p, A: Allocator + Clone>(
     requires best { All (IsBest ask.now) kept.old.items }
     requires front { All (IsOf ask.now.set) pieces.now }
     requires ranges { AllByRecursion HasRange pieces.now }
+    requires infos { infos.now ≡ infos_of pieces.now }
     requires some { 0 < depth }
     requires few { length pieces.now + depth ≤ 3 }
     ensures order { OnOk result (InOrder path_cmp kept.new.items) }
@@ -84,18 +92,20 @@ fn try_behind<'s, 'p, A: Allocator + Clone>(
         if piece.begins() != at {
             continue;
         }
+        if is_behind(kept, limit, pieces, infos, piece, 0) {
+            continue;
+        }
         let Some(longer) = pieces.with_piece(piece.piece()) else {
             unreachable!();
         };
-        let hops = longer.hop_count();
-        consider(alloc, ask, usable_pieces, limit, kept, &longer, hops)?;
+        consider(alloc, ask, usable_pieces, limit, kept, &longer)?;
         if depth == 1 {
             continue;
         }
-        // Each further piece has two hop fields at least.
-        if is_full_below(kept, limit, hops + 2) {
+        if is_behind(kept, limit, pieces, infos, piece, 1) {
             continue;
         }
+        let more = joined(infos, piece.info());
         let end = piece.ends();
         try_behind(
             alloc,
@@ -104,6 +114,7 @@ fn try_behind<'s, 'p, A: Allocator + Clone>(
             limit,
             kept,
             &longer,
+            &more,
             end,
             depth - 1,
         )?;
@@ -119,7 +130,6 @@ fn consider<'s, 'p, A: Allocator + Clone>(
     limit: usize,
     kept: &mut Vec<RankedPath<'s, 'p, A>>,
     pieces: &Pieces<'s>,
-    hops: usize,
 ) -> Result<(), AllocError>
     requires own { All (IsOf ask.now.set) usable_pieces.now }
     requires whole { HaveAll ask.now usable_pieces.now }
@@ -127,16 +137,12 @@ fn consider<'s, 'p, A: Allocator + Clone>(
     requires room { length kept.old.items ≤ limit }
     requires best { All (IsBest ask.now) kept.old.items }
     requires front { All (IsOf ask.now.set) pieces.now }
-    requires hops { hops ≡ total_hops pieces.now }
     ensures order { OnOk result (InOrder path_cmp kept.new.items) }
     ensures room { OnOk result (length kept.new.items ≤ limit) }
     ensures best { OnOk result (All (IsBest ask.now) kept.new.items) }
     ensures still { OnOk result (StillMeet limit kept.old.items kept.new.items) }
     ensures met { OnOk result (IsMetBy ask.now limit kept.new.items pieces.now) }
 {
-    if is_full_below(kept, limit, hops) {
-        return Ok(());
-    }
     let Some(path) = candidate_of(ask, pieces) else {
         return Ok(());
     };
@@ -170,20 +176,42 @@ fn candidate_of<'s, 'p, A: Allocator + Clone>(
     }
 }
 
-/// Whether there are `limit` paths, each with fewer than `hops` hop fields.
-fn is_full_below<'s, 'p, A: Allocator + Clone>(
+/// Whether there are `limit` paths that come before each path that begins with these pieces and one
+/// more, and goes on with at least `further` pieces, 0 or 1.
+fn is_behind<'s, 'p, A: Allocator + Clone>(
     kept: &[RankedPath<'s, 'p, A>],
     limit: usize,
-    hops: usize,
+    pieces: &Pieces<'s>,
+    infos: &[u8],
+    piece: &UsablePiece<'s>,
+    further: usize,
 ) -> bool
-    requires { InOrder path_cmp kept.now }
-    ensures { IsTrue result → (length kept.now ≡ limit)
-        × AllByRecursion (λ one. length one.header.hops < hops) kept.now }
+    requires order { InOrder path_cmp kept.now }
+    requires ranges { AllByRecursion HasRange pieces.now }
+    requires infos { infos.now ≡ infos_of pieces.now }
+    requires few { length pieces.now + further ≤ 2 }
+    requires one { further ≤ 1 }
+    ensures { IsTrue result → AreBefore limit kept.now (pieces.now ++ piece.now ∷ []) further }
 {
     match kept.last() {
-        Some(last) => kept.len() == limit && last.hop_count() < hops,
+        Some(last) => kept.len() == limit && last.comes_before(pieces, infos, piece, further),
         None => false,
     }
+}
+
+/// These bytes and some more behind them.
+fn joined(infos: &[u8], info: &[u8]) -> ArrayVec<u8, MAX_INFOS_LEN>
+    requires { length infos.now + length info.now ≤ 24 }
+    ensures { result.items ≡ infos.now ++ info.now }
+{
+    let mut more = ArrayVec::new();
+    let (Ok(()), Ok(())) = (
+        more.try_extend_from_slice(infos),
+        more.try_extend_from_slice(info),
+    ) else {
+        unreachable!();
+    };
+    more
 }
 
 /// Whether one of the paths that begin with these pieces and go on with one to `depth` usable

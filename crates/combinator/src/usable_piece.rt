@@ -1,14 +1,15 @@
 ghost use Rattle.std.specs.Prelude.{◌≡◌, ◌<◌, ◌≤◌, length, All};
-ghost use Rattle.path_header.specs.Spelling.{HopFits};
+ghost use Rattle.path_header.specs.Spelling.{info_spelling, HopFits};
 ghost use Rattle.path_verifier.specs.Piece.{HasRange, begins_in, ends_in};
-ghost use Rattle.path_verifier.specs.Header.{field_of, len_of};
+ghost use Rattle.path_verifier.specs.Header.{field_of, info_of, len_of};
 ghost use Rattle.combinator.specs.inner.UsablePieces.{piece_of, outer_of};
 ghost use Rattle.combinator.specs.inner.Search.{HasFields, LeavesBy};
 
 use isd_as::{IfId, IsdAs};
-use path_header::{hop_bytes, info_bytes};
+use path_header::{INFO_LEN, hop_bytes, info_bytes};
 use path_segment::{Entry, Segment};
-use path_verifier::{Piece, field_of, info_of};
+use path_verifier::{Piece, PieceKind, field_of, info_of};
+use std::cmp::Ordering;
 use std::marker::Model;
 
 /// A piece of a segment, with the ASes in which it begins and ends in order of travel.
@@ -18,11 +19,14 @@ pub(crate) struct UsablePiece<'s> {
     begins: IsdAs,
     ends: IsdAs,
     way_out: IfId,
+    info: [u8; INFO_LEN],
 }
 
 impl<'s> Model for UsablePiece<'s> {
     ghost use Rattle.std.specs.Prelude.{◌≡◌};
     ghost use Rattle.path_verifier.specs.Piece.{PieceValue, HasRange, begins_in, ends_in};
+    ghost use Rattle.path_header.specs.Spelling.{info_spelling};
+    ghost use Rattle.path_verifier.specs.Header.{info_of};
     ghost use Rattle.combinator.specs.inner.Search.{HasFields, LeavesBy};
 
     ghost Value = { PieceValue };
@@ -31,7 +35,7 @@ impl<'s> Model for UsablePiece<'s> {
 
     ghost invariant = { λ l. HasRange l.piece × (l.begins ≡ begins_in l.piece)
         × (l.ends ≡ ends_in l.piece) × LeavesBy l.piece l.way_out
-        × HasFields l.piece };
+        × HasFields l.piece × (l.info ≡ info_spelling (info_of l.piece)) };
 }
 
 impl<'s> UsablePiece<'s> {
@@ -51,12 +55,13 @@ impl<'s> UsablePiece<'s> {
         let begins = piece.begins_in();
         let ends = piece.ends_in();
         let way_out = way_out_of(&piece);
-        know_fields(&piece);
+        let info = info_bytes_of(&piece);
         UsablePiece {
             piece,
             begins,
             ends,
             way_out,
+            info,
         }
     }
 
@@ -103,6 +108,34 @@ impl<'s> UsablePiece<'s> {
         self.way_out
     }
 
+    /// Where it stands in the search: pieces that end in the destination come first, since with
+    /// them paths are short; then short pieces, and those with small info fields.
+    pub(crate) fn compare(&self, other: &UsablePiece<'s>) -> Ordering {
+        match self.kind_rank().cmp(&other.kind_rank()) {
+            Ordering::Equal => match self.len().cmp(&other.len()) {
+                Ordering::Equal => self.info().cmp(other.info()),
+                decided => decided,
+            },
+            decided => decided,
+        }
+    }
+
+    /// The place of its kind in the search.
+    fn kind_rank(&self) -> u8 {
+        match self.piece.kind() {
+            PieceKind::Down => 0,
+            PieceKind::Up => 1,
+            PieceKind::Core => 2,
+        }
+    }
+
+    /// The bytes of its info field.
+    pub(crate) fn info(&self) -> &[u8]
+        ensures { result.now ≡ info_spelling (info_of self.now) }
+    {
+        &self.info
+    }
+
     /// The number of its hop fields.
     pub(crate) fn len(&self) -> usize
         ensures value { result ≡ len_of self.now }
@@ -136,15 +169,16 @@ fn way_out_of(piece: &Piece<'_>) -> IfId
     }
 }
 
-/// Tells the caller that the numbers of the fields of a piece fit into their bits.
+/// The bytes of the info field of a piece. The numbers of all its fields fit into their bits.
 #[tactic(auto, unfolding(crate::specs::inner::Search::HasFields))]
-fn know_fields(piece: &Piece<'_>)
+fn info_bytes_of(piece: &Piece<'_>) -> [u8; INFO_LEN]
     requires range { HasRange piece.now }
     requires fits { All (λ entry. HopFits (field_of entry)) piece.now.segment.entries }
-    ensures { HasFields piece.now }
+    ensures text { result ≡ info_spelling (info_of piece.now) }
+    ensures fields { HasFields piece.now }
 {
     let _ = piece.segment.entries();
-    let _ = info_bytes(&info_of(piece));
+    info_bytes(&info_of(piece))
 }
 
 /// Tells the caller that the numbers of the hop fields of these entries fit into their bits.

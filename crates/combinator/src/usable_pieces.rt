@@ -1,6 +1,7 @@
 //! The pieces that may occur in paths.
 
 ghost use Rattle.std.specs.Prelude.{◌≡◌, ◌<◌, ◌+◌, ℕ, Bool, true, false, length, All, Contains, OnOk, IfOk};
+ghost use Rattle.std.specs.List.Sorted.{IsPermutation};
 ghost use Rattle.path_segment.specs.declared.kind.SegKind.TheVariants.{Intra, Core};
 ghost use Rattle.path_server.specs.Lookup.{Selection};
 ghost use Rattle.path_header.specs.Spelling.{HopFits};
@@ -33,12 +34,20 @@ pub(crate) fn usable_pieces_of<'s, 'p, A: Allocator + Clone>(
 {
     let set = ask.set;
     let mut usable_pieces = Vec::new(alloc);
-    // Pieces that end in the destination come first: with them paths are short.
     add_cuts(&mut usable_pieces, set.downs(), true, ask.dst)?;
     add_cuts(&mut usable_pieces, set.ups(), false, ask.src)?;
     add_cores(&mut usable_pieces, set.cores())?;
+    put_in_order(&mut usable_pieces);
     know_all(&usable_pieces);
     Ok(usable_pieces)
+}
+
+/// Puts the pieces in the order in which the search takes them. The search ends early if it meets
+/// the first paths early; no answer rests on the order.
+fn put_in_order(usable_pieces: &mut Vec<UsablePiece<'_>>)
+    ensures { IsPermutation usable_pieces.old.items usable_pieces.new.items }
+{
+    usable_pieces.sort_unstable_by(|one, other| one.compare(other));
 }
 
 /// Tells the caller that the numbers of the fields of these pieces fit into their bits.

@@ -1,13 +1,13 @@
 -- How the paths of an answer are found (words of private functions' contracts).
 use Rattle.std.specs.Prelude.{◌≡◌, ◌≢◌, ℕ, ◌≤◌, zero, suc, List, [], ◌∷◌, ◌++◌, length, slice_get, All, Contains, Some}
-use Rattle.std.specs.List.{flat_map}
+use Rattle.std.specs.List.{AllByRecursion, flat_map}
 use Rattle.std.specs.declared.cmp.Ordering.TheVariants.{Less}
 use Rattle.path_header.specs.Value.{HeaderValue}
-use Rattle.path_header.specs.Spelling.{InfoFits, HopFits}
+use Rattle.path_header.specs.Spelling.{info_spelling, InfoFits, HopFits}
 use Rattle.policy_expr.specs.declared.hop.WalkHop.{WalkHop}
-use Rattle.path_verifier.specs.Piece.{PieceValue, begins_in, ends_in}
+use Rattle.path_verifier.specs.Piece.{PieceValue, HasRange, begins_in, ends_in}
 use Rattle.path_verifier.specs.Walk.{hops_of}
-use Rattle.path_verifier.specs.Header.{field_of, info_of}
+use Rattle.path_verifier.specs.Header.{field_of, header_of, info_of}
 use Rattle.combinator.specs.Candidate.{Question, PathValue, path_with, IsCandidate}
 use Rattle.combinator.specs.Order.{bytes_cmp, path_cmp, LastAsLong, HaveOneWalk}
 use Rattle.combinator.specs.Answer.{IsBest}
@@ -50,6 +50,21 @@ IsNoBetter question path pieces = (header : HeaderValue)
 abbrev pub HaveAll : Question → List PieceValue → Type 0
 HaveAll question usable_pieces = (path : PathValue) → IsCandidate question path
     → All (Contains usable_pieces) path.pieces
+
+-- the path comes before each path that begins with these pieces and has at least so many more
+unfoldable pub ComesBefore : PathValue → List PieceValue → ℕ → Type 0
+ComesBefore path front further = (later : List PieceValue) → All HasRange (front ++ later)
+    → further ≤ length later
+    → path_cmp path (path_with (front ++ later) (header_of (front ++ later))) ≡ Less
+
+-- there are `limit` paths, and each of them does
+unfoldable pub AreBefore : ℕ → List PathValue → List PieceValue → ℕ → Type 0
+AreBefore limit paths front further = (length paths ≡ limit)
+    × AllByRecursion (λ path. ComesBefore path front further) paths
+
+-- the bytes of the info fields of pieces
+abbrev pub infos_of : List PieceValue → List ℕ
+infos_of pieces = flat_map (λ piece. info_spelling (info_of piece)) pieces
 
 -- the ways out of all hops but the last
 abbrev pub ways_out : List WalkHop → List ℕ

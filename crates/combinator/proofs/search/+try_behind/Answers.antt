@@ -1,9 +1,10 @@
-use Rattle.std.proofs.Common.{◌+◌, ◌-◌, ◌<◌, List, refl, sym, subst, arith}
-use Rattle.path_verifier.specs.Piece.{ends_in}
+use Rattle.std.proofs.Common.{◌∙◌, ◌-◌, ◌<◌, List, [], ◌∷◌, ◌++◌, refl, sym, subst, arith}
+use Rattle.path_verifier.specs.Piece.{PieceValue, ends_in}
 use Rattle.combinator.specs.Candidate.{IsOf, PathValue}
-use Rattle.combinator.specs.inner.Search.{IsMetBy, StillMeet}
+use Rattle.combinator.specs.inner.Search.{AreBefore, IsMetBy, OfEachBehind, StillMeet}
+use Rattle.combinator.proofs.Before.{met_here, met_further, infos_longer, infos_fit}
 use Rattle.combinator.proofs.Collected.{at_end}
-use Rattle.combinator.proofs.Tried.{WasTried, AreFullBelow, none_tried, all_tried, tried_here, tried_more, longer_by, one_more, own_more, ranges_more, met_on, met_behind}
+use Rattle.combinator.proofs.Tried.{WasTried, none_tried, all_tried, tried_here, tried_more, longer_by, one_more, own_more, ranges_more, met_on}
 use Rattle.combinator.proofs.search.+try_behind.Goals as goal
 
 pub consider-requires-clause-front : goal.consider-requires-clause-front
@@ -12,6 +13,23 @@ consider-requires-clause-front g t c =
     let is = longer_by a.pieces.now c.in-Some.longer c.piece.result c.piece-item.result c.in-Some.ensures.more c.piece.ensures.value in
     own_more a.ask.now.set a.pieces.now c.in-Some.longer c.piece-item.result is c.requires.front
     (subst (IsOf a.ask.now.set) (sym c.piece-item.is) (c.requires.own c.loop-piece.piece-index c.piece-item.result c.loop-piece-test.true))
+
+pub loop-piece-preserved-then-is_behind : goal.loop-piece-preserved-then-is_behind
+loop-piece-preserved-then-is_behind g t c =
+    let a = c.args in
+    let before = c.loop-piece.kept.items in
+    let fact = IsMetBy a.ask.now a.limit before in
+    let front = a.pieces.now ++ c.piece-item.result ∷ [] in
+    let full = subst (λ (paths : List PathValue). AreBefore a.limit paths front 0) c.deref.ensures.value (c.is_behind.ensures c.if-is_behind.true) in
+    let here : WasTried fact a.usable_pieces.now (a.depth - 1) a.pieces.now a.at c.piece-item.result =
+    λ begins. (met_here a.ask.now a.limit before front 0 full refl, met_further a.ask.now a.limit before front 0 full (omega arith) a.usable_pieces.now (a.depth - 1) (ends_in c.piece-item.result)) in record {
+      order = c.loop-piece.invariant.order;
+      room = c.loop-piece.invariant.room;
+      best = c.loop-piece.invariant.best;
+      still = c.loop-piece.invariant.still;
+      met = tried_more fact fact a.usable_pieces.now (a.depth - 1) a.pieces.now a.at c.loop-piece.piece-index c.piece-item.result c.loop-piece-test.true c.piece-item.is (λ list fine. fine)
+          c.loop-piece.invariant.met here;
+    }
 
 pub loop-piece-preserved-then-depth-eq1 : goal.loop-piece-preserved-then-depth-eq1
 loop-piece-preserved-then-depth-eq1 g t c =
@@ -30,15 +48,17 @@ loop-piece-preserved-then-depth-eq1 g t c =
           c.loop-piece-test.true c.piece-item.is (met_on a.ask.now a.limit before after c.in_ok-consider.ensures.still) c.loop-piece.invariant.met here;
     }
 
-pub loop-piece-preserved-then-is_full_below : goal.loop-piece-preserved-then-is_full_below
-loop-piece-preserved-then-is_full_below g t c =
+pub loop-piece-preserved-then-is_behind-2 : goal.loop-piece-preserved-then-is_behind-2
+loop-piece-preserved-then-is_behind-2 g t c =
     let a = c.args in
     let before = c.loop-piece.kept.items in
     let after = c.consider.new.kept.items in
     let fact = IsMetBy a.ask.now a.limit after in
+    let front = a.pieces.now ++ c.piece-item.result ∷ [] in
     let is = longer_by a.pieces.now c.in-Some.longer c.piece.result c.piece-item.result c.in-Some.ensures.more c.piece.ensures.value in
-    let full = subst (λ (paths : List PathValue). AreFullBelow a.limit paths (c.hop_count-hops.result + 2)) c.deref.ensures.value (c.is_full_below.ensures c.if-is_full_below.true) in
-    let behind = met_behind a.ask.now a.limit after c.hop_count-hops.result a.usable_pieces.now (a.depth - 1) c.in-Some.longer (ends_in c.piece-item.result) full c.hop_count-hops.ensures.value in
+    let full = subst (λ (paths : List PathValue). AreBefore a.limit paths front 1) c.deref-in-loop-piece.ensures.value (c.is_behind-in-loop-piece.ensures c.if-is_behind-2.true) in
+    let behind = subst (λ (ps : List PieceValue). OfEachBehind fact a.usable_pieces.now (a.depth - 1) ps (ends_in c.piece-item.result)) (sym is)
+    (met_further a.ask.now a.limit after front 1 full (omega arith) a.usable_pieces.now (a.depth - 1) (ends_in c.piece-item.result)) in
     let here = tried_here fact a.usable_pieces.now (a.depth - 1) a.pieces.now c.in-Some.longer c.piece-item.result (ends_in c.piece-item.result) a.at is refl c.in_ok-consider.ensures.met behind in record {
       order = c.in_ok-consider.ensures.order;
       room = c.in_ok-consider.ensures.room;
@@ -47,6 +67,13 @@ loop-piece-preserved-then-is_full_below g t c =
       met = tried_more (IsMetBy a.ask.now a.limit before) fact a.usable_pieces.now (a.depth - 1) a.pieces.now a.at c.loop-piece.piece-index c.piece-item.result
           c.loop-piece-test.true c.piece-item.is (met_on a.ask.now a.limit before after c.in_ok-consider.ensures.still) c.loop-piece.invariant.met here;
     }
+
+pub joined-more-requires : goal.joined-more-requires
+joined-more-requires g t c =
+    let few = c.requires.few in
+    let some = c.requires.some in
+    let more : 1 < c.args.depth = omega (arith, some, c.if-depth-eq1.false) in
+    infos_fit c.args.pieces.now c.piece-item.result c.args.infos.now c.info.result.now c.requires.infos c.info.ensures (omega (arith, few, more))
 
 pub try_behind-requires : goal.try_behind-requires
 try_behind-requires g t c κs within =
@@ -74,7 +101,10 @@ try_behind-requires g t c κs within =
                         (subst (IsOf a.ask.now.set) (sym c.piece-item.is) (c.requires.own c.loop-piece.piece-index c.piece-item.result c.loop-piece-test.true)),
                     (
                       ranges_more a.pieces.now c.in-Some.longer c.piece-item.result is c.requires.ranges c.piece.ensures.range,
-                      (omega (arith, more), omega (arith, more, long, few)),
+                      (
+                        infos_longer a.pieces.now c.in-Some.longer c.piece-item.result a.infos.now c.info.result.now c.deref-in-loop-piece-2.result.now is c.requires.infos c.info.ensures (c.deref-in-loop-piece-2.ensures.0 ∙ c.joined-more.ensures),
+                        (omega (arith, more), omega (arith, more, long, few)),
+                      ),
                     ),
                   ),
                 ),

@@ -1,19 +1,12 @@
-use Rattle.std.proofs.Common.{◌≡◌, ℕ, List, [], sym, ap, subst, arith}
+use Rattle.std.proofs.Common.{◌≡◌, ℕ, List, [], sym, ap, subst}
 use Rattle.path_verifier.specs.Piece.{PieceValue}
 use Rattle.combinator.specs.Candidate.{Question, PathValue, IsCandidate}
 use Rattle.combinator.specs.Order.{path_cmp}
 use Rattle.combinator.specs.inner.Placed.{Met}
 use Rattle.combinator.specs.inner.Search.{IsNoBetter, OfEachBehind}
 use Rattle.combinator.proofs.Rivals.{found_best}
-use Rattle.combinator.proofs.Tried.{AreFullBelow, met_below, met_none, met_not_best, met_taken, path_is}
+use Rattle.combinator.proofs.Tried.{met_none, met_not_best, met_taken, path_is}
 use Rattle.combinator.proofs.search.consider.Goals as goal
-
-pub returns-then-is_full_below-clause-met : goal.returns-then-is_full_below-clause-met
-returns-then-is_full_below-clause-met g c =
-    let a = c.args in
-    met_below a.ask.now a.limit a.kept.now.items a.hops a.pieces.now
-    (subst (λ (paths : List PathValue). AreFullBelow a.limit paths a.hops) c.deref.ensures.value (c.is_full_below.ensures c.if-is_full_below.true))
-    (λ _. (let same = c.requires.hops in omega (arith, same)))
 
 pub returns-in_default-clause-met : goal.returns-in_default-clause-met
 returns-in_default-clause-met g c = met_none c.args.ask.now c.args.limit c.args.kept.now.items c.args.pieces.now c.in_default.ensures.none
@@ -23,7 +16,7 @@ returns-then-is_met-clause-met g c =
     let a = c.args in
     let is = path_is a.pieces.now c.in-Some.path.pieces c.in-Some.path.header c.in_ok-found.found c.in_ok-found.ensures.value c.in-Some.ensures.pieces c.in-Some.ensures.header in
     met_taken a.ask.now a.limit a.kept.now.items a.pieces.now c.in_ok-found.found is
-    (subst (λ (paths : List PathValue). Met path_cmp a.limit paths c.in_ok-found.found) c.deref-2.ensures.value (c.is_met.ensures c.if-is_met.true))
+    (subst (λ (paths : List PathValue). Met path_cmp a.limit paths c.in_ok-found.found) c.deref.ensures.value (c.is_met.ensures c.if-is_met.true))
 
 pub returns-then-has_better-clause-met : goal.returns-then-has_better-clause-met
 returns-then-has_better-clause-met g c =
