@@ -19,6 +19,7 @@ from scion import Library  # noqa: E402
 NOW = 1000
 SEED, REQUESTS = 1, 3000
 FOLLOWS = {("up", "core"), ("up", "down"), ("core", "down")}
+KINDS = [("up",), ("core",), ("down",), *FOLLOWS, ("up", "core", "down")]
 
 
 def name(ia):
@@ -48,10 +49,11 @@ class Piece:
         for entry in segment["entries"][:first if along else last]:
             beta ^= int(entry["mac"][:4], 16)
         self.info = f"{along:02x}00{beta:04x}{segment['timestamp']:08x}"
-        self.fields = "".join(f"00{e['exp']:02x}{e['ingress']:04x}{e['egress']:04x}{e['mac']}" for e in self.entries)
+        self.fields = "".join(f"00{e['exp']:02x}{e['ingress']:04x}{e['egress']:04x}{e['mac']}"
+                              for e in self.entries)
         self.expiry = min(expiry(segment, entry) for entry in entries)
-        ways = [(e["ingress"], e["egress"]) if along else (e["egress"], e["ingress"]) for e in self.entries]
-        self.hops = [(e["ia"], way_in, way_out) for e, (way_in, way_out) in zip(self.entries, ways)]
+        way_in, way_out = ("ingress", "egress") if along else ("egress", "ingress")
+        self.hops = [(entry["ia"], entry[way_in], entry[way_out]) for entry in self.entries]
 
 
 def walk_of(pieces):
@@ -66,7 +68,8 @@ def walk_of(pieces):
 
 
 def keeps_the_rules(pieces, src, dst):
-    if any((a.kind, b.kind) not in FOLLOWS or a.ends != b.begins for a, b in itertools.pairwise(pieces)):
+    pairs = list(itertools.pairwise(pieces))
+    if any((a.kind, b.kind) not in FOLLOWS or a.ends != b.begins for a, b in pairs):
         return False
     if any(piece.kind == "core" for piece in pieces):
         if any(piece.first or piece.kind == "core" and not piece.is_whole for piece in pieces):
@@ -81,12 +84,13 @@ def keeps_the_rules(pieces, src, dst):
 def header_of(pieces):
     lens = [len(piece.entries) for piece in pieces] + [0, 0]
     meta = f"{(lens[0] << 12) + (lens[1] << 6) + lens[2]:08x}"
-    return meta + "".join(piece.info for piece in pieces) + "".join(piece.fields for piece in pieces)
+    infos, fields = (piece.info for piece in pieces), (piece.fields for piece in pieces)
+    return meta + "".join(infos) + "".join(fields)
 
 
 def cuts(segment, kind, along):
-    places = range(len(segment["entries"]))
-    return [Piece(segment, kind, first, last, along) for first, last in itertools.combinations(places, 2)]
+    pairs = itertools.combinations(range(len(segment["entries"])), 2)
+    return [Piece(segment, kind, first, last, along) for first, last in pairs]
 
 
 def stored(segments):
@@ -112,10 +116,12 @@ def answer(segments, src, dst, limit):
               "down": [p for s in downs for p in cuts(s, "down", True)], "core": []}
     for segment in store:
         first, last = segment["entries"][0]["ia"], segment["entries"][-1]["ia"]
-        if segment["kind"] == "core" and (first in near and last in far or last in near and first in far):
-            pieces["core"] += [Piece(segment, "core", 0, len(segment["entries"]) - 1, along) for along in (True, False)]
+        joins = first in near and last in far or last in near and first in far
+        if segment["kind"] == "core" and joins:
+            end = len(segment["entries"]) - 1
+            pieces["core"] += [Piece(segment, "core", 0, end, along) for along in (True, False)]
     best = {}
-    for kinds in (("up",), ("core",), ("down",), ("up", "core"), ("up", "down"), ("core", "down"), ("up", "core", "down")):
+    for kinds in KINDS:
         for found in itertools.product(*(pieces[kind] for kind in kinds)):
             if keeps_the_rules(found, src, dst):
                 walk = walk_of(found)
@@ -143,8 +149,8 @@ def some_segments(chance):
             elif kind == "core":
                 ases = chance.sample(range(cores), min(cores, chance.randint(2, 3)))
             else:
-                below = sorted(chance.sample(range(cores, count), min(count - cores, chance.randint(1, 3))))
-                ases = [chance.randrange(cores)] + below
+                hops = min(count - cores, chance.randint(1, 3))
+                ases = [chance.randrange(cores), *sorted(chance.sample(range(cores, count), hops))]
             if len(ases) < 2:
                 continue
             ways = []
@@ -175,12 +181,13 @@ def main():
         src, dst = (name(ia) for ia in chance.sample(range(count), 2))
         limit = chance.choice((1, 2, 3, 8, 64))
         given = library.paths(src=src, dst=dst, limit=limit, now=NOW, segments=segments)
-        got = [(path["header"], path["walk"], path["expiry"]) for path in given.get("paths", [None])]
+        got = [(path["header"], path["walk"], path["expiry"]) for path in given["paths"]]
         wanted = answer(segments, src, dst, limit)
         paths += len(wanted)
         if got != wanted:
             wrong += 1
-            print(f"answers: request {number} of seed {seed}: {src} {dst} {limit}: {got} in place of {wanted}")
+            print(f"answers: request {number} of seed {seed}: {src} {dst} {limit}: "
+                  f"{got} in place of {wanted}")
     print(f"answers: {requests} requests, {paths} paths, {wrong} wrong")
     return 0 if requests and paths and not wrong else 1
 
