@@ -139,7 +139,7 @@ impl<'s, 'p, A: Allocator + Clone> RankedPath<'s, 'p, A> {
         if expiry != mine {
             return expiry > mine;
         }
-        comes_before(other.header(), &self.parts.bytes)
+        header_comes_before(other.header(), &self.parts.bytes)
     }
 }
 
@@ -181,7 +181,7 @@ impl<'s, 'p, A: Allocator + Clone> RankedPath<'s, 'p, A> {
 fn is_same(one: SegLens, other: SegLens) -> bool
     ensures { IsTrue result → one ≡ other }
 {
-    one.first == other.first && one.second == other.second && one.third == other.third
+    one == other
 }
 
 /// The lengths of a path of these pieces, one more and `further` pieces of two hop fields.
@@ -239,7 +239,7 @@ fn info_fields_come_before(bytes: &[u8], infos: &[u8], info: &[u8]) -> bool
 }
 
 /// Whether the bytes of a header come before these bytes.
-fn comes_before(header: &Header, bytes: &[u8]) -> bool
+fn header_comes_before(header: &Header, bytes: &[u8]) -> bool
     ensures less { IsTrue result → slice_cmp nat_cmp (spelling header.now) bytes.now ≡ Less }
     ensures not_less { IsFalse result → slice_cmp nat_cmp (spelling header.now) bytes.now ≢ Less }
     ensures spelled { SpellsHeader (spelling header.now) header.now }

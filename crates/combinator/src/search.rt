@@ -105,7 +105,7 @@ fn try_behind<'s, 'p, A: Allocator + Clone>(
         if is_behind(kept, limit, pieces, infos, piece, 1) {
             continue;
         }
-        let more = joined(infos, piece.info());
+        let more = with_info(infos, piece.info());
         let end = piece.ends();
         try_behind(
             alloc,
@@ -177,7 +177,8 @@ fn candidate_of<'s, 'p, A: Allocator + Clone>(
 }
 
 /// Whether there are `limit` paths that come before each path that begins with these pieces and one
-/// more, and goes on with at least `further` pieces, 0 or 1.
+/// more, and goes on with at least `further` pieces, 0 or 1. `infos` has the bytes of the info
+/// fields of the pieces.
 fn is_behind<'s, 'p, A: Allocator + Clone>(
     kept: &[RankedPath<'s, 'p, A>],
     limit: usize,
@@ -199,8 +200,8 @@ fn is_behind<'s, 'p, A: Allocator + Clone>(
     }
 }
 
-/// These bytes and some more behind them.
-fn joined(infos: &[u8], info: &[u8]) -> ArrayVec<u8, MAX_INFOS_LEN>
+/// The bytes of these info fields, and of one more behind them.
+fn with_info(infos: &[u8], info: &[u8]) -> ArrayVec<u8, MAX_INFOS_LEN>
     requires { length infos.now + length info.now ≤ 24 }
     ensures { result.items ≡ infos.now ++ info.now }
 {

@@ -57,7 +57,8 @@ ComesBefore path front further = (later : List PieceValue) → All HasRange (fro
     → further ≤ length later
     → path_cmp path (path_with (front ++ later) (header_of (front ++ later))) ≡ Less
 
--- there are `limit` paths, and each of them does
+-- there are `limit` paths, and each of them comes before each path that begins with these pieces and
+-- has at least so many more
 unfoldable pub AreBefore : ℕ → List PathValue → List PieceValue → ℕ → Type 0
 AreBefore limit paths front further = (length paths ≡ limit)
     × AllByRecursion (λ path. ComesBefore path front further) paths

@@ -68,8 +68,8 @@ loop-piece-preserved-then-is_behind-2 g t c =
           c.loop-piece-test.true c.piece-item.is (met_on a.ask.now a.limit before after c.in_ok-consider.ensures.still) c.loop-piece.invariant.met here;
     }
 
-pub joined-more-requires : goal.joined-more-requires
-joined-more-requires g t c =
+pub with_info-more-requires : goal.with_info-more-requires
+with_info-more-requires g t c =
     let few = c.requires.few in
     let some = c.requires.some in
     let more : 1 < c.args.depth = omega (arith, some, c.if-depth-eq1.false) in
@@ -102,7 +102,7 @@ try_behind-requires g t c κs within =
                     (
                       ranges_more a.pieces.now c.in-Some.longer c.piece-item.result is c.requires.ranges c.piece.ensures.range,
                       (
-                        infos_longer a.pieces.now c.in-Some.longer c.piece-item.result a.infos.now c.info.result.now c.deref-in-loop-piece-2.result.now is c.requires.infos c.info.ensures (c.deref-in-loop-piece-2.ensures.0 ∙ c.joined-more.ensures),
+                        infos_longer a.pieces.now c.in-Some.longer c.piece-item.result a.infos.now c.info.result.now c.deref-in-loop-piece-2.result.now is c.requires.infos c.info.ensures (c.deref-in-loop-piece-2.ensures.0 ∙ c.with_info-more.ensures),
                         (omega (arith, more), omega (arith, more, long, few)),
                       ),
                     ),
