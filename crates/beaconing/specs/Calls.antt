@@ -13,7 +13,7 @@ use Rattle.refusal.specs.Refusal.{◌>>=◌, check, or_else}
 use Rattle.beaconing.specs.Entry.{entry_by, added_by, kind_over, goes_on}
 
 -- the beacon that a core AS begins over one of its links: NotCore, NoInterface, LinkDown
-unfoldable pub originated : Network → ℕ → ℕ → ℕ → ℕ → Result Chain BeaconFault
+unfoldable pub originated : (n : Network) (ia egress timestamp beta0 : ℕ) → Result Chain BeaconFault
 originated n ia egress timestamp beta0 = do
   one ← ok_or (as_named n.ases ia) NotCore
   _ ← check one.core NotCore
@@ -42,7 +42,7 @@ is_new beacon ia = not (list_any (λ entry. entry.ia == ia) beacon.entries)
 
 -- the beacon after an AS has passed it on over one of its links: NotHere, LinkDown for the way in,
 -- Loop, TooLong, NoInterface, WrongKind, LinkDown for the way out
-unfoldable pub extended : Network → Chain → ℕ → ℕ → Result Chain BeaconFault
+unfoldable pub extended : (n : Network) (beacon : Chain) (ia egress : ℕ) → Result Chain BeaconFault
 extended n beacon ia egress = do
   one ← ok_or (as_named n.ases ia) NotHere
   ingress ← come_to n beacon ia

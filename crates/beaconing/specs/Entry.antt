@@ -21,7 +21,7 @@ key_in n ia = option_map_or key_of (as_named n.ases ia) []
 
 -- the entry of an AS between two of its interfaces, with its authenticator under the AS's key and
 -- this accumulator
-abbrev pub entry_by : AsEntry → ℕ → ℕ → ℕ → ℕ → Entry
+abbrev pub entry_by : (one : AsEntry) (timestamp beta ingress egress : ℕ) → Entry
 entry_by one timestamp beta ingress egress =
     record {
       ia = one.ia;
@@ -32,7 +32,7 @@ entry_by one timestamp beta ingress egress =
     }
 
 -- the entry that an AS adds to a beacon, under the accumulator after all earlier entries
-abbrev pub added_by : AsEntry → Chain → ℕ → ℕ → Entry
+abbrev pub added_by : (one : AsEntry) (beacon : Chain) (ingress egress : ℕ) → Entry
 added_by one beacon ingress egress =
     entry_by one beacon.timestamp (beta_of beacon (length beacon.entries)) ingress egress
 

@@ -31,13 +31,13 @@ pub record IsEntryOf (n : Network) (time beta : ℕ) (key : List ℕ) (entry : E
       ≡ authenticator key beta time entry.exp_time entry.cons_ingress entry.cons_egress
 
 -- `near` is the entry's way out, and `far` is the way in of the next entry
-abbrev pub AreWays : Entry → Entry → End → End → Type 0
+abbrev pub AreWays : (entry next : Entry) (near far : End) → Type 0
 AreWays entry next near far = (near.ia ≡ entry.ia) × (near.number ≡ entry.cons_egress)
     × (far.ia ≡ next.ia) × (far.number ≡ next.cons_ingress)
 
 -- the link leads from an entry to the next: a core link in either direction, a child link from
 -- parent to child
-abbrev pub LeadsOn : SegKind → Entry → Entry → Link → Type 0
+abbrev pub LeadsOn : (kind : SegKind) (entry next : Entry) (link : Link) → Type 0
 LeadsOn Core entry next link = (link.class ≡ classes.Core)
     × (AreWays entry next link.a link.b ⊎ AreWays entry next link.b link.a)
 LeadsOn Intra entry next link = (link.class ≡ classes.Child) × AreWays entry next link.a link.b

@@ -48,12 +48,12 @@ pub record AnswerValue : Type 0 where
 -- ---- policy options
 
 -- the question under one of the policy options
-abbrev pub question_under : Selection → ℕ → ℕ → WeighedRules → Question
+abbrev pub question_under : (set : Selection) (src dst : ℕ) (option : WeighedRules) → Question
 question_under set src dst option = record { set = set; src = src; dst = dst; rules = option.rules }
 
 -- an option comes before another: its weight is larger, or it is equal and the option is listed
 -- first
-abbrev pub GoesBefore : ℕ → WeighedRules → ℕ → WeighedRules → Type 0
+abbrev pub GoesBefore : (i : ℕ) (one : WeighedRules) (j : ℕ) (other : WeighedRules) → Type 0
 GoesBefore i one j other = (other.weight < one.weight) ⊎ ((other.weight ≡ one.weight) × (i < j))
 
 -- this option is used: it leaves a path, and every option before it leaves none
@@ -67,8 +67,8 @@ pub record IsUsed (set : Selection) (src dst : ℕ) (options : List WeighedRules
       → GoesBefore j other used option → HasNone (question_under set src dst other)
 
 -- the answer under several options: that of the used option, or no path if no option leaves one
-abbrev pub AnswersWith : Selection → ℕ → ℕ → List WeighedRules → ℕ → Option ℕ → List PathValue
-    → Type 0
+abbrev pub AnswersWith : (set : Selection) (src dst : ℕ) (options : List WeighedRules) (limit : ℕ)
+    (used : Option ℕ) (paths : List PathValue) → Type 0
 AnswersWith set src dst options limit None paths =
     (paths ≡ []) × All (λ option. HasNone (question_under set src dst option)) options
 AnswersWith set src dst options limit (Some one) paths = IsUsed set src dst options limit one paths

@@ -18,7 +18,7 @@ pub record Question : Type 0 where
   pub dst : ℕ
   pub rules : Rules
 
-abbrev pub question_of : Selection → ℕ → ℕ → Rules → Question
+abbrev pub question_of : (set : Selection) (src dst : ℕ) (rules : Rules) → Question
 question_of set src dst rules = record { set = set; src = src; dst = dst; rules = rules }
 
 -- a path of an answer: its pieces in order of travel, and its header

@@ -13,5 +13,5 @@ abbrev pub bad_limit : ℕ × List ℕ
 bad_limit = (137, codes "BadLimit")
 
 -- the ends of a request are two different ASes, or it is refused as SameAs
-abbrev pub ends_at : ℕ → ℕ → Result (Unit {0}) CombineFault
+abbrev pub ends_at : (src dst : ℕ) → Result (Unit {0}) CombineFault
 ends_at src dst = check (not (src == dst)) SameAs

@@ -4,7 +4,7 @@ use Rattle.path_segment.specs.Chain.{Chain, IsChainLive}
 use Rattle.path_server.specs.Lookup.{Selection}
 
 -- the lists have the same segments, in any order
-abbrev pub HaveSame : List Chain → List Chain → Type 0
+abbrev pub HaveSame : (segments others : List Chain) → Type 0
 HaveSame segments others = (segment : Chain) → Contains segments segment ↔ Contains others segment
 
 -- the sets have the same segments

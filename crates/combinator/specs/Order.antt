@@ -16,25 +16,25 @@ abbrev pub header_and_walk : PathValue → HeaderValue × List WalkHop
 header_and_walk path = (path.header, walk_of path.pieces)
 
 -- the order of hops: by AS, then by way in, then by way out
-abbrev pub hop_cmp : WalkHop → WalkHop → Ordering
+abbrev pub hop_cmp : (one other : WalkHop) → Ordering
 hop_cmp one other = ordering_then (nat_cmp one.ia other.ia)
     (ordering_then (nat_cmp one.ingress other.ingress) (nat_cmp one.egress other.egress))
 
 -- the order of walks, hop by hop
-abbrev pub walk_cmp : List WalkHop → List WalkHop → Ordering
+abbrev pub walk_cmp : (one other : List WalkHop) → Ordering
 walk_cmp = slice_cmp hop_cmp
 
 -- the order of headers, by their bytes
-unfoldable pub bytes_cmp : HeaderValue → HeaderValue → Ordering
+unfoldable pub bytes_cmp : (one other : HeaderValue) → Ordering
 bytes_cmp one other = slice_cmp nat_cmp (spelling one) (spelling other)
 
 -- the order of headers with walks: by number of hop fields, then by header bytes, then by walk
-unfoldable pub shown_cmp : HeaderValue × List WalkHop → HeaderValue × List WalkHop → Ordering
+unfoldable pub shown_cmp : (one other : HeaderValue × List WalkHop) → Ordering
 shown_cmp one other = ordering_then (nat_cmp (length one.0.hops) (length other.0.hops))
     (ordering_then (bytes_cmp one.0 other.0) (walk_cmp one.1 other.1))
 
 -- the order of paths in an answer
-abbrev pub path_cmp : PathValue → PathValue → Ordering
+abbrev pub path_cmp : (one other : PathValue) → Ordering
 path_cmp one other = shown_cmp (header_and_walk one) (header_and_walk other)
 
 -- no hop of the pieces expires before this half second
@@ -43,9 +43,9 @@ LastTo half pieces = All (λ piece. All
     (λ entry. half ≤ expiry_of piece.segment.timestamp entry.exp_time) (entries_of piece)) pieces
 
 -- the pieces expire no earlier than the others
-abbrev pub LastAsLong : List PieceValue → List PieceValue → Type 0
+abbrev pub LastAsLong : (pieces others : List PieceValue) → Type 0
 LastAsLong pieces others = (half : ℕ) → LastTo half others → LastTo half pieces
 
 -- both paths have the same walk
-abbrev pub HaveOneWalk : PathValue → PathValue → Type 0
+abbrev pub HaveOneWalk : (one other : PathValue) → Type 0
 HaveOneWalk one other = walk_of one.pieces ≡ walk_of other.pieces

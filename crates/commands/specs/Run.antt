@@ -28,7 +28,8 @@ pub record Change : Type 0 where
   pub has_failed : Bool
 
 -- the change of a stream, from the functions for its bytes and its flag
-abbrev pub change_of : {A : Type 0} → (A → Option (List ℕ)) → (A → Bool) → A → A → Change
+abbrev pub change_of : {A : Type 0} → (bytes : (A → Option (List ℕ))) (failed : (A → Bool))
+    (before after : A) → Change
 change_of bytes failed before after =
     record {
       old = bytes before;
@@ -76,7 +77,8 @@ PrintsOf answer turn (Err fault) sink = (answer ≡ Err (of_input fault)) × IsU
 
 -- one router's turn: the line of the packet on the whole input is printed, or the result says why
 -- not
-abbrev pub Steps : {A : Type 0} → Result A CommandFault → Turn → Change → Change → Type 0
+abbrev pub Steps : {A : Type 0} → (answer : Result A CommandFault) (turn : Turn)
+    (source sink : Change) → Type 0
 Steps answer turn source sink =
     (read : Result (List ℕ) InputFault) × (ReadsInput read source × PrintsOf answer turn read sink)
 
@@ -88,7 +90,7 @@ after_run (Ok done) = Ok done
 after_run (Err fault) = Err (of_run fault)
 
 -- a network's run: the lines of the source are answered on the sink, or the result says why not
-abbrev pub AnswersSource : Result (Unit {0}) CommandFault → Change → Change → Type 0
+abbrev pub AnswersSource : (answer : Result (Unit {0}) CommandFault) (source sink : Change) → Type 0
 AnswersSource answer source sink = (run : Result (Unit {0}) RunFault)
     × ((answer ≡ after_run run)
     × (Runs run source.old source.new sink.old sink.new
@@ -102,7 +104,8 @@ after_work (Err fault) = Err (of_work fault)
 -- a network's run with `workers` workers and inboxes of `slots` places: the lines of the source
 -- that prepare the network are answered on the sink, and the ends of the flights are reported
 -- there; or the result says why not
-abbrev pub CarriesPackets : Result (Unit {0}) CommandFault → ℕ → ℕ → Change → Change → Type 0
+abbrev pub CarriesPackets : (answer : Result (Unit {0}) CommandFault) (workers slots : ℕ)
+    (source sink : Change) → Type 0
 CarriesPackets answer workers slots source sink = (run : Result (Unit {0}) WorkFault)
     × ((answer ≡ after_work run)
     × (work.Works run workers slots source.old source.new sink.old sink.new
@@ -118,12 +121,13 @@ IsNoCommand (Err Memory) = Unit {0}
 IsNoCommand answer = ⊥
 
 -- the words are refused, and nothing was read or written
-abbrev pub Refuses : {A : Type 0} → Result A CommandFault → Change → Change → Type 0
+abbrev pub Refuses : {A : Type 0} → (answer : Result A CommandFault) (source sink : Change) → Type 0
 Refuses answer source sink = IsNoCommand answer × (IsUntouched source × IsUntouched sink)
 
 -- the command of the words was carried out, or the result says why not; words that are no command
 -- are refused
-abbrev pub DoesCommand : Result (Unit {0}) CommandFault → Option Command → Change → Change → Type 0
+abbrev pub DoesCommand : (answer : Result (Unit {0}) CommandFault) (command : Option Command)
+    (source sink : Change) → Type 0
 DoesCommand answer None source sink = Refuses answer source sink
 DoesCommand answer (Some command.Run) source sink = AnswersSource answer source sink
 DoesCommand answer (Some (command.Work workers slots)) source sink =

@@ -28,7 +28,7 @@ abbrev pub optional_rule : Text → Rule
 optional_rule name = record (new_rule name) { long = Some name; value_names = 1 }
 
 -- a required option whose value is a number from `low` to `most`, and one from 0 to `most`
-abbrev pub range_rule : ℕ → ℕ → Text → Rule
+abbrev pub range_rule : (low most : ℕ) (name : Text) → Rule
 range_rule low most name =
     record (option_rule name) { parser = Some (Signed (pos low) (pos most)) }
 

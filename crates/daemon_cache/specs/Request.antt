@@ -17,7 +17,7 @@ pub record RequestValue : Type 0 where
   pub texts : List OptionTexts
   pub limit : ℕ
 
-abbrev pub request_value : ℕ → ℕ → List OptionTexts → ℕ → RequestValue
+abbrev pub request_value : (src dst : ℕ) (texts : List OptionTexts) (limit : ℕ) → RequestValue
 request_value src dst texts limit = record { src = src; dst = dst; texts = texts; limit = limit }
 
 -- the answer is one to the request from this set of segments, under the options that the request's
@@ -38,7 +38,8 @@ lawful_at request = do
 
 -- the error of a request. If the request is lawful, the reader could not enter the board, or memory
 -- ran out; else it is the refusal of the request. After a refusal the reader has seen nothing more.
-abbrev pub GivesNoAnswer : OrMemory AskFault → RequestValue → Informed → Informed → Type 0
+abbrev pub GivesNoAnswer : (fault : OrMemory AskFault) (request : RequestValue)
+    (before after : Informed) → Type 0
 GivesNoAnswer Memory request before after = lawful_at request ≡ Ok tt
 GivesNoAnswer (Refused fault.NoEntry) request before after =
     (lawful_at request ≡ Ok tt) × (after ≡ before)

@@ -39,8 +39,8 @@ IsAnswered net (Some (Shows packet)) text happened =
 IsAnswered net None text happened = (happened ≡ []) × (text ≡ bad_line)
 
 -- the replies to these lines in a network, one after another, and the events that happen
-abbrev pub AreAnswered : AcceptedLines → NetValue → List (List ℕ) → List (List ℕ) → List EventRecord
-    → Type 0
+abbrev pub AreAnswered : (accepted : AcceptedLines) (net : NetValue) (lines texts : List (List ℕ))
+    (history : List EventRecord) → Type 0
 AreAnswered accepted net [] texts history = (texts ≡ []) × (history ≡ [])
 AreAnswered accepted net (line ∷ lines) [] history = ⊥
 AreAnswered accepted net (line ∷ lines) (text ∷ texts) history =
@@ -79,8 +79,8 @@ GoesOn Closed = ⊥
 GoesOn stage = Unit {0}
 
 -- a topology begins a run of the later lines; if it is refused, the run ends
-abbrev pub Begins : AcceptedLines → Result Network TopologyFault → List ℕ → List (List ℕ)
-    → List (List ℕ) → Stage → Type 0
+abbrev pub Begins : (accepted : AcceptedLines) (topology : Result Network TopologyFault)
+    (text : List ℕ) (lines texts : List (List ℕ)) (stage : Stage) → Type 0
 Begins accepted (Ok network) text lines texts stage = (net : NetValue)
     × ((text ≡ begun_text) × ((stage ≡ Open net) × AreRun accepted network lines texts net))
 Begins accepted (Err fault) text lines texts stage =
@@ -88,7 +88,8 @@ Begins accepted (Err fault) text lines texts stage =
 
 -- the replies to these lines of an input from its first line on, and the state of the run after
 -- them
-abbrev pub RepliesToInput : AcceptedLines → List (List ℕ) → List (List ℕ) → Stage → Type 0
+abbrev pub RepliesToInput : (accepted : AcceptedLines) (lines texts : List (List ℕ)) (stage : Stage)
+    → Type 0
 RepliesToInput accepted [] texts stage = (texts ≡ []) × (stage ≡ Unbegun)
 RepliesToInput accepted (first ∷ lines) [] stage = ⊥
 RepliesToInput accepted (first ∷ lines) (text ∷ texts) stage =

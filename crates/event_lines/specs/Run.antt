@@ -77,7 +77,7 @@ WroteSoFar accepted lines went =
     (stage : Stage) × (GoesOn stage × Wrote accepted lines went stage)
 
 -- the replies to all complete lines of what was read were written, and the run may go on after them
-abbrev pub WroteWhole : AcceptedLines → List ℕ → List ℕ → Type 0
+abbrev pub WroteWhole : (accepted : AcceptedLines) (read went : List ℕ) → Type 0
 WroteWhole accepted read went = (lines : List (List ℕ)) × (rest : List ℕ)
     × (AreLines read lines rest × WroteSoFar accepted lines went)
 
@@ -85,7 +85,8 @@ WroteWhole accepted read went = (lines : List (List ℕ)) × (rest : List ℕ)
 -- with this network; or the topology was refused; or, if it was not refused, a read failed, the
 -- input had more than the largest number of bytes, or memory ran out at a line that had no answer
 -- yet; or a write failed.
-abbrev pub Ends : AcceptedLines → Result NetValue RunFault → Type 0 → List ℕ → List ℕ → Type 0
+abbrev pub Ends : (accepted : AcceptedLines) (result : Result NetValue RunFault) (at_end : Type 0)
+    (read went : List ℕ) → Type 0
 Ends accepted (Ok net) at_end read went = (lines : List (List ℕ))
     × (AreAll at_end read lines × Wrote accepted lines went (Open net))
 Ends accepted (Err faults.Topology) at_end read went = (lines : List (List ℕ))
@@ -106,15 +107,15 @@ most_read result = most_input
 
 -- a run that accepts these lines. The first two contents are what the source still had before and
 -- after it; the last two are what the sink held before and after it.
-abbrev pub Listens : AcceptedLines → Result NetValue RunFault → Option (List ℕ) → Option (List ℕ)
-    → Option (List ℕ) → Option (List ℕ) → Type 0
+abbrev pub Listens : (accepted : AcceptedLines) (result : Result NetValue RunFault)
+    (before after held holds : Option (List ℕ)) → Type 0
 Listens accepted result before after held holds = (read went : List ℕ)
     × (Consumes before after read × (Appends held holds went
     × ((length read ≤ most_read result) × Ends accepted result (IsAtEnd after) read went)))
 
 -- a run that accepts all lines, whatever network it ends with
-abbrev pub Runs : Result (Unit {0}) RunFault → Option (List ℕ) → Option (List ℕ) → Option (List ℕ)
-    → Option (List ℕ) → Type 0
+abbrev pub Runs : (result : Result (Unit {0}) RunFault) (before after held holds : Option (List ℕ))
+    → Type 0
 Runs (Ok done) before after held holds =
     (net : NetValue) × Listens All (Ok net) before after held holds
 Runs (Err fault) before after held holds = Listens All (Err fault) before after held holds

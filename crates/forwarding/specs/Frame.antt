@@ -7,11 +7,11 @@ use Rattle.path_verifier.specs.Piece.{PieceValue}
 use Rattle.path_verifier.specs.Header.{header_of}
 
 -- the addresses at the front of a packet, the destination first
-abbrev pub addresses : ℕ → ℕ → List ℕ
+abbrev pub addresses : (source destination : ℕ) → List ℕ
 addresses source destination = to_be_bytes w64 destination ++ to_be_bytes w64 source
 
 -- the bytes of a packet: both addresses, its path header, its payload
-unfoldable pub framed : ℕ → ℕ → HeaderValue → List ℕ → List ℕ
+unfoldable pub framed : (src dst : ℕ) (header : HeaderValue) (payload : List ℕ) → List ℕ
 framed src dst header payload = addresses src dst ++ (spelling header ++ payload)
 
 -- both addresses and the numbers in the header of these pieces fit into their bits

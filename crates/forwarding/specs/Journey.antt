@@ -34,7 +34,7 @@ to_come came_in_by spot =
     ++ walk_beyond spot.later
 
 -- whether both interfaces exist and belong to one router
-abbrev pub is_one : Result ℕ TopologyFault → Result ℕ TopologyFault → Bool
+abbrev pub is_one : (one other : Result ℕ TopologyFault) → Bool
 is_one (Ok one) (Ok other) = one == other
 is_one one other = false
 

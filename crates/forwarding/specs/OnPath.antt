@@ -24,7 +24,8 @@ header_on Inside spot = header_there spot
 header_on (Link interface) spot = header_coming spot
 
 -- a packet at a router of this entry's AS
-abbrev pub at_spot : ℕ → ℕ → List ℕ → PathPosition → Entry → Arrival → ℕ → ℕ → List WalkHop → Packet
+abbrev pub at_spot : (source destination : ℕ) (payload : List ℕ) (spot : PathPosition)
+    (entry : Entry) (arrival : Arrival) (router came_in_by : ℕ) (passed : List WalkHop) → Packet
 at_spot source destination payload spot entry arrival router came_in_by passed =
     record {
       bytes = framed source destination (header_on arrival spot) payload;
@@ -40,7 +41,8 @@ at_spot source destination payload spot entry arrival router came_in_by passed =
 -- the router that has the packet fits how it arrived. From a host: at the beginning of the path, at
 -- the owner of the way out. From inside: at the owner of the way out. Over a link: at the owner of
 -- the way in.
-abbrev pub IsPlaced : Network → PathPosition → Entry → Arrival → ℕ → ℕ → List WalkHop → Type 0
+abbrev pub IsPlaced : (n : Network) (spot : PathPosition) (entry : Entry) (arrival : Arrival)
+    (router came_in_by : ℕ) (passed : List WalkHop) → Type 0
 IsPlaced n spot entry FromHost router came_in_by passed =
     (spot.past ≡ []) × ((spot.reached ≡ 0) × ((passed ≡ [])
     × (owner_in n entry.ia (out_by spot.piece entry) ≡ Ok router)))
@@ -78,7 +80,8 @@ pub record ComesNearer (n : Network) (now source destination : ℕ) (payload : L
 
 -- the packet after its delivery: with the header at the end of all pieces, the payload as it was
 -- sent, and the whole walk passed
-abbrev pub arrived_with : ℕ → ℕ → List ℕ → List PieceValue → Packet
+abbrev pub arrived_with : (source destination : ℕ) (payload : List ℕ) (pieces : List PieceValue)
+    → Packet
 arrived_with source destination payload pieces =
     let bytes = framed source destination (header_behind pieces) payload in
     record { bytes = bytes; place = Delivered; passed = walk_of pieces }

@@ -23,7 +23,8 @@ pub record KeysAndLinksHold (n : Network) (keys : List (List ℕ)) (chain : Chai
       → IsUp n entry.ia entry.cons_egress true
 
 -- from `from` to `to`, each entry of this AS was made under the key that the AS has in use
-abbrev pub KeyIsInUse : Network → List (List ℕ) → Chain → ℕ → ℕ → ℕ → Type 0
+abbrev pub KeyIsInUse : (n : Network) (keys : List (List ℕ)) (chain : Chain) (from to ia : ℕ)
+    → Type 0
 KeyIsInUse n keys chain from to ia = (i : ℕ) (entry : Entry) (key : List ℕ) → from ≤ i → i ≤ to
     → slice_get chain.entries i ≡ Some entry → slice_get keys i ≡ Some key → entry.ia ≡ ia
     → key ≡ key_in n ia
@@ -38,12 +39,12 @@ pub record IsIssuedAndAccepted (n : Network) (keys : List (List ℕ))
   pub holds : KeysAndLinksHold n keys piece.segment piece.from piece.to
 
 -- from `from` to `to`, no entry is of this AS
-abbrev pub AvoidsAs : Chain → ℕ → ℕ → ℕ → Type 0
+abbrev pub AvoidsAs : (chain : Chain) (from to ia : ℕ) → Type 0
 AvoidsAs chain from to ia = (i : ℕ) (entry : Entry) → from ≤ i → i ≤ to
     → slice_get chain.entries i ≡ Some entry → ia ≢ entry.ia
 
 -- from `from` to `to`, no link from an entry to the next ends at this interface
-abbrev pub AvoidsLink : Chain → ℕ → ℕ → ℕ → ℕ → Type 0
+abbrev pub AvoidsLink : (chain : Chain) (from to ia number : ℕ) → Type 0
 AvoidsLink chain from to ia number = (i : ℕ) (entry next : Entry) → from ≤ i → i + 1 ≤ to
     → slice_get chain.entries i ≡ Some entry → slice_get chain.entries (i + 1) ≡ Some next
     → ¬ ((entry.ia ≡ ia) × (entry.cons_egress ≡ number))

@@ -25,12 +25,12 @@ pub record Packet : Type 0 where
   pub passed : List WalkHop
 
 -- the stop at a router to which a packet came so, by this interface of the AS
-abbrev pub stop_at : ℕ → ℕ → Arrival → ℕ → RouterStop
+abbrev pub stop_at : (ia router : ℕ) (arrival : Arrival) (came_in_by : ℕ) → RouterStop
 stop_at ia router arrival came_in_by =
     record { ia = ia; router = router; arrival = arrival; came_in_by = came_in_by }
 
 -- a packet of these bytes that a host sends, at this router of the host's AS
-abbrev pub put_at : List ℕ → ℕ → ℕ → Packet
+abbrev pub put_at : (bytes : List ℕ) (ia router : ℕ) → Packet
 put_at bytes ia router =
     record { bytes = bytes; place = AtRouter (stop_at ia router FromHost 0); passed = [] }
 
@@ -43,7 +43,8 @@ abbrev pub hop_by : RouterStop → ℕ → WalkHop
 hop_by stop out = record { ia = stop.ia; ingress = stop.came_in_by; egress = out }
 
 -- the packet at the router that owns the far end of a link; if there is none, the packet as it was
-abbrev pub at_owner : Packet → RouterStop → ℕ → ℕ → ℕ → Result ℕ TopologyFault → Packet
+abbrev pub at_owner : (packet : Packet) (stop : RouterStop) (out ia number : ℕ)
+    (owner : Result ℕ TopologyFault) → Packet
 at_owner packet stop out ia number (Ok router) =
     let passed = noted packet.passed (hop_by stop out) in
     record packet { place = AtRouter (stop_at ia router (Link number) number); passed = passed }
@@ -117,7 +118,7 @@ abbrev pub lost : Packet → Packet
 lost packet = record packet { place = Lost }
 
 -- the packet with this byte changed by exclusive or
-abbrev pub altered : Packet → ℕ → ℕ → Packet
+abbrev pub altered : (packet : Packet) (at change : ℕ) → Packet
 altered packet at change = record packet {
   bytes = slice_set packet.bytes at (bit_xor (slice_index packet.bytes at) change);
 }

@@ -11,9 +11,9 @@ abbrev pub masked : ℕ → List ℕ → List ℕ
 masked mask bytes = map (λ byte. bit_xor byte mask) bytes
 
 -- the HMAC of a text under a padded key: H((K xor opad) || H((K xor ipad) || text))
-unfoldable pub hmac_under : List ℕ → List ℕ → List ℕ
+unfoldable pub hmac_under : (block text : List ℕ) → List ℕ
 hmac_under block text = sha256 (masked 0x5c block ++ sha256 (masked 0x36 block ++ text))
 
 -- the HMAC of a text under a key
-abbrev pub hmac : List ℕ → List ℕ → List ℕ
+abbrev pub hmac : (key text : List ℕ) → List ℕ
 hmac key text = hmac_under (padded key) text

@@ -5,18 +5,20 @@ use Rattle.hop_mac.specs.Hmac.{hmac_under, padded}
 
 -- the input of a hop's authenticator: 2 zero bytes, the accumulator, the segment's timestamp, a
 -- zero byte, the hop's expiry, its two interfaces, 2 zero bytes
-abbrev pub input_of : ℕ → ℕ → ℕ → ℕ → ℕ → List ℕ
+abbrev pub input_of : (beta timestamp exp_time cons_ingress cons_egress : ℕ) → List ℕ
 input_of beta timestamp exp_time cons_ingress cons_egress =
     0 ∷ 0 ∷ [] ++ to_be_bytes w16 beta ++ to_be_bytes w32 timestamp ++ 0 ∷ exp_time ∷ []
     ++ to_be_bytes w16 cons_ingress ++ to_be_bytes w16 cons_egress ++ 0 ∷ 0 ∷ []
 
 -- the authenticator of a hop under a padded key: the first 6 bytes of the HMAC
-abbrev pub authenticator_under : List ℕ → ℕ → ℕ → ℕ → ℕ → ℕ → List ℕ
+abbrev pub authenticator_under : (block : List ℕ)
+    (beta timestamp exp_time cons_ingress cons_egress : ℕ) → List ℕ
 authenticator_under block beta timestamp exp_time cons_ingress cons_egress =
     take 6 (hmac_under block (input_of beta timestamp exp_time cons_ingress cons_egress))
 
 -- the authenticator of a hop under a key
-abbrev pub authenticator : List ℕ → ℕ → ℕ → ℕ → ℕ → ℕ → List ℕ
+abbrev pub authenticator : (key : List ℕ) (beta timestamp exp_time cons_ingress cons_egress : ℕ)
+    → List ℕ
 authenticator key = authenticator_under (padded key)
 
 -- the accumulator after a hop: the one before it, exclusive or the first two bytes of the hop's

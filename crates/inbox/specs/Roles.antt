@@ -6,13 +6,13 @@ use lib.ListN.{get_elem?}
 use Rattle.inbox.specs.declared.account.Roles.{Roles}
 
 -- the tag of a sender: 0 for the first, 1 for the second, 2 for any other
-abbrev pub tag : Bool → Bool → ℕ
+abbrev pub tag : (first second : Bool) → ℕ
 tag true two = 0
 tag false true = 1
 tag false false = 2
 
 -- whether one of two passes has the role
-abbrev pub has : Bool → Bool → Bool
+abbrev pub has : (one role : Bool) → Bool
 has b true = true
 has b false = b
 

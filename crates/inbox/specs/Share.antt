@@ -3,7 +3,7 @@ use Rattle.std.specs.Prelude.{◌≡◌, ℕ, suc, ◌+◌, ◌*◌, ◌-◌, �
 use Rattle.inbox.specs.declared.account.Share.{Share}
 
 -- `pieces` pieces of a whole that was halved `halvings` times
-abbrev pub share : ℕ → ℕ → Share
+abbrev pub share : (pieces halvings : ℕ) → Share
 share pieces halvings = record { pieces = pieces; halvings = halvings }
 
 -- the share is the whole
@@ -19,5 +19,5 @@ abbrev pub worth : ℕ → Share → ℕ
 worth n s = s.pieces * 2 ^ (n - s.halvings)
 
 -- the sum of two shares
-abbrev pub sum_of : Share → Share → Share
+abbrev pub sum_of : (s t : Share) → Share
 sum_of s t = let n = max s.halvings t.halvings in share (worth n s + worth n t) n

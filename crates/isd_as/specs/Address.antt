@@ -14,7 +14,7 @@ abbrev pub as_number_of : ℕ → ℕ
 as_number_of address = address % 2 ^ 48
 
 -- the address of an AS number in an ISD
-abbrev pub address_of : ℕ → ℕ → ℕ
+abbrev pub address_of : (isd as_number : ℕ) → ℕ
 address_of isd as_number = isd * 2 ^ 48 + as_number
 
 -- the ISD or the AS number of the address is the wildcard 0

@@ -19,7 +19,8 @@ all_digits radix text = list_all (λ b. nat_lt (digit_value b) radix) text
 
 -- the value of a text of digits: BadDigit is checked first, and then whether the value is below the
 -- limit
-unfoldable pub number_at : ℕ → ℕ → AddrFault → List ℕ → Result ℕ AddrFault
+unfoldable pub number_at : (radix limit : ℕ) (too_large : AddrFault) (text : List ℕ)
+    → Result ℕ AddrFault
 number_at radix limit too_large text = if nat_lt 0 (length text) && all_digits radix text
     then (if nat_lt (digits_value radix text) limit then Ok (digits_value radix text)
     else Err too_large) else Err fault.BadDigit

@@ -24,7 +24,7 @@ truth_at name d = do
   as_bool v
 
 -- a member that is a whole number from `low` to `high`
-unfoldable pub whole_at : ℕ → ℕ → List ℕ → Data → Option ℕ
+unfoldable pub whole_at : (low high : ℕ) (name : List ℕ) (d : Data) → Option ℕ
 whole_at low high name d = do
   v ← get name d
   n ← option_and_then as_u64 (as_number v)

@@ -28,7 +28,8 @@ pub record IsDone (history : List EventRecord) (k : ℕ) (event : EventValue) : 
 
 -- each piece is of a segment that was issued by events of the history, from number `begin` on and
 -- before number `sent`
-abbrev pub AreIssuedFrom : NetValue → List EventRecord → ℕ → ℕ → List PieceValue → Type 0
+abbrev pub AreIssuedFrom : (start : NetValue) (history : List EventRecord) (begin sent : ℕ)
+    (pieces : List PieceValue) → Type 0
 AreIssuedFrom start history begin sent pieces =
     All (λ piece. (first last : ℕ) × ((begin ≤ first) × ((last < sent)
     × IssuedIn start history first last piece.segment))) pieces
@@ -65,7 +66,7 @@ pub record Undisturbed (start : NetValue) (history : List EventRecord) (sent p :
   pub in_time : (k : ℕ) → IsDone history k (Turn p) → 2 * (net_at start history k).moment ≤ expiry
 
 -- the number of turns of the packet among the first `k` events, after event number `sent`
-abbrev pub turns_since : List EventRecord → ℕ → ℕ → ℕ → ℕ
+abbrev pub turns_since : (history : List EventRecord) (sent p k : ℕ) → ℕ
 turns_since history sent p k = turns_of p (drop (sent + 1) (take k history))
 
 -- a reply to the delivered packet goes the way back: from its destination to its source, over its

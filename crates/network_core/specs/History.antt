@@ -43,7 +43,7 @@ pub record Occurs (history : List EventRecord) (k : ℕ) (event : EventValue) (r
 
 -- the events of these numbers pass a beacon on, each the beacon that the event before it gave; the
 -- last of them gives the beacon `last`
-abbrev pub PassOn : List EventRecord → ℕ → List ℕ → ℕ → Type 0
+abbrev pub PassOn : (history : List EventRecord) (beacon : ℕ) (later : List ℕ) (last : ℕ) → Type 0
 PassOn history beacon [] last = beacon ≡ last
 PassOn history beacon (k ∷ later) last = (ia egress next : ℕ)
     × Occurs history k (Extend beacon ia egress) (Begun next) × PassOn history next later last

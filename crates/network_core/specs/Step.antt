@@ -61,17 +61,17 @@ abbrev pub beacon_at : NetValue → ℕ → Result Chain EventFault
 beacon_at net beacon = ok_or (slice_get net.beacons beacon) faults.NoBeacon
 
 -- the beacon that an AS begins, with the current second as its timestamp
-abbrev pub begun : NetValue → ℕ → ℕ → ℕ → Result Chain EventFault
+abbrev pub begun : (net : NetValue) (ia out beta0 : ℕ) → Result Chain EventFault
 begun net ia out beta0 = refused_as faults.Beacon (originated net.network ia out net.moment beta0)
 
 -- the beacon after an AS has passed it on
-abbrev pub passed_on : NetValue → ℕ → ℕ → ℕ → Result Chain EventFault
+abbrev pub passed_on : (net : NetValue) (beacon ia egress : ℕ) → Result Chain EventFault
 passed_on net beacon ia egress = do
   old ← beacon_at net beacon
   refused_as faults.Beacon (extended net.network old ia egress)
 
 -- the segment that a beacon becomes if it ends in an AS
-abbrev pub ended : NetValue → ℕ → ℕ → Result Chain EventFault
+abbrev pub ended : (net : NetValue) (beacon ia : ℕ) → Result Chain EventFault
 ended net beacon ia = do
   old ← beacon_at net beacon
   refused_as faults.Beacon (terminated net.network old ia)
@@ -83,13 +83,13 @@ with_segment net segment = do
   Ok (Registered is_new, record net { segments = registered net.segments segment net.moment })
 
 -- Originate and Extend: one more beacon; Terminate: one more segment
-abbrev pub originates : NetValue → ℕ → ℕ → ℕ → Made
+abbrev pub originates : (net : NetValue) (ia egress beta0 : ℕ) → Made
 originates net ia egress beta0 = begun net ia egress beta0 >>= with_beacon net
 
-abbrev pub extends : NetValue → ℕ → ℕ → ℕ → Made
+abbrev pub extends : (net : NetValue) (beacon ia egress : ℕ) → Made
 extends net beacon ia egress = passed_on net beacon ia egress >>= with_beacon net
 
-abbrev pub terminates : NetValue → ℕ → ℕ → Made
+abbrev pub terminates : (net : NetValue) (beacon ia : ℕ) → Made
 terminates net beacon ia = ended net beacon ia >>= with_segment net
 
 -- the network without the stored segments that are not live at the current second
@@ -108,7 +108,8 @@ with_network net changed = do
 
 -- the options of a request for at most `limit` paths: BadLimit, then the refusal of the options'
 -- texts, then SameAs, then TooMany
-abbrev pub options_asked : NetValue → ℕ → ℕ → Result (List WeighedRules) OptionFault → ℕ
+abbrev pub options_asked : (net : NetValue) (src dst : ℕ)
+    (read : Result (List WeighedRules) OptionFault) (limit : ℕ)
     → Result (List WeighedRules) EventFault
 options_asked net src dst read limit = do
   _ ← check (is_limit limit) faults.BadLimit
@@ -142,8 +143,8 @@ pub record GivesAnswer (options : List WeighedRules) (src dst limit : ℕ) (old 
   pub kept : new ≡ record old { answers = old.answers ++ one ∷ [] }
 
 -- the request is answered, or refused without a change
-abbrev pub Asks : Result (List WeighedRules) EventFault → ℕ → ℕ → ℕ → NetValue → Reply → NetValue
-    → Type 0
+abbrev pub Asks : (options : Result (List WeighedRules) EventFault) (src dst limit : ℕ)
+    (old : NetValue) (reply : Reply) (new : NetValue) → Type 0
 Asks (Ok options) src dst limit old reply new = GivesAnswer options src dst limit old reply new
 Asks (Err fault) src dst limit old reply new = (reply ≡ Refused fault) × (new ≡ old)
 
@@ -183,7 +184,7 @@ loses net number = do
   Ok (Done, with_packet net number one (lost one.packet))
 
 -- the network after a byte of a packet was changed by exclusive or: BadOffset
-abbrev pub alters : NetValue → ℕ → ℕ → ℕ → Made
+abbrev pub alters : (net : NetValue) (number at change : ℕ) → Made
 alters net number at change = do
   one ← flying_at net number
   _ ← check (nat_lt at (length one.packet.bytes)) faults.BadOffset
@@ -246,13 +247,14 @@ departs net sent = do
 -- ---- each event
 
 -- an event that is done gives its reply and its network; an event that is refused changes nothing
-abbrev pub Leads : Made → NetValue → Reply → NetValue → Type 0
+abbrev pub Leads : (made : Made) (old : NetValue) (reply : Reply) (new : NetValue) → Type 0
 Leads (Ok made) old reply new = (reply ≡ made.0) × (new ≡ made.1)
 Leads (Err fault) old reply new = (reply ≡ Refused fault) × (new ≡ old)
 
 -- if the verifier accepts the path at the current second, the event is answered as `departs` says;
 -- else it is refused by the verifier's fault
-abbrev pub Sends : Result Shipment EventFault → NetValue → Reply → NetValue → Type 0
+abbrev pub Sends : (shipment : Result Shipment EventFault) (old : NetValue) (reply : Reply)
+    (new : NetValue) → Type 0
 Sends (Ok sent) old reply new =
     (IsAccepted (asked_at old.moment sent.way) × Leads (departs old sent) old reply new)
     ⊎ ((fault : VerifyFault) × (IsRefused (asked_at old.moment sent.way) fault
@@ -260,7 +262,7 @@ Sends (Ok sent) old reply new =
 Sends (Err fault) old reply new = (reply ≡ Refused fault) × (new ≡ old)
 
 -- one event, from the network before it to its reply and the network after it
-abbrev pub Step : NetValue → EventValue → Reply → NetValue → Type 0
+abbrev pub Step : (old : NetValue) (event : EventValue) (reply : Reply) (new : NetValue) → Type 0
 Step old (Tick to) reply new = Leads (ticked old to) old reply new
 Step old (Originate ia egress beta) reply new = Leads (originates old ia egress beta) old reply new
 Step old (Extend beacon ia egress) reply new = Leads (extends old beacon ia egress) old reply new

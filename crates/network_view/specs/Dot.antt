@@ -15,7 +15,7 @@ use Rattle.network_view.specs.Marks.{is_at, was_passed}
 -- ---- ASes
 
 -- the name of a router in the picture: its AS and its number
-unfoldable pub router_name : ℕ → ℕ → List ℕ
+unfoldable pub router_name : (ia router : ℕ) → List ℕ
 router_name ia router = codes "\""
     ++ (canonical ia ++ (codes " " ++ (decimal router ++ codes "\"")))
 
@@ -25,13 +25,13 @@ marked_text true = codes ", style=filled, fillcolor=red]; "
 marked_text false = codes "]; "
 
 -- a router with its number; it is marked if it has the packet
-unfoldable pub router_text : Option Router → ℕ → ℕ → List ℕ
+unfoldable pub router_text : (at : Option Router) (ia router : ℕ) → List ℕ
 router_text at ia router =
     router_name ia router
     ++ (codes " [label=" ++ (decimal router ++ marked_text (is_at at ia router)))
 
 -- the routers of an AS with numbers below this one
-unfoldable pub routers_text : Option Router → ℕ → ℕ → List ℕ
+unfoldable pub routers_text : (at : Option Router) (ia routers : ℕ) → List ℕ
 routers_text at ia zero = []
 routers_text at ia (suc router) = routers_text at ia router ++ router_text at ia router
 

@@ -8,7 +8,7 @@ use Rattle.scion_topology.specs.Network.{is_end}
 use Rattle.network_view.specs.declared.marks.Router.{Router}
 
 -- whether the packet is at this router of this AS
-abbrev pub is_at : Option Router → ℕ → ℕ → Bool
+abbrev pub is_at : (at : Option Router) (ia number : ℕ) → Bool
 is_at None ia number = false
 is_at (Some router) ia number = (router.ia == ia) && (router.number == number)
 

@@ -26,7 +26,8 @@ abbrev pub tested : List ℕ → Bool → Refusal → CheckValue
 tested sides holds refusal = record { sides = sides; verdict = check holds refusal }
 
 -- checks 4 and 5: the hop is live, and its authenticator is right
-unfoldable pub pass_checks : ℕ → ℕ → View → ℕ → InfoField → HopField → List CheckValue
+unfoldable pub pass_checks : (four five : ℕ) (view : View) (now : ℕ) (info : InfoField)
+    (hop : HopField) → List CheckValue
 pass_checks four five view now info hop =
     tested (live_sides four now info hop) (is_hop_live now info hop) refusal.Expired
     ∷ tested (mac_sides five view info hop) (is_mac_right view info hop) refusal.BadMac ∷ []

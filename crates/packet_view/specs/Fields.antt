@@ -13,12 +13,13 @@ use Rattle.router_step.specs.Place.{info_field_at, current_hop}
 use Rattle.router_step.specs.Packet.{destination_of, source_of, header_in}
 
 -- the line of `len` bytes from this place of the packet on, with their meaning
-unfoldable pub field_text : List ℕ → ℕ → ℕ → List ℕ → List ℕ
+unfoldable pub field_text : (packet : List ℕ) (start len : ℕ) (says : List ℕ) → List ℕ
 field_text packet start len says =
     encode_lower (take len (drop start packet)) ++ (codes " " ++ (says ++ codes "\n"))
 
 -- the line of a number in an info or a hop field: `KIND INDEX NAME VALUE`
-unfoldable pub number_text : List ℕ → ℕ → ℕ → List ℕ → ℕ → List ℕ → ℕ → List ℕ
+unfoldable pub number_text : (packet : List ℕ) (start len : ℕ) (kind : List ℕ) (index : ℕ)
+    (name : List ℕ) (value : ℕ) → List ℕ
 number_text packet start len kind index name value =
     field_text packet start len (kind ++ (codes " " ++ (decimal index ++ (codes " " ++ (name
     ++ (codes " " ++ decimal value))))))
@@ -26,7 +27,7 @@ number_text packet start len kind index name value =
 -- ---- addresses and meta field
 
 -- the line of an address, and the lines of both addresses
-unfoldable pub address_text : List ℕ → ℕ → List ℕ → ℕ → List ℕ
+unfoldable pub address_text : (packet : List ℕ) (start : ℕ) (name : List ℕ) (address : ℕ) → List ℕ
 address_text packet start name address =
     field_text packet start 8 (name ++ (codes " " ++ canonical address))
 
@@ -58,7 +59,7 @@ abbrev pub flag_of : InfoField → ℕ
 flag_of info = if info.construction then 1 else 0
 
 -- the lines of the info field of this index, at this place of the packet
-unfoldable pub info_field_text : List ℕ → ℕ → ℕ → InfoField → List ℕ
+unfoldable pub info_field_text : (packet : List ℕ) (start index : ℕ) (info : InfoField) → List ℕ
 info_field_text packet start index info =
     number_text packet start 2 (codes "info") index (codes "construction direction") (flag_of info)
     ++ (number_text packet (start + 2) 2 (codes "info") index (codes "accumulator") info.seg_id
@@ -70,13 +71,14 @@ abbrev pub last_live : ℕ → HopField → ℕ
 last_live timestamp hop = expiry_of timestamp hop.exp_time / 2
 
 -- the line of the authenticator in the hop field of this index
-unfoldable pub mac_text : List ℕ → ℕ → ℕ → List ℕ
+unfoldable pub mac_text : (packet : List ℕ) (start index : ℕ) → List ℕ
 mac_text packet start index =
     field_text packet start 6 (codes "hop " ++ (decimal index ++ codes " authenticator"))
 
 -- the lines of the hop field of this index, at this place of the packet, on a segment with this
 -- timestamp
-unfoldable pub hop_field_text : List ℕ → ℕ → ℕ → ℕ → HopField → List ℕ
+unfoldable pub hop_field_text : (packet : List ℕ) (start index timestamp : ℕ) (hop : HopField)
+    → List ℕ
 hop_field_text packet start index timestamp hop =
     number_text packet start 1 (codes "hop") index (codes "flags") 0
     ++ (number_text packet (start + 1) 1 (codes "hop") index (codes "live up to second")

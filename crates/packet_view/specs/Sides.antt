@@ -70,7 +70,7 @@ way_in_sides view arrival info hop =
     ++ (codes ", this is router " ++ decimal view.router))))))
 
 -- check 4, also in 9: the last second at which the hop is live, and the current second
-unfoldable pub live_sides : ℕ → ℕ → InfoField → HopField → List ℕ
+unfoldable pub live_sides : (number now : ℕ) (info : InfoField) (hop : HopField) → List ℕ
 live_sides number now info hop =
     decimal number ++ (codes " live: expires at " ++ (decimal (last_live info.timestamp hop)
     ++ (codes ", now " ++ decimal now)))

@@ -72,8 +72,8 @@ hop_at bytes = if nat_lt 0 (bit_and (slice_index bytes 0) 3) then Err AlertFlag
     else if nat_lt 0 (slice_index bytes 0) then Err Reserved else Ok (hop_from bytes)
 
 -- this many fields of this width, one after another
-unfoldable pub fields_at : {A : Type 0} → (List ℕ → Result A HeaderFault) → ℕ → ℕ → List ℕ
-    → Result (List A) HeaderFault
+unfoldable pub fields_at : {A : Type 0} → (one : (List ℕ → Result A HeaderFault)) (width count : ℕ)
+    (bytes : List ℕ) → Result (List A) HeaderFault
 fields_at one width zero bytes = Ok []
 fields_at one width (suc n) bytes = do
   x ← one bytes

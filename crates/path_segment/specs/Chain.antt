@@ -17,7 +17,7 @@ pub record Chain : Type 0 where
   pub entries : List Entry
 
 -- the chain of these parts, in that order
-abbrev pub chain_of : SegKind → ℕ → ℕ → List Entry → Chain
+abbrev pub chain_of : (kind : SegKind) (timestamp beta0 : ℕ) (entries : List Entry) → Chain
 chain_of kind timestamp beta0 entries =
     record { kind = kind; timestamp = timestamp; beta0 = beta0; entries = entries }
 
@@ -35,7 +35,7 @@ abbrev pub beta_of : Chain → ℕ → ℕ
 beta_of chain i = beta_over chain.beta0 (take i chain.entries)
 
 -- the entries from place a to place b, both included
-abbrev pub between : ℕ → ℕ → List Entry → List Entry
+abbrev pub between : (a b : ℕ) (entries : List Entry) → List Entry
 between a b entries = drop a (take (b + 1) entries)
 
 -- `least` is the earliest expiry of these entries, in half seconds: one entry expires then, and

@@ -14,21 +14,21 @@ unfoldable pub is_live : ℕ → Chain → Bool
 is_live now chain = list_all (λ entry. is_live_at chain.timestamp entry.exp_time now) chain.entries
 
 -- the kinds are equal
-abbrev pub same_kind : SegKind → SegKind → Bool
+abbrev pub same_kind : (one other : SegKind) → Bool
 same_kind Core Core = true
 same_kind Intra Intra = true
 same_kind one other = false
 
 -- the entries are equal in each part
-abbrev pub same_entry : Entry → Entry → Bool
+abbrev pub same_entry : (a b : Entry) → Bool
 same_entry a b = (a.ia == b.ia) && ((a.cons_ingress == b.cons_ingress)
     && ((a.cons_egress == b.cons_egress) && ((a.exp_time == b.exp_time) && bytes_eq a.mac b.mac)))
 
 -- the lists have equal entries in the same order
-abbrev pub same_entries : List Entry → List Entry → Bool
+abbrev pub same_entries : (one other : List Entry) → Bool
 same_entries = pointwise same_entry
 
 -- the chains are equal in each part
-unfoldable pub is_same : Chain → Chain → Bool
+unfoldable pub is_same : (a b : Chain) → Bool
 is_same a b = same_kind a.kind b.kind
     && ((a.timestamp == b.timestamp) && ((a.beta0 == b.beta0) && same_entries a.entries b.entries))

@@ -13,7 +13,7 @@ kind_number Core = 0
 kind_number Intra = 1
 
 -- the number of the ends of a segment of this kind from its first to its last AS
-unfoldable pub rank_between : SegKind → ℕ → ℕ → ℕ
+unfoldable pub rank_between : (kind : SegKind) (first last : ℕ) → ℕ
 rank_between kind first last = kind_number kind * 2 ^ 128 + (last * 2 ^ 64 + first)
 
 -- the number of a segment's ends

@@ -14,12 +14,12 @@ pub record Selection : Type 0 where
   pub moment : ℕ
 
 -- a live intra segment that ends in this AS
-unfoldable pub is_intra_to : ℕ → ℕ → Chain → Bool
+unfoldable pub is_intra_to : (ia now : ℕ) (segment : Chain) → Bool
 is_intra_to ia now segment = same_kind segment.kind Intra
     && (is_live now segment && (last_as segment == ia))
 
 -- whether the AS is `ia` or one of these segments begins in it
-unfoldable pub is_reached : ℕ → List Chain → ℕ → Bool
+unfoldable pub is_reached : (ia : ℕ) (segments : List Chain) (other : ℕ) → Bool
 is_reached ia segments other = (other == ia) || list_any (λ one. first_as one == other) segments
 
 -- a live core segment with one end on the near side and the other end on the far side, in either
@@ -30,7 +30,7 @@ joins near far now segment = same_kind segment.kind Core
     || (near (last_as segment) && far (first_as segment))))
 
 -- the live segments for a source and a destination, each list in the order of registration
-unfoldable pub segments_for : List Chain → ℕ → ℕ → ℕ → Selection
+unfoldable pub segments_for : (segments : List Chain) (src dst now : ℕ) → Selection
 segments_for segments src dst now =
     let ups = filter (is_intra_to src now) segments in
     let downs = filter (is_intra_to dst now) segments in
@@ -45,7 +45,7 @@ pub record LeadsTo (segments : List Chain) (ia now : ℕ) (segment : Chain) : Ty
   pub last : last_as segment ≡ ia
 
 -- `is_reached` as a type: the AS is `ia`, or one of these segments begins in it
-abbrev pub IsReached : ℕ → List Chain → ℕ → Type 0
+abbrev pub IsReached : (ia : ℕ) (segments : List Chain) (other : ℕ) → Type 0
 IsReached ia segments other = (other ≡ ia) ⊎ Any (λ segment. first_as segment ≡ other) segments
 
 -- `joins` without tests: a live core segment of the list between the near side and the far side, in

@@ -5,5 +5,5 @@ use Rattle.path_segment.specs.Chain.{Chain, first_as, last_as}
 use Rattle.path_segment.specs.Tests.{same_kind}
 
 -- the segments have the same kind, the same first AS and the same last AS
-unfoldable pub is_alike : Chain → Chain → Bool
+unfoldable pub is_alike : (a b : Chain) → Bool
 is_alike a b = same_kind a.kind b.kind && ((first_as a == first_as b) && (last_as a == last_as b))

@@ -20,7 +20,7 @@ abbrev pub IsCore : PieceValue → Type 0
 IsCore piece = kind_of piece ≡ Core
 
 -- a piece of the kind `next` may follow one of the kind `one`
-abbrev pub MayAdjoin : PieceKind → PieceKind → Type 0
+abbrev pub MayAdjoin : (one next : PieceKind) → Type 0
 MayAdjoin Up Core = Unit {0}
 MayAdjoin Up Down = Unit {0}
 MayAdjoin Core Down = Unit {0}
@@ -98,7 +98,8 @@ pub record Request : Type 0 where
   pub moment : ℕ
   pub rules : Rules
 
-abbrev pub request_of : List PieceValue → HeaderValue → ℕ → ℕ → ℕ → Rules → Request
+abbrev pub request_of : (pieces : List PieceValue) (header : HeaderValue) (src dst now : ℕ)
+    (rules : Rules) → Request
 request_of pieces header src dst now rules =
     record { pieces = pieces; header = header; src = src; dst = dst; moment = now; rules = rules }
 

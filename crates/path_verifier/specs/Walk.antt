@@ -37,7 +37,7 @@ met (first ∷ later) hop = left_by hop.egress (first ∷ later)
 
 -- a walk that continues with these hops: the AS in which they meet becomes one hop, with the way in
 -- of the walk and the way out of the first hop
-abbrev pub walk_with : List WalkHop → List WalkHop → List WalkHop
+abbrev pub walk_with : (walk later : List WalkHop) → List WalkHop
 walk_with walk [] = walk
 walk_with walk (hop ∷ later) = met walk hop ++ later
 

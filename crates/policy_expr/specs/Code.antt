@@ -30,7 +30,7 @@ interfaces_back (Both m n) = refl
 abbrev unary : ℕ → Tree → Tree
 unary kind a = if kind == 0 then optional a else if kind == 1 then repeated a else once_or_more a
 
-abbrev binary : ℕ → Tree → Tree → Tree
+abbrev binary : (kind : ℕ) (a b : Tree) → Tree
 binary kind a b = if kind == 0 then followed a b else either a b
 
 abbrev pub tree_code : Tree → Gv

@@ -7,7 +7,7 @@ use Rattle.policy_expr.specs.declared.hop.Interfaces.TheVariants.{Any, Either, B
 use Rattle.policy_expr.specs.declared.hop.WalkHop.{WalkHop}
 
 -- the number is the wanted one, or the wildcard is wanted
-abbrev pub Fits : ℕ → ℕ → Type 0
+abbrev pub Fits : (wanted number : ℕ) → Type 0
 Fits wanted number = (wanted ≡ 0) ⊎ (wanted ≡ number)
 
 -- the hop has these interfaces; a single number may be its way in or its way out

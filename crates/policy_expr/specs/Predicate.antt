@@ -24,7 +24,7 @@ abbrev pub one_interface : ℕ → Interfaces
 one_interface n = if n == 0 then Any else Either n
 
 -- two interfaces; 0 and 0 are the wildcard
-abbrev pub two_interfaces : ℕ → ℕ → Interfaces
+abbrev pub two_interfaces : (ingress egress : ℕ) → Interfaces
 two_interfaces ingress egress = if (ingress == 0) && (egress == 0) then Any else Both ingress egress
 
 -- the text of interfaces: one decimal number of 16 bits, or two with ',' between them

@@ -10,7 +10,7 @@ use Rattle.policy_expr.specs.Language.{Tree, Lang}
 use Rattle.policy_expr.specs.Reading.{node_count}
 
 -- predicate `k` may come right behind predicate `j`
-abbrev pub MayFollow : List Line → ℕ → ℕ → Type 0
+abbrev pub MayFollow : (lines : List Line) (j k : ℕ) → Type 0
 MayFollow lines j k = (line : Line) × (slice_get lines j ≡ Some line) × Has line.next k
 
 -- predicate k matches the hop
@@ -29,7 +29,7 @@ Accepts lines ends [] = ends.has_empty ≡ true
 Accepts lines ends (h ∷ w) = (k : ℕ) × Has ends.first k × MeetsAt lines k h × After lines ends k w
 
 -- predicate `k` is in a new line
-abbrev pub IsNew : List Line → List Line → ℕ → Type 0
+abbrev pub IsNew : (old new : List Line) (k : ℕ) → Type 0
 IsNew old new k = (length old ≤ k) × (k < length new)
 
 -- new lines were added at the end for a tree: twice their number is at most one more than the

@@ -73,7 +73,7 @@ changes_segment header = not (is_last header) && ends_segment header
 
 -- whether a path may come in by a link of one kind and leave by one of another, within one segment
 -- (`false`) and from one segment to the next (`true`)
-abbrev pub are_joined : Bool → LinkKind → LinkKind → Bool
+abbrev pub are_joined : (switched : Bool) (from to : LinkKind) → Bool
 are_joined false Core Core = true
 are_joined false Child Parent = true
 are_joined false Parent Child = true

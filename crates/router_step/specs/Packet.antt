@@ -42,16 +42,16 @@ packet_step view now arrival packet = do
   Ok (stepped.0, take 16 packet ++ (spelling stepped.1 ++ drop (16 + front.1) packet))
 
 -- `packet_step` for a packet given in parts: its addresses, its path header and the rest
-abbrev pub frame_step : View → ℕ → Arrival → List ℕ → List ℕ → HeaderValue → List ℕ
-    → Result (Outcome × List ℕ) Refusal
+abbrev pub frame_step : (view : View) (now : ℕ) (arrival : Arrival) (packet addresses : List ℕ)
+    (header : HeaderValue) (rest : List ℕ) → Result (Outcome × List ℕ) Refusal
 frame_step view now arrival packet addresses header rest = do
   stepped ← step_of view now arrival (source_of packet) (destination_of packet) header
   Ok (stepped.0, addresses ++ (spelling stepped.1 ++ rest))
 
 -- the step succeeds with the outcome and the new packet, or is refused and leaves the packet as it
 -- was
-abbrev pub IsPacketStepped : Result (Outcome × List ℕ) Refusal → List ℕ → List ℕ
-    → Result Outcome Refusal → Type 0
+abbrev pub IsPacketStepped : (step : Result (Outcome × List ℕ) Refusal) (old new : List ℕ)
+    (result : Result Outcome Refusal) → Type 0
 IsPacketStepped step old new (Ok outcome) = step ≡ Ok (outcome, new)
 IsPacketStepped step old new (Err e) = (step ≡ Err e) × (new ≡ old)
 
@@ -69,8 +69,8 @@ HasHeader packet =
 
 -- a step on a packet in these parts: the header's bytes are replaced by those of the new header, of
 -- the same length; after a refusal the packet is as it was
-abbrev pub StepsFrame : Result (Outcome × HeaderValue) Refusal → List ℕ → List ℕ → List ℕ → List ℕ
-    → Result Outcome Refusal → Type 0
+abbrev pub StepsFrame : (step : Result (Outcome × HeaderValue) Refusal)
+    (addresses text rest new : List ℕ) (result : Result Outcome Refusal) → Type 0
 StepsFrame (Ok stepped) addresses text rest new result =
     (result ≡ Ok stepped.0)
     × ((other : List ℕ) × ((length other ≡ length text)

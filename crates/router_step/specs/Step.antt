@@ -31,7 +31,8 @@ admitted view now arrival header = do
   Ok (arrived arrival header)
 
 -- steps 6 and 7: the first refusal, or whether the packet is at the last hop of its path
-unfoldable pub at_path_end : View → Arrival → ℕ → ℕ → HeaderValue → Result Bool Refusal
+unfoldable pub at_path_end : (view : View) (arrival : Arrival) (source destination : ℕ)
+    (header : HeaderValue) → Result Bool Refusal
 at_path_end view arrival source destination header = do
   _ ← check (source_fits view arrival source) refusal.SourceAs  -- 6
   _ ← check (destination_fits view destination (is_last header)) refusal.DestinationAs  -- 7
@@ -55,8 +56,8 @@ left view arrival has_switched info hop = do
     Ok (ToLink (way_out info hop)))
 
 -- steps 2 to 13: the first refusal, or the outcome and the new header
-unfoldable pub step_of : View → ℕ → Arrival → ℕ → ℕ → HeaderValue
-    → Result (Outcome × HeaderValue) Refusal
+unfoldable pub step_of : (view : View) (now : ℕ) (arrival : Arrival) (source destination : ℕ)
+    (header : HeaderValue) → Result (Outcome × HeaderValue) Refusal
 step_of view now arrival source destination header = do
   here ← admitted view now arrival header  -- 2 to 5
   last ← at_path_end view arrival source destination here  -- 6, 7

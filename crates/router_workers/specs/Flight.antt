@@ -27,7 +27,8 @@ pub record SentPacket : Type 0 where
   pub payload : List ℕ
 
 -- what is sent, from its parts
-abbrev pub sent_with : ℕ → ℕ → List PieceValue → HeaderValue → List ℕ → SentPacket
+abbrev pub sent_with : (source destination : ℕ) (pieces : List PieceValue) (header : HeaderValue)
+    (payload : List ℕ) → SentPacket
 sent_with source destination pieces header payload =
     record {
       source = source;

@@ -15,16 +15,16 @@ abbrev pub is_number_of_workers : ℕ → Bool
 is_number_of_workers workers = nat_le 1 workers && nat_le workers 8
 
 -- a packet after this number of turns, all at one second
-abbrev pub repeated : Network → ℕ → Packet → ℕ → Packet
+abbrev pub repeated : (n : Network) (now : ℕ) (packet : Packet) (turns : ℕ) → Packet
 repeated n now packet zero = packet
 repeated n now packet (suc k) = turned_packet n now (repeated n now packet k)
 
 -- the place of a flight's packet after this number of turns of the run
-abbrev pub place_after : ℕ → FlightValue → ℕ → PacketLocation
+abbrev pub place_after : (now : ℕ) (given : FlightValue) (turns : ℕ) → PacketLocation
 place_after now given turns = (repeated given.fabric now given.packet turns).place
 
 -- the packet was at a router before each of these turns
-abbrev pub FliesUntil : ℕ → FlightValue → ℕ → Type 0
+abbrev pub FliesUntil : (now : ℕ) (given : FlightValue) (turns : ℕ) → Type 0
 FliesUntil now given turns = (k : ℕ) → k < turns → IsAtRouter (place_after now given k)
 
 -- a router has refused the packet with this refusal
@@ -34,7 +34,8 @@ RefusedAs refusal place = (ia : ℕ) × ((router : ℕ) × (place ≡ places.Ref
 -- the end that a run may report of one of these flights, at this second and with inboxes of `slots`
 -- places. Delivered or refused: after exactly this number of turns. Dropped: it is still at a
 -- router after this number of turns, and there are more flights than places in an inbox.
-abbrev pub IsFlightEnd : List FlightValue → ℕ → ℕ → FlightValue → End → Type 0
+abbrev pub IsFlightEnd : (flights : List FlightValue) (now slots : ℕ) (given : FlightValue)
+    (end : End) → Type 0
 IsFlightEnd flights now slots given (Delivered turns) =
     (place_after now given turns ≡ places.Delivered) × FliesUntil now given turns
 IsFlightEnd flights now slots given (Refused refusal turns) =

@@ -12,7 +12,7 @@ use Rattle.router_step.specs.Fault as router
 use Rattle.scion_ffi.specs.declared.answer.ScionAnswer.{ScionAnswer}
 
 -- the answer of a code and a number
-abbrev pub answer : ℕ → ℕ → ScionAnswer
+abbrev pub answer : (code number : ℕ) → ScionAnswer
 answer code number = record { code = code; number = number }
 
 -- the answer to a call with a number that has no meaning

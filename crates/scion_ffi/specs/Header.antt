@@ -13,6 +13,6 @@ read_answer (Ok read) = answer 0 read.1
 read_answer (Err fault) = header_answer fault
 
 -- the reversed header has replaced the header; or there is no header, and no byte has changed
-abbrev pub IsTurnedRound : Result (HeaderValue × ℕ) HeaderFault → List ℕ → List ℕ → Type 0
+abbrev pub IsTurnedRound : (read : Result (HeaderValue × ℕ) HeaderFault) (old new : List ℕ) → Type 0
 IsTurnedRound (Ok read) old new = new ≡ spelling (reversed read.0) ++ drop read.1 old
 IsTurnedRound (Err fault) old new = new ≡ old

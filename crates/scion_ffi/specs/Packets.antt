@@ -27,7 +27,7 @@ packets_told router now packets = do
   Ok (map (packet_after view now) packets)
 
 -- each packet has had its step; or there is no such router, and the packets are as they were
-abbrev pub AreStepsAnswered : Result (List ScionPacket) ScionAnswer → List ScionPacket
-    → List ScionPacket → ScionAnswer → Type 0
+abbrev pub AreStepsAnswered : (steps : Result (List ScionPacket) ScionAnswer)
+    (old new : List ScionPacket) (result : ScionAnswer) → Type 0
 AreStepsAnswered (Ok packets) old new result = (result ≡ answer 0 0) × (new ≡ packets)
 AreStepsAnswered (Err refused) old new result = (result ≡ refused) × (new ≡ old)

@@ -43,7 +43,7 @@ abbrev pub previous_told : List ℕ → Option (List ℕ)
 previous_told key = if length key == 0 then None else Some key
 
 -- how a packet came, from its number
-abbrev pub arrival_told : ℕ → ℕ → Option Arrival
+abbrev pub arrival_told : (number interface : ℕ) → Option Arrival
 arrival_told number interface =
     if number == 0 then Some FromHost else if number == 1 then Some Inside
     else if number == 2 then Some (Link interface) else None

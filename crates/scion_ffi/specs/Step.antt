@@ -23,20 +23,22 @@ view_told router = do
       (view_of router.ia router.router router.key.now (previous_told router.previous.now) table)
 
 -- the step of a router with this view, on a packet that came in this way
-abbrev pub step_at : View → ℕ → ℕ → ℕ → List ℕ → Result (Outcome × List ℕ) ScionAnswer
+abbrev pub step_at : (view : View) (now arrival interface : ℕ) (packet : List ℕ)
+    → Result (Outcome × List ℕ) ScionAnswer
 step_at view now arrival interface packet = do
   way ← or_bad_call (arrival_told arrival interface)
   refused_as refusal_answer (packet_step view now way packet)
 
 -- the step of a router of these parts
-abbrev pub step_told : ScionRouter → ℕ → ℕ → ℕ → List ℕ → Result (Outcome × List ℕ) ScionAnswer
+abbrev pub step_told : (router : ScionRouter) (now arrival interface : ℕ) (packet : List ℕ)
+    → Result (Outcome × List ℕ) ScionAnswer
 step_told router now arrival interface packet = do
   view ← view_told router
   step_at view now arrival interface packet
 
 -- the step succeeds, and the answer is the outcome; or the answer is the refusal, and the packet is
 -- as it was
-abbrev pub IsStepAnswered : Result (Outcome × List ℕ) ScionAnswer → List ℕ → List ℕ
-    → ScionAnswer → Type 0
+abbrev pub IsStepAnswered : (step : Result (Outcome × List ℕ) ScionAnswer) (old new : List ℕ)
+    (result : ScionAnswer) → Type 0
 IsStepAnswered (Ok done) old new result = (result ≡ outcome_answer done.0) × (new ≡ done.1)
 IsStepAnswered (Err refused) old new result = (result ≡ refused) × (new ≡ old)

@@ -22,7 +22,7 @@ options_of_request request = do
   Ok options
 
 -- the store after each of these segments was registered, in their order
-abbrev pub stored : ℕ → List Chain → List Chain → List Chain
+abbrev pub stored : (moment : ℕ) (store segments : List Chain) → List Chain
 stored moment store segments =
     fold (λ known segment. registered known segment moment) store segments
 
@@ -49,5 +49,5 @@ AnswersRequest (Ok request) text = AnswersUnder request (options_of_request requ
 AnswersRequest (Err fault) text = text ≡ fault_json fault
 
 -- the text answers the request in these bytes
-abbrev pub AnswersPaths : List ℕ → List ℕ → Type 0
+abbrev pub AnswersPaths : (bytes text : List ℕ) → Type 0
 AnswersPaths bytes text = AnswersRequest (paths_asked_in bytes) text

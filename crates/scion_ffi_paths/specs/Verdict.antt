@@ -21,5 +21,5 @@ AnswersVerdict (Ok request) text = IsJudged request text
 AnswersVerdict (Err fault) text = text ≡ fault_json fault
 
 -- the text answers the request to verify in these bytes
-abbrev pub AnswersVerify : List ℕ → List ℕ → Type 0
+abbrev pub AnswersVerify : (bytes text : List ℕ) → Type 0
 AnswersVerify bytes text = AnswersVerdict (given_in bytes >>= request_at) text

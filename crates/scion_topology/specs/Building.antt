@@ -24,7 +24,8 @@ numbers_twice (entry ∷ rest) = is_named entry.number rest || numbers_twice res
 
 -- the view of a router of an AS, from its key in use, the key before it and its interfaces:
 -- BadField, then DuplicateIf
-unfoldable pub view_of : ℕ → ℕ → List ℕ → Option (List ℕ) → List IfEntry → Result View TopologyFault
+unfoldable pub view_of : (ia router : ℕ) (key : List ℕ) (previous : Option (List ℕ))
+    (table : List IfEntry) → Result View TopologyFault
 view_of ia router key previous table =
     if has_bad_field ia (accepted key previous) table then Err faults.BadField
     else if numbers_twice table then Err faults.DuplicateIf

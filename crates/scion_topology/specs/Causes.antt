@@ -47,7 +47,7 @@ is_core ases ia = option_map_or (λ one. one.core) (as_named ases ia) false
 
 -- the link's class does not allow its ends: a core link joins core ASes, and a child link a parent
 -- to a child in its ISD that is no core AS
-abbrev pub is_ill_classed : List AsEntry → LinkClass → ℕ → ℕ → Bool
+abbrev pub is_ill_classed : (ases : List AsEntry) (class : LinkClass) (a b : ℕ) → Bool
 is_ill_classed ases Core a b = not (is_core ases a) || not (is_core ases b)
 is_ill_classed ases Child parent child =
     not (isd_of parent == isd_of child) || is_core ases child

@@ -26,7 +26,7 @@ pub record ShowsBothEnds (n : Network) (link : Link) : Type 0 where
   pub b : IsShown n link.b link.a (at_b link)
 
 -- the end is at this interface of this AS
-abbrev pub IsAt : End → ℕ → ℕ → Type 0
+abbrev pub IsAt : (end : End) (ia number : ℕ) → Type 0
 IsAt end ia number = (end.ia ≡ ia) × (end.number ≡ number)
 
 -- a link of the network joins these two interfaces

@@ -31,18 +31,19 @@ index_of indexes ia =
     option_map value_of_index (option_and_then (slice_get indexes.list.items) (spot_of indexes ia))
 
 -- the places of the links that end in an AS, counted from `base`
-abbrev pub places_of : ℕ → ℕ → List Link → List ℕ
+abbrev pub places_of : (base ia : ℕ) (links : List Link) → List ℕ
 places_of base ia [] = []
 places_of base ia (link ∷ links) =
     if is_some (interface_of ia link) then base ∷ places_of (base + 1) ia links
     else places_of (base + 1) ia links
 
-abbrev pub index_at : ℕ → ℕ → List Link → IndexValue
+abbrev pub index_at : (position ia : ℕ) (links : List Link) → IndexValue
 index_at position ia links =
     record { position = position; table = table_of ia links; places = places_of 0 ia links }
 
 -- the index of an AS in a list whose places are counted from `base`
-abbrev pub index_from : ℕ → List AsEntry → List Link → ℕ → Option IndexValue
+abbrev pub index_from : (base : ℕ) (ases : List AsEntry) (links : List Link) (ia : ℕ)
+    → Option IndexValue
 index_from base [] links ia = None
 index_from base (one ∷ rest) links ia =
     if one.ia == ia then Some (index_at base ia links) else index_from (base + 1) rest links ia

@@ -27,15 +27,15 @@ abbrev pub as_named : List AsEntry → ℕ → Option AsEntry
 as_named ases ia = find (λ one. one.ia == ia) ases
 
 -- the end is at this interface of this AS
-abbrev pub is_end : End → ℕ → ℕ → Bool
+abbrev pub is_end : (end : End) (ia number : ℕ) → Bool
 is_end end ia number = (end.ia == ia) && (end.number == number)
 
 -- the link has an end at this interface of this AS
-abbrev pub has_end : Link → ℕ → ℕ → Bool
+abbrev pub has_end : (link : Link) (ia number : ℕ) → Bool
 has_end link ia number = is_end link.a ia number || is_end link.b ia number
 
 -- the first link with an end at this interface of this AS
-abbrev pub link_named : List Link → ℕ → ℕ → Option Link
+abbrev pub link_named : (links : List Link) (ia number : ℕ) → Option Link
 link_named links ia number = find (λ link. has_end link ia number) links
 
 -- the kind of a link as seen from the AS at end a, and from the AS at end b

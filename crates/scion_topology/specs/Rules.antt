@@ -24,7 +24,7 @@ pub record IsEnd (end : End) (one : AsEntry) : Type 0 where
 
 -- a core link joins two core ASes; a child link joins a parent and a child of the same ISD, and the
 -- child is no core AS
-abbrev pub Joins : LinkClass → AsEntry → AsEntry → Type 0
+abbrev pub Joins : (class : LinkClass) (one other : AsEntry) → Type 0
 Joins Core one other = (one.core ≡ true) × (other.core ≡ true)
 Joins Child parent child = (isd_of parent.ia ≡ isd_of child.ia) × (child.core ≡ false)
 
@@ -45,7 +45,7 @@ ends_of [] = []
 ends_of (link ∷ links) = link.a ∷ link.b ∷ ends_of links
 
 -- the two ends are different interfaces
-abbrev pub AreTwo : End → End → Type 0
+abbrev pub AreTwo : (one other : End) → Type 0
 AreTwo one other = ¬ ((one.ia ≡ other.ia) × (one.number ≡ other.number))
 
 -- the rules of a network, which hold from its reading on and after each change: 1 to 1,024 ASes and

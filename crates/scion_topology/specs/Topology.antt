@@ -45,7 +45,7 @@ abbrev pub known : Network → ℕ → Result AsEntry TopologyFault
 known n ia = ok_or (as_named n.ases ia) faults.UnknownAs
 
 -- the link at this interface of this AS: UnknownAs, then NoLink
-abbrev pub known_link : Network → ℕ → ℕ → Result Link TopologyFault
+abbrev pub known_link : (n : Network) (ia number : ℕ) → Result Link TopologyFault
 known_link n ia number = known n ia >>= λ _. ok_or (link_named n.links ia number) faults.NoLink
 
 -- the place of an AS in the list, and its values there
@@ -60,31 +60,31 @@ info_in n ia = do
   })
 
 -- the interface of this number of an AS: UnknownAs, then NoLink
-abbrev pub interface_at : Network → ℕ → ℕ → Result IfEntry TopologyFault
+abbrev pub interface_at : (n : Network) (ia number : ℕ) → Result IfEntry TopologyFault
 interface_at n ia number =
     known n ia >>= λ _. ok_or (interface_in (table_of ia n.links) number) faults.NoLink
 
 -- the end of a link at this interface, and its other end
-abbrev pub near_end : Link → ℕ → ℕ → End
+abbrev pub near_end : (link : Link) (ia number : ℕ) → End
 near_end link ia number = if is_end link.a ia number then link.a else link.b
 
-abbrev pub far_end : Link → ℕ → ℕ → End
+abbrev pub far_end : (link : Link) (ia number : ℕ) → End
 far_end link ia number = if is_end link.a ia number then link.b else link.a
 
 -- the AS and the interface at the far end of the link
-unfoldable pub far_end_in : Network → ℕ → ℕ → Result (ℕ × ℕ) TopologyFault
+unfoldable pub far_end_in : (n : Network) (ia number : ℕ) → Result (ℕ × ℕ) TopologyFault
 far_end_in n ia number = do
   link ← known_link n ia number
   Ok ((far_end link ia number).ia, (far_end link ia number).number)
 
 -- the router that owns an interface
-unfoldable pub owner_in : Network → ℕ → ℕ → Result ℕ TopologyFault
+unfoldable pub owner_in : (n : Network) (ia number : ℕ) → Result ℕ TopologyFault
 owner_in n ia number = do
   link ← known_link n ia number
   Ok (near_end link ia number).router
 
 -- the view of a router: UnknownAs, then NoRouter
-unfoldable pub view_in : Network → ℕ → ℕ → Result View TopologyFault
+unfoldable pub view_in : (n : Network) (ia router : ℕ) → Result View TopologyFault
 view_in n ia router = do
   one ← known n ia
   if nat_lt router one.routers
@@ -94,7 +94,7 @@ view_in n ia router = do
 -- ---- changing
 
 -- the links with the link at this interface up or down
-abbrev pub with_up : Bool → ℕ → ℕ → List Link → List Link
+abbrev pub with_up : (up : Bool) (ia number : ℕ) (links : List Link) → List Link
 with_up up ia number [] = []
 with_up up ia number (link ∷ links) = if has_end link ia number then record link { up = up } ∷ links
     else link ∷ with_up up ia number links
@@ -107,7 +107,7 @@ with_key ia key (one ∷ rest) =
     else one ∷ with_key ia key rest
 
 -- the network with the link at this interface up or down
-unfoldable pub set_up : Bool → ℕ → ℕ → Network → Result Network TopologyFault
+unfoldable pub set_up : (up : Bool) (ia number : ℕ) (n : Network) → Result Network TopologyFault
 set_up up ia number n = do
   link ← known_link n ia number
   Ok (record n { links = with_up up ia number n.links })
@@ -120,7 +120,7 @@ rotated ia key n = do
   Ok (record n { ases = with_key ia new n.ases })
 
 -- a change is done and gives the new network, or is refused and leaves the network as it was
-abbrev pub Becomes : Result Network TopologyFault → Network → Network
-    → Result (Unit {0}) TopologyFault → Type 0
+abbrev pub Becomes : (change : Result Network TopologyFault) (old new : Network)
+    (result : Result (Unit {0}) TopologyFault) → Type 0
 Becomes change old new (Ok x) = change ≡ Ok new
 Becomes change old new (Err e) = (change ≡ Err e) × (new ≡ old)

@@ -28,12 +28,14 @@ abbrev pub entry_of : View → ℕ → Option IfEntry
 entry_of view number = interface_in view.table number
 
 -- the bytes are the authenticator of a hop with these values under one of the accepted keys
-abbrev pub IsAuthentic : View → List ℕ → ℕ → ℕ → ℕ → ℕ → ℕ → Type 0
+abbrev pub IsAuthentic : (view : View) (mac : List ℕ)
+    (beta timestamp exp_time cons_ingress cons_egress : ℕ) → Type 0
 IsAuthentic view mac beta timestamp exp_time cons_ingress cons_egress =
     Any (λ key. mac ≡ authenticator key beta timestamp exp_time cons_ingress cons_egress) view.keys
 
 -- `IsAuthentic` as a Boolean
-abbrev pub is_authentic : View → List ℕ → ℕ → ℕ → ℕ → ℕ → ℕ → Bool
+abbrev pub is_authentic : (view : View) (mac : List ℕ)
+    (beta timestamp exp_time cons_ingress cons_egress : ℕ) → Bool
 is_authentic view mac beta timestamp exp_time cons_ingress cons_egress =
     list_any (λ key.
     bytes_eq mac (authenticator key beta timestamp exp_time cons_ingress cons_egress)) view.keys

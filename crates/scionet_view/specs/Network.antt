@@ -23,7 +23,7 @@ fault_line fault =
     ++ codes "\n")))
 
 -- the path of this number in the answer of this number
-abbrev pub path_at : NetValue → ℕ → ℕ → Option PathValue
+abbrev pub path_at : (net : NetValue) (answer path : ℕ) → Option PathValue
 path_at net answer path = do
   kept ← slice_get net.answers answer
   slice_get kept.answer.paths path

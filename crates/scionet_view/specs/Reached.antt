@@ -9,8 +9,8 @@ use Rattle.event_lines.specs.Run.{Listens}
 
 -- the text is the one wanted about the network after the lines of the source, whose contents before
 -- and after are these; or the lines gave no network; or memory ran out
-abbrev pub Shows : {A : Type 0} → (NetValue → List ℕ → Type 0) → Result (String A) RunFault
-    → Option (List ℕ) → Option (List ℕ) → Type 0
+abbrev pub Shows : {A : Type 0} → (tells : (NetValue → List ℕ → Type 0))
+    (result : Result (String A) RunFault) (before after : Option (List ℕ)) → Type 0
 Shows tells (Ok text) before after = (net : NetValue)
     × (Listens All (Ok net) before after None None × tells net (string_bytes text))
 Shows tells (Err fault) before after =

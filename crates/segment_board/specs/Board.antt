@@ -30,6 +30,6 @@ pub record Written : Type 0 where
 
 -- the error of a lookup: the reader could not enter, and has seen nothing more; or memory ran out,
 -- about which nothing is claimed
-abbrev pub GivesNothing : OrMemory BoardFault → Informed → Informed → Type 0
+abbrev pub GivesNothing : (fault : OrMemory BoardFault) (before after : Informed) → Type 0
 GivesNothing Memory before after = Unit {0}
 GivesNothing (Refused fault) before after = (fault ≡ NoEntry) × (after ≡ before)

@@ -17,7 +17,7 @@ abbrev pub is_decimal : List ℕ → Bool
 is_decimal text = nat_lt 0 (length text) && all_digits 10 text
 
 -- a number from `low` to `high`, in decimal digits
-unfoldable pub bounded_number_at : ℕ → ℕ → List ℕ → Option ℕ
+unfoldable pub bounded_number_at : (low high : ℕ) (text : List ℕ) → Option ℕ
 bounded_number_at low high text =
     if is_decimal text && (nat_le low (digits_value 10 text) && nat_le (digits_value 10 text) high)
     then Some (digits_value 10 text) else None

@@ -17,7 +17,7 @@ abbrev pub refusal_line : Refusal → List ℕ
 refusal_line refusal = codes "refused " ++ refusal_text refusal
 
 -- a word, a number, and the packet's bytes: `WORD N HEX`
-abbrev pub numbered_bytes : List ℕ → ℕ → List ℕ → List ℕ
+abbrev pub numbered_bytes : (word : List ℕ) (number : ℕ) (packet : List ℕ) → List ℕ
 numbered_bytes word number packet =
     word ++ (codes " " ++ (decimal number ++ (codes " " ++ encode_lower packet)))
 

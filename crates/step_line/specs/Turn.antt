@@ -25,8 +25,8 @@ pub record Turn : Type 0 where
   pub arrival : Arrival
 
 -- the turn of these parts, if they are a view
-unfoldable pub turn_with : ℕ → ℕ → List ℕ → Option (List ℕ) → ℕ → Arrival → List IfEntry
-    → Option Turn
+unfoldable pub turn_with : (ia router : ℕ) (key : List ℕ) (previous : Option (List ℕ)) (moment : ℕ)
+    (arrival : Arrival) (table : List IfEntry) → Option Turn
 turn_with ia router key previous moment arrival table = do
   view ← only (view_of ia router key previous table)
   Some (record { view = view; moment = moment; arrival = arrival })
@@ -55,6 +55,7 @@ abbrev pub items_of : {A : Type 0} → Option (Vec ℕ A) → Option (List ℕ)
 items_of key = option_map (λ v. v.items) key
 
 -- the view of these parts
-abbrev pub parts_seen : ℕ → ℕ → List ℕ → Option (List ℕ) → List IfEntry → View
+abbrev pub parts_seen : (ia router : ℕ) (key : List ℕ) (previous : Option (List ℕ))
+    (table : List IfEntry) → View
 parts_seen ia router key previous table =
     record { ia = ia; router = router; keys = accepted key previous; table = table }

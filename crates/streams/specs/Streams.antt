@@ -14,7 +14,7 @@ is_failed_write (Ok n) bytes = (n == 0) && nat_lt 0 (length bytes)
 is_failed_write (Err error) bytes = true
 
 -- a beginning of the bytes was written: all of them, some or none
-abbrev pub AppendsFront : Option (List ℕ) → Option (List ℕ) → List ℕ → Type 0
+abbrev pub AppendsFront : (old new : Option (List ℕ)) (bytes : List ℕ) → Type 0
 AppendsFront old new bytes = (n : ℕ) × Appends old new (take n bytes)
 
 -- whether a read failed
@@ -23,13 +23,13 @@ is_failed_read (Err Read) = true
 is_failed_read result = false
 
 -- some bytes were consumed, and their number fulfils this
-abbrev pub ConsumesSome : Option (List ℕ) → Option (List ℕ) → (ℕ → Type 0) → Type 0
+abbrev pub ConsumesSome : (old new : Option (List ℕ)) (fits : (ℕ → Type 0)) → Type 0
 ConsumesSome old new fits = (bytes : List ℕ) × (Consumes old new bytes × fits (length bytes))
 
 -- all bytes up to the end were read, at most `most`; or, if there were too many, one more than that
 -- was consumed; or, after another fault, at most `most`
-abbrev pub ReadsAll : {A : Type 0} → (A → List ℕ) → ℕ → Result A InputFault
-    → Option (List ℕ) → Option (List ℕ) → Type 0
+abbrev pub ReadsAll : {A : Type 0} → (items : (A → List ℕ)) (most : ℕ)
+    (result : Result A InputFault) (old new : Option (List ℕ)) → Type 0
 ReadsAll items most (Ok bytes) old new =
     (Consumes old new (items bytes) × IsAtEnd new) × (length (items bytes) ≤ most)
 ReadsAll items most (Err TooLong) old new = ConsumesSome old new (λ n. n ≡ most + 1)

@@ -14,16 +14,15 @@ use Rattle.work_lines.specs.declared.fault.WorkFault.TheVariants as faults
 use Rattle.work_lines.specs.Report.{Reports}
 
 -- the lines prepared this network, and after their replies the sink held these bytes
-abbrev pub Prepares : NetValue → Option (List ℕ) → Option (List ℕ) → Option (List ℕ)
-    → Option (List ℕ) → Type 0
+abbrev pub Prepares : (net : NetValue) (before after held holds : Option (List ℕ)) → Type 0
 Prepares net before after held holds = Listens Preparing (Ok net) before after held holds
 
 -- a run with workers. The first two contents are what the source still had before and after it; the
 -- last two are what the sink held before and after it. If the lines prepared a network: its flights
 -- were reported; or the number of workers is not allowed; or it is, and memory ran out or a
 -- beginning of the report was written. Else the lines were not answered to their end.
-abbrev pub Works : Result (Unit {0}) WorkFault → ℕ → ℕ → Option (List ℕ) → Option (List ℕ)
-    → Option (List ℕ) → Option (List ℕ) → Type 0
+abbrev pub Works : (result : Result (Unit {0}) WorkFault) (workers slots : ℕ)
+    (before after held holds : Option (List ℕ)) → Type 0
 Works (Ok done) workers slots before after held holds =
     (net : NetValue) × (replied : Option (List ℕ)) × (report : List ℕ)
     × (Prepares net before after held replied

@@ -18,7 +18,8 @@ pub record IsUsedBefore (set : Selection) (src dst : ℕ) (options : List Weighe
       → GoesBefore j other used option → HasNone (question_under set src dst other)
 
 -- no option before a place leaves a path; and the choice among these options
-abbrev pub LeaveNone : Selection → ℕ → ℕ → List WeighedRules → ℕ → Type 0
+abbrev pub LeaveNone : (set : Selection) (src dst : ℕ) (options : List WeighedRules) (place : ℕ)
+    → Type 0
 LeaveNone set src dst options place = (j : ℕ) (other : WeighedRules) → j < place
     → slice_get options j ≡ Some other → HasNone (question_under set src dst other)
 

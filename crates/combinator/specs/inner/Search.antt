@@ -36,7 +36,7 @@ IsMetBy question limit paths pieces = (header : HeaderValue)
     → IsBest question (path_with pieces header) → Met path_cmp limit paths (path_with pieces header)
 
 -- whatever the old paths met, the new ones do
-abbrev pub StillMeet : ℕ → List PathValue → List PathValue → Type 0
+abbrev pub StillMeet : (limit : ℕ) (old new : List PathValue) → Type 0
 StillMeet limit old new = (path : PathValue) → Met path_cmp limit old path
     → Met path_cmp limit new path
 
@@ -59,7 +59,8 @@ ComesBefore path front further = (later : List PieceValue) → All HasRange (fro
 
 -- there are `limit` paths, and each of them comes before each path that begins with these pieces and
 -- has at least so many more
-unfoldable pub AreBefore : ℕ → List PathValue → List PieceValue → ℕ → Type 0
+unfoldable pub AreBefore : (limit : ℕ) (paths : List PathValue) (front : List PieceValue)
+    (further : ℕ) → Type 0
 AreBefore limit paths front further = (length paths ≡ limit)
     × AllByRecursion (λ path. ComesBefore path front further) paths
 

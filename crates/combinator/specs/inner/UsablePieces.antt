@@ -4,7 +4,7 @@ use Rattle.path_segment.specs.declared.kind.SegKind.TheVariants as kinds
 use Rattle.path_segment.specs.Chain.{Chain}
 use Rattle.path_verifier.specs.Piece.{PieceValue, HasRange, begins_in, ends_in}
 
-abbrev pub piece_of : Chain → ℕ → ℕ → Bool → PieceValue
+abbrev pub piece_of : (segment : Chain) (from to : ℕ) (along : Bool) → PieceValue
 piece_of segment from to along = record { segment = segment; from = from; to = to; along = along }
 
 -- the end of a piece that is farther from the first AS of its segment
@@ -28,5 +28,5 @@ pub record IsWhole (segments : List Chain) (piece : PieceValue) : Type 0 where
   pub last : piece.to + 1 ≡ length piece.segment.entries
 
 -- every piece of the first list is in the second
-abbrev pub AreIn : List PieceValue → List PieceValue → Type 0
+abbrev pub AreIn : (pieces others : List PieceValue) → Type 0
 AreIn pieces others = (piece : PieceValue) → Contains pieces piece → Contains others piece

@@ -13,7 +13,7 @@ abbrev pub ends_number : Ends → ℕ
 ends_number ends = kind_number ends.kind * 2 ^ 128 + ends.ases
 
 -- the ends of the segment at a place have a number from `low` to `high`, both included
-abbrev pub lies_between : List Chain → ℕ → ℕ → ℕ → Bool
+abbrev pub lies_between : (segments : List Chain) (low high place : ℕ) → Bool
 lies_between segments low high place =
     nat_le low (rank_at segments place) && nat_le (rank_at segments place) high
 
@@ -26,12 +26,12 @@ abbrev pub passes_at : (Chain → Bool) → List Chain → ℕ → Bool
 passes_at test segments place = option_map_or test (slice_get segments place) false
 
 -- the places in an index of the live segments whose ends have numbers from `low` to `high`
-abbrev pub live_places : List Chain → List ℕ → ℕ → ℕ → ℕ → List ℕ
+abbrev pub live_places : (segments : List Chain) (index : List ℕ) (now low high : ℕ) → List ℕ
 live_places segments index now low high =
     filter (passes_at (is_live now) segments) (filter (lies_between segments low high) index)
 
 -- the places in an index of the live core segments that end in one AS and begin in another
-abbrev pub core_places : List Chain → List ℕ → ℕ → ℕ → ℕ → List ℕ
+abbrev pub core_places : (segments : List Chain) (index : List ℕ) (now last first : ℕ) → List ℕ
 core_places segments index now last first =
     let ends = rank_between Core first last in live_places segments index now ends ends
 

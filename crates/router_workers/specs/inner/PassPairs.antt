@@ -20,7 +20,7 @@ ArePassPairs inboxes pairs =
 
 -- the inboxes of a run: one for each of its workers, of which there is at least one, and each with
 -- this number of places
-abbrev pub AreInboxes : ℕ → ℕ → List Opened → Type 0
+abbrev pub AreInboxes : (workers slots : ℕ) (inboxes : List Opened) → Type 0
 AreInboxes workers slots inboxes =
     (0 < workers) × (length inboxes ≡ workers) × All (λ inbox. inbox.slots ≡ slots) inboxes
 
@@ -36,7 +36,7 @@ IsNext n workers (places.AtRouter stop) next =
 IsNext n workers place next = Unit {0}
 
 -- the packet of this flight is at a router, whose worker is this one
-abbrev pub IsPosted : Network → ℕ → ℕ → FlightValue → Type 0
+abbrev pub IsPosted : (n : Network) (workers worker : ℕ) (flight : FlightValue) → Type 0
 IsPosted n workers worker flight =
     (worker < workers) × IsAtRouter flight.packet.place × IsNext n workers flight.packet.place worker
 

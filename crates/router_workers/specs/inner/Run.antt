@@ -5,7 +5,7 @@ use Rattle.router_workers.specs.declared.end.End.{End}
 use Rattle.router_workers.specs.Run.{repeated, FliesUntil, IsFlightEnd}
 
 -- the end of the flight of this number
-abbrev pub IsEndOfFlight : List FlightValue → ℕ → ℕ → ℕ → End → Type 0
+abbrev pub IsEndOfFlight : (flights : List FlightValue) (now slots number : ℕ) (end : End) → Type 0
 IsEndOfFlight flights now slots number end = (given : FlightValue)
     × ((slice_get flights number ≡ Some given) × IsFlightEnd flights now slots given end)
 
@@ -20,6 +20,6 @@ pub record IsCarried (flights : List FlightValue) (now number turns : ℕ) (carr
   pub flew : FliesUntil now given turns
 
 -- the ends are those of the first flights
-abbrev pub AreEnds : List FlightValue → ℕ → ℕ → List End → Type 0
+abbrev pub AreEnds : (flights : List FlightValue) (now slots : ℕ) (ends : List End) → Type 0
 AreEnds flights now slots ends =
     (i : ℕ) (end : End) → slice_get ends i ≡ Some end → IsEndOfFlight flights now slots i end

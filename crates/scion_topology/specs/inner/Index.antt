@@ -31,7 +31,7 @@ index_in n ia = do
   Ok (one, index_at (position_or_len (λ other. other.ia == ia) n.ases) ia n.links)
 
 -- the place of the link at this interface of this AS
-abbrev pub place_in : Network → ℕ → ℕ → Result ℕ TopologyFault
+abbrev pub place_in : (n : Network) (ia number : ℕ) → Result ℕ TopologyFault
 place_in n ia number =
     known n ia >>= λ _. ok_or (position (λ link. has_end link ia number) n.links) faults.NoLink
 
@@ -49,7 +49,7 @@ abbrev pub added_where : Bool → IfEntry → ℕ → Option IndexValue → Opti
 added_where here entry place index = if here then option_map (added entry place) index else index
 
 -- the index of an AS with these links added, whose places begin at `base`
-abbrev pub with_links : ℕ → ℕ → List Link → IndexValue → IndexValue
+abbrev pub with_links : (base ia : ℕ) (links : List Link) (index : IndexValue) → IndexValue
 with_links base ia links index =
     record {
       position = index.position;
@@ -57,7 +57,7 @@ with_links base ia links index =
       places = index.places ++ places_of base ia links;
     }
 
-abbrev pub with_link : ℕ → ℕ → Link → IndexValue → IndexValue
+abbrev pub with_link : (place ia : ℕ) (link : Link) (index : IndexValue) → IndexValue
 with_link place ia link index = with_links place ia (link ∷ []) index
 
 -- the index with the link of this interface up or down
@@ -65,7 +65,8 @@ abbrev pub marked : ℕ → Bool → IndexValue → IndexValue
 marked number up index = record index { table = marked_table number up index.table }
 
 -- `marked` if this is the interface's AS, and else the index as it was
-abbrev pub marked_where : Bool → ℕ → Bool → Option IndexValue → Option IndexValue
+abbrev pub marked_where : (here : Bool) (number : ℕ) (up : Bool) (index : Option IndexValue)
+    → Option IndexValue
 marked_where here number up index = if here then option_map (marked number up) index else index
 
 -- the links with the link at this place up or down; places are counted from `base`

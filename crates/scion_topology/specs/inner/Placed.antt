@@ -9,7 +9,8 @@ pub record AreOwn (list : List AsIndex) (place : ℕ → Option ℕ) : Type 0 wh
       → option_map (λ index. index.ia) (slice_get list k) ≡ Some x
 
 -- only the index at this place has changed; it is still of the same AS
-abbrev pub IsChanged : (AsIndex → AsIndex → Type 0) → ℕ → List AsIndex → List AsIndex → Type 0
+abbrev pub IsChanged : (change : (AsIndex → AsIndex → Type 0)) (at : ℕ) (old new : List AsIndex)
+    → Type 0
 IsChanged change at old new = (index : AsIndex) → slice_get old at ≡ Some index
     → (after : AsIndex) × (new ≡ slice_set old at after) × (after.ia ≡ index.ia)
     × change index after

@@ -6,7 +6,7 @@ use Rattle.segment_board.specs.declared.edition.Edition.{Edition}
 use Rattle.segment_board.specs.History.{KnownHistory, newest}
 
 -- the second edition equals the first, or is a later one that begins with its operations
-abbrev pub Follows : Edition → Edition → Type 0
+abbrev pub Follows : (e later : Edition) → Type 0
 Follows e later =
     (later ≡ e) ⊎ ((e.number < later.number) × IsPrefix e.operations later.operations)
 
@@ -36,5 +36,5 @@ abbrev pub head_of : Book → Named
 head_of b = record { tracked = true; key = 0; book = b }
 
 -- the edition was added to the history if all of it had been seen; else nothing was added
-abbrev pub Added : Step Edition → View Edition ℕ → ℕ → View Edition ℕ → Type 0
+abbrev pub Added : (s : Step Edition) (v : View Edition ℕ) (found : ℕ) (w : View Edition ℕ) → Type 0
 Added s v found w = MatchBool (found == s.old) (w.0 ≡ v.0 ++ s.ask ∷ []) (Unit {0})
