@@ -129,23 +129,25 @@ fn one_change(rt: HostRuntime) -> Result<(), Fail> {
 }
 
 /// The hop by which a policy denies the worked path.
-fn denied(alloc: Global, acl: &[&str]) -> Result<Option<Denied>, Fail> {
+fn denied(alloc: Global, policy: &Policy<Global>) -> Result<Option<Denied>, Fail> {
     let segment = worked_segment(alloc)?;
     let header = worked_header([0xb3, 0x96])?;
     let mut pieces = Pieces::new();
     pieces.push(piece(&segment, 0, 1, false))?;
-    let policy = policy(alloc, acl, "")?;
-    match verify(&pieces, &header, at(1, 0x111), at(1, 0x110), 100, &policy) {
+    match verify(&pieces, &header, at(1, 0x111), at(1, 0x110), 100, policy) {
         Err(VerifyFault::AclDenied(denied)) => Ok(Some(denied)),
         _ => Ok(None),
     }
 }
 
-/// The first denied hop is reported, with the entry that denies it.
+/// The first denied hop is reported, with the entry that denies it, also by a copy of the policy.
 #[test]
-fn denied_hop(rt: HostRuntime) -> Result<(), Fail> {
-    let denied = denied(rt.alloc(), &["- 1-ff00:0:110", "+"])?;
-    assert_eq!(rt; denied, Some(Denied { hop: 1, entry: 0 }));
+fn the_first_denied_hop_is_reported(rt: HostRuntime) -> Result<(), Fail> {
+    let alloc = rt.alloc();
+    let policy = policy(alloc, &["- 1-ff00:0:110", "+"], "")?;
+    let first = Some(Denied { hop: 1, entry: 0 });
+    assert_eq!(rt; denied(alloc, &policy)?, first);
+    assert_eq!(rt; denied(alloc, &policy.clone_in(alloc)?)?, first);
     Ok(())
 }
 
@@ -154,15 +156,18 @@ fn is_kind(pieces: &Pieces<'_>, place: usize, kind: PieceKind) -> bool {
     pieces.get(place).is_some_and(|piece| piece.kind() == kind)
 }
 
-/// A fourth piece is refused.
+/// A fourth piece is refused, by the code 70.
 #[test]
-fn three_pieces(rt: HostRuntime) -> Result<(), Fail> {
+fn a_fourth_piece_is_refused(rt: HostRuntime) -> Result<(), Fail> {
     let segment = worked_segment(rt.alloc())?;
     let segment = &segment;
     let mut pieces = Pieces::new();
     for count in 0..4 {
-        let answer = pieces.push(piece(segment, 0, 1, count == 0));
-        assert_eq!(rt; answer.is_ok(), count < 3);
+        let code = match pieces.push(piece(segment, 0, 1, count == 0)) {
+            Ok(()) => 0,
+            Err(fault) => fault.code(),
+        };
+        assert_eq!(rt; code, if count < 3 { 0 } else { 70 });
     }
     assert_eq!(rt; pieces.len(), 3);
     assert!(rt; is_kind(&pieces, 0, PieceKind::Down));
@@ -218,7 +223,7 @@ impl Way {
 }
 
 /// Asserts the code of the refusal of a path with these parts and this header between these ASes at
-/// second 1000, or 0 if it is accepted.
+/// second 1000, or 0 if it is accepted, under the policy that allows all paths and under its copy.
 fn expect_code(
     rt: &impl Abort,
     alloc: Global,
@@ -229,10 +234,11 @@ fn expect_code(
 ) -> Result<(), Fail> {
     let pieces = pieces_of(parts)?;
     let policy = policy(alloc, &[], "")?;
-    assert_eq!(rt;
-        code_of(&pieces, header, ends.0, ends.1, 1000, &policy),
-        code
-    );
+    let copy = policy.clone_in(alloc)?;
+    for policy in [&policy, &copy] {
+        let given = code_of(&pieces, header, ends.0, ends.1, 1000, policy);
+        assert_eq!(rt; given, code);
+    }
     Ok(())
 }
 
