@@ -184,7 +184,7 @@ def main():
         got = [(path["header"], path["walk"], path["expiry"]) for path in given["paths"]]
         wanted = answer(segments, src, dst, limit)
         paths += len(wanted)
-        if got != wanted:
+        if got != wanted or ("option" in given) != bool(wanted):
             wrong += 1
             print(f"answers: request {number} of seed {seed}: {src} {dst} {limit}: "
                   f"{got} in place of {wanted}")

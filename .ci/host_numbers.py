@@ -117,13 +117,22 @@ VERSIONS = {
 }
 
 
-def is_one_version():
-    """Whether all files have the same version."""
-    texts = {path: Path(path).read_text() for path in VERSIONS}
-    found = {path: re.findall(VERSIONS[path], texts[path], re.M) for path in texts}
-    if len({tuple(it) for it in found.values()}) == 1 and len(found["include/scion.h"]) == 1:
-        return True
-    print(f"numbers: versions differ: {found}")
+# Where the largest number of bytes in a request stands, beside the definition that clauses cite.
+MOST = {
+    "crates/scion_ffi_paths/specs/Asked.antt": r"^most_request = (\d+)$",
+    "include/scion.h": r"^#define SCION_MAX_REQUEST (\d+)$",
+    "bindings/python/scion/__init__.py": r"^MAX_REQUEST = (\d+)$",
+    "bindings/rust/src/paths.rs": r"^pub const MAX_REQUEST_LEN: usize = ([\d_]+);$",
+}
+
+
+def is_one(what, places):
+    """Whether these patterns find the same text once in each of these files."""
+    found = {path: re.findall(it, Path(path).read_text(), re.M) for path, it in places.items()}
+    if len({tuple(text.replace("_", "") for text in it) for it in found.values()}) == 1:
+        if all(len(it) == 1 for it in found.values()):
+            return True
+    print(f"numbers: {what} differ: {found}")
     return False
 
 
@@ -145,7 +154,8 @@ def check():
                 wrong += 1
                 print(f"numbers: {what}: {name} is {given.get(name)}, not {wanted.get(name)}")
     print(f"numbers: {sum(len(given) for _, given, _ in pairs)} compared, {wrong} wrong")
-    return is_one_version() and not wrong
+    is_same = is_one("versions", VERSIONS)
+    return is_one("lengths of requests", MOST) and is_same and not wrong
 
 
 if __name__ == "__main__":

@@ -1,4 +1,5 @@
 #!/usr/bin/env python3
+# SPDX-License-Identifier: Apache-2.0
 """Builds the libraries for hosts, and what is linked with them.
 
     bindings/build.py                 proves and builds the router's static library, puts it into

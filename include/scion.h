@@ -1,3 +1,4 @@
+/* SPDX-License-Identifier: Apache-2.0 */
 /* A router, path headers and authenticators of SCION: each call does what a proved contract says.
  *
  * Link libscion_ffi.a, which needs memcpy, memmove and memset and nothing else. Its calls take no
@@ -143,6 +144,9 @@ typedef struct {
     uint16_t status;
     size_t len;
 } scion_text;
+
+/* The largest number of bytes in a request. */
+#define SCION_MAX_REQUEST 4194304
 
 /* Answers a request for paths, a JSON object, with another object, which it writes to the room. The
  * room stays as it was if the status is not SCION_WRITTEN. docs/library.md has both forms. */

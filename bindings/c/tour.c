@@ -1,3 +1,4 @@
+/* SPDX-License-Identifier: Apache-2.0 */
 /* The turns of README.md by hand, and packets that were cut or changed on their way.
  *
  * What is expected is said by the rules of a router, never by what the library answered. The status

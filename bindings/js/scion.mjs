@@ -1,3 +1,4 @@
+// SPDX-License-Identifier: Apache-2.0
 // The proved router for JavaScript, over WebAssembly with 64-bit addresses.
 //
 //   import { readFile } from "node:fs/promises";

@@ -1,14 +1,16 @@
 #!/usr/bin/env python3
+# SPDX-License-Identifier: Apache-2.0
 """The turns of README.md by hand, and packets that were cut or changed on their way.
 
 What is expected is said by the rules of a router, never by what the library answered. A word is the
 path of a shared object, in place of that of the package; the status is 1 if an answer differs."""
 import array
+import json
 import sys
 import threading
 import time
 
-from scion import Arrival, Code, Interface, Kind, Library, Packet, Refused, Router
+from scion import MAX_REQUEST, Arrival, Code, Interface, Kind, Library, Packet, Refused, Router
 
 AT_111, AT_110 = 0x0001FF0000000111, 0x0001FF0000000110
 ADDRESSES = "0001ff00000001100001ff0000000111"
@@ -218,7 +220,9 @@ class Tour:
         """The one path between two ASes, whose header begins with this meta field. The verifier
         says the same of it."""
         asked = {"src": src, "dst": dst, "now": 1000, "segments": segments}
-        [path] = self.library.paths(limit=8, **asked)["paths"]
+        found = self.library.paths(limit=8, **asked)
+        [path] = found["paths"]
+        self.expect(f"{what}, option", found["option"], 0)
         header, pieces = path.pop("header"), path["pieces"]
         self.expect(what, (header[:8], path), (meta, wanted))
         verdict = self.library.verify(header=header, pieces=pieces, **asked)
@@ -328,6 +332,17 @@ class Tour:
         ]
         for what, change, wanted in rows:
             self.expect(what, self.library.paths(**{**asked, **change}), wanted)
+        denied = {"weight": 5, "acl": ["- 1-ff00:0:111", "+"]}
+        found = self.library.paths(**asked, options=[denied, {"weight": 1}])
+        self.expect("option", (found["option"], len(found["paths"])), (1, 1))
+        self.longest_request({**asked, "dst": ias[2]})
+
+    def longest_request(self, asked):
+        """A request of the largest number of bytes is judged, and one of a byte more is not."""
+        free = MAX_REQUEST - len(json.dumps({**asked, "none": ""}))
+        rows = [(free, {"code": 85, "name": "SameAs"}), (free + 1, {"code": 150, "name": "BadRequest"})]
+        for count, wanted in rows:
+            self.expect(f"{count} letters", self.library.paths(**asked, none="x" * count), wanted)
 
     def verdicts(self):
         """The path of one piece, and its refusals after one change."""

@@ -1,3 +1,4 @@
+# SPDX-License-Identifier: Apache-2.0
 """Makes the package for pip: the module, and the shared object that `bindings/build.py` has linked.
 
 It needs the standard library alone, so that `pip install ./bindings/python` downloads nothing. The

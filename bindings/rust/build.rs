@@ -1,3 +1,4 @@
+// SPDX-License-Identifier: Apache-2.0
 //! Names the static libraries for the linker. They are in `bindings/out`, into which
 //! `bindings/build.py` puts them, or in the folder that `SCION_LIB` names.
 

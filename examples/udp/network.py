@@ -1,4 +1,5 @@
 #!/usr/bin/env python3
+# SPDX-License-Identifier: Apache-2.0
 """Runs a network whose routers are processes, which send its packets as datagrams.
 
     network.py PROGRAM < examples/row.txt
@@ -170,13 +171,18 @@ class Routers:
             child.wait()
 
 
-def main():
-    topology, *events = map(json.loads, sys.stdin)
-    library = Library(os.path.join(TOP, "bindings", "out", "libscion.so"))
-    network = Network(topology, library)
+def prepared(lines):
+    """The network after the lines before the first `send`, and that event."""
+    topology, *events = lines
+    network = Network(topology, Library(os.path.join(TOP, "bindings", "out", "libscion.so")))
     for event in itertools.takewhile(lambda it: it["do"] != "send", events):
         network.take(event)
-    packet, ia, payload = network.packet(next(it for it in events if it["do"] == "send"))
+    return network, next(it for it in events if it["do"] == "send")
+
+
+def main():
+    network, event = prepared(map(json.loads, sys.stdin))
+    packet, ia, payload = network.packet(event)
     routers = Routers(network, sys.argv[1])
     try:
         received = routers.send(packet, ia) or sys.exit("network: the packet was refused")
@@ -190,4 +196,5 @@ def main():
         routers.end()
 
 
-main()
+if __name__ == "__main__":
+    main()

@@ -1,3 +1,4 @@
+/* SPDX-License-Identifier: Apache-2.0 */
 /* One router of a network as a process, which forwards datagrams on the loopback address.
  *
  *     router PORT NAME IA NUMBER KEY NOW PACKETS SECONDS HOST PEER..
@@ -84,8 +85,10 @@ static uint16_t way_out(scion_answer answer, uint16_t host) {
     return 0;
 }
 
-/* A line about a turn, which is written before the packet goes on, so that lines are in order. */
+/* A line about a turn, which is written before the packet goes on, so that lines are in order. A
+ * router with the name `-` writes none. */
 static void tell(const char *name, uint8_t arrival, uint16_t interface, scion_answer answer) {
+    if (!strcmp(name, "-")) return;
     printf("%s router %u: ", name, self.router);
     if (arrival == SCION_OVER_LINK) printf("by link %u, ", interface);
     if (arrival == SCION_INSIDE) printf("from inside, ");

@@ -1,3 +1,4 @@
+# SPDX-License-Identifier: Apache-2.0
 """The proved router for Python, over ctypes.
 
 `Library()` loads the shared object of the package, and `Library(path)` one that `bindings/build.py`
@@ -14,6 +15,7 @@ import os
 from typing import Any, Iterable, List, NamedTuple, Optional, Sequence, Union
 
 __all__ = [
+    "MAX_REQUEST",
     "Answer",
     "Arrival",
     "Code",
@@ -26,6 +28,9 @@ __all__ = [
 ]
 
 __version__ = "0.1.0"
+
+# The largest number of bytes in a request for paths, or to verify one.
+MAX_REQUEST = 4194304
 
 # What holds bytes: each object with a buffer of items of one byte.
 Bytes = Union[bytes, bytearray, memoryview]

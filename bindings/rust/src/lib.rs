@@ -1,3 +1,4 @@
+// SPDX-License-Identifier: Apache-2.0
 //! A router, path headers, authenticators and paths of SCION, over a proved library.
 //!
 //! A step of a router takes a packet in place. A packet is 8 bytes of destination, 8 of source, a
@@ -254,4 +255,4 @@ pub fn hop_mac(
 mod paths;
 
 #[cfg(feature = "paths")]
-pub use paths::{paths, verify, OutOfMemory};
+pub use paths::{paths, verify, OutOfMemory, MAX_REQUEST_LEN};

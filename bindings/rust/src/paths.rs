@@ -1,3 +1,4 @@
+// SPDX-License-Identifier: Apache-2.0
 //! Paths, by requests and answers in JSON.
 
 use crate::raw;
@@ -15,6 +16,9 @@ impl fmt::Display for OutOfMemory {
 }
 
 impl Error for OutOfMemory {}
+
+/// The largest number of bytes in a request.
+pub const MAX_REQUEST_LEN: usize = 4_194_304;
 
 /// The answer to a request for paths, both objects of JSON (`docs/library.md`). A request that is
 /// refused is answered by its code and name.

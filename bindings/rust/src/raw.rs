@@ -1,3 +1,4 @@
+// SPDX-License-Identifier: Apache-2.0
 //! The library as C has it: the constants, records and calls of `include/scion.h`, which says what
 //! each means and what a caller has to keep.
 

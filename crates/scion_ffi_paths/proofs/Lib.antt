@@ -1,4 +1,5 @@
 pub mod Items
 pub mod Judging
 pub mod Moments
+pub mod Places
 pub mod Ranges

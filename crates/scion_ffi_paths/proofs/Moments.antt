@@ -1,11 +1,20 @@
 -- The least of some numbers, and the moment at which pieces expire.
-use Rattle.std.proofs.Common.{◌≡◌, ℕ, zero, suc, ◌<◌, ◌≤◌, List, [], ◌∷◌, length, map, get_or, All, Any, arith}
+use Rattle.std.proofs.Common.{◌≡◌, ◌⊎◌, ℕ, zero, suc, ◌<◌, ◌≤◌, List, [], ◌∷◌, length, map, get_or, All, Any, refl, subst, ◌∙◌, inl, inr, arith}
+use Rattle.std.specs.Prelude.{min}
+use Rattle.std.proofs.lemmas.Bool.{cases_lt}
 use Rattle.hop_mac.specs.Lifetime.{expiry_of}
 use Rattle.path_segment.specs.Chain.{IsLeastExpiry}
 use Rattle.path_verifier.specs.Piece.{PieceValue, HasRange, entries_of}
 use Rattle.path_verifier.proofs.Entries.{length-entries_of}
 use Rattle.path_verifier.specs.Accepted.{IsAccepted, IsExpiry, Request}
 use Rattle.scion_ffi_paths.specs.Expiry.{least_of, piece_expiry, path_expiry}
+
+-- the less of two numbers is one of them
+either : (m n : ℕ) → (min m n ≡ m) ⊎ (min m n ≡ n)
+either m n = elim (cases_lt m n) [
+  | inl less ↦ inl (omega arith)
+  | inr more ↦ inr (omega arith)
+]
 
 -- the least is at most each
 least_below : {X : Type 0} (f : X → ℕ) (xs : List X) (k : ℕ) (d : X) → k < length xs → least_of (map f xs) ≤ f (get_or xs k d)
@@ -61,3 +70,29 @@ path_expires request n accepted is =
     is.reached.4.0 entry is.reached.4.2) in
     let here = is.reached.4.4 in
     omega arith
+
+-- the least is one of them, where there is one
+least_reached : {X : Type 0} (f : X → ℕ) (xs : List X) → 0 < length xs → Any (λ x. least_of (map f xs) ≡ f x) xs
+least_reached f [] some = absurd (omega arith)
+least_reached f (x ∷ []) some = (0, x, omega arith, refl, refl)
+least_reached f (x ∷ (y ∷ later)) some =
+    let rest = least_reached f (y ∷ later) (omega arith) in
+    elim (either (f x) (least_of (map f (y ∷ later)))) [
+      | inl first ↦ (0, x, omega arith, refl, first)
+      | inr next ↦ (suc rest.0, rest.1, (let within = rest.2 in omega arith), rest.3, next ∙ rest.4)
+    ]
+
+-- the earliest expiry of the hops of pieces is theirs
+pub expires_first : (pieces : List PieceValue) → 0 < length pieces → All HasRange pieces → IsExpiry pieces (path_expiry pieces)
+unfolding path_expiry
+expires_first pieces some ranges =
+    let piece = least_reached piece_expiry pieces some in
+    let range : HasRange piece.1 = subst HasRange piece.3 (ranges piece.0 piece.1 piece.2) in
+    let entry = least_reached (λ e. expiry_of piece.1.segment.timestamp e.exp_time) (entries_of piece.1) (has_entry piece.1 range) in
+    record {
+      reached = (piece.0, piece.1, piece.2, piece.3, (entry.0, entry.1, entry.2, entry.3, piece.4 ∙ entry.4));
+      lower = λ k d within j e inside.
+          let first = least_below piece_expiry pieces k d within in
+          let next = least_below (λ e. expiry_of (get_or pieces k d).segment.timestamp e.exp_time) (entries_of (get_or pieces k d)) j e inside in
+          omega arith;
+    }

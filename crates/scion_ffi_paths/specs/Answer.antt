@@ -11,7 +11,7 @@ use Rattle.combinator.specs.Fault.{ends_at}
 use Rattle.scion_ffi_paths.specs.declared.fault.RequestFault.{RequestFault}
 use Rattle.scion_ffi_paths.specs.declared.fault.RequestFault.TheVariants.{BadLimit, Policy, Ends}
 use Rattle.scion_ffi_paths.specs.Asked.{Asked, PathsAsked, paths_asked_in}
-use Rattle.scion_ffi_paths.specs.Text.{fault_json, paths_json}
+use Rattle.scion_ffi_paths.specs.Text.{answer_json, fault_json}
 
 -- the options of a request, or its first refusal
 unfoldable pub options_of_request : PathsAsked → Result (List WeighedRules) RequestFault
@@ -37,11 +37,11 @@ AreAnswer request options answer =
     AnswersWith (selection_of request.asked) request.asked.src request.asked.dst options
     request.limit answer.used answer.paths
 
--- the text has the paths of an answer, or the refusal of the request
+-- the text is that of an answer, or of the refusal of the request
 abbrev pub AnswersUnder : PathsAsked → Result (List WeighedRules) RequestFault → List ℕ → Type 0
 AnswersUnder request (Ok options) text =
     (answer : AnswerValue) × (AreAnswer request options answer
-    × (text ≡ paths_json request.asked.segments answer.paths))
+    × (text ≡ answer_json request.asked.segments answer))
 AnswersUnder request (Err fault) text = text ≡ fault_json fault
 
 abbrev pub AnswersRequest : Result PathsAsked RequestFault → List ℕ → Type 0

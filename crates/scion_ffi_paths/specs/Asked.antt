@@ -1,7 +1,7 @@
 -- Requests: JSON objects with members of a line `ask`, and with `now` and the list `segments`, each
 -- in the form in which segments are printed.
-use Rattle.std.specs.Prelude.{ℕ, codes, List, [], ◌∷◌, Option, Some, None, Result, Ok, Err}
-use Rattle.refusal.specs.Refusal.{◌>>=◌, refused_as}
+use Rattle.std.specs.Prelude.{ℕ, codes, List, [], ◌∷◌, length, nat_le, Option, Some, None, Result, Ok, Err}
+use Rattle.refusal.specs.Refusal.{◌>>=◌, check, refused_as}
 use Rattle.serde_json.specs.Data.{Data, Items, no_items, item}
 use Rattle.json_fields.specs.Fields.{document_in, list_at}
 use Rattle.path_segment.specs.Chain.{Chain}
@@ -16,6 +16,16 @@ use Rattle.scion_ffi_paths.specs.Fault.{of_segment}
 abbrev pub formed : {A : Type 0} → Option A → Result A RequestFault
 formed None = Err BadRequest
 formed (Some found) = Ok found
+
+-- the largest number of bytes in a request
+abbrev pub most_request : ℕ
+most_request = 4194304
+
+-- the JSON value in the bytes of a request; too many bytes are in no form
+unfoldable pub value_asked : List ℕ → Result Data RequestFault
+value_asked bytes = do
+  _ ← check (nat_le (length bytes) most_request) BadRequest
+  formed (document_in bytes)
 
 -- the segment of a JSON value, or why it is refused
 abbrev pub segment_asked : Data → Result Chain RequestFault
@@ -57,7 +67,7 @@ pub record PathsAsked : Type 0 where
 -- the request for paths in these bytes
 unfoldable pub paths_asked_in : List ℕ → Result PathsAsked RequestFault
 paths_asked_in bytes = do
-  d ← formed (document_in bytes)
+  d ← value_asked bytes
   asked ← asked_in d
   limit ← formed (long_at (codes "limit") d)
   Ok (record { asked = asked; limit = limit })

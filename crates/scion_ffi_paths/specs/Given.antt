@@ -2,7 +2,7 @@
 use Rattle.std.specs.Prelude.{ℕ, codes, List, [], ◌∷◌, length, nat_le, Result, Ok, Err}
 use Rattle.refusal.specs.Refusal.{◌>>=◌, check, refused_as}
 use Rattle.serde_json.specs.Data.{Data}
-use Rattle.json_fields.specs.Fields.{document_in, list_at, items_at}
+use Rattle.json_fields.specs.Fields.{list_at, items_at}
 use Rattle.path_header.specs.Reading.{read_at}
 use Rattle.policy_expr.specs.declared.option_fault.OptionFault.TheVariants.{Unread}
 use Rattle.policy_expr.specs.Options.{OptionTexts}
@@ -13,7 +13,7 @@ use Rattle.path_verifier.specs.Accepted.{Request, request_of}
 use Rattle.event_lines.specs.Line.{bytes_at}
 use Rattle.scion_ffi_paths.specs.declared.fault.RequestFault.{RequestFault}
 use Rattle.scion_ffi_paths.specs.declared.fault.RequestFault.TheVariants.{BadRequest, Policy, Header, Path}
-use Rattle.scion_ffi_paths.specs.Asked.{Asked, asked_in, formed}
+use Rattle.scion_ffi_paths.specs.Asked.{Asked, asked_in, formed, value_asked}
 use Rattle.scion_ffi_paths.specs.Stretch.{piece_at}
 
 -- a request to verify: the common part, the pieces in order of travel, and bytes that begin with
@@ -37,7 +37,7 @@ given_with asked d = do
 -- the request to verify in these bytes
 unfoldable pub given_in : List ℕ → Result Given RequestFault
 given_in bytes = do
-  d ← formed (document_in bytes)
+  d ← value_asked bytes
   asked ← asked_in d
   given_with asked d
 

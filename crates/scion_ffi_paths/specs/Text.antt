@@ -1,5 +1,5 @@
 -- The text of an answer: JSON without white space, with the names in ascending order.
-use Rattle.std.specs.Prelude.{ℕ, ◌+◌, codes, List, [], ◌∷◌, ◌++◌, Bool, true, false, if◌then◌else◌}
+use Rattle.std.specs.Prelude.{ℕ, ◌+◌, codes, List, [], ◌∷◌, ◌++◌, Bool, true, false, if◌then◌else◌, Option, Some, None}
 use Rattle.std.specs.List.{join_by}
 use Rattle.std.specs.Fmt.{decimal}
 use Rattle.hex.specs.Hex.{encode_lower}
@@ -9,6 +9,7 @@ use Rattle.path_segment.specs.Tests.{is_same}
 use Rattle.path_verifier.specs.Piece.{PieceValue}
 use Rattle.path_verifier.specs.Walk.{walk_of}
 use Rattle.combinator.specs.Candidate.{PathValue}
+use Rattle.combinator.specs.Answer.{AnswerValue}
 use Rattle.event_lines.specs.Text.{hops_text, kinds_text}
 use Rattle.scion_ffi_paths.specs.declared.fault.RequestFault.{RequestFault}
 use Rattle.scion_ffi_paths.specs.Expiry.{path_expiry}
@@ -43,10 +44,17 @@ path_json segments path =
     ++ (codes "\",\"pieces\":[" ++ (join_by (piece_json segments) (codes ",") path.pieces
     ++ (codes "],\"walk\":\"" ++ (hops_text (walk_of path.pieces) ++ codes "\"}")))))))))
 
--- the paths of an answer, best first
-unfoldable pub paths_json : List Chain → List PathValue → List ℕ
-paths_json segments paths =
-    codes "{\"paths\":[" ++ (join_by (path_json segments) (codes ",") paths ++ codes "]}")
+-- the option that was used, by its place in the request; nothing if no option leaves a path
+abbrev pub option_json : Option ℕ → List ℕ
+option_json None = []
+option_json (Some used) = codes "\"option\":" ++ (decimal used ++ codes ",")
+
+-- an answer: the option that was used, and the paths, best first
+unfoldable pub answer_json : List Chain → AnswerValue → List ℕ
+answer_json segments answer =
+    codes "{" ++ (option_json answer.used
+    ++ (codes "\"paths\":[" ++ (join_by (path_json segments) (codes ",") answer.paths
+    ++ codes "]}")))
 
 -- a path that may be sent
 unfoldable pub accepted_json : List PieceValue → List ℕ

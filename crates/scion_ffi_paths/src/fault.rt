@@ -1,6 +1,7 @@
-ghost use Rattle.std.specs.Prelude.{◌≡◌};
+ghost use Rattle.std.specs.Prelude.{◌≡◌, Some};
 ghost use Rattle.scion_ffi_paths.specs.Fault as faults;
 ghost use Rattle.scion_ffi_paths.specs.Fault.{of_segment};
+ghost use Rattle.scion_ffi_paths.specs.Text.{fault_json};
 
 use combinator::{BAD_LIMIT, CombineFault};
 use path_header::HeaderFault;
@@ -8,31 +9,24 @@ use path_segment::SegmentFault;
 use path_verifier::VerifyFault;
 use policy_expr::OptionFault;
 use refusal::{NumberedFault, OrMemory};
-use thiserror::Error;
+use std::fmt;
 
 /// Why a request is refused.
-#[derive(Clone, Copy, Debug, Error)]
+#[derive(Clone, Copy, Debug)]
 pub enum RequestFault {
     /// The bytes are no object in the form of a request.
-    #[error("the request is of another form")]
     BadRequest,
     /// A segment breaks the rules of segments.
-    #[error("a segment is refused: {0}")]
     Segment(SegmentFault),
     /// The limit is not 1 to 64.
-    #[error("the limit is not 1 to 64")]
     BadLimit,
     /// The policy options can't be read.
-    #[error("the policy is refused: {0}")]
     Policy(OptionFault),
     /// Both ends are the same AS.
-    #[error("the ends are refused: {0}")]
     Ends(CombineFault),
     /// The bytes of the header do not begin with a path header.
-    #[error("the header is refused: {0}")]
     Header(HeaderFault),
     /// The path may not be sent.
-    #[error("the path is refused: {0}")]
     Path(VerifyFault),
 }
 
@@ -45,6 +39,17 @@ impl RequestFault {
             SegmentFault::NotJson => RequestFault::BadRequest,
             broken => RequestFault::Segment(broken),
         }
+    }
+}
+
+// As an answer has it, since that is all that a host sees of it.
+impl fmt::Display for RequestFault {
+    ghost output = { λ fault. Some (fault_json fault) };
+
+    #[tactic(auto, unfolding(crate::specs::Text::fault_json))]
+    fn fmt<W: fmt::Write>(&self, f: &mut fmt::Formatter<W>) -> fmt::Result {
+        let (code, name) = self.code_and_name();
+        write!(f, "{{\"code\":{code},\"name\":\"{name}\"}}")
     }
 }
 

@@ -7,6 +7,7 @@
 mod answer;
 mod expiry;
 mod fault;
+pub mod laws;
 mod paths;
 mod request;
 mod room;
@@ -17,5 +18,6 @@ mod verdict;
 
 pub use fault::RequestFault;
 pub use paths::scion_paths;
+pub use request::MAX_REQUEST_LEN;
 pub use room::ScionText;
 pub use verdict::scion_verify;

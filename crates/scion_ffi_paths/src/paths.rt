@@ -24,7 +24,7 @@ fn answer(alloc: Global, request: &PathsRequest) -> Result<String, RequestError>
     let set = selection(alloc, asked)?;
     let (src, dst, limit) = (asked.src, asked.dst, request.limit as usize);
     match combine(alloc, &set, src, dst, &options, limit) {
-        Ok(list) => Ok(text::paths(alloc, &asked.segments, list.paths())?),
+        Ok(list) => Ok(text::answer(alloc, &asked.segments, &list)?),
         Err(OrMemory::Memory) => Err(OrMemory::Memory),
         Err(OrMemory::Refused(_)) => unreachable!(),
     }
@@ -49,9 +49,9 @@ fn text_of(alloc: Global, bytes: &[u8]) -> Result<String, AllocError>
     }
 }
 
-/// Writes the paths that answer a request into the room, best first. For each it writes when it
-/// expires, its header, its kind, its pieces and its walk. If the request is refused, it writes the
-/// number and the name of the refusal.
+/// Writes the paths that answer a request into the room, best first, and which policy option was
+/// used. For each path it writes when it expires, its header, its kind, its pieces and its walk. If
+/// the request is refused, it writes the number and the name of the refusal.
 ///
 /// A request is a JSON object with the members of a line `ask` (`src`, `dst`, `limit`, and a
 /// policy), and with `now` and the list `segments`. The paths are those of [`combinator::combine`]

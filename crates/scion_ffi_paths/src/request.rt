@@ -1,8 +1,8 @@
 //! Requests, as values.
 
-ghost use Rattle.json_fields.specs.Documents.{node_data};
+ghost use Rattle.json_fields.specs.Documents.{document_data, node_data};
 ghost use Rattle.refusal.specs.Refusal.{Reads};
-ghost use Rattle.scion_ffi_paths.specs.Asked.{asked_in, paths_asked_in};
+ghost use Rattle.scion_ffi_paths.specs.Asked.{asked_in, paths_asked_in, value_asked};
 
 use crate::fault::{RequestError, RequestFault};
 use crate::segment::segments;
@@ -11,8 +11,28 @@ use isd_as::IsdAs;
 use json_fields::{Document, JsonRoom, Node};
 use path_segment::Segment;
 use policy_expr::OwnedOptionText;
+use refusal::OrMemory;
 use std::alloc::Global;
 use std::marker::Model;
+
+/// The largest number of bytes in a request. It bounds the memory of one, some 40 times its bytes.
+pub const MAX_REQUEST_LEN: usize = 4_194_304;
+
+/// The JSON value in the bytes of a request: [`RequestFault::BadRequest`] if they are more than
+/// [`MAX_REQUEST_LEN`], or no JSON.
+#[tactic(auto, unfolding(crate::specs::Asked::value_asked))]
+pub(crate) fn read_document<'a>(
+    alloc: Global,
+    room: &'a mut JsonRoom,
+    bytes: &'a [u8],
+) -> Result<Document<'a>, RequestError>
+    ensures { Reads (λ document. document_data document) result (value_asked bytes.now) }
+{
+    if bytes.len() > MAX_REQUEST_LEN {
+        return Err(OrMemory::Refused(RequestFault::BadRequest));
+    }
+    Ok(Document::read(alloc, room, bytes)?.ok_or(RequestFault::BadRequest)?)
+}
 
 /// The common part of all requests.
 #[derive(Drop)]
@@ -92,7 +112,7 @@ impl PathsRequest {
         ensures { Reads (λ r. r) result (paths_asked_in bytes.now) }
     {
         let mut room = JsonRoom::new(alloc);
-        let document = Document::read(alloc, &mut room, bytes)?.ok_or(RequestFault::BadRequest)?;
+        let document = read_document(alloc, &mut room, bytes)?;
         let object = document.root();
         let asked = Request::of(alloc, &object)?;
         let limit = read_u32(&object, "limit").ok_or(RequestFault::BadRequest)?;

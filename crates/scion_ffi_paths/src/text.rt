@@ -7,16 +7,15 @@ ghost use Rattle.hex.specs.Hex.{encode_lower};
 ghost use Rattle.path_header.specs.Spelling.{spelling};
 ghost use Rattle.event_lines.specs.Text.{hops_text, kinds_text};
 ghost use Rattle.path_verifier.specs.Piece.{HasRange};
-ghost use Rattle.scion_ffi_paths.specs.Text.{accepted_json, fault_json, path_json, paths_json, piece_json, place_in_list, truth_json};
+ghost use Rattle.scion_ffi_paths.specs.Text.{accepted_json, answer_json, fault_json, option_json, path_json, piece_json, place_in_list, truth_json};
 
 use crate::expiry::{path_expiry, verified_expiry};
 use crate::fault::RequestFault;
-use combinator::{OwnedPiece, Path};
+use combinator::{OwnedPiece, Path, PathList};
 use event_lines::{hops_text, kinds_text};
 use path_header::{Header, MAX_HEADER_LEN, encode};
 use path_segment::Segment;
 use path_verifier::{VerifiedPath, lend_all};
-use refusal::NumberedFault;
 use std::alloc::{AllocError, Global};
 
 /// The place of the first of these segments that equals this one.
@@ -137,18 +136,31 @@ fn push_paths(
     Ok(())
 }
 
-/// The paths of an answer.
-#[tactic(auto, unfolding(crate::specs::Text::paths_json))]
-pub(crate) fn paths(
+/// Adds the option that was used, if one was.
+fn push_option(text: &mut String, used: Option<usize>) -> Result<(), AllocError>
+    ensures { OnOk result
+        (string_bytes text.new ≡ string_bytes text.old ++ option_json used) }
+{
+    if let Some(option) = used {
+        write!(text, "\"option\":{option},")?;
+    }
+    Ok(())
+}
+
+/// An answer.
+#[tactic(auto, unfolding(crate::specs::Text::answer_json))]
+pub(crate) fn answer(
     alloc: Global,
     segments: &[Segment],
-    paths: &[Path],
+    list: &PathList,
 ) -> Result<String, AllocError>
-    requires { All (λ path. All HasRange path.pieces) paths.now }
-    ensures { IfOk result (λ text. string_bytes text ≡ paths_json segments.now paths.now) }
+    requires { All (λ path. All HasRange path.pieces) list.now.paths }
+    ensures { IfOk result (λ text. string_bytes text ≡ answer_json segments.now list.now) }
 {
-    let mut text = String::from_str(alloc, "{\"paths\":[")?;
-    push_paths(alloc, &mut text, segments, paths)?;
+    let mut text = String::from_str(alloc, "{")?;
+    push_option(&mut text, list.option())?;
+    text.push_str("\"paths\":[")?;
+    push_paths(alloc, &mut text, segments, list.paths())?;
     text.push_str("]}")?;
     Ok(text)
 }
@@ -172,13 +184,8 @@ pub(crate) fn verified_path(
 }
 
 /// A refusal.
-#[tactic(auto, unfolding(crate::specs::Text::fault_json))]
 pub(crate) fn refusal(alloc: Global, fault: RequestFault) -> Result<String, AllocError>
     ensures { IfOk result (λ text. string_bytes text ≡ fault_json fault) }
 {
-    format!(in alloc;
-        "{{\"code\":{},\"name\":\"{}\"}}",
-        fault.code(),
-        fault.name()
-    )
+    format!(in alloc; "{fault}")
 }

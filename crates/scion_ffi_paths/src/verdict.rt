@@ -11,12 +11,12 @@ ghost use Rattle.scion_ffi_paths.specs.inner.Told.{AnswersGiven, Tells};
 ghost use Rattle.scion_ffi_paths.specs.Verdict.{AnswersVerdict, AnswersVerify, IsJudged};
 
 use crate::fault::{RequestError, RequestFault};
-use crate::request::Request;
+use crate::request::{Request, read_document};
 use crate::room::{ScionText, put};
 use crate::stretch::{join, pieces};
 use crate::text;
 use event_lines::fields::read_bytes;
-use json_fields::{Document, JsonRoom, Node};
+use json_fields::{JsonRoom, Node};
 use path_header::{Header, decode};
 use path_verifier::{Piece, Pieces, verify};
 use policy_expr::{OptionFault, OwnedOptionText, Policy};
@@ -119,7 +119,7 @@ fn verdict(alloc: Global, bytes: &[u8]) -> Result<String, RequestError>
     ensures { Tells (AnswersVerify bytes.now) result }
 {
     let mut room = JsonRoom::new(alloc);
-    let document = Document::read(alloc, &mut room, bytes)?.ok_or(RequestFault::BadRequest)?;
+    let document = read_document(alloc, &mut room, bytes)?;
     let object = document.root();
     let request = Request::of(alloc, &object)?;
     verdict_with(alloc, &request, &object)
