@@ -1,5 +1,5 @@
 //! `scionet_view` shows a packet as a router sees it, field by field and check by check; a network
-//! as a picture; and the path of a packet in it.
+//! as a picture; the path of a packet in it; and the events by which a topology is beaconed.
 //!
 //! The packet, the lines of a network, the faults and the exit status are those of `scionet`. The
 //! status is 0 if something was shown, 2 if the words are refused or ask for help, and 1 after any
@@ -7,12 +7,14 @@
 #![tactic(auto)]
 
 mod answer;
+mod beacons;
 mod network;
 mod network_after;
 mod path;
 mod words;
 
 use answer::answer_path;
+use beacons::beacons;
 use commands::{CommandFault, Status, WordsFault, end};
 use network::network_picture;
 use packet_view::packet_lines;
@@ -58,6 +60,7 @@ fn view_text<S: Source>(
     match view {
         View::Packet(command) => packet_text(alloc, command, source),
         View::Network(subject) => Ok(network_picture(alloc, source, *subject)?),
+        View::Beacons(wanted) => beacons(alloc, source, wanted),
         View::Path(Subject::Packet(number)) => Ok(packet_path(alloc, source, *number)?),
         View::Path(Subject::Answer { answer, path }) => {
             Ok(answer_path(alloc, source, *answer, *path)?)

@@ -1,8 +1,10 @@
 //! The words of the command line.
 
+use beacon_lines::{MAX_PER_PAIR, Wanted};
 use clap::builder::ValueParser;
 use clap::{Arg, ArgGroup, ArgMatches, Command};
 use commands::{VERSION, WordsFault, explain_refusal, turn, with_turn};
+use path_segment::MAX_SEGMENT_LEN;
 use std::alloc::{AllocError, Global};
 use step_line::{StepCommand, number};
 
@@ -61,6 +63,19 @@ which begins with
   walk 1-ff00:0:111#0,2 1-ff00:0:110#1,0
   live up to second 22600";
 
+/// The end of the long help of `beacons`.
+static BEACONS_HELP: &str = "\
+Standard input has a topology, a JSON text of one or more lines. What is printed is a text for \
+'scionet run': the topology on one line, the second, and the events by which each core AS begins \
+beacons, and each AS ends and passes on the first that reach it. They go down over child links, and \
+from core AS to core AS over core links; shorter ones come first, and then those with smaller \
+interfaces. So each AS below a core AS gets segments from it, and so does each other core AS.
+
+Example: how the paths of a topology are asked for
+  { scionet_view beacons < TOPOLOGY; \\
+    printf '%s\\n' '{\"do\":\"ask\",\"src\":\"1-ff00:0:111\",\"dst\":\"1-ff00:0:112\",\"limit\":8}'; \\
+  } | scionet run";
+
 /// What a view of a network is about. Its numbers are those of `scionet run`, from 0.
 #[derive(Clone, Copy)]
 pub(crate) enum Subject {
@@ -84,6 +99,8 @@ pub(crate) enum View {
     Network(Option<Subject>),
     /// `path`: the path of a packet of that network, or of an answer.
     Path(Subject),
+    /// `beacons`: a complete beaconing of the topology on standard input.
+    Beacons(Wanted),
 }
 
 /// The command `packet`.
@@ -140,14 +157,47 @@ fn network_command<'a>(
         .group(group)
 }
 
+/// An option with a number in a range, which is `default` if it is not given.
+fn range_option<'a>(
+    alloc: Global,
+    name: &'a str,
+    range: (i64, i64),
+    default: &'a str,
+    help: &'a str,
+) -> Arg<'a> {
+    Arg::new(alloc, name)
+        .long(name)
+        .value_name("N")
+        .value_parser(ValueParser::Signed(range.0, range.1))
+        .help(help)
+        .default_value(default)
+}
+
+/// The command `beacons`.
+fn beacons_command<'a>(alloc: Global) -> Result<Command<'a>, AllocError> {
+    let most = MAX_PER_PAIR as i64;
+    let help = "How many segments an AS gets from one core AS";
+    let per_pair = range_option(alloc, "per-pair", (1, most), "4", help);
+    let most = MAX_SEGMENT_LEN as i64;
+    let help = "The most entries of a core segment";
+    let core_length = range_option(alloc, "core-length", (2, most), "63", help);
+    let help = "The second at which all beacons are begun";
+    let now = range_option(alloc, "now", (0, i64::from(u32::MAX)), "0", help);
+    Command::new(alloc, "beacons")
+        .about("Prints the lines of a complete beaconing of the topology on standard input")
+        .after_long_help(BEACONS_HELP)
+        .args(vec![in alloc; per_pair, core_length, now]?)
+}
+
 /// The commands of the program.
 fn commands<'a>(alloc: Global) -> Result<Vec<Command<'a>>, AllocError> {
-    let mut commands = Vec::with_capacity(alloc, 3)?;
+    let mut commands = Vec::with_capacity(alloc, 4)?;
     commands.push_reserved(packet_command(alloc)?);
     let about = "Draws the network that the lines on standard input lead to";
     commands.push_reserved(network_command(alloc, "network", about, NETWORK_HELP, false)?);
     let about = "Shows the path of a packet of that network or of an answer, field by field";
     commands.push_reserved(network_command(alloc, "path", about, PATH_HELP, true)?);
+    commands.push_reserved(beacons_command(alloc)?);
     Ok(commands)
 }
 
@@ -189,6 +239,15 @@ fn path(matches: &ArgMatches<'_>) -> Option<View> {
     Some(View::Path(subject_in(matches)?))
 }
 
+/// The beaconing of the matches of `beacons`.
+fn beacons(matches: &ArgMatches<'_>) -> Option<View> {
+    Some(View::Beacons(Wanted {
+        per_pair: number_in(matches, "per-pair")? as usize,
+        core_len: number_in(matches, "core-length")? as usize,
+        now: number_in(matches, "now")?,
+    }))
+}
+
 /// The view of the matches, if there is one.
 fn view_in(alloc: Global, matches: &ArgMatches<'_>) -> Result<Option<View>, AllocError> {
     let Some((name, given)) = matches.subcommand() else {
@@ -199,6 +258,9 @@ fn view_in(alloc: Global, matches: &ArgMatches<'_>) -> Result<Option<View>, Allo
     }
     if name == "path" {
         return Ok(path(given));
+    }
+    if name == "beacons" {
+        return Ok(beacons(given));
     }
     match turn(alloc, given)? {
         Some(command) => Ok(Some(View::Packet(command))),

@@ -1,0 +1,200 @@
+#!/usr/bin/env python3
+"""Complete beaconings of random topologies, over the programs that `rt ci` has proved and built.
+
+`scionet_view beacons` prints the lines of a beaconing; `scionet run` has to do each of them. The
+segments have to be those of a plain search here, in which each AS passes on the first beacons of an
+origin that reach it. Then paths are asked for between ASes that segments of the search join. The
+last topology has 1,024 ASes.
+
+The words are, if there are any, a seed and a number of topologies. The last line has the number of
+topologies, of lines and of requests, and of what was wrong; the status is 1 where something was."""
+import collections
+import concurrent.futures
+import json
+import os
+import random
+import resource
+import subprocess
+import sys
+import time
+from pathlib import Path
+
+CRATES = Path(__file__).resolve().parent.parent / "crates"
+VIEW, RUN = (str(CRATES / name / "out" / name) for name in ("scionet_view", "scionet"))
+SEED, TOPOLOGIES, REQUESTS = 1, 200, 12
+
+# The most entries of a segment, the most hop fields of a path, and what the largest topology may
+# take: seconds and bytes of memory.
+ENTRIES, FIELDS, SECONDS, MEMORY = 63, 64, 10, 500_000_000
+
+
+class Topology:
+    """ASes and links, each with free interfaces of its ends, and the text of them."""
+
+    def __init__(self, chance, isds, cores, others, links):
+        self.ases, self.links, self.ways = [], [], collections.defaultdict(list)
+        self.free = collections.Counter()
+        for isd in range(1, isds + 1):
+            own = [self.add(isd, True) for _ in range(cores)]
+            for _ in range(others):
+                parents = chance.sample(own, min(len(own), chance.choice((1, 1, 2))))
+                own.append(self.add(isd, False))
+                for parent in parents:
+                    self.join(chance, "child", parent, own[-1])
+        tops = [ia for ia, core in self.ases if core]
+        for place, ia in enumerate(tops[1:], 1):
+            self.join(chance, "core", tops[chance.randrange(place)], ia)
+        while len(self.links) < links:
+            one, other = chance.sample(self.ases, 2)
+            if one[1] and other[1]:
+                self.join(chance, "core", one[0], other[0])
+            elif one[0] < other[0] and one[0][0] == other[0][0] and not other[1]:
+                self.join(chance, "child", one[0], other[0])
+
+    def add(self, isd, core):
+        ia = (isd, len(self.ases) + 1)
+        self.ases.append((ia, core))
+        return ia
+
+    def join(self, chance, kind, one, other):
+        """A link by free interfaces, whose numbers do not ascend with the links."""
+        self.free[one] += 1
+        self.free[other] += 1
+        ends = (one, 5000 - self.free[one]), (other, 5000 - self.free[other])
+        self.links.append((kind, *ends))
+        self.ways[kind, one].append((ends[0][1], other))
+        if kind == "core":
+            self.ways[kind, other].append((ends[1][1], one))
+
+    def text(self, pretty):
+        ases = [
+            {"ia": name(ia), "core": core, "exp": 63, "key": "6b", "routers": 1}
+            for ia, core in self.ases
+        ]
+        ends = [
+            {"kind": kind, **{it: end(*at) for it, at in zip("ab", ends)}}
+            for kind, *ends in self.links
+        ]
+        return json.dumps({"ases": ases, "links": ends}, indent=2 if pretty else None)
+
+
+def name(ia):
+    return f"{ia[0]}-{ia[1]}"
+
+
+def end(ia, number):
+    return {"ia": name(ia), "if": number, "router": 0}
+
+
+def spread(topology, origin, kind, per_pair, entries):
+    """The beacons that ASes end, as pairs of an AS and the way out by which it was left, and the AS
+    in which each was ended: level by level, each level in the order of its interfaces."""
+    ended, counts = [], collections.Counter()
+    level = [((), origin)]
+    for _ in range(entries - 1):
+        nexts = []
+        for way, ia in level:
+            passed = {it for it, _ in way} | {ia}
+            for egress, far in sorted(topology.ways[kind, ia]):
+                if far not in passed and counts[far] < per_pair:
+                    counts[far] += 1
+                    nexts.append((way + ((ia, egress),), far))
+        ended += nexts
+        level = nexts
+    return ended
+
+
+def wanted(topology, per_pair, core_length):
+    """The segments of a beaconing: their kind, their ways, and the AS in which each ends."""
+    for ia, core in topology.ases:
+        if core:
+            for kind, entries in (("child", ENTRIES), ("core", core_length)):
+                for way, last in spread(topology, ia, kind, per_pair, entries):
+                    yield kind, way, last
+
+
+def segments_of(events):
+    """The segments that these events end, as `wanted` has them but for the kind."""
+    beacons = []
+    for event in events:
+        if event["do"] == "originate":
+            beacons.append(((event["ia"], event["egress"]),))
+        elif event["do"] == "extend":
+            beacons.append(beacons[event["beacon"]] + ((event["ia"], event["egress"]),))
+        elif event["do"] == "terminate":
+            yield beacons[event["beacon"]], event["ia"]
+
+
+def requests(chance, segments, count):
+    """Pairs of ASes that a segment up, one of the core and one down join within the hop fields."""
+    up = [(last, way[0][0], len(way) + 1) for kind, way, last in segments if kind == "child"]
+    core = {(way[0][0], last): len(way) + 1 for kind, way, last in reversed(segments) if kind == "core"}
+    for _ in range(count * bool(up)):
+        one, other = chance.choice(up), chance.choice(up)
+        length = core.get((other[1], one[1]), 0) if one[1] != other[1] else 0
+        is_joined = one[1] == other[1] or (other[1], one[1]) in core
+        if one[0] != other[0] and is_joined and one[2] + other[2] + length <= FIELDS:
+            yield {"do": "ask", "src": name(one[0]), "dst": name(other[0]), "limit": 1}
+
+
+def ran(words, given):
+    return subprocess.run(words, input=given, capture_output=True, check=True).stdout
+
+
+def tried(seed, number):
+    """The lines and the requests of a topology, and what was wrong with it."""
+    chance = random.Random(f"{seed} {number}")
+    shape = chance.choice(((1, 1, 3, 4), (1, 3, 8, 20), (2, 2, 6, 24), (3, 3, 10, 60), (1, 8, 0, 14)))
+    topology = Topology(chance, *shape)
+    per_pair, core_length = chance.choice((1, 2, 4, 32)), chance.choice((2, 3, 63))
+    words = [VIEW, "beacons", "--per-pair", str(per_pair), "--core-length", str(core_length)]
+    lines = ran([*words, "--now", "1000"], topology.text(number % 2).encode())
+    segments = list(wanted(topology, per_pair, core_length))
+    asks = list(requests(chance, segments, REQUESTS))
+    replies = ran([RUN], lines + "".join(json.dumps(it) + "\n" for it in asks).encode()).split(b"\n")
+    events = [json.loads(line) for line in lines.splitlines()[1:]]
+    wrong = []
+    found = [(tuple(way), last) for way, last in segments_of(events)]
+    own = [(tuple((name(ia), out) for ia, out in way), name(last)) for _, way, last in segments]
+    if found != own:
+        wrong.append(f"{len(found)} segments, not {len(own)}, or others: {words[2:]}")
+    refused = [reply for reply in replies if reply.startswith((b"no ", b"topology no"))]
+    if refused:
+        wrong.append(f"refused: {refused[:3]}")
+    answers = [reply for reply in replies if reply.startswith(b"ask ")]
+    if len(answers) != len(asks) or any(b";" not in it for it in answers):
+        wrong.append(f"no path: {answers}")
+    return len(events), len(asks), [f"topology {number} of seed {seed}: {it}" for it in wrong]
+
+
+def largest(seed):
+    """1,024 ASes with 4,096 links: all lines are done, within the seconds and the memory."""
+    topology = Topology(random.Random(seed), 4, 4, 252, 4096)
+    begun = time.monotonic()
+    child = subprocess.Popen([VIEW, "beacons", "--core-length", "5"], stdin=subprocess.PIPE, stdout=subprocess.PIPE)
+    lines = child.communicate(topology.text(True).encode())[0]
+    seconds, memory = time.monotonic() - begun, resource.getrusage(resource.RUSAGE_CHILDREN).ru_maxrss * 1024
+    replies = ran([RUN], lines).splitlines()
+    wrong = []
+    if any(reply.startswith((b"no ", b"topology no")) for reply in replies):
+        wrong.append("an event of the largest topology is refused")
+    if child.returncode or seconds > SECONDS or memory > MEMORY:
+        wrong.append(f"the largest topology took {seconds:.1f} seconds and {memory} bytes")
+    return len(replies) - 1, 0, wrong
+
+
+def main():
+    seed = int(sys.argv[1]) if sys.argv[1:] else SEED
+    count = int(sys.argv[2]) if sys.argv[2:] else TOPOLOGIES
+    rows = [largest(seed)]
+    with concurrent.futures.ThreadPoolExecutor(os.cpu_count()) as pool:
+        rows += pool.map(lambda number: tried(seed, number), range(count))
+    wrong = [it for row in rows for it in row[2]]
+    for it in wrong[:20]:
+        print(f"beaconing: {it}")
+    lines, asks = (sum(row[place] for row in rows) for place in (0, 1))
+    print(f"beaconing: {len(rows)} topologies, {lines} lines, {asks} requests, {len(wrong)} wrong")
+    return 0 if lines and asks and not wrong else 1
+
+
+sys.exit(main())

@@ -1,0 +1,73 @@
+-- A beaconing: none of any event, one event more, and the run that it is.
+use Rattle.std.proofs.Common.{◌≡◌, true, List, [], ◌∷◌, ◌++◌, All, refl, sym, ap, ◌∙◌, subst}
+use Rattle.std.proofs.lemmas.List.{map-append}
+use Rattle.std.proofs.lemmas.List.Elements.{All-nil, All-push}
+use Rattle.scion_topology.specs.Network.{Network}
+use Rattle.network_core.specs.declared.reply.Reply.{Reply}
+use Rattle.network_core.specs.Event.{EventValue}
+use Rattle.network_core.specs.Value.{NetValue, new_net}
+use Rattle.network_core.specs.Step.{Step}
+use Rattle.network_core.specs.History.{EventRecord, IsHistory, net_after}
+use Rattle.network_core.specs.Delivery.{IsFramed, is_done}
+use Rattle.beacon_lines.specs.declared.event.BeaconEvent.{BeaconEvent}
+use Rattle.beacon_lines.specs.declared.event.BeaconEvent.TheVariants as events
+use Rattle.beacon_lines.specs.Beaconing.{IsBeaconing, IsOfBeaconing, StaysStored, event_of}
+use Rattle.beacon_lines.proofs.Growing.{grows, stays}
+
+pub begins : (network : Network) → IsBeaconing network [] (new_net network)
+begins network = record {
+  history = [];
+  is = tt;
+  framed = All-nil (λ (m : EventRecord). IsFramed m.event m.reply m.net);
+  of = refl;
+  ends = refl;
+  done = All-nil (λ (m : EventRecord). is_done m.reply ≡ true);
+  own = All-nil IsOfBeaconing;
+  stored = All-nil (StaysStored (new_net network));
+}
+
+history_more : (start : NetValue) (history : List EventRecord) (m : EventRecord) → IsHistory start history
+    → Step (net_after start history) m.event m.reply m.net → IsHistory start (history ++ m ∷ [])
+history_more start [] m is step = (step, tt)
+history_more start (x ∷ history) m is step = (is.0, history_more x.net history m is.1 step)
+
+net_more : (start : NetValue) (history : List EventRecord) (m : EventRecord) → net_after start (history ++ m ∷ []) ≡ m.net
+net_more start [] m = refl
+net_more start (x ∷ history) m = net_more x.net history m
+
+pub goes_on : (network : Network) (events : List EventValue) (net new : NetValue) (event : EventValue) (reply : Reply)
+    → IsBeaconing network events net → Step net event reply new → IsFramed event reply new → is_done reply ≡ true
+    → IsOfBeaconing event → IsBeaconing network (events ++ event ∷ []) new
+goes_on network events net new event reply b step framed done own =
+    let m : EventRecord = record { event = event; reply = reply; net = new } in
+    let start = new_net network in
+    let facts = grows net new event reply own step done in
+    let still : All (StaysStored new) events = λ k d within. stays net new facts.0 _ (b.stored k d within) in
+    record {
+      history = b.history ++ m ∷ [];
+      is = history_more start b.history m b.is (subst (λ (n : NetValue). Step n event reply new) (sym b.ends) step);
+      framed = All-push (λ (x : EventRecord). IsFramed x.event x.reply x.net) b.history m b.framed framed;
+      of = map-append (λ (x : EventRecord). x.event) b.history (m ∷ []) ∙ ap (λ es. es ++ event ∷ []) b.of;
+      ends = net_more start b.history m;
+      done = All-push (λ (x : EventRecord). is_done x.reply ≡ true) b.history m b.done done;
+      own = All-push IsOfBeaconing events event b.own own;
+      stored = All-push (StaysStored new) events event still facts.1;
+    }
+
+pub same_network : (net new : NetValue) (event : EventValue) (reply : Reply) → IsOfBeaconing event → Step net event reply new
+    → is_done reply ≡ true → new.network ≡ net.network
+same_network net new event reply own step done = (grows net new event reply own step done).0.network
+
+-- the same, from the topology that the network has
+pub next : (net new : NetValue) (events : List EventValue) (event : EventValue) (reply : Reply)
+    → IsBeaconing net.network events net → Step net event reply new → IsFramed event reply new → is_done reply ≡ true
+    → IsOfBeaconing event → IsBeaconing new.network (events ++ event ∷ []) new
+next net new events event reply b step framed done own =
+    subst (λ n. IsBeaconing n (events ++ event ∷ []) new) (sym (same_network net new event reply own step done))
+    (goes_on net.network events net new event reply b step framed done own)
+
+pub is_own : (event : BeaconEvent) → IsOfBeaconing (event_of event)
+is_own (events.Tick now) = tt
+is_own (events.Originate ia egress beta0) = tt
+is_own (events.Extend beacon ia egress) = tt
+is_own (events.Terminate beacon ia) = tt

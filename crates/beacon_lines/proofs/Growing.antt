@@ -1,0 +1,186 @@
+-- What an event of a beaconing does: beacons and segments stay, and a segment that it ends is stored.
+use Rattle.std.proofs.Common.{◌≡◌, ℕ, zero, suc, Bool, true, false, List, [], ◌∷◌, ◌++◌, Contains, Option, Some, Result, Ok, Err, refl, sym, ap, ◌∙◌, subst, arith}
+use Rattle.std.specs.Prelude.{slice_get, nat_le, ok_or}
+use Rattle.std.proofs.lemmas.List.Elements.{Contains-append_right}
+use Rattle.refusal.specs.Refusal.{◌>>=◌, check, refused_as}
+use Rattle.refusal.proofs.Steps.{ok_is, ok_or_ok}
+use Rattle.scion_topology.specs.Network.{Network}
+use Rattle.path_segment.specs.Chain.{Chain}
+use Rattle.beaconing.specs.Calls.{terminated}
+use Rattle.path_server.specs.declared.fault.StoreFault.{StoreFault}
+use Rattle.path_server.specs.Store.{answer_to, registered, with_new, IsRegisterAnswer}
+use Rattle.path_server.proofs.Plain.{answer_is_plain, Contains-registered_kept}
+use Rattle.network_core.specs.declared.fault.EventFault.TheVariants as faults
+use Rattle.network_core.specs.declared.reply.Reply.{Reply}
+use Rattle.network_core.specs.Event.{EventValue, Tick, Originate, Extend, Terminate, Sweep, Ask, Send, Turn, Lose, Alter, CutLink, MendLink, RotateKey}
+use Rattle.network_core.specs.Value.{NetValue}
+use Rattle.network_core.specs.Step.{Made, has_room, with_beacon, with_segment, beacon_at, begun, passed_on, ended, originates, extends, terminates, ticked, Leads, Step}
+use Rattle.network_core.specs.Delivery.{is_done}
+use Rattle.network_core.proofs.Effects.{both_done, done_below}
+use Rattle.beacon_lines.specs.Beaconing.{IsOfBeaconing, StaysStored}
+
+-- the topology stays, and so do beacons by their numbers and stored segments
+pub record Grows (old new : NetValue) : Type 0 where
+  pub network : new.network ≡ old.network
+  pub beacons : (number : ℕ) (chain : Chain) → slice_get old.beacons number ≡ Some chain
+      → slice_get new.beacons number ≡ Some chain
+  pub segments : (segment : Chain) → Contains old.segments segment → Contains new.segments segment
+
+still_there : {X : Type 0} (xs ys : List X) (k : ℕ) (x : X) → slice_get xs k ≡ Some x → slice_get (xs ++ ys) k ≡ Some x
+still_there [] ys k x is = absurd cc
+still_there (y ∷ xs) ys zero x is = is
+still_there (y ∷ xs) ys (suc k) x is = still_there xs ys k x is
+
+-- an event that is done leads to what it made
+led : (made : Made) (old : NetValue) (reply : Reply) (new : NetValue) → Leads made old reply new → is_done reply ≡ true
+    → (x : Reply × NetValue) × ((made ≡ Ok x) × (new ≡ x.1))
+led (Ok x) old reply new is done = (x, (refl, is.1))
+led (Err fault) old reply new is done = absurd (let refused : is_done reply ≡ false = ap is_done is.0 in cc)
+
+ticks : (old new : NetValue) (moment : ℕ) → new ≡ record old { moment = moment } → Grows old new
+ticks old new moment is = record {
+  network = ap (λ (n : NetValue). n.network) is;
+  beacons = λ number chain there. ap (λ (n : NetValue). slice_get n.beacons number) is ∙ there;
+  segments = λ segment there. subst (λ (n : NetValue). Contains n.segments segment) (sym is) there;
+}
+
+-- one more beacon
+adds : (old new : NetValue) (chain : Chain) (x : Reply × NetValue) → with_beacon old chain ≡ Ok x → new ≡ x.1 → Grows old new
+adds old new chain x made is =
+    let inner = both_done (check (has_room old.beacons) faults.TooMany) _ x made in
+    let more : new ≡ record old { beacons = old.beacons ++ chain ∷ [] } = is ∙ ap (λ (p : Reply × NetValue). p.1) (sym (ok_is _ x inner.1.1)) in
+    record {
+      network = ap (λ (n : NetValue). n.network) more;
+      beacons = λ number other there. ap (λ (n : NetValue). slice_get n.beacons number) more ∙ still_there old.beacons (chain ∷ []) number other there;
+      segments = λ segment there. subst (λ (n : NetValue). Contains n.segments segment) (sym more) there;
+    }
+
+-- a segment that is registered is in the store
+with_itself : (answer : Result Bool StoreFault) (is_new : Bool) (segments : List Chain) (segment : Chain) (now : ℕ)
+    → answer ≡ Ok is_new → IsRegisterAnswer segments segment now answer → Contains (with_new answer segments segment) segment
+with_itself (Ok true) is_new segments segment now is plain = Contains-append_right segments (segment ∷ []) segment (0, omega arith, refl)
+with_itself (Ok false) is_new segments segment now is plain = plain.1
+with_itself (Err fault) is_new segments segment now is plain = absurd cc
+
+has_itself : (segments : List Chain) (segment : Chain) (now : ℕ) (is_new : Bool) → answer_to segments segment now ≡ Ok is_new
+    → Contains (registered segments segment now) segment
+unfolding registered
+has_itself segments segment now is_new is =
+    with_itself (answer_to segments segment now) is_new segments segment now is (answer_is_plain segments segment now)
+
+-- what a beacon becomes stays
+ended_same : (old new : NetValue) (beacon ia : ℕ) (segment : Chain) → Grows old new → ended old beacon ia ≡ Ok segment
+    → ended new beacon ia ≡ Ok segment
+ended_same old new beacon ia segment grows is =
+    let was = both_done (beacon_at old beacon) _ segment is in
+    let here = grows.beacons beacon was.0 (ok_or_ok (slice_get old.beacons beacon) faults.NoBeacon was.0 was.1.0) in
+    ap (λ (o : Option Chain). ok_or o faults.NoBeacon >>= λ chain. refused_as faults.Beacon (terminated new.network chain ia)) here
+    ∙ ap (λ (n : Network). refused_as faults.Beacon (terminated n was.0 ia)) grows.network ∙ was.1.1
+
+pub stays : (old new : NetValue) → Grows old new → (event : EventValue) → StaysStored old event → StaysStored new event
+stays old new grows (Terminate beacon ia) (segment, (is, there)) =
+    (segment, (ended_same old new beacon ia segment grows is, grows.segments segment there))
+stays old new grows (Tick to) stored = tt
+stays old new grows (Originate ia egress beta) stored = tt
+stays old new grows (Extend beacon ia egress) stored = tt
+stays old new grows Sweep stored = tt
+stays old new grows (Ask src dst options limit) stored = tt
+stays old new grows (Send route payload) stored = tt
+stays old new grows (Turn packet) stored = tt
+stays old new grows (Lose packet) stored = tt
+stays old new grows (Alter packet at change) stored = tt
+stays old new grows (CutLink ia interface) stored = tt
+stays old new grows (MendLink ia interface) stored = tt
+stays old new grows (RotateKey ia key) stored = tt
+
+-- an end of a beacon
+ends : (old new : NetValue) (beacon ia : ℕ) (x : Reply × NetValue) → terminates old beacon ia ≡ Ok x → new ≡ x.1
+    → Grows old new × StaysStored new (Terminate beacon ia)
+ends old new beacon ia x made is =
+    let outer = both_done (ended old beacon ia) (with_segment old) x made in
+    let segment = outer.0 in
+    let inner = both_done (refused_as faults.Store (answer_to old.segments segment old.moment)) _ x outer.1.1 in
+    let answer = done_below faults.Store (answer_to old.segments segment old.moment) inner.0 inner.1.0 in
+    let more : new ≡ record old { segments = registered old.segments segment old.moment } =
+    is ∙ ap (λ (p : Reply × NetValue). p.1) (sym (ok_is _ x inner.1.1)) in
+    let grows : Grows old new = record {
+      network = ap (λ (n : NetValue). n.network) more;
+      beacons = λ number chain there. ap (λ (n : NetValue). slice_get n.beacons number) more ∙ there;
+      segments = λ other there. subst (λ (n : NetValue). Contains n.segments other) (sym more)
+          (Contains-registered_kept old.segments segment old.moment other there);
+    } in (
+      grows,
+      (
+        segment,
+        (
+          ended_same old new beacon ia segment grows outer.1.0,
+          subst (λ (n : NetValue). Contains n.segments segment) (sym more)
+              (has_itself old.segments segment old.moment inner.0 answer),
+        ),
+      ),
+    )
+
+pub grows : (old new : NetValue) (event : EventValue) (reply : Reply) → IsOfBeaconing event → Step old event reply new → is_done reply ≡ true
+    → Grows old new × StaysStored new event
+grows old new (Tick to) reply own is done =
+    let made = led (ticked old to) old reply new is done in
+    let inner = both_done (check (nat_le old.moment to) faults.TimeBack) _ made.0 made.1.0 in
+    (ticks old new to (made.1.1 ∙ ap (λ (p : Reply × NetValue). p.1) (sym (ok_is _ made.0 inner.1.1))), tt)
+grows old new (Originate ia egress beta) reply own is done =
+    let made = led (originates old ia egress beta) old reply new is done in
+    let inner = both_done (begun old ia egress beta) (with_beacon old) made.0 made.1.0 in
+    (adds old new inner.0 made.0 inner.1.1 made.1.1, tt)
+grows old new (Extend beacon ia egress) reply own is done =
+    let made = led (extends old beacon ia egress) old reply new is done in
+    let inner = both_done (passed_on old beacon ia egress) (with_beacon old) made.0 made.1.0 in
+    (adds old new inner.0 made.0 inner.1.1 made.1.1, tt)
+grows old new (Terminate beacon ia) reply own is done =
+    let made = led (terminates old beacon ia) old reply new is done in
+    ends old new beacon ia made.0 made.1.0 made.1.1
+grows old new Sweep reply own is done = absurd own
+grows old new (Ask src dst options limit) reply own is done = absurd own
+grows old new (Send route payload) reply own is done = absurd own
+grows old new (Turn packet) reply own is done = absurd own
+grows old new (Lose packet) reply own is done = absurd own
+grows old new (Alter packet at change) reply own is done = absurd own
+grows old new (CutLink ia interface) reply own is done = absurd own
+grows old new (MendLink ia interface) reply own is done = absurd own
+grows old new (RotateKey ia key) reply own is done = absurd own
+
+-- an event of a beaconing that is not done changes nothing
+unled : (made : Made) (old : NetValue) (reply : Reply) (new : NetValue) → Leads made old reply new → is_done reply ≡ false
+    → ((x : Reply × NetValue) → made ≡ Ok x → is_done x.0 ≡ true) → new ≡ old
+unled (Ok x) old reply new is undone made = absurd (let done = ap is_done is.0 ∙ made x refl in cc)
+unled (Err fault) old reply new is undone made = is.1
+
+begun_done : (net : NetValue) (chain : Chain) (x : Reply × NetValue) → with_beacon net chain ≡ Ok x → is_done x.0 ≡ true
+begun_done net chain x made =
+    let inner = both_done (check (has_room net.beacons) faults.TooMany) _ x made in
+    ap (λ (p : Reply × NetValue). is_done p.0) (sym (ok_is _ x inner.1.1))
+
+pub unchanged : (old new : NetValue) (event : EventValue) (reply : Reply) → IsOfBeaconing event → Step old event reply new → is_done reply ≡ false
+    → new ≡ old
+unchanged old new (Tick to) reply own is undone =
+    unled (ticked old to) old reply new is undone (λ x made.
+    (let inner = both_done (check (nat_le old.moment to) faults.TimeBack) _ x made in
+    ap (λ (p : Reply × NetValue). is_done p.0) (sym (ok_is _ x inner.1.1))))
+unchanged old new (Originate ia egress beta) reply own is undone =
+    unled (originates old ia egress beta) old reply new is undone (λ x made.
+    (let inner = both_done (begun old ia egress beta) (with_beacon old) x made in begun_done old inner.0 x inner.1.1))
+unchanged old new (Extend beacon ia egress) reply own is undone =
+    unled (extends old beacon ia egress) old reply new is undone (λ x made.
+    (let inner = both_done (passed_on old beacon ia egress) (with_beacon old) x made in begun_done old inner.0 x inner.1.1))
+unchanged old new (Terminate beacon ia) reply own is undone =
+    unled (terminates old beacon ia) old reply new is undone (λ x made.
+    (let outer = both_done (ended old beacon ia) (with_segment old) x made in
+    let inner = both_done (refused_as faults.Store (answer_to old.segments outer.0 old.moment)) _ x outer.1.1 in
+    ap (λ (p : Reply × NetValue). is_done p.0) (sym (ok_is _ x inner.1.1))))
+unchanged old new Sweep reply own is undone = absurd own
+unchanged old new (Ask src dst options limit) reply own is undone = absurd own
+unchanged old new (Send route payload) reply own is undone = absurd own
+unchanged old new (Turn packet) reply own is undone = absurd own
+unchanged old new (Lose packet) reply own is undone = absurd own
+unchanged old new (Alter packet at change) reply own is undone = absurd own
+unchanged old new (CutLink ia interface) reply own is undone = absurd own
+unchanged old new (MendLink ia interface) reply own is undone = absurd own
+unchanged old new (RotateKey ia key) reply own is undone = absurd own

@@ -1,0 +1,44 @@
+-- The text of a beaconing: the line of its topology, and the lines of its events.
+use Rattle.std.proofs.Common.{◌≡◌, ℕ, List, [], ◌∷◌, ◌++◌, map, Ok, Err, refl, sym, ap, ◌∙◌, subst}
+use Rattle.std.specs.Prelude.{codes, flat_map}
+use Rattle.std.specs.Str.{IsUtf8}
+use Rattle.std.proofs.lemmas.List.{append_assoc}
+use Rattle.std.proofs.lemmas.List.Concat.{flat_map-cons}
+use Rattle.json_fields.proofs.Documents.{no_document}
+use Rattle.scion_topology.specs.declared.fault.TopologyFault.TheVariants.{NotJson}
+use Rattle.scion_topology.specs.Network.{Network}
+use Rattle.scion_topology.specs.Rules.{IsNetwork}
+use Rattle.scion_topology.specs.Topology.{network_in, of_value}
+use Rattle.network_core.specs.Value.{NetValue}
+use Rattle.network_core.proofs.Runs.{is_run}
+use Rattle.beacon_lines.specs.declared.event.BeaconEvent.{BeaconEvent}
+use Rattle.beacon_lines.specs.Beaconing.{IsBeaconing, event_of}
+use Rattle.beacon_lines.specs.Lines.{AreBeaconLines, event_line}
+
+-- bytes that are no UTF-8 are no topology
+pub no_text : (bytes : List ℕ) → ¬ (IsUtf8 bytes) → network_in bytes ≡ Err NotJson
+no_text bytes none = ap of_value (no_document bytes (λ text. absurd (none text)))
+
+-- the lines of events, one after another
+lines_of : (events : List BeaconEvent) → flat_map event_line (map event_of events) ≡ flat_map (λ event. event_line (event_of event)) events
+lines_of [] = refl
+lines_of (event ∷ events) =
+    flat_map-cons event_line (event_of event) (map event_of events)
+    ∙ ap (λ later. event_line (event_of event) ++ later) (lines_of events)
+    ∙ sym (flat_map-cons (λ event. event_line (event_of event)) event events)
+
+pub are_lines : (line text : List ℕ) (network : Network) (events : List BeaconEvent) (net : NetValue) → network_in line ≡ Ok network
+    → IsNetwork network → net.network ≡ network → IsBeaconing net.network (map event_of events) net
+    → text ≡ (line ++ codes "\n") ++ flat_map (λ event. event_line (event_of event)) events → AreBeaconLines line text
+are_lines line text network events net topology known same beaconing says =
+    let own = subst (λ n. IsBeaconing n (map event_of events) net) same beaconing in
+    record {
+      network = network;
+      topology = topology;
+      events = map event_of events;
+      net = net;
+      beaconing = own;
+      run = is_run network own.history known own.is own.framed;
+      says = says ∙ append_assoc line (codes "\n") (flat_map (λ event. event_line (event_of event)) events)
+          ∙ ap (λ later. line ++ (codes "\n" ++ later)) (sym (lines_of events));
+    }

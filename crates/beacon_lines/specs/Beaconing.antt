@@ -1,0 +1,50 @@
+-- A beaconing: ASes begin, pass on and end beacons (draft-dekater-scion-controlplane, path
+-- construction).
+use Rattle.std.specs.Prelude.{◌≡◌, true, List, map, All, Contains, Ok}
+use Rattle.scion_topology.specs.Network.{Network}
+use Rattle.path_segment.specs.Chain.{Chain}
+use Rattle.network_core.specs.Event.{EventValue, Tick, Originate, Extend, Terminate}
+use Rattle.network_core.specs.Value.{NetValue, new_net}
+use Rattle.network_core.specs.Step.{ended}
+use Rattle.network_core.specs.History.{EventRecord, IsHistory, net_after}
+use Rattle.network_core.specs.Delivery.{AllFramed, is_done}
+use Rattle.beacon_lines.specs.declared.event.BeaconEvent.{BeaconEvent}
+use Rattle.beacon_lines.specs.declared.event.BeaconEvent.TheVariants as events
+
+-- an event of a beaconing, as one of a network
+abbrev pub event_of : BeaconEvent → EventValue
+event_of (events.Tick now) = Tick now
+event_of (events.Originate ia egress beta0) = Originate ia egress beta0
+event_of (events.Extend beacon ia egress) = Extend beacon ia egress
+event_of (events.Terminate beacon ia) = Terminate beacon ia
+
+-- an event of a beaconing: the second is set, or a beacon is begun, passed on or ended
+abbrev pub IsOfBeaconing : EventValue → Type 0
+IsOfBeaconing (Tick to) = Unit {0}
+IsOfBeaconing (Originate ia egress beta) = Unit {0}
+IsOfBeaconing (Extend beacon ia egress) = Unit {0}
+IsOfBeaconing (Terminate beacon ia) = Unit {0}
+IsOfBeaconing event = ⊥
+
+-- if the event ends a beacon, the segment that the beacon becomes is stored in the network
+abbrev pub StaysStored : (net : NetValue) (event : EventValue) → Type 0
+StaysStored net (Terminate beacon ia) =
+    (segment : Chain) × ((ended net beacon ia ≡ Ok segment) × Contains net.segments segment)
+StaysStored net event = Unit {0}
+
+-- these events, all of a beaconing, lead from a new network of this topology to this network; none
+-- of them is refused, and the segments that they end are stored in it
+pub record IsBeaconing (network : Network) (events : List EventValue) (net : NetValue) : Type 0 where
+  pub history : List EventRecord
+  pub is : IsHistory (new_net network) history
+  pub framed : AllFramed history
+  pub of : map (λ one. one.event) history ≡ events
+  pub ends : net_after (new_net network) history ≡ net
+  pub done : All (λ one. is_done one.reply ≡ true) history
+  pub own : All IsOfBeaconing events
+  pub stored : All (StaysStored net) events
+
+-- a network, and the events that have made it from its topology
+pub record BeaconRunValue : Type 0 where
+  pub net : NetValue
+  pub events : List EventValue

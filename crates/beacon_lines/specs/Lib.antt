@@ -1,0 +1,2 @@
+pub mod Beaconing
+pub mod Lines

@@ -1,0 +1,41 @@
+-- The lines of a beaconing.
+use Rattle.std.specs.Prelude.{◌≡◌, ℕ, ◌==◌, ◌||◌, if◌then◌else◌, codes, List, [], ◌++◌, map, flat_map, Ok}
+use Rattle.std.specs.Fmt.{decimal}
+use Rattle.isd_as.specs.Address.{canonical}
+use Rattle.scion_topology.specs.Network.{Network}
+use Rattle.scion_topology.specs.Topology.{network_in}
+use Rattle.network_core.specs.Event.{EventValue, Tick, Originate, Extend, Terminate}
+use Rattle.network_core.specs.Value.{NetValue}
+use Rattle.network_core.specs.Ran.{IsRun}
+use Rattle.beacon_lines.specs.Beaconing.{IsBeaconing}
+
+-- the bytes as one line: a line feed or a carriage return, which JSON has only between its tokens,
+-- is a space
+abbrev pub one_line : List ℕ → List ℕ
+one_line bytes = map (λ byte. if (byte == 10) || (byte == 13) then 32 else byte) bytes
+
+-- the line of an event, with its end
+unfoldable pub event_line : EventValue → List ℕ
+event_line (Tick to) = codes "{\"do\":\"tick\",\"now\":" ++ (decimal to ++ codes "}\n")
+event_line (Originate ia egress beta) =
+    codes "{\"do\":\"originate\",\"ia\":\"" ++ (canonical ia
+    ++ (codes "\",\"egress\":" ++ (decimal egress
+    ++ (codes ",\"beta0\":" ++ (decimal beta ++ codes "}\n")))))
+event_line (Extend beacon ia egress) =
+    codes "{\"do\":\"extend\",\"beacon\":" ++ (decimal beacon
+    ++ (codes ",\"ia\":\"" ++ (canonical ia
+    ++ (codes "\",\"egress\":" ++ (decimal egress ++ codes "}\n")))))
+event_line (Terminate beacon ia) =
+    codes "{\"do\":\"terminate\",\"beacon\":" ++ (decimal beacon
+    ++ (codes ",\"ia\":\"" ++ (canonical ia ++ codes "\"}\n")))
+event_line event = []
+
+-- the text is the line of a topology and the lines of a beaconing of its network
+pub record AreBeaconLines (line text : List ℕ) : Type 0 where
+  pub network : Network
+  pub topology : network_in line ≡ Ok network
+  pub events : List EventValue
+  pub net : NetValue
+  pub beaconing : IsBeaconing network events net
+  pub run : IsRun network beaconing.history
+  pub says : text ≡ line ++ (codes "\n" ++ flat_map event_line events)

@@ -1,0 +1,71 @@
+ghost use Rattle.std.specs.Prelude.{◌≡◌, is_some, option_map, Some};
+ghost use Rattle.network_core.specs.Delivery.{is_done};
+ghost use Rattle.network_core.specs.Seen as events;
+ghost use Rattle.beacon_lines.specs.Beaconing.{event_of};
+
+use isd_as::{IfId, IsdAs};
+use network_core::{Event, Reply};
+
+/// An event of a beaconing.
+#[derive(Clone, Copy)]
+pub(crate) enum BeaconEvent {
+    /// The second is set.
+    Tick {
+        now: u32,
+    },
+    /// An AS begins a beacon.
+    Originate {
+        ia: IsdAs,
+        egress: IfId,
+        beta0: u16,
+    },
+    /// An AS passes on the beacon of this number.
+    Extend {
+        beacon: u32,
+        ia: IsdAs,
+        egress: IfId,
+    },
+    /// An AS ends the beacon of this number.
+    Terminate {
+        beacon: u32,
+        ia: IsdAs,
+    },
+}
+
+/// What an event that was done has made.
+#[derive(Clone, Copy)]
+pub(crate) enum Effect {
+    /// The beacon of this number.
+    Begun(u32),
+    /// Something else.
+    Done,
+}
+
+/// What an event made, by its reply; `None` if it was refused.
+pub(crate) fn effect_of(reply: Reply) -> Option<Effect>
+    ensures { is_some result ≡ is_done reply }
+{
+    match reply {
+        Reply::Refused(_) => None,
+        Reply::Begun(beacon) => match u32::try_from(beacon) {
+            Ok(beacon) => Some(Effect::Begun(beacon)),
+            Err(_) => Some(Effect::Done),
+        },
+        _ => Some(Effect::Done),
+    }
+}
+
+impl BeaconEvent {
+    /// The event of a network. It is never `None`: it is returned so since the borrow checker has no
+    /// rule for an event that is lent where it was made.
+    pub(crate) fn of_network<'a>(&self) -> Option<Event<'a>>
+        ensures { option_map events.event_value result ≡ Some (event_of self.now) }
+    {
+        Some(match *self {
+            Self::Tick { now } => Event::Tick { now },
+            Self::Originate { ia, egress, beta0 } => Event::Originate { ia, egress, beta0 },
+            Self::Extend { beacon, ia, egress } => Event::Extend { beacon, ia, egress },
+            Self::Terminate { beacon, ia } => Event::Terminate { beacon, ia },
+        })
+    }
+}

@@ -1,0 +1,16 @@
+//! A complete beaconing of a topology, as lines that `scionet run` takes: the events by which each
+//! core AS reaches the ASes below it and the other core ASes.
+//!
+//! Each event is done in a network of its own, and its line is written only if it was not refused.
+#![tactic(auto)]
+
+mod event;
+mod line;
+mod lines;
+mod run;
+mod search;
+mod wanted;
+mod ways;
+
+pub use lines::{ReadError, beacon_lines};
+pub use wanted::{MAX_PER_PAIR, Wanted};

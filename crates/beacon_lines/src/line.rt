@@ -1,0 +1,35 @@
+//! The line of an event.
+
+ghost use Rattle.std.specs.Prelude.{◌≡◌, ◌++◌, OnOk};
+ghost use Rattle.std.specs.String.{string_bytes};
+ghost use Rattle.beacon_lines.specs.Beaconing.{event_of};
+ghost use Rattle.beacon_lines.specs.Lines.{event_line};
+
+use crate::event::BeaconEvent;
+use std::alloc::AllocError;
+use std::fmt::Write;
+
+/// Adds the line of an event, with its end.
+#[tactic(auto, unfolding(crate::specs::Lines::event_line))]
+pub(crate) fn push_line(text: &mut String, event: BeaconEvent) -> Result<(), AllocError>
+    ensures { OnOk result
+        (string_bytes text.new ≡ string_bytes text.old ++ event_line (event_of event)) }
+{
+    match event {
+        BeaconEvent::Tick { now } => writeln!(text, r#"{{"do":"tick","now":{now}}}"#),
+        BeaconEvent::Originate { ia, egress, beta0 } => writeln!(
+            text,
+            r#"{{"do":"originate","ia":"{ia}","egress":{egress},"beta0":{beta0}}}"#
+        ),
+        BeaconEvent::Extend { beacon, ia, egress } => writeln!(
+            text,
+            r#"{{"do":"extend","beacon":{beacon},"ia":"{ia}","egress":{egress}}}"#
+        ),
+        BeaconEvent::Terminate { beacon, ia } => {
+            writeln!(
+                text,
+                r#"{{"do":"terminate","beacon":{beacon},"ia":"{ia}"}}"#
+            )
+        }
+    }
+}

@@ -1,0 +1,115 @@
+ghost use Rattle.std.specs.Prelude.{◌≡◌, ◌++◌, codes, Err, flat_map, IfErr, IfOk, OnOk};
+ghost use Rattle.std.specs.String.{string_bytes};
+ghost use Rattle.refusal.specs.declared.fault.OrMemory.{OrMemory};
+ghost use Rattle.scion_topology.specs.declared.fault.TopologyFault.{TopologyFault};
+ghost use Rattle.scion_topology.specs.Topology.{network_in};
+ghost use Rattle.network_core.specs.Value.{new_net};
+ghost use Rattle.beacon_lines.specs.Beaconing.{event_of};
+ghost use Rattle.beacon_lines.specs.Lines.{AreBeaconLines, event_line, one_line};
+
+use crate::event::BeaconEvent;
+use crate::line::push_line;
+use crate::run::BeaconRun;
+use crate::search::{Limits, spread};
+use crate::wanted::Wanted;
+use crate::ways::WaysOut;
+use isd_as::IsdAs;
+use path_segment::MAX_SEGMENT_LEN;
+use refusal::OrMemory;
+use scion_topology::{LinkClass, Topology, TopologyFault};
+use std::alloc::{AllocError, Global};
+use std::str;
+
+/// Why no lines were made: the topology is refused, or memory ran out.
+pub type ReadError = OrMemory<TopologyFault>;
+
+/// The bytes as one line: each end of a line in them is a space.
+fn to_one_line(alloc: Global, bytes: &[u8]) -> Result<Vec<u8>, AllocError>
+    ensures { IfOk result (λ line. line.items ≡ one_line bytes.now) }
+{
+    let mut line = Vec::with_capacity(alloc, bytes.len())?;
+    for byte in bytes {
+        let is_end = *byte == b'\n' || *byte == b'\r';
+        line.push(if is_end { b' ' } else { *byte })?;
+    }
+    Ok(line)
+}
+
+/// The addresses of the ASes of a topology, in its order.
+fn addresses(alloc: Global, topology: &Topology) -> Result<Vec<IsdAs>, AllocError> {
+    let mut ases = Vec::new(alloc);
+    for one in topology.ases() {
+        ases.push(one.ia)?;
+    }
+    Ok(ases)
+}
+
+/// Whether the AS at this place is a core AS.
+fn is_core(topology: &Topology, place: usize) -> bool {
+    topology.ases().get(place).is_some_and(|one| one.core)
+}
+
+/// The beaconing of a topology.
+fn beaconing_of(alloc: Global, topology: Topology, wanted: &Wanted) -> Result<BeaconRun, AllocError>
+    ensures { IfOk result (λ run. run.net.network ≡ topology) }
+{
+    let ases = addresses(alloc, &topology)?;
+    let down = WaysOut::of(alloc, &topology, LinkClass::Child)?;
+    let core = WaysOut::of(alloc, &topology, LinkClass::Core)?;
+    let mut run = BeaconRun::new(alloc, topology);
+    run.attempt(alloc, &BeaconEvent::Tick { now: wanted.now })?;
+    let (per_pair, entries) = (wanted.per_pair, wanted.core_len.min(MAX_SEGMENT_LEN));
+    let long = Limits {
+        per_pair,
+        entries: MAX_SEGMENT_LEN,
+    };
+    let short = Limits { per_pair, entries };
+    for origin in 0..ases.len() {
+        if is_core(run.topology(), origin) {
+            spread(alloc, &mut run, &ases, &down, origin, long)?;
+            spread(alloc, &mut run, &ases, &core, origin, short)?;
+        }
+    }
+    Ok(run)
+}
+
+/// Adds the lines of events.
+fn push_lines(text: &mut String, events: &[BeaconEvent]) -> Result<(), AllocError>
+    ensures { OnOk result (string_bytes text.new
+        ≡ string_bytes text.old ++ flat_map (λ event. event_line (event_of event)) events.now) }
+{
+    for event in events {
+        push_line(text, *event)?;
+    }
+    Ok(())
+}
+
+/// The lines of a complete beaconing of a topology, as `scionet run` takes them: the topology, the
+/// second, and the events that make the segments. Each core AS begins beacons over its links. Each
+/// AS ends and passes on the first of one origin that reach it, as many as are wanted: beacons go
+/// down over child links, and from core AS to core AS over core links. So an AS that has a segment
+/// of at most 63 entries from a core AS gets one.
+///
+/// The topology is one JSON text of one or more lines. If it is refused, its fault is returned.
+///
+/// With C core ASes, N ASes and L links it tries at most 2·C·L·K beacons if K segments are wanted
+/// from one AS to another, and takes time and memory in proportion to those that it makes, beside
+/// 64 steps for each that it tries.
+pub fn beacon_lines(alloc: Global, topology: &[u8], wanted: &Wanted) -> Result<String, ReadError>
+    ensures lines { IfOk result
+        (λ text. AreBeaconLines (one_line topology.now) (string_bytes text)) }
+    ensures refused { IfErr result (λ error. (fault : TopologyFault)
+        → error ≡ OrMemory.Refused fault → network_in (one_line topology.now) ≡ Err fault) }
+{
+    let line = to_one_line(alloc, topology)?;
+    let Ok(line) = str::from_utf8(&line) else {
+        return Err(OrMemory::Refused(TopologyFault::NotJson));
+    };
+    let network = Topology::from_json(alloc, line.as_bytes())?;
+    network.known();
+    let run = beaconing_of(alloc, network, wanted)?;
+    let mut text = String::from_str(alloc, line)?;
+    text.push_str("\n")?;
+    push_lines(&mut text, run.events())?;
+    Ok(text)
+}

@@ -1,0 +1,109 @@
+//! A network in which beacons are begun, passed on and ended, and the events by which they were.
+
+ghost use Rattle.std.specs.Prelude.{◌≡◌, IfOk, is_some, map, OnErr};
+ghost use Rattle.network_core.specs.declared.reply.Reply as replies;
+ghost use Rattle.network_core.specs.Seen.{event_value};
+ghost use Rattle.network_core.specs.Value.{new_net};
+ghost use Rattle.network_core.specs.Step.{Step};
+ghost use Rattle.network_core.specs.Delivery.{IsFramed, is_done};
+ghost use Rattle.beacon_lines.specs.Beaconing.{event_of};
+
+use crate::event::{BeaconEvent, Effect, effect_of};
+use forwarding::TurnReply;
+use network_core::{Event, Net, Reply};
+use scion_topology::Topology;
+use std::alloc::{AllocError, Global};
+use std::marker::Model;
+
+/// A network and the events that have made it from its topology. An invariant says that these
+/// events lead to the network, that none was refused, and that the segments which they end are
+/// stored.
+#[derive(Drop)]
+pub(crate) struct BeaconRun {
+    net: Net,
+    events: Vec<BeaconEvent>,
+}
+
+impl Model for BeaconRun {
+    ghost use Rattle.std.specs.Prelude.{map};
+    ghost use Rattle.std.specs.Coded.{codes};
+    ghost use Rattle.policy_expr.specs.Code.{coded_tree};
+    ghost use Rattle.beacon_lines.specs.Beaconing.{BeaconRunValue, IsBeaconing, event_of};
+
+    ghost Value = { BeaconRunValue };
+
+    ghost coded = { Prim.hlevel (codes, coded_tree) };
+
+    ghost view = { λ r. record { net = r.net; events = map event_of r.events.items } };
+
+    ghost invariant = { λ r. IsBeaconing r.net.network (map event_of r.events.items) r.net };
+}
+
+/// An event of a network that is to happen.
+#[derive(Clone, Copy)]
+struct Wanted<'a> {
+    event: Event<'a>,
+}
+
+/// Does an event in a network, and returns what it made. If it is refused, nothing changes, and
+/// `None` is returned.
+fn happen(alloc: Global, net: &mut Net, wanted: &Wanted<'_>) -> Result<Option<Effect>, AllocError>
+    ensures done { IfOk result (λ effect. (reply : replies.Reply)
+        × ((is_some effect ≡ is_done reply)
+        × (Step net.old (event_value wanted.now.event) reply net.new
+        × IsFramed (event_value wanted.now.event) reply net.new))) }
+    ensures kept { OnErr result (net.new ≡ net.old) }
+{
+    let reply = net.step(alloc, &wanted.event)?;
+    // The borrow checker has to be told of the types in a reply.
+    if let Reply::Turned(TurnReply::Went(_)) = reply {
+        return Ok(Some(Effect::Done));
+    }
+    Ok(effect_of(reply))
+}
+
+impl BeaconRun {
+    /// A new network of this topology, and no event.
+    pub(crate) fn new(alloc: Global, topology: Topology) -> BeaconRun
+        ensures { result.net ≡ new_net topology }
+    {
+        BeaconRun {
+            net: Net::new(alloc, topology),
+            events: Vec::new(alloc),
+        }
+    }
+
+    /// The topology.
+    pub(crate) fn topology(&self) -> &Topology
+        ensures { result.now ≡ self.now.net.network }
+    {
+        self.net.topology()
+    }
+
+    /// The events that were done.
+    pub(crate) fn events(&self) -> &[BeaconEvent]
+        ensures { map event_of result.now ≡ self.now.events }
+    {
+        &self.events
+    }
+
+    /// Tries an event, and returns what it made. If it is refused, nothing changes, and `None` is
+    /// returned.
+    pub(crate) fn attempt(
+        &mut self,
+        alloc: Global,
+        event: &BeaconEvent,
+    ) -> Result<Option<Effect>, AllocError>
+        ensures { self.new.net.network ≡ self.old.net.network }
+    {
+        self.events.try_reserve(1)?;
+        let Some(wanted) = event.of_network() else {
+            return Ok(None);
+        };
+        let Some(effect) = happen(alloc, &mut self.net, &Wanted { event: wanted })? else {
+            return Ok(None);
+        };
+        let _ = self.events.push(*event);
+        Ok(Some(effect))
+    }
+}
