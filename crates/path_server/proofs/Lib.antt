@@ -1,4 +1,5 @@
 pub mod Counts
+pub mod Lasting
 pub mod Members
 pub mod Decided
 pub mod Plain

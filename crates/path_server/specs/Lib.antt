@@ -3,4 +3,5 @@ pub mod Segment
 pub mod Store
 pub mod Index
 pub mod Lookup
+pub mod Expiry
 pub mod inner

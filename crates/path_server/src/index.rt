@@ -1,7 +1,7 @@
 //! The index of a list of segments: their places, ordered by ends and then by registration.
 
-ghost use Rattle.std.specs.Prelude.{◌≡◌, ◌≤◌, ◌<◌, ℕ, length, filter, vec_len};
-ghost use Rattle.std.specs.List.{AllWithin, range_with_len};
+ghost use Rattle.std.specs.Prelude.{◌≡◌, ◌≤◌, ◌<◌, ℕ, length, filter, vec_len, vec_capacity};
+ghost use Rattle.std.specs.List.{AllWithin, insert, range_with_len};
 ghost use Rattle.std.specs.List.Sorted.{IsNonDecreasingBy};
 ghost use Rattle.path_server.specs.Index.{HasEachPlace, rank_at, order_at};
 ghost use Rattle.path_server.specs.inner.Index.{ends_number, lies_between};
@@ -62,6 +62,19 @@ fn end_near(segments: &[Segment], index: &[usize], ends: Ends) -> usize
         Some(place) if is_above(segments, *place, ends) => 0,
         _ => end_of(segments, index, ends),
     }
+}
+
+/// Inserts a place into an index that has room for it.
+///
+/// The place is appended and rotated to where it belongs, so that the places behind it are moved at
+/// once. `Vec::insert` moves them one by one.
+pub(crate) fn insert_place(index: &mut Vec<usize>, at: usize, place: usize)
+    requires within { at ≤ vec_len index.old }
+    requires room { vec_len index.old < vec_capacity index.old }
+    ensures { index.new.items ≡ insert index.old.items at place }
+{
+    let _ = index.push(place);
+    index[at..].rotate_right(1);
 }
 
 /// Rebuilds `index` for these segments. It needs an entry for each segment, and may have more.

@@ -6,6 +6,7 @@
 #![tactic(auto)]
 
 mod ends;
+mod expiry;
 mod fault;
 mod index;
 pub mod laws;

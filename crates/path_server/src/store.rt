@@ -1,13 +1,16 @@
-ghost use Rattle.std.specs.Prelude.{◌≡◌, ◌↔◌, [], ◌∷◌, ◌++◌, ◌≤◌, true, Ok, length, filter, vec_len, IfErr, IfOk, IsTrue, OnErr, OnOk};
+ghost use Rattle.std.specs.Prelude.{◌≡◌, ◌↔◌, [], ◌∷◌, ◌++◌, ◌≤◌, true, Ok, length, filter, vec_len, All, IfErr, IfOk, IsTrue, OnErr, OnOk};
+ghost use Rattle.path_segment.specs.Chain.{IsChainLive};
 ghost use Rattle.path_segment.specs.Tests.{is_live};
+ghost use Rattle.path_server.specs.Expiry.{IsLiveUpTo};
 ghost use Rattle.path_server.specs.Fault.{Registers};
 ghost use Rattle.path_server.specs.Index.{IsIndex};
 ghost use Rattle.path_server.specs.Store.{answer_to, registered, swept, expired_count, after_operation, TakesIn};
 ghost use Rattle.path_server.specs.Lookup.{segments_for};
 
 use crate::ends::Ends;
+use crate::expiry::{least_expiry, least_expiry_of};
 use crate::fault::{StoreError, StoreFault};
-use crate::index::{end_of, rebuild};
+use crate::index::{end_of, insert_place, rebuild};
 use crate::lookup::{ases_reached, core_segments_between, ending_in};
 use crate::op::StoreOp;
 use crate::same_ends::answer_to;
@@ -22,11 +25,16 @@ use std::marker::Model;
 ///
 /// An index finds them: it has their places, ordered by kind, last AS, first AS and registration.
 /// Lookups of up and down segments know only the last AS, so the last AS comes before the first.
+///
+/// The store also has the earliest expiry of its segments, in half seconds, or the largest number
+/// if there are none: up to then, a sweep has nothing to remove.
 #[derive(Debug, Drop)]
 pub struct PathStore {
     segments: Vec<Segment>,
     index: Vec<usize>,
+    least_expiry: u64,
     ghost agreed: { IsIndex segments.items index.items },
+    ghost live: { All (IsLiveUpTo least_expiry) segments.items },
 }
 
 impl Model for PathStore {
@@ -46,6 +54,7 @@ impl PathStore {
         PathStore {
             segments: Vec::new(alloc),
             index: Vec::new(alloc),
+            least_expiry: u64::MAX,
         }
     }
 
@@ -113,25 +122,49 @@ impl PathStore {
             return Err(segment);
         }
         let at = end_of(&self.segments, &self.index, Ends::of(&segment));
+        let expiry = least_expiry(&segment);
         let place = self.segments.len();
         if let Err(refused) = self.segments.push(segment) {
             return Err(refused.value);
         }
-        let _ = self.index.insert(at, place);
+        insert_place(&mut self.index, at, place);
+        self.least_expiry = self.least_expiry.min(expiry);
         Ok(())
     }
 
     /// Removes the segments that are not live at the second `now`, and returns their number.
     ///
-    /// It reads each segment, sorts the places of those that stay, and takes no memory.
-    #[tactic(auto, using(crate::proofs::Counts::left_out), unfolding(crate::specs::Store::swept))]
+    /// If there are none, it reads no segment. Else it reads each segment and sorts the places of
+    /// those that stay. It takes no memory.
+    #[tactic(auto, unfolding(crate::specs::Store::swept))]
     pub fn sweep(&mut self, now: u32) -> usize
+        ensures kept { self.new ≡ swept self.old now }
+        ensures count { result ≡ expired_count self.old now }
+    {
+        if self.are_all_live(now) {
+            return 0;
+        }
+        self.remove_expired(now)
+    }
+
+    /// Whether the second `now` is not later than the earliest expiry, so that no segment has
+    /// expired.
+    fn are_all_live(&self, now: u32) -> bool
+        ensures { IsTrue result → All (λ segment. IsChainLive segment now) self.now }
+    {
+        2 * u64::from(now) <= self.least_expiry
+    }
+
+    /// Removes the segments that are not live at the second `now`, and returns their number.
+    #[tactic(auto, using(crate::proofs::Counts::left_out), unfolding(crate::specs::Store::swept))]
+    fn remove_expired(&mut self, now: u32) -> usize
         ensures kept { self.new ≡ swept self.old now }
         ensures count { result ≡ expired_count self.old now }
     {
         let before = self.segments.len();
         keep_live(&mut self.segments, now);
         rebuild(&self.segments, &mut self.index);
+        self.least_expiry = least_expiry_of(&self.segments);
         before - self.segments.len()
     }
 
