@@ -132,8 +132,9 @@ fn work_of_threads<R: Threads + Wait + Sync + io::Input>(
 
 /// Does the work of this name `count` times, with these factors: ten lines for each of `lines`,
 /// five for each packet or beacon, and one for each request; ten thousand segments that are made or
-/// registered. The first three works on answers have 32 paths to choose from, and the others 2048.
-/// Packets are sent in a network over 64 hop fields, and carried there by 63 turns each.
+/// registered. A store of 20,000 live segments is swept. The first three works on answers have 32
+/// paths to choose from, and the others 2048. Packets are sent in a network over 64 hop fields, and
+/// carried there by 63 turns each.
 fn work<R: Threads + Wait + Sync + io::Input>(
     rt: &R,
     alloc: Global,
@@ -154,6 +155,7 @@ fn work<R: Threads + Wait + Sync + io::Input>(
         "answers-64-of-2048" => answers::answers(alloc, 4, 64, count),
         "make-segments" => stores::make(alloc, count),
         "register" => stores::register(alloc, count),
+        "sweep" => stores::sweep(alloc, count),
         "lookup" => stores::look_up(alloc, count),
         "copy-found" => stores::copy(alloc, count),
         "lines" => lines::lines(alloc, About::All, count),

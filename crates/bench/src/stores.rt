@@ -1,4 +1,4 @@
-//! Stores of many segments: making and registering them, and lookups among them.
+//! Stores of many segments: making, registering and sweeping them, and lookups among them.
 
 use anyhow::Result;
 use isd_as::{IfId, IsdAs};
@@ -98,6 +98,19 @@ pub(crate) fn register(alloc: Global, count: u32) -> Result<u64> {
         }
     }
     Ok(sum)
+}
+
+/// Sweeps a store of 20,000 live segments `count` times, and sums their numbers before and after.
+pub(crate) fn sweep(alloc: Global, count: u32) -> Result<u64> {
+    let mut store = PathStore::new(alloc);
+    for number in 0..2 * OTHERS {
+        put(&mut store, other(alloc, number)?);
+    }
+    let before = store.len() as u64;
+    for _ in 0..count {
+        store.sweep(NOW);
+    }
+    Ok(before.wrapping_add(store.len() as u64))
 }
 
 /// A store of the other segments, and of those that are looked up between two ASes.
