@@ -1,6 +1,9 @@
 -- A packet has at most two turns for each of its hop fields.
 use Rattle.std.proofs.Common.{◌≡◌, ℕ, zero, suc, ◌+◌, ◌*◌, ◌<◌, ◌≤◌, ◌⊎◌, List, [], ◌∷◌, ◌++◌, length, Result, Ok, Err, Some, IsOk, refl, sym, ap, ◌∙◌, subst, arith, inl, inr}
+use Rattle.std.specs.Prelude.{nat_lt}
 use Rattle.std.specs.Result.{is_ok}
+use Rattle.std.proofs.lemmas.Bool.{cases_Bool}
+use Rattle.std.proofs.lemmas.List.{length_push}
 use Rattle.std.proofs.Math.Nat.{lt_of_not-le}
 use Rattle.refusal.specs.Refusal.{◌>>=◌}
 use Rattle.scion_topology.specs.View.{View, entry_of}
@@ -23,7 +26,8 @@ use Rattle.router_step.proofs.Continuing.{header_again}
 use Rattle.forwarding.specs.declared.location.RouterStop.{RouterStop}
 use Rattle.forwarding.specs.declared.location.PacketLocation.TheVariants.{AtRouter}
 use Rattle.forwarding.specs.Frame.{addresses, framed}
-use Rattle.forwarding.specs.Turn.{Packet, IsAtNoRouter, put_at, put, over_link, at_owner, at_place, stepped, turn_under, turned_packet, after}
+use Rattle.policy_expr.specs.declared.hop.WalkHop.{WalkHop}
+use Rattle.forwarding.specs.Turn.{Packet, IsAtNoRouter, put_at, noted, hop_by, put, over_link, at_owner, at_place, stepped, turn_under, turned_packet, after}
 use Rattle.forwarding.proofs.Ended.{ended_stays, turn_by_view}
 use Rattle.forwarding.proofs.Framed.{is_frame}
 use Rattle.forwarding.proofs.Onward.{Owns, way_of, fits_again, leaves_from_inside, IsSeen, seen_as, entry_there, leads_on, owner_is_there}
@@ -43,9 +47,10 @@ IsHeld view FromHost header = Unit {0}
 IsHeld view Inside header = Owns view (way_of header)
 IsHeld view (Link interface) header = Unit {0}
 
--- a packet at a router of the network, at most so many turns from its end: two for each hop field
--- from the current one on, less those that it has had there
-record IsNear (n : Network) (left : ℕ) (packet : Packet) : Type 0 where
+-- a packet with this number of hop fields at a router of the network, at most so many turns from its
+-- end: two for each hop field from the current one on, less those that it has had there. It has
+-- passed at most one hop for each hop field before the current one.
+record IsNear (n : Network) (total left : ℕ) (packet : Packet) : Type 0 where
   stop : RouterStop
   there : packet.place ≡ AtRouter stop
   view : View
@@ -56,19 +61,21 @@ record IsNear (n : Network) (left : ℕ) (packet : Packet) : Type 0 where
   header : HeaderValue
   frame : IsFrame packet.bytes front text rest header
   held : IsHeld view stop.arrival header
+  count : length header.hops ≡ total
   few : 2 * length header.hops ≤ left + (2 * header.curr_hf + spent stop.arrival)
+  so_far : length packet.passed ≤ header.curr_hf
 
 -- where a turn leaves it: at no router, or at one and nearer to its end
-abbrev Nears : Network → ℕ → Packet → Type 0
-Nears n left packet = IsAtNoRouter packet ⊎ IsNear n left packet
+abbrev Nears : (n : Network) (total left : ℕ) (packet : Packet) → Type 0
+Nears n total left packet = IsAtNoRouter packet ⊎ IsNear n total left packet
 
 one_spent : (arrival : Arrival) → spent arrival ≤ 1
 one_spent FromHost = omega arith
 one_spent Inside = omega arith
 one_spent (Link interface) = omega arith
 
-some_left : (n : Network) (left : ℕ) (packet : Packet) → IsNear n left packet → 0 < left
-some_left n left packet near =
+some_left : (n : Network) (total left : ℕ) (packet : Packet) → IsNear n total left packet → 0 < left
+some_left n total left packet near =
     let within = near.frame.spells.is_header.curr_hf in
     let few = near.few in
     let most = one_spent near.stop.arrival in
@@ -86,8 +93,15 @@ was_outside view now (Link interface) source destination router header new is he
 
 -- ---- a turn
 
-module _ (n : Network) (network : IsNetwork n) where
-  module _ (less now : ℕ) (packet : Packet) (near : IsNear n (1 + less) packet) where
+-- a noted hop is at most one more
+one_noted : (passed : List WalkHop) (hop : WalkHop) → length (noted passed hop) ≤ length passed + 1
+one_noted passed hop = elim (cases_Bool (nat_lt (length passed) 64)) [
+  | inl fewer ↦ rw fewer (let more = length_push passed hop in omega arith)
+  | inr full ↦ rw full (omega arith)
+]
+
+module _ (n : Network) (network : IsNetwork n) (total : ℕ) where
+  module _ (less now : ℕ) (packet : Packet) (near : IsNear n total (1 + less) packet) where
     abbrev at : Situation
     at = record {
       view = near.view;
@@ -114,7 +128,7 @@ module _ (n : Network) (network : IsNetwork n) where
     seen = seen_as n near.stop.ia near.stop.router near.view near.seen
 
     to_router : (router : ℕ) (new : HeaderValue) → DoesStep at (ToRouter router) new
-        → IsNear n less (put n (bearing new) near.stop (ToRouter router))
+        → IsNear n total less (put n (bearing new) near.stop (ToRouter router))
     to_router router new done =
         let made = new_header at (ToRouter router) new done in
         let owner = to_owner at router new done in
@@ -134,6 +148,7 @@ module _ (n : Network) (network : IsNetwork n) where
         let hop : new.curr_hf ≡ (at_the_way_out at).curr_hf =
         ap (λ (h : HeaderValue). h.curr_hf) made in
         let few = near.few in
+        let so_far = near.so_far in
         record {
           stop = record near.stop { router = router; arrival = Inside };
           there = refl;
@@ -149,11 +164,13 @@ module _ (n : Network) (network : IsNetwork n) where
             known = ap (λ (v : View). entry_of v (way_of new)) seen.is ∙ known;
             own = owner.1.1.0;
           };
+          count = hops ∙ near.count;
           few = omega arith;
+          so_far = omega arith;
         }
 
     to_link : (out : ℕ) (new : HeaderValue) → DoesStep at (ToLink out) new
-        → IsNear n less (put n (bearing new) near.stop (ToLink out))
+        → IsNear n total less (put n (bearing new) near.stop (ToLink out))
     to_link out new done =
         let made = new_header at (ToLink out) new done in
         let own = (over_own_link at out new done).1 in
@@ -172,7 +189,9 @@ module _ (n : Network) (network : IsNetwork n) where
         ap (λ (h : HeaderValue). h.curr_hf) made in
         let few = near.few in
         let most = one_spent near.stop.arrival in
-        subst (IsNear n less) (sym crosses) (record {
+        let so_far = near.so_far in
+        let one = one_noted packet.passed (hop_by near.stop out) in
+        subst (IsNear n total less) (sym crosses) (record {
           stop = record {
             ia = far.ia;
             router = far.router;
@@ -188,11 +207,13 @@ module _ (n : Network) (network : IsNetwork n) where
           header = new;
           frame = again (ToLink out) new done;
           held = tt;
+          count = hops ∙ near.count;
           few = omega arith;
+          so_far = omega arith;
         })
 
     where_it_goes : (outcome : Outcome) (new : HeaderValue) → DoesStep at outcome new
-        → Nears n less (put n (bearing new) near.stop outcome)
+        → Nears n total less (put n (bearing new) near.stop outcome)
     where_it_goes (ToLink out) new done = inr (to_link out new done)
     where_it_goes (ToRouter router) new done = inr (to_router router new done)
     where_it_goes Deliver new done = inl (λ stop same. absurd cc)
@@ -203,7 +224,7 @@ module _ (n : Network) (network : IsNetwork n) where
     by_step : (step : Result (Outcome × HeaderValue) Refusal)
         → step_of near.view now near.stop.arrival (source_of packet.bytes)
         (destination_of packet.bytes) near.header ≡ step
-        → Nears n less (stepped n packet near.stop (step >>= answer)).1
+        → Nears n total less (stepped n packet near.stop (step >>= answer)).1
     by_step (Ok done) is = where_it_goes done.0 done.1 is
     by_step (Err refusal) is = inl (λ stop same. absurd cc)
 
@@ -218,8 +239,8 @@ module _ (n : Network) (network : IsNetwork n) where
         (frame_stepped near.view now near.stop.arrival packet.bytes near.front near.text near.rest
         near.header near.frame)
 
-    one_turn : Nears n less (turned_packet n now packet)
-    one_turn = subst (Nears n less) (sym turn_is) (by_step _ refl)
+    one_turn : Nears n total less (turned_packet n now packet)
+    one_turn = subst (Nears n total less) (sym turn_is) (by_step _ refl)
 
   -- ---- turn by turn
 
@@ -230,25 +251,25 @@ module _ (n : Network) (network : IsNetwork n) where
       ended_on later (turned_packet n now packet)
       (subst IsAtNoRouter (sym (ap (λ t. t.1) (ended_stays n now packet ended))) ended)
 
-  ended_after : (moments : List ℕ) (left : ℕ) (packet : Packet) → IsNear n left packet
+  ended_after : (moments : List ℕ) (left : ℕ) (packet : Packet) → IsNear n total left packet
       → left ≤ length moments → IsAtNoRouter (after n packet moments)
   ended_after [] left packet near enough =
       absurd (
-      let some = some_left n left packet near in
+      let some = some_left n total left packet near in
       omega arith)
   ended_after (now ∷ later) zero packet near enough =
       absurd (
-      let some = some_left n 0 packet near in
+      let some = some_left n total 0 packet near in
       omega arith)
   ended_after (now ∷ later) (suc less) packet near enough =
       let one : suc less ≡ 1 + less = omega arith in
-      elim (one_turn less now packet (subst (λ k. IsNear n k packet) one near)) [
+      elim (one_turn less now packet (subst (λ k. IsNear n total k packet) one near)) [
         | inl ended ↦ ended_on later (turned_packet n now packet) ended
         | inr nearer ↦ ended_after later less (turned_packet n now packet) nearer (omega arith)
       ]
 
   -- and wherever it stands, the network has the router
-  there_after : (moments : List ℕ) (left : ℕ) (packet : Packet) (stop : RouterStop) → Nears n left packet
+  there_after : (moments : List ℕ) (left : ℕ) (packet : Packet) (stop : RouterStop) → Nears n total left packet
       → (after n packet moments).place ≡ AtRouter stop → IsOk (view_in n stop.ia stop.router)
   there_after [] left packet stop (inl ended) at = absurd (ended stop at)
   there_after [] left packet stop (inr near) at =
@@ -258,12 +279,33 @@ module _ (n : Network) (network : IsNetwork n) where
       absurd (ended_on (now ∷ later) packet ended stop at)
   there_after (now ∷ later) zero packet stop (inr near) at =
       absurd (
-      let some = some_left n 0 packet near in
+      let some = some_left n total 0 packet near in
       omega arith)
   there_after (now ∷ later) (suc less) packet stop (inr near) at =
       let one : suc less ≡ 1 + less = omega arith in
       there_after later less (turned_packet n now packet) stop
-      (one_turn less now packet (subst (λ k. IsNear n k packet) one near)) at
+      (one_turn less now packet (subst (λ k. IsNear n total k packet) one near)) at
+
+  -- it has passed fewer hops than it has hop fields
+  passed_after : (moments : List ℕ) (left : ℕ) (packet : Packet) (stop : RouterStop)
+      → Nears n total left packet → (after n packet moments).place ≡ AtRouter stop
+      → length (after n packet moments).passed < total
+  passed_after [] left packet stop (inl ended) at = absurd (ended stop at)
+  passed_after [] left packet stop (inr near) at =
+      let within = near.frame.spells.is_header.curr_hf in
+      let so_far = near.so_far in
+      let count = near.count in
+      omega arith
+  passed_after (now ∷ later) left packet stop (inl ended) at =
+      absurd (ended_on (now ∷ later) packet ended stop at)
+  passed_after (now ∷ later) zero packet stop (inr near) at =
+      absurd (
+      let some = some_left n total 0 packet near in
+      omega arith)
+  passed_after (now ∷ later) (suc less) packet stop (inr near) at =
+      let one : suc less ≡ 1 + less = omega arith in
+      passed_after later less (turned_packet n now packet) stop
+      (one_turn less now packet (subst (λ k. IsNear n total k packet) one near)) at
 
 -- ---- from a host
 
@@ -273,7 +315,7 @@ ok_there (Err fault) is = absurd cc
 
 starts : (n : Network) (source destination ia router : ℕ) (header : HeaderValue)
     (payload : List ℕ) → IsOk (view_in n ia router) → IsHeader header → FitsBits header
-    → IsNear n (2 * length header.hops)
+    → IsNear n (length header.hops) (2 * length header.hops)
     (put_at (framed source destination header payload) ia router)
 starts n source destination ia router header payload there is fits =
     let view = ok_there (view_in n ia router) there in
@@ -288,7 +330,9 @@ starts n source destination ia router header payload there is fits =
       header = header;
       frame = is_frame source destination header payload (spelling_spells header is fits);
       held = tt;
+      count = refl;
       few = omega arith;
+      so_far = omega arith;
     }
 
 pub ended_in_time : (n : Network) (source destination ia router : ℕ) (header : HeaderValue)
@@ -296,7 +340,7 @@ pub ended_in_time : (n : Network) (source destination ia router : ℕ) (header :
     → FitsBits header → 2 * length header.hops ≤ length moments
     → IsAtNoRouter (after n (put_at (framed source destination header payload) ia router) moments)
 ended_in_time n source destination ia router header payload moments network there is fits enough =
-    ended_after n network moments (2 * length header.hops)
+    ended_after n network (length header.hops) moments (2 * length header.hops)
     (put_at (framed source destination header payload) ia router)
     (starts n source destination ia router header payload there is fits) enough
 
@@ -323,6 +367,18 @@ pub stops_are_there : (n : Network) (source destination ia router : ℕ) (header
     ≡ AtRouter stop
     → IsOk (view_in n stop.ia stop.router)
 stops_are_there n source destination ia router header payload moments stop network there is fits
-    at = there_after n network moments (2 * length header.hops)
+    at = there_after n network (length header.hops) moments (2 * length header.hops)
+    (put_at (framed source destination header payload) ia router) stop
+    (inr (starts n source destination ia router header payload there is fits)) at
+
+pub passed_before : (n : Network) (source destination ia router : ℕ) (header : HeaderValue)
+    (payload moments : List ℕ) (stop : RouterStop) → IsNetwork n → IsOk (view_in n ia router)
+    → IsHeader header → FitsBits header
+    → (after n (put_at (framed source destination header payload) ia router) moments).place
+    ≡ AtRouter stop
+    → length (after n (put_at (framed source destination header payload) ia router) moments).passed
+    < length header.hops
+passed_before n source destination ia router header payload moments stop network there is fits at =
+    passed_after n network (length header.hops) moments (2 * length header.hops)
     (put_at (framed source destination header payload) ia router) stop
     (inr (starts n source destination ia router header payload there is fits)) at

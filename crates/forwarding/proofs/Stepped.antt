@@ -10,8 +10,7 @@ use Rattle.forwarding.specs.declared.location.PacketLocation.{PacketLocation}
 use Rattle.forwarding.specs.declared.location.PacketLocation.TheVariants as places
 use Rattle.forwarding.specs.declared.reply.TurnReply.{TurnReply}
 use Rattle.forwarding.specs.declared.reply.TurnReply.TheVariants as replies
-use Rattle.forwarding.specs.inner.Parts.{packet_with}
-use Rattle.forwarding.specs.Turn.{Packet, put, stepped}
+use Rattle.forwarding.specs.Turn.{Packet, packet_with, put, stepped}
 
 pub packet_stepped : (n : Network) (old : Packet) (stop : RouterStop) (step : Result (Outcome × List ℕ) Refusal)
     (result : Result Outcome Refusal) (reply : TurnReply) (bytes : List ℕ) (place : PacketLocation) (passed : List WalkHop)

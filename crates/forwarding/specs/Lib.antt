@@ -6,4 +6,3 @@ pub mod OnPath
 pub mod Forwardable
 pub mod Sound
 pub mod Turned
-pub mod inner

@@ -24,6 +24,10 @@ pub record Packet : Type 0 where
   pub place : PacketLocation
   pub passed : List WalkHop
 
+-- the packet of these bytes that is there and has passed these hops
+abbrev pub packet_with : List ℕ → PacketLocation → List WalkHop → Packet
+packet_with bytes place passed = record { bytes = bytes; place = place; passed = passed }
+
 -- the stop at a router to which a packet came so, by this interface of the AS
 abbrev pub stop_at : (ia router : ℕ) (arrival : Arrival) (came_in_by : ℕ) → RouterStop
 stop_at ia router arrival came_in_by =

@@ -1,12 +1,12 @@
 ghost use Rattle.std.specs.Prelude.{◌≡◌, ℕ, ◌<◌, ◌≤◌, List, length, vec_capacity, IfOk, IfErr};
 ghost use Rattle.scion_topology.specs.Topology.{far_end_in};
-ghost use Rattle.forwarding.specs.inner.Parts.{packet_with};
-ghost use Rattle.forwarding.specs.Turn.{altered, hop_by, lost, put_at, over_link, put, turn_under, turn_of};
+ghost use Rattle.forwarding.specs.Turn.{packet_with, altered, hop_by, lost, put_at, over_link, put, turn_under, turn_of};
 
 use crate::location::{PacketLocation, RouterStop};
 use crate::reply::TurnReply;
-use crate::trace::HopTrace;
+use crate::trace::note;
 use isd_as::{IfId, IsdAs};
+use path_header::MAX_HOPS;
 use policy_expr::WalkHop;
 use router_step::{Arrival, Outcome, Refusal, step};
 use scion_topology::{RouterView, Topology};
@@ -19,7 +19,7 @@ use std::marker::Model;
 pub struct PacketInFlight {
     bytes: Vec<u8>,
     place: PacketLocation,
-    passed: HopTrace,
+    passed: Vec<WalkHop>,
 }
 
 impl Model for PacketInFlight {
@@ -33,11 +33,11 @@ impl Model for PacketInFlight {
     ghost view = { λ t. record {
       bytes = t.bytes.items;
       place = t.place;
-      passed = t.passed.hops.items;
+      passed = t.passed.items;
     } };
 
-    ghost invariant = { λ t. (length t.passed.hops.items ≤ 64)
-        × ((stop : RouterStop) → t.place ≡ AtRouter stop → 64 ≤ vec_capacity t.passed.hops) };
+    ghost invariant = { λ t. (length t.passed.items ≤ 64)
+        × ((stop : RouterStop) → t.place ≡ AtRouter stop → 64 ≤ vec_capacity t.passed) };
 }
 
 impl PacketInFlight {
@@ -51,7 +51,7 @@ impl PacketInFlight {
     ) -> Result<PacketInFlight, AllocError>
         ensures { IfOk result (λ packet. packet ≡ put_at bytes.items ia router) }
     {
-        let passed = HopTrace::new(alloc)?;
+        let passed = Vec::with_capacity(alloc, MAX_HOPS)?;
         Ok(PacketInFlight {
             bytes,
             place: PacketLocation::AtRouter(RouterStop {
@@ -68,7 +68,8 @@ impl PacketInFlight {
     pub fn try_clone(&self, alloc: Global) -> Result<PacketInFlight, AllocError>
         ensures { IfOk result (λ copy. copy ≡ self.now) }
     {
-        let passed = self.passed.try_clone(alloc)?;
+        let mut passed = Vec::with_capacity(alloc, MAX_HOPS)?;
+        passed.extend_from_slice(&self.passed)?;
         let mut bytes = Vec::with_capacity(alloc, self.bytes.len())?;
         bytes.extend_from_slice(&self.bytes)?;
         Ok(PacketInFlight {
@@ -97,7 +98,7 @@ impl PacketInFlight {
         ensures value { result.now ≡ self.now.passed }
         ensures few { length result.now ≤ 64 }
     {
-        self.passed.as_slice()
+        &self.passed
     }
 
     /// One turn at the second `now`: the router that has the packet makes its step on the packet's
@@ -127,10 +128,14 @@ impl PacketInFlight {
         ensures reply { result ≡ (turn_under topology.now view.now now self.old).0 }
         ensures packet { self.new ≡ (turn_under topology.now view.now now self.old).1 }
     {
-        match self.place {
-            PacketLocation::AtRouter(stop) => {
-                let stepped = step(view, now, stop.arrival, &mut self.bytes);
-                answer(topology, stop, stepped, &mut self.place, &mut self.passed)
+        let PacketInFlight {
+            bytes,
+            place,
+            passed,
+        } = self;
+        match place {
+            PacketLocation::AtRouter(_) => {
+                turn_in_place(topology, view, now, bytes, place, passed)
             }
             _ => TurnReply::Still,
         }
@@ -163,23 +168,53 @@ impl PacketInFlight {
     }
 }
 
+/// A turn, as [`PacketInFlight::turn_under`] makes it, of a packet whose parts the caller has. There
+/// must be room for one hop more, up to 64 hops; no memory is taken.
+#[tactic(auto, unfolding(crate::specs::Turn::turn_under))]
+pub fn turn_in_place(
+    topology: &Topology,
+    view: &RouterView<'_>,
+    now: u32,
+    bytes: &mut [u8],
+    place: &mut PacketLocation,
+    passed: &mut Vec<WalkHop>,
+) -> TurnReply
+    requires { length passed.old.items < 64 → length passed.old.items < vec_capacity passed.old }
+    ensures reply { result ≡ (turn_under topology.now view.now now
+        (packet_with bytes.old place.old passed.old.items)).0 }
+    ensures packet { packet_with bytes.new place.new passed.new.items
+        ≡ (turn_under topology.now view.now now
+        (packet_with bytes.old place.old passed.old.items)).1 }
+    ensures len { length bytes.new ≡ length bytes.old }
+    ensures few { length passed.old.items ≤ 64 → length passed.new.items ≤ 64 }
+    ensures room { vec_capacity passed.new ≡ vec_capacity passed.old }
+{
+    match *place {
+        PacketLocation::AtRouter(stop) => {
+            let stepped = step(view, now, stop.arrival, bytes);
+            answer(topology, stop, stepped, place, passed)
+        }
+        _ => TurnReply::Still,
+    }
+}
+
 /// Puts a packet where the result of a router's step says, and returns the reply of the turn.
 fn answer(
     topology: &Topology,
     stop: RouterStop,
     stepped: Result<Outcome, Refusal>,
     place: &mut PacketLocation,
-    passed: &mut HopTrace,
+    passed: &mut Vec<WalkHop>,
 ) -> TurnReply
-    requires { 64 ≤ vec_capacity passed.old.hops }
+    requires { length passed.old.items < 64 → length passed.old.items < vec_capacity passed.old }
     ensures went { IfOk stepped (λ outcome. (result ≡ TurnReply.Went outcome)
-        × ((bytes : List ℕ) → packet_with bytes place.new passed.new.hops.items
-        ≡ put topology.now (packet_with bytes place.old passed.old.hops.items) stop outcome)) }
+        × ((bytes : List ℕ) → packet_with bytes place.new passed.new.items
+        ≡ put topology.now (packet_with bytes place.old passed.old.items) stop outcome)) }
     ensures refused { IfErr stepped (λ refusal. (result ≡ TurnReply.Refused refusal)
         × (place.new ≡ PacketLocation.Refused stop.ia stop.router refusal)
-        × (passed.new.hops.items ≡ passed.old.hops.items)) }
-    ensures few { length passed.old.hops.items ≤ 64 → length passed.new.hops.items ≤ 64 }
-    ensures room { vec_capacity passed.new.hops ≡ vec_capacity passed.old.hops }
+        × (passed.new.items ≡ passed.old.items)) }
+    ensures few { length passed.old.items ≤ 64 → length passed.new.items ≤ 64 }
+    ensures room { vec_capacity passed.new ≡ vec_capacity passed.old }
 {
     match &stepped {
         Ok(outcome) => {
@@ -199,13 +234,13 @@ fn put(
     stop: RouterStop,
     outcome: Outcome,
     place: &mut PacketLocation,
-    passed: &mut HopTrace,
+    passed: &mut Vec<WalkHop>,
 )
-    requires { 64 ≤ vec_capacity passed.old.hops }
-    ensures put { (bytes : List ℕ) → packet_with bytes place.new passed.new.hops.items
-        ≡ put topology.now (packet_with bytes place.old passed.old.hops.items) stop outcome }
-    ensures few { length passed.old.hops.items ≤ 64 → length passed.new.hops.items ≤ 64 }
-    ensures room { vec_capacity passed.new.hops ≡ vec_capacity passed.old.hops }
+    requires { length passed.old.items < 64 → length passed.old.items < vec_capacity passed.old }
+    ensures put { (bytes : List ℕ) → packet_with bytes place.new passed.new.items
+        ≡ put topology.now (packet_with bytes place.old passed.old.items) stop outcome }
+    ensures few { length passed.old.items ≤ 64 → length passed.new.items ≤ 64 }
+    ensures room { vec_capacity passed.new ≡ vec_capacity passed.old }
 {
     match outcome {
         Outcome::ToLink(out) => cross(topology, stop, out, place, passed),
@@ -217,7 +252,7 @@ fn put(
             });
         }
         Outcome::Deliver => {
-            passed.note(hop_by(stop, IfId::NONE));
+            note(passed, hop_by(stop, IfId::NONE));
             *place = PacketLocation::Delivered;
         }
     }
@@ -229,18 +264,18 @@ fn cross(
     stop: RouterStop,
     out: IfId,
     place: &mut PacketLocation,
-    passed: &mut HopTrace,
+    passed: &mut Vec<WalkHop>,
 )
-    requires { 64 ≤ vec_capacity passed.old.hops }
-    ensures put { (bytes : List ℕ) → packet_with bytes place.new passed.new.hops.items
-        ≡ over_link topology.now (packet_with bytes place.old passed.old.hops.items) stop out
+    requires { length passed.old.items < 64 → length passed.old.items < vec_capacity passed.old }
+    ensures put { (bytes : List ℕ) → packet_with bytes place.new passed.new.items
+        ≡ over_link topology.now (packet_with bytes place.old passed.old.items) stop out
         (far_end_in topology.now stop.ia out) }
-    ensures few { length passed.old.hops.items ≤ 64 → length passed.new.hops.items ≤ 64 }
-    ensures room { vec_capacity passed.new.hops ≡ vec_capacity passed.old.hops }
+    ensures few { length passed.old.items ≤ 64 → length passed.new.items ≤ 64 }
+    ensures room { vec_capacity passed.new ≡ vec_capacity passed.old }
 {
     if let Ok((ia, number)) = topology.far_end(stop.ia, out) {
         if let Ok(router) = topology.owner(ia, number) {
-            passed.note(hop_by(stop, out));
+            note(passed, hop_by(stop, out));
             *place = PacketLocation::AtRouter(RouterStop {
                 ia,
                 router,

@@ -81,8 +81,8 @@ pub fn turns_are_few()
 /// In a network that does not change, no packet has more than two turns for each of its hop fields,
 /// whatever its segments, keys and seconds. The packet comes from a host, at a router that exists,
 /// with a header of the grammar whose numbers fit. After that many turns it is at no router. While
-/// it is at a router, it has had fewer turns, and the router exists. The router that owns an
-/// interface exists.
+/// it is at a router, it has had fewer turns, it has passed fewer hops than it has hop fields, and
+/// the router exists. The router that owns an interface exists.
 pub fn journeys_are_bounded()
     ensures ended { (n : Network) (source destination ia router : ℕ) (header : HeaderValue)
         (payload moments : List ℕ) → IsNetwork n → IsOk (view_in n ia router) → IsHeader header
@@ -95,6 +95,12 @@ pub fn journeys_are_bounded()
         → (after n (put_at (framed source destination header payload) ia router) moments).place
         ≡ PacketLocation.AtRouter stop
         → length moments < 2 * length header.hops }
+    ensures passed { (n : Network) (source destination ia router : ℕ) (header : HeaderValue)
+        (payload moments : List ℕ) (stop : RouterStop) → IsNetwork n → IsOk (view_in n ia router)
+        → IsHeader header → FitsBits header
+        → let packet = after n (put_at (framed source destination header payload) ia router) moments
+        in packet.place ≡ PacketLocation.AtRouter stop
+        → length packet.passed < length header.hops }
     ensures there { (n : Network) (source destination ia router : ℕ) (header : HeaderValue)
         (payload moments : List ℕ) (stop : RouterStop) → IsNetwork n → IsOk (view_in n ia router)
         → IsHeader header → FitsBits header

@@ -17,6 +17,6 @@ mod trace;
 
 pub use departing::first_out;
 pub use framing::frame;
-pub use in_flight::PacketInFlight;
+pub use in_flight::{PacketInFlight, turn_in_place};
 pub use location::{PacketLocation, RouterStop};
 pub use reply::TurnReply;
