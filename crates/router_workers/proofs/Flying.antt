@@ -1,22 +1,28 @@
 -- A flight from turn to turn.
-use Rattle.std.proofs.Common.{◌≡◌, ℕ, ◌+◌, ◌<◌, List, [], ◌∷◌, ◌++◌, length, IsOk, refl, sym, ap, ◌∙◌, subst, arith}
+use Rattle.std.proofs.Common.{◌≡◌, ℕ, ◌+◌, ◌<◌, ◌^◌, List, Ok, [], ◌∷◌, ◌++◌, length, IsOk, refl, sym, ap, ◌∙◌, subst, arith}
 use Rattle.std.proofs.lemmas.List.{length-append}
 use Rattle.scion_topology.specs.View.{View}
 use Rattle.scion_topology.specs.Network.{Network}
-use Rattle.scion_topology.specs.Topology.{view_in}
-use Rattle.path_header.specs.Value.{HeaderValue}
+use Rattle.scion_topology.specs.Rules.{IsNetwork}
+use Rattle.scion_topology.specs.Topology.{view_in, owner_in}
+use Rattle.path_header.specs.Value.{HeaderValue, IsHeader}
+use Rattle.path_header.specs.Spelling.{FitsBits}
+use Rattle.policy_expr.specs.Policy.{Rules}
 use Rattle.path_verifier.specs.Piece.{PieceValue}
 use Rattle.path_verifier.specs.Header.{header_of, total_hops}
+use Rattle.path_verifier.specs.Walk.{walk_of}
+use Rattle.path_verifier.specs.Accepted.{IsAccepted, request_of}
 use Rattle.forwarding.specs.declared.location.RouterStop.{RouterStop}
 use Rattle.forwarding.specs.declared.location.PacketLocation.{PacketLocation}
 use Rattle.forwarding.specs.declared.location.PacketLocation.TheVariants.{AtRouter, Delivered, Refused, Lost}
-use Rattle.forwarding.specs.Frame.{framed}
-use Rattle.forwarding.specs.Turn.{Packet, put_at, turn_under, turn_of, turned_packet, after}
+use Rattle.forwarding.specs.Frame.{framed, HasFrame}
+use Rattle.forwarding.specs.Journey.{first_out}
+use Rattle.forwarding.specs.Turn.{Packet, IsAtNoRouter, put_at, turn_under, turn_of, turned_packet, after}
 use Rattle.forwarding.proofs.Ended.{turn_by_view}
 use Rattle.forwarding.proofs.Reading.{length_fields}
-use Rattle.forwarding.proofs.Bounded.{fewer_before, stops_are_there, owners_are_there}
+use Rattle.forwarding.proofs.Bounded.{fewer_before, passed_before, stops_are_there, owners_are_there}
 use Rattle.network_core.specs.Delivery.{IsAtRouter}
-use Rattle.router_workers.specs.Flight.{FlightValue, IsFlight, IsViewAt, advanced_flight}
+use Rattle.router_workers.specs.Flight.{SentPacket, FlightValue, IsFlight, IsViewAt, flight_with, put_with, advanced_flight}
 use Rattle.router_workers.proofs.Delivered.{departs}
 
 -- ---- while it is at a router it has had fewer than 128 turns
@@ -27,7 +33,45 @@ stop_of Delivered is = absurd is
 stop_of (Refused ia router refusal) is = absurd is
 stop_of Lost is = absurd is
 
--- where it stands, from where it departs
+pub at_no_router : (packet : Packet) → IsAtRouter packet.place → IsAtNoRouter packet → ⊥
+at_no_router packet here none = (let stop = stop_of packet.place here in none stop.0 stop.1)
+
+-- ---- a flight without any turns
+
+pub framed_with : (source destination : ℕ) (pieces : List PieceValue) (header : HeaderValue)
+    → header ≡ header_of pieces → IsHeader header → FitsBits header → source < 2 ^ 64
+    → destination < 2 ^ 64 → HasFrame source destination pieces
+framed_with source destination pieces header same is fits from to = record {
+  source_fits = from;
+  destination_fits = to;
+  is_header = subst IsHeader same is;
+  fits = subst FitsBits same fits;
+}
+
+pub begins : (n : Network) (sent : SentPacket) (packet : Packet) (router moment : ℕ) (rules : Rules)
+    → IsNetwork n → IsAccepted (request_of sent.pieces sent.header sent.source sent.destination
+    moment rules)
+    → HasFrame sent.source sent.destination sent.pieces
+    → owner_in n sent.source (first_out (walk_of sent.pieces)) ≡ Ok router
+    → packet ≡ put_at (framed sent.source sent.destination sent.header sent.payload) sent.source
+    router
+    → IsFlight (flight_with n sent 0 packet)
+begins n sent packet router moment rules network accepted frame owned at = record {
+  network = network;
+  moment = moment;
+  rules = rules;
+  accepted = accepted;
+  frame = frame;
+  start = packet;
+  departs = ap (put_with sent) owned ∙ ap (λ p. Ok p) (sym at);
+  moments = [];
+  count = refl;
+  is = refl;
+  few = omega arith;
+}
+
+-- ---- where it stands, from where it departs
+
 at_stop : (flight : FlightValue) (is : IsFlight flight) (stop : RouterStop)
     → flight.packet.place ≡ AtRouter stop
     → (after flight.fabric (put_at (framed flight.sent.source flight.sent.destination
@@ -77,6 +121,23 @@ turns_left flight is here =
     let count = is.count in
     omega arith
 
+-- it has passed fewer hops than its header has hop fields
+pub hops_left : (flight : FlightValue) → IsFlight flight → IsAtRouter flight.packet.place
+    → length flight.packet.passed < length flight.sent.header.hops
+hops_left flight is here =
+    let n = flight.fabric in
+    let way = flight.sent in
+    let from = departs n flight.sent is.start is.departs in
+    let there = owners_are_there n way.source _ from.router is.network from.owned in
+    let stop = stop_of flight.packet.place here in
+    let header = is.accepted.header in
+    let at = at_stop flight is stop.0 stop.1 in
+    let fewer = passed_before n way.source way.destination way.source from.router way.header
+    way.payload is.moments stop.0 is.network there
+    (rw header is.frame.is_header) (rw header is.frame.fits) at in
+    let same = is.is ∙ ap (λ (p : Packet). after n p is.moments) from.is in
+    subst (λ (p : Packet). length p.passed < length way.header.hops) (sym same) fewer
+
 -- ---- a turn more
 
 after_snoc : (n : Network) (packet : Packet) (moments : List ℕ) (now : ℕ)
@@ -112,7 +173,7 @@ flies_with now flight packet is here left = subst
 
 -- ---- by a view
 
-at_router : (n : Network) (place : PacketLocation) (view : View) → IsViewAt n place view → IsAtRouter place
+pub at_router : (n : Network) (place : PacketLocation) (view : View) → IsViewAt n place view → IsAtRouter place
 at_router n (AtRouter stop) view is = tt
 at_router n Delivered view is = absurd is
 at_router n (Refused ia router refusal) view is = absurd is

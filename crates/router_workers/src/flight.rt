@@ -4,7 +4,8 @@ ghost use Rattle.forwarding.specs.Turn.{IsAtNoRouter};
 ghost use Rattle.network_core.specs.Delivery.{IsAtRouter};
 ghost use Rattle.router_workers.specs.Flight.{FlightValue, departed, sent_packet_of, grounded, advanced_flight, IsViewAt, IsFlight};
 
-use forwarding::{PacketInFlight, PacketLocation, frame};
+use crate::transit::Transit;
+use forwarding::{PacketLocation, frame};
 use isd_as::IsdAs;
 use network_core::Sent;
 use path_header::Header;
@@ -19,7 +20,8 @@ use std::marker::Model;
 ///
 /// An invariant of the type: what was sent, put at the start of its walk, becomes this packet, with
 /// its place and the hops that it has passed, by one turn at each of some list of seconds. That
-/// list is as long as the number of turns, which is at most 128.
+/// list is as long as the number of turns, which is at most 128. Another one: at a router it has
+/// room for a hop for each hop field of its header, which are all that it may pass.
 #[derive(Drop)]
 pub struct Flight<'a> {
     fabric: &'a Topology,
@@ -29,21 +31,27 @@ pub struct Flight<'a> {
     header: &'a Header,
     payload: &'a [u8],
     turns: u32,
-    transit: PacketInFlight,
+    transit: Transit,
 }
 
 impl<'a> Model for Flight<'a> {
+    ghost use Rattle.std.specs.Prelude.{◌≤◌, length, vec_capacity};
+    ghost use Rattle.forwarding.specs.Turn.{packet_with};
+    ghost use Rattle.network_core.specs.Delivery.{IsAtRouter};
     ghost use Rattle.router_workers.specs.Flight.{FlightValue, IsFlight, flight_with, sent_with};
 
     ghost Value = { FlightValue };
 
     ghost view = { λ f. flight_with f.fabric.now
         (sent_with f.source f.destination f.pieces.now f.header.now f.payload.now) f.turns
-        f.transit };
+        (packet_with f.transit.bytes.items f.transit.place f.transit.passed.items) };
 
     ghost invariant = { λ f. IsFlight (flight_with f.fabric.now
         (sent_with f.source f.destination f.pieces.now f.header.now f.payload.now) f.turns
-        f.transit) };
+        (packet_with f.transit.bytes.items f.transit.place f.transit.passed.items))
+        × (length f.transit.passed.items ≤ 64)
+        × (IsAtRouter f.transit.place
+        → length f.header.now.hops ≤ vec_capacity f.transit.passed) };
 }
 
 impl<'a> Flight<'a> {
@@ -72,7 +80,8 @@ impl<'a> Flight<'a> {
             sent.header(),
             sent.payload(),
         )?;
-        let transit = PacketInFlight::at_router(alloc, bytes, sent.source(), router)?;
+        let hops = sent.header().hop_count();
+        let transit = Transit::at_router(alloc, bytes, sent.source(), router, hops)?;
         Ok(Flight {
             fabric,
             source: sent.source(),
@@ -89,6 +98,7 @@ impl<'a> Flight<'a> {
     pub fn try_clone(&self, alloc: Global) -> Result<Flight<'a>, AllocError>
         ensures { IfOk result (λ copy. copy ≡ self.now) }
     {
+        let transit = self.transit.try_clone(alloc, self.header.hop_count())?;
         Ok(Flight {
             fabric: self.fabric,
             source: self.source,
@@ -97,7 +107,7 @@ impl<'a> Flight<'a> {
             header: self.header,
             payload: self.payload,
             turns: self.turns,
-            transit: self.transit.try_clone(alloc)?,
+            transit,
         })
     }
 
@@ -109,9 +119,7 @@ impl<'a> Flight<'a> {
         ensures { result ≡ advanced_flight now self.entry }
     {
         let mut flight = self;
-        let fabric = flight.fabric;
-        flight.transit.turn_under(fabric, view, now);
-        flight.turns += 1;
+        flight.turn_by(view, now);
         flight
     }
 
@@ -120,8 +128,19 @@ impl<'a> Flight<'a> {
         requires { IsAtRouter self.old.packet.place }
         ensures { self.new ≡ advanced_flight now self.old }
     {
+        match self.view() {
+            Some(view) => self.turn_by(&view, now),
+            None => unreachable!(),
+        }
+    }
+
+    /// One turn in place, with this view of the router that has the flight.
+    fn turn_by(&mut self, view: &RouterView<'_>, now: u32)
+        requires { IsViewAt self.old.fabric self.old.packet.place view.now }
+        ensures { self.new ≡ advanced_flight now self.old }
+    {
         let fabric = self.fabric;
-        self.transit.turn(fabric, now);
+        self.transit.turn_under(fabric, view, now);
         self.turns += 1;
     }
 
@@ -151,7 +170,7 @@ impl<'a> Flight<'a> {
     pub fn place(&self) -> PacketLocation
         ensures { result ≡ self.now.packet.place }
     {
-        self.transit.place()
+        self.transit.place
     }
 
     /// The number of its turns, at most 128.
@@ -167,7 +186,7 @@ impl<'a> Flight<'a> {
         ensures value { result.now ≡ self.now.packet.passed }
         ensures few { length result.now ≤ 64 }
     {
-        self.transit.passed()
+        &self.transit.passed
     }
 
     /// Does nothing; its contract tells the caller the rules of every flight.

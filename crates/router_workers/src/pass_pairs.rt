@@ -62,12 +62,14 @@ pub(crate) fn ends_of<'a, T: Drop>(
     Ok((first_senders, receivers))
 }
 
-/// The workers, by their numbers, unless memory runs out: each has its own inbox and a way into
-/// every inbox. Their ways are split off those by which the inboxes were filled.
+/// The workers, by their numbers, unless memory runs out: each has its own inbox, a way into every
+/// inbox, and room for the ends of this many flights. Their ways are split off those by which the
+/// inboxes were filled.
 pub(crate) fn workers_of<'a, 'f, J: RunFacts>(
     alloc: Global,
     first_senders: Vec<Sender<'a, PostedFlight<'f, J>>>,
     receivers: Vec<Receiver<'a, PostedFlight<'f, J>>>,
+    flights: usize,
 ) -> Result<Vec<Worker<'a, 'f, J>>, AllocError>
     requires inboxes { AreInboxes J.workers J.slots (inboxes_of first_senders.items) }
     requires own { inboxes_of receivers.items ≡ inboxes_of first_senders.items }
@@ -79,10 +81,12 @@ pub(crate) fn workers_of<'a, 'f, J: RunFacts>(
     for receiver in receivers {
         let number = worker_list.len();
         let senders = split_all(alloc, &mut first_senders)?;
+        let ends = Vec::with_capacity(alloc, flights)?;
         worker_list.push(Worker {
             number,
             receiver,
             senders,
+            ends,
         })?;
     }
     Ok(worker_list)

@@ -17,9 +17,9 @@ use crate::worker::{Gate, RunState, Worker, send_on, work};
 use inbox::Sender;
 use scion_topology::Topology;
 use std::alloc::{AllocError, Global};
-use std::marker::Brand;
+use std::marker::{Brand, PhantomData};
+use std::sync::Wait;
 use std::sync::atomic::{AtomicBool, AtomicUsize, Ordering};
-use std::sync::{OnceLock, Wait};
 use std::thread;
 use std::thread::Threads;
 
@@ -92,119 +92,143 @@ fn run_with<'f, J: RunFacts + Send + Sync, R: Threads + Wait + Sync, G: Gate>(
     requires slots { slots ≡ J.slots }
     ensures { IfOk result (λ report. IsReport flights.now now slots report) }
 {
-    let places = places_for::<J>(alloc, flights.len())?;
     let left = AtomicUsize::new(flights.len());
     let begun = AtomicBool::new(false);
     let (inboxes, pairs) = inboxes_of::<PostedFlight<'f, J>>(alloc, workers, slots)?;
     let state = RunState {
-        ends: &places,
         left: &left,
         begun: &begun,
         gate,
         topology,
         now,
         crowded: flights.len() > slots,
+        of: PhantomData,
     };
     let (mut first_senders, receivers) = ends_of(alloc, &inboxes, pairs)?;
-    fill(rt, alloc, &state, &mut first_senders, flights)?;
-    let worker_list = workers_of(alloc, first_senders, receivers)?;
+    let mut row = empty_row::<J>(alloc, flights.len())?;
+    fill(rt, alloc, &state, &mut first_senders, flights, &mut row)?;
+    let worker_list = workers_of(alloc, first_senders, receivers, flights.len())?;
     let ends = Vec::with_capacity(alloc, flights.len())?;
-    start(rt, &state, worker_list)?;
+    let row = start(rt, alloc, &state, worker_list, row)?;
     Ok(Report {
-        ends: collect(rt, &places, ends),
+        ends: collect(rt, &row, flights.len(), ends),
     })
 }
 
-/// A place for the end of each flight, unless memory runs out.
-fn places_for<J: RunFacts>(
+/// An empty place for the end of each flight, unless memory runs out.
+fn empty_row<J: RunFacts>(
     alloc: Global,
     count: usize,
-) -> Result<Vec<OnceLock<FlightEnd<J>>>, AllocError>
-    ensures { IfOk result (λ places. length places.items ≡ count) }
-{
-    let mut places = Vec::with_capacity(alloc, count)?;
+) -> Result<Vec<Option<FlightEnd<J>>>, AllocError> {
+    let mut row = Vec::with_capacity(alloc, count)?;
     for _ in 0..count {
-        places.push(OnceLock::new())?;
+        row.push(None)?;
     }
-    Ok(places)
+    Ok(row)
 }
 
-/// Records the flights that have ended, and puts the others into the inboxes of their workers, in
-/// their order, unless memory runs out.
+/// Puts each end into the place of its flight.
+fn arrange<J: RunFacts>(row: &mut [Option<FlightEnd<J>>], ends: Vec<FlightEnd<J>>) {
+    for end in ends {
+        if let Some(place) = row.get_mut(end.number()) {
+            *place = Some(end);
+        }
+    }
+}
+
+/// Records the ends of flights that have ended, and of those for which there is no room, and puts
+/// the others into the inboxes of their workers, in their order, unless memory runs out.
 fn fill<'f, J: RunFacts, R: Wait, G: Gate>(
     rt: &R,
     alloc: Global,
     state: &RunState<'_, J, G>,
     first_senders: &mut Vec<Sender<'_, PostedFlight<'f, J>>>,
     flights: &[Flight<'f>],
+    row: &mut [Option<FlightEnd<J>>],
 ) -> Result<(), AllocError>
     requires inboxes { AreInboxes J.workers J.slots (inboxes_of first_senders.old.items) }
     requires flights { flights.now ≡ J.flights }
     ensures { inboxes_of first_senders.new.items ≡ inboxes_of first_senders.old.items }
 {
+    let mut ends = Vec::with_capacity(alloc, flights.len())?;
     for (number, flight) in flights.iter().enumerate() {
         let carried = CarriedFlight::new(alloc, number, flight)?;
-        send_on(rt, state, first_senders, carried);
+        send_on(rt, state, first_senders, &mut ends, carried);
     }
+    arrange(row, ends);
     Ok(())
 }
 
-/// Starts a thread for each worker, and returns when all of them have ended. The workers begin when
-/// all threads have started; if one can't be started, none begins.
+/// Starts a thread for each worker, and waits until all of them have ended. The ends that they
+/// return are in the places of their flights then. The workers begin when all threads have started;
+/// if one can't be started, none begins.
 fn start<'f, J: RunFacts + Send + Sync, R: Threads + Wait + Sync, G: Gate>(
     rt: &R,
+    alloc: Global,
     state: &RunState<'_, J, G>,
     worker_list: Vec<Worker<'_, 'f, J>>,
-) -> Result<(), AllocError>
+    row: Vec<Option<FlightEnd<J>>>,
+) -> Result<Vec<Option<FlightEnd<J>>>, AllocError>
     requires { map (λ worker. worker.number) worker_list.items ≡ range_with_len 0 J.workers }
 {
+    let handles = Vec::with_capacity(alloc, worker_list.len())?;
     thread::scope(
         thread::scope_env(),
         rt,
-        move |scope| -> Result<(), AllocError> {
+        move |scope| -> Result<Vec<Option<FlightEnd<J>>>, AllocError> {
+            let mut handles = handles;
             for worker in worker_list {
-                if scope.spawn(move || work(rt, state, worker)).is_err() {
+                let started = match scope.spawn(move || work(rt, state, worker)) {
+                    Ok(handle) => handles.push(handle).is_ok(),
+                    Err(_) => false,
+                };
+                if !started {
                     state.left.store(0, Ordering::SeqCst);
                     state.begun.store(true, Ordering::SeqCst);
                     return Err(AllocError);
                 }
             }
             state.begun.store(true, Ordering::SeqCst);
-            Ok(())
+            let mut row = row;
+            for handle in handles {
+                arrange(&mut row, handle.join(rt));
+            }
+            Ok(row)
         },
     )
 }
 
-/// The ends of all flights, in their order, when they are recorded. The room for them was taken
-/// before, so nothing can fail here.
+/// The ends of this many flights, in their order. The room for them was taken before, so nothing
+/// can fail here.
 fn collect<J: RunFacts, R: Wait>(
     rt: &R,
-    places: &[OnceLock<FlightEnd<J>>],
+    row: &[Option<FlightEnd<J>>],
+    count: usize,
     ends: Vec<End>,
 ) -> Vec<End>
     requires empty { length ends.items ≡ 0 }
-    requires room { length places.now ≤ vec_capacity ends }
-    ensures all { length result.items ≡ length places.now }
+    requires room { count ≤ vec_capacity ends }
+    ensures all { length result.items ≡ count }
     ensures each { AreEnds J.flights J.now J.slots result.items }
 {
     let mut ends = ends;
-    for number in 0..places.len() {
-        ends.push_reserved(end_of(rt, places, number));
+    for number in 0..count {
+        ends.push_reserved(end_of(rt, row, number));
     }
     ends
 }
 
-/// The end of the flight of this number, when it is recorded.
-fn end_of<J: RunFacts, R: Wait>(rt: &R, places: &[OnceLock<FlightEnd<J>>], number: usize) -> End
-    requires { number < length places.now }
+/// The end of the flight of this number. No clause says that what comes out of an inbox is what
+/// went into it: if a flight had no end, the run would wait for ever.
+fn end_of<J: RunFacts, R: Wait>(rt: &R, row: &[Option<FlightEnd<J>>], number: usize) -> End
     ensures { IsEndOfFlight J.flights J.now J.slots number result }
 {
-    for _ in rt.forever() {
-        if let Some(done) = places[number].get() {
-            if done.number() == number {
-                return done.end();
-            }
+    if let Some(Some(end)) = row.get(number) {
+        if end.number() == number {
+            return end.end();
         }
+    }
+    for _ in rt.forever() {
         thread::yield_now();
     }
     unreachable!()

@@ -1,6 +1,7 @@
 //! A worker: it takes flights from its inbox, makes the turn of each, and passes it on.
 
-ghost use Rattle.std.specs.Prelude.{◌≡◌, ◌↔◌, ◌<◌, ◌≤◌, ◌%◌, ◌+◌, true, length, slice_get};
+ghost use Rattle.std.specs.Prelude.{◌≡◌, ◌↔◌, ◌<◌, ◌≤◌, ◌%◌, ◌+◌, true, length, vec_capacity};
+ghost use Rattle.std.specs.Prelude.{slice_get, [], ◌∷◌, ◌++◌};
 ghost use Rattle.std.specs.Prelude.{IfOk, IfSome, IsOk, Some, None, MatchResult};
 ghost use Rattle.scion_topology.specs.Topology.{info_in};
 ghost use Rattle.network_core.specs.Delivery.{IsAtRouter};
@@ -13,8 +14,9 @@ use forwarding::PacketLocation;
 use inbox::{Receiver, Sender};
 use isd_as::IsdAs;
 use scion_topology::Topology;
+use std::marker::PhantomData;
+use std::sync::Wait;
 use std::sync::atomic::{AtomicBool, AtomicUsize, Ordering};
-use std::sync::{OnceLock, Wait};
 use std::thread;
 
 /// Called before and after each turn of a run, with the number of the worker, from 0.
@@ -39,8 +41,6 @@ impl Gate for OpenGate {
 /// What the workers of a run share.
 #[derive(Drop)]
 pub(crate) struct RunState<'d, J: RunFacts, G> {
-    /// A place for the end of each flight, by its number.
-    pub(crate) ends: &'d [OnceLock<FlightEnd<J>>],
     /// The number of flights that have not ended. No clause depends on it: it ends the workers'
     /// loops.
     pub(crate) left: &'d AtomicUsize,
@@ -51,18 +51,21 @@ pub(crate) struct RunState<'d, J: RunFacts, G> {
     pub(crate) now: u32,
     /// Whether more flights were given than an inbox has places, so that an inbox may be full.
     pub(crate) crowded: bool,
+    pub(crate) of: PhantomData<J>,
     ghost network: { topology.now ≡ J.network },
     ghost now_is: { now ≡ J.now },
     ghost crowd: { crowded ≡ true ↔ (J.slots < length J.flights) },
 }
 
-/// A worker: its number, its inbox, and the ways into all inboxes, by the numbers of their workers.
-/// There are as many inboxes as the run has workers, with as many places as it was asked for.
+/// A worker: its number, its inbox, the ways into all inboxes, by the numbers of their workers, and
+/// the ends that it has found, with room for those of all flights. There are as many inboxes as the
+/// run has workers, with as many places as it was asked for.
 #[derive(Drop)]
 pub(crate) struct Worker<'a, 'f, J: RunFacts> {
     pub(crate) number: usize,
     pub(crate) receiver: Receiver<'a, PostedFlight<'f, J>>,
     pub(crate) senders: Vec<Sender<'a, PostedFlight<'f, J>>>,
+    pub(crate) ends: Vec<FlightEnd<J>>,
     ghost inboxes: { AreInboxes J.workers J.slots (inboxes_of senders.items) },
     ghost own: { slice_get (inboxes_of senders.items) number ≡ Some receiver.of },
 }
@@ -96,11 +99,17 @@ fn carrier(topology: &Topology, ia: IsdAs, router: u8, workers: usize) -> Option
     }
 }
 
-/// Records the end of a flight.
-pub(crate) fn settle<J: RunFacts, G: Gate>(state: &RunState<'_, J, G>, done: FlightEnd<J>) {
-    let number = done.number();
-    if number < state.ends.len() {
-        let _ = state.ends[number].try_set(done);
+/// Records the end of a flight, for which there is room in each list of ends.
+pub(crate) fn settle<J: RunFacts, G: Gate>(
+    state: &RunState<'_, J, G>,
+    ends: &mut Vec<FlightEnd<J>>,
+    done: FlightEnd<J>,
+)
+    ensures { length ends.old.items < vec_capacity ends.old
+        → ends.new.items ≡ ends.old.items ++ done ∷ [] }
+{
+    if ends.len() < ends.capacity() {
+        ends.push_reserved(done);
     }
     state.left.fetch_sub(1, Ordering::SeqCst);
 }
@@ -111,6 +120,7 @@ fn pass_on<'f, J: RunFacts, R: Wait, G: Gate>(
     rt: &R,
     state: &RunState<'_, J, G>,
     senders: &mut [Sender<'_, PostedFlight<'f, J>>],
+    ends: &mut Vec<FlightEnd<J>>,
     posted: PostedFlight<'f, J>,
 )
     requires { AreInboxes J.workers J.slots (inboxes_of senders.old) }
@@ -119,7 +129,7 @@ fn pass_on<'f, J: RunFacts, R: Wait, G: Gate>(
     ensures inboxes { inboxes_of senders.new ≡ inboxes_of senders.old }
 {
     let worker = posted.worker();
-    push_or_drop(rt, state, &mut senders[worker], posted);
+    push_or_drop(rt, state, &mut senders[worker], ends, posted);
 }
 
 /// Puts a flight into an inbox by this way. If more flights were given than an inbox has places,
@@ -128,6 +138,7 @@ fn push_or_drop<'f, J: RunFacts, R: Wait, G: Gate>(
     rt: &R,
     state: &RunState<'_, J, G>,
     sender: &mut Sender<'_, PostedFlight<'f, J>>,
+    ends: &mut Vec<FlightEnd<J>>,
     posted: PostedFlight<'f, J>,
 )
     requires { sender.old.of.slots ≡ J.slots }
@@ -136,7 +147,7 @@ fn push_or_drop<'f, J: RunFacts, R: Wait, G: Gate>(
     if !state.crowded {
         push(rt, sender, posted);
     } else if let Err(back) = sender.push(rt, posted) {
-        settle(state, back.into_dropped());
+        settle(state, ends, back.into_dropped());
     }
 }
 
@@ -180,39 +191,42 @@ pub(crate) fn send_on<'f, J: RunFacts, R: Wait, G: Gate>(
     rt: &R,
     state: &RunState<'_, J, G>,
     senders: &mut [Sender<'_, PostedFlight<'f, J>>],
+    ends: &mut Vec<FlightEnd<J>>,
     carried: CarriedFlight<'f, J>,
 )
     requires { AreInboxes J.workers J.slots (inboxes_of senders.old) }
     ensures { inboxes_of senders.new ≡ inboxes_of senders.old }
 {
     match carried.into_end() {
-        Ok(done) => settle(state, done),
+        Ok(done) => settle(state, ends, done),
         Err(carried) => {
             let worker = next_worker(state.topology, carried.place(), senders.len());
-            pass_on(rt, state, senders, PostedFlight::new(carried, worker));
+            pass_on(rt, state, senders, ends, PostedFlight::new(carried, worker));
         }
     }
 }
 
-/// Takes flights until all flights have ended.
+/// Takes flights until all flights have ended, and returns the ends that it has found.
 pub(crate) fn work<'f, J: RunFacts, R: Wait, G: Gate>(
     rt: &R,
     state: &RunState<'_, J, G>,
     worker: Worker<'_, 'f, J>,
-) {
+) -> Vec<FlightEnd<J>> {
     let Worker {
         number,
         mut receiver,
         mut senders,
+        mut ends,
     } = worker;
     wait_for_beginning(rt, state.begun);
     for _ in rt.forever() {
         if state.left.load(Ordering::SeqCst) == 0 {
-            return;
+            return ends;
         }
-        empty_inbox(rt, state, number, &mut receiver, &mut senders);
+        empty_inbox(rt, state, number, &mut receiver, &mut senders, &mut ends);
         thread::yield_now();
     }
+    unreachable!()
 }
 
 /// Takes flights until the inbox is empty. It does not read the number of flights left: each end of
@@ -223,13 +237,14 @@ fn empty_inbox<'f, J: RunFacts, R: Wait, G: Gate>(
     number: usize,
     receiver: &mut Receiver<'_, PostedFlight<'f, J>>,
     senders: &mut [Sender<'_, PostedFlight<'f, J>>],
+    ends: &mut Vec<FlightEnd<J>>,
 )
     requires { AreInboxes J.workers J.slots (inboxes_of senders.old) }
     ensures { inboxes_of senders.new ≡ inboxes_of senders.old }
 {
     for _ in rt.forever() {
         match receiver.pop(rt) {
-            Some(posted) => carry(rt, state, number, senders, posted),
+            Some(posted) => carry(rt, state, number, senders, ends, posted),
             None => return,
         }
     }
@@ -253,16 +268,17 @@ fn carry<'f, J: RunFacts, R: Wait, G: Gate>(
     state: &RunState<'_, J, G>,
     number: usize,
     senders: &mut [Sender<'_, PostedFlight<'f, J>>],
+    ends: &mut Vec<FlightEnd<J>>,
     posted: PostedFlight<'f, J>,
 )
     requires { AreInboxes J.workers J.slots (inboxes_of senders.old) }
     ensures { inboxes_of senders.new ≡ inboxes_of senders.old }
 {
     if posted.worker() != number {
-        pass_on(rt, state, senders, posted);
+        pass_on(rt, state, senders, ends, posted);
     } else {
         let turned = turn(state, number, posted.into_carried());
-        send_on(rt, state, senders, turned);
+        send_on(rt, state, senders, ends, turned);
     }
 }
 

@@ -6,5 +6,5 @@ pub returns : goal.returns
 returns g c =
     rw (c.requires.flights, c.requires.now, c.requires.slots)
     (reported c.collect.result.items g.J.RunFacts.flights g.J.RunFacts.now g.J.RunFacts.slots
-    (c.collect.ensures.all ∙ (ap length c.deref-2.ensures.value ∙ (c.in_ok-places.ensures ∙ ap length c.requires.flights)))
+    (c.collect.ensures.all ∙ ap length c.requires.flights)
     c.collect.ensures.each)
