@@ -5,8 +5,8 @@
     topo.py [--seed SEED] [--exp EXP] FILE.topo
 
 The file is YAML: `ASes` maps each address to its members, of which `core` counts; `links` is a list
-of maps with the ends `a` and `b` and the kind `linkAtoB`. An end is `1-ff00:0:110-A#1`: the address,
-the letters of a border router, and the number of the interface. The routers of an AS are numbered
+of maps with the ends `a` and `b` and the kind `linkAtoB`. An end is `1-ff00:0:110-A#1`: the
+address, the letters of a border router, and the number of the interface. The routers of an AS are numbered
 from 0 in the order in which they stand in the file; an end without letters has a router of its own.
 The key of an AS is made from the seed and its address.
 
@@ -75,7 +75,8 @@ class Topology:
             raise Unusable(f"{where}: {text} is no interface of an AS of the file")
         ia, letters, number = found[1], found[2], int(found[3])
         known = self.routers[ia]
-        return {"ia": ia, "if": number, "router": known.setdefault(letters or (number,), len(known))}
+        router = known.setdefault(letters or (number,), len(known))
+        return {"ia": ia, "if": number, "router": router}
 
     def add(self, where, link):
         for name in sorted(link.keys() - UNUSED_OF_LINK - {"a", "b", "linkAtoB"}):

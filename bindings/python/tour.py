@@ -340,8 +340,8 @@ class Tour:
     def longest_request(self, asked):
         """A request of the largest number of bytes is judged, and one of a byte more is not."""
         free = MAX_REQUEST - len(json.dumps({**asked, "none": ""}))
-        rows = [(free, {"code": 85, "name": "SameAs"}), (free + 1, {"code": 150, "name": "BadRequest"})]
-        for count, wanted in rows:
+        same, bad = {"code": 85, "name": "SameAs"}, {"code": 150, "name": "BadRequest"}
+        for count, wanted in ((free, same), (free + 1, bad)):
             self.expect(f"{count} letters", self.library.paths(**asked, none="x" * count), wanted)
 
     def verdicts(self):

@@ -57,11 +57,10 @@ def main():
     packets = int(sys.argv[3]) if sys.argv[3:] else 200_000
     made, event = network.prepared(map(json.loads, sys.stdin))
     packet, ia, _ = made.packet(event)
-    runs = [
-        (through_router(made, ia, program, load, packets, packet), through_echo(load, packets, packet))
-        for _ in range(RUNS)
-    ]
-    router, echo = (max(it) for it in zip(*runs))
+    router = echo = 0.0
+    for _ in range(RUNS):
+        router = max(router, through_router(made, ia, program, load, packets, packet))
+        echo = max(echo, through_echo(load, packets, packet))
     print(f"a router {router:.0f} packets a second, an echo {echo:.0f}, ratio {echo / router:.2f}")
 
 

@@ -56,8 +56,8 @@ pub(crate) fn effect_of(reply: Reply) -> Option<Effect>
 }
 
 impl BeaconEvent {
-    /// The event of a network. It is never `None`: it is returned so since the borrow checker has no
-    /// rule for an event that is lent where it was made.
+    /// The event of a network. It is never `None`, and is returned so since the borrow checker has
+    /// no rule for an event that is lent where it was made.
     pub(crate) fn of_network<'a>(&self) -> Option<Event<'a>>
         ensures { option_map events.event_value result ≡ Some (event_of self.now) }
     {

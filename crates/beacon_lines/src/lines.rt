@@ -92,9 +92,9 @@ fn push_lines(text: &mut String, events: &[BeaconEvent]) -> Result<(), AllocErro
 ///
 /// The topology is one JSON text of one or more lines. If it is refused, its fault is returned.
 ///
-/// With C core ASes, N ASes and L links it tries at most 2·C·L·K beacons if K segments are wanted
-/// from one AS to another, and takes time and memory in proportion to those that it makes, beside
-/// 64 steps for each that it tries.
+/// With C core ASes and L links it tries at most 2·C·L·K beacons if K segments are wanted from one
+/// AS to another. It takes time and memory in proportion to those that it makes, and some 64 steps
+/// for each that it tries.
 pub fn beacon_lines(alloc: Global, topology: &[u8], wanted: &Wanted) -> Result<String, ReadError>
     ensures lines { IfOk result
         (λ text. AreBeaconLines (one_line topology.now) (string_bytes text)) }

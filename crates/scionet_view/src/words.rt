@@ -67,14 +67,14 @@ which begins with
 static BEACONS_HELP: &str = "\
 Standard input has a topology, a JSON text of one or more lines. What is printed is a text for \
 'scionet run': the topology on one line, the second, and the events by which each core AS begins \
-beacons, and each AS ends and passes on the first that reach it. They go down over child links, and \
-from core AS to core AS over core links; shorter ones come first, and then those with smaller \
+beacons, and each AS ends and passes on the first that reach it. They go down over child links, \
+and from core AS to core AS over core links; shorter ones come first, and then those with smaller \
 interfaces. So each AS below a core AS gets segments from it, and so does each other core AS.
 
-Example: how the paths of a topology are asked for
-  { scionet_view beacons < TOPOLOGY; \\
-    printf '%s\\n' '{\"do\":\"ask\",\"src\":\"1-ff00:0:111\",\"dst\":\"1-ff00:0:112\",\"limit\":8}'; \\
-  } | scionet run";
+Example: the segments of a network of one AS, of which there are none
+  printf '%s\\n' \\
+    '{\"ases\":[{\"ia\":\"1-ff00:0:110\",\"core\":true,\"exp\":63,\"key\":\"6b\",\"routers\":1}],\
+\"links\":[]}' | scionet_view beacons | scionet run";
 
 /// What a view of a network is about. Its numbers are those of `scionet run`, from 0.
 #[derive(Clone, Copy)]
