@@ -156,7 +156,7 @@ module _ (question : Question) (path : PathValue) (is : IsCandidate question pat
   abbrev pub IsRival : PathValue → Type 0
   IsRival other = IsCandidate question other × HaveOneWalk other path
 
-  either_rival : (one other : PathValue) → IsRival one → IsRival other → IsNoWorse one other ⊎ IsNoWorse other one
+  pub either_rival : (one other : PathValue) → IsRival one → IsRival other → IsNoWorse one other ⊎ IsNoWorse other one
   either_rival one other first second =
       let e = expiry_there one.pieces first.0.accepted.path.some first.0.accepted.path.ranges in
       let f = expiry_there other.pieces second.0.accepted.path.some second.0.accepted.path.ranges in

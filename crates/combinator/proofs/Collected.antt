@@ -4,7 +4,7 @@ use Rattle.std.specs.Prelude.{◌⊎◌}
 use Rattle.std.specs.Prelude.{slice_get}
 use Rattle.std.proofs.lemmas.Bool.{cases_lt}
 use Rattle.std.proofs.lemmas.Option.{same_Some}
-use Rattle.std.proofs.lemmas.List.Elements.{All-push, Contains-push_cases}
+use Rattle.std.proofs.lemmas.List.Elements.{All-push, Contains-push, Contains-push_cases, Contains-append_left}
 use Rattle.path_segment.specs.declared.kind.SegKind.TheVariants as kinds
 use Rattle.path_segment.specs.Chain.{Chain}
 use Rattle.path_verifier.specs.Piece.{PieceValue, HasRange}
@@ -67,6 +67,13 @@ same_lists (x ∷ xs) (y ∷ ys) count all =
     let first = same_Some x y (all 0 (omega arith)) in
     let later = same_lists xs ys (omega (arith, count)) (λ k within. all (suc k) (omega (arith, within))) in
     ap (λ z. z ∷ xs) first ∙ ap (λ zs. y ∷ zs) later
+
+-- what was collected, and one more
+pub pushed_more : (old new : List PieceValue) (piece : PieceValue) → new ≡ old ++ piece ∷ [] → AreIn old new
+pushed_more old new piece is one there = subst (λ (pieces : List PieceValue). Contains pieces one) (sym is) (Contains-append_left old (piece ∷ []) one there)
+
+pub pushed_here : (old new : List PieceValue) (piece : PieceValue) → new ≡ old ++ piece ∷ [] → Contains new piece
+pushed_here old new piece is = subst (λ (pieces : List PieceValue). Contains pieces piece) (sym is) (Contains-push old piece)
 
 -- a piece of this segment is among what was collected of it
 cut_here : (segment : Chain) (along : Bool) (outer : ℕ) (usable_pieces : List PieceValue)

@@ -11,9 +11,11 @@ pub mod Best
 pub mod WaysOut
 pub mod Spelled
 pub mod Collected
+pub mod Outer
 pub mod Tried
 pub mod Before
 pub mod Answering
 pub mod Rivals
+pub mod Settled
 pub mod Choosing
 pub mod Preferring

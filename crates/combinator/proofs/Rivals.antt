@@ -1,5 +1,5 @@
 -- Whether a path is the best for its walk: no candidate of the same walk is better.
-use Rattle.std.proofs.Common.{◌≡◌, ℕ, List, [], ◌∷◌, ◌++◌, length, Some, sym, ap, subst, ◌∙◌, append_assoc}
+use Rattle.std.proofs.Common.{◌≡◌, ℕ, List, [], ◌∷◌, ◌++◌, length, Some, refl, sym, ap, subst, ◌∙◌, inl, inr, append_assoc}
 use Rattle.std.specs.Prelude.{slice_get}
 use Rattle.path_header.specs.Value.{HeaderValue}
 use Rattle.path_verifier.specs.Piece.{PieceValue, ends_in}
@@ -9,8 +9,9 @@ use Rattle.policy_expr.specs.declared.hop.WalkHop.{WalkHop}
 use Rattle.combinator.specs.Candidate.{Question, PathValue, IsCandidate, path_with}
 use Rattle.combinator.specs.Order.{HaveOneWalk}
 use Rattle.combinator.specs.Answer.{IsBest}
-use Rattle.combinator.specs.inner.Search.{HaveAll, IsNoBetter, IsNoWorse, OfEachBehind, LeavesBy, ways_out, ways_out_of}
-use Rattle.combinator.proofs.Lasting.{no_worse_itself}
+use Rattle.combinator.specs.inner.Search.{HaveAll, IsNoBetter, IsNoWorse, MayReplace, OfEachBehind, LeavesBy, ways_out, ways_out_of}
+use Rattle.combinator.proofs.Lasting.{no_worse_itself, no_worse_on}
+use Rattle.combinator.proofs.Best.{either_rival}
 use Rattle.combinator.proofs.Tried.{WasTried, all_behind}
 use Rattle.combinator.proofs.WaysOut.{way_behind}
 use Rattle.combinator.proofs.Answering.{of_candidate}
@@ -38,8 +39,31 @@ no_better_itself question found pieces same_pieces own = λ header is same.
     let same_header : header ≡ found.header = is.accepted.header ∙ ap header_of same_pieces ∙ sym own in
     subst (IsNoWorse found) (sym (ap (λ (ps : List PieceValue). path_with ps header) same_pieces ∙ ap (path_with found.pieces) same_header)) (no_worse_itself found)
 
-pub not_best : (question : Question) (found rival : PathValue) → IsCandidate question rival → HaveOneWalk rival found → ¬ (IsNoWorse found rival) → ¬ (IsBest question found)
-not_best question found rival is same never best = never (record { latest = best.latest rival is same; least = best.least rival is same })
+-- ---- a path in the place of another one
+
+pub replaces_itself : (question : Question) (path : PathValue) → IsCandidate question path → MayReplace question path path
+replaces_itself question path is = record { candidate = is; same = refl; no_worse = no_worse_itself path }
+
+pub replaces_on : (question : Question) (path other third : PathValue) → MayReplace question path other → MayReplace question other third → MayReplace question path third
+replaces_on question path other third first second = record {
+  candidate = second.candidate;
+  same = second.same ∙ first.same;
+  no_worse = no_worse_on third other path second.no_worse first.no_worse;
+}
+
+-- of two candidates of one walk, if the first is worse, the second may replace it
+pub rival_replaces : (question : Question) (found rival : PathValue) → IsCandidate question found → IsCandidate question rival → HaveOneWalk rival found → ¬ (IsNoWorse found rival)
+    → MayReplace question found rival
+rival_replaces question found rival is also same worse = elim (either_rival question found is found rival (is, refl) (also, same)) [
+  | inl fine ↦ absurd (worse fine)
+  | inr better ↦ record { candidate = also; same = same; no_worse = better }
+]
+
+-- what was no better than a path is no better than one that replaces it
+pub no_better_on : (question : Question) (old new : PathValue) → MayReplace question old new → (pieces : List PieceValue) → IsNoBetter question old pieces → IsNoBetter question new pieces
+unfolding IsNoBetter
+no_better_on question old new replaces pieces none = λ header is walk.
+    no_worse_on new old (path_with pieces header) replaces.no_worse (none header is (walk ∙ replaces.same))
 
 pub found_best : (question : Question) (usable_pieces : List PieceValue) (found : PathValue) → HaveAll question usable_pieces → IsCandidate question found
     → OfEachBehind (IsNoBetter question found) usable_pieces 3 [] question.src → IsBest question found

@@ -10,7 +10,7 @@ use Rattle.path_header.specs.Value.{HeaderValue}
 use Rattle.path_server.specs.Lookup.{Selection}
 use Rattle.path_verifier.specs.Piece.{PieceValue, HasRange, begins_in, ends_in}
 use Rattle.path_verifier.specs.Header.{header_of, fields_of, len_of, total_hops}
-use Rattle.path_verifier.specs.Accepted.{Request, request_of, IsAccepted}
+use Rattle.path_verifier.specs.Accepted.{Request, request_of, DoEndIn, IsAccepted}
 use Rattle.path_verifier.proofs.Headers.{length_fields_of}
 use Rattle.combinator.specs.Candidate.{Question, IsOf, PathValue, IsCandidate, path_with}
 use Rattle.combinator.specs.Order.{path_cmp, shown_cmp}
@@ -93,6 +93,21 @@ own_more set pieces longer piece is own one = subst (All (IsOf set)) (sym is) (A
 pub ranges_more : (pieces longer : List PieceValue) (piece : PieceValue) → longer ≡ pieces ++ piece ∷ [] → AllByRecursion HasRange pieces → HasRange piece → AllByRecursion HasRange longer
 ranges_more pieces longer piece is ranges one =
     subst (AllByRecursion HasRange) (sym is) (recursion_from_All HasRange (pieces ++ piece ∷ []) (All-push HasRange pieces piece (All-from_recursion HasRange pieces ranges) one))
+
+-- ---- the AS in which a list ends
+
+pub one_end : (pieces : List PieceValue) (one other : ℕ) → DoEndIn one pieces → DoEndIn other pieces → one ≡ other
+one_end [] one other is also = absurd is
+one_end (piece ∷ []) one other is also = sym is ∙ also
+one_end (piece ∷ next ∷ later) one other is also = one_end (next ∷ later) one other is also
+
+ends_with : (front : List PieceValue) (piece : PieceValue) → DoEndIn (ends_in piece) (front ++ piece ∷ [])
+ends_with [] piece = refl
+ends_with (first ∷ []) piece = refl
+ends_with (first ∷ next ∷ front) piece = ends_with (next ∷ front) piece
+
+pub ends_more : (pieces longer : List PieceValue) (piece : PieceValue) (end : ℕ) → longer ≡ pieces ++ piece ∷ [] → end ≡ ends_in piece → DoEndIn end longer
+ends_more pieces longer piece end is same = subst (DoEndIn end) (sym is) (subst (λ (at : ℕ). DoEndIn at (pieces ++ piece ∷ [])) (sym same) (ends_with pieces piece))
 
 -- ---- what was met
 

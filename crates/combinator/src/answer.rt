@@ -72,12 +72,14 @@ impl<'s, 'p, A: Allocator + Clone> Paths<'s, 'p, A> {
 /// among those the one with the smallest header bytes. The paths are ordered by number of hop
 /// fields, header bytes and walk, and the first `limit` of them are returned.
 ///
-/// The search takes the pieces that begin in the source, end in the destination, or are whole core
-/// segments. With n of them, it tries all n after each list of pieces that meet, unless `limit`
-/// paths are known that surely come before all longer lists. A path that would be among the first
-/// `limit` is kept if none of the pieces that leave the same ASes by the same interfaces make a
-/// better one of its walk. So it takes the memory of n pieces of 64 bytes and of `limit` paths of
-/// some 2,300 bytes each, and at most the time of n³ lists.
+/// What it costs: a segment to `src` or `dst` gives at most 62 usable pieces, those with that AS at
+/// their end, and a core segment gives two. With n usable pieces there are at most n + n² + n³ lists
+/// of them; those that meet are tried, but for those that surely come behind `limit` known paths.
+/// Behind each tried list of fewer than three pieces all n are looked at. Each tried list that ends
+/// in `dst` is verified, in a time that grows with its hops, at most 64, and again when the best
+/// path of its walk is sought. That is done once for a walk, or twice if others push its path out
+/// of the first `limit`, as long as no more than 1,024 paths are found behind these. The memory is
+/// that of n pieces of 64 bytes, and of `limit` and up to 1,024 paths of some 2,300 bytes each.
 ///
 /// [`AllocError`] if memory runs out.
 pub fn paths_between<'s, 'p, A: Allocator + Clone>(

@@ -2,15 +2,16 @@
 //! it answers the path that expires last, in a fixed order and up to a limit.
 //!
 //! It lists the usable pieces once, each with the ASes at its ends, and joins pieces that meet. The
-//! verifier decides about each list of pieces. A path is kept if it is among the first of the
-//! answer and no path of the same walk is better. Lists are passed over if their hop fields and
-//! info fields tell that they are not among the first.
+//! verifier decides about each list of pieces that ends in the destination. For each walk that may
+//! be among the first of the answer, its best path is sought once. Lists are passed over if their
+//! hop fields and info fields tell that they are not among the first.
 #![tactic(auto)]
 
 mod answer;
 mod choice;
 mod combination;
 mod fault;
+mod kept;
 pub mod laws;
 mod limit;
 mod ordered;

@@ -1,6 +1,6 @@
 //! Keeps paths in the order of an answer, up to its limit.
 
-ghost use Rattle.std.specs.Prelude.{◌≤◌, length, All, IfSome, IfNone, IsTrue, OnOk};
+ghost use Rattle.std.specs.Prelude.{◌≡◌, ◌≤◌, length, All, IfOk, IfSome, IfNone, IsTrue, OnOk};
 ghost use Rattle.combinator.specs.Candidate.{Question, PathValue};
 ghost use Rattle.combinator.specs.Order.{path_cmp};
 ghost use Rattle.combinator.specs.Answer.{IsBest};
@@ -10,12 +10,13 @@ use crate::ranked::RankedPath;
 use std::alloc::{AllocError, Allocator};
 use std::cmp::Ordering;
 
-/// Adds a path to those in order; at most `limit` are kept.
+/// Adds a path to those in order; at most `limit` are kept. A path that comes behind these, or is
+/// among them, is given back.
 pub(crate) fn take_in<'s, 'p, A: Allocator + Clone>(
     ordered: &mut Vec<RankedPath<'s, 'p, A>>,
     found: RankedPath<'s, 'p, A>,
     limit: usize,
-) -> Result<(), AllocError>
+) -> Result<Option<RankedPath<'s, 'p, A>>, AllocError>
     requires order { InOrder path_cmp ordered.old.items }
     requires few { length ordered.old.items ≤ limit }
     ensures order { OnOk result (InOrder path_cmp ordered.new.items) }
@@ -23,18 +24,19 @@ pub(crate) fn take_in<'s, 'p, A: Allocator + Clone>(
     ensures met { OnOk result (Met path_cmp limit ordered.new.items found.entry) }
     ensures others { OnOk result ((path : PathValue) → Met path_cmp limit ordered.old.items path
         → Met path_cmp limit ordered.new.items path) }
+    ensures back { IfOk result (λ back. IfSome back (λ path. path ≡ found.entry)) }
     ensures best { OnOk result ((question : Question) → All (IsBest question) ordered.old.items
         → IsBest question found.entry → All (IsBest question) ordered.new.items) }
 {
     let Some(place) = place_in(ordered, &found) else {
-        return Ok(());
+        return Ok(Some(found));
     };
     if place >= limit {
-        return Ok(());
+        return Ok(Some(found));
     }
     ordered.insert(place, found)?;
     ordered.truncate(limit);
-    Ok(())
+    Ok(None)
 }
 
 /// Whether a path is among those in order, or these are `limit` paths that come before it.

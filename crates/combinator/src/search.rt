@@ -7,13 +7,15 @@ ghost use Rattle.std.specs.List.{AllByRecursion};
 ghost use Rattle.path_verifier.specs.Piece.{HasRange};
 ghost use Rattle.path_header.specs.Value.{HeaderValue};
 ghost use Rattle.path_verifier.specs.Header.{header_of};
-ghost use Rattle.combinator.specs.Candidate.{IsOf, IsCandidate, path_with};
+ghost use Rattle.path_verifier.specs.Accepted.{DoEndIn};
+ghost use Rattle.combinator.specs.Candidate.{AreSpelled, IsOf, IsCandidate, path_with};
 ghost use Rattle.combinator.specs.Order.{path_cmp};
 ghost use Rattle.combinator.specs.Answer.{IsBest};
 ghost use Rattle.combinator.specs.inner.Placed.{InOrder};
-ghost use Rattle.combinator.specs.inner.Search.{AreBefore, HaveAll, infos_of, IsMetBy, IsNoBetter, OfEachBehind, StillMeet, ways_out, ways_out_of};
+ghost use Rattle.combinator.specs.inner.Search.{AreBefore, AreKept, HaveAll, infos_of, IsMetBy, IsNoBetter, MayReplace, OfEachBehind, StillMeet, ways_out, ways_out_of};
 
-use crate::ordered::{is_met, take_in};
+use crate::kept::KeptPaths;
+use crate::ordered::is_met;
 use crate::ranked::RankedPath;
 use crate::request::PathRequest;
 use crate::usable_piece::UsablePiece;
@@ -27,6 +29,15 @@ use std::alloc::{AllocError, Allocator, Global};
 /// The largest length of the info fields of a path in bytes.
 const MAX_INFOS_LEN: usize = 3 * INFO_LEN;
 
+/// A search: the request, the pieces of which its paths are made, and the largest number of paths.
+#[derive(Drop)]
+struct Search<'a, 's, 'p, A: Allocator + Clone> {
+    alloc: Global,
+    ask: &'a PathRequest<'s, 'p, A>,
+    usable_pieces: &'a [UsablePiece<'s>],
+    limit: usize,
+}
+
 /// The first `limit` paths in the order of answers, of those that are the best for their walks.
 pub(crate) fn first_paths<'s, 'p, A: Allocator + Clone>(
     alloc: Global,
@@ -36,133 +47,167 @@ pub(crate) fn first_paths<'s, 'p, A: Allocator + Clone>(
 ) -> Result<Vec<RankedPath<'s, 'p, A>>, AllocError>
     requires own { All (IsOf ask.now.set) usable_pieces.now }
     requires whole { HaveAll ask.now usable_pieces.now }
+    requires spelled { AreSpelled ask.now }
     ensures order { IfOk result (λ paths. InOrder path_cmp paths.items) }
     ensures few { IfOk result (λ paths. length paths.items ≤ limit) }
     ensures best { IfOk result (λ paths. All (IsBest ask.now) paths.items) }
     ensures met { IfOk result (λ paths. OfEachBehind (IsMetBy ask.now limit paths.items)
         usable_pieces.now 3 [] ask.now.src) }
 {
-    let mut kept = Vec::new(alloc);
-    let none = Pieces::new();
-    try_behind(
+    let search = Search {
         alloc,
         ask,
         usable_pieces,
         limit,
-        &mut kept,
-        &none,
-        &[],
-        ask.src,
-        3,
-    )?;
-    Ok(kept)
-}
-
-/// Tries the paths that begin with these pieces and go on, from the AS `at`, with one to `depth`
-/// usable pieces. `infos` has the bytes of the info fields of the pieces.
-fn try_behind<'s, 'p, A: Allocator + Clone>(
-    alloc: Global,
-    ask: &PathRequest<'s, 'p, A>,
-    usable_pieces: &[UsablePiece<'s>],
-    limit: usize,
-    kept: &mut Vec<RankedPath<'s, 'p, A>>,
-    pieces: &Pieces<'s>,
-    infos: &[u8],
-    at: IsdAs,
-    depth: usize,
-) -> Result<(), AllocError>
-    requires own { All (IsOf ask.now.set) usable_pieces.now }
-    requires whole { HaveAll ask.now usable_pieces.now }
-    requires order { InOrder path_cmp kept.old.items }
-    requires room { length kept.old.items ≤ limit }
-    requires best { All (IsBest ask.now) kept.old.items }
-    requires front { All (IsOf ask.now.set) pieces.now }
-    requires ranges { AllByRecursion HasRange pieces.now }
-    requires infos { infos.now ≡ infos_of pieces.now }
-    requires some { 0 < depth }
-    requires few { length pieces.now + depth ≤ 3 }
-    ensures order { OnOk result (InOrder path_cmp kept.new.items) }
-    ensures room { OnOk result (length kept.new.items ≤ limit) }
-    ensures best { OnOk result (All (IsBest ask.now) kept.new.items) }
-    ensures still { OnOk result (StillMeet limit kept.old.items kept.new.items) }
-    ensures met { OnOk result (OfEachBehind (IsMetBy ask.now limit kept.new.items)
-        usable_pieces.now depth pieces.now at) }
-{
-    for piece in usable_pieces {
-        if piece.begins() != at {
-            continue;
-        }
-        if is_behind(kept, limit, pieces, infos, piece, 0) {
-            continue;
-        }
-        let Some(longer) = pieces.with_piece(piece.piece()) else {
-            unreachable!();
-        };
-        consider(alloc, ask, usable_pieces, limit, kept, &longer)?;
-        if depth == 1 {
-            continue;
-        }
-        if is_behind(kept, limit, pieces, infos, piece, 1) {
-            continue;
-        }
-        let more = with_info(infos, piece.info());
-        let end = piece.ends();
-        try_behind(
-            alloc,
-            ask,
-            usable_pieces,
-            limit,
-            kept,
-            &longer,
-            &more,
-            end,
-            depth - 1,
-        )?;
-    }
-    Ok(())
-}
-
-/// Takes in the path of these pieces, if it is the best for its walk and among the first `limit`.
-fn consider<'s, 'p, A: Allocator + Clone>(
-    alloc: Global,
-    ask: &PathRequest<'s, 'p, A>,
-    usable_pieces: &[UsablePiece<'s>],
-    limit: usize,
-    kept: &mut Vec<RankedPath<'s, 'p, A>>,
-    pieces: &Pieces<'s>,
-) -> Result<(), AllocError>
-    requires own { All (IsOf ask.now.set) usable_pieces.now }
-    requires whole { HaveAll ask.now usable_pieces.now }
-    requires order { InOrder path_cmp kept.old.items }
-    requires room { length kept.old.items ≤ limit }
-    requires best { All (IsBest ask.now) kept.old.items }
-    requires front { All (IsOf ask.now.set) pieces.now }
-    ensures order { OnOk result (InOrder path_cmp kept.new.items) }
-    ensures room { OnOk result (length kept.new.items ≤ limit) }
-    ensures best { OnOk result (All (IsBest ask.now) kept.new.items) }
-    ensures still { OnOk result (StillMeet limit kept.old.items kept.new.items) }
-    ensures met { OnOk result (IsMetBy ask.now limit kept.new.items pieces.now) }
-{
-    let Some(path) = candidate_of(ask, pieces) else {
-        return Ok(());
     };
-    let found = RankedPath::new(alloc, path)?;
-    if is_met(kept, &found, limit) {
-        return Ok(());
-    }
-    if has_better(ask, usable_pieces, &found, &Pieces::new(), ask.src, 0, 3) {
-        return Ok(());
-    }
-    take_in(kept, found, limit)?;
-    Ok(())
+    let mut kept = KeptPaths::none(alloc);
+    search.try_behind(&mut kept, &Pieces::new(), &[], ask.src, 3)?;
+    Ok(kept.first)
 }
 
-/// The path of these pieces, if it may be sent.
+impl<'a, 's, 'p, A: Allocator + Clone> Search<'a, 's, 'p, A> {
+    /// Tries the paths that begin with these pieces and go on, from the AS `at`, with one to
+    /// `depth` usable pieces. `infos` has the bytes of the info fields of the pieces.
+    fn try_behind(
+        &self,
+        kept: &mut KeptPaths<'s, 'p, A>,
+        pieces: &Pieces<'s>,
+        infos: &[u8],
+        at: IsdAs,
+        depth: usize,
+    ) -> Result<(), AllocError>
+        requires own { All (IsOf self.now.ask.now.set) self.now.usable_pieces.now }
+        requires whole { HaveAll self.now.ask.now self.now.usable_pieces.now }
+        requires spelled { AreSpelled self.now.ask.now }
+        requires kept { AreKept self.now.ask.now self.now.limit kept.old.first.items
+            kept.old.behind.items }
+        requires front { All (IsOf self.now.ask.now.set) pieces.now }
+        requires ranges { AllByRecursion HasRange pieces.now }
+        requires infos { infos.now ≡ infos_of pieces.now }
+        requires some { 0 < depth }
+        requires few { length pieces.now + depth ≤ 3 }
+        ensures kept { OnOk result (AreKept self.now.ask.now self.now.limit kept.new.first.items
+            kept.new.behind.items) }
+        ensures still { OnOk result
+            (StillMeet self.now.limit kept.old.first.items kept.new.first.items) }
+        ensures met { OnOk result (OfEachBehind (IsMetBy self.now.ask.now self.now.limit
+            kept.new.first.items) self.now.usable_pieces.now depth pieces.now at) }
+    {
+        for piece in self.usable_pieces {
+            if piece.begins() != at {
+                continue;
+            }
+            if is_behind(&kept.first, self.limit, pieces, infos, piece, 0) {
+                continue;
+            }
+            let Some(longer) = pieces.with_piece(piece.piece()) else {
+                unreachable!();
+            };
+            let end = piece.ends();
+            self.consider(kept, &longer, end)?;
+            if depth == 1 {
+                continue;
+            }
+            if is_behind(&kept.first, self.limit, pieces, infos, piece, 1) {
+                continue;
+            }
+            let more = with_info(infos, piece.info());
+            self.try_behind(kept, &longer, &more, end, depth - 1)?;
+        }
+        Ok(())
+    }
+
+    /// Keeps the best path of the walk of these pieces, if it is not kept and may be among the
+    /// first. The pieces end in the AS `end`.
+    fn consider(
+        &self,
+        kept: &mut KeptPaths<'s, 'p, A>,
+        pieces: &Pieces<'s>,
+        end: IsdAs,
+    ) -> Result<(), AllocError>
+        requires own { All (IsOf self.now.ask.now.set) self.now.usable_pieces.now }
+        requires whole { HaveAll self.now.ask.now self.now.usable_pieces.now }
+        requires spelled { AreSpelled self.now.ask.now }
+        requires kept { AreKept self.now.ask.now self.now.limit kept.old.first.items
+            kept.old.behind.items }
+        requires front { All (IsOf self.now.ask.now.set) pieces.now }
+        requires end { DoEndIn end pieces.now }
+        ensures kept { OnOk result (AreKept self.now.ask.now self.now.limit kept.new.first.items
+            kept.new.behind.items) }
+        ensures still { OnOk result
+            (StillMeet self.now.limit kept.old.first.items kept.new.first.items) }
+        ensures met { OnOk result
+            (IsMetBy self.now.ask.now self.now.limit kept.new.first.items pieces.now) }
+    {
+        let ask = self.ask;
+        let Some(path) = candidate_of(ask, pieces, end) else {
+            return Ok(());
+        };
+        if kept.has_walk_of(&path) {
+            return Ok(());
+        }
+        let found = RankedPath::new(self.alloc, path)?;
+        if is_met(&kept.first, &found, self.limit) {
+            return Ok(());
+        }
+        let best = self.best_behind(found, &Pieces::new(), ask.src, 0, 3)?;
+        kept.keep(best, self.limit)?;
+        Ok(())
+    }
+
+    /// The best path of a walk, of this one and of those that begin with these pieces and go on
+    /// with one to `depth` usable pieces. `place` is the place in the walk of the AS in which the
+    /// pieces end.
+    fn best_behind(
+        &self,
+        found: RankedPath<'s, 'p, A>,
+        pieces: &Pieces<'s>,
+        at: IsdAs,
+        place: usize,
+        depth: usize,
+    ) -> Result<RankedPath<'s, 'p, A>, AllocError>
+        requires own { All (IsOf self.now.ask.now.set) self.now.usable_pieces.now }
+        requires candidate { IsCandidate self.now.ask.now found }
+        requires front { All (IsOf self.now.ask.now.set) pieces.now }
+        requires ranges { AllByRecursion HasRange pieces.now }
+        requires place { place ≡ length (ways_out_of pieces.now) }
+        requires some { 0 < depth }
+        requires few { length pieces.now + depth ≤ 3 }
+        ensures better { IfOk result (MayReplace self.now.ask.now found.entry) }
+        ensures none { IfOk result (λ best. OfEachBehind (IsNoBetter self.now.ask.now best)
+            self.now.usable_pieces.now depth pieces.now at) }
+    {
+        let mut best = found;
+        for piece in self.usable_pieces {
+            if piece.begins() != at {
+                continue;
+            }
+            if !leaves_by(best.path().walk(), place, piece.way_out()) {
+                continue;
+            }
+            let Some(longer) = pieces.with_piece(piece.piece()) else {
+                unreachable!();
+            };
+            let end = piece.ends();
+            best = better_of(self.alloc, self.ask, best, &longer, end)?;
+            if depth == 1 {
+                continue;
+            }
+            let next = place + piece.len() - 1;
+            best = self.best_behind(best, &longer, end, next, depth - 1)?;
+        }
+        Ok(best)
+    }
+}
+
+/// The path of these pieces, which end in the AS `end`, if it may be sent.
 fn candidate_of<'s, 'p, A: Allocator + Clone>(
     ask: &PathRequest<'s, 'p, A>,
     pieces: &Pieces<'s>,
+    end: IsdAs,
 ) -> Option<VerifiedPath<'s, 'p, A>>
-    requires { All (IsOf ask.now.set) pieces.now }
+    requires front { All (IsOf ask.now.set) pieces.now }
+    requires end { DoEndIn end pieces.now }
     ensures pieces { IfSome result (λ path. path.pieces ≡ pieces.now) }
     ensures header { IfSome result (λ path. path.header ≡ header_of pieces.now) }
     ensures candidate { IfSome result
@@ -170,6 +215,10 @@ fn candidate_of<'s, 'p, A: Allocator + Clone>(
     ensures none { IfNone result ((header : HeaderValue)
         → ¬ (IsCandidate ask.now (path_with pieces.now header))) }
 {
+    // Most lists end elsewhere, and the verifier would clear room for their walks.
+    if end != ask.dst {
+        return None;
+    }
     match accept(pieces, ask.src, ask.dst, ask.set.now(), ask.policy) {
         Err(_) => None,
         Ok(path) => Some(path),
@@ -215,53 +264,6 @@ fn with_info(infos: &[u8], info: &[u8]) -> ArrayVec<u8, MAX_INFOS_LEN>
     more
 }
 
-/// Whether one of the paths that begin with these pieces and go on with one to `depth` usable
-/// pieces has the walk of this path and is better. `place` is the place in the walk of the AS in
-/// which the pieces end.
-fn has_better<'s, 'p, A: Allocator + Clone>(
-    ask: &PathRequest<'s, 'p, A>,
-    usable_pieces: &[UsablePiece<'s>],
-    found: &RankedPath<'s, 'p, A>,
-    pieces: &Pieces<'s>,
-    at: IsdAs,
-    place: usize,
-    depth: usize,
-) -> bool
-    requires own { All (IsOf ask.now.set) usable_pieces.now }
-    requires front { All (IsOf ask.now.set) pieces.now }
-    requires ranges { AllByRecursion HasRange pieces.now }
-    requires place { place ≡ length (ways_out_of pieces.now) }
-    requires some { 0 < depth }
-    requires few { length pieces.now + depth ≤ 3 }
-    ensures better { IsTrue result → ¬ (IsBest ask.now found.now) }
-    ensures none { IsFalse result
-        → OfEachBehind (IsNoBetter ask.now found.now) usable_pieces.now depth pieces.now at }
-{
-    for piece in usable_pieces {
-        if piece.begins() != at {
-            continue;
-        }
-        if !leaves_by(found.path().walk(), place, piece.way_out()) {
-            continue;
-        }
-        let Some(longer) = pieces.with_piece(piece.piece()) else {
-            unreachable!();
-        };
-        if is_better(ask, found, &longer) {
-            return true;
-        }
-        if depth == 1 {
-            continue;
-        }
-        let end = piece.ends();
-        let next = place + piece.len() - 1;
-        if has_better(ask, usable_pieces, found, &longer, end, next, depth - 1) {
-            return true;
-        }
-    }
-    false
-}
-
 /// Whether a walk leaves the AS at this place by an interface.
 fn leaves_by(walk: &[WalkHop], place: usize, way: IfId) -> bool
     ensures within { IsTrue result → place < length walk.now }
@@ -273,26 +275,49 @@ fn leaves_by(walk: &[WalkHop], place: usize, way: IfId) -> bool
     }
 }
 
-/// Whether the path of these pieces has the walk of this one and is better.
-fn is_better<'s, 'p, A: Allocator + Clone>(
+/// The better one of a path and the path of these pieces, if that may be sent and has the same
+/// walk. The pieces end in the AS `end`.
+fn better_of<'s, 'p, A: Allocator + Clone>(
+    alloc: Global,
     ask: &PathRequest<'s, 'p, A>,
+    found: RankedPath<'s, 'p, A>,
+    pieces: &Pieces<'s>,
+    end: IsdAs,
+) -> Result<RankedPath<'s, 'p, A>, AllocError>
+    requires candidate { IsCandidate ask.now found }
+    requires front { All (IsOf ask.now.set) pieces.now }
+    requires end { DoEndIn end pieces.now }
+    ensures better { IfOk result (MayReplace ask.now found.entry) }
+    ensures none { IfOk result (λ best. IsNoBetter ask.now best pieces.now) }
+{
+    // Most often the pieces are those of the path itself.
+    if has_pieces(&found, pieces) {
+        return Ok(found);
+    }
+    let Some(rival) = candidate_of(ask, pieces, end) else {
+        return Ok(found);
+    };
+    if !found.has_walk_of(&rival) {
+        return Ok(found);
+    }
+    if !found.is_worse(&rival) {
+        return Ok(found);
+    }
+    let better = RankedPath::new(alloc, rival)?;
+    Ok(better)
+}
+
+/// Whether a path is of these pieces.
+fn has_pieces<'s, 'p, A: Allocator + Clone>(
     found: &RankedPath<'s, 'p, A>,
     pieces: &Pieces<'s>,
 ) -> bool
-    requires { All (IsOf ask.now.set) pieces.now }
-    ensures better { IsTrue result → ¬ (IsBest ask.now found.now) }
-    ensures none { IsFalse result → IsNoBetter ask.now found.now pieces.now }
+    ensures same { IsTrue result → pieces.now ≡ found.now.pieces }
+    ensures header { found.now.header ≡ header_of found.now.pieces }
 {
-    // Most often the pieces are those of the path itself, which is no better than itself.
     let own = found.path();
     own.known();
-    if are_same(pieces, own.pieces()) {
-        return false;
-    }
-    match candidate_of(ask, pieces) {
-        None => false,
-        Some(rival) => found.has_walk_of(&rival) && found.is_worse(&rival),
-    }
+    are_same(pieces, own.pieces())
 }
 
 /// Whether both lists have the same pieces.

@@ -2,7 +2,7 @@ ghost use Rattle.std.specs.Prelude.{◌≡◌, ◌<◌, ◌≤◌, length, All};
 ghost use Rattle.path_header.specs.Spelling.{info_spelling, HopFits};
 ghost use Rattle.path_verifier.specs.Piece.{HasRange, begins_in, ends_in};
 ghost use Rattle.path_verifier.specs.Header.{field_of, info_of, len_of};
-ghost use Rattle.combinator.specs.inner.UsablePieces.{piece_of, outer_of};
+ghost use Rattle.combinator.specs.inner.UsablePieces.{piece_of};
 ghost use Rattle.combinator.specs.inner.Search.{HasFields, LeavesBy};
 
 use isd_as::{IfId, IsdAs};
@@ -142,17 +142,6 @@ impl<'s> UsablePiece<'s> {
         ensures few { result ≤ 63 }
     {
         self.piece.len()
-    }
-
-    /// The AS at the end that is farther from the first AS of its segment.
-    pub(crate) fn outer(&self) -> IsdAs
-        ensures { result ≡ outer_of self.now }
-    {
-        if self.piece.along {
-            self.ends
-        } else {
-            self.begins
-        }
     }
 }
 

@@ -106,7 +106,8 @@ fn add_cuts_of<'s>(
     Ok(())
 }
 
-/// Adds the pieces of a segment in a direction that have an AS at their outer end.
+/// Adds the pieces of a segment in a direction that have an AS at their outer end, which is that of
+/// their last entry.
 fn add_pieces_of<'s>(
     usable_pieces: &mut Vec<UsablePiece<'s>>,
     segment: &'s Segment,
@@ -122,19 +123,21 @@ fn add_pieces_of<'s>(
         → outer_of (piece_of segment.entry.now from to along) ≡ outer
         → Contains usable_pieces.new.items (piece_of segment.entry.now from to along)) }
 {
-    for to in 0..segment.entries().len() {
-        add_cuts_to(usable_pieces, segment, to, along, outer)?;
+    for (to, entry) in segment.entries().iter().enumerate() {
+        if entry.ia != outer {
+            continue;
+        }
+        add_cuts_to(usable_pieces, segment, to, along)?;
     }
     Ok(())
 }
 
-/// Adds the pieces that end at this place and have the AS at their outer end.
+/// Adds the pieces of a segment in a direction that have their last entry at this place.
 fn add_cuts_to<'s>(
     usable_pieces: &mut Vec<UsablePiece<'s>>,
     segment: &'s Segment,
     to: usize,
     along: bool,
-    outer: IsdAs,
 ) -> Result<(), AllocError>
     requires within { to < length segment.now.entries }
     requires fits { All (λ entry. HopFits (field_of entry)) segment.now.entries }
@@ -143,33 +146,10 @@ fn add_cuts_to<'s>(
         → Contains (segments_of set (kind_in segment.entry.now.kind along)) segment.entry.now
         → All (IsOf set) usable_pieces.old.items → All (IsOf set) usable_pieces.new.items) }
     ensures all { OnOk result ((from : ℕ) → from < to
-        → outer_of (piece_of segment.entry.now from to along) ≡ outer
         → Contains usable_pieces.new.items (piece_of segment.entry.now from to along)) }
 {
     for from in 0..to {
-        add_cut(
-            usable_pieces,
-            UsablePiece::new(segment, from, to, along),
-            outer,
-        )?;
-    }
-    Ok(())
-}
-
-/// Adds a piece, if it has this AS at its outer end.
-fn add_cut<'s>(
-    usable_pieces: &mut Vec<UsablePiece<'s>>,
-    usable_piece: UsablePiece<'s>,
-    outer: IsdAs,
-) -> Result<(), AllocError>
-    ensures more { OnOk result (AreIn usable_pieces.old.items usable_pieces.new.items) }
-    ensures own { OnOk result ((set : Selection) → IsOf set usable_piece.entry
-        → All (IsOf set) usable_pieces.old.items → All (IsOf set) usable_pieces.new.items) }
-    ensures there { OnOk result (outer_of usable_piece.entry ≡ outer
-        → Contains usable_pieces.new.items usable_piece.entry) }
-{
-    if usable_piece.outer() == outer {
-        usable_pieces.push(usable_piece)?;
+        usable_pieces.push(UsablePiece::new(segment, from, to, along))?;
     }
     Ok(())
 }

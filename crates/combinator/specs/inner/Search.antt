@@ -11,7 +11,7 @@ use Rattle.path_verifier.specs.Header.{field_of, header_of, info_of}
 use Rattle.combinator.specs.Candidate.{Question, PathValue, path_with, IsCandidate}
 use Rattle.combinator.specs.Order.{bytes_cmp, path_cmp, LastAsLong, HaveOneWalk}
 use Rattle.combinator.specs.Answer.{IsBest}
-use Rattle.combinator.specs.inner.Placed.{Met}
+use Rattle.combinator.specs.inner.Placed.{InOrder, Met}
 
 -- the first path is no worse: it expires no earlier, and if it expires at the same time, its header
 -- bytes are no greater
@@ -40,11 +40,25 @@ abbrev pub StillMeet : (limit : ℕ) (old new : List PathValue) → Type 0
 StillMeet limit old new = (path : PathValue) → Met path_cmp limit old path
     → Met path_cmp limit new path
 
+-- paths that are kept, each the best for its walk: the first ones in their order, at most `limit`,
+-- and others that come behind these
+pub record AreKept (question : Question) (limit : ℕ) (first behind : List PathValue) : Type 0 where
+  pub order : InOrder path_cmp first
+  pub few : length first ≤ limit
+  pub best : All (IsBest question) first
+  pub others : All (λ path. IsBest question path × Met path_cmp limit first path) behind
+
 -- no candidate of these pieces is better than this path of the same walk
 unfoldable pub IsNoBetter : Question → PathValue → List PieceValue → Type 0
 IsNoBetter question path pieces = (header : HeaderValue)
     → IsCandidate question (path_with pieces header) → HaveOneWalk (path_with pieces header) path
     → IsNoWorse path (path_with pieces header)
+
+-- the other path may stand in the place of the path: it is a candidate of the same walk, and no worse
+pub record MayReplace (question : Question) (path other : PathValue) : Type 0 where
+  pub candidate : IsCandidate question other
+  pub same : HaveOneWalk other path
+  pub no_worse : IsNoWorse other path
 
 -- the pieces of each candidate are usable pieces
 abbrev pub HaveAll : Question → List PieceValue → Type 0

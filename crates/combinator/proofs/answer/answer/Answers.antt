@@ -13,6 +13,13 @@ first_paths-requires-clause-whole g c =
     let pieces = c.in_ok-usable_pieces.ensures in
     subst (HaveAll c.args.ask.now) (sym c.deref.ensures.value) (have_all c.args.ask.now c.in_ok-usable_pieces.usable_pieces.items pieces.ups pieces.cores pieces.downs)
 
+pub first_paths-requires-clause-spelled : goal.first_paths-requires-clause-spelled
+first_paths-requires-clause-spelled g c =
+    let question = c.args.ask.now in
+    let pieces = c.in_ok-usable_pieces.ensures in
+    let all = c.in_ok-usable_pieces.usable_pieces.items in
+    all_spelled question all (have_all question all pieces.ups pieces.cores pieces.downs) pieces.fields
+
 pub returns-clause-answer : goal.returns-clause-answer
 returns-clause-answer g c =
     let question = c.args.ask.now in

@@ -1,8 +1,0 @@
-use Rattle.std.proofs.Common.{All, sym, subst}
-use Rattle.std.proofs.lemmas.List.Elements.{All-push}
-use Rattle.combinator.specs.Candidate.{IsOf}
-use Rattle.combinator.proofs.usable_pieces.add_cut.Goals as goal
-
-pub returns-in_ok-push-clause-own : goal.returns-in_ok-push-clause-own
-returns-in_ok-push-clause-own c = λ set own all.
-    subst (All (IsOf set)) (sym c.in_ok-push.ensures.items) (All-push (IsOf set) c.args.usable_pieces.now.items c.args.usable_piece all own)
