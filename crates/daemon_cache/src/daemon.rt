@@ -142,6 +142,12 @@ impl Daemon {
     /// under the policies of the options' texts. It may wait for another thread's ask. No clause
     /// speaks of the Boolean that says whether they come from the cache.
     ///
+    /// What it costs: an answer from the cache costs a look-up of the segments and a copy of the
+    /// answer, at most 64 paths of 64 hops. Any other one also costs a search under each option that
+    /// is tried, which [`combinator::paths_between`] bounds: n usable pieces, at most 62 for each
+    /// segment to an end and two for each core segment, give at most n + n² + n³ lists, and each of
+    /// them is verified at most three times. Lists that surely come behind the answer are passed over.
+    ///
     /// The first of these refusals is returned: [`AskFault::BadLimit`] if the limit is not 1 to 64;
     /// those of [`PolicyOption::parse_all`]; [`AskFault::SameAs`] if both ends are the same AS;
     /// [`AskFault::NoEntry`] if the reader could not enter the board, and then the caller may try
