@@ -168,8 +168,8 @@ impl PacketInFlight {
     }
 }
 
-/// A turn, as [`PacketInFlight::turn_under`] makes it, of a packet whose parts the caller has. There
-/// must be room for one hop more, up to 64 hops; no memory is taken.
+/// A turn, as [`PacketInFlight::turn_under`] makes it, of a packet whose parts the caller has.
+/// There must be room for one hop more, up to 64 hops; no memory is taken.
 #[tactic(auto, unfolding(crate::specs::Turn::turn_under))]
 pub fn turn_in_place(
     topology: &Topology,
