@@ -234,11 +234,11 @@ fn expect_code(
 ) -> Result<(), Fail> {
     let pieces = pieces_of(parts)?;
     let policy = policy(alloc, &[], "")?;
+    let given = code_of(&pieces, header, ends.0, ends.1, 1000, &policy);
+    assert_eq!(rt; given, code);
     let copy = policy.clone_in(alloc)?;
-    for policy in [&policy, &copy] {
-        let given = code_of(&pieces, header, ends.0, ends.1, 1000, policy);
-        assert_eq!(rt; given, code);
-    }
+    let given = code_of(&pieces, header, ends.0, ends.1, 1000, &copy);
+    assert_eq!(rt; given, code);
     Ok(())
 }
 
