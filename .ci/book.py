@@ -1,250 +1,365 @@
 #!/usr/bin/env python3
-"""Prints the book: the definitions that the headline cites, in an order in which each is read after
-those that it cites. Run it at the top of the repository; docs/book.md is what it prints.
+"""Prints the book: the definitions that the headline cites, from the top for the first hour, the
+rest by crate, and then how the headline is a clause of the calls that run networks. Run it at the
+top of the repository; docs/book.md is what it prints.
 
 `book.py --check` says whether docs/book.md is that, and ends with 1 where it is not."""
-import re
 import sys
+import textwrap
 from pathlib import Path
 
-ROOTS = [("network_core", "Ran", "Ran")]
-START = re.compile(
-    r"(?=abbrev |unfoldable |pub |record |data |\S+ : )"
-    r"(?:abbrev |unfoldable )?(?:pub )?(?:(?:record|data) )?([^\s:(]+)"
-)
-TYPE = (
-    r"((?:^///.*\n)*)(?:^#\[.*\n)*"
-    r"^pub(?:\(crate\))? (?:enum|struct) NAME\b[^;{]*(?:;|\{\n(?:.*\n)*?\})"
-)
-WORD = re.compile(r"[A-Za-z_][\w'-]*(?:\.[A-Za-z_][\w'-]*)*")
-FRONT = """# The book of the headline
+from specs import WORD, Specs
 
-What a reader has to believe to believe the headline, and no more: each definition that it cites,
-with its comment, after the definitions that this one cites. `.ci/book.py` prints this document from
-`crates/*/specs`, without imports; the gate checks that it is up to date. Words of the toolchain's
-library (lists, numbers, options, results) are not in it, and nobody has to believe what is in
-`proofs/`. `docs/headline.md` says in words which calls have the theorem as a clause.
+MOST_IN_FIRST_HOUR = 350
+ROOT = "network_core/Ran.Ran"
+SENTENCE = """\
+> In every interleaving of beaconing, registration, lookup, sending and router turns, a packet sent
+> on a path that the verifier accepted is refused by no router, passes exactly the hops of that path
+> in order, is delivered in its destination AS once it has had two router turns per hop field, and
+> its hops are a word of the sender's policy and pass its ACL."""
 
-> In every list of events of a network, whatever their order and however they are mixed, a packet
-> sent on a path that the verifier accepted is refused by no router, passes exactly the hops of
-> that path in order, is delivered once it has had two router turns per hop field, and its hops are
-> a word of the sender's policy and pass its access list.
+FRONT = f"""# The book of the headline
 
-How to read it: a definition says what it takes and gives, and then what it is, case by case.
-`abbrev` and `unfoldable` tell the prover when to look inside, and say nothing to a reader; `pub`
-lets other files cite it. A `record` holds if each of its fields does, `A × B` if both do, `A ⊎ B`
-if one does, and `(x : A) × B` if B does for some x. `r >>= f` and `do` go on with the value of a
-step, up to the first refusal.
+What a reader has to believe to believe this sentence about a run of `scionet`, and no more:
+
+{SENTENCE}
+
+- [Part 0](#part-0-the-first-hour) is for the first hour, and is read from the top down: the
+  promise, the premises, and what an event does.
+- [Part 1](#part-1-the-rest-of-the-theorem) has the rest of what the theorem cites, crate by crate,
+  each definition after those that it cites.
+- [Part 2](#part-2-how-the-theorem-is-a-clause-of-calls) has the contracts of the two calls that run
+  networks, and what those cite beside the theorem.
+
+`.ci/book.py` prints this document from the crates, without imports; the gate checks that it is up
+to date. Nobody has to believe what is in `proofs/`. [headline.md](headline.md) says the same in
+words.
+
+## How to read it
+
+Above each definition stand its name and links to what it cites. A definition says what it takes and
+gives, and then what it is, case by case; lines that begin with `--` are comments. `abbrev` and
+`unfoldable` tell the prover when to look inside, and say nothing to a reader; `pub` lets other
+files cite it. A `record` holds if each of its fields does, `data` lists the forms of a value. The
+contract of a call is its `ensures`: what holds of `result` whenever it returns; `x.old` and `x.new`
+are an argument before and after the call, and `x.now` is what is lent to it.
+
+A definition sees a value of the code as what it holds. Numbers of each size, addresses (`IsdAs`)
+and numbers of interfaces (`IfId`) are numbers; arrays, slices and vectors are lists, and bytes are
+a list of numbers. `Keys` is the list of the keys that an AS accepts, the one in use first, each a
+list of bytes. A struct is the record of its fields, and an enum has its variants; a `Topology` is
+its `Network`, and a `Net` its `NetValue` (`ghost view` in their declarations). A constructor that
+several types have is printed with its type, as `LinkKind.Core`. An argument in braces is left out
+where a word is used.
+
+The words and signs of the toolchain's library and logic are not defined here; this table says what
+they mean. In a crate, `rt lemma slice_get` prints the definition of such a word.
 """
 
+# The words of the library and the logic, as a reader meets them, and what they mean.
+LIBRARY = (
+    ("ℕ Bool true false", "the natural numbers; the two truth values"),
+    ("Type", "what is true or not: `Type 0` is the type of statements, and of types"),
+    ("→ λ", "from premises to a conclusion, or from an argument to a value; `λ x. b` is the"
+     " function that gives `b` for `x`"),
+    ("× ⊎ ↔ ¬", "both statements; one of them; each if the other; not this one. `(x : A) × B` says"
+     " that `B` holds for some `x`, and `(x : A) → B` that it does for each"),
+    ("≡ ≢", "the two are equal; they differ"),
+    ("⊥ ⊤ Unit tt", "what never holds; what always does (`Unit {0}` too, and `tt` is its value)"),
+    ("x.0 x.1", "the first and the second part of a pair"),
+    ("record with let in do ←", "`record { f = v }` is a record of these fields, `record x { f = v"
+     " }` is `x` with `f` changed; `let` names a value; `do` goes on with the value of each step"
+     " (`x ← step`), up to the first refusal, and is short for `>>=`"),
+    ("+ - * / % ^ suc zero min", "of numbers; `-` ends at 0, `/` and `%` are quotient and rest,"
+     " `suc n` is `n + 1`"),
+    ("< ≤ nat_lt nat_le nat_cmp Ordering Less ordering_then", "comparisons, as statements, as tests,"
+     " and with the result less, equal or greater; the second result, if the first is equal"),
+    ("== beq && || not if then else", "equality as a test, and, or, not; a choice by a test"),
+    ("bit_and bit_xor", "the bits that both have; exclusive or"),
+    ("w16 w32 w64 to_be_bytes from_be_bytes", "numbers of 16, 32 and 64 bits as bytes, the highest"
+     " first, and back"),
+    ("List [] ∷ ++ length", "lists: the empty one; an item before a list; one list before another;"
+     " how long it is"),
+    ("map filter filter_map flat_map fold", "each item changed; those that pass a test; those for"
+     " which something is given; the lists of all items joined; all items one after the other"),
+    ("take drop reverse replicate", "the first `n` items; all but these; backwards; one item `n`"
+     " times"),
+    ("slice_get slice_index slice_index_or slice_set", "item number `i`, counted from 0: if there"
+     " is one; or else 0; or else this one; the list with this item there"),
+    ("find list_any list_all count_by sum_by", "the first item that passes a test; whether some"
+     " does; whether all do; how many do; the sum of a number of each item"),
+    ("before_first after_first join_by", "what stands before, or after, the first item that passes"
+     " a test; lists joined with something between them"),
+    ("All AllByRecursion Any AllPairs Contains", "the statement holds of each item; of some item;"
+     " of each item and each later one; the item is in the list"),
+    ("Option Some None is_none", "a value or none; whether there is none"),
+    ("option_map option_map_or option_and_then unwrap_or ok_or", "a function of the value, if there"
+     " is one; or else this; which may give none; the value or else this; or else a refusal"),
+    ("Result Ok Err IsOk is_err IfOk IfErr result_ok", "a value or a refusal; it is a value; whether"
+     " it is a refusal; the statement holds of the value, or of the refusal, if it is one; the value"
+     " as an option"),
+    ("codes chars is_utf8 bytes_eq", "the bytes of a text that is written out; the characters of"
+     " bytes; whether there are such; whether two are the same"),
+    ("decimal digits digit_value digits_value", "a number in decimal digits, or in those of a base;"
+     " the value of a digit, and of digits"),
+    ("pointwise slice_cmp", "a test of each pair of items of two lists that are equally long; which"
+     " list comes first, by the first items that differ"),
+    ("Data Items item no_items get as_str as_array as_bool as_number as_u64", "values of JSON, and"
+     " lists of them; a member of an object (the last, if two have one name); what a value is, if"
+     " it is that"),
+    ("read decode_of sha256", "the JSON value of a text, the bytes that hexadecimal digits spell,"
+     " and SHA-256, as the kit's crates define them"),
+    ("Consumes Appends IsAtEnd Keeps ReadConsumes WriteAppends ReadsAtMost WritesAtMost", "of bytes"
+     " that a stream makes known: these are its first ones, and are gone after it; these follow"
+     " those that it held; none is left; they are as before; what one read or write did to them, and"
+     " how many it may take. **Of a stream whose bytes aren't known they say nothing**"),
+)
 
-class Definition:
-    """A definition: where it stands, its comment and its lines, and what it cites."""
+# What is read in the first hour: some words, and the definitions that follow them.
+FIRST_HOUR = (
+    (
+        "Words of SCION (AS, beacon, segment, hop field) are explained in [the"
+        " tutorial](tutorial.md). `scionet run` calls [`run_lines`](#event_lines-run_lines), which"
+        " promises `Runs`: whatever the result, what was written are the replies to the lines that"
+        " were read; the first line is a topology, and the later ones are a run (`Ran`) of their"
+        " events.",
+        "event_lines/Run.Runs event_lines/Run.Listens event_lines/Run.Ends event_lines/Run.Wrote"
+        " event_lines/Answers.RepliesToInput event_lines/Answers.Begins"
+        " event_lines/Answers.AreRun network_core/Ran.Ran",
+    ),
+    (
+        "A run has a history: what happened, event by event. What is promised of it is in `IsRun`,"
+        " and of a packet in `Headline`. It is delivered in its destination AS, since it has then"
+        " passed its whole walk (`whole`), which ends there ([`MakesPath`]"
+        "(#path_verifier-Accepted-MakesPath)).",
+        "network_core/Ran.IsRun network_core/History.Occurs network_core/History.net_at"
+        " network_core/Headline.Headline network_core/Delivery.IsForwarded"
+        " path_verifier/Walk.walk_of forwarding/Journey.turns_for",
+    ),
+    (
+        "These are the premises, for the first `k` events; what happens later doesn't matter. An"
+        " expiry is counted in half seconds, and the network's `moment` in seconds.",
+        "network_core/Headline.Undisturbed network_core/Headline.Kept"
+        " network_core/History.IssuedIn",
+    ),
+    (
+        "And this is what an event does. The path of a Send is one that the verifier accepts.",
+        "network_core/History.IsHistory network_core/Step.Step network_core/Event.EventValue"
+        " network_core/Step.Leads network_core/Step.Sends path_verifier/Accepted.IsAccepted",
+    ),
+)
 
-    def __init__(self, crate, module, name, comment):
-        self.key, self.comment, self.lines = (crate, module, name), comment, []
-
-
-class Module:
-    """A file of definitions: its head, its definitions by name, and what its names mean."""
-
-    def __init__(self, crate, path):
-        inside = path.with_suffix("").parts
-        self.crate, self.name = crate, ".".join(inside[inside.index("specs") + 1 :])
-        self.head, self.all, self.named, self.imported, self.aliases = [], [], {}, {}, {}
-        pending, one, at_head = [], None, True
-        for line in self.imports_read(path.read_text().split("\n")):
-            if not line.strip():
-                at_head = at_head and not self.head
-                if one is not None:
-                    pending, one = [], None
-            elif line.startswith("--"):
-                (self.head if at_head and not self.all else pending).append(line)
-            elif line.startswith("infix"):
-                pending.append(line)
-            elif line[0] != " " and START.match(line):
-                name = START.match(line)[1]
-                one = Definition(crate, self.name, name, [it for it in pending if "----" not in it])
-                one.lines, pending = [line], []
-                self.all.append(one)
-                self.named[name] = one
-            elif one is not None:
-                one.lines += [*pending, line]
-                pending = []
-        for it in self.all:
-            if re.match(r"(pub )?data ", it.lines[0]):
-                for line in it.lines[1:]:
-                    self.named.setdefault(line.split()[0], it)
-
-    def imports_read(self, lines):
-        """The lines without the imports, which it reads."""
-        kept, text = [], ""
-        for line in lines:
-            if text or re.match(r"(pub )?use ", line):
-                text += line.strip() + " "
-                if text.count("{") == text.count("}"):
-                    self.read_import(re.sub(r"^(pub )?use ", "", text.strip()))
-                    text = ""
-            else:
-                kept.append(line)
-        return kept
-
-    def read_import(self, text):
-        many = re.match(r"(.*)\.\{(.*)\}$", text)
-        if many is None:
-            path, _, alias = text.partition(" as ")
-            self.aliases[alias or path.rpartition(".")[2]] = path
-            return
-        for name in filter(None, (it.strip() for it in many[2].split(","))):
-            name, _, alias = name.partition(" as ")
-            self.imported[alias or name] = (many[1], name)
+# The calls that have the theorem as a clause, and what their contracts speak of: items of the code.
+CALLS = (
+    ("network_core", "running", "Stopped run"),
+    ("streams", "stream", "Source Sink"),
+    ("event_lines", "run", "run_lines"),
+)
 
 
 class Book:
-    """All definitions of a repository, and those that the roots cite."""
+    """The definitions of the three parts, and the text."""
 
     def __init__(self, top):
-        self.top, self.modules = top, {}
-        for path in sorted(top.glob("crates/*/specs/**/*.antt")):
-            if path.stem != "Lib":
-                module = Module(path.parts[path.parts.index("crates") + 1], path)
-                self.modules[module.crate, module.name] = module
-        self.types, self.reached, self.order = {}, set(), []
-        self.needs = dict(self.lines_of_crates())
-        for root in ROOTS:
-            self.reach(self.modules[root[:2]].named[root[2]])
+        self.specs = Specs(top)
+        places = " ".join(text for _, text in FIRST_HOUR).split()
+        self.first = [self.named(it) for it in places]
+        self.calls = [
+            self.specs.item(crate, file, name)
+            for crate, file, names in CALLS
+            for name in names.split()
+        ]
+        theorem = self.specs.closure([self.named(ROOT)])
+        everything = self.specs.closure([*theorem, *self.first, *self.calls])
+        own = {it.key for it in [*self.first, *theorem]}
+        taken = {it.key for it in [*self.first, *self.calls]}
+        self.parts = (
+            self.first,
+            [it for it in theorem if it.key not in taken],
+            [it for it in everything if it.key not in own | taken],
+        )
+        self.printed = [it for part in self.parts for it in part] + self.calls
+        self.library = {word for it in self.printed for word in self.specs.library(it)}
+        self.types = {it.key[2]: it for it in self.printed if it.variants or not it.key[1]}
+        self.shared, self.paired = self.shared_constructors()
 
-    def lines_of_crates(self):
-        for line in (self.top / "crates.txt").read_text().splitlines():
-            name, colon, needs = line.partition(":")
-            if colon and not line.startswith("#"):
-                yield name.split()[0], needs.split()
+    def named(self, place):
+        """The definition at this place, without which there is no book."""
+        found = self.specs.named(place)
+        if found is None:
+            sys.exit(f"{place} is gone: .ci/book.py names it")
+        return found
 
-    def meaning(self, module, name):
-        """The definition that a name of a file means, or none."""
-        if name in module.named:
-            return module.named[name]
-        return self.found(*module.imported[name]) if name in module.imported else None
+    def shared_constructors(self):
+        """The constructors that several types have, where a type of the code and its value are
+        one; and the names of such pairs of types."""
+        types, pairs = {}, {}
+        for it in self.printed:
+            stem = it.key[0], it.key[2].removesuffix("Value")
+            if it.variants:
+                pairs.setdefault(stem, set()).add(it.key[2])
+            for name in it.variants:
+                types.setdefault(name, set()).add(stem)
+        shared = {name for name, own in types.items() if len(own) > 1 or name in self.library}
+        return shared, {name for own in pairs.values() if len(own) > 1 for name in own}
 
-    def found(self, path, name):
-        place = re.match(r"Rattle\.(\w+)\.specs\.(.*)", path)
-        if place is None or place[1] not in self.needs:
-            return None
-        if place[2].startswith("declared."):
-            parts = place[2].split(".")
-            self.types[place[1], parts[2]] = parts[1]
-            return None
-        module = self.modules.get((place[1], place[2]))
-        return module and self.meaning(module, name)
+    def shown(self, one, word):
+        """A word of a definition as it is printed: some constructors with their type."""
+        found = self.specs.constructor(one, word)
+        if found is None:
+            return word
+        type_name, name = found
+        of_pair = "." in word and type_name in self.paired
+        return f"{type_name}.{name}" if of_pair or name in self.shared else name
+
+    def text_of(self, one):
+        """The lines of a definition as they are printed."""
+        if one.is_data or not one.key[1]:
+            return [*one.comment, *one.lines]
+        lines = []
+        for line in one.lines:
+            said, mark, comment = line.partition(" -- ")
+            said = WORD.sub(lambda it: self.word_in(one, it[0]), said)
+            lines.append(said + mark + comment)
+        return [*one.comment, *lines]
+
+    def word_in(self, one, word):
+        """A word with its fields, as it is printed."""
+        first, dot, rest = word.partition(".")
+        if first in one.names.aliases and dot:
+            return self.shown(one, word)
+        return self.shown(one, first) + dot + rest
 
     def cited(self, one):
-        """What a definition cites, as it is met in its text."""
-        module, text = self.modules[one.key[:2]], "\n".join(one.lines)
-        text = re.sub(r"(^|\s)--.*", "", text)
-        for name in [it for it in [*module.imported, *module.named] if "◌" in it]:
-            signs = name.replace("◌", " ").split()
-            steps = ">>=" in signs and re.search(r"\bdo\b", text)
-            if steps or all(f" {it} " in text for it in signs):
-                yield self.meaning(module, name)
-        for word in WORD.findall(text):
-            first, *rest = word.split(".")
-            if first in module.aliases and rest:
-                yield self.found(module.aliases[first], rest[0])
-            else:
-                yield self.meaning(module, first)
+        """What a definition cites, by the word: in a type of the code, the other types."""
+        if one.key[1] or one.names.imported:
+            return self.specs.cited(one)
+        words = [it for it in WORD.findall(one.said) if it != one.key[2]]
+        return [(it, self.types[it]) for it in words if it in self.types]
 
-    def reach(self, one):
-        """Puts a definition behind those that it cites."""
-        if one is None or one.key in self.reached:
-            return
-        self.reached.add(one.key)
-        for it in self.cited(one):
-            self.reach(it)
-        self.order.append(one)
+    def links(self, one):
+        """The words that a definition cites, each a link to where it is defined."""
+        found = {}
+        for word, it in self.cited(one):
+            words = found.setdefault(it.anchor, {})
+            words[f"`{self.shown(one, word).replace('◌', '')}`"] = None
+        return ", ".join(f"[{' '.join(words)}](#{anchor})" for anchor, words in found.items())
 
-    def crates(self):
-        """The crates that are cited, lowest first."""
-        done = []
+    def entry(self, one):
+        """A definition with its anchor and its links."""
+        links = self.links(one)
+        name = one.key[2].replace("◌", "")
+        yield f'<a id="{one.anchor}"></a>**`{name}`**' + (f" cites {links}" if links else "")
+        yield "```" if one.key[1] else "```rust"
+        yield from self.text_of(one)
+        yield "```\n"
 
-        def visit(name):
-            for low in self.needs.get(name, ()):
-                if low in self.needs:
-                    visit(low)
-            if name not in done:
-                done.append(name)
+    def first_hour(self):
+        yield "## Part 0: the first hour\n"
+        for words, places in FIRST_HOUR:
+            yield textwrap.fill(words, 100, break_long_words=False, break_on_hyphens=False) + "\n"
+            for place in places.split():
+                yield from self.entry(self.named(place))
 
-        visit(ROOTS[0][0])
-        cited = {it.key[0] for it in self.order}
-        return [it for it in done if it in cited]
-
-    def files(self, crate):
-        """The files of a crate that are cited, each behind those that it cites."""
-        done = []
+    def files(self, crate, part):
+        """The files of a crate that have definitions of this part, each behind those that it
+        cites."""
+        done, own = [], [it for it in part if it.key[0] == crate and it.key[1]]
 
         def visit(name):
             if name in done:
                 return
-            for one in self.order:
-                if one.key[:2] == (crate, name):
-                    for it in self.cited(one):
-                        if it is not None and it.key[0] == crate and it.key[1] != name:
-                            visit(it.key[1])
+            for one in (it for it in own if it.key[1] == name):
+                for _, it in self.specs.cited(one):
+                    if it in own and it.key[1] != name:
+                        visit(it.key[1])
             done.append(name)
 
-        for one in self.order:
-            if one.key[0] == crate:
-                visit(one.key[1])
+        for one in own:
+            visit(one.key[1])
         return done
 
-    def type_of(self, crate, name):
-        """A type as the code declares it."""
-        text = (self.top / "crates" / crate / "src" / f"{self.types[crate, name]}.rt").read_text()
-        item = re.search(TYPE.replace("NAME", name), text, re.M)
-        return "\n".join(it for it in item[0].split("\n") if not it.strip().startswith("#["))
+    def pages(self, part):
+        """The crates of a part, lowest first, each with its types and its files of definitions."""
+        keys = {it.key for it in part}
+        for crate in self.specs.crates({it.key[0] for it in part}):
+            items = [it for it in part if it.key[0] == crate and not it.key[1]]
+            modules = [self.specs.modules[crate, name] for name in self.files(crate, part)]
+            files = [(it, [one for one in it.all if one.key in keys]) for it in modules]
+            yield crate, sorted(items, key=lambda it: it.key), files
 
-    def pages(self):
-        """Each file that is cited, with its definitions that are, in the order of the book."""
-        for crate in self.crates():
-            for name in self.files(crate):
-                module = self.modules[crate, name]
-                yield module, [it for it in module.all if it.key in self.reached]
+    def chapter(self, part):
+        """A part, crate by crate."""
+        for crate, items, files in self.pages(part):
+            yield f"### `{crate}`\n"
+            if items:
+                yield "Types of the code:\n"
+            for one in items:
+                yield from self.entry(one)
+            for module, own in files:
+                head = "\n".join(it[2:].strip() for it in module.head)
+                yield f"#### `{module.name}.antt`\n\n{head}\n"
+                for one in own:
+                    yield from self.entry(one)
+
+    def contracts(self):
+        """The calls that run networks, as they stand in the code."""
+        for one in self.calls:
+            yield from self.entry(one)
 
     def cited_too_early(self):
-        """The definitions that stand behind one that cites them."""
-        read = set()
-        for _, own in self.pages():
-            for one in own:
-                read.add(one.key)
-                yield from (it.key for it in self.cited(one) if it and it.key not in read)
+        """The definitions of parts 1 and 2 that stand behind one that cites them."""
+        read = {it.key for it in self.first}
+        for part in self.parts[1:]:
+            for _, items, files in self.pages(part):
+                read |= {it.key for it in items}
+                for one in (it for _, own in files for it in own):
+                    read.add(one.key)
+                    cited = [it for _, it in self.specs.cited(one)]
+                    yield from (it.key for it in cited if it.key not in read)
+
+    def table(self):
+        """How many definitions each part has, and how many lines they have."""
+        yield "| part | definitions | lines | with comments |\n|---|---|---|---|"
+        named = [[it for it in part if it.key[1]] for part in self.parts]
+        for name, part in [*zip("012", named), ("all", sum(named, []))]:
+            lines = sum(len(it.lines) for it in part)
+            comments = sum(len(it.comment) for it in part)
+            yield f"| {name} | {len(part)} | {lines} | {lines + comments} |"
+        yield ""
+
+    def words(self):
+        """The table of the library's words."""
+        yield "| words | meaning |\n|---|---|"
+        for words, meaning in LIBRARY:
+            signs = " ".join(f"`{it}`" for it in words.replace("|", "\\|").split())
+            yield f"| {signs} | {meaning} |"
+        yield ""
+
+    def unexplained(self):
+        """The words of the library that the table lacks."""
+        known = " ".join(words for words, _ in LIBRARY).split()
+        used = {sign for word in self.library for sign in word.replace("◌", " ").split()}
+        return sorted(used - {*known})
 
     def text(self):
-        table = ["| crate | definitions | lines | with comments |", "|---|---|---|---|"]
-        parts = []
-        for crate in self.crates():
-            table.append(row(f"`{crate}`", [it for it in self.order if it.key[0] == crate]))
-            parts.append(f"## `{crate}`\n")
-            types = [self.type_of(*it) for it in sorted(self.types) if it[0] == crate]
-            if types:
-                parts += ["Types of the code:\n\n```rust", "\n\n".join(types) + "\n```\n"]
-            for module, own in self.pages():
-                if module.crate == crate:
-                    parts.append(page(module, own))
-        table.append(row("all", self.order))
-        return "\n".join([FRONT, *table, "", *parts])
+        first = "\n".join(self.first_hour())
+        if (count := len(first.splitlines())) > MOST_IN_FIRST_HOUR:
+            sys.exit(f"part 0 of the book has {count} lines, more than {MOST_IN_FIRST_HOUR}")
+        two = [REST, *self.chapter(self.parts[1]), CLAUSES, *self.contracts(), BESIDE]
+        parts = [FRONT, *self.words(), *self.table(), first, *two, *self.chapter(self.parts[2])]
+        return "\n".join(parts)
 
 
-def row(name, definitions):
-    """A line of the table: how many definitions a part has, and how many lines."""
-    lines = sum(len(it.lines) for it in definitions)
-    comments = sum(len(it.comment) for it in definitions)
-    return f"| {name} | {len(definitions)} | {lines} | {lines + comments} |"
+REST = "## Part 1: the rest of the theorem\n"
+CLAUSES = """## Part 2: how the theorem is a clause of calls
 
-
-def page(module, definitions):
-    """A file of definitions, those that are cited."""
-    head = "\n".join(it[2:].strip() for it in module.head)
-    body = "\n\n".join("\n".join([*it.comment, *it.lines]) for it in definitions)
-    return f"### `{module.name}.antt`\n\n{head}\n\n```\n{body}\n```\n"
+The contracts of the two calls that run networks, as they stand in the code, and of the streams that
+the second of them reads and writes. `run` takes a list of events; `run_lines` takes lines. For the
+streams of a process (`S.left`, `K.held` are then `None`) it is trusted that the system hands the
+bytes over.
+"""
+BESIDE = "What these contracts cite beside parts 0 and 1:\n"
 
 
 def main():
@@ -252,10 +367,13 @@ def main():
     text = book.text()
     for key in book.cited_too_early():
         sys.exit(f"the book cites {'/'.join(key)} before it says what that is")
+    if words := book.unexplained():
+        sys.exit(f"the book's table of words lacks {' '.join(words)}")
     if "--check" not in sys.argv:
         sys.stdout.write(text)
     elif Path("docs/book.md").read_text() != text:
         sys.exit("docs/book.md is not what .ci/book.py prints: run it and put what it prints there")
 
 
-main()
+if __name__ == "__main__":
+    main()
