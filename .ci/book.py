@@ -4,6 +4,7 @@ rest by crate, and then how the headline is a clause of the calls that run netwo
 top of the repository; docs/book.md is what it prints.
 
 `book.py --check` says whether docs/book.md is that, and ends with 1 where it is not."""
+import re
 import sys
 import textwrap
 from pathlib import Path
@@ -40,9 +41,11 @@ words.
 Above each definition stand its name and links to what it cites. A definition says what it takes and
 gives, and then what it is, case by case; lines that begin with `--` are comments. `abbrev` and
 `unfoldable` tell the prover when to look inside, and say nothing to a reader; `pub` lets other
-files cite it. A `record` holds if each of its fields does, `data` lists the forms of a value. The
-contract of a call is its `ensures`: what holds of `result` whenever it returns; `x.old` and `x.new`
-are an argument before and after the call, and `x.now` is what is lent to it.
+files cite it. A `record` holds if each of its fields does; a field that is a value says that there
+is one. `data` lists the forms of a value. What holds has a name, as values have: where `forwarded`
+says that something holds for each `k`, `forwarded k` is that, with its fields. The contract of a
+call is its `ensures`: what holds of `result` whenever it returns; `x.old` and `x.new` are an
+argument before and after the call, and `x.now` is what is lent to it.
 
 A definition sees a value of the code as what it holds. Numbers of each size, addresses (`IsdAs`)
 and numbers of interfaces (`IfId`) are numbers; arrays, slices and vectors are lists, and bytes are
@@ -72,7 +75,7 @@ LIBRARY = (
      " (`x ← step`), up to the first refusal, and is short for `>>=`"),
     ("+ - * / % ^ suc zero min", "of numbers; `-` ends at 0, `/` and `%` are quotient and rest,"
      " `suc n` is `n + 1`"),
-    ("< ≤ nat_lt nat_le nat_cmp Ordering Less ordering_then", "comparisons, as statements, as tests,"
+    ("< ≤ nat_lt nat_le nat_cmp Ordering Less ordering_then", "comparisons, as statements, as tests"
      " and with the result less, equal or greater; the second result, if the first is equal"),
     ("== beq && || not if then else", "equality as a test, and, or, not; a choice by a test"),
     ("bit_and bit_xor", "the bits that both have; exclusive or"),
@@ -95,11 +98,11 @@ LIBRARY = (
     ("Option Some None is_none", "a value or none; whether there is none"),
     ("option_map option_map_or option_and_then unwrap_or ok_or", "a function of the value, if there"
      " is one; or else this; which may give none; the value or else this; or else a refusal"),
-    ("Result Ok Err IsOk is_err IfOk IfErr result_ok", "a value or a refusal; it is a value; whether"
-     " it is a refusal; the statement holds of the value, or of the refusal, if it is one; the value"
-     " as an option"),
+    ("Result Ok Err IsOk is_err IfOk IfErr result_ok", "a value or a refusal; it is a value;"
+     " whether it is a refusal; the statement holds of the value, or of the refusal, if it is one;"
+     " the value as an option"),
     ("codes chars is_utf8 bytes_eq", "the bytes of a text that is written out; the characters of"
-     " bytes; whether there are such; whether two are the same"),
+     " bytes; whether bytes are UTF-8; whether two lists of bytes are the same"),
     ("decimal digits digit_value digits_value", "a number in decimal digits, or in those of a base;"
      " the value of a digit, and of digits"),
     ("pointwise slice_cmp", "a test of each pair of items of two lists that are equally long; which"
@@ -111,8 +114,8 @@ LIBRARY = (
      " and SHA-256, as the kit's crates define them"),
     ("Consumes Appends IsAtEnd Keeps ReadConsumes WriteAppends ReadsAtMost WritesAtMost", "of bytes"
      " that a stream makes known: these are its first ones, and are gone after it; these follow"
-     " those that it held; none is left; they are as before; what one read or write did to them, and"
-     " how many it may take. **Of a stream whose bytes aren't known they say nothing**"),
+     " those that it held; none is left; they are as before; what one read or write did to them,"
+     " and how many it may take. **Of a stream whose bytes aren't known they say nothing**"),
 )
 
 # What is read in the first hour: some words, and the definitions that follow them.
@@ -131,7 +134,8 @@ FIRST_HOUR = (
         "A run has a history: what happened, event by event. What is promised of it is in `IsRun`,"
         " and of a packet in `Headline`. It is delivered in its destination AS, since it has then"
         " passed its whole walk (`whole`), which ends there ([`MakesPath`]"
-        "(#path_verifier-Accepted-MakesPath)).",
+        "(#path_verifier-Accepted-MakesPath)). [headline.md](headline.md#line-by-line) goes through"
+        " the sentence word by word.",
         "network_core/Ran.IsRun network_core/History.Occurs network_core/History.net_at"
         " network_core/Headline.Headline network_core/Delivery.IsForwarded"
         " path_verifier/Walk.walk_of forwarding/Journey.turns_for",
@@ -143,7 +147,8 @@ FIRST_HOUR = (
         " network_core/History.IssuedIn",
     ),
     (
-        "And this is what an event does. The path of a Send is one that the verifier accepts.",
+        "And this is what an event does. The path of a Send is one that the verifier accepts; the"
+        " `beta` of an Originate is its beacon's first accumulator.",
         "network_core/History.IsHistory network_core/Step.Step network_core/Event.EventValue"
         " network_core/Step.Leads network_core/Step.Sends path_verifier/Accepted.IsAccepted",
     ),
@@ -234,24 +239,28 @@ class Book:
         """What a definition cites, by the word: in a type of the code, the other types."""
         if one.key[1] or one.names.imported:
             return self.specs.cited(one)
-        words = [it for it in WORD.findall(one.said) if it != one.key[2]]
-        return [(it, self.types[it]) for it in words if it in self.types]
+        words = re.findall(r"[(:<&,\[] *(\w+)", one.said)
+        return [(it, self.types[it]) for it in words if it in self.types and it != one.key[2]]
 
-    def links(self, one):
-        """The words that a definition cites, each a link to where it is defined."""
-        found = {}
-        for word, it in self.cited(one):
-            words = found.setdefault(it.anchor, {})
-            words[f"`{self.shown(one, word).replace('◌', '')}`"] = None
-        return ", ".join(f"[{' '.join(words)}](#{anchor})" for anchor, words in found.items())
+    def links(self, group):
+        """The words that these definitions cite, each a link to where it is defined."""
+        found, own = {}, {it.anchor for it in group}
+        for one in group:
+            for word, it in self.cited(one):
+                words = found.setdefault(it.anchor, {})
+                words[f"`{self.shown(one, word).replace('◌', '')}`"] = None
+        pairs = [(" ".join(words), it) for it, words in found.items() if it not in own]
+        return ", ".join(f"[{words}](#{anchor})" for words, anchor in pairs)
 
-    def entry(self, one):
-        """A definition with its anchor and its links."""
-        links = self.links(one)
-        name = one.key[2].replace("◌", "")
-        yield f'<a id="{one.anchor}"></a>**`{name}`**' + (f" cites {links}" if links else "")
-        yield "```" if one.key[1] else "```rust"
-        yield from self.text_of(one)
+    def entry(self, *group):
+        """Definitions that stand together, with their anchors and their links."""
+        anchors = "".join(f'<a id="{it.anchor}"></a>' for it in group)
+        names = ", ".join(f"`{it.key[2].replace('◌', '')}`" for it in group)
+        links = self.links(group)
+        cite = "cites" if len(group) == 1 else "cite"
+        yield f"{anchors}**{names}**" + (f" {cite} {links}" if links else "")
+        yield "```" if group[0].key[1] else "```rust"
+        yield "\n\n".join("\n".join(self.text_of(it)) for it in group)
         yield "```\n"
 
     def first_hour(self):
@@ -299,8 +308,8 @@ class Book:
             for module, own in files:
                 head = "\n".join(it[2:].strip() for it in module.head)
                 yield f"#### `{module.name}.antt`\n\n{head}\n"
-                for one in own:
-                    yield from self.entry(one)
+                for group in together(module, own):
+                    yield from self.entry(*group)
 
     def contracts(self):
         """The calls that run networks, as they stand in the code."""
@@ -349,6 +358,18 @@ class Book:
         two = [REST, *self.chapter(self.parts[1]), CLAUSES, *self.contracts(), BESIDE]
         parts = [FRONT, *self.words(), *self.table(), first, *two, *self.chapter(self.parts[2])]
         return "\n".join(parts)
+
+
+def together(module, own):
+    """These definitions of a file, each with those behind it that have no comment of their own."""
+    groups = []
+    for one in own:
+        before = module.all[module.all.index(one) - 1]
+        if groups and not one.comment and groups[-1][-1] is before:
+            groups[-1].append(one)
+        else:
+            groups.append([one])
+    return groups
 
 
 REST = "## Part 1: the rest of the theorem\n"
