@@ -323,7 +323,8 @@ class Playground:
 
     def __init__(self, programs, root):
         self.runs, self.viewer = Runs(programs.run), Viewer(programs.view)
-        self.networks, self.refusals = Networks(root), Refusals(root / "docs" / "refusals.md")
+        self.networks = Networks(root).all()
+        self.refusals = Refusals(root / "docs" / "refusals.md").all()
         self.calls = {
             "start": self.start,
             "run": self.run,
@@ -335,7 +336,7 @@ class Playground:
 
     def start(self, _):
         """What the page needs before it begins."""
-        return {"networks": self.networks.all(), "refusals": self.refusals.all(), "lines": LINES}
+        return {"networks": self.networks, "refusals": self.refusals}
 
     def run(self, members):
         """The replies to lines. With `at` 0 they are the first lines of a new process."""
@@ -462,7 +463,12 @@ class Handler(http.server.BaseHTTPRequestHandler):
         call = self.server.playground.calls.get(self.path.removeprefix("/"))
         if not call:
             raise Refused(HTTPStatus.NOT_FOUND, "there is no such call")
-        return "application/json", json.dumps(call(Members(self.body()))).encode()
+        try:
+            answer = call(Members(self.body()))
+        except OSError as error:
+            why = f"a program was not started: {error}"
+            raise Refused(HTTPStatus.INTERNAL_SERVER_ERROR, why) from error
+        return "application/json", json.dumps(answer).encode()
 
     def body(self):
         """The value in the request's body."""
@@ -477,7 +483,7 @@ class Handler(http.server.BaseHTTPRequestHandler):
             return json.loads(self.rfile.read(int(length)))
         except (ValueError, RecursionError) as error:
             raise bad("a request has to be JSON") from error
-        except TimeoutError as error:
+        except OSError as error:
             raise Refused(HTTPStatus.REQUEST_TIMEOUT, "the request did not come") from error
 
     def log_message(self, *_):
