@@ -4,13 +4,15 @@ proved and built.
 
 The replies to the networks of `examples/` have to be those that `scionet run` gives without the
 server, and so have the views. A page loaded anew, a second page, and a process that has ended must
-make no difference. Requests that are not those of the page have to be refused.
+make no difference. Requests that are not those of the page have to be refused. Where node is there,
+the buttons of the page are pressed too.
 
 The word is, if there is one, the folder with the built programs. The last line has the number of
 checks and of what was wrong; the status is 1 where something was."""
 import http.client
 import json
 import re
+import shutil
 import signal
 import subprocess
 import sys
@@ -302,6 +304,16 @@ def check_strangers(checks, server, networks):
         checks.same(f"{method} {path.partition('=')[0]} {changed}", found, status)
 
 
+def check_page(checks, server):
+    """The page itself, where node is there: its buttons are pressed without a browser."""
+    script, page = ROOT / ".ci" / "playground.js", ROOT / "tools" / "playground.html"
+    words = ["node", str(script), str(page), server.address.geturl()]
+    done = subprocess.run(words, capture_output=True, text=True, timeout=SECONDS, check=False)
+    checks.same("the page in node", (done.returncode, done.stderr), (0, ""))
+    for it in json.loads(done.stdout or "[]"):
+        checks.same(*it)
+
+
 def check_rate(checks, server):
     """Requests that come too soon are refused, and later ones are not."""
     end = json.dumps({"page": f"{70:016x}"}).encode()
@@ -322,6 +334,8 @@ def main():
         before = server.children()
         check_strangers(checks, server, networks)
         checks.same("processes of strangers", server.children(), before)
+        if shutil.which("node"):
+            check_page(checks, server)
         check_rate(checks, server)
     finally:
         children, status = server.children(), server.stop()
