@@ -54,7 +54,10 @@ class Server:
     def __init__(self):
         words = [sys.executable, str(ROOT / "tools" / "playground.py"), "--programs", str(PROGRAMS)]
         self.process = subprocess.Popen(words, stdout=subprocess.PIPE, text=True)
-        self.address = urlsplit(self.process.stdout.readline().removeprefix("playground: ").strip())
+        printed_line = self.process.stdout.readline()
+        if not printed_line:
+            sys.exit("playground: the server did not start")
+        self.address = urlsplit(printed_line.removeprefix("playground: ").strip())
         self.host, self.token = self.address.netloc, parse_qs(self.address.query)["token"][0]
 
     def ask(self, method, path, body=None, **changed):
@@ -242,6 +245,13 @@ def check_turn(checks, server):
         checks.same(f"a turn with {changed}", server.call("turn", **members)[0], 400)
 
 
+def check_beacons(checks, server):
+    """Requests for a beaconing that the program is not given."""
+    for members in ({}, {"topology": 3}, {"topology": "\ud800"}, {"topology": "{}", "now": -1},
+                    {"topology": "{}", "per-pair": "--help"}, {"topology": "{}", "now": 1 << 32}):
+        checks.same(f"a beaconing with {members}", server.call("beacons", **members)[0], 400)
+
+
 def check_pages(checks, server, networks):
     """Pages beside one another, pages too many, and processes that have ended."""
     row, pair = networks["row"]["lines"], networks["pair"]["lines"]
@@ -330,6 +340,7 @@ def main():
         check_delivery(checks, server, networks)
         check_refusals(checks, server, networks)
         check_turn(checks, server)
+        check_beacons(checks, server)
         check_pages(checks, server, networks)
         before = server.children()
         check_strangers(checks, server, networks)

@@ -52,6 +52,7 @@ KEY_BYTES, PACKET_BYTES, INTERFACES = 64, 4096, 8192
 PAGE_NAME = re.compile(r"[0-9a-f]{16,64}")
 ADDRESS = re.compile(r"[0-9]{1,5}-[0-9a-fA-F:]{1,14}")
 HEX = re.compile(r"(?:[0-9a-fA-F]{2})*")
+ANY_TEXT = re.compile(r".*", re.S)
 WAY_IN = re.compile(r"host|inside|[0-9]{1,5}")
 INTERFACE = re.compile(r"[0-9]{1,5},(?:core|parent|child),[0-9]{1,2},(?:up|down)")
 
@@ -105,12 +106,17 @@ class Members:
         return [line_bytes(text) for text in self.texts("lines", LINES)]
 
 
+def encoded(text):
+    """The bytes of a text, which JSON may have made of half a character."""
+    try:
+        return text.encode()
+    except UnicodeEncodeError as error:
+        raise bad("a text is not Unicode") from error
+
+
 def line_bytes(text):
     """A line that a program is given, without its end."""
-    try:
-        line = text.encode()
-    except UnicodeEncodeError as error:
-        raise bad("a line is not Unicode") from error
+    line = encoded(text)
     if b"\n" in line or len(line) > LINE_BYTES:
         raise bad(f"a line has an end in it, or more than {LINE_BYTES} bytes")
     return line
@@ -365,7 +371,7 @@ class Playground:
         for name in ("per-pair", "core-length", "now"):
             if members.has(name):
                 words += [f"--{name}", str(members.number(name))]
-        return self.viewer.view(words, members.text("topology", re.compile(".*", re.S)).encode())
+        return self.viewer.view(words, encoded(members.text("topology", ANY_TEXT)))
 
 
 class Guard:
