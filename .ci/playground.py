@@ -182,7 +182,7 @@ def check_delivery(checks, server, networks):
     ends = ("1-ff00:0:112", "2-ff00:0:213") if "lines" in networks["ten"] else (
         "1-ff00:0:112", "2-ff00:0:212")
     options = {"per-pair": 2, "core-length": 5, "now": 1000}
-    status, beaconing = server.call("beacons", topology=lines[0], **options)
+    status, beaconing = server.call("beacons", topology=lines[0] + "\n", **options)
     words = [it for name, value in options.items() for it in (f"--{name}", str(value))]
     wanted = printed([program("scionet_view"), "beacons", *words], lines)
     checks.same("a beaconing", (status, beaconing.get("text")), (200, wanted))
