@@ -374,13 +374,31 @@ class Playground:
         return self.viewer.view(words, encoded(members.text("topology", ANY_TEXT)))
 
 
+class Rate:
+    """Counts requests: some may come at once, and so many in each second after that."""
+
+    def __init__(self, per_second, burst):
+        self.per_second, self.burst, self.lock = per_second, burst, threading.Lock()
+        self.left, self.since = float(burst), time.monotonic()
+
+    def take(self):
+        """Whether one more may come now."""
+        with self.lock:
+            now = time.monotonic()
+            self.left = min(self.burst, self.left + (now - self.since) * self.per_second)
+            self.since = now
+            if self.left < 1:
+                return False
+            self.left -= 1
+            return True
+
+
 class Guard:
     """Says which requests are those of the page."""
 
     def __init__(self, port):
         self.host, self.token = f"127.0.0.1:{port}", secrets.token_urlsafe(32)
-        self.origin = f"http://{self.host}"
-        self.lock, self.left, self.since = threading.Lock(), float(BURST), time.monotonic()
+        self.origin, self.rate = f"http://{self.host}", Rate(REQUESTS_PER_SECOND, BURST)
 
     def address(self):
         return f"{self.origin}/?token={self.token}"
@@ -394,17 +412,8 @@ class Guard:
             raise Refused(HTTPStatus.FORBIDDEN, "the origin is not this server")
         if not secrets.compare_digest(token.encode(), self.token.encode()):
             raise Refused(HTTPStatus.FORBIDDEN, "the token is not that of this server")
-        self.count()
-
-    def count(self):
-        """Refuses a request when the last ones came too soon one after the other."""
-        with self.lock:
-            now = time.monotonic()
-            self.left = min(BURST, self.left + (now - self.since) * REQUESTS_PER_SECOND)
-            self.since = now
-            if self.left < 1:
-                raise Refused(HTTPStatus.TOO_MANY_REQUESTS, "there are too many requests")
-            self.left -= 1
+        if not self.rate.take():
+            raise Refused(HTTPStatus.TOO_MANY_REQUESTS, "there are too many requests")
 
 
 class Document:
