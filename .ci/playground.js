@@ -63,10 +63,20 @@ class Window {
         getItem: name => storage.get(name) ?? null, clear: () => storage.clear(),
         setItem: (name, value) => storage.set(name, value),
       },
-      location: {search: address.search}, fetch: fetched, addEventListener() {},
+      location: {search: address.search}, addEventListener() {},
+      fetch: (path, request) => {
+        this.request = request;
+        return fetched(path, request);
+      },
       requestAnimationFrame: step => setTimeout(step, 1, Infinity), performance: {now: () => 0},
       crypto, setTimeout, URLSearchParams,
     });
+  }
+
+  /** Ends the process that answers this page. */
+  end() {
+    const {page} = JSON.parse(this.request.body);
+    return fetched("/end", {...this.request, body: JSON.stringify({page})});
   }
 
   text(id) { return this.ids[id].textContent; }
@@ -109,9 +119,10 @@ async function tutorial() {
   const changed = page.ids.fields.children.filter(it => it.className === "changed");
   page.has("what a turn changed", changed.map(it => it.textContent),
     ["01at info field 0, hop field 1"]);
-  const said = page.text("checks").split("\n");
-  page.has("what was checked", [said[0], said.at(-1)],
-    ["router 0 of 1-ff00:0:112 checked:", "link 1"]);
+  const checked = () => [0, -1].map(at => page.text("checks").split("\n").at(at));
+  page.has("what was checked", checked(), ["router 0 of 1-ff00:0:112 checked:", "link 1"]);
+  await page.press("turn", "link 1");
+  page.has("what was checked then", checked(), ["router 0 of 1-ff00:0:111 checked:", "link 1"]);
   await page.press("turns", "delivered");
   await page.press("back turns", "delivered");
   page.set({link: "1-ff00:0:110#1"});
@@ -121,6 +132,7 @@ async function tutorial() {
   page.set({seconds: 21601});
   await page.press("send tick turn", "refused 93 Expired: The hop is past its expiry.");
   await page.press("send", "no 79 Expired: A hop of the path is not live.");
+  await page.end();
   page.set({own: "{}"});
   await page.press("give", "no 140 BadLine");
   return page;

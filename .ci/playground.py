@@ -151,6 +151,8 @@ def check_start(checks, server):
     names = dict(re.findall(r"^\| (\d+) \| (\w+) \|", text, re.M))
     found = {number: it["name"] for number, it in start["refusals"].items()}
     checks.same("the refusals", found, names)
+    meaning = start["refusals"]["31"]["meaning"]
+    checks.same("the meaning in a run", meaning, "The beacon has 62 entries.")
     status, page, headers = server.ask("GET", f"/?{server.address.query}", Origin=None)
     checks.same("the page", (status, page), (200, (ROOT / "tools/playground.html").read_text()))
     checks.same("its policy", "default-src 'none'" in headers["Content-Security-Policy"], True)
