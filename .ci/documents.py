@@ -4,8 +4,9 @@
 In a block of a document a line that begins with `$ ` is a command, `> ` goes on with it, and the
 lines behind it are what it prints. The commands of a document run one after the other in one shell,
 in `crates/scionet`, over the program that `rt ci` has proved and built: in sh, and in zsh where it
-is.
+is. A command that needs a package of Python which is not on the machine is told, and left out.
 """
+import importlib.util
 import re
 import shutil
 import subprocess
@@ -17,12 +18,24 @@ BLOCK = re.compile(r"^```\n(\$ .*?)^```$", re.M | re.S)
 COMMAND = re.compile(r"^\$ (.*\n(?:> .*\n)*)((?:(?!\$ ).*\n)*)", re.M)
 MARK = "-- end of command"
 
+# The programs that need a package of Python, and which.
+PACKAGES = {"tools/topo.py": "yaml"}
+
 
 def commands(text):
     """The commands of a document, and what each prints."""
     for block in BLOCK.findall(text):
         for command, printed in COMMAND.findall(block):
             yield command.replace("\n> ", "\n"), printed
+
+
+def can_run(command):
+    """Whether the packages that a command needs are on the machine."""
+    for program, package in PACKAGES.items():
+        if program in command and importlib.util.find_spec(package) is None:
+            print(f"documents: {package} is not here, and a command of {program} is left out")
+            return False
+    return True
 
 
 def printed(shell, asked):
@@ -37,7 +50,7 @@ def main():
     count, wrong = 0, 0
     for shell in filter(shutil.which, ("sh", "zsh")):
         for name in DOCUMENTS:
-            pairs = [*commands(Path(name).read_text())]
+            pairs = [pair for pair in commands(Path(name).read_text()) if can_run(pair[0])]
             if not pairs:
                 sys.exit(f"documents: {name} has no commands")
             found = printed(shell, [command for command, _ in pairs])
