@@ -237,7 +237,7 @@ static void paths(void) {
         "{\"egress\":0,\"exp\":63,\"ia\":\"1-ff00:0:112\",\"ingress\":1,\"mac\":\"ad8a52e6ab61\"}],"
         "\"kind\":\"intra\",\"timestamp\":1000}]}";
     const char *wanted =
-        "{\"paths\":[{\"expiry\":45200,"
+        "{\"option\":0,\"paths\":[{\"expiry\":45200,"
         "\"header\":\"0000300000008578000003e8003f00010000ad8a52e6ab61"
         "003f0001000239b948f8a321003f00000001aef522c41890\",\"kind\":\"U\",\"pieces\":["
         "{\"along\":false,\"from\":0,\"segment\":0,\"to\":2}],"
