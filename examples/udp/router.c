@@ -88,7 +88,7 @@ static uint16_t way_out(scion_answer answer, uint16_t host) {
 /* A line about a turn, which is written before the packet goes on, so that lines are in order. A
  * router with the name `-` writes none. */
 static void tell(const char *name, uint8_t arrival, uint16_t interface, scion_answer answer) {
-    if (!strcmp(name, "-")) return;
+    if (name[0] == '-' && !name[1]) return;
     printf("%s router %u: ", name, self.router);
     if (arrival == SCION_OVER_LINK) printf("by link %u, ", interface);
     if (arrival == SCION_INSIDE) printf("from inside, ");
