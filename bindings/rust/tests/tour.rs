@@ -227,7 +227,7 @@ fn are_requests_answered() {
     assert_eq!(scion::verify("[]"), Ok(refused.to_string()));
     let none = r#"{"src":"1-1","dst":"1-2","limit":4,"now":1000,"segments":[]}"#;
     assert_eq!(scion::paths(none), Ok(r#"{"paths":[]}"#.to_string()));
-    let longest = format!("{none:<0$}", scion::MAX_REQUEST_LEN);
+    let longest = none.to_string() + &" ".repeat(scion::MAX_REQUEST_LEN - none.len());
     assert_eq!(scion::paths(&longest), Ok(r#"{"paths":[]}"#.to_string()));
     assert_eq!(scion::paths(&format!("{longest} ")), Ok(refused.to_string()));
 }
