@@ -88,6 +88,13 @@ impl Net {
         &self.beacons
     }
 
+    /// The path store.
+    pub fn store(&self) -> &PathStore
+        ensures { result.now ≡ self.now.segments }
+    {
+        &self.store
+    }
+
     /// The segments of the path store, in the order of registration.
     pub fn segments(&self) -> &[Segment]
         ensures { result.now ≡ self.now.segments }
