@@ -6,9 +6,9 @@ top of the repository; docs/book.md is what it prints.
 `book.py --check` says whether docs/book.md is that, and ends with 1 where it is not."""
 import re
 import sys
-import textwrap
 from pathlib import Path
 
+from pages import filled, settle
 from specs import WORD, Specs
 
 MOST_IN_FIRST_HOUR = 350
@@ -266,7 +266,7 @@ class Book:
     def first_hour(self):
         yield "## Part 0: the first hour\n"
         for words, places in FIRST_HOUR:
-            yield textwrap.fill(words, 100, break_long_words=False, break_on_hyphens=False) + "\n"
+            yield filled(words) + "\n"
             for place in places.split():
                 yield from self.entry(self.named(place))
 
@@ -390,10 +390,7 @@ def main():
         sys.exit(f"the book cites {'/'.join(key)} before it says what that is")
     if words := book.unexplained():
         sys.exit(f"the book's table of words lacks {' '.join(words)}")
-    if "--check" not in sys.argv:
-        sys.stdout.write(text)
-    elif Path("docs/book.md").read_text() != text:
-        sys.exit("docs/book.md is not what .ci/book.py prints: run it and put what it prints there")
+    settle(text, "docs/book.md")
 
 
 if __name__ == "__main__":

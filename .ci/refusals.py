@@ -6,8 +6,9 @@ prints.
 `refusals.py --check` says whether docs/refusals.md is that, and ends with 1 where it is not."""
 import re
 import sys
-import textwrap
 from pathlib import Path
+
+from pages import filled, settle
 
 FRONT = """# All refusals
 
@@ -114,11 +115,6 @@ def comment(lines):
     return re.sub(r"\[(`[^`]*`)\](?:\([^)]*\))?", r"\1", text).strip()
 
 
-def filled(text):
-    """A paragraph in lines of at most 100 columns."""
-    return textwrap.fill(text, 100, break_long_words=False, break_on_hyphens=False)
-
-
 def number_at(text, term):
     """The number and the name that a row of a table has: its own, or those of a refusal of a crate
     below. Nothing if the row passes on all refusals of a type."""
@@ -181,13 +177,4 @@ def document():
     return FRONT + "\n".join(parts) + "\n" + BEHIND
 
 
-def main():
-    text = document()
-    if sys.argv[1:] != ["--check"]:
-        print(text, end="")
-    elif Path("docs/refusals.md").read_text() != text:
-        sys.exit("docs/refusals.md is not what .ci/refusals.py prints")
-
-
-if __name__ == "__main__":
-    main()
+settle(document(), "docs/refusals.md")
