@@ -65,6 +65,23 @@ class Definition:
         return VARIANT.findall("\n".join(self.lines)) if is_enum else []
 
     @property
+    def titles(self):
+        """The names that are defined here: several, where they are defined by one another."""
+        if self.key[2] != "mutual":
+            return [self.key[2]]
+        return re.findall(r"^  pub (\S+) : ", "\n".join(self.lines), re.M)
+
+    @property
+    def applied(self):
+        """The name with the arguments by which it is defined, if there are any; a sign or a name
+        that is defined case by case alone."""
+        if self.key[2] == "mutual" or "◌" in self.key[2]:
+            return ", ".join(self.titles).replace("◌", "")
+        sides = [it for it in self.lines[1:] if it.startswith(f"{self.key[2]} ")]
+        found = re.match(r"([\w' ]+?) =(?: |$)", sides[0]) if len(sides) == 1 else None
+        return found[1] if found else self.key[2]
+
+    @property
     def said(self):
         """The text without comments."""
         return re.sub(r"(^|\s)(--|//).*", "", "\n".join(self.lines))
@@ -82,7 +99,7 @@ class Module(Names):
         for line in self.imports_read(path.read_text().split("\n")):
             if not line.strip():
                 at_head = at_head and not self.head
-                if one is not None:
+                if one is not None and one.key[2] != "mutual":
                     pending, one = [], None
             elif line.startswith("--"):
                 (self.head if at_head and not self.all else pending).append(line)
@@ -98,7 +115,7 @@ class Module(Names):
                 one.lines += [*pending, line]
                 pending = []
         for one in self.all:
-            for name in one.variants:
+            for name in [*one.variants, *one.titles]:
                 self.named.setdefault(name, one)
 
     def imports_read(self, lines):
