@@ -32,7 +32,7 @@ Lines: each line after the first.
 
 | number | name | meaning |
 |---|---|---|
-| 140 | BadLine | The line has none of the forms that `docs/lines.md` lists, or a value in it is \
+| 140 | BadLine | The line has none of the forms that [lines.md](lines.md) lists, or a value in it is \
 out of its range. |
 
 ## `scion_ffi`
@@ -54,7 +54,7 @@ TYPES = {
         (
             "HeaderFault",
             "`decode`, `encode`, `Header::new`, `Header::of_lists`, `HeaderMut::new`,"
-            " `HeaderMut::check`, `scion_verify`",
+            " `HeaderMut::check`, `scion_verify`, `scion_header_check`, `scion_header_reverse`",
             "`turn`, and `scionet step`, behind 90",
         )
     ],
@@ -63,7 +63,7 @@ TYPES = {
             "TopologyFault",
             "`Topology::from_json` and the questions and changes of a topology, `RouterView::new`,"
             " `Key::new`, `Keys::new`, `Flight::new`",
-            "the first, behind `topology`; `send`, `cut`, `mend`, `rotate`",
+            "the first, behind `topology`; `send`, `back`, `cut`, `mend`, `rotate`",
         )
     ],
     "router_step": [("Refusal", "`step`, `read_header`", "`turn`, `show`, `scionet step`, `work`")],
