@@ -1,16 +1,35 @@
-"""Prints the picture of the crates that README.md has, drawn from crates.txt.
+"""Prints what README.md has of the crates: their picture, drawn from crates.txt, and the list of
+their pages by layer, with the titles of these.
 
-With --check it compares, and fails where README.md has another picture, lacks a row for a crate, or
-has a row for one that crates.txt doesn't list. An arrow that follows from two others is left out,
-and so are the crates of tests.
+With --check it compares, and fails where README.md has another text, a crate has no page or is in
+no layer, or a piece of code that a page shows as taken from a file is not in that file. In the
+picture an arrow that follows from two others is left out, and so are the crates of tests.
 """
 import re
 import sys
+import textwrap
 from pathlib import Path
 
-PICTURE = re.compile(r"```mermaid\n(.*?)```", re.S)
-ROW = re.compile(r"^\| (`\w+`(?:, `\w+`)*) \|", re.M)
+from pages import filled
+
+TITLE = re.compile(r"# `(\w+)`: (.*)\n")
+TAKEN = re.compile(r"^From \[`(.*?)`\].*:\n\n```\w+\n(.*?)```$", re.M | re.S)
 TESTS = re.compile(r"conformance_|worked$|refusing$")
+
+LAYERS = {
+    "Texts, streams and lists": "refusal json_fields streams separators doubles inbox",
+    "Values of SCION": "isd_as hop_mac path_header scion_topology path_segment policy_expr",
+    "Segments and paths": "beaconing path_server segment_board path_verifier combinator"
+    " daemon_cache",
+    "Packets and networks": "router_step forwarding network_core router_workers",
+    "Texts in and out": "event_lines work_lines beacon_lines step_line packet_view network_view"
+    " commands",
+    "Programs, and libraries for other languages": "scionet scionet_view tour bench scion_ffi"
+    " scion_ffi_paths",
+    "For tests": "refusing worked conformance_values conformance_network conformance_paths"
+    " conformance_refused conformance_run conformance_step conformance_threads"
+    " conformance_workers",
+}
 
 
 def graph():
@@ -28,27 +47,60 @@ def reached(crates, name):
 
 def picture(crates):
     """The picture as Mermaid draws it, without the crates of tests."""
-    yield "graph TD"
+    yield "```mermaid\ngraph TD"
     for name in (it for it in crates if not TESTS.match(it)):
         near = [it for it in crates[name] if not TESTS.match(it)]
         for it in near:
             if not any(it in reached(crates, other) for other in near):
                 yield f"  {name} --> {it}"
+    yield "```"
+
+
+def page(name):
+    """The text of a crate's page."""
+    path = Path("crates", name, "README.md")
+    if not path.exists() or not (found := TITLE.match(path.read_text())) or found[1] != name:
+        sys.exit(f"{path} does not begin with '# `{name}`: ' and a title")
+    return path.read_text()
+
+
+def pages():
+    """The list of the crates' pages, by layer."""
+    for layer, names in LAYERS.items():
+        titles = {name: TITLE.match(page(name))[2] for name in names.split()}
+        links = {name: f"[`{name}`](crates/{name}/README.md)" for name in titles}
+        if layer.endswith("tests"):
+            yield filled(f"{layer}: {', '.join(links.values())}.") + "\n"
+            continue
+        yield f"{layer}:\n"
+        yield from (f"- {links[name]}: {title}" for name, title in titles.items())
+        yield ""
+
+
+def is_taken(path, code):
+    """Whether these lines stand in a file, one after the other, however far they are indented."""
+    lines = Path(path).read_text().split("\n")
+    wanted = code.rstrip("\n").split("\n")
+    windows = (lines[at : at + len(wanted)] for at in range(len(lines)))
+    return any(textwrap.dedent("\n".join(it)).split("\n") == wanted for it in windows)
 
 
 def main():
     crates = graph()
-    text = "\n".join(picture(crates)) + "\n"
+    texts = ["\n".join(picture(crates)) + "\n", "\n".join(pages())]
     if sys.argv[1:] != ["--check"]:
-        print(text, end="")
+        print("\n".join(texts), end="")
         return
+    listed = " ".join(LAYERS.values()).split()
+    if sorted(listed) != sorted(crates):
+        sys.exit(f"crates.txt and the layers of {sys.argv[0]} differ: {({*listed} ^ {*crates})}")
+    for name in crates:
+        for path, code in TAKEN.findall(page(name)):
+            if not is_taken(path, code):
+                sys.exit(f"crates/{name}/README.md shows code that {path} does not have")
     readme = Path("README.md").read_text()
-    if PICTURE.findall(readme) != [text]:
-        sys.exit("README.md has not the picture that .ci/crates.py prints")
-    table = readme.partition("## The crates")[2].partition("\n## ")[0]
-    rows = {it for names in ROW.findall(table) for it in re.findall(r"\w+", names)}
-    if rows != {*crates}:
-        sys.exit(f"crates.txt and README.md's table differ in {rows ^ {*crates}}")
+    if not all(text in readme for text in texts):
+        sys.exit("README.md has not the picture and the list that .ci/crates.py prints")
 
 
 main()

@@ -1,67 +1,98 @@
 #!/usr/bin/env python3
-"""Runs the commands of README.md and docs/tutorial.md, and compares what they print.
+"""Runs the commands of the documents, and compares what they print.
 
-In a block of a document a line that begins with `$ ` is a command, `> ` goes on with it, and the
-lines behind it are what it prints. The commands of a document run one after the other in one shell,
-in `crates/scionet`, over the program that `rt ci` has proved and built: in sh, and in zsh where it
-is. A command that needs a package of Python which is not on the machine is told, and left out.
+A block of a document that begins with ```sh is commands, and a block ```text right behind it is
+what they print; without one they print nothing. A block ```sh skip is not run. The blocks of a
+document run one after the other in one shell, in `crates/scionet`, over the programs that `rt ci`
+has proved and built: in sh, and in zsh where it is. A block that needs a package of Python which
+is not on the machine is told, and left out.
+
+`documents.py --unproved FILE` runs the blocks of one document before anything is proved, and prints
+them with what they print. It builds each program that they call without a proof (`rt try`), which
+takes a minute or two for each, and runs it in a folder of its own; nothing is left behind. Blocks
+that call the library for other languages are left out, and so are the diagnostics of programs.
 """
 import importlib.util
 import re
 import shutil
 import subprocess
 import sys
+import tempfile
 from pathlib import Path
 
-DOCUMENTS = ("README.md", "docs/tutorial.md")
-BLOCK = re.compile(r"^```\n(\$ .*?)^```$", re.M | re.S)
-COMMAND = re.compile(r"^\$ (.*\n(?:> .*\n)*)((?:(?!\$ ).*\n)*)", re.M)
-MARK = "-- end of command"
+from unproved import Stage
+
+DOCUMENTS = ("README.md", "docs/tutorial.md", "docs/programs.md", "docs/check-it.md")
+BLOCK = re.compile(r"^```sh\n(.*?)^```$(?:\n+^```text\n(.*?)^```$)?", re.M | re.S)
+MARK = "-- end of block"
 
 # The programs that need a package of Python, and which.
 PACKAGES = {"tools/topo.py": "yaml"}
 
 
-def commands(text):
-    """The commands of a document, and what each prints."""
-    for block in BLOCK.findall(text):
-        for command, printed in COMMAND.findall(block):
-            yield command.replace("\n> ", "\n"), printed
+def blocks(name):
+    """The blocks of commands of a document, and what each prints."""
+    found = BLOCK.findall(Path(name).read_text())
+    if not found:
+        sys.exit(f"documents: {name} has no commands")
+    return [pair for pair in found if can_run(pair[0])]
 
 
-def can_run(command):
-    """Whether the packages that a command needs are on the machine."""
+def can_run(commands):
+    """Whether the packages that commands need are on the machine."""
     for program, package in PACKAGES.items():
-        if program in command and importlib.util.find_spec(package) is None:
+        if program in commands and importlib.util.find_spec(package) is None:
             print(f"documents: {package} is not here, and a command of {program} is left out")
             return False
     return True
 
 
-def printed(shell, asked):
-    """What the shell prints at each of these commands, one after the other."""
-    script = "".join(f"{{ {it}}} 2>&1\necho '{MARK}'\n" for it in asked)
-    how = {"cwd": "crates/scionet", "capture_output": True, "text": True}
-    done = subprocess.run([shell], input=script, **how)
+def printed(shell, asked, folder):
+    """What the shell prints at each of these blocks, one after the other, begun in this folder."""
+    script = "".join(f"{{ {it}}} 2>&1 < /dev/null\necho '{MARK}'\n" for it in asked)
+    done = subprocess.run([shell], input=script, cwd=folder, capture_output=True, text=True)
     return done.stdout.split(f"{MARK}\n")
 
 
-def main():
-    count, wrong = 0, 0
-    for shell in filter(shutil.which, ("sh", "zsh")):
-        for name in DOCUMENTS:
-            pairs = [pair for pair in commands(Path(name).read_text()) if can_run(pair[0])]
-            if not pairs:
-                sys.exit(f"documents: {name} has no commands")
-            found = printed(shell, [command for command, _ in pairs])
-            for (command, wanted), is_so in zip(pairs, [*found, *[""] * len(pairs)]):
-                count += 1
-                if is_so != wanted:
-                    wrong += 1
-                    print(f"documents: {name}, in {shell}: {command}")
-                    print(f"documents: it printed {is_so!r}, not {wanted!r}")
-    print(f"documents: {count} commands, {wrong} wrong")
+def compare(shell, name):
+    """How many blocks a document has, and how many print something else in this shell."""
+    wrong, pairs = 0, blocks(name)
+    found = printed(shell, [commands for commands, _ in pairs], "crates/scionet")
+    for (commands, wanted), is_so in zip(pairs, [*found, *[""] * len(pairs)]):
+        if is_so != wanted:
+            wrong += 1
+            print(f"documents: {name}, in {shell}: {commands}")
+            print(f"documents: it printed {is_so!r}, not {wanted!r}")
+    return len(pairs), wrong
+
+
+def rehearse(name):
+    """Prints the blocks of a document with what they print over unproved programs."""
+    pairs = [pair for pair in blocks(name) if "bindings/" not in pair[0]]
+    asked = [commands for commands, _ in pairs]
+    with tempfile.TemporaryDirectory() as folder:
+        stage = Stage(Path(folder))
+        found = printed("sh", asked, stage.begun_in)
+        while stage.answer():
+            found = printed("sh", asked, stage.begun_in)
+    wrong = 0
+    for (commands, wanted), text in zip(pairs, found):
+        wrong += text != wanted
+        print("".join(f"$ {line}\n" for line in commands.splitlines()) + text)
+        print("" if text == wanted else f"The page has another text:\n{wanted}")
+    print(f"documents: {len(pairs)} blocks, {wrong} wrong, over programs that are not proved")
     return 1 if wrong else 0
 
 
-sys.exit(main())
+def main():
+    if sys.argv[1:2] == ["--unproved"] and len(sys.argv) == 3:
+        return rehearse(sys.argv[2])
+    shells = [*filter(shutil.which, ("sh", "zsh"))]
+    counts = [compare(shell, name) for shell in shells for name in DOCUMENTS]
+    count, wrong = (sum(it) for it in zip(*counts))
+    print(f"documents: {count} blocks, {wrong} wrong")
+    return 1 if wrong else 0
+
+
+if __name__ == "__main__":
+    sys.exit(main())

@@ -1,7 +1,7 @@
 #include <scion.h>
 #include <stdio.h>
 
-/* README.md's turn of a router, by hand. */
+/* docs/programs.md's turn of a router, by hand. */
 int main(void) {
     uint8_t packet[] =
         "\x00\x01\xff\x00\x00\x00\x01\x10\x00\x01\xff\x00\x00\x00\x01\x11"

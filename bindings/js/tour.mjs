@@ -1,5 +1,5 @@
 // SPDX-License-Identifier: Apache-2.0
-// The turns of README.md by hand, and packets that were cut or changed on their way. What is
+// The turns of docs/programs.md by hand, and packets that were cut or changed on their way. What is
 // expected is said by the rules of a router, never by what the library answered.
 //
 //   node --experimental-wasm-memory64 tour.mjs scion.wasm
@@ -17,7 +17,7 @@ const K = unhex("6b");
 const PARENT = { number: 2, kind: Kind.PARENT };
 const PARTS = { ia: AT_111, key: K, interfaces: [PARENT] };
 
-/** The packet of README.md, whose meta field begins so, with this authenticator. */
+/** The packet of docs/programs.md, whose meta field begins so, with this authenticator. */
 function packet(first, mac) {
   const hops = `${OWN_HOP}${mac}${NEXT_HOP}a1a2a3a4a5a6`;
   return unhex(`${ADDRESSES}${first}0020000000b39600000064${hops}`);

@@ -1,6 +1,6 @@
 #!/usr/bin/env python3
 # SPDX-License-Identifier: Apache-2.0
-"""The turns of README.md by hand, and packets that were cut or changed on their way.
+"""The turns of docs/programs.md by hand, and packets that were cut or changed on their way.
 
 What is expected is said by the rules of a router, never by what the library answered. A word is the
 path of a shared object, in place of that of the package; the status is 1 if an answer differs."""
@@ -20,7 +20,7 @@ PARENT, DOWN = Interface(2, Kind.PARENT), Interface(2, Kind.PARENT, up=False)
 
 
 def packet(first, mac):
-    """The packet of README.md, whose meta field begins so, with this authenticator."""
+    """The packet of docs/programs.md, whose meta field begins so, with this authenticator."""
     info = "0000b39600000064"
     text = f"{ADDRESSES}{first}002000{info}{OWN_HOP}{mac}{NEXT_HOP}a1a2a3a4a5a6"
     return bytes.fromhex(text)
@@ -46,7 +46,7 @@ CHANGES = [
 
 
 def packet_gone():
-    """The packet of README.md behind its first router."""
+    """The packet of docs/programs.md behind its first router."""
     return packet("01", RIGHT)
 
 

@@ -1,6 +1,6 @@
 // SPDX-License-Identifier: Apache-2.0
-//! The turns of README.md by hand, and packets that were cut or changed on their way. What is
-//! expected is said by the rules of a router, never by what the library answered.
+//! The turns of docs/programs.md by hand, and packets that were cut or changed on their way. What
+//! is expected is said by the rules of a router, never by what the library answered.
 
 use scion::{header_len, header_reverse, hop_mac};
 use scion::{Arrival, HeaderFault, Interface, Kind, Outcome, Packet, Refusal, Router};
@@ -21,7 +21,7 @@ fn unhex(text: &str) -> Vec<u8> {
     (0..text.len()).step_by(2).map(byte).collect()
 }
 
-/// The packet of README.md, whose meta field begins so, with this authenticator.
+/// The packet of docs/programs.md, whose meta field begins so, with this authenticator.
 fn packet(first: &str, mac: &str) -> Vec<u8> {
     let ends = "0001ff00000001100001ff0000000111";
     let hops = format!("003f00020000{mac}003f00000001a1a2a3a4a5a6");
