@@ -21,7 +21,8 @@ SENTENCE = """\
 
 FRONT = f"""# The book of the headline
 
-What a reader has to believe to believe this sentence about a run of `scionet`, and no more:
+What a reader has to believe to believe this sentence about a run of `scionet`, which is one process
+where turns are events of a list, and no more:
 
 {SENTENCE}
 
@@ -123,8 +124,8 @@ FIRST_HOUR = (
     (
         "Words of SCION (AS, beacon, segment, hop field) are explained in [the"
         " tutorial](tutorial.md). `scionet run` calls [`run_lines`](#event_lines-run_lines), which"
-        " promises `Runs`: whatever the result, what was written are the replies to the lines that"
-        " were read; the first line is a topology, and the later ones are a run (`Ran`) of their"
+        " promises `Runs`: whatever the result, what was written (`went`) are the replies to the lines"
+        " that were read; the first line is a topology, and the later ones are a run (`Ran`) of their"
         " events.",
         "event_lines/Run.Runs event_lines/Run.Listens event_lines/Run.Ends event_lines/Run.Wrote"
         " event_lines/Answers.RepliesToInput event_lines/Answers.Begins"
@@ -141,14 +142,18 @@ FIRST_HOUR = (
         " path_verifier/Walk.walk_of forwarding/Journey.turns_for",
     ),
     (
-        "These are the premises, for the first `k` events; what happens later doesn't matter. An"
-        " expiry is counted in half seconds, and the network's `moment` in seconds.",
+        "These are the premises, for the first `k` events; what happens later doesn't matter. Here"
+        " `sent` is the number of the Send event, `p` that of its packet, and an event is done if it"
+        " was not refused (`IsDone`). An expiry is counted in half seconds, and the network's `moment`"
+        " in seconds.",
         "network_core/Headline.Undisturbed network_core/Headline.Kept"
         " network_core/History.IssuedIn",
     ),
     (
-        "And this is what an event does. The path of a Send is one that the verifier accepts; the"
-        " `beta` of an Originate is its beacon's first accumulator.",
+        "And this is what an event does. The path of a Send is one that the verifier accepts; by its"
+        " route it is a path of an answer, one that is given, or the way back of a delivered packet,"
+        " which is the event `back` of a line. The `beta` of an Originate is its beacon's first"
+        " accumulator.",
         "network_core/History.IsHistory network_core/Step.Step network_core/Event.EventValue"
         " network_core/Step.Leads network_core/Step.Sends path_verifier/Accepted.IsAccepted",
     ),
