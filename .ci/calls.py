@@ -6,10 +6,9 @@ comment. Run it at the top of the repository; docs/calls.md is what it prints.
 `calls.py --check` says whether docs/calls.md is that, and ends with 1 where it is not."""
 import math
 import re
-import textwrap
 from pathlib import Path
 
-from pages import settle
+from pages import filled, settle
 from specs import Specs
 from surface import LAWS, Surface
 
@@ -63,18 +62,11 @@ def types(surface):
     if surface.types:
         yield "| type | what it is |\n|---|---|"
     for it in surface.types:
-        yield f"| `{it.place}` | {it.sentence} |".replace(" |  |", " | |")
+        yield f"| `{it.place}` | {it.sentence} |"
     if surface.types:
         yield ""
     for of, names in surface.lent.items():
-        yield filled("", f"{', '.join(f'`{it}`' for it in names)}: those of `{of}`.") + "\n"
-
-
-def filled(sign, text):
-    """A paragraph or, behind a sign, an item of a list, in lines of at most 100 columns."""
-    space = " " * len(sign)
-    return textwrap.fill(text, 100, initial_indent=sign, subsequent_indent=space,
-                         break_long_words=False, break_on_hyphens=False)
+        yield filled(f"{', '.join(f'`{it}`' for it in names)}: those of `{of}`.") + "\n"
 
 
 def named(clauses):
@@ -86,8 +78,8 @@ def named(clauses):
 
 def promises(item, specs):
     """The clauses of a call and what they cite, in a sentence each."""
-    cited = [f"[`{it.key[2].replace('◌', '')}`](definitions.md#{it.anchor})"
-             for it in item.cited(specs) if not it.key[1].startswith("inner")]
+    public = [it for it in item.cited(specs) if not it.key[1].startswith("inner")]
+    cited = [f"[`{it.key[2].replace('◌', '')}`](definitions.md#{it.anchor})" for it in public]
     asked = [it for it in item.clauses if it.word == "requires"]
     said = [it for it in item.clauses if it.word == "ensures"]
     if said and not (cited and [*named(said)] == ["one"]):
@@ -115,13 +107,13 @@ def call(item, specs):
     parts = [sign, item.sentence, *promises(item, specs)]
     if is_law and (found := list(lemmas(item.file.crate, item.name))):
         parts.append(f"To cite: {', '.join(found)}.")
-    return filled("- ", " ".join(filter(None, parts)))
+    return filled(" ".join(filter(None, parts)), "- ")
 
 
 def chapter(surface, specs):
     """What one crate offers."""
     yield f"\n## `{surface.crate}`\n"
-    yield filled("", surface.sentence) + "\n"
+    yield filled(surface.sentence) + "\n"
     yield from types(surface)
     calls = [it for it in surface.calls if it.file.path != LAWS]
     laws = [it for it in surface.calls if it.file.path == LAWS]
@@ -134,8 +126,9 @@ def chapter(surface, specs):
 def document():
     """The whole text."""
     specs = Specs(Path("."))
-    crates = [it for it in specs.crates({*specs.needs}) if not TESTS.match(it)]
-    surfaces = [Surface(Path("."), it) for it in crates if Path("crates", it, "src/lib.rt").exists()]
+    libraries = [it for it in specs.needs if Path("crates", it, "src/lib.rt").exists()]
+    crates = specs.crates({it for it in libraries if not TESTS.match(it)})
+    surfaces = [Surface(Path("."), it) for it in crates]
     yield FRONT.rstrip("\n")
     yield from limits(surfaces)
     for surface in surfaces:

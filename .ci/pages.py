@@ -4,9 +4,10 @@ import textwrap
 from pathlib import Path
 
 
-def filled(text):
-    """A paragraph in lines of at most 100 columns."""
-    return textwrap.fill(text, 100, break_long_words=False, break_on_hyphens=False)
+def filled(text, sign=""):
+    """A paragraph or, behind a sign, an item of a list, in lines of at most 100 columns."""
+    indents = {"initial_indent": sign, "subsequent_indent": " " * len(sign)}
+    return textwrap.fill(text, 100, break_long_words=False, break_on_hyphens=False, **indents)
 
 
 def settle(text, path):

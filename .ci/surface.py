@@ -7,8 +7,8 @@ import re
 from specs import Definition, Names
 
 ITEM = re.compile(
-    r"^(?P<indent> {0,4})pub (?P<kind>(?:extern \"C\" |const |unsafe )*(?:fn|struct|enum|trait|type|"
-    r"const|static))\s+(?P<name>\w+)",
+    r"^(?P<indent> {0,4})pub (?P<kind>(?:extern \"C\" |const |unsafe )*"
+    r"(?:fn|struct|enum|trait|type|const|static))\s+(?P<name>\w+)",
     re.M,
 )
 METHOD = re.compile(r"^    fn (\w+)", re.M)
@@ -25,8 +25,8 @@ class Clause:
     text."""
 
     def __init__(self, comment, word, name, text):
-        self.comment = " ".join(it.strip().removeprefix("//").strip() for it in
-                                comment.strip().split("\n"))
+        lines = comment.strip().split("\n")
+        self.comment = " ".join(it.strip().removeprefix("//").strip() for it in lines)
         self.word, self.name, self.text = word, name, text
 
 
@@ -66,8 +66,8 @@ class File:
     def __init__(self, crate, path, is_module):
         self.crate, self.path, self.is_module = crate, path.stem, is_module
         self.text = path.read_text()
-        self.impls = [(it["type"], it.start(), block_end(self.text, it.end())) for it in
-                      IMPL.finditer(self.text) if " for " not in it[0]]
+        found = [it for it in IMPL.finditer(self.text) if " for " not in it[0]]
+        self.impls = [(it["type"], it.start(), block_end(self.text, it.end())) for it in found]
 
     def owner(self, at):
         """The type to whose `impl` this place belongs, if there is one."""
@@ -144,26 +144,29 @@ class Surface:
     """What one crate offers."""
 
     def __init__(self, top, crate):
-        source = top / "crates" / crate / "src"
-        root = (source / "lib.rt").read_text()
-        self.crate = crate
-        about = re.match(r"(?://!.*\n)+", root)[0]
-        self.about = re.sub(r"^//! ?", "", about, flags=re.M).strip()
+        self.crate, self.source = crate, top / "crates" / crate / "src"
+        root = (self.source / "lib.rt").read_text()
+        self.about = re.sub(r"^//! ?", "", re.match(r"(?://!.*\n)+", root)[0], flags=re.M).strip()
         self.modules = PUBLIC.findall(root)
-        self.names = {it for use in USE.findall(root) for it in re.findall(r"\w+", use.partition(
-            "::")[2])}
-        lent = [it.partition("::") for it in USE.findall(root)]
-        self.lent = {of: re.findall(r"\w+", names) for of, _, names in lent
-                     if not (source / f"{of}.rt").exists()}
-        paths = [source / "lib.rt", *sorted(it for it in source.glob("*.rt") if it.stem != "lib")]
-        files = [File(crate, it, it.stem in self.modules) for it in paths]
-        every = [it for file in files for it in file.items()]
-        self.types = [it for it in every if it.owner is None and it.kind not in ("fn", "const",
-                      "static") and self.is_named(it)]
+        uses = [it.partition("::") for it in USE.findall(root)]
+        self.names = {it for _, _, names in uses for it in re.findall(r"\w+", names)}
+        self.lent = {
+            of: re.findall(r"\w+", names)
+            for of, _, names in uses
+            if not (self.source / f"{of}.rt").exists()
+        }
+        every = [it for file in self.files() for it in file.items()]
+        free = [it for it in every if it.owner is None and self.is_named(it)]
+        self.types = [it for it in free if it.kind not in ("fn", "const", "static")]
         own = {it.name for it in self.types}
-        known = [it for it in every if it.owner in own or it.owner is None and self.is_named(it)]
+        known = [it for it in every if it in free or it.owner in own]
         self.calls = [it for it in known if it.kind == "fn"]
         self.constants = [it for it in known if it.kind in ("const", "static")]
+
+    def files(self):
+        """The files of the code, the root first."""
+        paths = sorted(self.source.glob("*.rt"), key=lambda it: (it.stem != "lib", it.stem))
+        return [File(self.crate, it, it.stem in self.modules) for it in paths]
 
     def is_named(self, item):
         """Whether lib.rt names the item, or its module, or has it itself."""
