@@ -1,0 +1,49 @@
+#!/usr/bin/env python3
+"""Finds names in the Markdown files which the code, the definitions, the proofs, the cases and the
+bindings have no more: words in `code` that have an underscore or two capitals, as calls,
+definitions, types and clauses have. Pages that are printed from the source alone are left out.
+
+It prints these names, and how many were looked up, and ends with 1 where one is gone."""
+import re
+import subprocess
+import sys
+from pathlib import Path
+
+PRINTED = {f"docs/{name}.md" for name in "book calls definitions".split()}
+BLOCK = re.compile(r"^ *(```+).*?^ *\1$", re.M | re.S)
+SPAN = re.compile(r"`([^`]+)`")
+NAME = re.compile(r"\b(?=\w*_|[A-Z][a-z]+\w*[A-Z])[A-Za-z]\w+(?<!_)\b")
+
+# Names of the toolchain, its libraries and Rust's, of which the pages speak.
+ELSEWHERE = """FromStr OnceLock RestsIfErr atomic_blocks binary_search_by rattle_alloc rattle_dealloc
+rattle_realloc std_alloc std_collections std_heap std_io"""
+
+
+def known(names):
+    """The words of all files but pages, pictures, edits and scripts of the gate, and of all paths."""
+    words = {*ELSEWHERE.split()}
+    for name in names:
+        words.update(re.findall(r"\w+", name))
+        if not name.endswith((".md", ".png", ".svg", ".edit")) and not name.startswith(".ci/"):
+            words.update(re.findall(r"\w+", Path(name).read_text(errors="replace")))
+    return words
+
+
+def main():
+    listed = ["git", "ls-files", "-co", "--exclude-standard"]
+    names = subprocess.run(listed, capture_output=True, text=True, check=True).stdout.split("\n")
+    names = [it for it in names if it and Path(it).is_file()]
+    words, count, gone = known(names), 0, 0
+    for page in (it for it in names if it.endswith(".md") and it not in PRINTED):
+        spans = SPAN.findall(BLOCK.sub("", Path(page).read_text()))
+        for name in NAME.findall("\n".join(spans)):
+            count += 1
+            if name not in words:
+                gone += 1
+                print(f"names: {page}: {name}")
+    print(f"names: {count}, {gone} gone")
+    return 1 if gone else 0
+
+
+if __name__ == "__main__":
+    sys.exit(main())
