@@ -11,14 +11,14 @@ PROGRAMS = ("scionet", "scionet_view")
 STANDIN = """#!{python}
 import hashlib, sys
 from pathlib import Path
-folder, words, given = Path("{folder}"), sys.argv[1:], sys.stdin.buffer.read()
+asked, answers = Path("{asked}"), Path("{answers}")
+words, given = sys.argv[1:], sys.stdin.buffer.read()
 name = hashlib.sha256(repr((words, given)).encode()).hexdigest()[:20]
-answer = folder / (name + ".answer")
-if answer.exists():
-    sys.stdout.buffer.write(answer.read_bytes())
+if (answers / name).exists():
+    sys.stdout.buffer.write((answers / name).read_bytes())
 else:
-    (folder / name).write_bytes(given)
-    (folder / (name + ".args")).write_text("".join(it + "\\n" for it in words))
+    (asked / name).write_bytes(given)
+    (asked / (name + ".args")).write_text("".join(it + "\\n" for it in words))
 """
 
 
@@ -26,35 +26,44 @@ class Stage:
     """A folder with the files that commands of a document name, and stand-ins for the programs."""
 
     def __init__(self, folder):
-        self.asked = {}
         top = Path.cwd()
         for name in ("docs", "examples", "tools", "cases", "bindings"):
             (folder / name).symlink_to(top / name)
-        for name in PROGRAMS:
-            asked = self.asked[top / "crates" / name] = folder / "asked" / name
-            out = folder / "crates" / name / "out"
-            asked.mkdir(parents=True)
-            out.mkdir(parents=True)
-            (out / name).write_text(STANDIN.format(python=sys.executable, folder=asked))
-            (out / name).chmod(0o755)
+        self.programs = [Program(top / "crates" / name, folder) for name in PROGRAMS]
         self.begun_in = folder / "crates" / PROGRAMS[0]
 
     def answer(self):
         """Answers what was asked since the last time, and says whether there was anything."""
-        return any([ask(crate, asked) for crate, asked in self.asked.items()])
+        return any([program.answer() for program in self.programs])
 
 
-def ask(crate, asked):
-    """Runs the program of a crate once for each question, and keeps what it prints."""
-    new = [it for it in asked.iterdir() if not it.suffix]
-    if not new:
-        return False
-    print(f"{crate.name} is built without a proof, for {len(new)} runs", file=sys.stderr)
-    how = {"cwd": crate, "capture_output": True}
-    text = subprocess.run(["rt", "try", "--cases", str(asked)], **how).stdout.decode()
-    found = dict(re.findall(r"^== (\w+)\n(.*?)(?=^== |\Z)", text, re.M | re.S))
-    for it in new:
-        it.with_suffix(".answer").write_text(found.get(it.name, ""))
-        it.unlink()
-        it.with_suffix(".args").unlink()
-    return True
+class Program:
+    """A program that is not proved, and what its stand-in was asked."""
+
+    def __init__(self, crate, folder):
+        self.crate = crate
+        self.asked, self.answers = folder / "asked" / crate.name, folder / "answers" / crate.name
+        out = folder / "crates" / crate.name / "out"
+        for it in (self.asked, self.answers, out):
+            it.mkdir(parents=True)
+        words = {"python": sys.executable, "asked": self.asked, "answers": self.answers}
+        (out / crate.name).write_text(STANDIN.format(**words))
+        (out / crate.name).chmod(0o755)
+
+    def answer(self):
+        """Runs the program once for each question, and keeps what it prints."""
+        new = [it for it in self.asked.iterdir() if not it.suffix]
+        if not new:
+            return False
+        name = self.crate.name
+        print(f"{name} is built without a proof, for {len(new)} runs", file=sys.stderr)
+        command = ["rt", "try", "--cases", str(self.asked)]
+        done = subprocess.run(command, cwd=self.crate, capture_output=True, text=True)
+        found = dict(re.findall(r"^== (\w+)\n(.*?)(?=^== |\Z)", done.stdout, re.M | re.S))
+        if not found:
+            sys.exit(f"{name} was not built:\n{done.stderr}")
+        for it in new:
+            (self.answers / it.name).write_text(found.get(it.name, ""))
+            it.unlink()
+            it.with_suffix(".args").unlink()
+        return True
