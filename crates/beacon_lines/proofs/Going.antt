@@ -11,7 +11,7 @@ use Rattle.network_core.specs.History.{EventRecord, IsHistory, net_after}
 use Rattle.network_core.specs.Delivery.{IsFramed, is_done}
 use Rattle.beacon_lines.specs.declared.event.BeaconEvent.{BeaconEvent}
 use Rattle.beacon_lines.specs.declared.event.BeaconEvent.TheVariants as events
-use Rattle.beacon_lines.specs.Beaconing.{IsBeaconing, IsOfBeaconing, StaysStored, event_of}
+use Rattle.beacon_lines.specs.Beaconing.{IsBeaconing, IsOfBeaconing, StaysStored, network_event}
 use Rattle.beacon_lines.proofs.Growing.{grows, stays}
 
 pub begins : (network : Network) → IsBeaconing network [] (new_net network)
@@ -66,7 +66,7 @@ next net new events event reply b step framed done own =
     subst (λ n. IsBeaconing n (events ++ event ∷ []) new) (sym (same_network net new event reply own step done))
     (goes_on net.network events net new event reply b step framed done own)
 
-pub is_own : (event : BeaconEvent) → IsOfBeaconing (event_of event)
+pub is_own : (event : BeaconEvent) → IsOfBeaconing (network_event event)
 is_own (events.Tick now) = tt
 is_own (events.Originate ia egress beta0) = tt
 is_own (events.Extend beacon ia egress) = tt

@@ -12,7 +12,7 @@ use Rattle.scion_topology.specs.Topology.{network_in, of_value}
 use Rattle.network_core.specs.Value.{NetValue}
 use Rattle.network_core.proofs.Runs.{is_run}
 use Rattle.beacon_lines.specs.declared.event.BeaconEvent.{BeaconEvent}
-use Rattle.beacon_lines.specs.Beaconing.{IsBeaconing, event_of}
+use Rattle.beacon_lines.specs.Beaconing.{IsBeaconing, network_event}
 use Rattle.beacon_lines.specs.Lines.{AreBeaconLines, event_line}
 
 -- bytes that are no UTF-8 are no topology
@@ -20,25 +20,25 @@ pub no_text : (bytes : List ℕ) → ¬ (IsUtf8 bytes) → network_in bytes ≡ 
 no_text bytes none = ap of_value (no_document bytes (λ text. absurd (none text)))
 
 -- the lines of events, one after another
-lines_of : (events : List BeaconEvent) → flat_map event_line (map event_of events) ≡ flat_map (λ event. event_line (event_of event)) events
+lines_of : (events : List BeaconEvent) → flat_map event_line (map network_event events) ≡ flat_map (λ event. event_line (network_event event)) events
 lines_of [] = refl
 lines_of (event ∷ events) =
-    flat_map-cons event_line (event_of event) (map event_of events)
-    ∙ ap (λ later. event_line (event_of event) ++ later) (lines_of events)
-    ∙ sym (flat_map-cons (λ event. event_line (event_of event)) event events)
+    flat_map-cons event_line (network_event event) (map network_event events)
+    ∙ ap (λ later. event_line (network_event event) ++ later) (lines_of events)
+    ∙ sym (flat_map-cons (λ event. event_line (network_event event)) event events)
 
 pub are_lines : (line text : List ℕ) (network : Network) (events : List BeaconEvent) (net : NetValue) → network_in line ≡ Ok network
-    → IsNetwork network → net.network ≡ network → IsBeaconing net.network (map event_of events) net
-    → text ≡ (line ++ codes "\n") ++ flat_map (λ event. event_line (event_of event)) events → AreBeaconLines line text
+    → IsNetwork network → net.network ≡ network → IsBeaconing net.network (map network_event events) net
+    → text ≡ (line ++ codes "\n") ++ flat_map (λ event. event_line (network_event event)) events → AreBeaconLines line text
 are_lines line text network events net topology known same beaconing says =
-    let own = subst (λ n. IsBeaconing n (map event_of events) net) same beaconing in
+    let own = subst (λ n. IsBeaconing n (map network_event events) net) same beaconing in
     record {
       network = network;
       topology = topology;
-      events = map event_of events;
+      events = map network_event events;
       net = net;
       beaconing = own;
       run = is_run network own.history known own.is own.framed;
-      says = says ∙ append_assoc line (codes "\n") (flat_map (λ event. event_line (event_of event)) events)
+      says = says ∙ append_assoc line (codes "\n") (flat_map (λ event. event_line (network_event event)) events)
           ∙ ap (λ later. line ++ (codes "\n" ++ later)) (sym (lines_of events));
     }

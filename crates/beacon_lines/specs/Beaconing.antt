@@ -12,11 +12,11 @@ use Rattle.beacon_lines.specs.declared.event.BeaconEvent.{BeaconEvent}
 use Rattle.beacon_lines.specs.declared.event.BeaconEvent.TheVariants as events
 
 -- an event of a beaconing, as one of a network
-abbrev pub event_of : BeaconEvent → EventValue
-event_of (events.Tick now) = Tick now
-event_of (events.Originate ia egress beta0) = Originate ia egress beta0
-event_of (events.Extend beacon ia egress) = Extend beacon ia egress
-event_of (events.Terminate beacon ia) = Terminate beacon ia
+abbrev pub network_event : BeaconEvent → EventValue
+network_event (events.Tick now) = Tick now
+network_event (events.Originate ia egress beta0) = Originate ia egress beta0
+network_event (events.Extend beacon ia egress) = Extend beacon ia egress
+network_event (events.Terminate beacon ia) = Terminate beacon ia
 
 -- an event of a beaconing: the second is set, or a beacon is begun, passed on or ended
 abbrev pub IsOfBeaconing : EventValue → Type 0

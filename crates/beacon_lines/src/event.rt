@@ -1,7 +1,7 @@
 ghost use Rattle.std.specs.Prelude.{◌≡◌, is_some, option_map, Some};
 ghost use Rattle.network_core.specs.Delivery.{is_done};
 ghost use Rattle.network_core.specs.Seen as events;
-ghost use Rattle.beacon_lines.specs.Beaconing.{event_of};
+ghost use Rattle.beacon_lines.specs.Beaconing.{network_event};
 
 use isd_as::{IfId, IsdAs};
 use network_core::{Event, Reply};
@@ -59,7 +59,7 @@ impl BeaconEvent {
     /// The event of a network. It is never `None`, and is returned so since the borrow checker has
     /// no rule for an event that is lent where it was made.
     pub(crate) fn of_network<'a>(&self) -> Option<Event<'a>>
-        ensures { option_map events.event_value result ≡ Some (event_of self.now) }
+        ensures { option_map events.event_value result ≡ Some (network_event self.now) }
     {
         Some(match *self {
             Self::Tick { now } => Event::Tick { now },

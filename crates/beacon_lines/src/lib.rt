@@ -7,10 +7,10 @@
 mod event;
 mod line;
 mod lines;
+mod options;
 mod run;
 mod search;
-mod wanted;
 mod ways;
 
 pub use lines::{ReadError, beacon_lines};
-pub use wanted::{MAX_PER_PAIR, Wanted};
+pub use options::{BeaconingOptions, MAX_PER_PAIR};

@@ -2,7 +2,7 @@
 
 ghost use Rattle.std.specs.Prelude.{◌≡◌, ◌++◌, OnOk};
 ghost use Rattle.std.specs.String.{string_bytes};
-ghost use Rattle.beacon_lines.specs.Beaconing.{event_of};
+ghost use Rattle.beacon_lines.specs.Beaconing.{network_event};
 ghost use Rattle.beacon_lines.specs.Lines.{event_line};
 
 use crate::event::BeaconEvent;
@@ -13,7 +13,7 @@ use std::fmt::Write;
 #[tactic(auto, unfolding(crate::specs::Lines::event_line))]
 pub(crate) fn push_line(text: &mut String, event: BeaconEvent) -> Result<(), AllocError>
     ensures { OnOk result
-        (string_bytes text.new ≡ string_bytes text.old ++ event_line (event_of event)) }
+        (string_bytes text.new ≡ string_bytes text.old ++ event_line (network_event event)) }
 {
     match event {
         BeaconEvent::Tick { now } => writeln!(text, r#"{{"do":"tick","now":{now}}}"#),

@@ -4,14 +4,14 @@ ghost use Rattle.refusal.specs.declared.fault.OrMemory.{OrMemory};
 ghost use Rattle.scion_topology.specs.declared.fault.TopologyFault.{TopologyFault};
 ghost use Rattle.scion_topology.specs.Topology.{network_in};
 ghost use Rattle.network_core.specs.Value.{new_net};
-ghost use Rattle.beacon_lines.specs.Beaconing.{event_of};
+ghost use Rattle.beacon_lines.specs.Beaconing.{network_event};
 ghost use Rattle.beacon_lines.specs.Lines.{AreBeaconLines, event_line, one_line};
 
 use crate::event::BeaconEvent;
 use crate::line::push_line;
 use crate::run::BeaconRun;
 use crate::search::{Limits, spread};
-use crate::wanted::Wanted;
+use crate::options::BeaconingOptions;
 use crate::ways::WaysOut;
 use isd_as::IsdAs;
 use path_segment::MAX_SEGMENT_LEN;
@@ -50,15 +50,15 @@ fn is_core(topology: &Topology, place: usize) -> bool {
 }
 
 /// The beaconing of a topology.
-fn beaconing_of(alloc: Global, topology: Topology, wanted: &Wanted) -> Result<BeaconRun, AllocError>
+fn beaconing_of(alloc: Global, topology: Topology, options: &BeaconingOptions) -> Result<BeaconRun, AllocError>
     ensures { IfOk result (λ run. run.net.network ≡ topology) }
 {
     let ases = addresses(alloc, &topology)?;
     let down = WaysOut::of(alloc, &topology, LinkClass::Child)?;
     let core = WaysOut::of(alloc, &topology, LinkClass::Core)?;
     let mut run = BeaconRun::new(alloc, topology);
-    run.attempt(alloc, &BeaconEvent::Tick { now: wanted.now })?;
-    let (per_pair, entries) = (wanted.per_pair, wanted.core_len.min(MAX_SEGMENT_LEN));
+    run.attempt(alloc, &BeaconEvent::Tick { now: options.now })?;
+    let (per_pair, entries) = (options.per_pair, options.core_len.min(MAX_SEGMENT_LEN));
     let long = Limits {
         per_pair,
         entries: MAX_SEGMENT_LEN,
@@ -76,7 +76,7 @@ fn beaconing_of(alloc: Global, topology: Topology, wanted: &Wanted) -> Result<Be
 /// Adds the lines of events.
 fn push_lines(text: &mut String, events: &[BeaconEvent]) -> Result<(), AllocError>
     ensures { OnOk result (string_bytes text.new
-        ≡ string_bytes text.old ++ flat_map (λ event. event_line (event_of event)) events.now) }
+        ≡ string_bytes text.old ++ flat_map (λ event. event_line (network_event event)) events.now) }
 {
     for event in events {
         push_line(text, *event)?;
@@ -95,7 +95,7 @@ fn push_lines(text: &mut String, events: &[BeaconEvent]) -> Result<(), AllocErro
 /// With C core ASes and L links it tries at most 2·C·L·K beacons if K segments are wanted from one
 /// AS to another. It takes time and memory in proportion to those that it makes, and some 64 steps
 /// for each that it tries.
-pub fn beacon_lines(alloc: Global, topology: &[u8], wanted: &Wanted) -> Result<String, ReadError>
+pub fn beacon_lines(alloc: Global, topology: &[u8], options: &BeaconingOptions) -> Result<String, ReadError>
     ensures lines { IfOk result
         (λ text. AreBeaconLines (one_line topology.now) (string_bytes text)) }
     ensures refused { IfErr result (λ error. (fault : TopologyFault)
@@ -107,7 +107,7 @@ pub fn beacon_lines(alloc: Global, topology: &[u8], wanted: &Wanted) -> Result<S
     };
     let network = Topology::from_json(alloc, line.as_bytes())?;
     network.known();
-    let run = beaconing_of(alloc, network, wanted)?;
+    let run = beaconing_of(alloc, network, options)?;
     let mut text = String::from_str(alloc, line)?;
     text.push_str("\n")?;
     push_lines(&mut text, run.events())?;

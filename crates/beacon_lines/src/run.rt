@@ -6,7 +6,7 @@ ghost use Rattle.network_core.specs.Seen.{event_value};
 ghost use Rattle.network_core.specs.Value.{new_net};
 ghost use Rattle.network_core.specs.Step.{Step};
 ghost use Rattle.network_core.specs.Delivery.{IsFramed, is_done};
-ghost use Rattle.beacon_lines.specs.Beaconing.{event_of};
+ghost use Rattle.beacon_lines.specs.Beaconing.{network_event};
 
 use crate::event::{BeaconEvent, Effect, effect_of};
 use forwarding::TurnReply;
@@ -28,33 +28,33 @@ impl Model for BeaconRun {
     ghost use Rattle.std.specs.Prelude.{map};
     ghost use Rattle.std.specs.Coded.{codes};
     ghost use Rattle.policy_expr.specs.Code.{coded_tree};
-    ghost use Rattle.beacon_lines.specs.Beaconing.{BeaconRunValue, IsBeaconing, event_of};
+    ghost use Rattle.beacon_lines.specs.Beaconing.{BeaconRunValue, IsBeaconing, network_event};
 
     ghost Value = { BeaconRunValue };
 
     ghost coded = { Prim.hlevel (codes, coded_tree) };
 
-    ghost view = { λ r. record { net = r.net; events = map event_of r.events.items } };
+    ghost view = { λ r. record { net = r.net; events = map network_event r.events.items } };
 
-    ghost invariant = { λ r. IsBeaconing r.net.network (map event_of r.events.items) r.net };
+    ghost invariant = { λ r. IsBeaconing r.net.network (map network_event r.events.items) r.net };
 }
 
-/// An event of a network that is to happen.
+/// An event of a network that is to be done now.
 #[derive(Clone, Copy)]
-struct Wanted<'a> {
+struct DueEvent<'a> {
     event: Event<'a>,
 }
 
 /// Does an event in a network, and returns what it made. If it is refused, nothing changes, and
 /// `None` is returned.
-fn happen(alloc: Global, net: &mut Net, wanted: &Wanted<'_>) -> Result<Option<Effect>, AllocError>
+fn happen(alloc: Global, net: &mut Net, due: &DueEvent<'_>) -> Result<Option<Effect>, AllocError>
     ensures done { IfOk result (λ effect. (reply : replies.Reply)
         × ((is_some effect ≡ is_done reply)
-        × (Step net.old (event_value wanted.now.event) reply net.new
-        × IsFramed (event_value wanted.now.event) reply net.new))) }
+        × (Step net.old (event_value due.now.event) reply net.new
+        × IsFramed (event_value due.now.event) reply net.new))) }
     ensures kept { OnErr result (net.new ≡ net.old) }
 {
-    let reply = net.step(alloc, &wanted.event)?;
+    let reply = net.step(alloc, &due.event)?;
     // The borrow checker has to be told of the types in a reply.
     if let Reply::Turned(TurnReply::Went(_)) = reply {
         return Ok(Some(Effect::Done));
@@ -82,7 +82,7 @@ impl BeaconRun {
 
     /// The events that were done.
     pub(crate) fn events(&self) -> &[BeaconEvent]
-        ensures { map event_of result.now ≡ self.now.events }
+        ensures { map network_event result.now ≡ self.now.events }
     {
         &self.events
     }
@@ -97,10 +97,10 @@ impl BeaconRun {
         ensures { self.new.net.network ≡ self.old.net.network }
     {
         self.events.try_reserve(1)?;
-        let Some(wanted) = event.of_network() else {
+        let Some(due) = event.of_network() else {
             return Ok(None);
         };
-        let Some(effect) = happen(alloc, &mut self.net, &Wanted { event: wanted })? else {
+        let Some(effect) = happen(alloc, &mut self.net, &DueEvent { event: due })? else {
             return Ok(None);
         };
         let _ = self.events.push(*event);

@@ -60,7 +60,7 @@ fn view_text<S: Source>(
     match view {
         View::Packet(command) => packet_text(alloc, command, source),
         View::Network(subject) => Ok(network_picture(alloc, source, *subject)?),
-        View::Beacons(wanted) => beacons(alloc, source, wanted),
+        View::Beacons(options) => beacons(alloc, source, options),
         View::Path(Subject::Packet(number)) => Ok(packet_path(alloc, source, *number)?),
         View::Path(Subject::Answer { answer, path }) => {
             Ok(answer_path(alloc, source, *answer, *path)?)

@@ -1,6 +1,6 @@
 //! The words of the command line.
 
-use beacon_lines::{MAX_PER_PAIR, Wanted};
+use beacon_lines::{BeaconingOptions, MAX_PER_PAIR};
 use clap::builder::ValueParser;
 use clap::{Arg, ArgGroup, ArgMatches, Command};
 use commands::{VERSION, WordsFault, explain_refusal, turn, with_turn};
@@ -100,7 +100,7 @@ pub(crate) enum View {
     /// `path`: the path of a packet of that network, or of an answer.
     Path(Subject),
     /// `beacons`: a complete beaconing of the topology on standard input.
-    Beacons(Wanted),
+    Beacons(BeaconingOptions),
 }
 
 /// The command `packet`.
@@ -241,7 +241,7 @@ fn path(matches: &ArgMatches<'_>) -> Option<View> {
 
 /// The beaconing of the matches of `beacons`.
 fn beacons(matches: &ArgMatches<'_>) -> Option<View> {
-    Some(View::Beacons(Wanted {
+    Some(View::Beacons(BeaconingOptions {
         per_pair: number_in(matches, "per-pair")? as usize,
         core_len: number_in(matches, "core-length")? as usize,
         now: number_in(matches, "now")?,

@@ -4,7 +4,7 @@ use Rattle.std.specs.Str.{IsUtf8}
 use Rattle.std.specs.String.{string_bytes}
 use Rattle.scion_topology.specs.declared.fault.TopologyFault.TheVariants.{NotJson}
 use Rattle.scion_topology.specs.Topology.{network_in}
-use Rattle.beacon_lines.specs.Beaconing.{IsBeaconing, event_of}
+use Rattle.beacon_lines.specs.Beaconing.{IsBeaconing, network_event}
 use Rattle.beacon_lines.specs.Lines.{event_line, one_line}
 use Rattle.beacon_lines.proofs.Saying.{are_lines, no_text}
 use Rattle.beacon_lines.proofs.lines.beacon_lines.Goals as goal
@@ -27,6 +27,6 @@ returns-clause-lines c =
     let same : c.run.inside.net.network ≡ c.in_ok-network.network = ap (λ v. v.net.network) c.run.view_is ∙ c.in_ok-run.ensures in
     let shown = ap (λ v. v.events) c.run.view_is ∙ sym c.events.ensures in
     let front = c.in_ok-push_str.ensures.bytes ∙ ap (λ front. front ++ codes "\n") (c.in_ok-text.ensures.ok ∙ text) in
-    let says = c.in_ok-push_lines.ensures ∙ ap (λ front. front ++ flat_map (λ event. event_line (event_of event)) events) front in
+    let says = c.in_ok-push_lines.ensures ∙ ap (λ front. front ++ flat_map (λ event. event_line (network_event event)) events) front in
     are_lines line (string_bytes c.push_lines.new.text) c.in_ok-network.network events c.run.inside.net topology c.known.ensures same
     (subst (λ es. IsBeaconing c.run.inside.net.network es c.run.inside.net) shown c.run.invariant) says

@@ -5,7 +5,7 @@ use Rattle.std.proofs.lemmas.List.{map-append}
 use Rattle.network_core.specs.Seen.{event_value}
 use Rattle.network_core.specs.Step.{Step}
 use Rattle.network_core.specs.Delivery.{IsFramed, is_done}
-use Rattle.beacon_lines.specs.Beaconing.{IsBeaconing, event_of}
+use Rattle.beacon_lines.specs.Beaconing.{IsBeaconing, network_event}
 use Rattle.beacon_lines.proofs.Going.{is_own, next, same_network}
 use Rattle.beacon_lines.proofs.run.BeaconRun.attempt.Goals as goal
 
@@ -13,25 +13,25 @@ pub invariant_of-self-2 : goal.invariant_of-self-2
 invariant_of-self-2 c =
     let old = c.self.inside in
     let done = c.in_ok-effect.ensures.done in
-    let event = event_of c.args.event.now in
-    let same : event_value c.in-Some.wanted ≡ event =
+    let event = network_event c.args.event.now in
+    let same : event_value c.in-Some.due ≡ event =
     (let found = sym (ap (option_map event_value) c.in-Some.is) ∙ c.of_network.ensures in cc) in
     let is : is_done done.0 ≡ true = search in
     let ok : is_ok c.push.result ≡ true = grind (arith, common_steps) in
     let pushed = c.push.ensures.items
     ∙ ap (λ b. cond b (c.try_reserve.new.self.items ++ c.args.event.now ∷ []) c.try_reserve.new.self.items) ok
     ∙ ap (λ all. all ++ c.args.event.now ∷ []) c.try_reserve.ensures.items in
-    let items = ap (map event_of) pushed ∙ map-append event_of old.events.items (c.args.event.now ∷ []) in
+    let items = ap (map network_event) pushed ∙ map-append network_event old.events.items (c.args.event.now ∷ []) in
     subst (λ es. IsBeaconing c.happen.new.net.network es c.happen.new.net) (sym items)
-    (next old.net c.happen.new.net (map event_of old.events.items) event done.0 c.self.invariant
+    (next old.net c.happen.new.net (map network_event old.events.items) event done.0 c.self.invariant
     (subst (λ e. Step old.net e done.0 c.happen.new.net) same done.1.1.0)
     (subst (λ e. IsFramed e done.0 c.happen.new.net) same done.1.1.1) is (is_own c.args.event.now))
 
 pub returns : goal.returns
 returns c =
     let done = c.in_ok-effect.ensures.done in
-    let event = event_of c.args.event.now in
-    let same : event_value c.in-Some.wanted ≡ event =
+    let event = network_event c.args.event.now in
+    let same : event_value c.in-Some.due ≡ event =
     (let found = sym (ap (option_map event_value) c.in-Some.is) ∙ c.of_network.ensures in cc) in
     let is : is_done done.0 ≡ true = search in
     let kept : c.happen.new.net.network ≡ c.self.inside.net.network =

@@ -3,9 +3,9 @@ use path_server::MAX_ALIKE;
 /// The most segments of one kind between the same two ASes.
 pub const MAX_PER_PAIR: usize = MAX_ALIKE;
 
-/// What is wanted of a beaconing.
+/// Which segments a beaconing makes, and when.
 #[derive(Clone, Copy)]
-pub struct Wanted {
+pub struct BeaconingOptions {
     /// How many beacons of one origin an AS ends and passes on: the first that reach it, shorter
     /// ones first. A path store takes at most [`MAX_PER_PAIR`] of their segments.
     pub per_pair: usize,
