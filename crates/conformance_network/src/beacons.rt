@@ -7,7 +7,7 @@ use scion_topology::Topology;
 use std::alloc::Global;
 use std::process::Abort;
 use std::test::Fail;
-use worked::{at, pair, row};
+use worked::{at, row};
 
 /// The refusal of a call, if it was refused.
 fn refusal<T: Drop>(answer: Result<T, BeaconError>) -> Option<BeaconFault> {
@@ -101,46 +101,6 @@ fn makes_a_segment(rt: HostRuntime) -> Result<(), Fail> {
     Ok(())
 }
 
-/// Whether the segment from the core AS of an ISD down to its child's child is the expected one.
-fn goes_down(
-    alloc: Global,
-    topology: &Topology,
-    ends: &[Wanted; 3],
-    out: u16,
-    beta0: u16,
-) -> Result<bool, Fail> {
-    let [first, middle, last] = ends;
-    let between = [(middle.ia, 2)];
-    let segment = issued(alloc, topology, (first.ia, out), &between, last.ia, beta0)?;
-    Ok(is_issued(&segment, SegKind::Intra, beta0, ends))
-}
-
-/// A segment from each of two core ASes to its child's child, and one between the core ASes.
-#[test]
-fn makes_three_segments(rt: HostRuntime) -> Result<(), Fail> {
-    let alloc = rt.alloc();
-    let topology = Topology::from_json(alloc, pair().as_bytes())?;
-    let up = [
-        entry_of(1, 0x110, b"k", 0, 1),
-        entry_of(1, 0x111, b"k", 1, 2),
-        entry_of(1, 0x112, b"k", 1, 0),
-    ];
-    assert!(rt; goes_down(alloc, &topology, &up, 1, 1)?);
-    let core = issued(alloc, &topology, (at(1, 0x110), 2), &[], at(2, 0x210), 2)?;
-    let all = [
-        entry_of(1, 0x110, b"k", 0, 2),
-        entry_of(2, 0x210, b"k", 1, 0),
-    ];
-    assert!(rt; is_issued(&core, SegKind::Core, 2, &all));
-    let down = [
-        entry_of(2, 0x210, b"k", 0, 2),
-        entry_of(2, 0x211, b"k", 1, 2),
-        entry_of(2, 0x212, b"k", 1, 0),
-    ];
-    assert!(rt; goes_down(alloc, &topology, &down, 2, 3)?);
-    Ok(())
-}
-
 /// The refusal to begin a beacon.
 fn not_begun(alloc: Global, topology: &Topology, ia: IsdAs, egress: u16) -> Option<BeaconFault> {
     refusal(originate(alloc, topology, ia, IfId(egress), 1000, 4660))
@@ -211,25 +171,6 @@ fn refuses_in_a_row(rt: HostRuntime) -> Result<(), Fail> {
         not_ended(alloc, &topology, &passed_on, at(1, 0x112)),
     ];
     assert!(rt; cut == [Some(BeaconFault::LinkDown); 2]);
-    Ok(())
-}
-
-/// A core beacon goes back to the first AS and no further, and never to a child.
-#[test]
-fn core_beacons(rt: HostRuntime) -> Result<(), Fail> {
-    let alloc = rt.alloc();
-    let topology = Topology::from_json(alloc, pair().as_bytes())?;
-    let begun = originate(alloc, &topology, at(1, 0x110), IfId(2), 1000, 2)?;
-    assert!(rt; begun.kind() == SegKind::Core);
-    let child = extend(alloc, &topology, &begun, at(2, 0x210), IfId(2));
-    assert!(rt; refusal(child) == Some(BeaconFault::WrongKind));
-    let back = extend(alloc, &topology, &begun, at(2, 0x210), IfId(1))?;
-    for egress in [2, 9] {
-        let again = extend(alloc, &topology, &back, at(1, 0x110), IfId(egress));
-        assert!(rt; refusal(again) == Some(BeaconFault::Loop));
-    }
-    let ends = terminate(alloc, &topology, &back, at(1, 0x110));
-    assert!(rt; refusal(ends) == Some(BeaconFault::Loop));
     Ok(())
 }
 

@@ -1,8 +1,8 @@
 use isd_as::IsdAs;
 use path_header::{Header, decode};
 use path_segment::{SegKind, Segment};
-use path_verifier::{Piece, PieceKind, Pieces, VerifyFault, verify};
-use policy_expr::{AclText, Denied, Policy, PolicyText, WalkHop};
+use path_verifier::{PieceKind, Pieces, VerifyFault, verify};
+use policy_expr::{Denied, Policy};
 use refusal::NumberedFault;
 use std::alloc::{AllocError, Global};
 use std::process::Abort;
@@ -190,38 +190,6 @@ fn segment_of(alloc: Global, kind: SegKind, ases: &[(IsdAs, u16, u16)]) -> Resul
 /// A part of a path: a segment from a place to its end, in construction direction or against it.
 type Part<'s> = (&'s Segment, usize, bool);
 
-/// The segments of a path up, over a core link, and down.
-#[derive(Drop)]
-struct Way {
-    up: Segment,
-    core: Segment,
-    down: Segment,
-}
-
-impl Way {
-    /// The segments from 1-ff00:0:112 over the core ASes of both ISDs to 2-ff00:0:212.
-    fn new(alloc: Global) -> Result<Way, Fail> {
-        let (near, far) = (at(1, 0x110), at(2, 0x210));
-        let up = [(near, 0, 1), (at(1, 0x111), 1, 2), (at(1, 0x112), 1, 0)];
-        let down = [(far, 0, 2), (at(2, 0x211), 1, 2), (at(2, 0x212), 1, 0)];
-        Ok(Way {
-            up: segment_of(alloc, SegKind::Intra, &up)?,
-            core: segment_of(alloc, SegKind::Core, &[(near, 0, 2), (far, 1, 0)])?,
-            down: segment_of(alloc, SegKind::Intra, &down)?,
-        })
-    }
-
-    /// The parts of the path; the first ends at this place of its segment, and the second goes in
-    /// this direction.
-    fn parts(&self, place: usize, along: bool) -> [Part<'_>; 3] {
-        [
-            (&self.up, place, false),
-            (&self.core, 0, along),
-            (&self.down, 0, true),
-        ]
-    }
-}
-
 /// Asserts the code of the refusal of a path with these parts and this header between these ASes at
 /// second 1000, or 0 if it is accepted, under the policy that allows all paths and under its copy.
 fn expect_code(
@@ -240,86 +208,6 @@ fn expect_code(
     let given = code_of(&pieces, header, ends.0, ends.1, 1000, &copy);
     assert_eq!(rt; given, code);
     Ok(())
-}
-
-/// Asserts that the path of these parts is accepted, with its own header.
-fn expect_path(
-    rt: &impl Abort,
-    alloc: Global,
-    parts: &[Part<'_>],
-    lens: [u8; 3],
-    ends: (IsdAs, IsdAs),
-) -> Result<(), Fail> {
-    let header = header_of(alloc, lens, parts)?;
-    expect_code(rt, alloc, parts, &header, ends, 0)
-}
-
-/// Whether the path of these pieces is accepted at the second 1000, with this walk.
-fn has_walk(
-    alloc: Global,
-    pieces: &Pieces<'_>,
-    header: &Header,
-    ends: (IsdAs, IsdAs),
-    walk: &[WalkHop],
-) -> Result<bool, Fail> {
-    let policy = policy(alloc, &[], "")?;
-    let path = verify(pieces, header, ends.0, ends.1, 1000, &policy)?;
-    Ok(path.walk() == walk)
-}
-
-/// A path up, over a core link and down, and the same with one change at a time.
-#[test]
-fn up_core_down(rt: HostRuntime) -> Result<(), Fail> {
-    let alloc = rt.alloc();
-    let way = Way::new(alloc)?;
-    let whole = way.parts(0, true);
-    let header = header_of(alloc, [3, 2, 3], &whole)?;
-    let (near, far) = (at(1, 0x110), at(2, 0x210));
-    let (src, dst) = (at(1, 0x112), at(2, 0x212));
-    let walk = [
-        hop(src, 0, 1),
-        hop(at(1, 0x111), 2, 1),
-        hop(near, 1, 2),
-        hop(far, 1, 2),
-        hop(at(2, 0x211), 1, 2),
-        hop(dst, 1, 0),
-    ];
-    assert!(rt; has_walk(alloc, &pieces_of(&whole)?, &header, (src, dst), &walk)?);
-    expect_code(&rt, alloc, &whole, &header, (near, dst), 75)?;
-    expect_code(&rt, alloc, &way.parts(1, true), &header, (src, dst), 73)?;
-    expect_code(&rt, alloc, &way.parts(0, false), &header, (src, dst), 74)?;
-    expect_path(&rt, alloc, &whole[..2], [3, 2, 0], (src, far))?;
-    expect_path(&rt, alloc, &whole[1..], [2, 3, 0], (near, dst))?;
-    expect_path(&rt, alloc, &whole[1..2], [2, 0, 0], (near, far))
-}
-
-/// The segments of two children of one AS, up from the first and down to the second.
-fn two_children(alloc: Global) -> Result<(Segment, Segment), Fail> {
-    let (top, middle) = (at(1, 0x110), at(1, 0x111));
-    let up = [(top, 0, 1), (middle, 1, 2), (at(1, 0x112), 1, 0)];
-    let down = [(top, 0, 1), (middle, 1, 3), (at(1, 0x113), 1, 0)];
-    let up = segment_of(alloc, SegKind::Intra, &up)?;
-    Ok((up, segment_of(alloc, SegKind::Intra, &down)?))
-}
-
-/// A shortcut at a common AS, which a path over the core AS would pass twice.
-#[test]
-fn shortcut(rt: HostRuntime) -> Result<(), Fail> {
-    let alloc = rt.alloc();
-    let (up, down) = two_children(alloc)?;
-    let parts = [(&up, 1, false), (&down, 1, true)];
-    let header = header_of(alloc, [2, 2, 0], &parts)?;
-    let ends = (at(1, 0x112), at(1, 0x113));
-    let walk = [
-        hop(ends.0, 0, 1),
-        hop(at(1, 0x111), 2, 3),
-        hop(ends.1, 1, 0),
-    ];
-    assert!(rt; has_walk(alloc, &pieces_of(&parts)?, &header, ends, &walk)?);
-    let whole = [(&up, 0, false), (&down, 0, true)];
-    expect_code(&rt, alloc, &whole, &header, ends, 78)?;
-    let half = [(&up, 0, false), (&down, 1, true)];
-    expect_code(&rt, alloc, &half, &header, ends, 73)
 }
 
 /// A segment of this many ASes below 1-ff00:0:1, whose first has this number.

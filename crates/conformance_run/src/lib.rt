@@ -12,10 +12,6 @@ mod event_runs;
 #[cfg(test)]
 mod given_paths;
 #[cfg(test)]
-mod keys;
-#[cfg(test)]
-mod replies;
-#[cfg(test)]
 mod row;
 #[cfg(test)]
 mod sentences;
@@ -25,7 +21,3 @@ mod streams_fail;
 mod strictly;
 #[cfg(test)]
 mod table;
-#[cfg(test)]
-mod work_flights;
-#[cfg(test)]
-mod work_program;

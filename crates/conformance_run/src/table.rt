@@ -2,7 +2,6 @@
 
 use event_lines::{RunFault, run_lines};
 use std::alloc::Global;
-use std::process::Abort;
 use std::test::Fail;
 use streams::{Reader, Writer};
 
@@ -39,29 +38,4 @@ pub(crate) fn answers_of(alloc: Global, tables: &[&[Row]]) -> Result<String, Fai
         }
     }
     Ok(text)
-}
-
-/// The output of a run over the lines of these two tables, and the expected output. Fails if the
-/// run does.
-fn talk(alloc: Global, first: &[Row], then: &[Row]) -> Result<(String, String), Fail> {
-    let tables = [first, then];
-    let input = lines_of(alloc, &tables)?;
-    let wanted = answers_of(alloc, &tables)?;
-    let (result, output) = run_over(alloc, input.as_bytes());
-    result?;
-    let answers = String::from_str(alloc, std::str::from_utf8(&output)?)?;
-    Ok((answers, wanted))
-}
-
-/// Asserts that a run over the lines of these two tables, one after the other, gives the expected
-/// replies.
-pub(crate) fn expect_talk(
-    rt: &impl Abort,
-    alloc: Global,
-    first: &[Row],
-    then: &[Row],
-) -> Result<(), Fail> {
-    let (answers, wanted) = talk(alloc, first, then)?;
-    assert_eq!(rt; answers.as_str(), wanted.as_str());
-    Ok(())
 }

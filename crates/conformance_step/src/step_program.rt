@@ -145,48 +145,6 @@ fn ran_into<T: Threads + Wait + Sync, W: Write + Drop>(rt: &T, alloc: Global, ou
     }
 }
 
-/// A line that is printed, with these words and with others.
-#[test]
-fn printed(rt: HostRuntime) -> Result<(), Fail> {
-    assert!(rt;
-        ran(&rt, rt.alloc(), &words("21701"), late_packet()).is(0, "refused 93 Expired\n", "")
-    );
-    assert!(rt;
-        ran(&rt, rt.alloc(), &words("21700"), late_packet()).is(0, "refused 94 BadMac\n", "")
-    );
-    Ok(())
-}
-
-/// A network of one AS, with the word `run` and without words.
-#[test]
-fn network(rt: HostRuntime) -> Result<(), Fail> {
-    let lines = br#"{"ases":[{"ia":"1-1","core":true,"exp":63,"key":"6b","routers":1}],"links":[]}
-{"do":"tick","now":1000}"#;
-    assert!(rt; ran(&rt, rt.alloc(), &["run"], lines.as_slice()).is(0, "topology ok\nok\n", ""));
-    assert!(rt; ran(&rt, rt.alloc(), &[], lines.as_slice()).is(0, "topology ok\nok\n", ""));
-    let refused = ran(&rt, rt.alloc(), &["run"], b"[]".as_slice());
-    assert!(rt;
-        refused.is(
-            1,
-            "topology no 11 BadField\n",
-            "scionet: topology refused\n"
-        )
-    );
-    Ok(())
-}
-
-/// Text that is no packet, also if it is no UTF-8.
-#[test]
-fn bad_text(rt: HostRuntime) -> Result<(), Fail> {
-    let texts: [&[u8]; 4] = [b"0", b"zz", b"\xff\xfe", b"00\xc3\xa9"];
-    for text in texts {
-        assert!(rt;
-            ran(&rt, rt.alloc(), &words("21701"), text).is(1, "", "scionet: bad packet text\n")
-        );
-    }
-    Ok(())
-}
-
 /// Words that are refused or ask for help, before any input is read.
 #[test]
 fn bad_words(rt: HostRuntime) -> Result<(), Fail> {

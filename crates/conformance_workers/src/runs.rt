@@ -146,20 +146,6 @@ fn two() -> [(IsdAs, IsdAs); 2] {
 }
 
 #[test]
-fn two_flights_find_two_places(rt: HostRuntime) -> Result<(), Fail> {
-    for workers in [1, 2, 3, 8] {
-        let case = Case {
-            ways: &two(),
-            departing: 2,
-            workers,
-            slots: 2,
-        };
-        expect_ends(&rt, rt.alloc(), case, &[End::Delivered(3); 2])?;
-    }
-    Ok(())
-}
-
-#[test]
 fn the_second_of_two_flights_finds_no_place(rt: HostRuntime) -> Result<(), Fail> {
     for workers in [1, 2, 3, 8] {
         let case = Case {
@@ -189,31 +175,6 @@ fn a_run_has_one_to_eight_workers(rt: HostRuntime) -> Result<(), Fail> {
         assert_eq!(rt; report.err(), Some(RunFault::Workers));
     }
     Ok(())
-}
-
-#[test]
-fn eight_flights_find_eight_places(rt: HostRuntime) -> Result<(), Fail> {
-    let case = Case {
-        ways: &[(last(), first()); 8],
-        departing: 8,
-        workers: 2,
-        slots: 8,
-    };
-    expect_ends(&rt, rt.alloc(), case, &[End::Delivered(3); 8])
-}
-
-#[test]
-fn six_of_eight_flights_find_no_place(rt: HostRuntime) -> Result<(), Fail> {
-    let case = Case {
-        ways: &[(last(), first()); 8],
-        departing: 8,
-        workers: 2,
-        slots: 2,
-    };
-    let mut ends = [End::Dropped(0); 8];
-    ends[0] = End::Delivered(3);
-    ends[1] = End::Delivered(3);
-    expect_ends(&rt, rt.alloc(), case, &ends)
 }
 
 /// There are more flights than places, but no inbox is ever full, since three of the flights have
