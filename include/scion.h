@@ -5,7 +5,7 @@
  * memory, keep no pointer, and return after a time that the lengths bound. They answer all values
  * of their arguments, so that a host need not check them first.
  *
- * A host keeps these duties, which nothing checks:
+ * A host keeps these duties, which these calls don't check; scion_checked.h does, as far as can be:
  * - no pointer is null, not even if its length is 0;
  * - each points to as many items as its length says, and they are aligned;
  * - what a call reads is initialized. What it only writes need not be: `mac`, a room, and the

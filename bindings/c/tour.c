@@ -1,9 +1,10 @@
 /* SPDX-License-Identifier: Apache-2.0 */
-/* The turns of docs/programs.md by hand, and packets that were cut or changed on their way.
+/* The turns of README.md by hand, packets that were cut or changed on their way, and calls that do
+ * not keep a host's duties.
  *
  * What is expected is said by the rules of a router, never by what the library answered. The status
  * is 1 where an answer differs. */
-#include "scion.h"
+#include "scion_checked.h"
 #include <stdio.h>
 #include <string.h>
 
@@ -30,8 +31,7 @@ static void same(const char *what, const uint8_t *bytes, const uint8_t *wanted, 
     wrong++;
 }
 
-/* The packet of docs/programs.md: both addresses, a meta field that begins so, an info field, two
-   hops. */
+/* The packet of README.md: both addresses, a meta field that begins so, an info field, two hops. */
 #define ADDRESSES "0001ff00000001100001ff0000000111"
 #define OWN_HOP "003f00020000"
 #define NEXT_HOP "003f00000001"
@@ -228,6 +228,8 @@ static void answers(const char *what, call *asked, const char *request, const ch
     same(what, room + len, zeros, sizeof room - len);
 }
 
+#define BAD_REQUEST "{\"code\":150,\"name\":\"BadRequest\"}"
+
 /* The path over three ASes in a row. Its segment expires at half second 45200. */
 static void paths(void) {
     const char *request =
@@ -244,7 +246,7 @@ static void paths(void) {
         "{\"along\":false,\"from\":0,\"segment\":0,\"to\":2}],"
         "\"walk\":\"1-ff00:0:112#0,1 1-ff00:0:111#2,1 1-ff00:0:110#1,0\"}]}";
     answers("path", scion_paths, request, wanted);
-    answers("no request", scion_paths, "", "{\"code\":150,\"name\":\"BadRequest\"}");
+    answers("no request", scion_paths, "", BAD_REQUEST);
 }
 
 /* A path of a segment with two entries, which expires at half second 43400, at this second. */
@@ -262,6 +264,64 @@ static void verdicts(void) {
     answers("late", scion_verify, VERIFY("21701"), "{\"code\":79,\"name\":\"Expired\"}");
 }
 
+/* Calls whose packet shares a byte with the router's parts, and one with a null pointer. */
+static void shared_by_a_step(void) {
+    uint8_t bytes[LEN + 1], before[LEN + 1];
+    union {
+        scion_interface table[1];
+        uint8_t bytes[LEN];
+    } both;
+    unhex(PACKET("00", RIGHT), bytes);
+    bytes[LEN] = 'k';
+    memcpy(before, bytes, sizeof bytes);
+    scion_router at = router(0x0001ff0000000111, "k", "", &parent, 1);
+    expect("null", scion_step(&at, 100, SCION_FROM_HOST, 0, NULL, 0), SCION_BAD_CALL, 0);
+    at.key = bytes + LEN;
+    expect("key apart", scion_step(&at, 100, SCION_FROM_HOST, 0, bytes, LEN), SCION_TO_LINK, 2);
+    memcpy(bytes, before, sizeof bytes);
+    expect("key", scion_step(&at, 100, SCION_FROM_HOST, 0, bytes, LEN + 1), SCION_BAD_CALL, 0);
+    same("key", bytes, before, sizeof bytes);
+    at.key = NULL;
+    expect("no key", scion_step(&at, 100, SCION_FROM_HOST, 0, bytes, LEN), SCION_BAD_CALL, 0);
+    both.table[0] = parent;
+    at = router(0x0001ff0000000111, "k", "", both.table, 1);
+    expect("table", scion_step(&at, 100, SCION_FROM_HOST, 0, both.bytes, LEN), SCION_BAD_CALL, 0);
+}
+
+/* Two packets of one call that share a byte, and a packet within the records. */
+static void shared_by_packets(void) {
+    uint8_t bytes[2 * LEN - 1] = {0}, zeros[2 * LEN - 1] = {0};
+    scion_packet packets[2] = {{bytes, LEN, 0, {0, 0}, SCION_FROM_HOST},
+                               {bytes + LEN - 1, LEN, 0, {0, 0}, SCION_FROM_HOST}};
+    scion_router at = router(0x0001ff0000000111, "k", "", &parent, 1);
+    expect("two packets", scion_step_all(&at, 100, packets, 2), SCION_BAD_CALL, 0);
+    expect("one packet", scion_step_all(&at, 100, packets, 1), SCION_DONE, 0);
+    same("two packets", bytes, zeros, sizeof bytes);
+    packets[1].bytes = (uint8_t *)&packets[0];
+    packets[1].len = 1;
+    expect("a record", scion_step_all(&at, 100, packets, 2), SCION_BAD_CALL, 0);
+}
+
+/* An authenticator within its key, and answers within their requests: by a byte at either end, and
+ * whole. */
+static void shared_by_answers(void) {
+    uint8_t bytes[64] = "{}", before[64] = "{}";
+    expect("mac", scion_hop_mac(bytes, 6, 0, 0, 0, 0, 0, bytes + 5), SCION_BAD_CALL, 0);
+    call *const calls[2] = {scion_paths, scion_verify};
+    const size_t places[3][2] = {{0, 31}, {31, 0}, {0, 0}};
+    for (unsigned i = 0; i < 6; i++) {
+        const size_t *place = places[i / 2];
+        scion_text given = calls[i % 2](bytes + place[0], 32, bytes + place[1], 32);
+        scion_answer refused = {given.status, (uint16_t)given.len};
+        expect("room", refused, SCION_BAD_ROOM, 0);
+        same("room", bytes, before, sizeof bytes);
+    }
+    scion_text given = scion_paths(bytes, 32, bytes + 32, 32);
+    scion_answer apart = {given.status, (uint16_t)given.len};
+    expect("room apart", apart, SCION_WRITTEN, strlen(BAD_REQUEST));
+    same("room apart", bytes + 32, (const uint8_t *)BAD_REQUEST, strlen(BAD_REQUEST));
+}
+
 int main(void) {
     turns();
     ends();
@@ -271,6 +331,9 @@ int main(void) {
     headers();
     paths();
     verdicts();
+    shared_by_a_step();
+    shared_by_packets();
+    shared_by_answers();
     printf("%u answers, %u wrong\n", count, wrong);
     return wrong != 0;
 }
