@@ -14,6 +14,7 @@ from pages import filled
 
 TITLE = re.compile(r"# `(\w+)`: (.*)\n")
 TAKEN = re.compile(r"^From \[`(.*?)`\].*:\n\n```\w+\n(.*?)```$", re.M | re.S)
+CODE = re.compile(r"^```(?!sh|text)\w", re.M)
 TESTS = re.compile(r"conformance_|worked$|refusing$")
 
 LAYERS = {
@@ -79,7 +80,7 @@ def pages():
 
 def is_taken(path, code):
     """Whether these lines stand in a file, one after the other, however far they are indented."""
-    lines = Path(path).read_text().split("\n")
+    lines = Path(path).read_text().split("\n") if Path(path).exists() else []
     wanted = code.rstrip("\n").split("\n")
     windows = (lines[at : at + len(wanted)] for at in range(len(lines)))
     return any(textwrap.dedent("\n".join(it)).split("\n") == wanted for it in windows)
@@ -95,7 +96,10 @@ def main():
     if sorted(listed) != sorted(crates):
         sys.exit(f"crates.txt and the layers of {sys.argv[0]} differ: {({*listed} ^ {*crates})}")
     for name in crates:
-        for path, code in TAKEN.findall(page(name)):
+        taken = TAKEN.findall(page(name))
+        if len(taken) != len(CODE.findall(page(name))):
+            sys.exit(f"crates/{name}/README.md shows code, and not from which file")
+        for path, code in taken:
             if not is_taken(path, code):
                 sys.exit(f"crates/{name}/README.md shows code that {path} does not have")
     readme = Path("README.md").read_text()

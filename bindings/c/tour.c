@@ -1,6 +1,6 @@
 /* SPDX-License-Identifier: Apache-2.0 */
-/* The turns of README.md by hand, packets that were cut or changed on their way, and calls that do
- * not keep a host's duties.
+/* The turns of docs/programs.md by hand, packets that were cut or changed on their way, and calls
+ * that do not keep a host's duties.
  *
  * What is expected is said by the rules of a router, never by what the library answered. The status
  * is 1 where an answer differs. */
@@ -31,7 +31,8 @@ static void same(const char *what, const uint8_t *bytes, const uint8_t *wanted, 
     wrong++;
 }
 
-/* The packet of README.md: both addresses, a meta field that begins so, an info field, two hops. */
+/* The packet of docs/programs.md: both addresses, a meta field that begins so, an info field, two
+   hops. */
 #define ADDRESSES "0001ff00000001100001ff0000000111"
 #define OWN_HOP "003f00020000"
 #define NEXT_HOP "003f00000001"
