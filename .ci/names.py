@@ -15,8 +15,9 @@ SPAN = re.compile(r"`([^`]+)`")
 NAME = re.compile(r"\b(?=\w*_|[A-Z][a-z]+\w*[A-Z])[A-Za-z]\w+(?<!_)\b")
 
 # Names of the toolchain, its libraries and Rust's, of which the pages speak.
-ELSEWHERE = """FromStr OnceLock RestsIfErr atomic_blocks binary_search_by rattle_alloc rattle_dealloc
-rattle_realloc std_alloc std_collections std_heap std_io"""
+ELSEWHERE = """FromStr OnceLock RestsIfErr atomic_blocks binary_search_by rattle_alloc rattle_arg
+rattle_dealloc rattle_env rattle_env_at rattle_errno rattle_realloc rattle_set_errno std_alloc
+std_collections std_heap std_io"""
 
 
 def known(names):

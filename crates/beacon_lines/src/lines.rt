@@ -9,9 +9,9 @@ ghost use Rattle.beacon_lines.specs.Lines.{AreBeaconLines, event_line, one_line}
 
 use crate::event::BeaconEvent;
 use crate::line::push_line;
+use crate::options::BeaconingOptions;
 use crate::run::BeaconRun;
 use crate::search::{Limits, spread};
-use crate::options::BeaconingOptions;
 use crate::ways::WaysOut;
 use isd_as::IsdAs;
 use path_segment::MAX_SEGMENT_LEN;
@@ -50,7 +50,11 @@ fn is_core(topology: &Topology, place: usize) -> bool {
 }
 
 /// The beaconing of a topology.
-fn beaconing_of(alloc: Global, topology: Topology, options: &BeaconingOptions) -> Result<BeaconRun, AllocError>
+fn beaconing_of(
+    alloc: Global,
+    topology: Topology,
+    options: &BeaconingOptions,
+) -> Result<BeaconRun, AllocError>
     ensures { IfOk result (λ run. run.net.network ≡ topology) }
 {
     let ases = addresses(alloc, &topology)?;
@@ -95,7 +99,11 @@ fn push_lines(text: &mut String, events: &[BeaconEvent]) -> Result<(), AllocErro
 /// With C core ASes and L links it tries at most 2·C·L·K beacons if K segments are wanted from one
 /// AS to another. It takes time and memory in proportion to those that it makes, and some 64 steps
 /// for each that it tries.
-pub fn beacon_lines(alloc: Global, topology: &[u8], options: &BeaconingOptions) -> Result<String, ReadError>
+pub fn beacon_lines(
+    alloc: Global,
+    topology: &[u8],
+    options: &BeaconingOptions,
+) -> Result<String, ReadError>
     ensures lines { IfOk result
         (λ text. AreBeaconLines (one_line topology.now) (string_bytes text)) }
     ensures refused { IfErr result (λ error. (fault : TopologyFault)

@@ -1,5 +1,5 @@
 use isd_as::IfId;
-use network_view::{Router, network_dot};
+use network_view::{MAX_DETAILED, Router, network_dot};
 use policy_expr::WalkHop;
 use scion_topology::Topology;
 use std::alloc::{AllocError, Global};
@@ -10,99 +10,51 @@ use worked::{at, hop};
 const ROW_DRAWN: &str = concat!(
     "graph network {",
     "\n",
-    "labelloc=b; labeljust=l; ranksep=1; edge [labeldistance=1.5, fontsize=11];",
+    r#"labelloc=b; labeljust=l; ranksep=0.3; nodesep=0.2; fontname="sans-serif";"#,
     "\n",
-    r#"subgraph cluster_1 { label="ISD 1"; "#,
-    r#"subgraph "cluster_1-ff00:0:110" { label="1-ff00:0:110 core"; style=bold; "#,
-    r#""1-ff00:0:110 0" [label=0]; } }"#,
+    r#"node [shape=circle, width=0.3, fixedsize=true, fontsize=10, fontname="sans-serif"];"#,
     "\n",
-    r#"subgraph cluster_1 { label="ISD 1"; "#,
-    r#"subgraph "cluster_1-ff00:0:111" { label="1-ff00:0:111"; style=rounded; "#,
-    r#""1-ff00:0:111 0" [label=0]; } }"#,
+    "edge [color=gray];",
     "\n",
-    r#"subgraph cluster_1 { label="ISD 1"; "#,
-    r#"subgraph "cluster_1-ff00:0:112" { label="1-ff00:0:112"; style=rounded; "#,
-    r#""1-ff00:0:112 0" [label=0]; } }"#,
+    r#"subgraph cluster_1 { label="ISD 1"; subgraph "cluster_1-ff00:0:110" { "#,
+    r#"label=""; style=bold; "1-ff00:0:110" [label="1-ff00:0:110 core", "#,
+    r#"shape=plain, fixedsize=false, fontsize=13]; "1-ff00:0:110 0" [label=r0]; } }"#,
     "\n",
-    r#""1-ff00:0:110 0" -- "1-ff00:0:111 0" [taillabel=1, headlabel=1, dir=forward];"#,
+    r#"subgraph cluster_1 { label="ISD 1"; subgraph "cluster_1-ff00:0:111" { "#,
+    r#"label=""; style=rounded; "1-ff00:0:111" [label="1-ff00:0:111", "#,
+    r#"shape=plain, fixedsize=false, fontsize=13]; "1-ff00:0:111 0" [label=r0]; } }"#,
     "\n",
-    r#""1-ff00:0:111 0" -- "1-ff00:0:112 0" [taillabel=2, headlabel=1, dir=forward];"#,
+    r#"subgraph cluster_1 { label="ISD 1"; subgraph "cluster_1-ff00:0:112" { "#,
+    r#"label=""; style=rounded; "1-ff00:0:112" [label="1-ff00:0:112", "#,
+    r#"shape=plain, fixedsize=false, fontsize=13]; "1-ff00:0:112 0" [label=r0]; } }"#,
     "\n",
-    "}",
+    r#"subgraph cluster_1 { label="ISD 1"; subgraph "cluster_1-ff00:0:110" { "#,
+    r#""1-ff00:0:110#1" [label=1, shape=plain, fixedsize=false]; } }"#,
     "\n",
-);
-
-const PAIR_DRAWN: &str = concat!(
-    "graph network {",
+    r#"subgraph cluster_1 { label="ISD 1"; subgraph "cluster_1-ff00:0:111" { "#,
+    r#""1-ff00:0:111#1" [label=1, shape=plain, fixedsize=false]; } }"#,
     "\n",
-    "labelloc=b; labeljust=l; ranksep=1; edge [labeldistance=1.5, fontsize=11];",
+    r#""1-ff00:0:110 0" -- "1-ff00:0:110#1";"#,
     "\n",
-    r#"subgraph cluster_1 { label="ISD 1"; "#,
-    r#"subgraph "cluster_1-ff00:0:110" { label="1-ff00:0:110 core"; style=bold; "#,
-    r#""1-ff00:0:110 0" [label=0]; "1-ff00:0:110 1" [label=1]; } }"#,
+    r#""1-ff00:0:111#1" -- "1-ff00:0:111 0";"#,
     "\n",
-    r#"subgraph cluster_1 { label="ISD 1"; "#,
-    r#"subgraph "cluster_1-ff00:0:111" { label="1-ff00:0:111"; style=rounded; "#,
-    r#""1-ff00:0:111 0" [label=0]; "1-ff00:0:111 1" [label=1]; } }"#,
+    r#""1-ff00:0:110#1" -- "1-ff00:0:111#1" [color=black, minlen=2, dir=forward];"#,
     "\n",
-    r#"subgraph cluster_1 { label="ISD 1"; "#,
-    r#"subgraph "cluster_1-ff00:0:112" { label="1-ff00:0:112"; style=rounded; "#,
-    r#""1-ff00:0:112 0" [label=0]; "1-ff00:0:112 1" [label=1]; } }"#,
+    r#"subgraph cluster_1 { label="ISD 1"; subgraph "cluster_1-ff00:0:111" { "#,
+    r#""1-ff00:0:111#2" [label=2, shape=plain, fixedsize=false]; } }"#,
     "\n",
-    r#"subgraph cluster_2 { label="ISD 2"; "#,
-    r#"subgraph "cluster_2-ff00:0:210" { label="2-ff00:0:210 core"; style=bold; "#,
-    r#""2-ff00:0:210 0" [label=0]; "2-ff00:0:210 1" [label=1]; } }"#,
+    r#"subgraph cluster_1 { label="ISD 1"; subgraph "cluster_1-ff00:0:112" { "#,
+    r#""1-ff00:0:112#1" [label=1, shape=plain, fixedsize=false]; } }"#,
     "\n",
-    r#"subgraph cluster_2 { label="ISD 2"; "#,
-    r#"subgraph "cluster_2-ff00:0:211" { label="2-ff00:0:211"; style=rounded; "#,
-    r#""2-ff00:0:211 0" [label=0]; "2-ff00:0:211 1" [label=1]; } }"#,
+    r#""1-ff00:0:111 0" -- "1-ff00:0:111#2";"#,
     "\n",
-    r#"subgraph cluster_2 { label="ISD 2"; "#,
-    r#"subgraph "cluster_2-ff00:0:212" { label="2-ff00:0:212"; style=rounded; "#,
-    r#""2-ff00:0:212 0" [label=0]; "2-ff00:0:212 1" [label=1]; } }"#,
+    r#""1-ff00:0:112#1" -- "1-ff00:0:112 0";"#,
     "\n",
-    r#""1-ff00:0:110 0" -- "1-ff00:0:111 0" [taillabel=1, headlabel=1, dir=forward];"#,
+    r#""1-ff00:0:111#2" -- "1-ff00:0:112#1" [color=black, minlen=2, dir=forward];"#,
     "\n",
-    r#""1-ff00:0:111 1" -- "1-ff00:0:112 0" [taillabel=2, headlabel=1, dir=forward];"#,
-    "\n",
-    r#""1-ff00:0:110 1" -- "2-ff00:0:210 0" [taillabel=2, headlabel=1, penwidth=3];"#,
-    "\n",
-    r#""2-ff00:0:210 1" -- "2-ff00:0:211 0" [taillabel=2, headlabel=1, dir=forward];"#,
-    "\n",
-    r#""2-ff00:0:211 1" -- "2-ff00:0:212 0" [taillabel=2, headlabel=1, dir=forward];"#,
-    "\n",
-    "}",
-    "\n",
-);
-
-const FORK_DRAWN: &str = concat!(
-    "graph network {",
-    "\n",
-    "labelloc=b; labeljust=l; ranksep=1; edge [labeldistance=1.5, fontsize=11];",
-    "\n",
-    r#"subgraph cluster_1 { label="ISD 1"; "#,
-    r#"subgraph "cluster_1-ff00:0:110" { label="1-ff00:0:110 core"; style=bold; "#,
-    r#""1-ff00:0:110 0" [label=0]; } }"#,
-    "\n",
-    r#"subgraph cluster_1 { label="ISD 1"; "#,
-    r#"subgraph "cluster_1-ff00:0:111" { label="1-ff00:0:111"; style=rounded; "#,
-    r#""1-ff00:0:111 0" [label=0]; "1-ff00:0:111 1" [label=1]; } }"#,
-    "\n",
-    r#"subgraph cluster_1 { label="ISD 1"; "#,
-    r#"subgraph "cluster_1-ff00:0:112" { label="1-ff00:0:112"; style=rounded; "#,
-    r#""1-ff00:0:112 0" [label=0]; } }"#,
-    "\n",
-    r#"subgraph cluster_1 { label="ISD 1"; "#,
-    r#"subgraph "cluster_1-ff00:0:113" { label="1-ff00:0:113"; style=rounded; "#,
-    r#""1-ff00:0:113 0" [label=0]; } }"#,
-    "\n",
-    r#""1-ff00:0:110 0" -- "1-ff00:0:111 0" [taillabel=1, headlabel=1, dir=forward];"#,
-    "\n",
-    r#""1-ff00:0:111 0" -- "1-ff00:0:112 0" [taillabel=2, headlabel=1, dir=forward];"#,
-    "\n",
-    r#""1-ff00:0:111 1" -- "1-ff00:0:113 0" [taillabel=3, headlabel=1, dir=forward];"#,
-    "\n",
-    "}",
+    r#"labeljust=c; fontsize=11; label="thick: a link between core ASes    "#,
+    r"arrow: a link to a child    dashed: a link that is cut\n",
+    r#"r0, r1: routers    numbers: interfaces"; }"#,
     "\n",
 );
 
@@ -130,40 +82,29 @@ fn expect_picture(
     Ok(())
 }
 
-/// The pictures of three networks, with no packet.
-#[test]
-fn networks(rt: HostRuntime) -> Result<(), Fail> {
-    let rows = [
-        (worked::row(), ROW_DRAWN),
-        (worked::pair(), PAIR_DRAWN),
-        (worked::fork(), FORK_DRAWN),
-    ];
-    for (json, picture) in rows {
-        let topology = Topology::from_json(rt.alloc(), json.as_bytes())?;
-        expect_picture(&rt, rt.alloc(), &topology, &[], None, picture)?;
-    }
-    Ok(())
-}
-
 /// A link that is cut, a link that a packet has passed, and the router that has the packet.
 #[test]
-fn cut_link(rt: HostRuntime) -> Result<(), Fail> {
+fn a_cut_link_is_dashed_and_a_passed_one_red(rt: HostRuntime) -> Result<(), Fail> {
     let mut topology = Topology::from_json(rt.alloc(), worked::row().as_bytes())?;
+    expect_picture(&rt, rt.alloc(), &topology, &[], None, ROW_DRAWN)?;
     let ia = at(1, 0x111);
     topology.cut_link(ia, IfId(1))?;
     let passed = [hop(at(1, 0x112), 0, 1)];
     let changes = [
         (
-            r#""1-ff00:0:111 0" [label=0]"#,
-            r#""1-ff00:0:111 0" [label=0, style=filled, fillcolor=red]"#,
+            r#""1-ff00:0:111 0" [label=r0]"#,
+            r#""1-ff00:0:111 0" [label=r0, style=filled, fillcolor=red]"#,
         ),
         (
-            "[taillabel=1, headlabel=1, dir=forward]",
-            "[taillabel=1, headlabel=1, dir=forward, style=dashed]",
+            r#""1-ff00:0:111#1" [color=black, minlen=2, dir=forward]"#,
+            r#""1-ff00:0:111#1" [color=black, minlen=2, dir=forward, style=dashed]"#,
         ),
         (
-            "[taillabel=2, headlabel=1, dir=forward]",
-            "[taillabel=2, headlabel=1, dir=forward, color=red, penwidth=5]",
+            r#""1-ff00:0:112#1" [color=black, minlen=2, dir=forward]"#,
+            concat!(
+                r#""1-ff00:0:112#1" [color=black, minlen=2, dir=forward, "#,
+                "color=red, penwidth=4, arrowsize=0.6]",
+            ),
         ),
     ];
     let picture = changed(rt.alloc(), ROW_DRAWN, &changes)?;
@@ -171,34 +112,44 @@ fn cut_link(rt: HostRuntime) -> Result<(), Fail> {
     expect_picture(&rt, rt.alloc(), &topology, &passed, Some(router), &picture)
 }
 
-/// A core link that a packet has passed, after two links to parents.
+/// This many core ASes without a link, as a topology and as the picture without routers.
+fn core_ases(alloc: Global, count: usize) -> Result<(String, String), AllocError> {
+    let mut json = String::from_str(alloc, r#"{"ases":["#)?;
+    let mut picture = String::from_str(
+        alloc,
+        concat!(
+            "graph network {\n",
+            r#"labelloc=b; labeljust=l; newrank=true; ranksep=0.6; fontname="sans-serif";"#,
+            "\n",
+            r#"node [shape=box, style=rounded, fontsize=11, fontname="sans-serif"];"#,
+            "\n",
+        ),
+    )?;
+    for one in 1..=count {
+        let comma = if one == 1 { "" } else { "," };
+        write!(
+            json,
+            r#"{comma}{{"ia":"1-{one}","core":true,"exp":0,"key":"00","routers":1}}"#
+        )?;
+        picture.push_str(r#"subgraph cluster_1 { label="ISD 1"; "#)?;
+        writeln!(
+            picture,
+            r#""1-{one}" [label="1-{one} core", style=bold]; }}"#
+        )?;
+    }
+    json.push_str(r#"],"links":[]}"#)?;
+    picture.push_str(concat!(
+        r#"labeljust=c; fontsize=11; label="thick: a link between core ASes    "#,
+        r#"arrow: a link to a child    dashed: a link that is cut"; }"#,
+        "\n",
+    ))?;
+    Ok((json, picture))
+}
+
+/// One AS more than are drawn with their routers.
 #[test]
-fn core_link(rt: HostRuntime) -> Result<(), Fail> {
-    let topology = Topology::from_json(rt.alloc(), worked::pair().as_bytes())?;
-    let passed = [
-        hop(at(1, 0x112), 0, 1),
-        hop(at(1, 0x111), 2, 1),
-        hop(at(1, 0x110), 1, 2),
-    ];
-    let changes = [
-        (
-            r#""2-ff00:0:210 0" [label=0]"#,
-            r#""2-ff00:0:210 0" [label=0, style=filled, fillcolor=red]"#,
-        ),
-        (
-            r#""1-ff00:0:111 0" [taillabel=1, headlabel=1, dir=forward]"#,
-            r#""1-ff00:0:111 0" [taillabel=1, headlabel=1, dir=forward, color=red, penwidth=5]"#,
-        ),
-        (
-            r#""1-ff00:0:112 0" [taillabel=2, headlabel=1, dir=forward]"#,
-            r#""1-ff00:0:112 0" [taillabel=2, headlabel=1, dir=forward, color=red, penwidth=5]"#,
-        ),
-        ("penwidth=3", "penwidth=3, color=red, penwidth=5"),
-    ];
-    let picture = changed(rt.alloc(), PAIR_DRAWN, &changes)?;
-    let router = Router {
-        ia: at(2, 0x210),
-        number: 0,
-    };
-    expect_picture(&rt, rt.alloc(), &topology, &passed, Some(router), &picture)
+fn many_ases_are_drawn_without_routers(rt: HostRuntime) -> Result<(), Fail> {
+    let (json, picture) = core_ases(rt.alloc(), MAX_DETAILED + 1)?;
+    let topology = Topology::from_json(rt.alloc(), json.as_bytes())?;
+    expect_picture(&rt, rt.alloc(), &topology, &[], None, &picture)
 }

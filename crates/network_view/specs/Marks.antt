@@ -12,6 +12,11 @@ abbrev pub is_at : (at : Option Router) (ia number : ℕ) → Bool
 is_at None ia number = false
 is_at (Some router) ia number = (router.ia == ia) && (router.number == number)
 
+-- whether the packet is at a router of this AS
+abbrev pub is_in : (at : Option Router) (ia : ℕ) → Bool
+is_in None ia = false
+is_in (Some router) ia = router.ia == ia
+
 -- whether the hop leaves its AS by the interface of this end
 abbrev pub leaves_by : End → WalkHop → Bool
 leaves_by end hop = is_end end hop.ia hop.egress

@@ -3,7 +3,7 @@
 ghost use Rattle.std.specs.Prelude.{◌≡◌, ◌≢◌, ℕ, ◌<◌, ◌^◌, All, AllPairs};
 ghost use Rattle.scion_topology.specs.Network.{Network};
 ghost use Rattle.scion_topology.specs.Rules.{AreTwo, IsNetwork, ends_of};
-ghost use Rattle.network_view.specs.Dot.{box_name};
+ghost use Rattle.network_view.specs.Names.{box_name};
 
 /// The boxes of two addresses have different names. So each AS of a network has a box of its own,
 /// and no two ends of lines are at one interface.

@@ -1,7 +1,7 @@
 //! The marks of a packet in the picture.
 
 ghost use Rattle.std.specs.Prelude.{◌≡◌};
-ghost use Rattle.network_view.specs.Marks.{is_at, leaves_by, was_passed};
+ghost use Rattle.network_view.specs.Marks.{is_at, is_in, leaves_by, was_passed};
 
 use isd_as::IsdAs;
 use policy_expr::WalkHop;
@@ -24,6 +24,13 @@ pub(crate) fn is_at(at: Option<Router>, ia: IsdAs, number: u8) -> bool
         Some(router) => router.ia == ia && router.number == number,
         None => false,
     }
+}
+
+/// Whether the packet is at a router of this AS.
+pub(crate) fn is_in(at: Option<Router>, ia: IsdAs) -> bool
+    ensures { result ≡ is_in at ia }
+{
+    at.is_some_and(|router| router.ia == ia)
 }
 
 /// Whether the hop leaves its AS by the interface of this end.

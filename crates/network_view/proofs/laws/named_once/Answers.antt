@@ -1,5 +1,5 @@
 -- By the rules of networks, and since addresses are read back from their texts.
-use Rattle.network_view.proofs.Names.{box_name-one}
+use Rattle.network_view.proofs.Addresses.{box_name-one}
 use Rattle.network_view.proofs.laws.named_once.Goals as goal
 
 pub returns-clause-names : goal.returns-clause-names

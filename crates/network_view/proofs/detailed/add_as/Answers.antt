@@ -1,9 +1,9 @@
 -- Part after part.
 use Rattle.std.proofs.Common.{rules}
 use Rattle.std.proofs.lemmas.List.{append_assoc}
-use Rattle.network_view.specs.Dot.{link_text}
-use Rattle.network_view.proofs.dot.add_link.Goals as goal
+use Rattle.network_view.specs.Detailed.{detailed_as}
+use Rattle.network_view.proofs.detailed.add_as.Goals as goal
 
 pub returns : goal.returns
-unfolding link_text
+unfolding detailed_as
 returns c = search (rules, append_assoc)

@@ -7,7 +7,7 @@ use Rattle.isd_as.specs.Address.{canonical}
 use Rattle.isd_as.specs.Reading.{address_at}
 use Rattle.isd_as.proofs.Canonical.{Spells-canonical}
 use Rattle.isd_as.proofs.Spelled.{address_at-Spells}
-use Rattle.network_view.specs.Dot.{box_name}
+use Rattle.network_view.specs.Names.{box_name}
 
 abbrev the_value : Result ℕ AddrFault → ℕ
 the_value (Ok n) = n

@@ -1,9 +1,9 @@
--- The boxes of the front are added.
+-- The ASes of the front are added.
 use Rattle.std.proofs.Common.{◌≡◌, ◌++◌, take}
 use Rattle.std.specs.Prelude.{flat_map}
 use Rattle.std.specs.String.{string_bytes}
 use Rattle.network_view.specs.Dot.{as_text}
-use Rattle.network_view.proofs.dot.add_boxes.Given as goal
+use Rattle.network_view.proofs.dot.add_ases.Given as goal
 
 abbrev pub invariant-loop-one : goal.invariant-loop-one
-invariant-loop-one l = string_bytes l.text ≡ string_bytes l.initial.text ++ flat_map (as_text l.at) (take l.one-index l.ases)
+invariant-loop-one l = string_bytes l.text ≡ string_bytes l.initial.text ++ flat_map (as_text l.detailed l.at) (take l.one-index l.ases)
