@@ -18,4 +18,4 @@ mod names;
 mod overview;
 
 pub use dot::{MAX_DETAILED, network_dot};
-pub use marks::Router;
+pub use marks::{Router, was_passed};

@@ -40,8 +40,9 @@ fn leaves_by(end: &End, hop: &WalkHop) -> bool
     end.ia == hop.ia && end.number == hop.egress
 }
 
-/// Whether a packet that has passed these hops has passed the link.
-pub(crate) fn was_passed(passed: &[WalkHop], link: &Link) -> bool
+/// Whether a packet that has passed these hops has passed the link: it left an AS by one of the
+/// link's ends. It takes the time of the hops.
+pub fn was_passed(passed: &[WalkHop], link: &Link) -> bool
     ensures { result ≡ was_passed passed.now link.now }
 {
     passed

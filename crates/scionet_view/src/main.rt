@@ -1,5 +1,6 @@
 //! `scionet_view` shows a packet as a router sees it, field by field and check by check; a network
-//! as a picture; the path of a packet in it; and the events by which a topology is beaconed.
+//! as a picture; the path of a packet in it; the paths between its ASes and the links that they
+//! need; and the events by which a topology is beaconed.
 //!
 //! The packet, the lines of a network, the faults and the exit status are those of `scionet`. The
 //! status is 0 if something was shown, 2 if the words are refused or ask for help, and 1 after any
@@ -11,6 +12,8 @@ mod beacons;
 mod network;
 mod network_after;
 mod path;
+mod report;
+mod report_words;
 mod words;
 
 use answer::answer_path;
@@ -19,6 +22,7 @@ use commands::{CommandFault, Status, WordsFault, end};
 use network::network_picture;
 use packet_view::packet_lines;
 use path::packet_path;
+use report::network_report;
 use std::alloc::Global;
 use std::env;
 use std::process::ExitCode;
@@ -61,6 +65,7 @@ fn view_text<S: Source>(
         View::Packet(command) => packet_text(alloc, command, source),
         View::Network(subject) => Ok(network_picture(alloc, source, *subject)?),
         View::Beacons(options) => beacons(alloc, source, options),
+        View::Report(words) => Ok(network_report(alloc, source, words)?),
         View::Path(Subject::Packet(number)) => Ok(packet_path(alloc, source, *number)?),
         View::Path(Subject::Answer { answer, path }) => {
             Ok(answer_path(alloc, source, *answer, *path)?)

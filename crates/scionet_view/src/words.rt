@@ -1,5 +1,6 @@
 //! The words of the command line.
 
+use crate::report_words::{ReportWords, report_command, report_in};
 use beacon_lines::{BeaconingOptions, MAX_PER_PAIR};
 use clap::builder::ValueParser;
 use clap::{Arg, ArgGroup, ArgMatches, Command};
@@ -99,6 +100,8 @@ pub(crate) enum View {
     Network(Option<Subject>),
     /// `path`: the path of a packet of that network, or of an answer.
     Path(Subject),
+    /// `report`: the paths of that network.
+    Report(ReportWords),
     /// `beacons`: a complete beaconing of the topology on standard input.
     Beacons(BeaconingOptions),
 }
@@ -191,12 +194,13 @@ fn beacons_command<'a>(alloc: Global) -> Result<Command<'a>, AllocError> {
 
 /// The commands of the program.
 fn commands<'a>(alloc: Global) -> Result<Vec<Command<'a>>, AllocError> {
-    let mut commands = Vec::with_capacity(alloc, 4)?;
+    let mut commands = Vec::with_capacity(alloc, 5)?;
     commands.push_reserved(packet_command(alloc)?);
     let about = "Draws the network that the lines on standard input lead to";
     commands.push_reserved(network_command(alloc, "network", about, NETWORK_HELP, false)?);
     let about = "Shows the path of a packet of that network or of an answer, field by field";
     commands.push_reserved(network_command(alloc, "path", about, PATH_HELP, true)?);
+    commands.push_reserved(report_command(alloc)?);
     commands.push_reserved(beacons_command(alloc)?);
     Ok(commands)
 }
@@ -249,7 +253,7 @@ fn beacons(matches: &ArgMatches<'_>) -> Option<View> {
 }
 
 /// The view of the matches, if there is one.
-fn view_in(alloc: Global, matches: &ArgMatches<'_>) -> Result<Option<View>, AllocError> {
+fn view_in(alloc: Global, matches: &ArgMatches<'_>) -> Result<Option<View>, WordsFault> {
     let Some((name, given)) = matches.subcommand() else {
         return Ok(None);
     };
@@ -258,6 +262,9 @@ fn view_in(alloc: Global, matches: &ArgMatches<'_>) -> Result<Option<View>, Allo
     }
     if name == "path" {
         return Ok(path(given));
+    }
+    if name == "report" {
+        return Ok(report_in(alloc, given)?.map(View::Report));
     }
     if name == "beacons" {
         return Ok(beacons(given));
@@ -272,7 +279,8 @@ fn view_in(alloc: Global, matches: &ArgMatches<'_>) -> Result<Option<View>, Allo
 ///
 /// [`WordsFault::Usage`] with the text of `clap`, if it refuses the words or they ask for help. The
 /// same fault with the text `scionet_view: usage`, if the words give no turn or a number can't be
-/// read. [`WordsFault::Memory`] if memory runs out.
+/// read, and with a refusal's number, name and sentence, if an address or a policy of `report` is
+/// refused. [`WordsFault::Memory`] if memory runs out.
 pub(crate) fn read_view<'a>(alloc: Global, words: &'a [&'a str]) -> Result<View, WordsFault> {
     let matches = match program(alloc)?.try_get_matches_from(words) {
         Ok(matches) => matches,

@@ -1,0 +1,5 @@
+pub mod Opening
+pub mod Marking
+pub mod Needing
+pub mod Adding
+pub mod Ranking

@@ -1,0 +1,6 @@
+pub mod Paths
+pub mod Pair
+pub mod Line
+pub mod Summary
+pub mod Report
+pub mod inner

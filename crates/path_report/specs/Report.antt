@@ -1,0 +1,51 @@
+-- The report of a network.
+use Rattle.std.specs.Prelude.{◌≡◌, ℕ, ◌==◌, ◌&&◌, not, if◌then◌else◌, Bool, true, List, [], ◌∷◌, ◌++◌, map, flat_map, take, All, Option, Some, None}
+use Rattle.scion_topology.specs.declared.network.AsEntry.{AsEntry}
+use Rattle.policy_expr.specs.Policy.{Rules}
+use Rattle.network_core.specs.Value.{NetValue}
+use Rattle.path_report.specs.declared.pair.AsPair.{AsPair}
+use Rattle.path_report.specs.declared.summary.RankedLink.{RankedLink}
+use Rattle.path_report.specs.Pair.{PairValue, IsPairReport}
+use Rattle.path_report.specs.Line.{pair_line}
+use Rattle.path_report.specs.Summary.{IsRanking, rank_line}
+
+-- what a report is about: the ASes in which the paths begin and end, if they are named, the policy
+-- that they keep, and the most paths that are looked for between two ASes
+pub record ReportOptionsValue : Type 0 where
+  pub from : Option ℕ
+  pub to : Option ℕ
+  pub rules : Rules
+  pub limit : ℕ
+
+-- whether this AS is the named one, or none is named
+abbrev pub is_chosen : Option ℕ → ℕ → Bool
+is_chosen None ia = true
+is_chosen (Some one) ia = one == ia
+
+-- whether the report is about this pair: two different ASes, as they are named
+abbrev pub is_wanted : ReportOptionsValue → AsPair → Bool
+is_wanted wanted pair = not (pair.from == pair.to)
+    && (is_chosen wanted.from pair.from && is_chosen wanted.to pair.to)
+
+-- this pair, if the report is about it
+abbrev pub if_wanted : ReportOptionsValue → AsPair → List AsPair
+if_wanted wanted pair = if is_wanted wanted pair then pair ∷ [] else []
+
+-- the pairs from one AS that the report is about, in the order of the list
+abbrev pub pairs_from : ReportOptionsValue → List AsEntry → ℕ → List AsPair
+pairs_from wanted ases ia =
+    flat_map (λ one. if_wanted wanted (record { from = ia; to = one.ia })) ases
+
+-- the pairs that the report is about, in the order of the list
+abbrev pub pairs_of : ReportOptionsValue → List AsEntry → List AsPair
+pairs_of wanted ases = flat_map (λ one. pairs_from wanted ases one.ia) ases
+
+-- the text has a line for each pair of the list, and then one for each of the first 10 links that
+-- most of them need
+pub record IsReport (net : NetValue) (wanted : ReportOptionsValue) (text : List ℕ) : Type 0 where
+  pub reports : List PairValue
+  pub pairs : map (λ report. report.pair) reports ≡ pairs_of wanted net.network.ases
+  pub each : All (IsPairReport net wanted.rules wanted.limit) reports
+  pub ranked : List RankedLink
+  pub ranking : IsRanking net.network.links reports ranked
+  pub says : text ≡ flat_map pair_line reports ++ flat_map rank_line (take 10 ranked)

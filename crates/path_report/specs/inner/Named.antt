@@ -1,0 +1,21 @@
+-- Links that are named, and the text of the links that most pairs need.
+use Rattle.std.specs.Prelude.{◌≡◌, ℕ, Bool, List, flat_map, take}
+use Rattle.std.specs.List.{list_any}
+use Rattle.scion_topology.specs.declared.network.Link.{Link}
+use Rattle.scion_topology.specs.Network.{is_end}
+use Rattle.path_report.specs.declared.summary.RankedLink.{RankedLink}
+use Rattle.path_report.specs.Pair.{PairValue}
+use Rattle.path_report.specs.Summary.{IsRanking, rank_line}
+
+-- whether both links have the same first end
+abbrev pub is_same : (one other : Link) → Bool
+is_same one other = is_end one.a other.a.ia other.a.number
+
+-- whether the link is one of these, by its first end
+abbrev pub is_among : List Link → Link → Bool
+is_among links link = list_any (λ one. is_same one link) links
+
+-- the text has the lines of the first 10 links in their order
+abbrev pub IsSummary : List Link → List PairValue → List ℕ → Type 0
+IsSummary links reports text = (ranked : List RankedLink) × (IsRanking links reports ranked
+    × (text ≡ flat_map rank_line (take 10 ranked)))

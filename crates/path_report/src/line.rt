@@ -1,0 +1,94 @@
+//! The line of a pair of ASes.
+
+ghost use Rattle.std.specs.Prelude.{◌≡◌, ◌++◌, codes, flat_map, OnOk};
+ghost use Rattle.std.specs.String.{string_bytes};
+ghost use Rattle.path_report.specs.Line.{best_text, link_name, more_text, needed_text, pair_line, paths_text};
+
+use crate::best::BestPath;
+use crate::pair::PairReport;
+use scion_topology::Link;
+use std::alloc::AllocError;
+use std::fmt::Write;
+
+/// What stands behind a number if there may be more.
+#[tactic(auto, unfolding(crate::specs::Line::more_text))]
+fn more_text(is_full: bool) -> &'static str
+    ensures { result.now ≡ more_text is_full }
+{
+    if is_full { "+" } else { "" }
+}
+
+/// Adds a link by its ends, as `ISD-AS#IF~ISD-AS#IF`.
+#[tactic(auto, unfolding(crate::specs::Line::link_name))]
+pub(crate) fn add_link(text: &mut String, link: &Link) -> Result<(), AllocError>
+    ensures { OnOk result (string_bytes text.new ≡ string_bytes text.old ++ link_name link.now) }
+{
+    let (a, b) = (link.a, link.b);
+    write!(text, "{}#{}~{}#{}", a.ia, a.number, b.ia, b.number)
+}
+
+/// Adds what is said of the best path, and how many pairs of paths share no link.
+#[tactic(auto, unfolding(crate::specs::Line::best_text))]
+fn add_best(
+    text: &mut String,
+    best: BestPath,
+    apart: usize,
+    is_full: bool,
+) -> Result<(), AllocError>
+    ensures { OnOk result
+        (string_bytes text.new ≡ string_bytes text.old ++ best_text best apart is_full) }
+{
+    let (hops, last, more) = (best.hops, best.last, more_text(is_full));
+    write!(text, " hops {hops} until {last} disjoint {apart}{more}")
+}
+
+/// Adds links, with a space before each.
+fn add_links(text: &mut String, links: &[Link]) -> Result<(), AllocError>
+    ensures { OnOk result (string_bytes text.new
+        ≡ string_bytes text.old ++ flat_map (λ link. codes " " ++ link_name link) links.now) }
+{
+    for link in links {
+        text.push_str(" ")?;
+        add_link(text, link)?;
+    }
+    Ok(())
+}
+
+/// Adds the links that the paths need, with their number.
+#[tactic(auto, unfolding(crate::specs::Line::needed_text))]
+fn add_needed(text: &mut String, is_full: bool, needed: &[Link]) -> Result<(), AllocError>
+    ensures { OnOk result
+        (string_bytes text.new ≡ string_bytes text.old ++ needed_text is_full needed.now) }
+{
+    if is_full {
+        return text.push_str(" needs unknown");
+    }
+    let count = needed.len();
+    write!(text, " needs {count}")?;
+    add_links(text, needed)
+}
+
+/// Adds what is said of the paths, if there are some.
+fn add_paths(text: &mut String, report: &PairReport) -> Result<(), AllocError>
+    ensures { OnOk result (string_bytes text.new
+        ≡ string_bytes text.old ++ paths_text report.now.best report.now) }
+{
+    let Some(best) = report.best else {
+        return Ok(());
+    };
+    add_best(text, best, report.apart, report.is_full)?;
+    add_needed(text, report.is_full, &report.needed)
+}
+
+/// Adds the line of a pair.
+#[tactic(auto, unfolding(crate::specs::Line::pair_line))]
+pub(crate) fn add_line(text: &mut String, report: &PairReport) -> Result<(), AllocError>
+    ensures { OnOk result
+        (string_bytes text.new ≡ string_bytes text.old ++ pair_line report.now) }
+{
+    let (from, to, paths) = (report.pair.from, report.pair.to, report.paths);
+    let more = more_text(report.is_full);
+    write!(text, "{from} {to} paths {paths}{more}")?;
+    add_paths(text, report)?;
+    text.push_str("\n")
+}

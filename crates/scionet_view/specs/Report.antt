@@ -1,0 +1,43 @@
+-- The output of `scionet_view report`: the report of the network after some lines.
+use Rattle.std.specs.Prelude.{◌≡◌, ℕ, ◌==◌, ◌&&◌, not, if◌then◌else◌, is_some, Bool, true, false, List, Option, Some, None}
+use Rattle.std.specs.Option.{MatchOption}
+use Rattle.scion_topology.specs.declared.fault.TopologyFault.TheVariants.{UnknownAs}
+use Rattle.scion_topology.specs.Network.{Network, as_named}
+use Rattle.combinator.specs.declared.fault.CombineFault.TheVariants.{SameAs}
+use Rattle.network_core.specs.declared.fault.EventFault.{EventFault}
+use Rattle.network_core.specs.declared.fault.EventFault.TheVariants.{Combination, Topology}
+use Rattle.network_core.specs.Value.{NetValue}
+use Rattle.path_report.specs.Report.{ReportOptionsValue, IsReport}
+use Rattle.scionet_view.specs.declared.report_words.ReportWords.{ReportWords}
+use Rattle.scionet_view.specs.Network.{fault_line}
+
+-- what the words want a report of
+abbrev pub wanted_by : ReportWords → ReportOptionsValue
+wanted_by words = record {
+  from = words.from;
+  to = words.to;
+  rules = words.policy;
+  limit = words.limit;
+}
+
+-- whether the network has this AS, if one is named
+abbrev pub has_named : Network → Option ℕ → Bool
+has_named network None = true
+has_named network (Some ia) = is_some (as_named network.ases ia)
+
+-- whether both are named, and are one AS
+abbrev pub are_one : (from to : Option ℕ) → Bool
+are_one (Some from) (Some to) = from == to
+are_one from to = false
+
+-- why there is no report, if there is none: an AS is named that the network does not have, or one
+-- AS is named twice
+abbrev pub report_fault : Network → (from to : Option ℕ) → Option EventFault
+report_fault network from to =
+    if not (has_named network from && has_named network to) then Some (Topology UnknownAs)
+    else if are_one from to then Some (Combination SameAs) else None
+
+-- the text is the report, or the line that says why there is none
+abbrev pub TellsReport : ReportOptionsValue → NetValue → List ℕ → Type 0
+TellsReport wanted net text = MatchOption (report_fault net.network wanted.from wanted.to)
+    (IsReport net wanted text) (λ fault. text ≡ fault_line fault)
