@@ -24,7 +24,7 @@ LAYERS = {
     " daemon_cache",
     "Packets and networks": "router_step forwarding network_core router_workers",
     "Texts in and out": "event_lines work_lines beacon_lines step_line packet_view network_view"
-    " commands",
+    " path_report line_faults commands",
     "Programs, and libraries for other languages": "scionet scionet_view tour bench scion_ffi"
     " scion_ffi_paths",
     "For tests": "refusing worked conformance_values conformance_network conformance_paths"

@@ -144,7 +144,11 @@ fn lines_of(alloc: Global, reports: &[PairReport]) -> Result<String, AllocError>
 /// link that the pair needs. The memory is that of the paths of one pair, and of the text.
 ///
 /// [`AllocError`] if memory runs out.
-pub fn path_report(alloc: Global, net: &Net, wanted: &ReportOptions<'_>) -> Result<String, AllocError>
+pub fn path_report(
+    alloc: Global,
+    net: &Net,
+    wanted: &ReportOptions<'_>,
+) -> Result<String, AllocError>
     ensures { IfOk result (λ text. IsReport net.now wanted.entry.now (string_bytes text)) }
 {
     let reports = pair_reports(alloc, net, wanted)?;
