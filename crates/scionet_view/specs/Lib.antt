@@ -1,3 +1,4 @@
+pub mod Explained
 pub mod Reached
 pub mod Network
 pub mod Path

@@ -1,6 +1,6 @@
 //! `scionet_view` shows a packet as a router sees it, field by field and check by check; a network
 //! as a picture; the path of a packet in it; the paths between its ASes and the links that they
-//! need; and the events by which a topology is beaconed.
+//! need; the events by which a topology is beaconed; and why lines are refused.
 //!
 //! The packet, the lines of a network, the faults and the exit status are those of `scionet`. The
 //! status is 0 if something was shown, 2 if the words are refused or ask for help, and 1 after any
@@ -9,6 +9,7 @@
 
 mod answer;
 mod beacons;
+mod explain;
 mod network;
 mod network_after;
 mod path;
@@ -19,6 +20,7 @@ mod words;
 use answer::answer_path;
 use beacons::beacons;
 use commands::{CommandFault, Status, WordsFault, end};
+use explain::explanation;
 use network::network_picture;
 use packet_view::packet_lines;
 use path::packet_path;
@@ -64,8 +66,9 @@ fn view_text<S: Source>(
     match view {
         View::Packet(command) => packet_text(alloc, command, source),
         View::Network(subject) => Ok(network_picture(alloc, source, *subject)?),
-        View::Beacons(options) => beacons(alloc, source, options),
         View::Report(words) => Ok(network_report(alloc, source, words)?),
+        View::Explain => explanation(alloc, source),
+        View::Beacons(options) => beacons(alloc, source, options),
         View::Path(Subject::Packet(number)) => Ok(packet_path(alloc, source, *number)?),
         View::Path(Subject::Answer { answer, path }) => {
             Ok(answer_path(alloc, source, *answer, *path)?)

@@ -23,7 +23,8 @@ Example: at second 100, a packet of a host leaves 1-ff00:0:111 over interface 2,
 /// The end of the long help of `network`.
 static NETWORK_HELP: &str = "\
 Standard input has the lines of 'scionet run'. The picture is that of the network after the last \
-of them, in the language DOT: 'dot -Tsvg' of graphviz draws it. With --packet the links that this \
+of them, in the language DOT: 'dot -Tsvg' of graphviz draws it. A network of more than 20 ASes is \
+drawn without routers and interfaces. With --packet the links that this \
 packet has passed are red, and so is the router at which it is or which refused it. With --answer \
 the links of a path of this answer are red. 'no 130 NoPacket' or 'no 133 NoAnswer' is printed if \
 there is no such packet or path.
@@ -77,6 +78,21 @@ Example: the segments of a network of one AS, of which there are none
     '{\"ases\":[{\"ia\":\"1-ff00:0:110\",\"core\":true,\"exp\":63,\"key\":\"6b\",\"routers\":1}],\
 \"links\":[]}' | scionet_view beacons | scionet run";
 
+/// The end of the long help of `explain`.
+static EXPLAIN_HELP: &str = "\
+Standard input has the lines of 'scionet run'. For each line that it refuses there is a line: its \
+number, the reply, the place in it, what stands there, and what is wanted or which rule is broken. \
+Lines with 'warning:' tell of members that nobody reads, and of requests for addresses that no AS \
+has. Nothing is said of lines that are right.
+
+Example: a key with an odd number of digits
+  printf '%s\\n' \\
+    '{\"ases\":[{\"ia\":\"1-ff00:0:110\",\"core\":true,\"exp\":63,\"key\":\"6\",\"routers\":1}],\
+\"links\":[]}' | scionet_view explain
+which prints
+  line 1: topology no 11 BadField: ases[0].key: found \"6\", wanted an even number of hexadecimal \
+digits for 1 to 64 bytes";
+
 /// What a view of a network is about. Its numbers are those of `scionet run`, from 0.
 #[derive(Clone, Copy)]
 pub(crate) enum Subject {
@@ -104,6 +120,8 @@ pub(crate) enum View {
     Report(ReportWords),
     /// `beacons`: a complete beaconing of the topology on standard input.
     Beacons(BeaconingOptions),
+    /// `explain`: what is wrong with the lines on standard input that are refused.
+    Explain,
 }
 
 /// The command `packet`.
@@ -192,9 +210,19 @@ fn beacons_command<'a>(alloc: Global) -> Result<Command<'a>, AllocError> {
         .args(vec![in alloc; per_pair, core_length, now]?)
 }
 
+/// The command `explain`.
+fn explain_command<'a>(alloc: Global) -> Result<Command<'a>, AllocError> {
+    let about = "Says what is wrong with the lines on standard input that are refused";
+    Ok(
+        Command::new(alloc, "explain")
+            .about(about)
+            .after_long_help(EXPLAIN_HELP),
+    )
+}
+
 /// The commands of the program.
 fn commands<'a>(alloc: Global) -> Result<Vec<Command<'a>>, AllocError> {
-    let mut commands = Vec::with_capacity(alloc, 5)?;
+    let mut commands = Vec::with_capacity(alloc, 6)?;
     commands.push_reserved(packet_command(alloc)?);
     let about = "Draws the network that the lines on standard input lead to";
     commands.push_reserved(network_command(alloc, "network", about, NETWORK_HELP, false)?);
@@ -202,6 +230,7 @@ fn commands<'a>(alloc: Global) -> Result<Vec<Command<'a>>, AllocError> {
     commands.push_reserved(network_command(alloc, "path", about, PATH_HELP, true)?);
     commands.push_reserved(report_command(alloc)?);
     commands.push_reserved(beacons_command(alloc)?);
+    commands.push_reserved(explain_command(alloc)?);
     Ok(commands)
 }
 
@@ -268,6 +297,9 @@ fn view_in(alloc: Global, matches: &ArgMatches<'_>) -> Result<Option<View>, Word
     }
     if name == "beacons" {
         return Ok(beacons(given));
+    }
+    if name == "explain" {
+        return Ok(Some(View::Explain));
     }
     match turn(alloc, given)? {
         Some(command) => Ok(Some(View::Packet(command))),

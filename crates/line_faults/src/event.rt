@@ -1,0 +1,39 @@
+//! Lines after the first that are refused.
+
+use crate::form::Form;
+use crate::found::{push_misfit, push_wanted};
+use crate::history::text_of;
+use crate::member::members_of;
+use crate::policy::push_bad_form;
+use serde_json::Value;
+use std::alloc::{AllocError, Global};
+
+/// The words of lines.
+static WORDS: &str = "one of tick, originate, extend, terminate, sweep, ask, send, back, turn, \
+lose, alter, cut, mend, rotate and show";
+
+/// Adds why a line has none of the forms of lines: the first of its members, in the order in which
+/// they are read, that is missing or has not its form.
+pub(crate) fn push_bad_line(
+    alloc: Global,
+    why: &mut String,
+    line: &Value,
+) -> Result<(), AllocError> {
+    if !line.is_object() {
+        why.push_str("the line")?;
+        return push_wanted(why, Some(line), &Form::Object);
+    }
+    let Some(word) = text_of(line, "do") else {
+        why.push_str("do")?;
+        return push_wanted(why, line.get("do"), &WORDS);
+    };
+    let Some(members) = members_of(word) else {
+        why.push_str("do")?;
+        return push_wanted(why, line.get("do"), &WORDS);
+    };
+    if word == "ask" && push_bad_form(alloc, why, line)? {
+        return Ok(());
+    }
+    push_misfit(why, "", line, members)?;
+    Ok(())
+}

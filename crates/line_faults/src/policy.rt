@@ -1,0 +1,212 @@
+//! Policies of a request: of which form they are not, or where they can't be read.
+
+use crate::form::Form;
+use crate::found::{push_front, push_misfit, push_place, push_value, push_wanted};
+use crate::history::text_of;
+use crate::member::OPTION;
+use crate::sentence::push_sentence;
+use crate::sequence::push_stop;
+use policy_expr::{Acl, AclText, MAX_ACL_ENTRIES, PolicyFault, Seq};
+use refusal::OrMemory;
+use separators::text::trim;
+use serde_json::Value;
+use std::alloc::{AllocError, Global};
+use std::fmt::Write;
+
+/// Adds the first part of a request's policy that has not its form. Returns whether there is one.
+pub(crate) fn push_bad_form(
+    alloc: Global,
+    why: &mut String,
+    request: &Value,
+) -> Result<bool, AllocError> {
+    let Some(options) = request.get("options") else {
+        return push_bad_texts(why, "", request);
+    };
+    for name in ["acl", "sequence"] {
+        if let Some(value) = request.get(name) {
+            why.push_str(name)?;
+            push_wanted(why, Some(value), &"none beside options")?;
+            return Ok(true);
+        }
+    }
+    let Value::Array(options) = options else {
+        why.push_str("options")?;
+        push_wanted(why, Some(options), &Form::List)?;
+        return Ok(true);
+    };
+    push_bad_option(alloc, why, options)
+}
+
+/// Adds the first option that has not its form. Returns whether there is one.
+fn push_bad_option(alloc: Global, why: &mut String, options: &[Value]) -> Result<bool, AllocError> {
+    for (number, option) in options.iter().enumerate() {
+        let place = format!(in alloc; "options[{number}]")?;
+        if push_misfit(why, &place, option, &OPTION[..1])? {
+            return Ok(true);
+        }
+        if push_bad_texts(why, &place, option)? {
+            return Ok(true);
+        }
+    }
+    Ok(false)
+}
+
+/// Adds the text of a policy that is none. Returns whether there is one.
+fn push_bad_texts(why: &mut String, place: &str, policy: &Value) -> Result<bool, AllocError> {
+    match policy.get("acl") {
+        None => {}
+        Some(Value::Array(entries)) => {
+            if push_no_text(why, place, entries)? {
+                return Ok(true);
+            }
+        }
+        Some(value) => {
+            push_place(why, place, "acl")?;
+            push_wanted(why, Some(value), &"a list of texts")?;
+            return Ok(true);
+        }
+    }
+    match policy.get("sequence") {
+        None | Some(Value::String(_)) => Ok(false),
+        Some(value) => {
+            push_place(why, place, "sequence")?;
+            push_wanted(why, Some(value), &Form::Text)?;
+            Ok(true)
+        }
+    }
+}
+
+/// Adds the first entry of a list that is no text. Returns whether there is one.
+fn push_no_text(why: &mut String, place: &str, entries: &[Value]) -> Result<bool, AllocError> {
+    for (number, entry) in entries.iter().enumerate() {
+        if !entry.is_string() {
+            push_place(why, place, "acl")?;
+            write!(why, "[{number}]")?;
+            push_wanted(why, Some(entry), &Form::Text)?;
+            return Ok(true);
+        }
+    }
+    Ok(false)
+}
+
+/// Adds where the first policy of a request that is refused can't be read, and the sentence of the
+/// refusal of this number.
+pub(crate) fn push_unread(
+    alloc: Global,
+    why: &mut String,
+    code: u16,
+    request: &Value,
+) -> Result<(), AllocError> {
+    match request.get("options") {
+        Some(Value::Array(options)) => push_unread_option(alloc, why, options)?,
+        _ => push_unread_policy(alloc, why, "", request)?,
+    };
+    why.push_str(": ")?;
+    push_sentence(why, code)
+}
+
+/// Adds where the first option that is refused can't be read. Returns whether there is one.
+fn push_unread_option(
+    alloc: Global,
+    why: &mut String,
+    options: &[Value],
+) -> Result<bool, AllocError> {
+    for (number, option) in options.iter().enumerate() {
+        let place = format!(in alloc; "options[{number}]")?;
+        if push_unread_policy(alloc, why, &place, option)? {
+            return Ok(true);
+        }
+    }
+    Ok(false)
+}
+
+/// Adds where a policy can't be read. Returns whether it can't.
+fn push_unread_policy(
+    alloc: Global,
+    why: &mut String,
+    place: &str,
+    policy: &Value,
+) -> Result<bool, AllocError> {
+    if let Some(Value::Array(entries)) = policy.get("acl") {
+        if push_unread_list(alloc, why, place, entries)? {
+            return Ok(true);
+        }
+    }
+    match text_of(policy, "sequence") {
+        Some(text) if !trim(text).is_empty() => push_unread_sequence(alloc, why, place, text),
+        _ => Ok(false),
+    }
+}
+
+/// Adds where a sequence can't be read. Returns whether it can't.
+fn push_unread_sequence(
+    alloc: Global,
+    why: &mut String,
+    place: &str,
+    text: &str,
+) -> Result<bool, AllocError> {
+    match Seq::parse(alloc, text) {
+        Ok(_) => Ok(false),
+        Err(OrMemory::Memory) => Err(AllocError),
+        Err(OrMemory::Refused(_)) => {
+            push_place(why, place, "sequence")?;
+            push_stop(alloc, why, text)?;
+            Ok(true)
+        }
+    }
+}
+
+/// Why an entry alone is no list: `NoDefault` if it has a predicate, and `None` if it has none.
+fn entry_fault(alloc: Global, entry: &Value) -> Result<Option<PolicyFault>, AllocError> {
+    let mut list = AclText::new(alloc);
+    list.push(alloc, entry.as_str().unwrap_or(""))?;
+    match Acl::parse(alloc, &list) {
+        Ok(_) => Ok(None),
+        Err(OrMemory::Memory) => Err(AllocError),
+        Err(OrMemory::Refused(fault)) => Ok(Some(fault)),
+    }
+}
+
+/// The place of the entry because of which a list can't be read, if there is one.
+fn unread_entry(alloc: Global, entries: &[Value]) -> Result<Option<usize>, AllocError> {
+    let mut bare = None;
+    let mut is_last_bare = false;
+    for (number, entry) in entries.iter().enumerate() {
+        if is_last_bare {
+            bare = bare.or(number.checked_sub(1));
+        }
+        let fault = entry_fault(alloc, entry)?;
+        if fault == Some(PolicyFault::BadPredicate) {
+            return Ok(Some(number));
+        }
+        is_last_bare = fault.is_none();
+    }
+    if is_last_bare {
+        Ok(bare)
+    } else {
+        Ok(entries.len().checked_sub(1))
+    }
+}
+
+/// Adds the entry because of which a list can't be read. Returns whether there is one.
+fn push_unread_list(
+    alloc: Global,
+    why: &mut String,
+    place: &str,
+    entries: &[Value],
+) -> Result<bool, AllocError> {
+    let number = unread_entry(alloc, entries)?;
+    let count = entries.len();
+    if number.is_none() && count > 0 && count <= MAX_ACL_ENTRIES {
+        return Ok(false);
+    }
+    push_place(why, place, "acl")?;
+    match number.and_then(|number| Some((number, entries.get(number)?))) {
+        Some((number, entry)) => {
+            write!(why, "[{number}]: found ")?;
+            push_value(why, entry)?;
+        }
+        None => write!(why, ": found {count} entries")?,
+    }
+    Ok(true)
+}

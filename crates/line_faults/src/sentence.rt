@@ -1,0 +1,115 @@
+//! The sentences of refusals, by their numbers.
+
+use beaconing::BeaconFault;
+use combinator::CombineFault;
+use network_core::EventFault;
+use path_server::StoreFault;
+use path_verifier::VerifyFault;
+use policy_expr::{Denied, OptionFault, PolicyFault};
+use refusal::NumberedFault;
+use scion_topology::TopologyFault;
+use std::alloc::AllocError;
+use std::fmt::Write;
+
+/// The refusals of beaconing.
+static BEACON: [BeaconFault; 7] = [
+    BeaconFault::TooLong,
+    BeaconFault::Loop,
+    BeaconFault::NotCore,
+    BeaconFault::NoInterface,
+    BeaconFault::LinkDown,
+    BeaconFault::WrongKind,
+    BeaconFault::NotHere,
+];
+
+/// The refusals of a topology.
+static TOPOLOGY: [TopologyFault; 9] = [
+    TopologyFault::NotJson,
+    TopologyFault::BadField,
+    TopologyFault::DuplicateAs,
+    TopologyFault::DuplicateIf,
+    TopologyFault::UnknownAs,
+    TopologyFault::BadKind,
+    TopologyFault::NoRouter,
+    TopologyFault::NoLink,
+    TopologyFault::TooMany,
+];
+
+/// The refusals of a path store.
+static STORE: [StoreFault; 2] = [StoreFault::Full, StoreFault::Expired];
+
+/// The refusals of a policy.
+static POLICY: [PolicyFault; 7] = [
+    PolicyFault::UnexpectedEnd,
+    PolicyFault::BadPredicate,
+    PolicyFault::Unbalanced,
+    PolicyFault::TooDeep,
+    PolicyFault::TooLarge,
+    PolicyFault::NoDefault,
+    PolicyFault::AfterDefault,
+];
+
+/// The refusal of policy options.
+static OPTION: [OptionFault; 1] = [OptionFault::OptionCount];
+
+/// The refusal of a request for paths.
+static COMBINATION: [CombineFault; 1] = [CombineFault::SameAs];
+
+/// The refusals of the verifier; which hop the policy denies makes no difference to the sentence.
+static PATH: [VerifyFault; 13] = [
+    VerifyFault::PieceCount,
+    VerifyFault::Range,
+    VerifyFault::Kinds,
+    VerifyFault::CutAtCore,
+    VerifyFault::NotJoined,
+    VerifyFault::Source,
+    VerifyFault::Destination,
+    VerifyFault::TooManyHops,
+    VerifyFault::Loop,
+    VerifyFault::Expired,
+    VerifyFault::HeaderDiffers,
+    VerifyFault::AclDenied(Denied { hop: 0, entry: 0 }),
+    VerifyFault::SequenceMismatch,
+];
+
+/// The refusals of an event that are its own.
+static EVENT: [EventFault; 10] = [
+    EventFault::NoPacket,
+    EventFault::NotInFlight,
+    EventFault::NoBeacon,
+    EventFault::NoAnswer,
+    EventFault::TimeBack,
+    EventFault::PayloadTooLong,
+    EventFault::BadOffset,
+    EventFault::BadLimit,
+    EventFault::TooMany,
+    EventFault::NotDelivered,
+];
+
+/// Adds the sentence of the fault of this number, if it is among them.
+fn push_among<F: NumberedFault>(
+    why: &mut String,
+    faults: &[F],
+    code: u16,
+) -> Result<(), AllocError> {
+    for fault in faults {
+        if fault.code() == code {
+            return write!(why, "{fault}");
+        }
+    }
+    Ok(())
+}
+
+/// Adds the sentence of the refusal of this number; nothing if no line is refused with it.
+pub(crate) fn push_sentence(why: &mut String, code: u16) -> Result<(), AllocError> {
+    match code {
+        10..=18 => push_among(why, &TOPOLOGY, code),
+        31..=44 => push_among(why, &BEACON, code),
+        50..=51 => push_among(why, &STORE, code),
+        60..=66 => push_among(why, &POLICY, code),
+        67 => push_among(why, &OPTION, code),
+        70..=82 => push_among(why, &PATH, code),
+        85 => push_among(why, &COMBINATION, code),
+        _ => push_among(why, &EVENT, code),
+    }
+}

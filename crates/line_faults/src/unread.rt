@@ -1,0 +1,115 @@
+//! What is strange in a line and no fault: members that nobody reads, and addresses that no AS has.
+
+use crate::found::{push_front, push_place};
+use crate::history::word_of;
+use crate::member::{AS, END, EVENT, LINK, Member, OPTION, POLICY, TOPOLOGY, is_among, members_of};
+use crate::refused::{Known, address_at};
+use crate::topology::values_of;
+use serde_json::Value;
+use std::alloc::{AllocError, Global};
+
+/// Adds a warning for each member of an object at a place that is in neither list.
+fn add_unread(
+    alloc: Global,
+    warnings: &mut Vec<String>,
+    place: &str,
+    object: &Value,
+    members: &[Member],
+    others: &[Member],
+) -> Result<(), AllocError> {
+    let Value::Object(found) = object else {
+        return Ok(());
+    };
+    for (name, _) in found.iter() {
+        if !is_among(name, members) && !is_among(name, others) {
+            warnings.push(unread(alloc, place, name)?)?;
+        }
+    }
+    Ok(())
+}
+
+/// The warning about a member that nobody reads.
+fn unread(alloc: Global, place: &str, name: &str) -> Result<String, AllocError> {
+    let mut warning = String::new(alloc);
+    push_place(&mut warning, place, "")?;
+    push_front(&mut warning, name)?;
+    warning.push_str(": no member of this name is read here")?;
+    Ok(warning)
+}
+
+/// Adds a warning for each member of a topology that nobody reads.
+pub(crate) fn add_unread_of_topology(
+    alloc: Global,
+    warnings: &mut Vec<String>,
+    topology: &Value,
+) -> Result<(), AllocError> {
+    add_unread(alloc, warnings, "", topology, &TOPOLOGY, &[])?;
+    for (number, one) in values_of(topology, "ases").iter().enumerate() {
+        let place = format!(in alloc; "ases[{number}]")?;
+        add_unread(alloc, warnings, &place, one, &AS, &[])?;
+    }
+    for (number, link) in values_of(topology, "links").iter().enumerate() {
+        let place = format!(in alloc; "links[{number}]")?;
+        add_unread(alloc, warnings, &place, link, &LINK, &[])?;
+        add_unread_of_end(alloc, warnings, &place, link, "a")?;
+        add_unread_of_end(alloc, warnings, &place, link, "b")?;
+    }
+    Ok(())
+}
+
+/// Adds a warning for each member of an end of a link that nobody reads.
+fn add_unread_of_end(
+    alloc: Global,
+    warnings: &mut Vec<String>,
+    place: &str,
+    link: &Value,
+    name: &str,
+) -> Result<(), AllocError> {
+    let Some(end) = link.get(name) else {
+        return Ok(());
+    };
+    let place = format!(in alloc; "{place}.{name}")?;
+    add_unread(alloc, warnings, &place, end, &END, &[])
+}
+
+/// Adds a warning for each member of a line after the first that nobody reads, and for each address
+/// of a request that no AS has.
+pub(crate) fn add_unread_of_event(
+    alloc: Global,
+    warnings: &mut Vec<String>,
+    known: &Known<'_>,
+    event: &Value,
+) -> Result<(), AllocError> {
+    let word = word_of(event);
+    let Some(members) = members_of(word) else {
+        return Ok(());
+    };
+    if word != "ask" {
+        return add_unread(alloc, warnings, "", event, members, &EVENT);
+    }
+    add_unread(alloc, warnings, "", event, members, &POLICY)?;
+    for (number, option) in values_of(event, "options").iter().enumerate() {
+        let place = format!(in alloc; "options[{number}]")?;
+        add_unread(alloc, warnings, &place, option, &OPTION, &[])?;
+    }
+    add_unlisted(alloc, warnings, known, event, "src")?;
+    add_unlisted(alloc, warnings, known, event, "dst")
+}
+
+/// Adds a warning if no AS has the address of this name in a request.
+fn add_unlisted(
+    alloc: Global,
+    warnings: &mut Vec<String>,
+    known: &Known<'_>,
+    request: &Value,
+    name: &str,
+) -> Result<(), AllocError> {
+    let (Some(net), Some(ia)) = (known.net, address_at(request, name)) else {
+        return Ok(());
+    };
+    if net.topology().as_info(ia).is_ok() {
+        return Ok(());
+    }
+    warnings.push(format!(in alloc; "{name}: found {ia}: the topology has no such AS")?)?;
+    Ok(())
+}
