@@ -131,6 +131,9 @@ reported net rules limit pair paths report answer tells =
           (needed_exactly links (question_between net rules report.pair) limit paths link own differ
           (subst (λ n. 0 < n) tells.count some))
           );
+      order = λ short some. tells.needed ∙ ap (λ b. needed_links links b (open_walks links paths)) short
+          ∙ some_needed links (open_walks links paths)
+          (let many = length_open links paths in let count = tells.count in omega (arith, some, many, count));
       unknown = λ full. tells.needed ∙ ap (λ b. needed_links links b (open_walks links paths)) full;
       none = λ none. tells.needed
           ∙ none_needed links report.is_full (open_walks links paths)

@@ -1,5 +1,6 @@
 -- What is said of the paths between two ASes.
-use Rattle.std.specs.Prelude.{◌≡◌, ◌↔◌, ℕ, ◌<◌, ◌/◌, ◌==◌, Bool, true, false, List, [], ◌∷◌, length, Contains, Option, Some, None}
+use Rattle.std.specs.Prelude.{◌≡◌, ◌↔◌, ℕ, ◌<◌, ◌/◌, ◌==◌, Bool, true, false, List, [], ◌∷◌, length, filter, Contains, Option, Some, None}
+use Rattle.std.specs.List.{list_all}
 use Rattle.scion_topology.specs.declared.network.Link.{Link}
 use Rattle.path_server.specs.Lookup.{segments_for}
 use Rattle.policy_expr.specs.Policy.{Rules}
@@ -46,8 +47,8 @@ IsNeeded links question link = (path : PathValue) → IsCandidate question path
     → is_open links (walk_of path.pieces) ≡ true → crosses (walk_of path.pieces) link ≡ true
 
 -- what is said of a pair is true of the answer to its question. If the answer is not full and a
--- path is open, exactly those links are named that each open path needs, of an answer or not; else
--- none is named
+-- path is open, exactly those links are named, in the network's order, that each open path needs,
+-- of an answer or not; else none is named
 pub record IsPairReport (net : NetValue) (rules : Rules) (limit : ℕ) (report : PairValue)
     : Type 0 where
   pub paths : List PathValue
@@ -59,5 +60,8 @@ pub record IsPairReport (net : NetValue) (rules : Rules) (limit : ℕ) (report :
   pub links : report.is_full ≡ false → 0 < report.paths → (link : Link)
       → Contains report.needed link ↔ (Contains net.network.links link
       × IsNeeded net.network.links (question_between net rules report.pair) link)
+  pub order : report.is_full ≡ false → 0 < report.paths → report.needed ≡ filter
+      (λ link. list_all (λ walk. crosses walk link) (open_walks net.network.links paths))
+      net.network.links
   pub unknown : report.is_full ≡ true → report.needed ≡ []
   pub none : report.paths ≡ 0 → report.needed ≡ []
