@@ -4,10 +4,11 @@ or to a heading or an anchor that its file lacks. Links to other hosts are not f
 
 It prints how many links there are and how many are dead, and ends with 1 where one is."""
 import re
-import subprocess
 import sys
 from pathlib import Path
 from urllib.parse import unquote
+
+from pages import files
 
 BLOCK = re.compile(r"^( *)(```+|~~~+).*?^ *\2`*~*$", re.M | re.S)
 SPAN = re.compile(r"(`+)(?!`).*?(?<!`)\1(?!`)")
@@ -60,10 +61,8 @@ def is_dead(source, target, known):
 
 
 def main():
-    listed = ["git", "ls-files", "-co", "--exclude-standard", "*.md"]
-    names = subprocess.run(listed, capture_output=True, text=True, check=True).stdout.split("\n")
     count, dead, known = 0, 0, {}
-    for source in (Path(it) for it in names if it and Path(it).exists()):
+    for source in files("*.md"):
         for target in links(source.read_text()):
             if ELSEWHERE.match(target):
                 continue

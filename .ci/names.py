@@ -5,9 +5,9 @@ definitions, types and clauses have. Pages that are printed from the source alon
 
 It prints these names, and how many were looked up, and ends with 1 where one is gone."""
 import re
-import subprocess
 import sys
-from pathlib import Path
+
+from pages import files
 
 PRINTED = {f"docs/{name}.md" for name in "book calls definitions".split()}
 BLOCK = re.compile(r"^ *(```+).*?^ *\1$", re.M | re.S)
@@ -24,19 +24,17 @@ def known(names):
     """The words of all files but pages, pictures, edits and scripts of the gate, and of all paths."""
     words = {*ELSEWHERE.split()}
     for name in names:
-        words.update(re.findall(r"\w+", name))
-        if not name.endswith((".md", ".png", ".svg", ".edit")) and not name.startswith(".ci/"):
-            words.update(re.findall(r"\w+", Path(name).read_text(errors="replace")))
+        words.update(re.findall(r"\w+", str(name)))
+        if name.suffix not in (".md", ".png", ".svg", ".edit") and name.parts[0] != ".ci":
+            words.update(re.findall(r"\w+", name.read_text(errors="replace")))
     return words
 
 
 def main():
-    listed = ["git", "ls-files", "-co", "--exclude-standard"]
-    names = subprocess.run(listed, capture_output=True, text=True, check=True).stdout.split("\n")
-    names = [it for it in names if it and Path(it).is_file()]
+    names = files()
     words, count, gone = known(names), 0, 0
-    for page in (it for it in names if it.endswith(".md") and it not in PRINTED):
-        spans = SPAN.findall(BLOCK.sub("", Path(page).read_text()))
+    for page in (it for it in names if it.suffix == ".md" and str(it) not in PRINTED):
+        spans = SPAN.findall(BLOCK.sub("", page.read_text()))
         for name in NAME.findall("\n".join(spans)):
             count += 1
             if name not in words:

@@ -1,4 +1,5 @@
 """What the scripts that print documents share."""
+import subprocess
 import sys
 import textwrap
 from pathlib import Path
@@ -8,6 +9,13 @@ def filled(text, sign=""):
     """A paragraph or, behind a sign, an item of a list, in lines of at most 100 columns."""
     indents = {"initial_indent": sign, "subsequent_indent": " " * len(sign)}
     return textwrap.fill(text, 100, break_long_words=False, break_on_hyphens=False, **indents)
+
+
+def files(*patterns):
+    """The files that git tracks or would track, of these patterns if there are some."""
+    words = ["git", "ls-files", "-co", "--exclude-standard", *patterns]
+    listed = subprocess.run(words, capture_output=True, text=True, check=True).stdout
+    return [it for it in map(Path, listed.splitlines()) if it.is_file()]
 
 
 def settle(text, path):
