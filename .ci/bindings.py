@@ -6,7 +6,7 @@ the static libraries over what `rt ci` has proved, since that leaves none, and r
 by each compiler that is there (the kit's clang is), in C++, in Python, as a package too, in Rust
 and in JavaScript. Their answers are held to what the rules of routers and of paths say.
 `answers.py` compares random requests for paths with a search that tries every list of pieces. The
-commands by which docs/library.md links are run as they stand.
+commands by which bindings/README.md links are run as they stand.
 
 What is not on the machine is told, and left out; but without a compiler for C nothing would be
 tested, so that the status is 1 then, unless the word is `--without-compiler`. It is 1 too where an
@@ -33,7 +33,8 @@ STRICT = ("-O2", "-Wall", "-Wextra", "-Wpedantic", "-Werror")
 CXX = "c++"
 NODE = ["node", "--experimental-wasm-memory64"]
 
-# A block of commands in docs/library.md that is run, with what has to be on the machine for it.
+# The page for hosts. A block of its commands is run, with what has to be on the machine for it.
+PAGE = "bindings/README.md"
 BLOCK = re.compile(r"^<!-- run: ([^\n]*) -->\n```\n(.*?)^```$", re.M | re.S)
 CHILD = re.compile(r"^## A whole network$.*?^```\n(import .*?)^```$", re.M | re.S)
 
@@ -124,15 +125,15 @@ class Gate:
             self.run("node", [*NODE, tour, module])
 
     def documented(self):
-        """The commands of docs/library.md that link, and its program that runs a network."""
-        with open("docs/library.md", encoding="utf-8") as it:
+        """The commands of the page that link, and its program that runs a network."""
+        with open(PAGE, encoding="utf-8") as it:
             text = it.read()
         blocks = BLOCK.findall(text)
         if not blocks or not CHILD.search(text):
-            sys.exit("bindings: docs/library.md has no commands that could be run")
+            sys.exit(f"bindings: {PAGE} has no commands that could be run")
         for tools, script in blocks:
             if self.has(*tools.split()):
-                self.run("docs/library.md", ["sh", "-e", "-c", script])
+                self.run(PAGE, ["sh", "-e", "-c", script])
         if os.path.exists("crates/scionet/out/scionet"):
             self.child(CHILD.search(text)[1])
         else:
@@ -149,7 +150,7 @@ class Gate:
         script = program.replace("examples/row.txt", path)
         given = subprocess.run([sys.executable, "-c", script], stdout=subprocess.PIPE, timeout=60)
         is_same = given.stdout == wanted
-        print(f"bindings: the child of docs/library.md: {'same' if is_same else 'other'} replies")
+        print(f"bindings: the child of {PAGE}: {'same' if is_same else 'other'} replies")
         self.is_well = self.is_well and is_same
 
 

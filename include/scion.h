@@ -149,7 +149,7 @@ typedef struct {
 #define SCION_MAX_REQUEST 4194304
 
 /* Answers a request for paths, a JSON object, with another object, which it writes to the room. The
- * room stays as it was if the status is not SCION_WRITTEN. docs/library.md has both forms. */
+ * room stays as it was if the status is not SCION_WRITTEN. bindings/README.md has both forms. */
 scion_text scion_paths(const uint8_t *request, size_t request_len, uint8_t *room, size_t room_len);
 
 /* Answers in the same way whether the path in the request may be sent. */

@@ -8,7 +8,7 @@
 // Calls copy what they are given into a fixed part of the module's memory, and clear it before they
 // return. They refuse what is no Uint8Array by TypeError, and by RangeError a number that does not
 // fit its place, or bytes for which that part has no room. The library is proved, and this module
-// is not: docs/library.md says what a host has to keep.
+// is not: bindings/README.md says what a host has to keep.
 
 export const VERSION = "0.1.0";
 

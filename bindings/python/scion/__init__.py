@@ -4,8 +4,8 @@
 `Library()` loads the shared object of the package, and `Library(path)` one that `bindings/build.py`
 has linked. Their calls copy what they are given, so that another thread may change it. They refuse
 what is no bytes or no whole number by TypeError, and a number that has too many bits for its place
-by ValueError. The library is proved, and this module is not: docs/library.md says what a host has
-to keep.
+by ValueError. The library is proved, and this module is not: bindings/README.md says what a host
+has to keep.
 """
 import ctypes
 import enum
@@ -316,13 +316,13 @@ class Library:
         return bytes(mac)
 
     def paths(self, **request: Any) -> Any:
-        """The answer to a request for paths (docs/library.md), as an object of JSON.
+        """The answer to a request for paths (bindings/README.md), as an object of JSON.
 
         The shared object has to be linked from both libraries."""
         return self._asked("scion_paths", request)
 
     def verify(self, **request: Any) -> Any:
-        """Whether the path of a request may be sent (docs/library.md), as an object of JSON."""
+        """Whether the path of a request may be sent (bindings/README.md), as an object of JSON."""
         return self._asked("scion_verify", request)
 
     def _asked(self, name: str, request: Any) -> Any:

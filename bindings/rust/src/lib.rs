@@ -26,7 +26,7 @@
 //!
 //! The library is proved; this crate is not. Its calls are safe since a slice keeps each duty of a
 //! caller: it is not null, has as many initialized items as its length says, and no other borrower
-//! if it may be written. `docs/library.md` says what is proved, and what nobody promises.
+//! if it may be written. `bindings/README.md` says what is proved, and what nobody promises.
 
 pub mod raw;
 mod refusal;

@@ -20,8 +20,8 @@ impl Error for OutOfMemory {}
 /// The largest number of bytes in a request.
 pub const MAX_REQUEST_LEN: usize = 4_194_304;
 
-/// The answer to a request for paths, both objects of JSON (`docs/library.md`). A request that is
-/// refused is answered by its code and name.
+/// The answer to a request for paths, both objects of JSON (`bindings/README.md`). A request that
+/// is refused is answered by its code and name.
 ///
 /// # Errors
 /// Memory ran out.
