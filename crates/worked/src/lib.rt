@@ -47,23 +47,6 @@ pub fn pair() -> &'static str {
     )
 }
 
-/// A core AS, its child with two routers, and two children of the child. The child's second router
-/// owns the link to the last AS.
-pub fn fork() -> &'static str {
-    concat!(
-        r#"{"ases":[{"ia":"1-ff00:0:110","core":true,"exp":63,"key":"6b","routers":1},"#,
-        r#"{"ia":"1-ff00:0:111","core":false,"exp":63,"key":"6b","routers":2},"#,
-        r#"{"ia":"1-ff00:0:112","core":false,"exp":63,"key":"6b","routers":1},"#,
-        r#"{"ia":"1-ff00:0:113","core":false,"exp":63,"key":"6b","routers":1}],"#,
-        r#""links":[{"kind":"child","a":{"ia":"1-ff00:0:110","if":1,"router":0},"#,
-        r#""b":{"ia":"1-ff00:0:111","if":1,"router":0}},"#,
-        r#"{"kind":"child","a":{"ia":"1-ff00:0:111","if":2,"router":0},"#,
-        r#""b":{"ia":"1-ff00:0:112","if":1,"router":0}},"#,
-        r#"{"kind":"child","a":{"ia":"1-ff00:0:111","if":3,"router":1},"#,
-        r#""b":{"ia":"1-ff00:0:113","if":1,"router":0}}]}"#,
-    )
-}
-
 /// The address with this ISD, and an AS number of three groups whose first is ff00 and last is
 /// `last`.
 pub fn at(isd: u16, last: u16) -> IsdAs
