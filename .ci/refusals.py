@@ -9,6 +9,7 @@ import sys
 from pathlib import Path
 
 from pages import filled, settle
+from surface import Surface
 
 FRONT = """# All refusals
 
@@ -47,63 +48,46 @@ Calls: `scion_step`, `scion_step_all`.
 256 interfaces. |
 """
 
-# The type of each crate's refusals, which calls give them, and in answer to which lines.
+# The types of refusals by crate; the calls that pass them on by their numbers, and the lines that
+# are answered by them, which no signature says.
 TYPES = {
-    "isd_as": [("AddrFault", "`IsdAs::parse`, `Isd::parse`, `AsNumber::parse`", "")],
+    "isd_as": [("AddrFault", "", "")],
     "path_header": [
         (
             "HeaderFault",
-            "`decode`, `encode`, `Header::new`, `Header::of_lists`, `HeaderMut::new`,"
-            " `HeaderMut::check`, `scion_verify`, `scion_header_check`, `scion_header_reverse`",
+            "scion_verify scion_header_check scion_header_reverse",
             "`turn`, and `scionet step`, behind 90",
         )
     ],
     "scion_topology": [
         (
             "TopologyFault",
-            "`Topology::from_json` and the questions and changes of a topology, `RouterView::new`,"
-            " `Key::new`, `Keys::new`, `Flight::new`",
+            "",
             "the first, behind `topology`; `send`, `back`, `cut`, `mend`, `rotate`",
         )
     ],
-    "router_step": [("Refusal", "`step`, `read_header`", "`turn`, `show`, `scionet step`, `work`")],
-    "path_segment": [
-        (
-            "SegmentFault",
-            "`Segment::new`, `Segment::from_json`, `Beacon::first`, `Beacon::with_entry`,"
-            " `Beacon::finish`, `scion_paths`, `scion_verify`",
-            "",
-        )
-    ],
-    "path_server": [("StoreFault", "`PathStore::register`", "`terminate`")],
-    "segment_board": [("BoardFault", "`BoardWriter::reader`, `BoardReader::lookup`", "")],
+    "router_step": [("Refusal", "scion_step", "`turn`, `show`, `scionet step`, `work`")],
+    "path_segment": [("SegmentFault", "scion_paths scion_verify", "")],
+    "path_server": [("StoreFault", "", "`terminate`")],
+    "segment_board": [("BoardFault", "", "")],
     "policy_expr": [
         (
             "PolicyFault",
-            "`HopPred::parse`, `Seq::parse`, `Acl::parse`, `Policy::parse`,"
-            " `PolicyOption::parse_all`, `OptionText::check_all`, `Daemon::ask`, `scion_paths`,"
-            " `scion_verify`",
+            "PolicyOption::parse_all OptionText::check_all Daemon::ask scion_paths scion_verify",
             "`ask`",
         ),
-        (
-            "OptionFault",
-            "`PolicyOption::parse_all`, `OptionText::check_all`, `Daemon::ask`, `scion_paths`",
-            "`ask`",
-        ),
+        ("OptionFault", "Daemon::ask scion_paths", "`ask`"),
     ],
-    "path_verifier": [
-        ("VerifyFault", "`verify`, `accept`, `Pieces::push`, `scion_verify`", "`send`, `back`")
-    ],
-    "combinator": [("CombineFault", "`combine`, `scion_paths`", "`ask`")],
-    "daemon_cache": [("AskFault", "`Daemon::ask`", "")],
-    "beaconing": [
-        ("BeaconFault", "`originate`, `extend`, `terminate`", "`originate`, `extend`, `terminate`")
-    ],
-    "network_core": [("EventFault", "`Net::step`", "each of the events")],
-    "router_workers": [("RunFault", "`run_workers`", "")],
-    "scion_ffi_paths": [("RequestFault", "`scion_paths`, `scion_verify`", "")],
+    "path_verifier": [("VerifyFault", "scion_verify", "`send`, `back`")],
+    "combinator": [("CombineFault", "scion_paths", "`ask`")],
+    "daemon_cache": [("AskFault", "", "")],
+    "beaconing": [("BeaconFault", "", "`originate`, `extend`, `terminate`")],
+    "network_core": [("EventFault", "Net::step", "each of the events")],
+    "router_workers": [("RunFault", "", "")],
+    "scion_ffi_paths": [("RequestFault", "scion_paths scion_verify", "")],
 }
 
+ALIAS = re.compile(r"^pub type (\w+) = OrMemory<(\w+)>;", re.M)
 ENUM = r"((?:^///.*\n)+)(?:^#\[.*\n)*^pub enum NAME \{\n((?:.*\n)*?)^\}"
 VARIANT = re.compile(r"((?:    ///.*\n)*)((?:    #\[(?:.*\n)*?.*\]\n)*)    (\w+)(?:\(.*\))?,\n")
 
@@ -142,8 +126,39 @@ def numbers_of(crate, type_name):
     sys.exit(f"{crate} has no table of {type_name}")
 
 
+def libraries():
+    """The surfaces of the crates that are libraries, lowest first."""
+    names = re.findall(r"^(\w+)[^:#\n]*:", Path("crates.txt").read_text(), re.M)
+    found = [it for it in names if Path("crates", it, "src", "lib.rt").exists()]
+    return [Surface(Path(), it) for it in found]
+
+
+def calls_by_type(surfaces):
+    """The public calls whose signatures name each type of refusals, also by another name."""
+    own = {one[0]: crate for crate, types in TYPES.items() for one in types}
+    texts = [it.read_text() for it in Path("crates").glob("*/src/*.rt")]
+    aliases = {it[1]: it[2] for text in texts for it in ALIAS.finditer(text)}
+    calls = {name: [] for name in own}
+    for surface in surfaces:
+        for call in surface.calls:
+            words = re.findall(r"\w+", call.declared.partition("->")[2])
+            named = {aliases.get(it, it) for it in words} - {call.owner}
+            # Another crate has a type of this name, whose refusals have no numbers.
+            if surface.crate != own["RunFault"]:
+                named.discard("RunFault")
+            for name in own.keys() & named:
+                calls[name].append(call.place)
+    places = {call.place for surface in surfaces for call in surface.calls}
+    for name, passed, _ in (one for types in TYPES.values() for one in types):
+        if gone := {*passed.split()} - places:
+            sys.exit(f"no library has these calls: {gone}")
+        calls[name] += passed.split()
+    return calls
+
+
 def section(crate, type_name, calls, lines):
-    """The part on one type of refusals."""
+    """The part on one type of refusals, with the calls and the lines that give them."""
+    told = ", ".join(f"`{it}`" for it in dict.fromkeys(calls))
     numbers = numbers_of(crate, type_name)
     pattern = re.compile(ENUM.replace("NAME", type_name), re.M)
     texts = [path.read_text() for path in Path("crates", crate, "src").glob("*.rt")]
@@ -152,7 +167,7 @@ def section(crate, type_name, calls, lines):
         sys.exit(f"{crate} has {len(found)} types {type_name}")
     meaning, body = found[0]
     yield f"\n## `{crate}`: `{type_name}`\n{filled(comment(meaning))}\n"
-    yield filled(f"Calls: {calls}." + (f" Lines: {lines}." if lines else "")) + "\n"
+    yield filled(f"Calls: {told}." + (f" Lines: {lines}." if lines else "")) + "\n"
     yield "| number | name | meaning |\n|---|---|---|"
     variants = {name: comment(text) for text, _, name in VARIANT.findall(body)}
     for variant, (number, name) in numbers.items():
@@ -173,7 +188,10 @@ def document():
     for number, name in (it for table in rows for it in table.values()):
         if names.setdefault(number, name) != name:
             sys.exit(f"{number} is {name} and {names[number]}")
-    parts = [it for crate, types in TYPES.items() for one in types for it in section(crate, *one)]
+    calls, parts = calls_by_type(libraries()), []
+    for crate, types in TYPES.items():
+        for name, _, lines in types:
+            parts += section(crate, name, calls[name], lines)
     return FRONT + "\n".join(parts) + "\n" + BEHIND
 
 
