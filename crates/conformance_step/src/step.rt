@@ -18,7 +18,7 @@ const FRONT: [&str; 7] = [
 ];
 
 /// A packet of two hops from 1-ff00:0:111 to 1-ff00:0:110, up to its first hop's authenticator.
-pub(crate) const UP: &str = "0001ff00000001100001ff0000000111000020000000b39600000064003f00020000";
+const UP: &str = "0001ff00000001100001ff0000000111000020000000b39600000064003f00020000";
 
 /// The same front with the second hop as the current one.
 const MOVED: &str = "0001ff00000001100001ff0000000111010020000000b39600000064003f00020000";
@@ -37,7 +37,7 @@ const CUT: &str =
     a2a3a4a5";
 
 /// The words of a turn at this second.
-pub(crate) fn words<'a>(now: &'a str, from: &'a str, interface: &'a str) -> [&'a str; 12] {
+fn words<'a>(now: &'a str, from: &'a str, interface: &'a str) -> [&'a str; 12] {
     let [step, ia, address, router, number, key, hex] = FRONT;
     [
         step, ia, address, router, number, key, hex, "--now", now, "--from", from, interface,
@@ -45,7 +45,7 @@ pub(crate) fn words<'a>(now: &'a str, from: &'a str, interface: &'a str) -> [&'a
 }
 
 /// Asserts that a turn with these words and this packet prints this line.
-pub(crate) fn expect_line(
+fn expect_line(
     rt: &impl Abort,
     alloc: Global,
     words: &[&str],
@@ -75,13 +75,13 @@ fn refusals(rt: HostRuntime) -> Result<(), Fail> {
 }
 
 /// The packet that begins in this way up to the first hop's authenticator, with this authenticator.
-pub(crate) fn up_packet(alloc: Global, front: &str, mac: [u8; 6]) -> Result<String, AllocError> {
+fn up_packet(alloc: Global, front: &str, mac: [u8; 6]) -> Result<String, AllocError> {
     let digits = encode(alloc, mac.as_slice())?;
     format!(in alloc; "{front}{}{BEHIND}", digits.as_str())
 }
 
 /// The authenticator of the packet's first hop.
-pub(crate) fn first_mac() -> [u8; 6] {
+fn first_mac() -> [u8; 6] {
     hop_mac(b"k", 0xb396, 100, 63, 2, 0)
 }
 
