@@ -5,7 +5,6 @@ use path_segment::{Beacon, Entry, SegKind, Segment};
 use refusal::{NumberedFault, OrMemory};
 use scion_topology::Topology;
 use std::alloc::Global;
-use std::process::Abort;
 use std::test::Fail;
 use worked::{at, row};
 
@@ -101,11 +100,6 @@ fn makes_a_segment(rt: HostRuntime) -> Result<(), Fail> {
     Ok(())
 }
 
-/// The refusal to begin a beacon.
-fn not_begun(alloc: Global, topology: &Topology, ia: IsdAs, egress: u16) -> Option<BeaconFault> {
-    refusal(originate(alloc, topology, ia, IfId(egress), 1000, 4660))
-}
-
 /// The refusal to pass a beacon on.
 fn not_passed(
     alloc: Global,
@@ -115,63 +109,6 @@ fn not_passed(
     egress: u16,
 ) -> Option<BeaconFault> {
     refusal(extend(alloc, topology, beacon, ia, IfId(egress)))
-}
-
-/// The refusal to end a beacon.
-fn not_ended(
-    alloc: Global,
-    topology: &Topology,
-    beacon: &Beacon,
-    ia: IsdAs,
-) -> Option<BeaconFault> {
-    refusal(terminate(alloc, topology, beacon, ia))
-}
-
-/// Asserts the refusals on the three ASes in a row, for a beacon that has begun.
-fn expect_refusals(rt: &impl Abort, alloc: Global, topology: &Topology, begun: &Beacon) {
-    for (ia, egress, fault) in [
-        (at(1, 0x111), 2, BeaconFault::NotCore),
-        (at(1, 0x113), 0, BeaconFault::NotCore),
-        (at(1, 0x110), 0, BeaconFault::NoInterface),
-        (at(1, 0x110), 2, BeaconFault::NoInterface),
-    ] {
-        assert!(rt; not_begun(alloc, topology, ia, egress) == Some(fault));
-    }
-    for (ia, egress, fault) in [
-        (at(1, 0x112), 1, BeaconFault::NotHere),
-        (at(1, 0x113), 1, BeaconFault::NotHere),
-        (at(1, 0x111), 9, BeaconFault::NoInterface),
-        (at(1, 0x111), 1, BeaconFault::WrongKind),
-    ] {
-        assert!(rt; not_passed(alloc, topology, begun, ia, egress) == Some(fault));
-    }
-}
-
-/// The refusals on the three ASes in a row.
-#[test]
-fn refuses_in_a_row(rt: HostRuntime) -> Result<(), Fail> {
-    let alloc = rt.alloc();
-    let mut topology = Topology::from_json(alloc, row().as_bytes())?;
-    let begun = originate(alloc, &topology, at(1, 0x110), IfId(1), 1000, 4660)?;
-    let passed_on = extend(alloc, &topology, &begun, at(1, 0x111), IfId(2))?;
-    expect_refusals(&rt, alloc, &topology, &begun);
-    let elsewhere = not_ended(alloc, &topology, &passed_on, at(1, 0x111));
-    assert!(rt; elsewhere == Some(BeaconFault::NotHere));
-
-    topology.cut_link(at(1, 0x110), IfId(1))?;
-    let cut = [
-        not_begun(alloc, &topology, at(1, 0x110), 1),
-        not_passed(alloc, &topology, &begun, at(1, 0x111), 9),
-    ];
-    assert!(rt; cut == [Some(BeaconFault::LinkDown); 2]);
-    topology.mend_link(at(1, 0x111), IfId(1))?;
-    topology.cut_link(at(1, 0x112), IfId(1))?;
-    let cut = [
-        not_passed(alloc, &topology, &begun, at(1, 0x111), 2),
-        not_ended(alloc, &topology, &passed_on, at(1, 0x112)),
-    ];
-    assert!(rt; cut == [Some(BeaconFault::LinkDown); 2]);
-    Ok(())
 }
 
 /// A beacon of 62 entries, the last of them of the first AS of the row.

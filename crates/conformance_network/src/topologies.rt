@@ -2,7 +2,7 @@ ghost use Rattle.std.specs.Prelude.{◌<◌};
 
 use hop_mac::hop_mac;
 use isd_as::{IfId, IsdAs};
-use refusal::{NumberedFault, OrMemory};
+use refusal::OrMemory;
 use scion_topology::{AsInfo, IfEntry, LinkKind, RouterView, Topology, TopologyFault};
 use std::alloc::{AllocError, Global};
 use std::process::Abort;
@@ -35,29 +35,6 @@ fn shows(rt: HostRuntime) -> Result<(), Fail> {
     assert!(rt; view.authenticates(&mac, 7, 100, 63, IfId(1), IfId(2)));
     assert!(rt; !view.authenticates(&mac, 8, 100, 63, IfId(1), IfId(2)));
     Ok(())
-}
-
-/// Each refusal, and which of two comes first.
-#[test]
-fn refuses(rt: HostRuntime) {
-    let with_none = [entry(1, LinkKind::Core, 0), entry(0, LinkKind::Core, 0)];
-    let twice = [entry(1, LinkKind::Core, 0), entry(1, LinkKind::Child, 1)];
-    let cases: [(u64, &[u8], Option<&[u8]>, &[IfEntry], u16); 8] = [
-        (0x0000_ff00_0000_0111, b"k", None, &[], 11),
-        (0x0001_0000_0000_0000, b"k", None, &twice, 11),
-        (IA, b"", None, &twice, 11),
-        (IA, &[7; 65], None, &[], 11),
-        (IA, b"k", Some(b""), &twice, 11),
-        (IA, b"k", Some(&[7; 65]), &[], 11),
-        (IA, b"k", None, &with_none, 11),
-        (IA, b"k", None, &twice, 13),
-    ];
-    for (ia, key, before, table, code) in cases.iter() {
-        let view = RouterView::new(IsdAs::from_number(*ia), 0, key, *before, table);
-        assert_eq!(rt; view.err().map(|fault| fault.code()), Some(*code));
-    }
-    assert!(rt; RouterView::new(IsdAs::from_number(IA), 0, &[7; 64], None, &[]).is_ok());
-    assert_eq!(rt; TopologyFault::DuplicateIf.name(), "DuplicateIf");
 }
 
 const TOP: u64 = 0x0001_ff00_0000_0110;

@@ -1,10 +1,7 @@
 use crate::texts::{levels_text, long_text, nested, pluses, printed_stars, stars};
 use bumpalo::Bump;
 use isd_as::{IfId, IsdAs};
-use policy_expr::{
-    Acl, AclText, Denied, HopPred, Interfaces, Policy, PolicyError, PolicyFault, PolicyText, Seq,
-    WalkHop,
-};
+use policy_expr::{Acl, AclText, Denied, PolicyError, PolicyFault, Seq, WalkHop};
 use refusal::NumberedFault;
 use std::alloc::{AllocError, Allocator, Global};
 use std::process::Abort;
@@ -151,20 +148,6 @@ fn binds_either_tighter(rt: HostRuntime) -> Result<(), Fail> {
     let text = "1-ff00:0:110 | 2 0";
     expect_sequence(&rt, rt.alloc(), text, "1-ff00:0:110|2 0", &two, &swapped)?;
     expect_sequence(&rt, rt.alloc(), "0", "0", &one, &two)
-}
-
-/// Each sign, and a repetition that has to leave a hop to the part after it.
-#[test]
-fn repeats_and_goes_back(rt: HostRuntime) -> Result<(), Fail> {
-    let none: [WalkHop; 0] = [];
-    let one = [hop(1, 0, 0)];
-    let twice = [hop(1, 0, 0), hop(1, 0, 0)];
-    let both = [hop(1, 0, 0), hop(2, 0, 0)];
-    let three = [hop(2, 0, 0), hop(1, 0, 0), hop(2, 0, 0)];
-    expect_sequence(&rt, rt.alloc(), "1-1* 1-1", "1-1* 1-1", &twice, &both)?;
-    expect_sequence(&rt, rt.alloc(), "(1-1? 1-2)+", "(1-1? 1-2)+", &three, &one)?;
-    expect_sequence(&rt, rt.alloc(), "1-1#4,0?", "1-1#4,0?", &none, &one)?;
-    expect_sequence(&rt, rt.alloc(), "1|(2|3)", "1|(2|3)", &one, &none)
 }
 
 /// Asserts that two repetitions, one after the other, of an item that may be absent have the first
@@ -337,106 +320,6 @@ fn refuses_lists(rt: HostRuntime) -> Result<(), Fail> {
         code_of_long_list(alloc, 2)?,
     ];
     assert_eq!(rt; codes, [61, 65, 65, 66, 0, 0, 64]);
-    Ok(())
-}
-
-/// Whether a policy denies the first walk at its first hop, has the second as a word, and allows
-/// the third, which is no word.
-fn judges<A: Allocator + Clone>(policy: &Policy<A>) -> bool {
-    let other = [hop(1, 0, 0), hop(3, 0, 0)];
-    policy.verdict(&[hop(2, 0, 0)]) == Err(Denied { hop: 0, entry: 0 })
-        && policy.verdict(&other) == Ok(())
-        && policy.matches(&[hop(1, 0, 0)])
-        && !policy.matches(&other)
-}
-
-/// The same for its clone in another allocator.
-fn its_clone_judges<A: Allocator + Clone, B: Allocator + Clone>(
-    policy: &Policy<A>,
-    place: B,
-) -> Result<bool, AllocError> {
-    let clone = policy.clone_in(place)?;
-    Ok(judges(&clone))
-}
-
-/// The same for its clone in an arena, and for that clone's clone.
-fn clones_judge(alloc: Global, policy: &Policy<Global>) -> Result<bool, AllocError> {
-    let bump = Bump::new(alloc);
-    let placed = policy.clone_in(&bump)?;
-    Ok(judges(&placed) && its_clone_judges(&placed, alloc)?)
-}
-
-/// The same for the policy of a text, and for its clones.
-fn judges_here(alloc: Global, text: &PolicyText<'_>) -> Result<bool, PolicyError> {
-    let policy = Policy::parse(alloc, text)?;
-    Ok(judges(&policy) && clones_judge(alloc, &policy)?)
-}
-
-/// The same for a text that is read into an arena.
-fn judges_there(alloc: Global, text: &PolicyText<'_>) -> Result<bool, PolicyError> {
-    let bump = Bump::new(alloc);
-    let policy = Policy::parse(&bump, text)?;
-    Ok(judges(&policy))
-}
-
-/// Whether a policy of blanks allows a walk and has it as a word.
-fn blanks_are_open(alloc: Global) -> Result<bool, PolicyError> {
-    let blank = PolicyText {
-        acl: None,
-        sequence: Some(" \t\r\n"),
-    };
-    let walk = [hop(2, 0, 0)];
-    let open = Policy::parse(alloc, &blank)?;
-    Ok(open.verdict(&walk) == Ok(()) && open.matches(&walk))
-}
-
-/// The code of the refusal of a policy of this list and this sequence, or 0 if there is none.
-fn code_of_both(alloc: Global, list: &[&str], sequence: &str) -> Result<u16, AllocError> {
-    let list = acl_text(alloc, list)?;
-    let text = PolicyText {
-        acl: Some(&list),
-        sequence: Some(sequence),
-    };
-    Ok(code_of(Policy::parse(alloc, &text)))
-}
-
-/// A policy of both parts, one of blanks, and the refusals of either part, the list's first.
-#[test]
-fn policies(rt: HostRuntime) -> Result<(), Fail> {
-    let list = acl_text(rt.alloc(), &["- 1-2", "+"])?;
-    let text = PolicyText {
-        acl: Some(&list),
-        sequence: Some("0"),
-    };
-    assert!(rt; judges_here(rt.alloc(), &text)?);
-    assert!(rt; judges_there(rt.alloc(), &text)?);
-    assert!(rt; blanks_are_open(rt.alloc())?);
-    assert_eq!(rt; code_of_both(rt.alloc(), &["- 1"], "1 |")?, 65);
-    Ok(())
-}
-
-/// Whether the predicate has these interfaces.
-fn says(pred: &HopPred, interfaces: Interfaces) -> bool {
-    pred.interfaces == interfaces
-}
-
-/// Whether the text is read as a predicate.
-fn does_read(text: &str) -> bool {
-    HopPred::parse(text).is_ok()
-}
-
-/// A predicate is read, printed, and matches by one interface on either side.
-#[test]
-fn predicates(rt: HostRuntime) -> Result<(), Fail> {
-    let alloc = rt.alloc();
-    let pred = HopPred::parse("1-FF00:0:110#5")?;
-    assert!(rt; pred.to_string(alloc)?.as_str() == "1-ff00:0:110#5");
-    assert!(rt; says(&pred, Interfaces::Either(IfId(5))));
-    let (comes_in, leaves) = (hop(0xff00_0000_0110, 5, 1), hop(0xff00_0000_0110, 1, 5));
-    assert!(rt; pred.matches(&comes_in) && pred.matches(&leaves));
-    let open = HopPred::parse("2-0#0")?;
-    assert!(rt; says(&open, Interfaces::Any));
-    assert!(rt; !does_read("1#5"));
     Ok(())
 }
 
