@@ -8,8 +8,9 @@ use clap::builder::ValueParser;
 use clap::{Arg, ArgAction, Command};
 use std::alloc::{AllocError, Global};
 
-/// The text of `--version` after a program's name: its version, and the toolchain that proved it.
-pub static VERSION: &str = "0.1.0, proved by rattle-kit-13f logic dac8208d650f15bf";
+/// The text of `--version` after a program's name: its version, and the logic of its proof. Which
+/// toolchain built the program it can't know.
+pub static VERSION: &str = "0.1.0, proved in the logic dac8208d650f15bf";
 
 /// The end of the program's long help.
 static PROGRAM_HELP: &str = "\
