@@ -6,6 +6,7 @@ comment. Run it at the top of the repository; docs/calls.md is what it prints.
 `calls.py --check` says whether docs/calls.md is that, and ends with 1 where it is not."""
 import math
 import re
+import sys
 from pathlib import Path
 
 from pages import filled, settle
@@ -51,7 +52,10 @@ def limits(surfaces):
     """The rows of the constants that are numbers."""
     every = [it for surface in surfaces for it in surface.constants]
     found = {it: CONSTANT.match(it.declared) for it in every}
-    terms = {it.name: one[1] for it, one in found.items() if one}
+    terms = {}
+    for it in filter(found.get, every):
+        if terms.setdefault(it.name, found[it][1]) != found[it][1]:
+            sys.exit(f"two constants have the name {it.name}, and not one value")
     for it in filter(found.get, every):
         number = value(terms[it.name], terms)
         yield f"| `{it.file.crate}::{it.place}` | {number:,} | {it.sentence} |"

@@ -10,7 +10,7 @@ ghost use Rattle.line_faults.specs.inner.Adding.{Adds, IsWarning};
 use crate::history::History;
 use crate::json::read;
 use crate::reason::{Line, reason_of, warnings_of};
-use crate::refused::Known;
+use crate::refused::Context;
 use memchr::memchr;
 use network_core::Net;
 use separators::sign::cut;
@@ -87,7 +87,7 @@ fn push_warnings(text: &mut String, number: usize, warnings: &[String]) -> Resul
 fn push_refusal(
     alloc: Global,
     text: &mut String,
-    known: &Known<'_>,
+    context: &Context<'_>,
     line: &Line<'_>,
     value: Option<&Value>,
 ) -> Result<(), AllocError>
@@ -98,7 +98,7 @@ fn push_refusal(
     if !is_refusal(line.reply) {
         return Ok(());
     }
-    let why = reason_of(alloc, known, line, value)?;
+    let why = reason_of(alloc, context, line, value)?;
     push_reason(text, line, &why)
 }
 
@@ -107,17 +107,17 @@ fn push_refusal(
 fn push_told(
     alloc: Global,
     text: &mut String,
-    known: &mut Known<'_>,
+    context: &mut Context<'_>,
     line: &Line<'_>,
 ) -> Result<(), AllocError>
     ensures { OnOk result (Adds (IsTold line.now.number line.now.reply.now)
         (string_bytes text.old) (string_bytes text.new)) }
 {
     let value = read(alloc, line.bytes)?;
-    push_refusal(alloc, text, known, line, value.as_ref())?;
-    let warnings = warnings_of(alloc, known, line, value.as_ref())?;
+    push_refusal(alloc, text, context, line, value.as_ref())?;
+    let warnings = warnings_of(alloc, context, line, value.as_ref())?;
     push_warnings(text, line.number, &warnings)?;
-    known.history.add(value.as_ref(), line.reply);
+    context.history.add(value.as_ref(), line.reply);
     Ok(())
 }
 
@@ -138,7 +138,7 @@ pub fn explain(
     ensures { IfOk result (λ text. IsExplanation replies.now (string_bytes text)) }
 {
     let mut text = String::new(alloc);
-    let mut known = Known {
+    let mut context = Context {
         net,
         history: History::default(),
     };
@@ -152,7 +152,7 @@ pub fn explain(
             bytes,
             reply,
         };
-        push_told(alloc, &mut text, &mut known, &line)?;
+        push_told(alloc, &mut text, &mut context, &line)?;
         (lines, left) = (later, behind);
     }
     Ok(text)

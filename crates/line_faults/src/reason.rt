@@ -4,7 +4,7 @@ use crate::event::push_bad_line;
 use crate::joining::push_broken_rule;
 use crate::json::push_break;
 use crate::policy::push_unread;
-use crate::refused::{Known, push_refused};
+use crate::refused::{Context, push_refused};
 use crate::topology::push_bad_field;
 use crate::unread::{add_unread_of_event, add_unread_of_topology};
 use serde_json::Value;
@@ -40,7 +40,7 @@ impl<'a> Line<'a> {
 /// Why a line is refused: where in it, what stands there, and what is wanted.
 pub(crate) fn reason_of(
     alloc: Global,
-    known: &Known<'_>,
+    context: &Context<'_>,
     line: &Line<'_>,
     value: Option<&Value>,
 ) -> Result<String, AllocError> {
@@ -50,7 +50,7 @@ pub(crate) fn reason_of(
         Some(topology) if line.is_topology() => {
             push_topology(alloc, &mut why, line.code(), topology)?
         }
-        Some(event) => push_event(alloc, &mut why, known, line.code(), event)?,
+        Some(event) => push_event(alloc, &mut why, context, line.code(), event)?,
     }
     if why.is_empty() {
         why.push_str("its place was not found")?;
@@ -87,21 +87,21 @@ fn push_topology(
 fn push_event(
     alloc: Global,
     why: &mut String,
-    known: &Known<'_>,
+    context: &Context<'_>,
     code: u16,
     event: &Value,
 ) -> Result<(), AllocError> {
     match code {
         140 => push_bad_line(alloc, why, event),
         60..=66 => push_unread(alloc, why, code, event),
-        _ => push_refused(why, known, code, event),
+        _ => push_refused(why, context, code, event),
     }
 }
 
 /// What is strange in a line and no fault.
 pub(crate) fn warnings_of(
     alloc: Global,
-    known: &Known<'_>,
+    context: &Context<'_>,
     line: &Line<'_>,
     value: Option<&Value>,
 ) -> Result<Vec<String>, AllocError> {
@@ -111,7 +111,7 @@ pub(crate) fn warnings_of(
         Some(topology) if line.is_topology() => {
             add_unread_of_topology(alloc, &mut warnings, topology)?
         }
-        Some(event) => add_unread_of_event(alloc, &mut warnings, known, event)?,
+        Some(event) => add_unread_of_event(alloc, &mut warnings, context, event)?,
     }
     Ok(warnings)
 }

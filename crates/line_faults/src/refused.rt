@@ -14,16 +14,16 @@ use std::fmt::Write;
 /// The most interfaces of an AS that are shown.
 const MAX_INTERFACES: usize = 16;
 
-/// What is known where an event is refused: the network after all lines, and what the lines before
-/// have made.
+/// What is known where a line stands: the network after all lines, and what the lines before it have
+/// made.
 #[derive(Clone, Copy)]
-pub(crate) struct Known<'a> {
+pub(crate) struct Context<'a> {
     pub(crate) net: Option<&'a Net>,
     pub(crate) history: History,
 }
 
 /// The name of the member of an event that the refusal of this number is about.
-fn subject_of(known: &Known<'_>, code: u16, event: &Value) -> &'static str {
+fn subject_of(context: &Context<'_>, code: u16, event: &Value) -> &'static str {
     match (word_of(event), code) {
         ("send", 14 | 17 | 70..=82) => "path",
         ("originate", 42) => "egress",
@@ -33,7 +33,7 @@ fn subject_of(known: &Known<'_>, code: u16, event: &Value) -> &'static str {
         (_, 17) => "if",
         (_, 67) => "options",
         (_, 85) => "dst",
-        (_, 133) if whole_of(event, "ask") < Some(known.history.answers) => "path",
+        (_, 133) if whole_of(event, "ask") < Some(context.history.answers) => "path",
         (_, 133) => "ask",
         (_, 70..=82 | 130 | 131 | 139) => "packet",
         (_, 11) => "key",
@@ -49,17 +49,17 @@ fn subject_of(known: &Known<'_>, code: u16, event: &Value) -> &'static str {
 /// of the network beside.
 pub(crate) fn push_refused(
     why: &mut String,
-    known: &Known<'_>,
+    context: &Context<'_>,
     code: u16,
     event: &Value,
 ) -> Result<(), AllocError> {
-    let name = subject_of(known, code, event);
+    let name = subject_of(context, code, event);
     push_place(why, "", name)?;
     push_found(why, event.get(name))?;
     why.push_str(": ")?;
     push_sentence(why, code)?;
-    match known.net {
-        Some(net) => push_detail(why, net, known.history, code, event),
+    match context.net {
+        Some(net) => push_detail(why, net, context.history, code, event),
         None => Ok(()),
     }
 }

@@ -3,7 +3,7 @@
 use crate::found::{push_front, push_place};
 use crate::history::word_of;
 use crate::member::{AS, END, EVENT, LINK, Member, OPTION, POLICY, TOPOLOGY, is_among, members_of};
-use crate::refused::{Known, address_at};
+use crate::refused::{Context, address_at};
 use crate::topology::values_of;
 use serde_json::Value;
 use std::alloc::{AllocError, Global};
@@ -22,14 +22,14 @@ fn add_unread(
     };
     for (name, _) in found.iter() {
         if !is_among(name, members) && !is_among(name, others) {
-            warnings.push(unread(alloc, place, name)?)?;
+            warnings.push(unread_warning(alloc, place, name)?)?;
         }
     }
     Ok(())
 }
 
 /// The warning about a member that nobody reads.
-fn unread(alloc: Global, place: &str, name: &str) -> Result<String, AllocError> {
+fn unread_warning(alloc: Global, place: &str, name: &str) -> Result<String, AllocError> {
     let mut warning = String::new(alloc);
     push_place(&mut warning, place, "")?;
     push_front(&mut warning, name)?;
@@ -77,7 +77,7 @@ fn add_unread_of_end(
 pub(crate) fn add_unread_of_event(
     alloc: Global,
     warnings: &mut Vec<String>,
-    known: &Known<'_>,
+    context: &Context<'_>,
     event: &Value,
 ) -> Result<(), AllocError> {
     let word = word_of(event);
@@ -92,19 +92,19 @@ pub(crate) fn add_unread_of_event(
         let place = format!(in alloc; "options[{number}]")?;
         add_unread(alloc, warnings, &place, option, &OPTION, &[])?;
     }
-    add_unlisted(alloc, warnings, known, event, "src")?;
-    add_unlisted(alloc, warnings, known, event, "dst")
+    add_unlisted(alloc, warnings, context, event, "src")?;
+    add_unlisted(alloc, warnings, context, event, "dst")
 }
 
 /// Adds a warning if no AS has the address of this name in a request.
 fn add_unlisted(
     alloc: Global,
     warnings: &mut Vec<String>,
-    known: &Known<'_>,
+    context: &Context<'_>,
     request: &Value,
     name: &str,
 ) -> Result<(), AllocError> {
-    let (Some(net), Some(ia)) = (known.net, address_at(request, name)) else {
+    let (Some(net), Some(ia)) = (context.net, address_at(request, name)) else {
         return Ok(());
     };
     if net.topology().as_info(ia).is_ok() {

@@ -1,5 +1,5 @@
 -- Marks of the links that a walk crosses: they tell which walks share none of these links with it.
-use Rattle.std.proofs.Common.{◌≡◌, suc, ◌+◌, ◌*◌, ◌≤◌, Bool, true, false, List, [], ◌∷◌, ◌++◌, cond, length, map, All, refl, sym, ap, ◌∙◌, arith}
+use Rattle.std.proofs.Common.{◌≡◌, ℕ, suc, ◌+◌, ◌*◌, ◌≤◌, Bool, true, false, List, [], ◌∷◌, ◌++◌, cond, length, map, All, refl, sym, ap, ◌∙◌, arith}
 use Rattle.std.specs.Prelude.{slice_get, unwrap_or, count_by, ◌&&◌, not}
 use Rattle.std.specs.List.{list_all}
 use Rattle.std.proofs.lemmas.List.{append_assoc}
@@ -80,3 +80,12 @@ pairs_are_few links (walk ∷ walks) few =
     let here = count_by-le-length (are_apart links walk) walks in
     let later = pairs_are_few links walks (omega (arith, few)) in
     omega (arith, here, later, few)
+
+-- what was told of the paths that are left, in the words of the first of them and of those behind it
+pub told_of_first : (links : List Link) (left : List OpenPath) (path : OpenPath) (later : List OpenPath)
+    (count total : ℕ) → left ≡ path ∷ later
+    → count + apart_pairs links (map (λ (p : OpenPath). p.walk.items) left) ≡ total
+    → count + (count_by (are_apart links path.walk.items) (map (λ (p : OpenPath). p.walk.items) later)
+    + apart_pairs links (map (λ (p : OpenPath). p.walk.items) later)) ≡ total
+told_of_first links left path later count total split told =
+    sym (ap (λ r. count + apart_pairs links (map (λ (p : OpenPath). p.walk.items) r)) split) ∙ told

@@ -15,4 +15,4 @@ mod pair;
 mod report;
 mod summary;
 
-pub use report::{MAX_LINKS, ReportOptions, path_report};
+pub use report::{MAX_RANKED_LINKS, ReportOptions, path_report};

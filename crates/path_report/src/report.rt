@@ -14,7 +14,7 @@ use std::alloc::{AllocError, Global};
 use std::marker::Model;
 
 /// The most links that are named at the end of a report.
-pub const MAX_LINKS: usize = 10;
+pub const MAX_RANKED_LINKS: usize = 10;
 
 /// What a report is about.
 #[derive(Drop)]
@@ -129,7 +129,7 @@ fn lines_of(alloc: Global, reports: &[PairReport]) -> Result<String, AllocError>
 }
 
 /// The report of a network at its second: a line for each wanted pair of ASes, in the order of the
-/// topology, and a line for each of the links that most pairs need, at most [`MAX_LINKS`].
+/// topology, and a line for each of the links that most pairs need, at most [`MAX_RANKED_LINKS`].
 ///
 /// The line of a pair is `FROM TO paths N hops H until S disjoint D needs L LINK..`. Its N paths
 /// are those of the answer to a request with this limit whose links are all up. The first of them

@@ -7,7 +7,7 @@ ghost use Rattle.path_report.specs.inner.Named.{IsSummary, is_among, is_same};
 
 use crate::line::add_link;
 use crate::pair::PairReport;
-use crate::report::MAX_LINKS;
+use crate::report::MAX_RANKED_LINKS;
 use scion_topology::Link;
 use std::alloc::{AllocError, Global};
 use std::cmp::Ordering;
@@ -135,6 +135,6 @@ pub(crate) fn summary_text(
     ensures { IfOk result (λ text. IsSummary links.now reports.now (string_bytes text)) }
 {
     let mut ranked = ranked_links(alloc, links, reports)?;
-    ranked.truncate(MAX_LINKS);
+    ranked.truncate(MAX_RANKED_LINKS);
     rank_lines(alloc, &ranked)
 }

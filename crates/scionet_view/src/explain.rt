@@ -15,7 +15,7 @@ use streams::{MAX_INPUT_LEN, Reader, Source, Writer, read_all};
 
 /// What a run over some lines gives.
 #[derive(Drop)]
-struct Heard {
+struct RunResult {
     /// The replies to the lines.
     replies: Vec<u8>,
     /// The network after the lines; none if its topology is refused.
@@ -23,7 +23,7 @@ struct Heard {
 }
 
 /// The replies of a run over an input, and the network after it.
-fn hear(alloc: Global, input: &[u8]) -> Result<Heard, RunFault>
+fn hear(alloc: Global, input: &[u8]) -> Result<RunResult, RunFault>
     ensures { IfOk result (λ heard. AreReplies input.now heard.replies.items) }
 {
     let mut sink = Writer::new(Vec::new(alloc));
@@ -39,7 +39,7 @@ fn hear(alloc: Global, input: &[u8]) -> Result<Heard, RunFault>
         Err(fault) => return Err(fault),
     };
     let replies = sink.into_inner();
-    Ok(Heard { replies, net })
+    Ok(RunResult { replies, net })
 }
 
 /// What is wrong with the lines that the source has, up to its end.

@@ -81,7 +81,7 @@ pub(crate) fn report_command<'a>(alloc: Global) -> Result<Command<'a>, AllocErro
 }
 
 /// The fault of words that have a text which is refused: its number, its name and its sentence.
-fn refused<F: NumberedFault>(alloc: Global, fault: F) -> Result<WordsFault, AllocError> {
+fn bad_words<F: NumberedFault>(alloc: Global, fault: F) -> Result<WordsFault, AllocError> {
     let (code, name) = fault.code_and_name();
     let text = format!(in alloc; "scionet_view: no {code} {name}: {fault}\n")?;
     Ok(WordsFault::Usage(text))
@@ -98,7 +98,7 @@ fn address_in(
     };
     match IsdAs::parse(text) {
         Ok(ia) => Ok(Some(ia)),
-        Err(fault) => Err(refused(alloc, fault)?),
+        Err(fault) => Err(bad_words(alloc, fault)?),
     }
 }
 
@@ -124,7 +124,7 @@ fn policy_in(alloc: Global, matches: &ArgMatches<'_>) -> Result<Policy<Global>, 
     match Policy::parse(alloc, &text) {
         Ok(policy) => Ok(policy),
         Err(OrMemory::Memory) => Err(WordsFault::Memory),
-        Err(OrMemory::Refused(fault)) => Err(refused(alloc, fault)?),
+        Err(OrMemory::Refused(fault)) => Err(bad_words(alloc, fault)?),
     }
 }
 

@@ -1,12 +1,10 @@
 -- The pairs of one path more; all of them are few.
-use Rattle.std.proofs.Common.{◌≡◌, ◌+◌, ◌∷◌, map, sym, ap, ◌∙◌, arith, rules}
-use Rattle.std.specs.Prelude.{count_by}
+use Rattle.std.proofs.Common.{◌≡◌, ◌∷◌, map, arith, rules}
 use Rattle.std.proofs.lemmas.List.{length-map}
 use Rattle.std.proofs.lemmas.List.Elements.{All-rest}
 use Rattle.path_report.specs.declared.open_path.OpenPath.{OpenPath}
-use Rattle.path_report.specs.Paths.{apart_pairs, are_apart}
 use Rattle.path_report.specs.inner.Places.{HasPlaces}
-use Rattle.path_report.proofs.Marking.{pairs_are_few}
+use Rattle.path_report.proofs.Marking.{pairs_are_few, told_of_first}
 use Rattle.path_report.proofs.apart.apart_pairs.Goals as goal
 
 pub overflow_add-count : goal.overflow_add-count
@@ -14,10 +12,8 @@ overflow_add-count c =
     let walk = λ (p : OpenPath). p.walk.items in
     let links = c.args.links.now in
     let split : c.loop-path.rest.now ≡ c.in-Some.path.now ∷ c.in-Some.later.now = search rules in
-    let told : c.loop-path.count + (count_by (are_apart links c.in-Some.path.now.walk.items)
-    (map walk c.in-Some.later.now)
-    + apart_pairs links (map walk c.in-Some.later.now)) ≡ apart_pairs links (map walk c.args.paths.now) =
-    sym (ap (λ r. c.loop-path.count + apart_pairs links (map walk r)) split) ∙ c.loop-path.invariant.told in
+    let told = told_of_first links c.loop-path.rest.now c.in-Some.path.now c.in-Some.later.now c.loop-path.count
+    _ split c.loop-path.invariant.told in
     let many = length-map c.args.paths.now walk in
     let few = pairs_are_few links (map walk c.args.paths.now) (let few = c.requires.few in omega (arith, few, many)) in
     let counted = c.in_ok-count.ensures in
@@ -26,13 +22,10 @@ overflow_add-count c =
 
 pub loop-path-preserved : goal.loop-path-preserved
 loop-path-preserved c =
-    let walk = λ (p : OpenPath). p.walk.items in
     let links = c.args.links.now in
     let split : c.loop-path.rest.now ≡ c.in-Some.path.now ∷ c.in-Some.later.now = search rules in
-    let told : c.loop-path.count + (count_by (are_apart links c.in-Some.path.now.walk.items)
-    (map walk c.in-Some.later.now)
-    + apart_pairs links (map walk c.in-Some.later.now)) ≡ apart_pairs links (map walk c.args.paths.now) =
-    sym (ap (λ r. c.loop-path.count + apart_pairs links (map walk r)) split) ∙ c.loop-path.invariant.told in
+    let told = told_of_first links c.loop-path.rest.now c.in-Some.path.now c.in-Some.later.now c.loop-path.count
+    _ split c.loop-path.invariant.told in
     let counted = c.in_ok-count.ensures in
     record {
       told = omega (arith, told, counted);
