@@ -6,15 +6,15 @@ use Rattle.refusal.specs.Refusal.{◌>>=◌, check, refused_as}
 use Rattle.refusal.proofs.Steps.{ok_is, ok_or_ok}
 use Rattle.scion_topology.specs.Network.{Network}
 use Rattle.path_segment.specs.Chain.{Chain}
-use Rattle.beaconing.specs.Calls.{terminated}
+use Rattle.beaconing.specs.Calls.{terminated_beacon}
 use Rattle.path_server.specs.declared.fault.StoreFault.{StoreFault}
-use Rattle.path_server.specs.Store.{answer_to, registered, with_new, IsRegisterAnswer}
+use Rattle.path_server.specs.Store.{answer_to, with_registered, with_new, IsRegisterAnswer}
 use Rattle.path_server.proofs.Plain.{answer_is_plain, Contains-registered_kept}
 use Rattle.network_core.specs.declared.fault.EventFault.TheVariants as faults
 use Rattle.network_core.specs.declared.reply.Reply.{Reply}
 use Rattle.network_core.specs.Event.{EventValue, Tick, Originate, Extend, Terminate, Sweep, Ask, Send, Turn, Lose, Alter, CutLink, MendLink, RotateKey}
 use Rattle.network_core.specs.Value.{NetValue}
-use Rattle.network_core.specs.Step.{Made, has_room, with_beacon, with_segment, beacon_at, begun, passed_on, ended, originates, extends, terminates, ticked, Leads, Step}
+use Rattle.network_core.specs.Step.{Made, has_room, with_beacon, with_segment, beacon_at, new_beacon, passed_on, new_segment, originates, extends, terminates, ticks, Leads, Step}
 use Rattle.network_core.specs.Delivery.{is_done}
 use Rattle.network_core.proofs.Effects.{both_done, done_below}
 use Rattle.beacon_lines.specs.Beaconing.{IsOfBeaconing, StaysStored}
@@ -37,8 +37,8 @@ led : (made : Made) (old : NetValue) (reply : Reply) (new : NetValue) → Leads 
 led (Ok x) old reply new is done = (x, (refl, is.1))
 led (Err fault) old reply new is done = absurd (let refused : is_done reply ≡ false = ap is_done is.0 in cc)
 
-ticks : (old new : NetValue) (moment : ℕ) → new ≡ record old { moment = moment } → Grows old new
-ticks old new moment is = record {
+after_tick : (old new : NetValue) (moment : ℕ) → new ≡ record old { moment = moment } → Grows old new
+after_tick old new moment is = record {
   network = ap (λ (n : NetValue). n.network) is;
   beacons = λ number chain there. ap (λ (n : NetValue). slice_get n.beacons number) is ∙ there;
   segments = λ segment there. subst (λ (n : NetValue). Contains n.segments segment) (sym is) there;
@@ -63,19 +63,19 @@ with_itself (Ok false) is_new segments segment now is plain = plain.1
 with_itself (Err fault) is_new segments segment now is plain = absurd cc
 
 has_itself : (segments : List Chain) (segment : Chain) (now : ℕ) (is_new : Bool) → answer_to segments segment now ≡ Ok is_new
-    → Contains (registered segments segment now) segment
-unfolding registered
+    → Contains (with_registered segments segment now) segment
+unfolding with_registered
 has_itself segments segment now is_new is =
     with_itself (answer_to segments segment now) is_new segments segment now is (answer_is_plain segments segment now)
 
 -- what a beacon becomes stays
-ended_same : (old new : NetValue) (beacon ia : ℕ) (segment : Chain) → Grows old new → ended old beacon ia ≡ Ok segment
-    → ended new beacon ia ≡ Ok segment
+ended_same : (old new : NetValue) (beacon ia : ℕ) (segment : Chain) → Grows old new → new_segment old beacon ia ≡ Ok segment
+    → new_segment new beacon ia ≡ Ok segment
 ended_same old new beacon ia segment grows is =
     let was = both_done (beacon_at old beacon) _ segment is in
     let here = grows.beacons beacon was.0 (ok_or_ok (slice_get old.beacons beacon) faults.NoBeacon was.0 was.1.0) in
-    ap (λ (o : Option Chain). ok_or o faults.NoBeacon >>= λ chain. refused_as faults.Beacon (terminated new.network chain ia)) here
-    ∙ ap (λ (n : Network). refused_as faults.Beacon (terminated n was.0 ia)) grows.network ∙ was.1.1
+    ap (λ (o : Option Chain). ok_or o faults.NoBeacon >>= λ chain. refused_as faults.Beacon (terminated_beacon new.network chain ia)) here
+    ∙ ap (λ (n : Network). refused_as faults.Beacon (terminated_beacon n was.0 ia)) grows.network ∙ was.1.1
 
 pub stays : (old new : NetValue) → Grows old new → (event : EventValue) → StaysStored old event → StaysStored new event
 stays old new grows (Terminate beacon ia) (segment, (is, there)) =
@@ -97,11 +97,11 @@ stays old new grows (RotateKey ia key) stored = tt
 ends : (old new : NetValue) (beacon ia : ℕ) (x : Reply × NetValue) → terminates old beacon ia ≡ Ok x → new ≡ x.1
     → Grows old new × StaysStored new (Terminate beacon ia)
 ends old new beacon ia x made is =
-    let outer = both_done (ended old beacon ia) (with_segment old) x made in
+    let outer = both_done (new_segment old beacon ia) (with_segment old) x made in
     let segment = outer.0 in
     let inner = both_done (refused_as faults.Store (answer_to old.segments segment old.moment)) _ x outer.1.1 in
     let answer = done_below faults.Store (answer_to old.segments segment old.moment) inner.0 inner.1.0 in
-    let more : new ≡ record old { segments = registered old.segments segment old.moment } =
+    let more : new ≡ record old { segments = with_registered old.segments segment old.moment } =
     is ∙ ap (λ (p : Reply × NetValue). p.1) (sym (ok_is _ x inner.1.1)) in
     let grows : Grows old new = record {
       network = ap (λ (n : NetValue). n.network) more;
@@ -123,12 +123,12 @@ ends old new beacon ia x made is =
 pub grows : (old new : NetValue) (event : EventValue) (reply : Reply) → IsOfBeaconing event → Step old event reply new → is_done reply ≡ true
     → Grows old new × StaysStored new event
 grows old new (Tick to) reply own is done =
-    let made = led (ticked old to) old reply new is done in
+    let made = led (ticks old to) old reply new is done in
     let inner = both_done (check (nat_le old.moment to) faults.TimeBack) _ made.0 made.1.0 in
-    (ticks old new to (made.1.1 ∙ ap (λ (p : Reply × NetValue). p.1) (sym (ok_is _ made.0 inner.1.1))), tt)
+    (after_tick old new to (made.1.1 ∙ ap (λ (p : Reply × NetValue). p.1) (sym (ok_is _ made.0 inner.1.1))), tt)
 grows old new (Originate ia egress beta) reply own is done =
     let made = led (originates old ia egress beta) old reply new is done in
-    let inner = both_done (begun old ia egress beta) (with_beacon old) made.0 made.1.0 in
+    let inner = both_done (new_beacon old ia egress beta) (with_beacon old) made.0 made.1.0 in
     (adds old new inner.0 made.0 inner.1.1 made.1.1, tt)
 grows old new (Extend beacon ia egress) reply own is done =
     let made = led (extends old beacon ia egress) old reply new is done in
@@ -161,18 +161,18 @@ begun_done net chain x made =
 pub unchanged : (old new : NetValue) (event : EventValue) (reply : Reply) → IsOfBeaconing event → Step old event reply new → is_done reply ≡ false
     → new ≡ old
 unchanged old new (Tick to) reply own is undone =
-    unled (ticked old to) old reply new is undone (λ x made.
+    unled (ticks old to) old reply new is undone (λ x made.
     (let inner = both_done (check (nat_le old.moment to) faults.TimeBack) _ x made in
     ap (λ (p : Reply × NetValue). is_done p.0) (sym (ok_is _ x inner.1.1))))
 unchanged old new (Originate ia egress beta) reply own is undone =
     unled (originates old ia egress beta) old reply new is undone (λ x made.
-    (let inner = both_done (begun old ia egress beta) (with_beacon old) x made in begun_done old inner.0 x inner.1.1))
+    (let inner = both_done (new_beacon old ia egress beta) (with_beacon old) x made in begun_done old inner.0 x inner.1.1))
 unchanged old new (Extend beacon ia egress) reply own is undone =
     unled (extends old beacon ia egress) old reply new is undone (λ x made.
     (let inner = both_done (passed_on old beacon ia egress) (with_beacon old) x made in begun_done old inner.0 x inner.1.1))
 unchanged old new (Terminate beacon ia) reply own is undone =
     unled (terminates old beacon ia) old reply new is undone (λ x made.
-    (let outer = both_done (ended old beacon ia) (with_segment old) x made in
+    (let outer = both_done (new_segment old beacon ia) (with_segment old) x made in
     let inner = both_done (refused_as faults.Store (answer_to old.segments outer.0 old.moment)) _ x outer.1.1 in
     ap (λ (p : Reply × NetValue). is_done p.0) (sym (ok_is _ x inner.1.1))))
 unchanged old new Sweep reply own is undone = absurd own

@@ -5,7 +5,7 @@ use Rattle.scion_topology.specs.Network.{Network}
 use Rattle.path_segment.specs.Chain.{Chain}
 use Rattle.network_core.specs.Event.{EventValue, Tick, Originate, Extend, Terminate}
 use Rattle.network_core.specs.Value.{NetValue, new_net}
-use Rattle.network_core.specs.Step.{ended}
+use Rattle.network_core.specs.Step.{new_segment}
 use Rattle.network_core.specs.History.{EventRecord, IsHistory, net_after}
 use Rattle.network_core.specs.Delivery.{AllFramed, is_done}
 use Rattle.beacon_lines.specs.declared.event.BeaconEvent.{BeaconEvent}
@@ -29,7 +29,7 @@ IsOfBeaconing event = ⊥
 -- if the event ends a beacon, the segment that the beacon becomes is stored in the network
 abbrev pub StaysStored : (net : NetValue) (event : EventValue) → Type 0
 StaysStored net (Terminate beacon ia) =
-    (segment : Chain) × ((ended net beacon ia ≡ Ok segment) × Contains net.segments segment)
+    (segment : Chain) × ((new_segment net beacon ia ≡ Ok segment) × Contains net.segments segment)
 StaysStored net event = Unit {0}
 
 -- these events, all of a beaconing, lead from a new network of this topology to this network; none

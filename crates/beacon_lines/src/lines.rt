@@ -80,7 +80,8 @@ fn beaconing_of(
 /// Adds the lines of events.
 fn push_lines(text: &mut String, events: &[BeaconEvent]) -> Result<(), AllocError>
     ensures { OnOk result (string_bytes text.new
-        ≡ string_bytes text.old ++ flat_map (λ event. event_line (network_event event)) events.now) }
+        ≡ string_bytes text.old
+        ++ flat_map (λ event. event_line (network_event event)) events.now) }
 {
     for event in events {
         push_line(text, *event)?;

@@ -24,8 +24,9 @@ use Rattle.beaconing.specs.declared.fault.BeaconFault.{BeaconFault}
 use Rattle.beaconing.specs.declared.fault.BeaconFault.TheVariants.{TooLong, Loop, NotCore, NoInterface, LinkDown, WrongKind, NotHere}
 use Rattle.refusal.specs.Refusal.{check, or_else}
 use Rattle.refusal.proofs.Steps.{bind_ok, check_ok, ok_or_ok, ok_is}
-use Rattle.beaconing.specs.Entry.{key_of, entry_by, added_by, kind_over, goes_on}
-use Rattle.beaconing.specs.Calls.{originated, last_of, come_to, is_new, extended, terminated}
+use Rattle.scion_topology.specs.Keys.{key_in_use}
+use Rattle.beaconing.specs.Entry.{entry_by, added_by, kind_over, goes_on}
+use Rattle.beaconing.specs.Calls.{originated_beacon, last_of, come_to, is_new, extended_beacon, terminated_beacon}
 use Rattle.beaconing.specs.Issued.{IsEntryOf, LeadsOn, IsMade, IsUnderWay, IsIssued}
 use Rattle.beaconing.proofs.Reaching.{ia_of_named, leads_on, core_goes_on}
 
@@ -93,7 +94,7 @@ last_with_last b e last is = elim (at_end b.entries e (length (b.entries ++ (e �
   | inr end ↦ end.1
 ]
 
-entry_of : (n : Network) (ia timestamp beta ingress egress : ℕ) (one : AsEntry) → as_named n.ases ia ≡ Some one → IsEntryOf n timestamp beta (key_of one) (entry_by one timestamp beta ingress egress)
+entry_of : (n : Network) (ia timestamp beta ingress egress : ℕ) (one : AsEntry) → as_named n.ases ia ≡ Some one → IsEntryOf n timestamp beta (key_in_use one.keys) (entry_by one timestamp beta ingress egress)
 entry_of n ia timestamp beta ingress egress one named = record {
   one = one;
   named = ap (as_named n.ases) (ia_of_named n.ases ia one named) ∙ named;
@@ -115,8 +116,8 @@ rules_of_first : (e : Entry) → e.cons_ingress ≡ 0 → e.cons_egress ≢ 0 �
 unfolding beacon_fault
 rules_of_first e no_in some_out = rw (no_in, ne_eqb e.cons_egress 0 some_out) refl
 
-pub begun : (n : Network) (ia egress timestamp beta0 : ℕ) (one : AsEntry) (b : Chain) → IsNetwork n → as_named n.ases ia ≡ Some one → originated n ia egress timestamp beta0 ≡ Ok b → IsUnderWay n (key_of one ∷ []) b
-unfolding originated
+pub begun : (n : Network) (ia egress timestamp beta0 : ℕ) (one : AsEntry) (b : Chain) → IsNetwork n → as_named n.ases ia ≡ Some one → originated_beacon n ia egress timestamp beta0 ≡ Ok b → IsUnderWay n (key_in_use one.keys ∷ []) b
+unfolding originated_beacon
 begun n ia egress timestamp beta0 one b network named found =
     let s1 = bind_ok (ok_or (as_named n.ases ia) NotCore) _ b found in
     let same : s1.0 ≡ one = same_Some s1.0 one (sym (ok_or_ok (as_named n.ases ia) NotCore s1.0 s1.1) ∙ named) in
@@ -134,7 +135,7 @@ begun n ia egress timestamp beta0 one b network named found =
     let first_core : is_core n.ases one.ia ≡ true = ap (is_core n.ases) ia_is ∙ is_core_there in
     rw (← is) (record {
       rules = rules_of_first e refl (no_zero n ia egress out network there);
-      made = made_with_last n [] (chain_of (kind_over out.kind) timestamp beta0 []) (key_of one) e (made_empty n (kind_over out.kind) timestamp beta0)
+      made = made_with_last n [] (chain_of (kind_over out.kind) timestamp beta0 []) (key_in_use one.keys) e (made_empty n (kind_over out.kind) timestamp beta0)
           (λ first at. rw (← same_Some e first at) first_core)
           (entry_of n ia timestamp beta0 0 egress one named)
           (λ last at. absurd cc);
@@ -189,10 +190,10 @@ new_of b ia new = not-true _ new
 
 -- what an AS adds to a beacon that comes to it is made
 made_added : (n : Network) (keys : List (List ℕ)) (b : Chain) (ia ingress egress : ℕ) (one : AsEntry) → IsNetwork n → IsUnderWay n keys b → as_named n.ases ia ≡ Some one → Comes n b ia ingress
-    → IsMade n (keys ++ (key_of one ∷ [])) (with_last b (added_by one b ingress egress))
+    → IsMade n (keys ++ (key_in_use one.keys ∷ [])) (with_last b (added_by one b ingress egress))
 made_added n keys b ia ingress egress one network under named comes =
     let e = added_by one b ingress egress in
-    made_with_last n keys b (key_of one) e under.made
+    made_with_last n keys b (key_in_use one.keys) e under.made
     (λ first at. elim (at_end b.entries e 0 first at) [
       | inl inside ↦ under.made.core first inside.1
       | inr last ↦ absurd (let h = last.0 in let some = (IsFree-beacon_fault b.entries under.rules).some in omega arith)
@@ -213,8 +214,8 @@ rules_of_last : (es : List Entry) (e : Entry) → e.cons_ingress ≢ 0 → e.con
 unfolding last_fault
 rules_of_last es e some_in no_out new = rw (ne_eqb e.cons_ingress 0 some_in, no_out, new) refl
 
-pub passed_on : (n : Network) (keys : List (List ℕ)) (b : Chain) (ia egress : ℕ) (one : AsEntry) (c : Chain) → IsNetwork n → IsUnderWay n keys b → as_named n.ases ia ≡ Some one → extended n b ia egress ≡ Ok c → IsUnderWay n (keys ++ (key_of one ∷ [])) c
-unfolding extended
+pub passed_on : (n : Network) (keys : List (List ℕ)) (b : Chain) (ia egress : ℕ) (one : AsEntry) (c : Chain) → IsNetwork n → IsUnderWay n keys b → as_named n.ases ia ≡ Some one → extended_beacon n b ia egress ≡ Ok c → IsUnderWay n (keys ++ (key_in_use one.keys ∷ [])) c
+unfolding extended_beacon
 passed_on n keys b ia egress one c network under named found =
     let s1 = bind_ok (ok_or (as_named n.ases ia) NotHere) _ c found in
     let same : s1.0 ≡ one = same_Some s1.0 one (sym (ok_or_ok (as_named n.ases ia) NotHere s1.0 s1.1) ∙ named) in
@@ -243,8 +244,8 @@ passed_on n keys b ia egress one c network under named found =
       });
     })
 
-pub ended : (n : Network) (keys : List (List ℕ)) (b : Chain) (ia : ℕ) (one : AsEntry) (s : Chain) → IsNetwork n → IsUnderWay n keys b → as_named n.ases ia ≡ Some one → terminated n b ia ≡ Ok s → IsIssued n (keys ++ (key_of one ∷ [])) s
-unfolding terminated
+pub ended : (n : Network) (keys : List (List ℕ)) (b : Chain) (ia : ℕ) (one : AsEntry) (s : Chain) → IsNetwork n → IsUnderWay n keys b → as_named n.ases ia ≡ Some one → terminated_beacon n b ia ≡ Ok s → IsIssued n (keys ++ (key_in_use one.keys ∷ [])) s
+unfolding terminated_beacon
 ended n keys b ia one s network under named found =
     let s1 = bind_ok (ok_or (as_named n.ases ia) NotHere) _ s found in
     let same : s1.0 ≡ one = same_Some s1.0 one (sym (ok_or_ok (as_named n.ases ia) NotHere s1.0 s1.1) ∙ named) in

@@ -12,8 +12,9 @@ use Rattle.scion_topology.specs.Topology.{IsNetwork, interface_at}
 use Rattle.path_segment.specs.declared.entry.Entry.{Entry}
 use Rattle.path_segment.specs.Chain.{Chain, chain_of, with_last}
 use Rattle.beaconing.specs.declared.fault.BeaconFault.TheVariants.{TooLong, Loop, NotCore, NoInterface, LinkDown, WrongKind, NotHere}
-use Rattle.beaconing.specs.Entry.{key_of, key_in, entry_by, added_by, kind_over, goes_on}
-use Rattle.beaconing.specs.Calls.{originated, come_to, is_new, extended, terminated}
+use Rattle.scion_topology.specs.Keys.{key_in_use}
+use Rattle.beaconing.specs.Entry.{key_in, entry_by, added_by, kind_over, goes_on}
+use Rattle.beaconing.specs.Calls.{originated_beacon, come_to, is_new, extended_beacon, terminated_beacon}
 use Rattle.beaconing.specs.Issued.{IsUnderWay, IsIssued, keys_in_use, passed_through, Grows}
 use Rattle.beaconing.proofs.Reaching.{ia_of_named}
 use Rattle.beaconing.proofs.Issuing.{begun, ended}
@@ -29,8 +30,8 @@ record IsBegun (n : Network) (ia : ℕ) (b : Chain) : Type 0 where
   pub of : entry.ia ≡ ia
   pub is : b.entries ≡ entry ∷ []
 
-is_begun : (n : Network) (ia egress timestamp beta0 : ℕ) (b : Chain) → originated n ia egress timestamp beta0 ≡ Ok b → IsBegun n ia b
-unfolding originated
+is_begun : (n : Network) (ia egress timestamp beta0 : ℕ) (b : Chain) → originated_beacon n ia egress timestamp beta0 ≡ Ok b → IsBegun n ia b
+unfolding originated_beacon
 is_begun n ia egress timestamp beta0 b found =
     let s1 = bind_ok (ok_or (as_named n.ases ia) NotCore) _ b found in
     let named = ok_or_ok (as_named n.ases ia) NotCore s1.0 s1.1 in
@@ -52,8 +53,8 @@ record Adds (n : Network) (b : Chain) (ia : ℕ) (c : Chain) : Type 0 where
   pub named : as_named n.ases ia ≡ Some one
   pub grows : Grows n b ia c
 
-adds_next : (n : Network) (b : Chain) (ia egress : ℕ) (c : Chain) → extended n b ia egress ≡ Ok c → Adds n b ia c
-unfolding extended
+adds_next : (n : Network) (b : Chain) (ia egress : ℕ) (c : Chain) → extended_beacon n b ia egress ≡ Ok c → Adds n b ia c
+unfolding extended_beacon
 adds_next n b ia egress c found =
     let s1 = bind_ok (ok_or (as_named n.ases ia) NotHere) _ c found in
     let named = ok_or_ok (as_named n.ases ia) NotHere s1.0 s1.1 in
@@ -74,8 +75,8 @@ adds_next n b ia egress c found =
       };
     }
 
-adds_last : (n : Network) (b : Chain) (ia : ℕ) (c : Chain) → terminated n b ia ≡ Ok c → Adds n b ia c
-unfolding terminated
+adds_last : (n : Network) (b : Chain) (ia : ℕ) (c : Chain) → terminated_beacon n b ia ≡ Ok c → Adds n b ia c
+unfolding terminated_beacon
 adds_last n b ia c found =
     let s1 = bind_ok (ok_or (as_named n.ases ia) NotHere) _ c found in
     let named = ok_or_ok (as_named n.ases ia) NotHere s1.0 s1.1 in
@@ -92,28 +93,28 @@ adds_last n b ia c found =
       };
     }
 
-pub extended_grows : (n : Network) (b : Chain) (ia egress : ℕ) (c : Chain) → extended n b ia egress ≡ Ok c → Grows n b ia c
+pub extended_grows : (n : Network) (b : Chain) (ia egress : ℕ) (c : Chain) → extended_beacon n b ia egress ≡ Ok c → Grows n b ia c
 extended_grows n b ia egress c found = (adds_next n b ia egress c found).grows
 
-pub terminated_grows : (n : Network) (b : Chain) (ia : ℕ) (c : Chain) → terminated n b ia ≡ Ok c → Grows n b ia c
+pub terminated_grows : (n : Network) (b : Chain) (ia : ℕ) (c : Chain) → terminated_beacon n b ia ≡ Ok c → Grows n b ia c
 terminated_grows n b ia c found = (adds_last n b ia c found).grows
 
 -- ---- under the keys that the ASes have in use
 
-key_named : (n : Network) (ia : ℕ) (one : AsEntry) → as_named n.ases ia ≡ Some one → key_of one ≡ key_in n ia
+key_named : (n : Network) (ia : ℕ) (one : AsEntry) → as_named n.ases ia ≡ Some one → key_in_use one.keys ≡ key_in n ia
 key_named n ia one named = rw named refl
 
-pub begun_under_way : (n : Network) (ia egress timestamp beta0 : ℕ) (b : Chain) → IsNetwork n → originated n ia egress timestamp beta0 ≡ Ok b → IsUnderWay n (key_in n ia ∷ []) b
+pub begun_under_way : (n : Network) (ia egress timestamp beta0 : ℕ) (b : Chain) → IsNetwork n → originated_beacon n ia egress timestamp beta0 ≡ Ok b → IsUnderWay n (key_in n ia ∷ []) b
 begun_under_way n ia egress timestamp beta0 b network found =
     let s = is_begun n ia egress timestamp beta0 b found in
     subst (λ (key : List ℕ). IsUnderWay n (key ∷ []) b) (key_named n ia s.one s.named) (begun n ia egress timestamp beta0 s.one b network s.named found)
 
-pub passed_under_way : (n : Network) (keys : List (List ℕ)) (b : Chain) (ia egress : ℕ) (c : Chain) → IsNetwork n → IsUnderWay n keys b → extended n b ia egress ≡ Ok c → IsUnderWay n (keys ++ (key_in n ia ∷ [])) c
+pub passed_under_way : (n : Network) (keys : List (List ℕ)) (b : Chain) (ia egress : ℕ) (c : Chain) → IsNetwork n → IsUnderWay n keys b → extended_beacon n b ia egress ≡ Ok c → IsUnderWay n (keys ++ (key_in n ia ∷ [])) c
 passed_under_way n keys b ia egress c network under found =
     let s = adds_next n b ia egress c found in
     subst (λ (key : List ℕ). IsUnderWay n (keys ++ (key ∷ [])) c) (key_named n ia s.one s.named) (calls.passed_on n keys b ia egress s.one c network under s.named found)
 
-pub ended_issued : (n : Network) (keys : List (List ℕ)) (b : Chain) (ia : ℕ) (c : Chain) → IsNetwork n → IsUnderWay n keys b → terminated n b ia ≡ Ok c → IsIssued n (keys ++ (key_in n ia ∷ [])) c
+pub ended_issued : (n : Network) (keys : List (List ℕ)) (b : Chain) (ia : ℕ) (c : Chain) → IsNetwork n → IsUnderWay n keys b → terminated_beacon n b ia ≡ Ok c → IsIssued n (keys ++ (key_in n ia ∷ [])) c
 ended_issued n keys b ia c network under found =
     let s = adds_last n b ia c found in
     subst (λ (key : List ℕ). IsIssued n (keys ++ (key ∷ [])) c) (key_named n ia s.one s.named) (ended n keys b ia s.one c network under s.named found)
@@ -135,13 +136,13 @@ under_own_keys n b [] c network under found =
     let same : b ≡ c = ok_is b c found in
     subst (λ (x : Chain). IsUnderWay n (keys_in_use n x) x) same under
 under_own_keys n b (hop ∷ hops) c network under found =
-    let step = bind_ok (extended n b hop.0 hop.1) (λ (next : Chain). passed_through n next hops) c found in
+    let step = bind_ok (extended_beacon n b hop.0 hop.1) (λ (next : Chain). passed_through n next hops) c found in
     let more = passed_under_way n (keys_in_use n b) b hop.0 hop.1 step.0 network under step.1 in
     let own = subst (λ (keys : List (List ℕ)). IsUnderWay n keys step.0) (keys_grow n b hop.0 step.0 (extended_grows n b hop.0 hop.1 step.0 step.1)) more in
     under_own_keys n step.0 hops c network own step.2
 
 pub made_is_issued : (n : Network) (ia egress timestamp beta0 : ℕ) (hops : List (ℕ × ℕ)) (last : ℕ) (first beacon segment : Chain) → IsNetwork n
-    → originated n ia egress timestamp beta0 ≡ Ok first → passed_through n first hops ≡ Ok beacon → terminated n beacon last ≡ Ok segment
+    → originated_beacon n ia egress timestamp beta0 ≡ Ok first → passed_through n first hops ≡ Ok beacon → terminated_beacon n beacon last ≡ Ok segment
     → IsIssued n (keys_in_use n segment) segment
 made_is_issued n ia egress timestamp beta0 hops last first beacon segment network began on ended_so =
     let s = is_begun n ia egress timestamp beta0 first began in

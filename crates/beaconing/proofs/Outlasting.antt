@@ -9,10 +9,10 @@ use Rattle.scion_topology.specs.declared.entry.LinkKind.{LinkKind}
 use Rattle.scion_topology.specs.declared.fault.TopologyFault.TheVariants as faults
 use Rattle.scion_topology.specs.declared.network.AsEntry.{AsEntry}
 use Rattle.scion_topology.specs.declared.network.Link.{Link}
-use Rattle.scion_topology.specs.Keys.{key_from, renewed}
+use Rattle.scion_topology.specs.Keys.{key_from, renewed_keys}
 use Rattle.scion_topology.specs.Network.{Network, as_named, has_end, interface_of, table_of, interface_in}
 use Rattle.scion_topology.specs.Causes.{is_core}
-use Rattle.scion_topology.specs.Topology.{known, known_link, interface_at, with_up, with_key, set_up, rotated}
+use Rattle.scion_topology.specs.Topology.{known_as, known_link, interface_at, with_up, with_key, set_up, with_rotated_key}
 use Rattle.refusal.proofs.Steps.{bind_ok, ok_is, ok_or_ok}
 use Rattle.path_segment.specs.declared.entry.Entry.{Entry}
 use Rattle.path_segment.specs.declared.kind.SegKind.{SegKind}
@@ -61,7 +61,7 @@ alike_later x first rest one miss alike = record {
 rekeyed : (ia : ℕ) (key : List ℕ) (x : ℕ) (ases : List AsEntry) (one : AsEntry) → as_named ases x ≡ Some one → HasAlike (with_key ia key ases) x one
 rekeyed ia key x [] one named = absurd cc
 rekeyed ia key x (first ∷ rest) one named = elim (cases_Bool (eqb first.ia ia)) [
-  | inl here ↦ rw here (rekeyed_first (renewed key first.keys) x first rest one named)
+  | inl here ↦ rw here (rekeyed_first (renewed_keys key first.keys) x first rest one named)
   | inr other ↦ rw other (elim (cases_Bool (eqb first.ia x)) [
     | inl hit ↦ (
         let now : cond true (Some first) (as_named rest x) ≡ Some one = rw hit at named in
@@ -152,7 +152,7 @@ there_by m ia number one out named shown = rw (named, shown) refl
 
 out_still : (n m : Network) → Outlasts n m → (kind : SegKind) (entry : Entry) → HasWayOut n kind entry → HasWayOut m kind entry
 out_still n m stays kind entry way =
-    let step = bind_ok (known n entry.ia) _ way.out way.there in
+    let step = bind_ok (known_as n entry.ia) _ way.out way.there in
     let named : as_named n.ases entry.ia ≡ Some step.0 = ok_or_ok _ faults.UnknownAs step.0 step.1 in
     let shown : interface_in (table_of entry.ia n.links) entry.cons_egress ≡ Some way.out = ok_or_ok _ faults.NoLink way.out step.2 in
     let alike = stays.ases entry.ia step.0 named in
@@ -197,10 +197,10 @@ Outlasts-set_up up ia number n m change =
       kinds = λ x at. kind_with_up up ia number x at n.links;
     })
 
-Outlasts-rotated : (ia : ℕ) (key : List ℕ) (n m : Network) → rotated ia key n ≡ Ok m → Outlasts n m
-unfolding rotated
+Outlasts-rotated : (ia : ℕ) (key : List ℕ) (n m : Network) → with_rotated_key ia key n ≡ Ok m → Outlasts n m
+unfolding with_rotated_key
 Outlasts-rotated ia key n m change =
-    let step = bind_ok (known n ia) _ m change in
+    let step = bind_ok (known_as n ia) _ m change in
     let made = bind_ok (key_from key) _ m step.2 in
     let is = ok_is (record n { ases = with_key ia made.0 n.ases }) m made.2 in
     rw (← is) (record {
@@ -212,11 +212,11 @@ Outlasts-rotated ia key n m change =
 pub beacon_linked : (n m : Network) (up : Bool) (ia number : ℕ) (keys : List (List ℕ)) (b : Chain) → set_up up ia number n ≡ Ok m → IsUnderWay n keys b → IsUnderWay m keys b
 beacon_linked n m up ia number keys b change = under_way_still n m (Outlasts-set_up up ia number n m change) keys b
 
-pub beacon_keyed : (n m : Network) (ia : ℕ) (key : List ℕ) (keys : List (List ℕ)) (b : Chain) → rotated ia key n ≡ Ok m → IsUnderWay n keys b → IsUnderWay m keys b
+pub beacon_keyed : (n m : Network) (ia : ℕ) (key : List ℕ) (keys : List (List ℕ)) (b : Chain) → with_rotated_key ia key n ≡ Ok m → IsUnderWay n keys b → IsUnderWay m keys b
 beacon_keyed n m ia key keys b change = under_way_still n m (Outlasts-rotated ia key n m change) keys b
 
 pub segment_linked : (n m : Network) (up : Bool) (ia number : ℕ) (keys : List (List ℕ)) (s : Chain) → set_up up ia number n ≡ Ok m → IsIssued n keys s → IsIssued m keys s
 segment_linked n m up ia number keys s change = issued_still n m (Outlasts-set_up up ia number n m change) keys s
 
-pub segment_keyed : (n m : Network) (ia : ℕ) (key : List ℕ) (keys : List (List ℕ)) (s : Chain) → rotated ia key n ≡ Ok m → IsIssued n keys s → IsIssued m keys s
+pub segment_keyed : (n m : Network) (ia : ℕ) (key : List ℕ) (keys : List (List ℕ)) (s : Chain) → with_rotated_key ia key n ≡ Ok m → IsIssued n keys s → IsIssued m keys s
 segment_keyed n m ia key keys s change = issued_still n m (Outlasts-rotated ia key n m change) keys s

@@ -14,7 +14,7 @@ use Rattle.scion_topology.specs.declared.network.LinkClass.TheVariants as classe
 use Rattle.scion_topology.specs.Network.{Network, as_named, is_end, has_end, link_named, kind_at_a, kind_at_b, interface_of, table_of, interface_in}
 use Rattle.scion_topology.specs.Network as net
 use Rattle.scion_topology.specs.Causes.{is_core, is_ill_classed, is_ill_joined}
-use Rattle.scion_topology.specs.Topology.{IsNetwork, known, known_link, interface_at, far_end, far_end_in}
+use Rattle.scion_topology.specs.Topology.{IsNetwork, known_as, known_link, interface_at, far_end, far_end_in}
 use Rattle.refusal.proofs.Steps.{bind_ok, ok_is, ok_or_ok}
 use Rattle.scion_topology.proofs.Judging.{IsFree-IsNetwork}
 use Rattle.scion_topology.proofs.Places.{network_apart}
@@ -94,7 +94,7 @@ leads_on n kind entry next x m network way found at_x at_m =
     let m-is : (far_end link ia number).number ≡ m = ap (λ (p : ℕ × ℕ). p.1) pair in
     let is = IsJoined-known_link n ia number link network at.1 in
     let free = IsFree-IsNetwork n network in
-    let step = bind_ok (known n ia) _ way.out way.there in
+    let step = bind_ok (known_as n ia) _ way.out way.there in
     let shown : interface_in (table_of ia n.links) number ≡ Some way.out = ok_or_ok _ faults.NoLink way.out step.2 in
     let near_shown : interface_of ia link ≡ Some way.out = sym (interface_in-table_of ia number n.links link (network_apart n network) is.named) ∙ shown in
     any_found (LeadsOn kind entry next) n.links ia number link is.named (elim (cases_Bool (is_end link.a ia number)) [
@@ -160,6 +160,6 @@ begins_over links.Child up = refl
 pub core_goes_on : (n : Network) (ia number : ℕ) (out : IfEntry) → IsNetwork n → is_core n.ases ia ≡ true → interface_at n ia number ≡ Ok out → goes_on (kind_over out.kind) out.kind ≡ true
 core_goes_on n ia number out network core found =
     let free = IsFree-IsNetwork n network in
-    let step = bind_ok (known n ia) _ out found in
+    let step = bind_ok (known_as n ia) _ out found in
     let shown : interface_in (table_of ia n.links) number ≡ Some out = ok_or_ok _ faults.NoLink out step.2 in
     begins_over out.kind (no_parent_in n.ases ia number n.links out core free.classes shown)

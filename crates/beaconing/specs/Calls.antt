@@ -13,8 +13,9 @@ use Rattle.refusal.specs.Refusal.{◌>>=◌, check, or_else}
 use Rattle.beaconing.specs.Entry.{entry_by, added_by, kind_over, goes_on}
 
 -- the beacon that a core AS begins over one of its links: NotCore, NoInterface, LinkDown
-unfoldable pub originated : (n : Network) (ia egress timestamp beta0 : ℕ) → Result Chain BeaconFault
-originated n ia egress timestamp beta0 = do
+unfoldable pub originated_beacon : (n : Network) (ia egress timestamp beta0 : ℕ)
+    → Result Chain BeaconFault
+originated_beacon n ia egress timestamp beta0 = do
   one ← ok_or (as_named n.ases ia) NotCore
   _ ← check one.core NotCore
   out ← or_else NoInterface (interface_at n ia egress)
@@ -42,8 +43,9 @@ is_new beacon ia = not (list_any (λ entry. entry.ia == ia) beacon.entries)
 
 -- the beacon after an AS has passed it on over one of its links: NotHere, LinkDown for the way in,
 -- Loop, TooLong, NoInterface, WrongKind, LinkDown for the way out
-unfoldable pub extended : (n : Network) (beacon : Chain) (ia egress : ℕ) → Result Chain BeaconFault
-extended n beacon ia egress = do
+unfoldable pub extended_beacon : (n : Network) (beacon : Chain) (ia egress : ℕ)
+    → Result Chain BeaconFault
+extended_beacon n beacon ia egress = do
   one ← ok_or (as_named n.ases ia) NotHere
   ingress ← come_to n beacon ia
   _ ← check (is_new beacon one.ia) Loop
@@ -54,8 +56,8 @@ extended n beacon ia egress = do
   Ok (with_last beacon (added_by one beacon ingress egress))
 
 -- the segment that a beacon becomes if it ends in this AS: NotHere, LinkDown, Loop
-unfoldable pub terminated : Network → Chain → ℕ → Result Chain BeaconFault
-terminated n beacon ia = do
+unfoldable pub terminated_beacon : Network → Chain → ℕ → Result Chain BeaconFault
+terminated_beacon n beacon ia = do
   one ← ok_or (as_named n.ases ia) NotHere
   ingress ← come_to n beacon ia
   _ ← check (is_new beacon one.ia) Loop

@@ -1,23 +1,20 @@
 -- The entry that an AS adds to a beacon (draft-dekater-scion-controlplane, path construction).
-use Rattle.std.specs.Prelude.{ℕ, Bool, true, false, List, [], length, slice_get}
-use Rattle.std.specs.Option.{unwrap_or, option_map_or}
+use Rattle.std.specs.Prelude.{ℕ, Bool, true, false, List, [], length}
+use Rattle.std.specs.Option.{option_map_or}
 use Rattle.hop_mac.specs.Hop.{authenticator}
 use Rattle.scion_topology.specs.declared.entry.LinkKind.{LinkKind}
 use Rattle.scion_topology.specs.declared.entry.LinkKind.TheVariants as links
 use Rattle.scion_topology.specs.declared.network.AsEntry.{AsEntry}
+use Rattle.scion_topology.specs.Keys.{key_in_use}
 use Rattle.scion_topology.specs.Network.{Network, as_named}
 use Rattle.path_segment.specs.declared.entry.Entry.{Entry}
 use Rattle.path_segment.specs.declared.kind.SegKind.{SegKind}
 use Rattle.path_segment.specs.Chain.{Chain, beta_of}
 use Rattle.path_segment.specs.declared.kind.SegKind.TheVariants.{Core, Intra}
 
--- the key under which an AS makes its authenticators: the first of its accepted keys
-abbrev pub key_of : AsEntry → List ℕ
-key_of one = unwrap_or (slice_get one.keys 0) []
-
 -- the key in use of the AS of this address, or no bytes if the network has no such AS
 abbrev pub key_in : Network → ℕ → List ℕ
-key_in n ia = option_map_or key_of (as_named n.ases ia) []
+key_in n ia = option_map_or (λ one. key_in_use one.keys) (as_named n.ases ia) []
 
 -- the entry of an AS between two of its interfaces, with its authenticator under the AS's key and
 -- this accumulator
@@ -28,7 +25,7 @@ entry_by one timestamp beta ingress egress =
       cons_ingress = ingress;
       cons_egress = egress;
       exp_time = one.exp_time;
-      mac = authenticator (key_of one) beta timestamp one.exp_time ingress egress;
+      mac = authenticator (key_in_use one.keys) beta timestamp one.exp_time ingress egress;
     }
 
 -- the entry that an AS adds to a beacon, under the accumulator after all earlier entries

@@ -19,7 +19,7 @@ use Rattle.path_segment.specs.Chain.{Chain, with_last, beta_of}
 use Rattle.path_segment.specs.Rules.{AreOfSegment, IsBeacon}
 use Rattle.beaconing.specs.declared.fault.BeaconFault.{BeaconFault}
 use Rattle.beaconing.specs.Entry.{goes_on, key_in}
-use Rattle.beaconing.specs.Calls.{last_of, come_to, extended}
+use Rattle.beaconing.specs.Calls.{last_of, come_to, extended_beacon}
 
 -- the entry is of an AS of the network, has the AS's expiry, and is authenticated under this key
 -- and accumulator
@@ -78,7 +78,7 @@ keys_in_use n chain = map (λ entry. key_in n entry.ia) chain.entries
 abbrev pub passed_through : Network → Chain → List (ℕ × ℕ) → Result Chain BeaconFault
 passed_through n beacon [] = Ok beacon
 passed_through n beacon (hop ∷ hops) = do
-  next ← extended n beacon hop.0 hop.1
+  next ← extended_beacon n beacon hop.0 hop.1
   passed_through n next hops
 
 -- the beacon arrives in this AS by this interface, over a link that is up

@@ -1,7 +1,7 @@
 ghost use Rattle.std.specs.Prelude.{◌≡◌, ◌∷◌, [], None, IfOk};
 ghost use Rattle.path_segment.specs.Chain.{Chain, with_last};
 ghost use Rattle.path_segment.specs.Rules.{first_fault, next_fault, last_fault};
-ghost use Rattle.beaconing.specs.Calls.{originated, extended, terminated};
+ghost use Rattle.beaconing.specs.Calls.{originated_beacon, extended_beacon, terminated_beacon};
 ghost use Rattle.refusal.specs.Refusal.{Answers, Gives};
 
 use crate::fault::{BeaconError, BeaconFault};
@@ -26,7 +26,8 @@ pub fn originate(
     timestamp: u32,
     beta0: u16,
 ) -> Result<Beacon, BeaconError>
-    ensures { Answers (λ made. made) result (originated topology.now ia egress timestamp beta0) }
+    ensures { Answers (λ made. made) result
+        (originated_beacon topology.now ia egress timestamp beta0) }
 {
     let (kind, entry) = first_entry(topology, ia, egress, timestamp, beta0).map_err(
         OrMemory::Refused,
@@ -53,7 +54,7 @@ pub fn extend(
     ia: IsdAs,
     egress: IfId,
 ) -> Result<Beacon, BeaconError>
-    ensures { Answers (λ made. made) result (extended topology.now beacon.now ia egress) }
+    ensures { Answers (λ made. made) result (extended_beacon topology.now beacon.now ia egress) }
 {
     let entry = next_entry(topology, beacon, ia, egress).map_err(OrMemory::Refused)?;
     match beacon.with_entry(alloc, entry) {
@@ -74,7 +75,7 @@ pub fn terminate(
     beacon: &Beacon,
     ia: IsdAs,
 ) -> Result<Segment, BeaconError>
-    ensures { Answers (λ made. made) result (terminated topology.now beacon.now ia) }
+    ensures { Answers (λ made. made) result (terminated_beacon topology.now beacon.now ia) }
 {
     let entry = last_entry(topology, beacon, ia).map_err(OrMemory::Refused)?;
     match beacon.finish(alloc, entry) {
@@ -85,7 +86,7 @@ pub fn terminate(
 }
 
 /// The kind of a new beacon, and its first entry.
-#[tactic(auto, unfolding(crate::specs::Calls::originated, path_segment::specs::Rules::first_fault))]
+#[tactic(auto, unfolding(crate::specs::Calls::originated_beacon, path_segment::specs::Rules::first_fault))]
 fn first_entry(
     topology: &Topology,
     ia: IsdAs,
@@ -100,7 +101,7 @@ fn first_entry(
           beta0 = beta0;
           entries = x.1 ∷ [];
         }) result
-        (originated topology.now ia egress timestamp beta0) }
+        (originated_beacon topology.now ia egress timestamp beta0) }
     ensures fits { IfOk result (λ x. first_fault x.1 ≡ None) }
 {
     let Ok(one) = topology.as_entry(ia) else {
@@ -118,7 +119,7 @@ fn first_entry(
 }
 
 /// The entry by which an AS passes a beacon on.
-#[tactic(auto, unfolding(crate::specs::Calls::extended, path_segment::specs::Rules::next_fault))]
+#[tactic(auto, unfolding(crate::specs::Calls::extended_beacon, path_segment::specs::Rules::next_fault))]
 fn next_entry(
     topology: &Topology,
     beacon: &Beacon,
@@ -126,7 +127,7 @@ fn next_entry(
     egress: IfId,
 ) -> Result<Entry, BeaconFault>
     ensures value { Gives (λ entry. with_last beacon.now entry) result
-        (extended topology.now beacon.now ia egress) }
+        (extended_beacon topology.now beacon.now ia egress) }
     ensures fits { IfOk result (λ entry. next_fault beacon.now.entries entry ≡ None) }
 {
     let Ok(one) = topology.as_entry(ia) else {
@@ -150,10 +151,10 @@ fn next_entry(
 }
 
 /// The entry by which an AS ends a beacon.
-#[tactic(auto, unfolding(crate::specs::Calls::terminated, path_segment::specs::Rules::last_fault))]
+#[tactic(auto, unfolding(crate::specs::Calls::terminated_beacon, path_segment::specs::Rules::last_fault))]
 fn last_entry(topology: &Topology, beacon: &Beacon, ia: IsdAs) -> Result<Entry, BeaconFault>
     ensures value { Gives (λ entry. with_last beacon.now entry) result
-        (terminated topology.now beacon.now ia) }
+        (terminated_beacon topology.now beacon.now ia) }
     ensures fits { IfOk result (λ entry. last_fault beacon.now.entries entry ≡ None) }
 {
     let Ok(one) = topology.as_entry(ia) else {

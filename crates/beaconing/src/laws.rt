@@ -2,16 +2,16 @@
 
 ghost use Rattle.std.specs.Prelude.{◌≡◌, ℕ, Bool, List, [], ◌∷◌, ◌++◌, Ok};
 ghost use Rattle.scion_topology.specs.Network.{Network};
-ghost use Rattle.scion_topology.specs.Topology.{IsNetwork, set_up, rotated};
+ghost use Rattle.scion_topology.specs.Topology.{IsNetwork, set_up, with_rotated_key};
 ghost use Rattle.path_segment.specs.Chain.{Chain};
 ghost use Rattle.beaconing.specs.Entry.{key_in};
-ghost use Rattle.beaconing.specs.Calls.{originated, come_to, extended, terminated};
+ghost use Rattle.beaconing.specs.Calls.{originated_beacon, come_to, extended_beacon, terminated_beacon};
 ghost use Rattle.beaconing.specs.Issued.{IsUnderWay, IsIssued, ComesOver, Grows, keys_in_use, passed_through};
 
 /// A beacon that an AS begins is under way, under the key that the AS has in use.
 pub fn begun_is_under_way()
     ensures { (n : Network) (ia egress timestamp beta0 : ℕ) (beacon : Chain) → IsNetwork n
-        → originated n ia egress timestamp beta0 ≡ Ok beacon
+        → originated_beacon n ia egress timestamp beta0 ≡ Ok beacon
         → IsUnderWay n (key_in n ia ∷ []) beacon }
 {}
 
@@ -19,7 +19,7 @@ pub fn begun_is_under_way()
 /// the AS has in use.
 pub fn passed_on_is_under_way()
     ensures { (n : Network) (keys : List (List ℕ)) (beacon : Chain) (ia egress : ℕ) (next : Chain)
-        → IsNetwork n → IsUnderWay n keys beacon → extended n beacon ia egress ≡ Ok next
+        → IsNetwork n → IsUnderWay n keys beacon → extended_beacon n beacon ia egress ≡ Ok next
         → IsUnderWay n (keys ++ (key_in n ia ∷ [])) next }
 {}
 
@@ -27,7 +27,7 @@ pub fn passed_on_is_under_way()
 /// those before and the key that the AS has in use.
 pub fn ended_is_issued()
     ensures { (n : Network) (keys : List (List ℕ)) (beacon : Chain) (ia : ℕ) (segment : Chain)
-        → IsNetwork n → IsUnderWay n keys beacon → terminated n beacon ia ≡ Ok segment
+        → IsNetwork n → IsUnderWay n keys beacon → terminated_beacon n beacon ia ≡ Ok segment
         → IsIssued n (keys ++ (key_in n ia ∷ [])) segment }
 {}
 
@@ -36,18 +36,19 @@ pub fn ended_is_issued()
 pub fn made_is_issued()
     ensures { (n : Network) (ia egress timestamp beta0 : ℕ) (hops : List (ℕ × ℕ)) (last : ℕ)
         (begun beacon segment : Chain) → IsNetwork n
-        → originated n ia egress timestamp beta0 ≡ Ok begun
+        → originated_beacon n ia egress timestamp beta0 ≡ Ok begun
         → passed_through n begun hops ≡ Ok beacon
-        → terminated n beacon last ≡ Ok segment → IsIssued n (keys_in_use n segment) segment }
+        → terminated_beacon n beacon last ≡ Ok segment
+        → IsIssued n (keys_in_use n segment) segment }
 {}
 
 /// Each call adds one entry, that of the AS in which the beacon arrived; and the link by which it
 /// arrived is up.
 pub fn chains_grow_by_one()
     ensures extended { (n : Network) (beacon : Chain) (ia egress : ℕ) (next : Chain)
-        → extended n beacon ia egress ≡ Ok next → Grows n beacon ia next }
+        → extended_beacon n beacon ia egress ≡ Ok next → Grows n beacon ia next }
     ensures terminated { (n : Network) (beacon : Chain) (ia : ℕ) (segment : Chain)
-        → terminated n beacon ia ≡ Ok segment → Grows n beacon ia segment }
+        → terminated_beacon n beacon ia ≡ Ok segment → Grows n beacon ia segment }
     ensures came { (n : Network) (beacon : Chain) (ia ingress : ℕ) → IsNetwork n
         → come_to n beacon ia ≡ Ok ingress → ComesOver n beacon ia ingress }
 {}
@@ -59,7 +60,7 @@ pub fn beacons_outlast_changes()
         → set_up up ia number n ≡ Ok m → IsUnderWay n keys beacon → IsUnderWay m keys beacon }
     ensures rotations { (n m : Network) (ia : ℕ) (key : List ℕ) (keys : List (List ℕ))
         (beacon : Chain)
-        → rotated ia key n ≡ Ok m → IsUnderWay n keys beacon → IsUnderWay m keys beacon }
+        → with_rotated_key ia key n ≡ Ok m → IsUnderWay n keys beacon → IsUnderWay m keys beacon }
 {}
 
 /// A segment that a network has issued stays so if a link goes up or down, or an AS changes its
@@ -70,5 +71,5 @@ pub fn segments_outlast_changes()
         → set_up up ia number n ≡ Ok m → IsIssued n keys segment → IsIssued m keys segment }
     ensures rotations { (n m : Network) (ia : ℕ) (key : List ℕ) (keys : List (List ℕ))
         (segment : Chain)
-        → rotated ia key n ≡ Ok m → IsIssued n keys segment → IsIssued m keys segment }
+        → with_rotated_key ia key n ≡ Ok m → IsIssued n keys segment → IsIssued m keys segment }
 {}

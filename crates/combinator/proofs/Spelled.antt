@@ -7,7 +7,7 @@ use Rattle.path_segment.specs.declared.entry.Entry.{Entry}
 use Rattle.path_segment.specs.Chain.{between}
 use Rattle.path_header.specs.Value.{HeaderValue}
 use Rattle.path_header.specs.Spelling.{InfoFits, HopFits, FitsBits, SpellsHeader, spelling}
-use Rattle.path_verifier.specs.Piece.{PieceValue, in_order, travelled}
+use Rattle.path_verifier.specs.Piece.{PieceValue, in_order, travelled_entries}
 use Rattle.path_verifier.specs.Header.{field_of, fields_of, info_of, header_of}
 use Rattle.path_verifier.proofs.Headers.{header_is_one}
 use Rattle.path_verifier.proofs.Turned.{reverse_cons}
@@ -31,7 +31,7 @@ piece_fits : (piece : PieceValue) → HasFields piece → AllByRecursion HopFits
 unfolding fields_of HasFields
 piece_fits piece has =
     let P : Entry → Type 0 = λ entry. HopFits (field_of entry) in
-    fields_fit (travelled piece) (in_either piece.along P (between piece.from piece.to piece.segment.entries)
+    fields_fit (travelled_entries piece) (in_either piece.along P (between piece.from piece.to piece.segment.entries)
     (All-drop P piece.from (take (piece.to + 1) piece.segment.entries) (All-take P (piece.to + 1) piece.segment.entries has.1)))
 
 infos_fit : (pieces : List PieceValue) → All HasFields pieces → AllByRecursion InfoFits (map info_of pieces)

@@ -5,7 +5,7 @@ use Rattle.std.specs.List.{fold, flat_map}
 use Rattle.std.proofs.lemmas.Grind.{flat_map-append}
 use Rattle.std.proofs.lemmas.Option.{same_Some}
 use Rattle.path_segment.specs.declared.entry.Entry.{Entry}
-use Rattle.path_verifier.specs.Piece.{PieceValue, HasRange, travelled}
+use Rattle.path_verifier.specs.Piece.{PieceValue, HasRange, travelled_entries}
 use Rattle.path_verifier.specs.Walk.{hop_of, hops_of, entered_by, left_by, walk_with, walk_of}
 use Rattle.path_verifier.specs.Header.{len_of}
 use Rattle.path_verifier.proofs.Hops.{hop_there, length_hops_of}
@@ -91,15 +91,15 @@ first_way [] hop long is = absurd (omega (arith, long))
 first_way (first ∷ []) hop long is = absurd (omega (arith, long))
 first_way (first ∷ next ∷ later) hop long is = ap (option_map (λ (h : WalkHop). h.egress)) is
 
-leaves : (piece : PieceValue) (entry : Entry) → HasRange piece → slice_get (travelled piece) 0 ≡ Some entry → LeavesBy piece (hop_of piece.along entry).egress
+leaves : (piece : PieceValue) (entry : Entry) → HasRange piece → slice_get (travelled_entries piece) 0 ≡ Some entry → LeavesBy piece (hop_of piece.along entry).egress
 unfolding LeavesBy
 leaves piece entry range there = first_way (hops_of piece) (hop_of piece.along entry) (two_hops piece range) (hop_there piece 0 entry (hop_of piece.along entry) there refl)
 
-pub leaves_along : (piece : PieceValue) (entry : Entry) → HasRange piece → slice_get (travelled piece) 0 ≡ Some entry → piece.along ≡ true → LeavesBy piece entry.cons_egress
+pub leaves_along : (piece : PieceValue) (entry : Entry) → HasRange piece → slice_get (travelled_entries piece) 0 ≡ Some entry → piece.along ≡ true → LeavesBy piece entry.cons_egress
 unfolding hop_of
 leaves_along piece entry range there is = subst (λ (along : Bool). LeavesBy piece (hop_of along entry).egress) is (leaves piece entry range there)
 
-pub leaves_against : (piece : PieceValue) (entry : Entry) → HasRange piece → slice_get (travelled piece) 0 ≡ Some entry → piece.along ≡ false → LeavesBy piece entry.cons_ingress
+pub leaves_against : (piece : PieceValue) (entry : Entry) → HasRange piece → slice_get (travelled_entries piece) 0 ≡ Some entry → piece.along ≡ false → LeavesBy piece entry.cons_ingress
 unfolding hop_of
 leaves_against piece entry range there is = subst (λ (along : Bool). LeavesBy piece (hop_of along entry).egress) is (leaves piece entry range there)
 

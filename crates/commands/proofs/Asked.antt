@@ -11,7 +11,7 @@ use Rattle.commands.specs.declared.command.Command.{Command}
 use Rattle.commands.specs.declared.command.Command.TheVariants.{Run}
 use Rattle.commands.specs.declared.fault.WordsFault.{WordsFault}
 use Rattle.commands.specs.declared.fault.WordsFault.TheVariants.{Usage, Memory}
-use Rattle.commands.specs.Words.{asked, command_in, named_by, program_app, unless_faulty}
+use Rattle.commands.specs.Words.{command_or_run, command_in, named_by, program_app, unless_faulty}
 use Rattle.commands.specs.Fault.{AsksFor, Explains, IsWordsFault}
 
 -- the command line is one whose matches and faults `clap` states
@@ -28,20 +28,20 @@ none_of [] kind command among = absurd among
 none_of (k ∷ ks) kind command among = refl
 
 -- no words ask for a run
-pub asked-nothing : {A : Type 0} (text : A → Text) (words : List A) → length words ≡ 0 → asked (map text words) ≡ Some Run
-unfolding asked
+pub asked-nothing : {A : Type 0} (text : A → Text) (words : List A) → length words ≡ 0 → command_or_run (map text words) ≡ Some Run
+unfolding command_or_run
 asked-nothing text [] none = refl
 asked-nothing text (word ∷ words) none = absurd (omega (none, arith))
 
 -- words ask for what they name
 pub asked-words : {A : Type 0} (text : A → Text) (words : List A) → length words ≢ 0
-    → asked (map text words) ≡ named_by (map text words)
-unfolding asked
+    → command_or_run (map text words) ≡ named_by (map text words)
+unfolding command_or_run
 asked-words text [] some = absurd (some refl)
 asked-words text (word ∷ words) some = refl
 
 pub Asks-words : {A : Type 0} (words : List A) (text : A → Text) (answer : Result Command WordsFault) → length words ≢ 0
-    → AsksFor answer (named_by (map text words)) → AsksFor answer (asked (map text words))
+    → AsksFor answer (named_by (map text words)) → AsksFor answer (command_or_run (map text words))
 Asks-words words text answer some asks = subst (AsksFor answer) (sym (asked-words text words some)) asks
 
 -- words that `clap` refuses name nothing

@@ -132,9 +132,9 @@ named_by words =
     unless_faulty (fault_of program_app words) (command_in (subcommand_of program_app words))
 
 -- the command of the words after the program's name; without any it is `run`
-unfoldable pub asked : List Text → Option Asked
-asked [] = Some Run
-asked (word ∷ words) = named_by (word ∷ words)
+unfoldable pub command_or_run : List Text → Option Asked
+command_or_run [] = Some Run
+command_or_run (word ∷ words) = named_by (word ∷ words)
 
 -- `clap` accepts the words after the program's name
 abbrev pub IsCommandLine : List Text → Type 0

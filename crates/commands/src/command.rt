@@ -1,6 +1,6 @@
 ghost use Rattle.std.specs.Prelude.{◌≡◌, IfErr, IfOk, IfSome, map};
 ghost use Rattle.clap.specs.Words.{subcommand_rows_of};
-ghost use Rattle.commands.specs.Words.{IsCommandLine, IsInRange, asked, command_in, turn_asked};
+ghost use Rattle.commands.specs.Words.{IsCommandLine, IsInRange, command_or_run, command_in, turn_asked};
 ghost use Rattle.commands.specs.Fault.{AnswersTurn, AsksFor, Explains, IsStepUsage, IsWordsFault};
 
 use crate::fault::WordsFault;
@@ -65,9 +65,9 @@ impl Command {
     /// The same fault with the text `scionet: usage`, if the words name no command, those of `step`
     /// give no turn, or a number of `work` can't be read. [`WordsFault::Memory`] if memory runs
     /// out.
-    #[tactic(auto, unfolding(crate::specs::Words::asked))]
+    #[tactic(auto, unfolding(crate::specs::Words::command_or_run))]
     pub fn parse<'a>(alloc: Global, words: &'a [&'a str]) -> Result<Command, WordsFault>
-        ensures asks { AsksFor result (asked (map (λ word. word.now) words.entry.now)) }
+        ensures asks { AsksFor result (command_or_run (map (λ word. word.now) words.entry.now)) }
         ensures range { IfOk result IsInRange }
         // For words that `clap` accepts and that are no command, the text is our own.
         ensures usage { IfErr result (λ fault.
@@ -93,7 +93,7 @@ impl Command {
 /// [`StepFault::Usage`] as in [`Command::parse`], and if the words are another command; then
 /// [`StepFault::PacketText`] as in [`StepCommand::line`]; [`StepFault::Memory`] if memory runs out.
 pub fn step_line<'a>(alloc: Global, words: &'a [&'a str], packet: &str) -> Result<String, StepFault>
-    ensures answers { AnswersTurn result (turn_asked (asked (map (λ word. word.now)
+    ensures answers { AnswersTurn result (turn_asked (command_or_run (map (λ word. word.now)
         words.entry.now))) packet.now }
     // For words that `clap` accepts and that are no turn, the text is our own.
     ensures usage { IfErr result (λ fault.

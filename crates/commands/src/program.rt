@@ -1,7 +1,7 @@
 //! A run of the program over any source and sinks.
 
 ghost use Rattle.std.specs.Prelude.{◌≡◌, ◌<◌, ◌≤◌, IfErr, map};
-ghost use Rattle.commands.specs.Words.{IsCommandLine, asked};
+ghost use Rattle.commands.specs.Words.{IsCommandLine, command_or_run};
 ghost use Rattle.commands.specs.Fault.{IsOwnUsage, status_of, usage_text};
 ghost use Rattle.commands.specs.Run.{AnswersSource, CarriesPackets, DoesCommand, EndsWith, Steps, Tells, TellsOf, change_of};
 ghost use Rattle.commands.specs.declared.status.Status.TheVariants.{Done, Refused};
@@ -83,7 +83,7 @@ pub fn execute<'a, R: Threads + Wait + Sync, S: Source, K: Sink>(
     source: &mut S,
     sink: &mut K,
 ) -> Result<(), CommandFault>
-    ensures does { DoesCommand result (asked (map (λ word. word.now) words.entry.now))
+    ensures does { DoesCommand result (command_or_run (map (λ word. word.now) words.entry.now))
         (change_of S.left S.failed source.old source.new)
         (change_of K.held K.failed sink.old sink.new) }
     ensures silent { IfErr result (λ fault. status_of fault ≡ Refused
@@ -121,7 +121,7 @@ pub fn run<'a, R: Threads + Wait + Sync, S: Source, K: Sink, E: Sink>(
     sink: &mut K,
     errors: &mut E,
 ) -> Status
-    ensures ends { EndsWith result (asked (map (λ word. word.now) words.entry.now))
+    ensures ends { EndsWith result (command_or_run (map (λ word. word.now) words.entry.now))
         (change_of S.left S.failed source.old source.new)
         (change_of K.held K.failed sink.old sink.new)
         (change_of E.held E.failed errors.old errors.new) }

@@ -7,7 +7,8 @@ use Rattle.std.specs.Str.{bytes_eq}
 use Rattle.serde_json.specs.Data.{Data}
 use Rattle.serde_json.specs.Find.{get, as_str}
 use Rattle.hex.specs.Hex.{decode_of}
-use Rattle.refusal.specs.Optional.{◌>>=◌, only}
+use Rattle.std.specs.Result.{result_ok}
+use Rattle.refusal.specs.Optional.{◌>>=◌}
 use Rattle.json_fields.specs.Fields.{document_in, text_at, whole_at, list_at, items_at}
 use Rattle.isd_as.specs.Reading.{address_at}
 use Rattle.policy_expr.specs.Options.{OptionTexts, options_at}
@@ -34,13 +35,13 @@ byte_at name d = whole_at 0 255 name d
 unfoldable pub ia_in : List ℕ → Data → Option ℕ
 ia_in name d = do
   text ← text_at name d
-  only (address_at text)
+  result_ok (address_at text)
 
 -- the bytes in a member, in hexadecimal digits of either case
 unfoldable pub bytes_at : List ℕ → Data → Option (List ℕ)
 bytes_at name d = do
   text ← text_at name d
-  only (decode_of text)
+  result_ok (decode_of text)
 
 -- ---- policy options
 
@@ -177,8 +178,8 @@ show_in d = do
   Some (Shows packet)
 
 -- the value of an object with this word
-unfoldable pub worded : List ℕ → Data → Option LineValue
-worded word d =
+unfoldable pub line_with_word : List ℕ → Data → Option LineValue
+line_with_word word d =
     if bytes_eq word (codes "show") then show_in d
     else option_map Happens (event_in word d)
 
@@ -186,7 +187,7 @@ worded word d =
 unfoldable pub said_by : Data → Option LineValue
 said_by d = do
   word ← text_at (codes "do") d
-  worded word d
+  line_with_word word d
 
 -- the value of a line's bytes, if they are such an object
 unfoldable pub line_in : List ℕ → Option LineValue

@@ -26,8 +26,8 @@ use Rattle.network_core.specs.Fault.{code_and_name}
 use Rattle.network_core.specs.Value.{NetValue, PacketValue}
 
 -- a word and a number: `WORD N`
-abbrev pub numbered : List ℕ → ℕ → List ℕ
-numbered word number = word ++ (codes " " ++ decimal number)
+abbrev pub word_and_number : List ℕ → ℕ → List ℕ
+word_and_number word number = word ++ (codes " " ++ decimal number)
 
 -- ---- walks
 
@@ -59,8 +59,8 @@ passed_text (hop ∷ hops) = codes "; " ++ hops_text (hop ∷ hops)
 
 -- the outcome of a router's step
 abbrev pub outcome_text : Outcome → List ℕ
-outcome_text (ToLink interface) = numbered (codes "link") interface
-outcome_text (ToRouter router) = numbered (codes "router") router
+outcome_text (ToLink interface) = word_and_number (codes "link") interface
+outcome_text (ToRouter router) = word_and_number (codes "router") router
 outcome_text Deliver = codes "delivered"
 
 -- the reply of a turn
@@ -100,7 +100,7 @@ answer_in net number = option_map (λ one. one.answer) (slice_get net.answers nu
 -- the reply with an answer: `ask K N`, and its N paths
 abbrev pub answer_text : ℕ → List PathValue → List ℕ
 answer_text number paths =
-    numbered (codes "ask") number
+    word_and_number (codes "ask") number
     ++ (codes " " ++ (decimal (length paths) ++ flat_map path_text paths))
 
 -- whether the segment is new to the store
@@ -111,11 +111,11 @@ registration_text false = codes "segment known"
 -- the reply to an event, in the network after it
 abbrev pub reply_text : NetValue → Reply → List ℕ
 reply_text net Done = codes "ok"
-reply_text net (Begun beacon) = numbered (codes "beacon") beacon
+reply_text net (Begun beacon) = word_and_number (codes "beacon") beacon
 reply_text net (Registered is_new) = registration_text is_new
-reply_text net (Swept count) = numbered (codes "swept") count
+reply_text net (Swept count) = word_and_number (codes "swept") count
 reply_text net (Answered number) = answer_text number (paths_of (answer_in net number))
-reply_text net (Sent packet) = numbered (codes "packet") packet
+reply_text net (Sent packet) = word_and_number (codes "packet") packet
 reply_text net (Turned reply) = turn_text reply
 reply_text net (Refused fault) = fault_text fault
 

@@ -8,7 +8,7 @@ ghost use Rattle.std.specs.String.{string_bytes};
 ghost use Rattle.json_fields.specs.Documents.{node_data};
 ghost use Rattle.network_core.specs.Seen as events;
 ghost use Rattle.event_lines.specs.AcceptedLines.{accepted_as};
-ghost use Rattle.event_lines.specs.Line.{Happens, ask_in, line_in, said_by, show_in, untexted_event, worded};
+ghost use Rattle.event_lines.specs.Line.{Happens, ask_in, line_in, said_by, show_in, untexted_event, line_with_word};
 ghost use Rattle.event_lines.specs.inner.Seen.{line_value};
 ghost use Rattle.event_lines.specs.inner.Replies.{Replies};
 
@@ -144,7 +144,7 @@ fn answer_untexted(
 }
 
 /// Writes the reply to a JSON object.
-#[tactic(auto, unfolding(crate::specs::Line::said_by, crate::specs::Line::worded))]
+#[tactic(auto, unfolding(crate::specs::Line::said_by, crate::specs::Line::line_with_word))]
 fn answer_object(
     alloc: Global,
     accepted: AcceptedLines,

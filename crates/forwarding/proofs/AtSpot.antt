@@ -11,14 +11,14 @@ use Rattle.path_segment.specs.declared.entry.Entry.{Entry}
 use Rattle.path_header.specs.declared.fields.InfoField.{InfoField}
 use Rattle.path_header.specs.declared.fields.HopField.{HopField}
 use Rattle.path_header.specs.Value.{HeaderValue, lens_from, segment_at}
-use Rattle.path_verifier.specs.Piece.{PieceValue, HasRange, travelled}
+use Rattle.path_verifier.specs.Piece.{PieceValue, HasRange, travelled_entries}
 use Rattle.path_verifier.specs.Header.{info_with, field_of, fields_of, len_of, total_hops}
 use Rattle.router_step.specs.declared.arrival.Arrival.{Arrival}
 use Rattle.router_step.specs.declared.arrival.Arrival.TheVariants.{FromHost, Inside, Link}
 use Rattle.router_step.specs.declared.outcome.Outcome.TheVariants.{ToLink}
-use Rattle.router_step.specs.Place.{current_info, current_hop, with_seg_id, seg_id_on_arrival, seg_id_on_leaving, arrived, moved_on, gone}
+use Rattle.router_step.specs.Place.{current_info, current_hop, with_seg_id, seg_id_on_arrival, seg_id_on_leaving, header_on_arrival, moved_on, header_on_leaving}
 use Rattle.router_step.specs.Checks.{is_start_right, indices_fit, way_in_fits, is_hop_live, is_mac_right, source_fits, is_last, ends_segment}
-use Rattle.forwarding.specs.PathPosition.{PathPosition, pieces_at, beta_at, beta_before, header_with, header_there, header_coming, advanced}
+use Rattle.forwarding.specs.PathPosition.{PathPosition, pieces_at, beta_at, beta_before, header_with, header_there, header_coming, next_position}
 use Rattle.forwarding.specs.OnPath.{header_on}
 use Rattle.forwarding.proofs.Reading.{info_of-header_with, with_seg_id-header_with, hop_of-header_with, length_fields}
 use Rattle.forwarding.proofs.Places.{IsLong, long_of, segment_of_place, no_single}
@@ -31,7 +31,7 @@ pub record IsSpot (spot : PathPosition) (entry : Entry) : Type 0 where
   pub past_long : AllByRecursion IsLong spot.past
   pub ranged : HasRange spot.piece
   pub later_long : AllByRecursion IsLong spot.later
-  pub there : slice_get (travelled spot.piece) spot.reached ≡ Some entry
+  pub there : slice_get (travelled_entries spot.piece) spot.reached ≡ Some entry
 
 both_long : (past later : List PieceValue) (piece : PieceValue) → AllByRecursion IsLong past
     → IsLong piece → AllByRecursion IsLong later → AllByRecursion IsLong (past ++ piece ∷ later)
@@ -46,13 +46,13 @@ all_long spot entry is =
 
 pub within_piece : (spot : PathPosition) (entry : Entry) → IsSpot spot entry
     → spot.reached < len_of spot.piece
-within_piece spot entry is = slice_get_within (travelled spot.piece) spot.reached entry is.there
+within_piece spot entry is = slice_get_within (travelled_entries spot.piece) spot.reached entry is.there
 
 -- ---- the header after the arrival
 
 arrived_with : (arrival : Arrival) (spot : PathPosition) (seg_id : ℕ) (entry : Entry)
-    → slice_get (travelled spot.piece) spot.reached ≡ Some entry
-    → arrived arrival (header_with spot seg_id) ≡ header_with spot
+    → slice_get (travelled_entries spot.piece) spot.reached ≡ Some entry
+    → header_on_arrival arrival (header_with spot seg_id) ≡ header_with spot
     (seg_id_on_arrival arrival (info_with spot.piece seg_id) (field_of entry))
 arrived_with arrival spot seg_id entry there =
     ap (λ (i : InfoField). with_seg_id (header_with spot seg_id)
@@ -64,7 +64,7 @@ arrived_with arrival spot seg_id entry there =
     ∙ with_seg_id-header_with spot seg_id _
 
 pub arrived_there : (arrival : Arrival) (spot : PathPosition) (entry : Entry) → IsSpot spot entry
-    → arrived arrival (header_on arrival spot) ≡ header_there spot
+    → header_on_arrival arrival (header_on arrival spot) ≡ header_there spot
 arrived_there FromHost spot entry is =
     arrived_with FromHost spot (beta_at spot.piece spot.reached) entry is.there
 arrived_there Inside spot entry is =
@@ -205,7 +205,7 @@ not_moved header =
 
 further : (spot : PathPosition) (seg_id : ℕ)
     → record (header_with spot seg_id) { curr_hf = (header_with spot seg_id).curr_hf + 1 }
-    ≡ header_with (advanced spot) seg_id
+    ≡ header_with (next_position spot) seg_id
 unfolding header_with
 further spot seg_id =
     let place : total_hops spot.past + spot.reached + 1 ≡ total_hops spot.past + (spot.reached + 1) =
@@ -215,7 +215,7 @@ further spot seg_id =
 -- a packet that leaves comes to the next entry
 pub leaving : (spot : PathPosition) (entry : Entry) (interface : ℕ) → IsSpot spot entry
     → spot.reached + 1 < len_of spot.piece
-    → gone (ToLink interface) (header_there spot) ≡ header_coming (advanced spot)
+    → header_on_leaving (ToLink interface) (header_there spot) ≡ header_coming (next_position spot)
 leaving spot entry interface is more =
     let beta = beta_at spot.piece spot.reached in
     let left : with_seg_id (header_with spot beta)

@@ -9,7 +9,7 @@ use Rattle.hop_mac.proofs.Undone.{beta_after-twice}
 use Rattle.path_segment.specs.declared.entry.Entry.{Entry}
 use Rattle.path_segment.specs.Chain.{beta_of}
 use Rattle.path_segment.proofs.Chained.{beta_of-next}
-use Rattle.path_verifier.specs.Piece.{PieceValue, HasRange, entries_of, travelled}
+use Rattle.path_verifier.specs.Piece.{PieceValue, HasRange, entries_of, travelled_entries}
 use Rattle.path_verifier.specs.Header.{info_with, field_of, len_of}
 use Rattle.path_verifier.proofs.Entries.{length_travelled, length-entries_of}
 use Rattle.router_step.specs.declared.arrival.Arrival.TheVariants.{Link}
@@ -25,15 +25,15 @@ read_at entries k i entry within read same = ap (slice_get entries) same
 
 -- the entry that is travelled at a place stands in the segment at its own place
 pub entry_there : (piece : PieceValue) (i : ℕ) (entry : Entry) → HasRange piece
-    → slice_get (travelled piece) i ≡ Some entry
+    → slice_get (travelled_entries piece) i ≡ Some entry
     → slice_get piece.segment.entries (place_of piece i) ≡ Some entry
 entry_there piece i entry range there =
-    let inside : i < len_of piece = slice_get_within (travelled piece) i entry there in
+    let inside : i < len_of piece = slice_get_within (travelled_entries piece) i entry there in
     let long = length_travelled piece range in
     let cut = length-entries_of piece range in
     let order = range.order in
     let within = range.within in
-    let read = get_or_from_slice_get (travelled piece) i entry entry there in
+    let read = get_or_from_slice_get (travelled_entries piece) i entry entry there in
     elim (cases_Bool piece.along) [
       | inl forward ↦ (
           let at : get_or (entries_of piece) i entry ≡ entry = rw forward at read in
@@ -61,7 +61,7 @@ entry_there piece i entry range there =
 
 -- a packet that comes over a link has the entry's accumulator after its arrival
 pub settled : (piece : PieceValue) (i interface : ℕ) (entry : Entry) → HasRange piece
-    → slice_get (travelled piece) i ≡ Some entry
+    → slice_get (travelled_entries piece) i ≡ Some entry
     → seg_id_on_arrival (Link interface) (info_with piece (beta_before piece i))
     (field_of entry) ≡ beta_at piece i
 settled piece i interface entry range there =
@@ -81,7 +81,7 @@ settled piece i interface entry range there =
 
 -- a packet that leaves has the accumulator with which it comes to the next entry
 pub onward : (piece : PieceValue) (i : ℕ) (entry : Entry) → HasRange piece
-    → slice_get (travelled piece) i ≡ Some entry → i + 1 < len_of piece
+    → slice_get (travelled_entries piece) i ≡ Some entry → i + 1 < len_of piece
     → seg_id_on_leaving (info_with piece (beta_at piece i)) (field_of entry) ≡ beta_before piece
     (i + 1)
 onward piece i entry range there more =

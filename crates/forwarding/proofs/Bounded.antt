@@ -25,9 +25,9 @@ use Rattle.router_step.proofs.StepLaws.{new_header, over_own_link, to_owner}
 use Rattle.router_step.proofs.Continuing.{header_again}
 use Rattle.forwarding.specs.declared.location.RouterStop.{RouterStop}
 use Rattle.forwarding.specs.declared.location.PacketLocation.TheVariants.{AtRouter}
-use Rattle.forwarding.specs.Frame.{addresses, framed}
+use Rattle.forwarding.specs.Frame.{addresses, frame_of}
 use Rattle.policy_expr.specs.declared.hop.WalkHop.{WalkHop}
-use Rattle.forwarding.specs.Turn.{Packet, IsAtNoRouter, put_at, noted, hop_by, put, over_link, at_owner, at_place, stepped, turn_under, turned_packet, after}
+use Rattle.forwarding.specs.Turn.{Packet, IsAtNoRouter, put_at, with_passed_hop, hop_by, after_outcome, over_link, at_owner, at_place, after_step, turn_under, turned_packet, after}
 use Rattle.forwarding.proofs.Ended.{ended_stays, turn_by_view}
 use Rattle.forwarding.proofs.Framed.{is_frame}
 use Rattle.forwarding.proofs.Onward.{Owns, way_of, fits_again, leaves_from_inside, IsSeen, seen_as, entry_there, leads_on, owner_is_there}
@@ -94,7 +94,7 @@ was_outside view now (Link interface) source destination router header new is he
 -- ---- a turn
 
 -- a noted hop is at most one more
-one_noted : (passed : List WalkHop) (hop : WalkHop) → length (noted passed hop) ≤ length passed + 1
+one_noted : (passed : List WalkHop) (hop : WalkHop) → length (with_passed_hop passed hop) ≤ length passed + 1
 one_noted passed hop = elim (cases_Bool (nat_lt (length passed) 64)) [
   | inl fewer ↦ rw fewer (let more = length_push passed hop in omega arith)
   | inr full ↦ rw full (omega arith)
@@ -128,7 +128,7 @@ module _ (n : Network) (network : IsNetwork n) (total : ℕ) where
     seen = seen_as n near.stop.ia near.stop.router near.view near.seen
 
     to_router : (router : ℕ) (new : HeaderValue) → DoesStep at (ToRouter router) new
-        → IsNear n total less (put n (bearing new) near.stop (ToRouter router))
+        → IsNear n total less (after_outcome n (bearing new) near.stop (ToRouter router))
     to_router router new done =
         let made = new_header at (ToRouter router) new done in
         let owner = to_owner at router new done in
@@ -170,7 +170,7 @@ module _ (n : Network) (network : IsNetwork n) (total : ℕ) where
         }
 
     to_link : (out : ℕ) (new : HeaderValue) → DoesStep at (ToLink out) new
-        → IsNear n total less (put n (bearing new) near.stop (ToLink out))
+        → IsNear n total less (after_outcome n (bearing new) near.stop (ToLink out))
     to_link out new done =
         let made = new_header at (ToLink out) new done in
         let own = (over_own_link at out new done).1 in
@@ -179,7 +179,7 @@ module _ (n : Network) (network : IsNetwork n) (total : ℕ) where
         let leads = leads_on n near.stop.ia out own.0 network shown in
         let far = leads.far in
         let there = owner_is_there n far.ia far.number far.router network leads.far_owner in
-        let crosses : put n (bearing new) near.stop (ToLink out)
+        let crosses : after_outcome n (bearing new) near.stop (ToLink out)
         ≡ at_owner (bearing new) near.stop out far.ia far.number (Ok far.router) =
         ap (over_link n (bearing new) near.stop out) leads.leads
         ∙ ap (at_owner (bearing new) near.stop out far.ia far.number) leads.far_owner in
@@ -213,7 +213,7 @@ module _ (n : Network) (network : IsNetwork n) (total : ℕ) where
         })
 
     where_it_goes : (outcome : Outcome) (new : HeaderValue) → DoesStep at outcome new
-        → Nears n total less (put n (bearing new) near.stop outcome)
+        → Nears n total less (after_outcome n (bearing new) near.stop outcome)
     where_it_goes (ToLink out) new done = inr (to_link out new done)
     where_it_goes (ToRouter router) new done = inr (to_router router new done)
     where_it_goes Deliver new done = inl (λ stop same. absurd cc)
@@ -224,18 +224,18 @@ module _ (n : Network) (network : IsNetwork n) (total : ℕ) where
     by_step : (step : Result (Outcome × HeaderValue) Refusal)
         → step_of near.view now near.stop.arrival (source_of packet.bytes)
         (destination_of packet.bytes) near.header ≡ step
-        → Nears n total less (stepped n packet near.stop (step >>= answer)).1
+        → Nears n total less (after_step n packet near.stop (step >>= answer)).1
     by_step (Ok done) is = where_it_goes done.0 done.1 is
     by_step (Err refusal) is = inl (λ stop same. absurd cc)
 
-    turn_is : turned_packet n now packet ≡ (stepped n packet near.stop (step_of near.view now
+    turn_is : turned_packet n now packet ≡ (after_step n packet near.stop (step_of near.view now
         near.stop.arrival (source_of packet.bytes) (destination_of packet.bytes) near.header
         >>= answer)).1
     unfolding turn_under
     turn_is =
         ap (λ t. t.1) (sym (turn_by_view n now packet near.stop near.view near.there near.seen))
         ∙ ap (λ p. (at_place n near.view now packet p).1) near.there
-        ∙ ap (λ (r : Result (Outcome × List ℕ) Refusal). (stepped n packet near.stop r).1)
+        ∙ ap (λ (r : Result (Outcome × List ℕ) Refusal). (after_step n packet near.stop r).1)
         (frame_stepped near.view now near.stop.arrival packet.bytes near.front near.text near.rest
         near.header near.frame)
 
@@ -316,7 +316,7 @@ ok_there (Err fault) is = absurd cc
 starts : (n : Network) (source destination ia router : ℕ) (header : HeaderValue)
     (payload : List ℕ) → IsOk (view_in n ia router) → IsHeader header → FitsBits header
     → IsNear n (length header.hops) (2 * length header.hops)
-    (put_at (framed source destination header payload) ia router)
+    (put_at (frame_of source destination header payload) ia router)
 starts n source destination ia router header payload there is fits =
     let view = ok_there (view_in n ia router) there in
     record {
@@ -338,16 +338,16 @@ starts n source destination ia router header payload there is fits =
 pub ended_in_time : (n : Network) (source destination ia router : ℕ) (header : HeaderValue)
     (payload moments : List ℕ) → IsNetwork n → IsOk (view_in n ia router) → IsHeader header
     → FitsBits header → 2 * length header.hops ≤ length moments
-    → IsAtNoRouter (after n (put_at (framed source destination header payload) ia router) moments)
+    → IsAtNoRouter (after n (put_at (frame_of source destination header payload) ia router) moments)
 ended_in_time n source destination ia router header payload moments network there is fits enough =
     ended_after n network (length header.hops) moments (2 * length header.hops)
-    (put_at (framed source destination header payload) ia router)
+    (put_at (frame_of source destination header payload) ia router)
     (starts n source destination ia router header payload there is fits) enough
 
 pub fewer_before : (n : Network) (source destination ia router : ℕ) (header : HeaderValue)
     (payload moments : List ℕ) (stop : RouterStop) → IsNetwork n → IsOk (view_in n ia router)
     → IsHeader header → FitsBits header
-    → (after n (put_at (framed source destination header payload) ia router) moments).place
+    → (after n (put_at (frame_of source destination header payload) ia router) moments).place
     ≡ AtRouter stop
     → length moments < 2 * length header.hops
 fewer_before n source destination ia router header payload moments stop network there is fits at =
@@ -363,22 +363,22 @@ owners_are_there n ia number router network owned =
 pub stops_are_there : (n : Network) (source destination ia router : ℕ) (header : HeaderValue)
     (payload moments : List ℕ) (stop : RouterStop) → IsNetwork n → IsOk (view_in n ia router)
     → IsHeader header → FitsBits header
-    → (after n (put_at (framed source destination header payload) ia router) moments).place
+    → (after n (put_at (frame_of source destination header payload) ia router) moments).place
     ≡ AtRouter stop
     → IsOk (view_in n stop.ia stop.router)
 stops_are_there n source destination ia router header payload moments stop network there is fits
     at = there_after n network (length header.hops) moments (2 * length header.hops)
-    (put_at (framed source destination header payload) ia router) stop
+    (put_at (frame_of source destination header payload) ia router) stop
     (inr (starts n source destination ia router header payload there is fits)) at
 
 pub passed_before : (n : Network) (source destination ia router : ℕ) (header : HeaderValue)
     (payload moments : List ℕ) (stop : RouterStop) → IsNetwork n → IsOk (view_in n ia router)
     → IsHeader header → FitsBits header
-    → (after n (put_at (framed source destination header payload) ia router) moments).place
+    → (after n (put_at (frame_of source destination header payload) ia router) moments).place
     ≡ AtRouter stop
-    → length (after n (put_at (framed source destination header payload) ia router) moments).passed
+    → length (after n (put_at (frame_of source destination header payload) ia router) moments).passed
     < length header.hops
 passed_before n source destination ia router header payload moments stop network there is fits at =
     passed_after n network (length header.hops) moments (2 * length header.hops)
-    (put_at (framed source destination header payload) ia router) stop
+    (put_at (frame_of source destination header payload) ia router) stop
     (inr (starts n source destination ia router header payload there is fits)) at

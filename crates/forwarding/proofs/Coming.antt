@@ -6,18 +6,18 @@ use Rattle.std.proofs.lemmas.List.{drop_more, drop_all, append-nil}
 use Rattle.std.proofs.lemmas.Option.{get_or_from_slice_get, slice_get_within}
 use Rattle.path_segment.specs.declared.entry.Entry.{Entry}
 use Rattle.policy_expr.specs.declared.hop.WalkHop.{WalkHop}
-use Rattle.path_verifier.specs.Piece.{PieceValue, travelled}
+use Rattle.path_verifier.specs.Piece.{PieceValue, travelled_entries}
 use Rattle.path_verifier.specs.Header.{len_of}
 use Rattle.path_verifier.specs.Walk.{hop_of, hops_of, entered_by, left_by, walk_with, walk_of}
 use Rattle.path_verifier.proofs.Hops.{hop_there, length_hops_of}
-use Rattle.forwarding.specs.PathPosition.{PathPosition, advanced, in_by, out_by}
+use Rattle.forwarding.specs.PathPosition.{PathPosition, next_position, in_by, out_by}
 use Rattle.forwarding.specs.Journey.{first_out, way_beyond, walk_beyond, to_come}
 use Rattle.forwarding.proofs.Places.{IsLong}
 use Rattle.forwarding.proofs.Switching.{at_end, at_start}
 
 -- the hops from a place of a piece on
 pub hops_from : (piece : PieceValue) (i : ℕ) (entry : Entry)
-    → slice_get (travelled piece) i ≡ Some entry
+    → slice_get (travelled_entries piece) i ≡ Some entry
     → drop i (hops_of piece) ≡ hop_of piece.along entry ∷ drop (i + 1) (hops_of piece)
 hops_from piece i entry there =
     let hop = hop_of piece.along entry in
@@ -40,14 +40,14 @@ entered_same w hop (next ∷ later) = refl
 
 -- on one piece
 pub cross : (came_in_by : ℕ) (spot : PathPosition) (entry next : Entry)
-    → slice_get (travelled spot.piece) spot.reached ≡ Some entry
-    → slice_get (travelled spot.piece) (spot.reached + 1) ≡ Some next
+    → slice_get (travelled_entries spot.piece) spot.reached ≡ Some entry
+    → slice_get (travelled_entries spot.piece) (spot.reached + 1) ≡ Some next
     → to_come came_in_by spot ≡ record {
       ia = entry.ia;
       ingress = came_in_by;
       egress =
           out_by spot.piece entry;
-    } ∷ to_come (in_by spot.piece next) (advanced spot)
+    } ∷ to_come (in_by spot.piece next) (next_position spot)
 unfolding hop_of
 cross came_in_by spot entry next here there =
     let w = way_beyond spot.later in
@@ -76,8 +76,8 @@ cross came_in_by spot entry next here there =
 
 -- onto the next piece
 pub beyond : (came_in_by : ℕ) (past later : List PieceValue) (piece next : PieceValue) (i : ℕ)
-    (entry first second : Entry) → slice_get (travelled piece) i ≡ Some entry → i + 1 ≡ len_of piece
-    → slice_get (travelled next) 0 ≡ Some first → slice_get (travelled next) 1 ≡ Some second
+    (entry first second : Entry) → slice_get (travelled_entries piece) i ≡ Some entry → i + 1 ≡ len_of piece
+    → slice_get (travelled_entries next) 0 ≡ Some first → slice_get (travelled_entries next) 1 ≡ Some second
     → entry.ia ≡ first.ia
     → to_come came_in_by (at_end past piece next later i) ≡ to_come came_in_by (at_start past piece next later)
 unfolding hop_of
@@ -105,7 +105,7 @@ beyond came_in_by past later piece next i entry first second here over there fur
 
 -- at the end of the path
 pub finish : (came_in_by : ℕ) (spot : PathPosition) (entry : Entry)
-    → slice_get (travelled spot.piece) spot.reached ≡ Some entry
+    → slice_get (travelled_entries spot.piece) spot.reached ≡ Some entry
     → spot.reached + 1 ≡ len_of spot.piece → spot.later ≡ []
     → to_come came_in_by spot ≡ record { ia = entry.ia; ingress = came_in_by; egress = 0 } ∷ []
 unfolding hop_of

@@ -14,8 +14,9 @@ use Rattle.scion_topology.proofs.Shown.{right_as}
 use Rattle.path_segment.specs.declared.entry.Entry.{Entry}
 use Rattle.path_segment.specs.Chain.{Chain, chain_of, with_last}
 use Rattle.beaconing.specs.declared.fault.BeaconFault.TheVariants.{NotCore, NoInterface, LinkDown}
-use Rattle.beaconing.specs.Entry.{key_of, key_in, entry_by, kind_over}
-use Rattle.beaconing.specs.Calls.{originated, last_of, extended, terminated}
+use Rattle.scion_topology.specs.Keys.{key_in_use}
+use Rattle.beaconing.specs.Entry.{key_in, entry_by, kind_over}
+use Rattle.beaconing.specs.Calls.{originated_beacon, last_of, extended_beacon, terminated_beacon}
 use Rattle.beaconing.specs.Issued.{IsUnderWay, Grows}
 use Rattle.beaconing.proofs.Made.{extended_grows, terminated_grows}
 use Rattle.beaconing.proofs.Coming.{comes_over}
@@ -29,10 +30,10 @@ first_in [] some = absurd (omega arith)
 first_in (key ∷ older) some = (0, omega arith, refl)
 
 abbrev key_found : Option AsEntry → List ℕ
-key_found found = option_map_or key_of found []
+key_found found = option_map_or (λ one. key_in_use one.keys) found []
 
 key_is : (n : Network) (ia : ℕ) (one : AsEntry) → as_named n.ases ia ≡ Some one
-    → key_of one ≡ key_in n ia
+    → key_in_use one.keys ≡ key_in n ia
 key_is n ia one named = sym (ap key_found named)
 
 accepts_own : (n : Network) (ia : ℕ) (entry : Entry) → IsNetwork n → entry.ia ≡ ia
@@ -53,8 +54,8 @@ record IsBegun (ia : ℕ) (beacon : Chain) : Type 0 where
   is : beacon ≡ with_last before entry
 
 is_begun : (n : Network) (ia egress timestamp beta0 : ℕ) (beacon : Chain) → IsNetwork n
-    → originated n ia egress timestamp beta0 ≡ Ok beacon → IsBegun ia beacon
-unfolding originated
+    → originated_beacon n ia egress timestamp beta0 ≡ Ok beacon → IsBegun ia beacon
+unfolding originated_beacon
 is_begun n ia egress timestamp beta0 beacon network found =
     let s1 = bind_ok (ok_or (as_named n.ases ia) NotCore) _ beacon found in
     let named = ok_or_ok (as_named n.ases ia) NotCore s1.0 s1.1 in
@@ -80,7 +81,7 @@ no_keys : (before : Chain) → before.entries ≡ [] → length {A = List ℕ} [
 no_keys before none = sym (ap (λ (es : List Entry). length es) none)
 
 pub begun_holds : (n : Network) (ia egress timestamp beta0 : ℕ) (beacon : Chain) (from to : ℕ)
-    → IsNetwork n → originated n ia egress timestamp beta0 ≡ Ok beacon
+    → IsNetwork n → originated_beacon n ia egress timestamp beta0 ≡ Ok beacon
     → KeysAndLinksHold n (key_in n ia ∷ []) beacon from to
 begun_holds n ia egress timestamp beta0 beacon from to network found =
     let b = is_begun n ia egress timestamp beta0 beacon network found in
@@ -90,7 +91,7 @@ begun_holds n ia egress timestamp beta0 beacon from to network found =
     (λ last there. absurd (no_last b.before b.none last there)))
 
 pub begun_in_use : (n : Network) (ia egress timestamp beta0 : ℕ) (beacon : Chain) (from to x : ℕ)
-    → IsNetwork n → originated n ia egress timestamp beta0 ≡ Ok beacon
+    → IsNetwork n → originated_beacon n ia egress timestamp beta0 ≡ Ok beacon
     → KeyIsInUse n (key_in n ia ∷ []) beacon from to x
 begun_in_use n ia egress timestamp beta0 beacon from to x network found =
     let b = is_begun n ia egress timestamp beta0 beacon network found in
@@ -126,7 +127,7 @@ grown_in_use n keys beacon ia after from to x way in_use grows =
 
 pub passed_holds : (n : Network) (keys : List (List ℕ)) (beacon : Chain) (ia egress : ℕ)
     (next : Chain) (from to : ℕ) → IsNetwork n → IsUnderWay n keys beacon
-    → KeysAndLinksHold n keys beacon from to → extended n beacon ia egress ≡ Ok next
+    → KeysAndLinksHold n keys beacon from to → extended_beacon n beacon ia egress ≡ Ok next
     → KeysAndLinksHold n (keys ++ key_in n ia ∷ []) next from to
 passed_holds n keys beacon ia egress next from to network way holds found =
     grown_holds n keys beacon ia next from to network way holds
@@ -134,21 +135,21 @@ passed_holds n keys beacon ia egress next from to network way holds found =
 
 pub ended_holds : (n : Network) (keys : List (List ℕ)) (beacon : Chain) (ia : ℕ) (segment : Chain)
     (from to : ℕ) → IsNetwork n → IsUnderWay n keys beacon → KeysAndLinksHold n keys beacon from to
-    → terminated n beacon ia ≡ Ok segment → KeysAndLinksHold n (keys ++ key_in n ia ∷ []) segment from to
+    → terminated_beacon n beacon ia ≡ Ok segment → KeysAndLinksHold n (keys ++ key_in n ia ∷ []) segment from to
 ended_holds n keys beacon ia segment from to network way holds found =
     grown_holds n keys beacon ia segment from to network way holds
     (terminated_grows n beacon ia segment found)
 
 pub passed_in_use : (n : Network) (keys : List (List ℕ)) (beacon : Chain) (ia egress : ℕ)
     (next : Chain) (from to x : ℕ) → IsUnderWay n keys beacon → KeyIsInUse n keys beacon from to x
-    → extended n beacon ia egress ≡ Ok next → KeyIsInUse n (keys ++ key_in n ia ∷ []) next from to x
+    → extended_beacon n beacon ia egress ≡ Ok next → KeyIsInUse n (keys ++ key_in n ia ∷ []) next from to x
 passed_in_use n keys beacon ia egress next from to x way in_use found =
     grown_in_use n keys beacon ia next from to x way in_use
     (extended_grows n beacon ia egress next found)
 
 pub ended_in_use : (n : Network) (keys : List (List ℕ)) (beacon : Chain) (ia : ℕ) (segment : Chain)
     (from to x : ℕ) → IsUnderWay n keys beacon → KeyIsInUse n keys beacon from to x
-    → terminated n beacon ia ≡ Ok segment → KeyIsInUse n (keys ++ key_in n ia ∷ []) segment from to x
+    → terminated_beacon n beacon ia ≡ Ok segment → KeyIsInUse n (keys ++ key_in n ia ∷ []) segment from to x
 ended_in_use n keys beacon ia segment from to x way in_use found =
     grown_in_use n keys beacon ia segment from to x way in_use
     (terminated_grows n beacon ia segment found)

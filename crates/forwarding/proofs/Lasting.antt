@@ -2,7 +2,7 @@
 use Rattle.std.proofs.Common.{◌≡◌, ℕ, ◌+◌, Bool, if◌then◌else◌, List, [], ◌∷◌, drop, Result, Ok, refl, sym, ap, ◌∙◌}
 use Rattle.scion_topology.specs.declared.fault.TopologyFault.{TopologyFault}
 use Rattle.scion_topology.specs.Network.{Network}
-use Rattle.scion_topology.specs.Topology.{owner_in, set_up, rotated}
+use Rattle.scion_topology.specs.Topology.{owner_in, set_up, with_rotated_key}
 use Rattle.scion_topology.proofs.Lasting.{same_interfaces, still_there}
 use Rattle.path_segment.specs.declared.entry.Entry.{Entry}
 use Rattle.policy_expr.specs.declared.hop.WalkHop.{WalkHop}
@@ -96,7 +96,7 @@ stands_linked n m up ia number source destination payload pieces left packet cha
 
 pub stands_keyed : (n m : Network) (ia : ℕ) (key : List ℕ) (source destination : ℕ)
     (payload : List ℕ)
-    (pieces : List PieceValue) (left : ℕ) (packet : Packet) → rotated ia key n ≡ Ok m
+    (pieces : List PieceValue) (left : ℕ) (packet : Packet) → with_rotated_key ia key n ≡ Ok m
     → OnPath n source destination payload pieces left packet
     → OnPath m source destination payload pieces left packet
 stands_keyed n m ia key source destination payload pieces left packet change =

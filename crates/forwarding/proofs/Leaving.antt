@@ -6,7 +6,7 @@ use Rattle.std.proofs.lemmas.Bool.{cases_Bool}
 use Rattle.std.proofs.lemmas.List.Elements.{recursion_from_All}
 use Rattle.std.proofs.lemmas.Option.{slice_get-get_or}
 use Rattle.path_segment.specs.declared.entry.Entry.{Entry}
-use Rattle.path_verifier.specs.Piece.{PieceValue, HasRange, travelled, first_place}
+use Rattle.path_verifier.specs.Piece.{PieceValue, HasRange, travelled_entries, first_place}
 use Rattle.path_verifier.specs.Walk.{walk_of}
 use Rattle.path_verifier.specs.Accepted.{MakesPath}
 use Rattle.path_verifier.proofs.Lengths.{path_is_short}
@@ -34,27 +34,27 @@ first_place_at piece =
 -- the entry at the piece's first place is travelled first
 first_entry : (piece : PieceValue) (entry : Entry) → HasRange piece
     → slice_get piece.segment.entries (first_place piece) ≡ Some entry
-    → slice_get (travelled piece) 0 ≡ Some entry
+    → slice_get (travelled_entries piece) 0 ≡ Some entry
 first_entry piece entry range there =
     let long = long_of piece range in
-    let within : 0 < length (travelled piece) = omega arith in
-    let here = slice_get-get_or (travelled piece) 0 entry within in
-    let at = entry_there piece 0 (get_or (travelled piece) 0 entry) range here in
+    let within : 0 < length (travelled_entries piece) = omega arith in
+    let here = slice_get-get_or (travelled_entries piece) 0 entry within in
+    let at = entry_there piece 0 (get_or (travelled_entries piece) 0 entry) range here in
     here ∙ sym at ∙ ap (slice_get piece.segment.entries) (first_place_at piece) ∙ there
 
 -- by which interface the walk leaves the AS of the entry that is travelled first
 pub first_out_is : (piece : PieceValue) (later : List PieceValue) (source destination moment : ℕ)
     (entry : Entry) → MakesPath (piece ∷ later) source destination moment
-    → slice_get (travelled piece) 0 ≡ Some entry
+    → slice_get (travelled_entries piece) 0 ≡ Some entry
     → first_out (walk_of (piece ∷ later)) ≡ out_by piece entry
 first_out_is piece later source destination moment entry path there =
     let three = path_is_short (piece ∷ later) source destination moment path in
     let few : length later ≤ 2 = omega arith in
     let ranges = recursion_from_All HasRange (piece ∷ later) path.ranges in
     let long = long_of piece ranges.0 in
-    let within : 0 + 1 < length (travelled piece) = omega arith in
-    let next = get_or (travelled piece) (0 + 1) entry in
-    let further = slice_get-get_or (travelled piece) (0 + 1) entry within in
+    let within : 0 + 1 < length (travelled_entries piece) = omega arith in
+    let next = get_or (travelled_entries piece) (0 + 1) entry in
+    let further = slice_get-get_or (travelled_entries piece) (0 + 1) entry within in
     ap first_out (whole_walk piece later long (all_long later ranges.1) few
     ∙ cross 0 (start piece later) entry next there further)
 

@@ -18,7 +18,7 @@ use Rattle.scion_topology.proofs.Shown.{shows_both_ends}
 use Rattle.path_segment.specs.declared.entry.Entry.{Entry}
 use Rattle.path_segment.specs.declared.kind.SegKind.{SegKind}
 use Rattle.path_segment.specs.declared.kind.SegKind.TheVariants.{Core, Intra}
-use Rattle.path_verifier.specs.Piece.{PieceValue, HasRange, kind_in, travelled}
+use Rattle.path_verifier.specs.Piece.{PieceValue, HasRange, kind_in, travelled_entries}
 use Rattle.path_verifier.proofs.Entries.{length_travelled}
 use Rattle.beaconing.specs.Issued.{AreWays, LeadsOn, IsMade}
 use Rattle.forwarding.specs.PathPosition.{place_of}
@@ -166,7 +166,7 @@ linked_against n piece entry next backward j up = record {
 }
 
 -- a piece travels between its two places
-place_between : (piece : PieceValue) (i : ℕ) → HasRange piece → i < length (travelled piece)
+place_between : (piece : PieceValue) (i : ℕ) → HasRange piece → i < length (travelled_entries piece)
     → (piece.from ≤ place_of piece i) × (place_of piece i ≤ piece.to)
 place_between piece i range inside =
     let long = length_travelled piece range in
@@ -190,7 +190,7 @@ pub made_is_open : (n : Network) (keys : List (List ℕ)) (piece : PieceValue) �
 made_is_open n keys piece network range made holds = record {
   hops = λ i entry there. (
       let at = entry_there piece i entry range there in
-      let place = place_between piece i range (slice_get_within (travelled piece) i entry there) in
+      let place = place_between piece i range (slice_get_within (travelled_entries piece) i entry there) in
       let within = slice_get_within piece.segment.entries (place_of piece i) entry at in
       let keyed = made.keyed in
       let key = key_at keys (place_of piece i) (omega arith) in
@@ -206,7 +206,7 @@ made_is_open n keys piece network range made holds = record {
   links = λ i entry next here there. (
       let at = entry_there piece i entry range here in
       let after = entry_there piece (i + 1) next range there in
-      let inside = slice_get_within (travelled piece) (i + 1) next there in
+      let inside = slice_get_within (travelled_entries piece) (i + 1) next there in
       let long = length_travelled piece range in
       let order = range.order in
       elim (cases_Bool piece.along) [

@@ -13,7 +13,7 @@ use Rattle.scion_topology.specs.declared.network.AsEntry.{AsEntry}
 use Rattle.scion_topology.specs.declared.network.End.{End}
 use Rattle.scion_topology.specs.View.{View, entry_of}
 use Rattle.scion_topology.specs.Network.{Network, as_named, table_of, interface_in}
-use Rattle.scion_topology.specs.Topology.{IsNetwork, known, known_link, interface_at, far_end_in, owner_in, view_in}
+use Rattle.scion_topology.specs.Topology.{IsNetwork, known_as, known_link, interface_at, far_end_in, owner_in, view_in}
 use Rattle.scion_topology.specs.Ends.{IsAt, IsShown, at_a, at_b}
 use Rattle.scion_topology.proofs.Ends.{owner_below}
 use Rattle.scion_topology.proofs.Shown.{is_end_of, shows_both_ends}
@@ -26,9 +26,9 @@ use Rattle.router_step.specs.declared.outcome.Outcome.{Outcome}
 use Rattle.router_step.specs.declared.outcome.Outcome.TheVariants.{ToLink, ToRouter, Deliver}
 use Rattle.router_step.specs.declared.fault.Refusal.{Refusal}
 use Rattle.router_step.specs.declared.fault.Refusal.TheVariants as refusals
-use Rattle.router_step.specs.Place.{current_info, current_hop, way_out, with_seg_id, is_over_link, seg_id_on_arrival, seg_id_on_leaving, arrived, moved_on, gone}
+use Rattle.router_step.specs.Place.{current_info, current_hop, way_out, with_seg_id, is_over_link, seg_id_on_arrival, seg_id_on_leaving, header_on_arrival, moved_on, header_on_leaving}
 use Rattle.router_step.specs.Checks.{ends_segment}
-use Rattle.router_step.specs.Step.{passes, switched, step_of}
+use Rattle.router_step.specs.Step.{passes, switches_here, step_of}
 use Rattle.router_step.specs.Done.{Situation, DoesStep, at_the_way_out}
 use Rattle.router_step.proofs.FieldReads.{info_of-with_seg_id}
 use Rattle.router_step.proofs.DoneSteps.{same_value, left_ok, step_ok}
@@ -70,7 +70,7 @@ fits_with header seg_id within fits small =
     }
 
 fits_on_arrival : (arrival : Arrival) (header : HeaderValue) → IsHeader header → FitsBits header
-    → FitsBits (arrived arrival header)
+    → FitsBits (header_on_arrival arrival header)
 fits_on_arrival arrival header is fits =
     let info = current_info header in
     let hop = current_hop header in
@@ -79,8 +79,8 @@ fits_on_arrival arrival header is fits =
     (chosen (is_over_link arrival && not info.construction) (beta_after info.seg_id hop.mac)
     info.seg_id (stepped info.seg_id hop small (hop_fits header is.curr_hf fits)) small)
 
-fits_gone : (outcome : Outcome) (there : HeaderValue) → FitsBits there → IsHeader (gone outcome there)
-    → FitsBits (gone outcome there)
+fits_gone : (outcome : Outcome) (there : HeaderValue) → FitsBits there → IsHeader (header_on_leaving outcome there)
+    → FitsBits (header_on_leaving outcome there)
 fits_gone (ToLink interface) there fits is =
     let within : there.curr_inf < length there.infos = rw length-set at is.curr_inf in
     let more : there.curr_hf + 1 < length there.hops = is.curr_hf in
@@ -114,7 +114,7 @@ pub record Owns (view : View) (number : ℕ) : Type 0 where
   pub own : entry.router ≡ view.router
 
 way_on_arrival : (arrival : Arrival) (header : HeaderValue) → header.curr_inf < length header.infos
-    → way_of (arrived arrival header) ≡ way_of header
+    → way_of (header_on_arrival arrival header) ≡ way_of header
 way_on_arrival arrival header within =
     ap (λ (i : InfoField). way_out i (current_hop header))
     (info_of-with_seg_id header (seg_id_on_arrival arrival (current_info header) (current_hop header)) within)
@@ -127,8 +127,8 @@ no_switch_by true next has_switched e = absurd cc
 no_switch_by false next has_switched e = sym (same_value false has_switched e)
 
 no_switch_inside : (view : View) (now : ℕ) (here : HeaderValue) (has_switched : Bool)
-    → switched view now Inside here ≡ Ok has_switched → has_switched ≡ false
-unfolding switched
+    → switches_here view now Inside here ≡ Ok has_switched → has_switched ≡ false
+unfolding switches_here
 no_switch_inside view now here has_switched e =
     no_switch_by (ends_segment here)
     (λ _. passes view now (current_info (moved_on true here)) (current_hop (moved_on true here))
@@ -139,7 +139,7 @@ pub leaves_from_inside : (view : View) (now source destination router : ℕ)
     (header new : HeaderValue) → IsHeader header → Owns view (way_of header)
     → step_of view now Inside source destination header ≡ Ok (ToRouter router, new) → ⊥
 leaves_from_inside view now source destination router header new is owns done =
-    let here = arrived Inside header in
+    let here = header_on_arrival Inside header in
     elim (step_ok view now Inside source destination header new (ToRouter router) done).1 [
       | inl w ↦ absurd (let to = w.1.outcome_is in cc)
       | inr w ↦ (
@@ -169,7 +169,7 @@ pub seen_as : (n : Network) (ia router : ℕ) (view : View) → view_in n ia rou
     → IsSeen n ia router view
 unfolding view_in
 seen_as n ia router view seen =
-    let at = bind_ok (known n ia) _ view seen in
+    let at = bind_ok (known_as n ia) _ view seen in
     let passed = guard_ok (nat_lt router at.0.routers) _ faults.NoRouter view at.2 in
     record {
       one = at.0;
@@ -226,7 +226,7 @@ pub owner_is_there : (n : Network) (ia number router : ℕ) → IsNetwork n
 unfolding owner_in
 owner_is_there n ia number router network owned =
     let at = bind_ok (known_link n ia number) _ router owned in
-    let here = bind_ok (known n ia) _ at.0 at.1 in
+    let here = bind_ok (known_as n ia) _ at.0 at.1 in
     let named = ok_or_ok (as_named n.ases ia) faults.UnknownAs here.0 here.1 in (
       here.0,
       view_is n ia router here.0 named

@@ -9,9 +9,9 @@ use Rattle.scion_topology.specs.declared.fault.TopologyFault.{TopologyFault}
 use Rattle.scion_topology.specs.declared.fault.TopologyFault.TheVariants as faults
 use Rattle.scion_topology.specs.declared.network.AsEntry.{AsEntry}
 use Rattle.scion_topology.specs.View.{View}
-use Rattle.scion_topology.specs.Keys.{renewed}
+use Rattle.scion_topology.specs.Keys.{renewed_keys}
 use Rattle.scion_topology.specs.Network.{Network, as_named}
-use Rattle.scion_topology.specs.Topology.{IsNetwork, known, view_in, owner_in, far_end_in, set_up, rotated}
+use Rattle.scion_topology.specs.Topology.{IsNetwork, known_as, view_in, owner_in, far_end_in, set_up, with_rotated_key}
 use Rattle.scion_topology.proofs.Lasting.{same_ases, named_renewed, named_still}
 use Rattle.path_header.specs.Value.{HeaderValue}
 use Rattle.router_step.specs.declared.arrival.Arrival.TheVariants.{Inside, Link}
@@ -25,7 +25,7 @@ use Rattle.router_step.proofs.StepLaws.{to_owner}
 use Rattle.forwarding.specs.declared.location.RouterStop.{RouterStop}
 use Rattle.forwarding.specs.declared.location.PacketLocation.TheVariants.{AtRouter}
 use Rattle.forwarding.specs.declared.reply.TurnReply.TheVariants as replies
-use Rattle.forwarding.specs.Turn.{Packet, put, over_link, at_owner, at_place, stepped, turn_under, turn_of, turned_packet}
+use Rattle.forwarding.specs.Turn.{Packet, after_outcome, over_link, at_owner, at_place, after_step, turn_under, turn_of, turned_packet}
 use Rattle.forwarding.proofs.Bounded.{ok_there, owners_are_there}
 use Rattle.forwarding.proofs.Ended.{turn_by_view}
 use Rattle.forwarding.proofs.Onward.{way_of, seen_as, entry_there, leads_on}
@@ -35,13 +35,13 @@ use Rattle.forwarding.proofs.Routers.{view_is}
 
 turn_is : (n : Network) (now : ℕ) (packet : Packet) (stop : RouterStop) (view : View)
     → packet.place ≡ AtRouter stop → view_in n stop.ia stop.router ≡ Ok view
-    → turn_of n now packet ≡ stepped n packet stop (packet_step view now stop.arrival packet.bytes)
+    → turn_of n now packet ≡ after_step n packet stop (packet_step view now stop.arrival packet.bytes)
 unfolding turn_under
 turn_is n now packet stop view at seen =
     sym (turn_by_view n now packet stop view at seen) ∙ ap (at_place n view now packet) at
 
 not_still : (n : Network) (packet : Packet) (stop : RouterStop) (r : Result (Outcome × List ℕ) Refusal)
-    → (stepped n packet stop r).0 ≢ replies.Still
+    → (after_step n packet stop r).0 ≢ replies.Still
 not_still n packet stop (Ok done) same = absurd cc
 not_still n packet stop (Err refusal) same = absurd cc
 
@@ -109,7 +109,7 @@ module _ (n : Network) (network : IsNetwork n) (stop : RouterStop) (view : View)
     goes : (now source destination : ℕ) (bytes : List ℕ) (outcome : Outcome)
         (header new : HeaderValue)
         → step_of view now stop.arrival source destination header ≡ Ok (outcome, new)
-        → IsPresent n (put n (bearing bytes) stop outcome)
+        → IsPresent n (after_outcome n (bearing bytes) stop outcome)
     goes now source destination bytes (ToLink out) header new done =
         beyond (bearing bytes) out (far_end_in n stop.ia out) (still_there bytes)
     goes now source destination bytes (ToRouter router) header new done = λ next is. (
@@ -121,14 +121,14 @@ module _ (n : Network) (network : IsNetwork n) (stop : RouterStop) (view : View)
 
     by_step : (now : ℕ) (r : Result (Outcome × List ℕ) Refusal)
         → packet_step view now stop.arrival packet.bytes ≡ r
-        → IsPresent n (stepped n packet stop r).1
+        → IsPresent n (after_step n packet stop r).1
     unfolding packet_step
     by_step now (Ok done) is =
         let front = bind_ok (header_in packet.bytes) _ done is in
         let step = bind_ok (step_of view now stop.arrival (source_of packet.bytes)
         (destination_of packet.bytes) front.0.0) _ done front.2 in
         let outcome : step.0.0 ≡ done.0 = ap (λ (d : Outcome × List ℕ). d.0) (ok_is _ done step.2) in
-        subst (λ o. IsPresent n (put n (bearing done.1) stop o)) outcome
+        subst (λ o. IsPresent n (after_outcome n (bearing done.1) stop o)) outcome
         (goes now (source_of packet.bytes) (destination_of packet.bytes) done.1 step.0.0 front.0.0
         step.0.1 step.1)
     by_step now (Err refusal) is = λ next same. absurd cc
@@ -148,7 +148,7 @@ has_router : (n : Network) (ia router : ℕ) → IsOk (view_in n ia router)
 unfolding view_in
 has_router n ia router there =
     let view = ok_there (view_in n ia router) there in
-    let at = bind_ok (known n ia) _ view.0 view.1 in
+    let at = bind_ok (known_as n ia) _ view.0 view.1 in
     let passed = guard_ok (nat_lt router at.0.routers) _ faults.NoRouter view.0 at.2 in
     (at.0, (ok_or_ok (as_named n.ases ia) faults.UnknownAs at.0 at.1, ltb-true router at.0.routers passed.0))
 
@@ -159,14 +159,14 @@ router_linked up x y n m ia router change there =
     ap is_ok (view_is m ia router one.0
     (ap (λ ases. as_named ases ia) (same_ases up x y n m change) ∙ one.1.0) one.1.1)
 
-pub router_keyed : (x : ℕ) (key : List ℕ) (n m : Network) (ia router : ℕ) → rotated x key n ≡ Ok m
+pub router_keyed : (x : ℕ) (key : List ℕ) (n m : Network) (ia router : ℕ) → with_rotated_key x key n ≡ Ok m
     → IsOk (view_in n ia router) → IsOk (view_in m ia router)
 router_keyed x key n m ia router change there =
     let one = has_router n ia router there in
     elim (cases_eq x ia) [
       | inl same ↦ (
           let named = named_renewed x key n m one.0 change (ap (as_named n.ases) same ∙ one.1.0) in
-          ap is_ok (view_is m ia router (record one.0 { keys = renewed key one.0.keys })
+          ap is_ok (view_is m ia router (record one.0 { keys = renewed_keys key one.0.keys })
           (ap (as_named m.ases) (sym same) ∙ named) one.1.1))
       | inr other ↦ ap is_ok (view_is m ia router one.0
           (named_still x ia key n m change other ∙ one.1.0) one.1.1)

@@ -5,16 +5,16 @@ use Rattle.std.proofs.lemmas.Bool.{cases_eq, lt-ltb}
 use Rattle.scion_topology.specs.View.{View}
 use Rattle.scion_topology.specs.Network.{Network}
 use Rattle.path_segment.specs.declared.entry.Entry.{Entry}
-use Rattle.path_verifier.specs.Piece.{PieceValue, travelled}
+use Rattle.path_verifier.specs.Piece.{PieceValue, travelled_entries}
 use Rattle.path_verifier.specs.Header.{len_of}
 use Rattle.path_verifier.specs.Walk.{walk_of}
 use Rattle.policy_expr.specs.declared.hop.WalkHop.{WalkHop}
 use Rattle.router_step.specs.declared.arrival.Arrival.TheVariants.{Inside, Link}
-use Rattle.forwarding.specs.PathPosition.{PathPosition, pieces_at, advanced, in_by, out_by}
+use Rattle.forwarding.specs.PathPosition.{PathPosition, pieces_at, next_position, in_by, out_by}
 use Rattle.forwarding.specs.Forwardable.{IsLinked}
 use Rattle.forwarding.specs.declared.location.RouterStop.{RouterStop}
 use Rattle.forwarding.specs.Frame.{HasFrame}
-use Rattle.forwarding.specs.Turn.{Packet, noted, turned_packet}
+use Rattle.forwarding.specs.Turn.{Packet, with_passed_hop, turned_packet}
 use Rattle.forwarding.specs.OnPath.{at_spot, ComesNearer}
 use Rattle.forwarding.specs.Journey.{to_come, turns_over}
 use Rattle.forwarding.proofs.Stepping.{onward_by}
@@ -22,7 +22,7 @@ use Rattle.forwarding.proofs.Turning.{placed, over, inside}
 use Rattle.forwarding.proofs.Coming.{cross}
 
 pub noted_is : (passed : List WalkHop) (hop : WalkHop) → length passed < 64
-    → noted passed hop ≡ passed ++ hop ∷ []
+    → with_passed_hop passed hop ≡ passed ++ hop ∷ []
 noted_is passed hop few = rw (lt-ltb (length passed) 64 few) refl
 
 pub short : (passed : List WalkHop) (hop : WalkHop) (later walk : List WalkHop)
@@ -39,18 +39,18 @@ pub onward : (n : Network) (now source destination : ℕ) (payload : List ℕ)
     → turned_packet n now packet
     ≡ placed n source destination payload stop passed (onward_by view goes.near spot entry)
     → stop.ia ≡ entry.ia → HasFrame source destination pieces
-    → slice_get (travelled spot.piece) spot.reached ≡ Some entry
-    → slice_get (travelled spot.piece) (spot.reached + 1) ≡ Some next
+    → slice_get (travelled_entries spot.piece) spot.reached ≡ Some entry
+    → slice_get (travelled_entries spot.piece) (spot.reached + 1) ≡ Some next
     → spot.reached + 1 < len_of spot.piece → pieces_at spot ≡ pieces → length (walk_of pieces) ≤ 64
     → passed ++ to_come stop.came_in_by spot ≡ walk_of pieces
     → (goes.near.router ≡ view.router
-    → left ≡ 1 + turns_over n (to_come (in_by spot.piece next) (advanced spot)))
+    → left ≡ 1 + turns_over n (to_come (in_by spot.piece next) (next_position spot)))
     → (goes.near.router ≢ view.router
-    → left ≡ 2 + turns_over n (to_come (in_by spot.piece next) (advanced spot)))
+    → left ≡ 2 + turns_over n (to_come (in_by spot.piece next) (next_position spot)))
     → ComesNearer n now source destination payload pieces left packet
 onward n now source destination payload pieces left packet stop passed view spot entry next goes
     steps here frame there further more whole few walk at_once later =
-    let ahead = to_come (in_by spot.piece next) (advanced spot) in
+    let ahead = to_come (in_by spot.piece next) (next_position spot) in
     let hop : WalkHop =
     record { ia = entry.ia; ingress = stop.came_in_by; egress = out_by spot.piece entry } in
     let split : to_come stop.came_in_by spot ≡ hop ∷ ahead =
@@ -63,7 +63,7 @@ onward n now source destination payload pieces left packet stop passed view spot
         less = turns_over n ahead;
         one = at_once same;
         stands = record {
-          spot = advanced spot;
+          spot = next_position spot;
           entry = next;
           arrival = Link (in_by spot.piece next);
           router = goes.far.router;
@@ -72,7 +72,7 @@ onward n now source destination payload pieces left packet stop passed view spot
           is =
               steps ∙ over n source destination payload stop passed view spot entry next goes here
               same
-              ∙ ap (λ (p : List WalkHop). at_spot source destination payload (advanced spot) next
+              ∙ ap (λ (p : List WalkHop). at_spot source destination payload (next_position spot) next
               (Link (in_by spot.piece next)) goes.far.router (in_by spot.piece next) p) notes;
           frame = frame;
           whole = whole;

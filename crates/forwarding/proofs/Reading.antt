@@ -11,7 +11,7 @@ use Rattle.std.proofs.lemmas.Option.{get_or_from_slice_get, slice_get_within}
 use Rattle.path_segment.specs.declared.entry.Entry.{Entry}
 use Rattle.path_header.specs.declared.fields.InfoField.{InfoField}
 use Rattle.path_header.specs.declared.fields.HopField.{HopField}
-use Rattle.path_verifier.specs.Piece.{PieceValue, travelled}
+use Rattle.path_verifier.specs.Piece.{PieceValue, travelled_entries}
 use Rattle.path_verifier.specs.Header.{info_with, field_of, fields_of, len_of, total_hops}
 use Rattle.path_verifier.specs.Header as path
 use Rattle.path_verifier.proofs.Headers.{field_there, length_fields_of}
@@ -60,7 +60,7 @@ length_fields (piece ∷ pieces) =
 
 -- the hop field at which it stands is that of the entry
 pub hop_of-header_with : (spot : PathPosition) (seg_id : ℕ) (entry : Entry)
-    → slice_get (travelled spot.piece) spot.reached ≡ Some entry
+    → slice_get (travelled_entries spot.piece) spot.reached ≡ Some entry
     → current_hop (header_with spot seg_id) ≡ field_of entry
 unfolding header_with
 hop_of-header_with spot seg_id entry there =

@@ -6,13 +6,13 @@ use Rattle.std.proofs.lemmas.Option.{slice_get-get_or}
 use Rattle.path_segment.specs.declared.entry.Entry.{Entry}
 use Rattle.path_header.specs.Value.{HeaderValue, IsHeader, header_len}
 use Rattle.path_header.specs.Spelling.{FitsBits, SpellsHeader, spelling}
-use Rattle.path_verifier.specs.Piece.{PieceValue, HasRange, travelled}
+use Rattle.path_verifier.specs.Piece.{PieceValue, HasRange, travelled_entries}
 use Rattle.path_verifier.specs.Header.{len_of, header_of}
 use Rattle.path_verifier.specs.Accepted.{MakesPath}
 use Rattle.path_verifier.proofs.Lengths.{path_is_short}
 use Rattle.router_step.specs.declared.arrival.Arrival.TheVariants.{Inside}
 use Rattle.router_step.specs.Packet.{destination_of, source_of, header_in}
-use Rattle.forwarding.specs.Frame.{framed, HasFrame}
+use Rattle.forwarding.specs.Frame.{frame_of, HasFrame}
 use Rattle.forwarding.specs.PathPosition.{PathPosition, pieces_at}
 use Rattle.forwarding.specs.Turned.{header_behind}
 use Rattle.forwarding.proofs.Places.{long_of}
@@ -62,8 +62,8 @@ behind_spelled source destination moment pieces path frame =
     let over : len_of last.piece - 1 + 1 ≡ len_of last.piece = omega arith in
     let none : Entry =
     record { ia = 0; cons_ingress = 0; cons_egress = 0; exp_time = 0; mac = [] } in
-    let entry = get_or (travelled last.piece) place none in
-    let there = slice_get-get_or (travelled last.piece) place none within in
+    let entry = get_or (travelled_entries last.piece) place none in
+    let there = slice_get-get_or (travelled_entries last.piece) place none within in
     let spot : PathPosition =
     record { past = last.past; piece = last.piece; later = []; reached = place } in
     let three : length (pieces_at spot) ≤ 3 = (
@@ -81,9 +81,9 @@ behind_spelled source destination moment pieces path frame =
 -- both addresses and the header of a delivered packet are read as they are
 pub received : (source destination moment : ℕ) (payload : List ℕ) (pieces : List PieceValue)
     → MakesPath pieces source destination moment → HasFrame source destination pieces
-    → (source_of (framed source destination (header_behind pieces) payload) ≡ source)
-    × (destination_of (framed source destination (header_behind pieces) payload) ≡ destination)
-    × (header_in (framed source destination (header_behind pieces) payload)
+    → (source_of (frame_of source destination (header_behind pieces) payload) ≡ source)
+    × (destination_of (frame_of source destination (header_behind pieces) payload) ≡ destination)
+    × (header_in (frame_of source destination (header_behind pieces) payload)
     ≡ Ok (header_behind pieces, header_len (header_behind pieces)))
 received source destination moment payload pieces path frame =
     let header = header_behind pieces in (

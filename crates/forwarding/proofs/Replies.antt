@@ -3,7 +3,7 @@
 use Rattle.std.proofs.Common.{◌≡◌, ℕ, ◌*◌, ◌<◌, ◌≤◌, List, sym, subst, arith}
 use Rattle.std.specs.Prelude.{◌↔◌}
 use Rattle.std.proofs.lemmas.List.Elements.{recursion_from_All}
-use Rattle.path_header.specs.Reversal.{reversed}
+use Rattle.path_header.specs.Reversal.{reversed_header}
 use Rattle.path_header.specs.Value.{HeaderValue}
 use Rattle.policy_expr.specs.Policy.{Rules}
 use Rattle.path_verifier.specs.declared.fault.VerifyFault.{VerifyFault}
@@ -25,7 +25,7 @@ use Rattle.forwarding.proofs.TurnedHeader.{header_back}
 
 -- the header that a packet has at the path's end, reversed, is that of the way back
 pub header_turned : (pieces : List PieceValue) (src dst now : ℕ) → MakesPath pieces src dst now
-    → reversed (header_behind pieces) ≡ header_of (turned_pieces pieces)
+    → reversed_header (header_behind pieces) ≡ header_of (turned_pieces pieces)
 header_turned pieces src dst now path =
     let ranges = recursion_from_All HasRange pieces path.ranges in
     header_back pieces (path_is_short pieces src dst now path) (long_each pieces ranges) ranges
@@ -33,7 +33,7 @@ header_turned pieces src dst now path =
 -- with that header the way back is accepted under the policy that allows all, up to the expiry
 pub back_in_time : (pieces : List PieceValue) (src dst now moment least : ℕ)
     → MakesPath pieces src dst now → IsExpiry pieces least → 2 * moment ≤ least
-    → IsAccepted (request_of (turned_pieces pieces) (reversed (header_behind pieces)) dst src moment
+    → IsAccepted (request_of (turned_pieces pieces) (reversed_header (header_behind pieces)) dst src moment
     no_rules)
 back_in_time pieces src dst now moment least path is early = record {
   path = path_turned pieces src dst now moment path ((live_up_to pieces least moment is).1 early);

@@ -8,7 +8,7 @@ use Rattle.scion_topology.specs.declared.network.AsEntry.{AsEntry}
 use Rattle.scion_topology.specs.View.{View}
 use Rattle.scion_topology.specs.Network.{Network, as_named, table_of, interface_in}
 use Rattle.scion_topology.specs.declared.fault.TopologyFault.TheVariants as faults
-use Rattle.scion_topology.specs.Topology.{known, interface_at, view_in}
+use Rattle.scion_topology.specs.Topology.{known_as, interface_at, view_in}
 use Rattle.refusal.proofs.Steps.{bind_ok, ok_or_ok}
 use Rattle.scion_topology.proofs.AuthenticHops.{Decides-is_authentic}
 use Rattle.path_segment.specs.declared.entry.Entry.{Entry}
@@ -17,7 +17,7 @@ use Rattle.path_verifier.specs.declared.kind.PieceKind.TheVariants.{Up, Core, Do
 use Rattle.path_verifier.specs.Piece.{PieceValue, kind_of}
 use Rattle.path_verifier.specs.Header.{total_hops}
 use Rattle.router_step.specs.declared.arrival.Arrival.TheVariants.{FromHost, Inside, Link}
-use Rattle.router_step.specs.Checks.{are_joined, kinds_fit}
+use Rattle.router_step.specs.Checks.{may_follow, kinds_fit}
 use Rattle.forwarding.specs.PathPosition.{PathPosition, beta_at, in_by, out_by}
 use Rattle.forwarding.specs.Forwardable.{ahead, behind, IsAuthenticHop, IsLinked}
 use Rattle.forwarding.proofs.AtSpot.{Comes, IsOwn}
@@ -48,26 +48,26 @@ own n now router piece i entry accepted live = record {
 pub shown_in : (n : Network) (ia number : ℕ) (entry : IfEntry) → interface_at n ia number ≡ Ok entry
     → interface_in (table_of ia n.links) number ≡ Some entry
 shown_in n ia number entry there =
-    let step = bind_ok (known n ia) _ entry there in
+    let step = bind_ok (known_as n ia) _ entry there in
     ok_or_ok (interface_in (table_of ia n.links) number) faults.NoLink entry step.2
 
 -- ---- kinds
 
-on_one : (kind : PieceKind) → are_joined false (behind kind) (ahead kind) ≡ true
+on_one : (kind : PieceKind) → may_follow false (behind kind) (ahead kind) ≡ true
 on_one Up = refl
 on_one Core = refl
 on_one Down = refl
 
 abbrev pub MayFollow : PieceKind → PieceKind → Type 0
-MayFollow one other = are_joined true (behind one) (ahead other) ≡ true
+MayFollow one other = may_follow true (behind one) (ahead other) ≡ true
 
 known_kinds : (n : Network) (one : AsEntry) (ia router interface : ℕ) (has_switched : Bool)
     (far : IfEntry) (kind out : LinkKind) → interface_in (table_of ia n.links) interface ≡ Some far
     → far.kind ≡ kind
-    → are_joined has_switched kind out ≡ true
+    → may_follow has_switched kind out ≡ true
     → kinds_fit (view_for n one ia router) (Link interface) has_switched out ≡ true
 known_kinds n one ia router interface has_switched far kind out there is joins =
-    rw there (ap (λ k. are_joined has_switched k out) is ∙ joins)
+    rw there (ap (λ k. may_follow has_switched k out) is ∙ joins)
 
 -- the way from an entry to the next is open to a packet that came over a link on the same piece
 pub opens_over : (n : Network) (one : AsEntry) (router : ℕ) (piece : PieceValue)
@@ -79,7 +79,7 @@ opens_over n one router piece before entry next came_in_by goes = record {
   kinds = known_kinds n one entry.ia router (in_by piece entry) false came_in_by.far
       (behind (kind_of piece)) goes.near.kind
       (shown_in n entry.ia (in_by piece entry) came_in_by.far came_in_by.far_there) came_in_by.far_kind
-      (ap (are_joined false (behind (kind_of piece))) goes.near_kind ∙ on_one (kind_of piece));
+      (ap (may_follow false (behind (kind_of piece))) goes.near_kind ∙ on_one (kind_of piece));
   up = goes.up;
 }
 
@@ -120,7 +120,7 @@ opens_beyond n one router piece next_piece before entry first second came_in_by 
       kinds = known_kinds n one entry.ia router (in_by piece entry) true came_in_by.far
           (behind (kind_of piece)) goes.near.kind
           (shown_in n entry.ia (in_by piece entry) came_in_by.far came_in_by.far_there) came_in_by.far_kind
-          (ap (are_joined true (behind (kind_of piece))) goes.near_kind ∙ follows);
+          (ap (may_follow true (behind (kind_of piece))) goes.near_kind ∙ follows);
       up = goes.up;
     }
 

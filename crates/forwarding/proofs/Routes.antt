@@ -11,7 +11,7 @@ use Rattle.policy_expr.specs.declared.hop.WalkHop.{WalkHop}
 use Rattle.path_verifier.specs.declared.kind.PieceKind.{PieceKind}
 use Rattle.path_verifier.specs.declared.kind.PieceKind.TheVariants.{Up, Core, Down}
 use Rattle.path_segment.specs.Chain.{as_at}
-use Rattle.path_verifier.specs.Piece.{PieceValue, HasRange, kind_of, entries_of, in_order, travelled, begins_in, ends_in}
+use Rattle.path_verifier.specs.Piece.{PieceValue, HasRange, kind_of, entries_of, in_order, travelled_entries, begins_in, ends_in}
 use Rattle.path_verifier.specs.Walk.{walk_of}
 use Rattle.path_verifier.specs.Header.{len_of}
 use Rattle.path_verifier.specs.Accepted.{DoMeet, MayAdjoin, MakesPath}
@@ -61,13 +61,13 @@ meets past later pieces piece next is meet = go past (subst DoMeet (sym is) meet
     go (one ∷ two ∷ past) m = go (two ∷ past) m.1
 
 pub same_as : (piece next : PieceValue) (last first : Entry)
-    → slice_get (travelled piece) (len_of piece - 1) ≡ Some last
-    → slice_get (travelled next) 0 ≡ Some first → ends_in piece ≡ begins_in next
+    → slice_get (travelled_entries piece) (len_of piece - 1) ≡ Some last
+    → slice_get (travelled_entries next) 0 ≡ Some first → ends_in piece ≡ begins_in next
     → last.ia ≡ first.ia
 unfolding begins_in ends_in
 same_as piece next last first at_last at_first same =
-    let a : as_at (travelled piece) (len_of piece - 1) ≡ last.ia = rw at_last refl in
-    let b : as_at (travelled next) 0 ≡ first.ia = rw at_first refl in
+    let a : as_at (travelled_entries piece) (len_of piece - 1) ≡ last.ia = rw at_last refl in
+    let b : as_at (travelled_entries next) 0 ≡ first.ia = rw at_first refl in
     sym a ∙ same ∙ b
 
 -- kinds that adjoin have links that may be joined

@@ -11,14 +11,14 @@ use Rattle.path_header.specs.declared.fields.InfoField.{InfoField}
 use Rattle.path_header.specs.Value.{HeaderValue, lens_from}
 use Rattle.policy_expr.specs.declared.hop.WalkHop.{WalkHop}
 use Rattle.path_segment.specs.Chain.{as_at}
-use Rattle.path_verifier.specs.Piece.{PieceValue, HasRange, travelled, begins_in}
+use Rattle.path_verifier.specs.Piece.{PieceValue, HasRange, travelled_entries, begins_in}
 use Rattle.path_verifier.specs.Walk.{walk_of}
 use Rattle.path_verifier.specs.Header.{fields_of, len_of, header_of}
 use Rattle.path_verifier.specs.Header as path
 use Rattle.path_verifier.specs.Accepted.{MakesPath}
 use Rattle.router_step.specs.declared.arrival.Arrival.TheVariants.{FromHost}
 use Rattle.forwarding.specs.PathPosition.{header_with, header_there, out_by}
-use Rattle.forwarding.specs.Frame.{framed, HasFrame}
+use Rattle.forwarding.specs.Frame.{frame_of, HasFrame}
 use Rattle.forwarding.specs.Turn.{put_at}
 use Rattle.forwarding.specs.OnPath.{OnPath}
 use Rattle.path_verifier.proofs.Lengths.{path_is_short}
@@ -43,9 +43,9 @@ header_is piece later =
     }) (first_info piece)
 
 begins_there : (piece : PieceValue) (source : ℕ) (entry : Entry) → begins_in piece ≡ source
-    → slice_get (travelled piece) 0 ≡ Some entry → source ≡ entry.ia
+    → slice_get (travelled_entries piece) 0 ≡ Some entry → source ≡ entry.ia
 unfolding begins_in
-begins_there piece source entry begins there = let at : as_at (travelled piece) 0 ≡ entry.ia =
+begins_there piece source entry begins there = let at : as_at (travelled_entries piece) 0 ≡ entry.ia =
     rw there refl in sym begins ∙ at
 
 pub starts : (n : Network) (source destination moment router : ℕ) (payload : List ℕ)
@@ -53,7 +53,7 @@ pub starts : (n : Network) (source destination moment router : ℕ) (payload : L
     → HasFrame source destination pieces
     → owner_in n source (first_out (walk_of pieces)) ≡ Ok router
     → OnPath n source destination payload pieces (turns_for n (walk_of pieces))
-    (put_at (framed source destination (header_of pieces) payload) source router)
+    (put_at (frame_of source destination (header_of pieces) payload) source router)
 starts n source destination moment router payload [] path frame owned =
     absurd (let some = path.some in omega arith)
 starts n source destination moment router payload (piece ∷ later) path frame owned =
@@ -61,11 +61,11 @@ starts n source destination moment router payload (piece ∷ later) path frame o
     let few : length later ≤ 2 = omega arith in
     let ranges = recursion_from_All HasRange (piece ∷ later) path.ranges in
     let long = long_of piece ranges.0 in
-    let first_within : 0 < length (travelled piece) = omega arith in
+    let first_within : 0 < length (travelled_entries piece) = omega arith in
     let none : Entry =
     record { ia = 0; cons_ingress = 0; cons_egress = 0; exp_time = 0; mac = [] } in
-    let entry = get_or (travelled piece) 0 none in
-    let there = slice_get-get_or (travelled piece) 0 none first_within in
+    let entry = get_or (travelled_entries piece) 0 none in
+    let there = slice_get-get_or (travelled_entries piece) 0 none first_within in
     let whole = whole_walk piece later long (all_long later ranges.1) few in
     let way = first_out_is piece later source destination moment entry path there in
     let here = begins_there piece source entry path.source there in
@@ -77,10 +77,10 @@ starts n source destination moment router payload (piece ∷ later) path frame o
       came_in_by = 0;
       passed = [];
       is =
-          ap (λ (h : HeaderValue). put_at (framed source destination h payload) source router)
+          ap (λ (h : HeaderValue). put_at (frame_of source destination h payload) source router)
           (header_is piece later)
           ∙ ap (λ ia. put_at
-          (framed source destination (header_there (start piece later)) payload) ia router)
+          (frame_of source destination (header_there (start piece later)) payload) ia router)
           here;
       frame = frame;
       there = there;

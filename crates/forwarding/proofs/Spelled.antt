@@ -11,7 +11,7 @@ use Rattle.path_header.specs.declared.fields.HopField.{HopField}
 use Rattle.path_header.specs.Value.{IsHeader}
 use Rattle.path_header.specs.Spelling.{InfoFits, HopFits, FitsBits, SpellsHeader, spelling}
 use Rattle.path_header.proofs.WholeHeader.{spelling_spells}
-use Rattle.path_verifier.specs.Piece.{PieceValue, HasRange, travelled}
+use Rattle.path_verifier.specs.Piece.{PieceValue, HasRange, travelled_entries}
 use Rattle.path_verifier.specs.Header.{info_with, field_of, fields_of, len_of, header_of}
 use Rattle.path_verifier.specs.Header as path
 use Rattle.path_verifier.proofs.Headers.{field_there}
@@ -84,14 +84,14 @@ infos_at (one ∷ past) later piece all = infos_at past later piece all.1
 -- ---- the accumulators of a piece
 
 entry_in : (piece : PieceValue) (i : ℕ) → i < len_of piece
-    → (entry : Entry) × (slice_get (travelled piece) i ≡ Some entry)
+    → (entry : Entry) × (slice_get (travelled_entries piece) i ≡ Some entry)
 entry_in piece i within =
     let none : Entry =
     record { ia = 0; cons_ingress = 0; cons_egress = 0; exp_time = 0; mac = [] } in
-    (get_or (travelled piece) i none, slice_get-get_or (travelled piece) i none within)
+    (get_or (travelled_entries piece) i none, slice_get-get_or (travelled_entries piece) i none within)
 
 field_fits : (piece : PieceValue) (i : ℕ) (entry : Entry) → AllByRecursion HopFits (fields_of piece)
-    → slice_get (travelled piece) i ≡ Some entry → HopFits (field_of entry)
+    → slice_get (travelled_entries piece) i ≡ Some entry → HopFits (field_of entry)
 field_fits piece i entry all there =
     all_there HopFits (fields_of piece) i (field_of entry) all
     (field_there piece i entry (field_of entry) there refl)

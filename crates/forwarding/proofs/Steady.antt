@@ -5,18 +5,18 @@ use Rattle.std.specs.Option.{unwrap_or, option_map_or}
 use Rattle.std.proofs.lemmas.Bool.{cases_eq}
 use Rattle.std.proofs.lemmas.Option.{same_Some}
 use Rattle.scion_topology.specs.declared.network.AsEntry.{AsEntry}
-use Rattle.scion_topology.specs.Keys.{renewed}
+use Rattle.scion_topology.specs.Keys.{key_in_use, renewed_keys}
 use Rattle.scion_topology.specs.Network.{Network, as_named}
 use Rattle.scion_topology.specs.Rules.{IsNetwork}
 use Rattle.scion_topology.specs.declared.fault.TopologyFault.TheVariants as faults
-use Rattle.scion_topology.specs.Topology.{known, set_up, rotated}
+use Rattle.scion_topology.specs.Topology.{known_as, set_up, with_rotated_key}
 use Rattle.refusal.proofs.Steps.{bind_ok, ok_or_ok}
 use Rattle.scion_topology.specs.Ends.{IsUp}
 use Rattle.scion_topology.proofs.Lasting.{linked_network, rotated_network, same_ases, named_still, named_renewed, same_interfaces, others_stay, up_stays}
 use Rattle.path_segment.specs.declared.entry.Entry.{Entry}
 use Rattle.path_segment.specs.Chain.{Chain, with_last}
 use Rattle.path_verifier.specs.Piece.{PieceValue}
-use Rattle.beaconing.specs.Entry.{key_of, key_in}
+use Rattle.beaconing.specs.Entry.{key_in}
 use Rattle.beaconing.specs.Calls.{last_of}
 use Rattle.beaconing.specs.Issued.{IsMade}
 use Rattle.beaconing.proofs.Outlasting.{segment_linked, segment_keyed}
@@ -127,7 +127,7 @@ cut_holds n m x y keys chain from to network made change alone holds = record {
 
 -- ---- changes of keys
 
-still_up : (n m : Network) (x : ℕ) (key : List ℕ) (ia number : ℕ) → rotated x key n ≡ Ok m
+still_up : (n m : Network) (x : ℕ) (key : List ℕ) (ia number : ℕ) → with_rotated_key x key n ≡ Ok m
     → IsUp n ia number true → IsUp m ia number true
 still_up n m x key ia number change up = record {
   entry = up.entry;
@@ -137,7 +137,7 @@ still_up n m x key ia number change up = record {
 
 -- a new key of an AS that is none of the chain's
 pub rotated_holds : (n m : Network) (x : ℕ) (key : List ℕ) (keys : List (List ℕ)) (chain : Chain)
-    (from to : ℕ) → rotated x key n ≡ Ok m → AvoidsAs chain from to x
+    (from to : ℕ) → with_rotated_key x key n ≡ Ok m → AvoidsAs chain from to x
     → KeysAndLinksHold n keys chain from to → KeysAndLinksHold m keys chain from to
 rotated_holds n m x key keys chain from to change past holds = record {
   keys_held = λ i entry k one low high at keyed named. (
@@ -150,30 +150,30 @@ rotated_holds n m x key keys chain from to change past holds = record {
 
 -- the key that was in use is accepted after a rotation
 still_accepted : (key used : List ℕ) (keys : List (List ℕ)) → used ≡ unwrap_or (slice_get keys 0) []
-    → Contains keys used → Contains (renewed key keys) used
+    → Contains keys used → Contains (renewed_keys key keys) used
 still_accepted key used [] is there = absurd (let h = there.1 in omega arith)
 still_accepted key used (current ∷ older) is there = (1, omega arith, sym is)
 
 -- an AS that takes another key is one of the network
-before_rotation : (n m : Network) (x : ℕ) (key : List ℕ) → rotated x key n ≡ Ok m
+before_rotation : (n m : Network) (x : ℕ) (key : List ℕ) → with_rotated_key x key n ≡ Ok m
     → (one : AsEntry) × (as_named n.ases x ≡ Some one)
-unfolding rotated
+unfolding with_rotated_key
 before_rotation n m x key change =
-    let at = bind_ok (known n x) _ m change in
+    let at = bind_ok (known_as n x) _ m change in
     (at.0, ok_or_ok (as_named n.ases x) faults.UnknownAs at.0 at.1)
 
 -- the first new key of an AS since its entries were made under the one in use
 pub renewed_holds : (n m : Network) (x : ℕ) (key : List ℕ) (keys : List (List ℕ)) (chain : Chain)
-    (from to : ℕ) → rotated x key n ≡ Ok m → KeyIsInUse n keys chain from to x
+    (from to : ℕ) → with_rotated_key x key n ≡ Ok m → KeyIsInUse n keys chain from to x
     → KeysAndLinksHold n keys chain from to → KeysAndLinksHold m keys chain from to
 renewed_holds n m x key keys chain from to change in_use holds = record {
   keys_held = λ i entry k one low high at keyed named. elim (cases_eq x entry.ia) [
     | inl same ↦ (
         let old = before_rotation n m x key change in
-        let new : record old.0 { keys = renewed key old.0.keys } ≡ one =
-        same_Some (record old.0 { keys = renewed key old.0.keys }) one
+        let new : record old.0 { keys = renewed_keys key old.0.keys } ≡ one =
+        same_Some (record old.0 { keys = renewed_keys key old.0.keys }) one
         (sym (named_renewed x key n m old.0 change old.1) ∙ ap (as_named m.ases) same ∙ named) in
-        let used : k ≡ key_of old.0 =
+        let used : k ≡ key_in_use old.0.keys =
         in_use i entry k low high at keyed (sym same) ∙ (rw old.1 refl) in
         let named_old : as_named n.ases entry.ia ≡ Some old.0 = ap (as_named n.ases) (sym same)
         ∙ old.1 in
@@ -191,7 +191,7 @@ renewed_holds n m x key keys chain from to change in_use holds = record {
 -- ---- the key in use
 
 abbrev key_found : Option AsEntry → List ℕ
-key_found found = option_map_or key_of found []
+key_found found = option_map_or (λ one. key_in_use one.keys) found []
 
 pub in_use_none : (n : Network) (keys : List (List ℕ)) (chain : Chain) (from to ia : ℕ)
     → chain.entries ≡ [] → KeyIsInUse n keys chain from to ia
@@ -221,7 +221,7 @@ in_use_linked n m up x y keys chain from to ia change in_use i entry key low hig
     ∙ ap (λ ases. key_found (as_named ases ia)) (sym (same_ases up x y n m change))
 
 pub in_use_keyed : (n m : Network) (x : ℕ) (new : List ℕ) (keys : List (List ℕ)) (chain : Chain)
-    (from to ia : ℕ) → rotated x new n ≡ Ok m → x ≢ ia → KeyIsInUse n keys chain from to ia
+    (from to ia : ℕ) → with_rotated_key x new n ≡ Ok m → x ≢ ia → KeyIsInUse n keys chain from to ia
     → KeyIsInUse m keys chain from to ia
 in_use_keyed n m x new keys chain from to ia change other in_use i entry key low high at keyed same
     =
@@ -254,7 +254,7 @@ cut_sound n m x y keys piece change alone is = record {
 
 pub rotated_sound : (n m : Network) (x : ℕ) (key : List ℕ) (keys : List (List ℕ))
     (piece : PieceValue)
-    → rotated x key n ≡ Ok m → AvoidsAs piece.segment piece.from piece.to x
+    → with_rotated_key x key n ≡ Ok m → AvoidsAs piece.segment piece.from piece.to x
     → IsIssuedAndAccepted n keys piece → IsIssuedAndAccepted m keys piece
 rotated_sound n m x key keys piece change past is = record {
   network = rotated_network x key n m is.network change;
@@ -265,7 +265,7 @@ rotated_sound n m x key keys piece change past is = record {
 
 pub renewed_sound : (n m : Network) (x : ℕ) (key : List ℕ) (keys : List (List ℕ))
     (piece : PieceValue)
-    → rotated x key n ≡ Ok m → KeyIsInUse n keys piece.segment piece.from piece.to x
+    → with_rotated_key x key n ≡ Ok m → KeyIsInUse n keys piece.segment piece.from piece.to x
     → IsIssuedAndAccepted n keys piece → IsIssuedAndAccepted m keys piece
 renewed_sound n m x key keys piece change in_use is = record {
   network = rotated_network x key n m is.network change;

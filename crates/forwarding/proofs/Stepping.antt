@@ -18,10 +18,10 @@ use Rattle.router_step.specs.declared.arrival.Arrival.{Arrival}
 use Rattle.router_step.specs.declared.outcome.Outcome.{Outcome}
 use Rattle.router_step.specs.declared.outcome.Outcome.TheVariants.{ToLink, ToRouter, Deliver}
 use Rattle.router_step.specs.declared.fault.Refusal.{Refusal}
-use Rattle.router_step.specs.Place.{current_info, current_hop, way_out, moved_on, gone}
+use Rattle.router_step.specs.Place.{current_info, current_hop, way_out, moved_on, header_on_leaving}
 use Rattle.router_step.specs.Checks.{destination_fits, kinds_fit}
 use Rattle.router_step.specs.Step.{step_of}
-use Rattle.forwarding.specs.PathPosition.{PathPosition, beta_at, info_left, header_with, header_there, header_coming, advanced, out_by}
+use Rattle.forwarding.specs.PathPosition.{PathPosition, beta_at, info_left, header_with, header_there, header_coming, next_position, out_by}
 use Rattle.forwarding.specs.OnPath.{header_on}
 use Rattle.forwarding.proofs.Reading.{info_of-header_with, hop_of-header_with}
 use Rattle.forwarding.proofs.Betas.{first_place_is}
@@ -60,14 +60,14 @@ may_leave view arrival has_switched spot entry out is opens = record {
 abbrev pub onward_by : View → IfEntry → PathPosition → Entry → Outcome × HeaderValue
 onward_by view out spot entry =
     if not (out.router == view.router) then (ToRouter out.router, header_there spot) else
-    (ToLink (out_by spot.piece entry), header_coming (advanced spot))
+    (ToLink (out_by spot.piece entry), header_coming (next_position spot))
 
 pub answer : (view : View) (out : IfEntry) (spot : PathPosition) (entry : Entry) → IsSpot spot entry
     → spot.reached + 1 < len_of spot.piece
     → (other : Bool) → not (out.router == view.router) ≡ other
     → (
       goes view out (header_there spot),
-      gone (goes view out (header_there spot))
+      header_on_leaving (goes view out (header_there spot))
           (header_there spot),
     ) ≡ onward_by view out spot entry
 answer view out spot entry is more true e = rw e refl
@@ -78,7 +78,7 @@ answer view out spot entry is more false e =
     (way_out (current_info (header_there spot)) (current_hop (header_there spot))) is more in
     rw e (ap (λ (h : HeaderValue).
     (ToLink (way_out (current_info (header_there spot)) (current_hop (header_there spot))), h)) left
-    ∙ ap (λ n. (ToLink n, header_coming (advanced spot))) way)
+    ∙ ap (λ n. (ToLink n, header_coming (next_position spot))) way)
 
 abbrev pub done : Outcome × HeaderValue → Result (Outcome × HeaderValue) Refusal
 done x = Ok x
@@ -106,7 +106,7 @@ goes_on view now arrival source destination spot entry out is comes own other mo
     (admitted_there view now arrival source spot entry is comes own) (not_last spot b further)
     (destination_elsewhere view destination other)
     (no_switch view now arrival (header_there spot) (stays spot b entry is more)) may
-    ∙ ap (λ (h : HeaderValue). done (goes view out h, gone (goes view out h) h)) same
+    ∙ ap (λ (h : HeaderValue). done (goes view out h, header_on_leaving (goes view out h) h)) same
     ∙ ap done (answer view out spot entry is more (not (out.router == view.router)) refl)
 
 -- at its end it is delivered

@@ -10,10 +10,10 @@ use Rattle.path_segment.specs.declared.entry.Entry.{Entry}
 use Rattle.path_header.specs.declared.fields.InfoField.{InfoField}
 use Rattle.path_header.specs.declared.fields.HopField.{HopField}
 use Rattle.path_header.specs.Value.{HeaderValue, lens_from, segment_at}
-use Rattle.path_verifier.specs.Piece.{PieceValue, HasRange, travelled}
+use Rattle.path_verifier.specs.Piece.{PieceValue, HasRange, travelled_entries}
 use Rattle.path_verifier.specs.Header.{info_with, len_of, total_hops}
 use Rattle.router_step.specs.declared.arrival.Arrival.TheVariants.{Link}
-use Rattle.router_step.specs.Place.{current_info, current_hop, moved_on, gone}
+use Rattle.router_step.specs.Place.{current_info, current_hop, moved_on, header_on_leaving}
 use Rattle.router_step.specs.Checks.{is_hop_live, is_mac_right, ends_segment}
 use Rattle.router_step.specs.Step.{step_of}
 use Rattle.forwarding.specs.PathPosition.{PathPosition, beta_at, header_with, header_there}
@@ -41,7 +41,7 @@ snoc_long (one ∷ past) piece a b = (a.0, snoc_long past piece a.1 b)
 -- the first entry of the next piece is a spot too
 pub next_spot : (past later : List PieceValue) (piece next : PieceValue) (i : ℕ)
     (entry first : Entry) → IsSpot (at_end past piece next later i) entry → HasRange next
-    → slice_get (travelled next) 0 ≡ Some first
+    → slice_get (travelled_entries next) 0 ≡ Some first
     → IsSpot (at_start past piece next later) first
 next_spot past later piece next i entry first is range there = record {
   three = let same =
@@ -55,7 +55,7 @@ next_spot past later piece next i entry first is range there = record {
 
 ends : (past later : List PieceValue) (piece next : PieceValue) (i seg_id : ℕ) (entry first : Entry)
     → IsSpot (at_end past piece next later i) entry → HasRange next
-    → slice_get (travelled next) 0 ≡ Some first → i + 1 ≡ len_of piece
+    → slice_get (travelled_entries next) 0 ≡ Some first → i + 1 ≡ len_of piece
     → ends_segment (header_with (at_end past piece next later i) seg_id) ≡ true
 unfolding header_with
 ends past later piece next i seg_id entry first is range there over =
@@ -82,7 +82,7 @@ pub switches : (view : View) (now interface source destination : ℕ) (past late
     → IsSpot (at_end past piece next later i) entry
     → Comes view (Link interface) source (at_end past piece next later i) entry
     → IsOwn view now piece i entry
-    → HasRange next → slice_get (travelled next) 0 ≡ Some first → IsOwn view now next 0 first
+    → HasRange next → slice_get (travelled_entries next) 0 ≡ Some first → IsOwn view now next 0 first
     → destination ≢ view.ia → i + 1 ≡ len_of piece → Opens view (Link interface) true next first out
     → step_of view now (Link interface) source destination
     (header_on (Link interface) (at_end past piece next later i)) ≡ Ok
@@ -120,6 +120,6 @@ switches view now interface source destination past later piece next i entry fir
     (not_last spot b further) (destination_elsewhere view destination other)
     (a_switch view now (Link interface) (header_there spot)
     (ends past later piece next i b entry first is range there over) refl live mac) may
-    ∙ ap (λ (h : HeaderValue). done (goes view out h, gone (goes view out h) h)) same
+    ∙ ap (λ (h : HeaderValue). done (goes view out h, header_on_leaving (goes view out h) h)) same
     ∙ ap done
     (answer view out goal first is_next (omega arith) (not (out.router == view.router)) refl)

@@ -8,21 +8,21 @@ use Rattle.scion_topology.specs.Topology.{owner_in}
 use Rattle.scion_topology.proofs.Ends.{owner_below}
 use Rattle.path_segment.specs.declared.entry.Entry.{Entry}
 use Rattle.path_header.specs.Value.{HeaderValue}
-use Rattle.path_verifier.specs.Piece.{PieceValue, HasRange, travelled}
+use Rattle.path_verifier.specs.Piece.{PieceValue, HasRange, travelled_entries}
 use Rattle.path_verifier.specs.Header.{len_of, total_hops}
 use Rattle.path_verifier.specs.Walk.{walk_of}
 use Rattle.policy_expr.specs.declared.hop.WalkHop.{WalkHop}
 use Rattle.router_step.specs.declared.arrival.Arrival.{Arrival}
 use Rattle.router_step.specs.declared.arrival.Arrival.TheVariants.{FromHost, Inside, Link}
-use Rattle.forwarding.specs.PathPosition.{PathPosition, pieces_at, advanced, in_by, out_by}
+use Rattle.forwarding.specs.PathPosition.{PathPosition, pieces_at, next_position, in_by, out_by}
 use Rattle.forwarding.specs.Forwardable.{IsLinked}
 use Rattle.path_header.specs.Value.{IsHeader}
 use Rattle.path_header.specs.Spelling.{FitsBits, SpellsHeader, spelling}
 use Rattle.path_verifier.specs.Header.{header_of}
 use Rattle.std.specs.List.{AllByRecursion}
 use Rattle.forwarding.specs.declared.location.PacketLocation.TheVariants.{Delivered}
-use Rattle.forwarding.specs.Frame.{framed, HasFrame}
-use Rattle.forwarding.specs.Turn.{Packet, noted}
+use Rattle.forwarding.specs.Frame.{frame_of, HasFrame}
+use Rattle.forwarding.specs.Turn.{Packet, with_passed_hop}
 use Rattle.forwarding.specs.OnPath.{header_on, at_spot, IsPlaced, OnPath, ComesNearer, Arrives}
 use Rattle.forwarding.specs.Journey.{to_come, turns_through, turns_over, turns_left}
 use Rattle.forwarding.proofs.AtSpot.{IsSpot, IsOwn, within_piece}
@@ -65,12 +65,12 @@ module _ (n : Network) (now source destination : ℕ) (payload : List ℕ) (piec
       let found = entry_at spot.piece (spot.reached + 1) entry placed.0 in
       let next = found.0 in
       let goes = open_piece.links spot.reached entry next good.there found.1 in
-      let ahead = to_come (in_by spot.piece next) (advanced spot) in
+      let ahead = to_come (in_by spot.piece next) (next_position spot) in
       let split = cross came_in_by spot entry next good.there found.1 in
       let all = ap (λ (w : List WalkHop). passed ++ w) (sym split) ∙ walk in
       let other =
       route.not_there passed ahead _ all
-      (some_to_come (in_by spot.piece next) (advanced spot) next found.1) in
+      (some_to_come (in_by spot.piece next) (next_position spot) next found.1) in
       let below =
       owner_below n entry.ia
       (out_by spot.piece entry) router accepted.one route.network placed.1
@@ -112,12 +112,12 @@ module _ (n : Network) (now source destination : ℕ) (payload : List ℕ) (piec
       let goes = open_piece.links spot.reached entry next good.there found.1 in
       let hop : WalkHop =
       record { ia = entry.ia; ingress = came_in_by; egress = out_by spot.piece entry } in
-      let ahead = to_come (in_by spot.piece next) (advanced spot) in
+      let ahead = to_come (in_by spot.piece next) (next_position spot) in
       let split = cross came_in_by spot entry next good.there found.1 in
       let all = ap (λ (w : List WalkHop). passed ++ w) (sym split) ∙ walk in
       let other =
       route.not_there passed ahead hop all
-      (some_to_come (in_by spot.piece next) (advanced spot) next found.1) in
+      (some_to_come (in_by spot.piece next) (next_position spot) next found.1) in
       let from =
       route.starts hop ahead (ap (λ (p : List WalkHop). p ++ hop ∷ ahead) (sym placed.1.1.0)
       ∙ all) in
@@ -162,7 +162,7 @@ module _ (n : Network) (now source destination : ℕ) (payload : List ℕ) (piec
       let back : spot.reached - 1 + 1 ≡ spot.reached = omega arith in (
         found.0,
         open_piece.links (spot.reached - 1) found.0 entry found.1
-            (ap (slice_get (travelled spot.piece)) back ∙ good.there),
+            (ap (slice_get (travelled_entries spot.piece)) back ∙ good.there),
       )
 
   over_piece : (left : ℕ) (spot : PathPosition) (entry : Entry) (router : ℕ) (passed : List WalkHop)
@@ -184,10 +184,10 @@ module _ (n : Network) (now source destination : ℕ) (payload : List ℕ) (piec
       let behind = came_over spot entry way router way passed good whole placed in
       let hop : WalkHop =
       record { ia = entry.ia; ingress = way; egress = out_by spot.piece entry } in
-      let ahead = to_come (in_by spot.piece next) (advanced spot) in
+      let ahead = to_come (in_by spot.piece next) (next_position spot) in
       let split : to_come way spot ≡ hop ∷ ahead = cross way spot entry next good.there found.1 in
       let all = ap (λ (w : List WalkHop). passed ++ w) (sym split) ∙ walk in
-      let some = some_to_come (in_by spot.piece next) (advanced spot) next found.1 in
+      let some = some_to_come (in_by spot.piece next) (next_position spot) next found.1 in
       let other = route.not_there passed ahead hop all some in
       let from = route.left_source passed ahead hop all placed.1.0 in
       let owned = placed.1.1.1.1 in
@@ -257,7 +257,7 @@ module _ (n : Network) (now source destination : ℕ) (payload : List ℕ) (piec
         one = count ∙ ap (turns_over n) split;
         there =
             steps
-            ∙ ap (λ (h : HeaderValue). delivered_with h (noted passed hop))
+            ∙ ap (λ (h : HeaderValue). delivered_with h (with_passed_hop passed hop))
             (there_behind spot none at_the_end ∙ ap header_behind whole)
             ∙ ap (delivered_with (header_behind pieces))
             (noted_is passed hop (short passed hop [] (walk_of pieces) all route.few) ∙ all);
@@ -265,7 +265,7 @@ module _ (n : Network) (now source destination : ℕ) (payload : List ℕ) (piec
     where
       delivered_with : HeaderValue → List WalkHop → Packet
       delivered_with h passed =
-          record { bytes = framed source destination h payload; place = Delivered; passed = passed }
+          record { bytes = frame_of source destination h payload; place = Delivered; passed = passed }
 
   over_beyond : (left : ℕ) (past later : List PieceValue) (piece next_piece : PieceValue) (i : ℕ)
       (entry : Entry) (router : ℕ) (passed : List WalkHop)
@@ -302,10 +302,10 @@ module _ (n : Network) (now source destination : ℕ) (payload : List ℕ) (piec
       let place : i ≡ len_of piece - 1 = omega arith in
       let same : entry.ia ≡ first.ia =
       route.meet past later piece next_piece entry first whole
-      (ap (slice_get (travelled piece)) (sym place) ∙ good.there) first_found.1 in
+      (ap (slice_get (travelled_entries piece)) (sym place) ∙ good.there) first_found.1 in
       let hop : WalkHop =
       record { ia = first.ia; ingress = way; egress = out_by next_piece first } in
-      let ahead = to_come (in_by next_piece second) (advanced goal) in
+      let ahead = to_come (in_by next_piece second) (next_position goal) in
       let onto : to_come way spot ≡ to_come way goal =
       beyond way past later piece next_piece i entry first second good.there at_the_end
       first_found.1 second_found.1 same in
@@ -315,7 +315,7 @@ module _ (n : Network) (now source destination : ℕ) (payload : List ℕ) (piec
       ap (λ (w : List WalkHop). passed ++ w) (sym onto) ∙ walk in
       let all : passed ++ hop ∷ ahead ≡ walk_of pieces =
       ap (λ (w : List WalkHop). passed ++ w) (sym split) ∙ walk_goal in
-      let some = some_to_come (in_by next_piece second) (advanced goal) second second_found.1 in
+      let some = some_to_come (in_by next_piece second) (next_position goal) second second_found.1 in
       let other : destination ≢ entry.ia =
       λ is. route.not_there passed ahead hop all some (is ∙ same) in
       let from : source ≢ entry.ia =
@@ -457,7 +457,7 @@ module _ (n : Network) (now source destination : ℕ) (payload : List ℕ) (piec
       (count ∙ ap (λ c. turns_over n (to_come c spot)) came_is)))
 
   good_spot : (spot : PathPosition) (entry : Entry) → pieces_at spot ≡ pieces
-      → slice_get (travelled spot.piece) spot.reached ≡ Some entry → IsSpot spot entry
+      → slice_get (travelled_entries spot.piece) spot.reached ≡ Some entry → IsSpot spot entry
   good_spot spot entry whole there =
       let three : length (pieces_at spot) ≤ 3 = (
       let most = route.three in

@@ -9,9 +9,9 @@ use Rattle.path_segment.specs.Chain.{beta_of}
 use Rattle.path_header.specs.declared.fields.InfoField.{InfoField}
 use Rattle.path_header.specs.declared.fields.HopField.{HopField}
 use Rattle.path_header.specs.Value.{lens_from}
-use Rattle.path_header.specs.Reversal.{turned_info, reversed_lens, reversed}
+use Rattle.path_header.specs.Reversal.{turned_info, reversed_lens, reversed_header}
 use Rattle.path_segment.specs.declared.entry.Entry.{Entry}
-use Rattle.path_verifier.specs.Piece.{PieceValue, HasRange, travelled}
+use Rattle.path_verifier.specs.Piece.{PieceValue, HasRange, travelled_entries}
 use Rattle.path_verifier.proofs.Turned.{travelled_turned, fields_turned}
 use Rattle.path_verifier.specs.Header.{info_with, fields_of, len_of, info_of, total_hops, header_of}
 use Rattle.path_verifier.proofs.Entries.{length_travelled}
@@ -35,7 +35,7 @@ map_back {A} {B} f (x ∷ xs) =
 
 len_turned : (piece : PieceValue) → len_of (turned_piece piece) ≡ len_of piece
 len_turned piece =
-    ap (λ (es : List Entry). length es) (travelled_turned piece) ∙ length-reverse (travelled piece)
+    ap (λ (es : List Entry). length es) (travelled_turned piece) ∙ length-reverse (travelled_entries piece)
 
 -- ---- the info fields
 
@@ -128,7 +128,7 @@ lens_turned (a ∷ b ∷ c ∷ d ∷ more) three long = absurd (omega arith)
 -- the header that a packet has at the end of its path, reversed, is the header of the way back
 pub header_back : (pieces : List PieceValue) → length pieces ≤ 3 → AllByRecursion IsLong pieces
     → AllByRecursion HasRange pieces
-    → reversed (header_behind pieces) ≡ header_of (turned_pieces pieces)
+    → reversed_header (header_behind pieces) ≡ header_of (turned_pieces pieces)
 unfolding header_behind header_of
 header_back pieces three long ranges =
     let infos = length-map pieces info_left in

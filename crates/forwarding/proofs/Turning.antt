@@ -10,7 +10,7 @@ use Rattle.scion_topology.specs.Network.{Network, as_named}
 use Rattle.scion_topology.specs.Topology.{far_end_in}
 use Rattle.path_segment.specs.declared.entry.Entry.{Entry}
 use Rattle.path_header.specs.Value.{HeaderValue}
-use Rattle.path_verifier.specs.Piece.{PieceValue, HasRange, travelled}
+use Rattle.path_verifier.specs.Piece.{PieceValue, HasRange, travelled_entries}
 use Rattle.path_verifier.specs.Header.{len_of}
 use Rattle.policy_expr.specs.declared.hop.WalkHop.{WalkHop}
 use Rattle.router_step.specs.declared.arrival.Arrival.{Arrival}
@@ -18,13 +18,13 @@ use Rattle.router_step.specs.declared.arrival.Arrival.TheVariants.{Inside, Link}
 use Rattle.router_step.specs.declared.outcome.Outcome.{Outcome}
 use Rattle.router_step.specs.declared.fault.Refusal.{Refusal}
 use Rattle.router_step.specs.Step.{step_of}
-use Rattle.forwarding.specs.PathPosition.{PathPosition, header_there, advanced, in_by, out_by}
+use Rattle.forwarding.specs.PathPosition.{PathPosition, header_there, next_position, in_by, out_by}
 use Rattle.forwarding.specs.Forwardable.{IsAuthenticHop, IsLinked}
 use Rattle.forwarding.specs.declared.location.RouterStop.{RouterStop}
 use Rattle.forwarding.specs.declared.location.PacketLocation.TheVariants.{AtRouter, Delivered}
 use Rattle.path_header.specs.Spelling.{SpellsHeader, spelling}
-use Rattle.forwarding.specs.Frame.{framed}
-use Rattle.forwarding.specs.Turn.{Packet, noted, put, stepped, by_view, turn_of, turned_packet}
+use Rattle.forwarding.specs.Frame.{frame_of}
+use Rattle.forwarding.specs.Turn.{Packet, with_passed_hop, after_outcome, after_step, by_view, turn_of, turned_packet}
 use Rattle.forwarding.specs.OnPath.{header_on, at_spot}
 use Rattle.forwarding.proofs.Framed.{frame_goes}
 use Rattle.forwarding.proofs.AtSpot.{IsSpot, Comes, IsOwn}
@@ -35,7 +35,7 @@ use Rattle.forwarding.proofs.Routers.{view_for, view_is, own}
 -- a packet at a router
 abbrev pub carried : ℕ → ℕ → List ℕ → HeaderValue → RouterStop → List WalkHop → Packet
 carried source destination payload header stop passed = record {
-  bytes = framed source destination header payload;
+  bytes = frame_of source destination header payload;
   place = AtRouter stop;
   passed = passed;
 }
@@ -43,7 +43,7 @@ carried source destination payload header stop passed = record {
 -- what a step over the header makes of it
 abbrev pub placed : Network → ℕ → ℕ → List ℕ → RouterStop → List WalkHop → Outcome × HeaderValue → Packet
 placed n source destination payload stop passed done =
-    put n (carried source destination payload done.1 stop passed) stop done.0
+    after_outcome n (carried source destination payload done.1 stop passed) stop done.0
 
 -- a way into an AS, at this router of it
 abbrev pub stop_at : ℕ → ℕ → Arrival → ℕ → RouterStop
@@ -53,9 +53,9 @@ stop_at ia router arrival came_in_by =
 -- over a link to the next entry
 abbrev pub crossed : ℕ → ℕ → List ℕ → PathPosition → Entry → Entry → ℕ → ℕ → List WalkHop → Packet
 crossed source destination payload spot entry next router came_in_by passed =
-    at_spot source destination payload (advanced spot) next (Link (in_by spot.piece next)) router
+    at_spot source destination payload (next_position spot) next (Link (in_by spot.piece next)) router
     (in_by spot.piece next)
-    (noted passed (record { ia = entry.ia; ingress = came_in_by; egress = out_by spot.piece entry }))
+    (with_passed_hop passed (record { ia = entry.ia; ingress = came_in_by; egress = out_by spot.piece entry }))
 
 -- what a step answers puts the packet over the link, or at the router that owns it
 pub over : (n : Network) (source destination : ℕ) (payload : List ℕ) (stop : RouterStop)
@@ -68,10 +68,10 @@ over n source destination payload stop passed view spot entry next goes here sam
     (next.ia, in_by spot.piece next) =
     ap (λ ia. far_end_in n ia (out_by spot.piece entry)) here ∙ goes.leads in
     rw (eq-eqb goes.near.router view.router same, leads, goes.far_owner)
-    (ap (λ ia. at_spot source destination payload (advanced spot) next
+    (ap (λ ia. at_spot source destination payload (next_position spot) next
     (Link (in_by spot.piece next))
     goes.far.router (in_by spot.piece next)
-    (noted passed (record { ia = ia; ingress = stop.came_in_by; egress = out_by spot.piece entry })))
+    (with_passed_hop passed (record { ia = ia; ingress = stop.came_in_by; egress = out_by spot.piece entry })))
     here)
 
 pub inside : (n : Network) (source destination : ℕ) (payload : List ℕ) (stop : RouterStop)
@@ -100,7 +100,7 @@ turn_is n now source destination payload header stop passed one done named below
     let view = view_for n one stop.ia stop.router in
     ap (λ (v : Result View TopologyFault). (by_view n now packet stop v).1)
     (view_is n stop.ia stop.router one named below)
-    ∙ ap (λ (r : Result (Outcome × List ℕ) Refusal). (stepped n packet stop r).1)
+    ∙ ap (λ (r : Result (Outcome × List ℕ) Refusal). (after_step n packet stop r).1)
     (frame_goes view now stop.arrival source destination header payload done from for spells step)
 
 module _ (n : Network) (now source destination : ℕ) (payload : List ℕ) (from : source < 2 ^ 64)
@@ -136,9 +136,9 @@ module _ (n : Network) (now source destination : ℕ) (payload : List ℕ) (from
       → Comes (view_for n accepted.one entry.ia router) arrival source spot entry
       → turned_packet n now (at_spot source destination payload spot entry arrival router came_in_by passed)
       ≡ record {
-        bytes = framed source destination (header_there spot) payload;
+        bytes = frame_of source destination (header_there spot) payload;
         place = Delivered;
-        passed = noted passed (record { ia = entry.ia; ingress = came_in_by; egress = 0 });
+        passed = with_passed_hop passed (record { ia = entry.ia; ingress = came_in_by; egress = 0 });
       }
   turns_last spot entry arrival router came_in_by passed accepted is below spells live here at_end none
       comes =
@@ -160,7 +160,7 @@ module _ (n : Network) (now source destination : ℕ) (payload : List ℕ) (from
       → IsLive piece.segment.timestamp entry.exp_time now
       → IsLive next_piece.segment.timestamp first.exp_time now
       → destination ≢ entry.ia → i + 1 ≡ len_of piece → HasRange next_piece
-      → slice_get (travelled next_piece) 0 ≡ Some first
+      → slice_get (travelled_entries next_piece) 0 ≡ Some first
       → IsOwn (view_for n accepted.one entry.ia router) now next_piece 0 first
       → Comes (view_for n accepted.one entry.ia router) (Link interface) source
       (at_end past piece next_piece later i) entry

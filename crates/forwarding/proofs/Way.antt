@@ -7,9 +7,9 @@ use Rattle.hop_mac.specs.Lifetime.{IsLive}
 use Rattle.scion_topology.specs.declared.fault.TopologyFault.{TopologyFault}
 use Rattle.scion_topology.specs.declared.network.AsEntry.{AsEntry}
 use Rattle.scion_topology.specs.Network.{Network, as_named}
-use Rattle.scion_topology.specs.Topology.{IsNetwork, known, owner_in}
+use Rattle.scion_topology.specs.Topology.{IsNetwork, known_as, owner_in}
 use Rattle.path_segment.specs.declared.entry.Entry.{Entry}
-use Rattle.path_verifier.specs.Piece.{PieceValue, HasRange, kind_of, travelled}
+use Rattle.path_verifier.specs.Piece.{PieceValue, HasRange, kind_of, travelled_entries}
 use Rattle.path_verifier.specs.Header.{len_of}
 use Rattle.path_verifier.specs.Walk.{hops_of, walk_of, entered_by, left_by}
 use Rattle.policy_expr.specs.declared.hop.WalkHop.{WalkHop}
@@ -34,12 +34,12 @@ pub record IsRoute (n : Network) (now source destination : ℕ)
   pub opens : (past later : List PieceValue) (piece : PieceValue) → past ++ piece ∷ later ≡ pieces
       → IsForwardable n piece
   pub live : (past later : List PieceValue) (piece : PieceValue) (i : ℕ) (entry : Entry)
-      → past ++ piece ∷ later ≡ pieces → slice_get (travelled piece) i ≡ Some entry
+      → past ++ piece ∷ later ≡ pieces → slice_get (travelled_entries piece) i ≡ Some entry
       → IsLive piece.segment.timestamp entry.exp_time now
   pub meet : (past later : List PieceValue) (piece next : PieceValue) (last first : Entry)
       → past ++ piece ∷ next ∷ later ≡ pieces
-      → slice_get (travelled piece) (len_of piece - 1) ≡ Some last
-      → slice_get (travelled next) 0 ≡ Some first → last.ia ≡ first.ia
+      → slice_get (travelled_entries piece) (len_of piece - 1) ≡ Some last
+      → slice_get (travelled_entries next) 0 ≡ Some first → last.ia ≡ first.ia
   pub follow : (past later : List PieceValue) (piece next : PieceValue)
       → past ++ piece ∷ next ∷ later ≡ pieces → MayFollow (kind_of piece) (kind_of next)
   pub starts : (hop : WalkHop) (rest : List WalkHop) → hop ∷ rest ≡ walk_of pieces → source ≡ hop.ia
@@ -58,7 +58,7 @@ some_front came_in_by w hop [] back = omega arith
 some_front came_in_by w hop (x ∷ xs) back = omega arith
 
 pub some_to_come : (came_in_by : ℕ) (spot : PathPosition) (entry : Entry)
-    → slice_get (travelled spot.piece) spot.reached ≡ Some entry → 0 < length (to_come came_in_by spot)
+    → slice_get (travelled_entries spot.piece) spot.reached ≡ Some entry → 0 < length (to_come came_in_by spot)
 some_to_come came_in_by spot entry there =
     rw (hops_from spot.piece spot.reached entry there)
     (some_front came_in_by (way_beyond spot.later) _ (drop (spot.reached + 1) (hops_of spot.piece))
@@ -77,13 +77,13 @@ pub same_as_entry : (n : Network) (ia : ℕ) (a b : AsEntry) → as_named n.ases
 same_as_entry n ia a b x y = same_Some a b (sym x ∙ y)
 
 pub is_known : (n : Network) (ia : ℕ) (one : AsEntry) → as_named n.ases ia ≡ Some one
-    → known n ia ≡ Ok one
+    → known_as n ia ≡ Ok one
 is_known n ia one named = rw named refl
 
 pub entry_at : (piece : PieceValue) (i : ℕ) (d : Entry) → i < len_of piece
-    → (entry : Entry) × (slice_get (travelled piece) i ≡ Some entry)
+    → (entry : Entry) × (slice_get (travelled_entries piece) i ≡ Some entry)
 entry_at piece i d within =
-    (get_or (travelled piece) i d, slice_get-get_or (travelled piece) i d within)
+    (get_or (travelled_entries piece) i d, slice_get-get_or (travelled_entries piece) i d within)
 
 pub through_one : (n : Network) (hop : WalkHop) (router near : ℕ)
     → owner_in n hop.ia hop.ingress ≡ Ok router → owner_in n hop.ia hop.egress ≡ Ok near
@@ -119,7 +119,7 @@ later_are_long (one ∷ past) later piece ranges = later_are_long past later pie
 
 pub spot_of : (spot : PathPosition) (entry : Entry) → length (pieces_at spot) ≤ 3
     → AllByRecursion HasRange (pieces_at spot)
-    → slice_get (travelled spot.piece) spot.reached ≡ Some entry → IsSpot spot entry
+    → slice_get (travelled_entries spot.piece) spot.reached ≡ Some entry → IsSpot spot entry
 spot_of spot entry three ranges there = record {
   three = three;
   past_long = past_are_long spot.past spot.later spot.piece ranges;

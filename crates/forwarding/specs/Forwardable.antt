@@ -12,7 +12,7 @@ use Rattle.scion_topology.specs.Topology.{interface_at, far_end_in, owner_in}
 use Rattle.path_segment.specs.declared.entry.Entry.{Entry}
 use Rattle.path_verifier.specs.declared.kind.PieceKind.{PieceKind}
 use Rattle.path_verifier.specs.declared.kind.PieceKind.TheVariants.{Up, Core, Down}
-use Rattle.path_verifier.specs.Piece.{PieceValue, kind_of, travelled}
+use Rattle.path_verifier.specs.Piece.{PieceValue, kind_of, travelled_entries}
 use Rattle.path_verifier.specs.Accepted.{AreLive, MakesPath}
 use Rattle.forwarding.specs.PathPosition.{beta_at, in_by, out_by}
 
@@ -49,10 +49,10 @@ pub record IsLinked (n : Network) (piece : PieceValue) (entry next : Entry) : Ty
 
 -- the network forwards packets on this piece: all its hops are authentic, and all its links are up
 pub record IsForwardable (n : Network) (piece : PieceValue) : Type 0 where
-  pub hops : (i : ℕ) (entry : Entry) → slice_get (travelled piece) i ≡ Some entry
+  pub hops : (i : ℕ) (entry : Entry) → slice_get (travelled_entries piece) i ≡ Some entry
       → IsAuthenticHop n piece i entry
-  pub links : (i : ℕ) (entry next : Entry) → slice_get (travelled piece) i ≡ Some entry
-      → slice_get (travelled piece) (i + 1) ≡ Some next → IsLinked n piece entry next
+  pub links : (i : ℕ) (entry next : Entry) → slice_get (travelled_entries piece) i ≡ Some entry
+      → slice_get (travelled_entries piece) (i + 1) ≡ Some next → IsLinked n piece entry next
 
 -- the network forwards packets on these pieces now: they are a path from `source` to `destination`,
 -- all their hops are live, and each piece is forwardable

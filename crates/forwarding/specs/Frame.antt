@@ -11,8 +11,8 @@ abbrev pub addresses : (source destination : ℕ) → List ℕ
 addresses source destination = to_be_bytes w64 destination ++ to_be_bytes w64 source
 
 -- the bytes of a packet: both addresses, its path header, its payload
-unfoldable pub framed : (src dst : ℕ) (header : HeaderValue) (payload : List ℕ) → List ℕ
-framed src dst header payload = addresses src dst ++ (spelling header ++ payload)
+unfoldable pub frame_of : (src dst : ℕ) (header : HeaderValue) (payload : List ℕ) → List ℕ
+frame_of src dst header payload = addresses src dst ++ (spelling header ++ payload)
 
 -- both addresses and the numbers in the header of these pieces fit into their bits
 pub record HasFrame (source destination : ℕ) (pieces : List PieceValue) : Type 0 where

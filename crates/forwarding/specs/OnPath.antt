@@ -5,13 +5,13 @@ use Rattle.scion_topology.specs.Topology.{owner_in}
 use Rattle.path_segment.specs.declared.entry.Entry.{Entry}
 use Rattle.path_header.specs.Value.{HeaderValue}
 use Rattle.policy_expr.specs.declared.hop.WalkHop.{WalkHop}
-use Rattle.path_verifier.specs.Piece.{PieceValue, travelled}
+use Rattle.path_verifier.specs.Piece.{PieceValue, travelled_entries}
 use Rattle.path_verifier.specs.Header.{len_of}
 use Rattle.path_verifier.specs.Walk.{walk_of}
 use Rattle.router_step.specs.declared.arrival.Arrival.{Arrival}
 use Rattle.router_step.specs.declared.arrival.Arrival.TheVariants.{FromHost, Inside, Link}
 use Rattle.forwarding.specs.declared.location.PacketLocation.TheVariants.{AtRouter, Delivered}
-use Rattle.forwarding.specs.Frame.{framed, HasFrame}
+use Rattle.forwarding.specs.Frame.{frame_of, HasFrame}
 use Rattle.forwarding.specs.Turn.{Packet, turned_packet}
 use Rattle.forwarding.specs.PathPosition.{PathPosition, pieces_at, header_there, header_coming, in_by, out_by}
 use Rattle.forwarding.specs.Journey.{to_come, turns_left}
@@ -28,7 +28,7 @@ abbrev pub at_spot : (source destination : ℕ) (payload : List ℕ) (spot : Pat
     (entry : Entry) (arrival : Arrival) (router came_in_by : ℕ) (passed : List WalkHop) → Packet
 at_spot source destination payload spot entry arrival router came_in_by passed =
     record {
-      bytes = framed source destination (header_on arrival spot) payload;
+      bytes = frame_of source destination (header_on arrival spot) payload;
       place = AtRouter (record {
         ia = entry.ia;
         router = router;
@@ -66,7 +66,7 @@ pub record OnPath (n : Network) (source destination : ℕ) (payload : List ℕ)
   pub is : packet ≡ at_spot source destination payload spot entry arrival router came_in_by passed
   pub frame : HasFrame source destination pieces
   pub whole : pieces_at spot ≡ pieces
-  pub there : slice_get (travelled spot.piece) spot.reached ≡ Some entry
+  pub there : slice_get (travelled_entries spot.piece) spot.reached ≡ Some entry
   pub placed : IsPlaced n spot entry arrival router came_in_by passed
   pub walk : passed ++ to_come came_in_by spot ≡ walk_of pieces
   pub count : left ≡ turns_left n arrival (to_come came_in_by spot)
@@ -83,7 +83,7 @@ pub record ComesNearer (n : Network) (now source destination : ℕ) (payload : L
 abbrev pub arrived_with : (source destination : ℕ) (payload : List ℕ) (pieces : List PieceValue)
     → Packet
 arrived_with source destination payload pieces =
-    let bytes = framed source destination (header_behind pieces) payload in
+    let bytes = frame_of source destination (header_behind pieces) payload in
     record { bytes = bytes; place = Delivered; passed = walk_of pieces }
 
 -- the last turn delivers the packet

@@ -60,8 +60,8 @@ abbrev pub header_coming : PathPosition → HeaderValue
 header_coming spot = header_with spot (beta_before spot.piece spot.reached)
 
 -- the place of the next entry in the same piece
-abbrev pub advanced : PathPosition → PathPosition
-advanced spot = record spot { reached = spot.reached + 1 }
+abbrev pub next_position : PathPosition → PathPosition
+next_position spot = record spot { reached = spot.reached + 1 }
 
 -- the interfaces by which a path enters the AS of an entry, and by which it leaves
 abbrev pub in_by : PieceValue → Entry → ℕ

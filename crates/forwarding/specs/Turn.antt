@@ -39,8 +39,8 @@ put_at bytes ia router =
     record { bytes = bytes; place = AtRouter (stop_at ia router FromHost 0); passed = [] }
 
 -- the passed hops with this one added; a packet keeps at most 64
-abbrev pub noted : List WalkHop → WalkHop → List WalkHop
-noted passed hop = if nat_lt (length passed) 64 then passed ++ hop ∷ [] else passed
+abbrev pub with_passed_hop : List WalkHop → WalkHop → List WalkHop
+with_passed_hop passed hop = if nat_lt (length passed) 64 then passed ++ hop ∷ [] else passed
 
 -- the hop of the AS in which the packet is, left by this interface
 abbrev pub hop_by : RouterStop → ℕ → WalkHop
@@ -50,7 +50,7 @@ hop_by stop out = record { ia = stop.ia; ingress = stop.came_in_by; egress = out
 abbrev pub at_owner : (packet : Packet) (stop : RouterStop) (out ia number : ℕ)
     (owner : Result ℕ TopologyFault) → Packet
 at_owner packet stop out ia number (Ok router) =
-    let passed = noted packet.passed (hop_by stop out) in
+    let passed = with_passed_hop packet.passed (hop_by stop out) in
     record packet { place = AtRouter (stop_at ia router (Link number) number); passed = passed }
 at_owner packet stop out ia number (Err fault) = packet
 
@@ -59,20 +59,20 @@ over_link n packet stop out (Ok end) = at_owner packet stop out end.0 end.1 (own
 over_link n packet stop out (Err fault) = packet
 
 -- the packet after a router's outcome
-abbrev pub put : Network → Packet → RouterStop → Outcome → Packet
-put n packet stop (ToLink out) = over_link n packet stop out (far_end_in n stop.ia out)
-put n packet stop (ToRouter router) =
+abbrev pub after_outcome : Network → Packet → RouterStop → Outcome → Packet
+after_outcome n packet stop (ToLink out) = over_link n packet stop out (far_end_in n stop.ia out)
+after_outcome n packet stop (ToRouter router) =
     record packet { place = AtRouter (record stop { router = router; arrival = Inside }) }
-put n packet stop Deliver =
-    record packet { place = Delivered; passed = noted packet.passed (hop_by stop 0) }
+after_outcome n packet stop Deliver =
+    record packet { place = Delivered; passed = with_passed_hop packet.passed (hop_by stop 0) }
 
 -- the reply of a turn and the packet after it: a step that succeeds gives new bytes and a new
 -- place, and a refusal only a new place
-abbrev pub stepped : Network → Packet → RouterStop → Result (Outcome × List ℕ) Refusal
+abbrev pub after_step : Network → Packet → RouterStop → Result (Outcome × List ℕ) Refusal
     → TurnReply × Packet
-stepped n packet stop (Ok done) =
-    (replies.Went done.0, put n (record packet { bytes = done.1 }) stop done.0)
-stepped n packet stop (Err refusal) =
+after_step n packet stop (Ok done) =
+    (replies.Went done.0, after_outcome n (record packet { bytes = done.1 }) stop done.0)
+after_step n packet stop (Err refusal) =
     (replies.Refused refusal, record packet { place = Refused stop.ia stop.router refusal })
 
 -- the reply and the packet if no router makes a step: the packet is as it was
@@ -84,7 +84,7 @@ still packet = (replies.Still, packet)
 abbrev pub by_view : Network → ℕ → Packet → RouterStop → Result View TopologyFault
     → TurnReply × Packet
 by_view n now packet stop (Ok view) =
-    stepped n packet stop (packet_step view now stop.arrival packet.bytes)
+    after_step n packet stop (packet_step view now stop.arrival packet.bytes)
 by_view n now packet stop (Err fault) = still packet
 
 abbrev pub by_place : Network → ℕ → Packet → PacketLocation → TurnReply × Packet
@@ -98,7 +98,7 @@ turn_of n now packet = by_place n now packet packet.place
 -- `turn_of` with a given view in place of the network's
 abbrev pub at_place : Network → View → ℕ → Packet → PacketLocation → TurnReply × Packet
 at_place n view now packet (AtRouter stop) =
-    stepped n packet stop (packet_step view now stop.arrival packet.bytes)
+    after_step n packet stop (packet_step view now stop.arrival packet.bytes)
 at_place n view now packet place = still packet
 
 unfoldable pub turn_under : Network → View → ℕ → Packet → TurnReply × Packet
@@ -118,11 +118,11 @@ abbrev pub IsAtNoRouter : Packet → Type 0
 IsAtNoRouter packet = (stop : RouterStop) → packet.place ≢ AtRouter stop
 
 -- the packet after it was lost on its way
-abbrev pub lost : Packet → Packet
-lost packet = record packet { place = Lost }
+abbrev pub lost_packet : Packet → Packet
+lost_packet packet = record packet { place = Lost }
 
 -- the packet with this byte changed by exclusive or
-abbrev pub altered : (packet : Packet) (at change : ℕ) → Packet
-altered packet at change = record packet {
+abbrev pub altered_packet : (packet : Packet) (at change : ℕ) → Packet
+altered_packet packet at change = record packet {
   bytes = slice_set packet.bytes at (bit_xor (slice_index packet.bytes at) change);
 }

@@ -1,7 +1,7 @@
 ghost use Rattle.std.specs.Prelude.{◌≡◌, ◌^◌, ◌<◌, ◌≤◌, length, take, IfOk};
 ghost use Rattle.path_header.specs.Value.{header_len};
 ghost use Rattle.path_header.specs.Spelling.{FitsBits, spelling};
-ghost use Rattle.forwarding.specs.Frame.{framed};
+ghost use Rattle.forwarding.specs.Frame.{frame_of};
 
 use isd_as::IsdAs;
 use path_header::{Header, MAX_HEADER_LEN, encode};
@@ -19,7 +19,7 @@ pub fn frame(
 ) -> Result<Vec<u8>, AllocError>
     requires { length payload.now < 2 ^ 32 }
     ensures value { IfOk result (λ bytes.
-        bytes.items ≡ framed source destination header.now payload.now) }
+        bytes.items ≡ frame_of source destination header.now payload.now) }
     // The numbers of the header and both addresses fit into their bits.
     ensures fits { IfOk result (λ _. FitsBits header.now) }
     ensures addresses { (source < 2 ^ 64) × (destination < 2 ^ 64) }

@@ -1,6 +1,6 @@
 ghost use Rattle.std.specs.Prelude.{◌≡◌, ℕ, ◌<◌, ◌≤◌, List, length, vec_capacity, IfOk, IfErr};
 ghost use Rattle.scion_topology.specs.Topology.{far_end_in};
-ghost use Rattle.forwarding.specs.Turn.{packet_with, altered, hop_by, lost, put_at, over_link, put, turn_under, turn_of};
+ghost use Rattle.forwarding.specs.Turn.{packet_with, altered_packet, hop_by, lost_packet, put_at, over_link, after_outcome, turn_under, turn_of};
 
 use crate::location::{PacketLocation, RouterStop};
 use crate::reply::TurnReply;
@@ -143,7 +143,7 @@ impl PacketInFlight {
 
     /// Loses the packet: from now on it has no turns.
     pub fn lose(&mut self)
-        ensures { self.new ≡ lost self.old }
+        ensures { self.new ≡ lost_packet self.old }
     {
         self.place = PacketLocation::Lost;
     }
@@ -162,7 +162,7 @@ impl PacketInFlight {
     /// Changes the byte at this place by exclusive or.
     pub fn alter(&mut self, at: usize, change: u8)
         requires { at < length self.old.bytes }
-        ensures { self.new ≡ altered self.old at change }
+        ensures { self.new ≡ altered_packet self.old at change }
     {
         self.bytes[at] ^= change;
     }
@@ -209,7 +209,7 @@ fn answer(
     requires { length passed.old.items < 64 → length passed.old.items < vec_capacity passed.old }
     ensures went { IfOk stepped (λ outcome. (result ≡ TurnReply.Went outcome)
         × ((bytes : List ℕ) → packet_with bytes place.new passed.new.items
-        ≡ put topology.now (packet_with bytes place.old passed.old.items) stop outcome)) }
+        ≡ after_outcome topology.now (packet_with bytes place.old passed.old.items) stop outcome)) }
     ensures refused { IfErr stepped (λ refusal. (result ≡ TurnReply.Refused refusal)
         × (place.new ≡ PacketLocation.Refused stop.ia stop.router refusal)
         × (passed.new.items ≡ passed.old.items)) }
@@ -238,7 +238,7 @@ fn put(
 )
     requires { length passed.old.items < 64 → length passed.old.items < vec_capacity passed.old }
     ensures put { (bytes : List ℕ) → packet_with bytes place.new passed.new.items
-        ≡ put topology.now (packet_with bytes place.old passed.old.items) stop outcome }
+        ≡ after_outcome topology.now (packet_with bytes place.old passed.old.items) stop outcome }
     ensures few { length passed.old.items ≤ 64 → length passed.new.items ≤ 64 }
     ensures room { vec_capacity passed.new ≡ vec_capacity passed.old }
 {

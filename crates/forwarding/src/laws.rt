@@ -4,7 +4,7 @@
 ghost use Rattle.std.specs.Prelude.{◌≡◌, ◌≢◌, ◌↔◌, ◌⊎◌, ℕ, ◌-◌, ◌*◌, ◌<◌, ◌≤◌, Bool, true, false, List, [], ◌∷◌, ◌++◌, length, All, Ok, IsOk};
 ghost use Rattle.scion_topology.specs.Network.{Network};
 ghost use Rattle.scion_topology.specs.View.{View};
-ghost use Rattle.scion_topology.specs.Topology.{IsNetwork, owner_in, rotated, set_up, view_in};
+ghost use Rattle.scion_topology.specs.Topology.{IsNetwork, owner_in, with_rotated_key, set_up, view_in};
 ghost use Rattle.path_segment.specs.Chain.{Chain};
 ghost use Rattle.path_verifier.specs.Piece.{PieceValue};
 ghost use Rattle.path_verifier.specs.Header.{header_of, total_hops};
@@ -15,16 +15,16 @@ ghost use Rattle.path_verifier.specs.Turned.{turned_piece, turned_pieces};
 ghost use Rattle.path_header.specs.Value.{HeaderValue, IsHeader, header_len};
 ghost use Rattle.path_header.specs.Spelling.{FitsBits};
 ghost use Rattle.router_step.specs.Packet.{destination_of, source_of, header_in};
-ghost use Rattle.path_header.specs.Reversal.{reversed};
+ghost use Rattle.path_header.specs.Reversal.{reversed_header};
 ghost use Rattle.policy_expr.specs.Policy.{Rules};
 ghost use Rattle.forwarding.specs.Turned.{header_behind, no_rules};
 ghost use Rattle.beaconing.specs.Entry.{key_in};
-ghost use Rattle.beaconing.specs.Calls.{originated, extended, terminated};
+ghost use Rattle.beaconing.specs.Calls.{originated_beacon, extended_beacon, terminated_beacon};
 ghost use Rattle.beaconing.specs.Issued.{IsMade, IsUnderWay};
 ghost use Rattle.forwarding.specs.declared.location.PacketLocation.{PacketLocation};
 ghost use Rattle.forwarding.specs.declared.location.RouterStop.{RouterStop};
 ghost use Rattle.forwarding.specs.declared.reply.TurnReply.{TurnReply};
-ghost use Rattle.forwarding.specs.Frame.{framed, HasFrame};
+ghost use Rattle.forwarding.specs.Frame.{frame_of, HasFrame};
 ghost use Rattle.forwarding.specs.Turn.{Packet, IsAtNoRouter, put_at, still, turn_under, turn_of, turned_packet, after};
 ghost use Rattle.forwarding.specs.Journey.{first_out, turns_for};
 ghost use Rattle.forwarding.specs.Forwardable.{IsForwardable, MayForward};
@@ -68,7 +68,7 @@ pub fn sent_packets_stand()
         → HasFrame source destination pieces
         → owner_in n source (first_out (walk_of pieces)) ≡ Ok router
         → OnPath n source destination payload pieces (turns_for n (walk_of pieces))
-        (put_at (framed source destination (header_of pieces) payload) source router) }
+        (put_at (frame_of source destination (header_of pieces) payload) source router) }
 {}
 
 /// A path's walk takes at most two turns for each of its hop fields.
@@ -88,23 +88,24 @@ pub fn journeys_are_bounded()
         (payload moments : List ℕ) → IsNetwork n → IsOk (view_in n ia router) → IsHeader header
         → FitsBits header → 2 * length header.hops ≤ length moments
         → IsAtNoRouter
-        (after n (put_at (framed source destination header payload) ia router) moments) }
+        (after n (put_at (frame_of source destination header payload) ia router) moments) }
     ensures before { (n : Network) (source destination ia router : ℕ) (header : HeaderValue)
         (payload moments : List ℕ) (stop : RouterStop) → IsNetwork n → IsOk (view_in n ia router)
         → IsHeader header → FitsBits header
-        → (after n (put_at (framed source destination header payload) ia router) moments).place
+        → (after n (put_at (frame_of source destination header payload) ia router) moments).place
         ≡ PacketLocation.AtRouter stop
         → length moments < 2 * length header.hops }
     ensures passed { (n : Network) (source destination ia router : ℕ) (header : HeaderValue)
         (payload moments : List ℕ) (stop : RouterStop) → IsNetwork n → IsOk (view_in n ia router)
         → IsHeader header → FitsBits header
-        → let packet = after n (put_at (framed source destination header payload) ia router) moments
+        → let packet = after n
+        (put_at (frame_of source destination header payload) ia router) moments
         in packet.place ≡ PacketLocation.AtRouter stop
         → length packet.passed < length header.hops }
     ensures there { (n : Network) (source destination ia router : ℕ) (header : HeaderValue)
         (payload moments : List ℕ) (stop : RouterStop) → IsNetwork n → IsOk (view_in n ia router)
         → IsHeader header → FitsBits header
-        → (after n (put_at (framed source destination header payload) ia router) moments).place
+        → (after n (put_at (frame_of source destination header payload) ia router) moments).place
         ≡ PacketLocation.AtRouter stop
         → IsOk (view_in n stop.ia stop.router) }
     ensures owners { (n : Network) (ia number router : ℕ) → IsNetwork n
@@ -124,7 +125,8 @@ pub fn turns_are_done()
         → IsOk (view_in n next.ia next.router) }
     ensures links { (n m : Network) (up : Bool) (x y ia router : ℕ) → set_up up x y n ≡ Ok m
         → IsOk (view_in n ia router) → IsOk (view_in m ia router) }
-    ensures keys { (n m : Network) (x : ℕ) (key : List ℕ) (ia router : ℕ) → rotated x key n ≡ Ok m
+    ensures keys { (n m : Network) (x : ℕ) (key : List ℕ) (ia router : ℕ)
+        → with_rotated_key x key n ≡ Ok m
         → IsOk (view_in n ia router) → IsOk (view_in m ia router) }
 {}
 
@@ -136,7 +138,7 @@ pub fn packets_stand_through_changes()
         → OnPath m source destination payload pieces left packet }
     ensures keys { (n m : Network) (ia : ℕ) (key : List ℕ) (source destination : ℕ)
         (payload : List ℕ) (pieces : List PieceValue) (left : ℕ) (packet : Packet)
-        → rotated ia key n ≡ Ok m → OnPath n source destination payload pieces left packet
+        → with_rotated_key ia key n ≡ Ok m → OnPath n source destination payload pieces left packet
         → OnPath m source destination payload pieces left packet }
 {}
 
@@ -178,11 +180,11 @@ pub fn sound_pieces_outlast_changes()
         → AvoidsLink piece.segment piece.from piece.to ia number
         → IsIssuedAndAccepted n keys piece → IsIssuedAndAccepted m keys piece }
     ensures others { (n m : Network) (ia : ℕ) (key : List ℕ) (keys : List (List ℕ))
-        (piece : PieceValue) → rotated ia key n ≡ Ok m
+        (piece : PieceValue) → with_rotated_key ia key n ≡ Ok m
         → AvoidsAs piece.segment piece.from piece.to ia
         → IsIssuedAndAccepted n keys piece → IsIssuedAndAccepted m keys piece }
     ensures own { (n m : Network) (ia : ℕ) (key : List ℕ) (keys : List (List ℕ))
-        (piece : PieceValue) → rotated ia key n ≡ Ok m
+        (piece : PieceValue) → with_rotated_key ia key n ≡ Ok m
         → KeyIsInUse n keys piece.segment piece.from piece.to ia
         → IsIssuedAndAccepted n keys piece → IsIssuedAndAccepted m keys piece }
 {}
@@ -192,15 +194,15 @@ pub fn sound_pieces_outlast_changes()
 /// change that leaves a piece sound.
 pub fn chains_hold()
     ensures begun { (n : Network) (ia egress timestamp beta0 : ℕ) (beacon : Chain) (from to : ℕ)
-        → IsNetwork n → originated n ia egress timestamp beta0 ≡ Ok beacon
+        → IsNetwork n → originated_beacon n ia egress timestamp beta0 ≡ Ok beacon
         → KeysAndLinksHold n (key_in n ia ∷ []) beacon from to }
     ensures passed_on { (n : Network) (keys : List (List ℕ)) (beacon : Chain) (ia egress : ℕ)
         (next : Chain) (from to : ℕ) → IsNetwork n → IsUnderWay n keys beacon
-        → KeysAndLinksHold n keys beacon from to → extended n beacon ia egress ≡ Ok next
+        → KeysAndLinksHold n keys beacon from to → extended_beacon n beacon ia egress ≡ Ok next
         → KeysAndLinksHold n (keys ++ (key_in n ia ∷ [])) next from to }
     ensures ended { (n : Network) (keys : List (List ℕ)) (beacon : Chain) (ia : ℕ)
         (segment : Chain) (from to : ℕ) → IsNetwork n → IsUnderWay n keys beacon
-        → KeysAndLinksHold n keys beacon from to → terminated n beacon ia ≡ Ok segment
+        → KeysAndLinksHold n keys beacon from to → terminated_beacon n beacon ia ≡ Ok segment
         → KeysAndLinksHold n (keys ++ (key_in n ia ∷ [])) segment from to }
     ensures mended { (n m : Network) (ia number : ℕ) (keys : List (List ℕ)) (chain : Chain)
         (from to : ℕ) → set_up true ia number n ≡ Ok m → KeysAndLinksHold n keys chain from to
@@ -210,31 +212,32 @@ pub fn chains_hold()
         → AvoidsLink chain from to ia number → KeysAndLinksHold n keys chain from to
         → KeysAndLinksHold m keys chain from to }
     ensures others { (n m : Network) (ia : ℕ) (key : List ℕ) (keys : List (List ℕ))
-        (chain : Chain) (from to : ℕ) → rotated ia key n ≡ Ok m → AvoidsAs chain from to ia
+        (chain : Chain) (from to : ℕ) → with_rotated_key ia key n ≡ Ok m → AvoidsAs chain from to ia
         → KeysAndLinksHold n keys chain from to → KeysAndLinksHold m keys chain from to }
     ensures own { (n m : Network) (ia : ℕ) (key : List ℕ) (keys : List (List ℕ)) (chain : Chain)
-        (from to : ℕ) → rotated ia key n ≡ Ok m → KeyIsInUse n keys chain from to ia
+        (from to : ℕ) → with_rotated_key ia key n ≡ Ok m → KeyIsInUse n keys chain from to ia
         → KeysAndLinksHold n keys chain from to → KeysAndLinksHold m keys chain from to }
 {}
 
 /// The key under which an AS made an entry stays in use until that AS changes its key.
 pub fn keys_stay_in_use()
     ensures begun { (n : Network) (ia egress timestamp beta0 : ℕ) (beacon : Chain)
-        (from to x : ℕ) → IsNetwork n → originated n ia egress timestamp beta0 ≡ Ok beacon
+        (from to x : ℕ) → IsNetwork n → originated_beacon n ia egress timestamp beta0 ≡ Ok beacon
         → KeyIsInUse n (key_in n ia ∷ []) beacon from to x }
     ensures passed_on { (n : Network) (keys : List (List ℕ)) (beacon : Chain) (ia egress : ℕ)
         (next : Chain) (from to x : ℕ) → IsUnderWay n keys beacon
-        → KeyIsInUse n keys beacon from to x → extended n beacon ia egress ≡ Ok next
+        → KeyIsInUse n keys beacon from to x → extended_beacon n beacon ia egress ≡ Ok next
         → KeyIsInUse n (keys ++ (key_in n ia ∷ [])) next from to x }
     ensures ended { (n : Network) (keys : List (List ℕ)) (beacon : Chain) (ia : ℕ)
         (segment : Chain) (from to x : ℕ) → IsUnderWay n keys beacon
-        → KeyIsInUse n keys beacon from to x → terminated n beacon ia ≡ Ok segment
+        → KeyIsInUse n keys beacon from to x → terminated_beacon n beacon ia ≡ Ok segment
         → KeyIsInUse n (keys ++ (key_in n ia ∷ [])) segment from to x }
     ensures links { (n m : Network) (up : Bool) (x number : ℕ) (keys : List (List ℕ))
         (chain : Chain) (from to ia : ℕ) → set_up up x number n ≡ Ok m
         → KeyIsInUse n keys chain from to ia → KeyIsInUse m keys chain from to ia }
     ensures others { (n m : Network) (x : ℕ) (key : List ℕ) (keys : List (List ℕ)) (chain : Chain)
-        (from to ia : ℕ) → rotated x key n ≡ Ok m → x ≢ ia → KeyIsInUse n keys chain from to ia
+        (from to ia : ℕ) → with_rotated_key x key n ≡ Ok m → x ≢ ia
+        → KeyIsInUse n keys chain from to ia
         → KeyIsInUse m keys chain from to ia }
 {}
 
@@ -243,7 +246,7 @@ pub fn keys_stay_in_use()
 pub fn delivered_packets_are_read()
     ensures { (source destination moment : ℕ) (payload : List ℕ) (pieces : List PieceValue)
         → MakesPath pieces source destination moment → HasFrame source destination pieces
-        → let bytes = framed source destination (header_behind pieces) payload
+        → let bytes = frame_of source destination (header_behind pieces) payload
         in (source_of bytes ≡ source) × (destination_of bytes ≡ destination)
         × (header_in bytes ≡ Ok (header_behind pieces, header_len (header_behind pieces))) }
 {}
@@ -254,10 +257,11 @@ pub fn delivered_packets_are_read()
 /// sound in the other.
 pub fn delivered_packets_are_answered()
     ensures header { (pieces : List PieceValue) (src dst now : ℕ) → MakesPath pieces src dst now
-        → reversed (header_behind pieces) ≡ header_of (turned_pieces pieces) }
+        → reversed_header (header_behind pieces) ≡ header_of (turned_pieces pieces) }
     ensures in_time { (pieces : List PieceValue) (src dst now moment least : ℕ)
         → MakesPath pieces src dst now → IsExpiry pieces least → 2 * moment ≤ least
-        → IsAccepted (request_of (turned_pieces pieces) (reversed (header_behind pieces)) dst src
+        → IsAccepted
+        (request_of (turned_pieces pieces) (reversed_header (header_behind pieces)) dst src
         moment no_rules) }
     ensures late { (pieces : List PieceValue) (src dst now moment least : ℕ) (header : HeaderValue)
         (rules : Rules) → MakesPath pieces src dst now → IsExpiry pieces least

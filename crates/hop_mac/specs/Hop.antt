@@ -1,7 +1,7 @@
 -- Hop authenticators and the accumulator that chains them (draft-dekater-scion-dataplane).
 use Rattle.std.specs.Prelude.{ℕ, ◌+◌, ◌*◌, List, [], ◌∷◌, ◌++◌, take, bit_xor, slice_index}
 use Rattle.std.specs.Int.{w16, w32, to_be_bytes}
-use Rattle.hop_mac.specs.Hmac.{hmac_under, padded}
+use Rattle.hop_mac.specs.Hmac.{hmac_under, padded_key}
 
 -- the input of a hop's authenticator: 2 zero bytes, the accumulator, the segment's timestamp, a
 -- zero byte, the hop's expiry, its two interfaces, 2 zero bytes
@@ -19,7 +19,7 @@ authenticator_under block beta timestamp exp_time cons_ingress cons_egress =
 -- the authenticator of a hop under a key
 abbrev pub authenticator : (key : List ℕ) (beta timestamp exp_time cons_ingress cons_egress : ℕ)
     → List ℕ
-authenticator key = authenticator_under (padded key)
+authenticator key = authenticator_under (padded_key key)
 
 -- the accumulator after a hop: the one before it, exclusive or the first two bytes of the hop's
 -- authenticator

@@ -1,5 +1,5 @@
 ghost use Rattle.std.specs.Prelude.{◌≡◌, ⊤, ◌≤◌, ◌++◌, length, map, take, drop, replicate};
-ghost use Rattle.hop_mac.specs.Hmac.{hmac_under, masked, padded};
+ghost use Rattle.hop_mac.specs.Hmac.{hmac_under, masked_bytes, padded_key};
 ghost use Rattle.hop_mac.specs.Hop.{authenticator_under};
 
 use crate::hop::mac_input;
@@ -27,14 +27,14 @@ pub struct MacKey {
 impl Model for MacKey {
     ghost use Rattle.std.specs.Prelude.{ℕ, List};
     ghost use Rattle.sha2.specs.Hashers.{Holds256};
-    ghost use Rattle.hop_mac.specs.Hmac.{masked};
+    ghost use Rattle.hop_mac.specs.Hmac.{masked_bytes};
 
     ghost Value = { List ℕ };
 
     ghost view = { λ key. key.block };
 
-    ghost invariant = { λ key. Holds256 key.inner (masked 0x36 key.block)
-        × Holds256 key.outer (masked 0x5c key.block) };
+    ghost invariant = { λ key. Holds256 key.inner (masked_bytes 0x36 key.block)
+        × Holds256 key.outer (masked_bytes 0x5c key.block) };
 }
 
 impl Clone for MacKey {
@@ -56,7 +56,7 @@ impl MacKey {
     /// The key of these bytes, at most 64.
     pub fn new(key: &[u8]) -> MacKey
         requires { length key.now ≤ 64 }
-        ensures { result ≡ padded key.now }
+        ensures { result ≡ padded_key key.now }
     {
         let block = padded_block(key);
         let mut inner = Sha256::new();
@@ -118,7 +118,7 @@ fn clone_hasher(hasher: &Sha256) -> Sha256
 /// The key, filled up with zeros to a block of 64 bytes.
 fn padded_block(key: &[u8]) -> [u8; 64]
     requires { length key.now ≤ 64 }
-    ensures { result ≡ padded key.now }
+    ensures { result ≡ padded_key key.now }
 {
     let mut block = [0u8; BLOCK_LEN];
     block[..key.len()].copy_from_slice(key);
@@ -127,7 +127,7 @@ fn padded_block(key: &[u8]) -> [u8; 64]
 
 /// Each byte of a block combined with the mask by exclusive or.
 fn masked_block(block: &[u8; 64], mask: u8) -> [u8; 64]
-    ensures { result ≡ masked mask block.now }
+    ensures { result ≡ masked_bytes mask block.now }
 {
     let mut masked = *block;
     for byte in masked.iter_mut() {

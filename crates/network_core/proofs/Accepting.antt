@@ -4,7 +4,7 @@ use Rattle.std.specs.Prelude.{slice_get}
 use Rattle.std.specs.Option.{option_map_or}
 use Rattle.std.proofs.lemmas.List.Elements.{All-nil, All-weaker, All-contains}
 use Rattle.path_segment.specs.Chain.{Chain}
-use Rattle.path_server.specs.Lookup.{is_intra_to, is_reached, joins, segments_for}
+use Rattle.path_server.specs.Lookup.{is_intra_to, is_reached, leads_between, segments_for}
 use Rattle.policy_expr.specs.Policy.{Rules}
 use Rattle.policy_expr.specs.Options.{WeighedRules}
 use Rattle.path_verifier.specs.declared.kind.PieceKind.{PieceKind}
@@ -32,7 +32,7 @@ found_all : (P : Chain → Type 0) (segments : List Chain) (src dst moment : ℕ
 unfolding segments_for
 found_all P segments src dst moment Up all = all_filter P (is_intra_to src moment) segments all
 found_all P segments src dst moment Core all =
-    all_filter P (joins (is_reached src (segments_for segments src dst moment).ups)
+    all_filter P (leads_between (is_reached src (segments_for segments src dst moment).ups)
     (is_reached dst (segments_for segments src dst moment).downs) moment) segments all
 found_all P segments src dst moment Down all = all_filter P (is_intra_to dst moment) segments all
 

@@ -6,7 +6,7 @@ use Rattle.std.proofs.lemmas.Bool.{le-leb}
 use Rattle.refusal.specs.Refusal.{◌>>=◌, check, or_else}
 use Rattle.refusal.proofs.Steps.{bind_from, ok_is}
 use Rattle.path_header.specs.Value.{HeaderValue}
-use Rattle.path_header.specs.Reversal.{reversed}
+use Rattle.path_header.specs.Reversal.{reversed_header}
 use Rattle.path_verifier.specs.Piece.{PieceValue}
 use Rattle.path_verifier.specs.declared.fault.VerifyFault.TheVariants.{Expired}
 use Rattle.path_verifier.specs.Accepted.{IsExpiry, MakesPath}
@@ -42,7 +42,7 @@ module _ (net : NetValue) (p moment : ℕ) (sent : Shipment) (one : PacketValue)
     (frame : HasFrame sent.way.source sent.way.destination sent.way.pieces) (payload : List ℕ)
     (few : length payload ≤ 1024) where
   abbrev header : HeaderValue
-  header = reversed (header_behind sent.way.pieces)
+  header = reversed_header (header_behind sent.way.pieces)
 
   abbrev way : ℕ → ℕ → List PieceValue → Way
   way source destination pieces = record {
@@ -63,7 +63,7 @@ module _ (net : NetValue) (p moment : ℕ) (sent : Shipment) (one : PacketValue)
   header_is =
       let read = received sent.way.source sent.way.destination moment sent.payload sent.way.pieces path frame in
       ap (λ (packet : Packet). header_back packet packet.place) arrived
-      ∙ ap (λ r. or_else faults.NotDelivered r >>= λ (x : HeaderValue × ℕ). header_ok (reversed x.0)) read.2
+      ∙ ap (λ r. or_else faults.NotDelivered r >>= λ (x : HeaderValue × ℕ). header_ok (reversed_header x.0)) read.2
 
   way_is : way_back one header ≡ back.way
   way_is =

@@ -12,7 +12,7 @@ use Rattle.path_segment.specs.declared.entry.Entry.{Entry}
 use Rattle.path_segment.specs.Chain.{Chain, with_last}
 use Rattle.path_verifier.specs.Piece.{PieceValue, HasRange}
 use Rattle.beaconing.specs.Entry.{key_in}
-use Rattle.beaconing.specs.Calls.{originated, extended}
+use Rattle.beaconing.specs.Calls.{originated_beacon, extended_beacon}
 use Rattle.beaconing.specs.Issued.{IsMade, IsUnderWay, IsIssued}
 use Rattle.beaconing.proofs.Made.{extended_grows, terminated_grows, begun_under_way, passed_under_way}
 use Rattle.beaconing.proofs.Outlasting.{segment_linked, segment_keyed}
@@ -26,7 +26,7 @@ use Rattle.network_core.specs.declared.reply.Reply.TheVariants as replies
 use Rattle.network_core.specs.declared.reply.Reply.TheVariants.{Begun, Registered}
 use Rattle.network_core.specs.Event.{EventValue, Originate, Extend, Terminate, CutLink, RotateKey}
 use Rattle.network_core.specs.Value.{NetValue}
-use Rattle.network_core.specs.Step.{Made, has_room, with_beacon, begun, passed_on, beacon_at, Leads, Step}
+use Rattle.network_core.specs.Step.{Made, has_room, with_beacon, new_beacon, passed_on, beacon_at, Leads, Step}
 use Rattle.network_core.specs.History.{EventRecord, IsHistory, net_at, Occurs, PassOn, key_then, IssuedIn}
 use Rattle.network_core.specs.Delivery.{is_done}
 use Rattle.network_core.specs.Headline.{IsDone}
@@ -116,13 +116,13 @@ has_more old new n c is =
 
 originate_made : (old new : NetValue) (ia egress beta0 n : ℕ)
     → Step old (Originate ia egress beta0) (Begun n) new
-    → (c : Chain) × ((originated old.network ia egress old.moment beta0 ≡ Ok c) × HasMore old new n c)
+    → (c : Chain) × ((originated_beacon old.network ia egress old.moment beta0 ≡ Ok c) × HasMore old new n c)
 originate_made old new ia egress beta0 n is =
-    elim (then_at old new (Begun n) (begun old ia egress beta0) (with_beacon old) is) [
+    elim (then_at old new (Begun n) (new_beacon old ia egress beta0) (with_beacon old) is) [
       | inl made ↦ (
         made.0,
         (
-          done_below faults.Beacon (originated old.network ia egress old.moment beta0) made.0 made.1.0,
+          done_below faults.Beacon (originated_beacon old.network ia egress old.moment beta0) made.0 made.1.0,
           has_more old new n made.0 made.1.1,
         ),
       )
@@ -134,7 +134,7 @@ record HasPassed (old new : NetValue) (beacon ia egress number : ℕ) : Type 0 w
   pub from : Chain
   pub was : slice_get old.beacons beacon ≡ Some from
   pub to : Chain
-  pub made : extended old.network from ia egress ≡ Ok to
+  pub made : extended_beacon old.network from ia egress ≡ Ok to
   pub more : HasMore old new number to
 
 extend_made : (old new : NetValue) (beacon ia egress n : ℕ)
@@ -147,7 +147,7 @@ extend_made old new beacon ia egress n is =
             from = was.0;
             was = ok_or_ok (slice_get old.beacons beacon) faults.NoBeacon was.0 was.1.0;
             to = made.0;
-            made = done_below faults.Beacon (extended old.network was.0 ia egress) made.0 was.1.1;
+            made = done_below faults.Beacon (extended_beacon old.network was.0 ia egress) made.0 was.1.1;
             more = has_more old new n made.0 made.1.1;
           })
       | inr none ↦ absurd (begun_or n none.0 none.1)

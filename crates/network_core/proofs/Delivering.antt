@@ -7,7 +7,7 @@ use Rattle.scion_topology.specs.declared.fault.TopologyFault.{TopologyFault}
 use Rattle.scion_topology.specs.Topology.{IsNetwork, owner_in}
 use Rattle.path_verifier.specs.Walk.{walk_of}
 use Rattle.path_verifier.specs.Accepted.{IsAccepted}
-use Rattle.forwarding.specs.Frame.{framed, HasFrame}
+use Rattle.forwarding.specs.Frame.{frame_of, HasFrame}
 use Rattle.forwarding.specs.Turn.{Packet, put_at}
 use Rattle.forwarding.specs.OnPath.{OnPath}
 use Rattle.forwarding.specs.Journey.{first_out, to_come, turns_for}
@@ -61,7 +61,7 @@ departed p old new sent accepted frame is =
         left = turns_for old.network (walk_of sent.way.pieces);
         stands = subst (λ header. OnPath old.network sent.way.source sent.way.destination sent.payload
             sent.way.pieces (turns_for old.network (walk_of sent.way.pieces))
-            (put_at (framed sent.way.source sent.way.destination header sent.payload) sent.way.source router))
+            (put_at (frame_of sent.way.source sent.way.destination header sent.payload) sent.way.source router))
             (sym accepted.header) stands;
         count = omega arith;
       });
@@ -103,10 +103,10 @@ departed_last p old new sent is =
 pub frame_sent : (p : ℕ) (old new : NetValue) (sent : Shipment)
     → Sends (Ok sent) old (replies.Sent p) new → HasSentFrame (replies.Sent p) new
     → HasFrame sent.way.source sent.way.destination sent.way.pieces
-frame_sent p old new sent is framed =
+frame_sent p old new sent is frame_of =
     let last = departed_last p old new sent (accepted_then p old new sent is).1 in
     subst (λ (s : Shipment). HasFrame s.way.source s.way.destination s.way.pieces) last.1.1
-    (framed p last.0 refl last.1.0)
+    (frame_of p last.0 refl last.1.0)
 
 -- ---- after each prefix
 

@@ -6,13 +6,13 @@ use Rattle.refusal.specs.Refusal.{◌>>=◌, check, refused_as}
 use Rattle.refusal.proofs.Steps.{ok_is, ok_or_ok}
 use Rattle.scion_topology.specs.declared.fault.TopologyFault.{TopologyFault}
 use Rattle.scion_topology.specs.Network.{Network}
-use Rattle.scion_topology.specs.Topology.{owner_in, set_up, rotated}
+use Rattle.scion_topology.specs.Topology.{owner_in, set_up, with_rotated_key}
 use Rattle.path_segment.specs.Chain.{Chain}
-use Rattle.beaconing.specs.Calls.{originated, extended, terminated}
+use Rattle.beaconing.specs.Calls.{originated_beacon, extended_beacon, terminated_beacon}
 use Rattle.path_verifier.specs.Walk.{walk_of}
 use Rattle.forwarding.specs.Journey.{first_out}
-use Rattle.forwarding.specs.Turn.{Packet, turn_of, lost, altered}
-use Rattle.path_server.specs.Store.{answer_to, registered, swept}
+use Rattle.forwarding.specs.Turn.{Packet, turn_of, lost_packet, altered_packet}
+use Rattle.path_server.specs.Store.{answer_to, with_registered, live_segments}
 use Rattle.policy_expr.specs.declared.option_fault.OptionFault.{OptionFault}
 use Rattle.policy_expr.specs.Options.{WeighedRules}
 use Rattle.combinator.specs.Answer.{is_limit}
@@ -23,7 +23,7 @@ use Rattle.network_core.specs.declared.reply.Reply.{Reply}
 use Rattle.network_core.specs.declared.reply.Reply.TheVariants.{Begun, Registered}
 use Rattle.network_core.specs.Event.{EventValue, Tick, Originate, Extend, Terminate, Sweep, Ask, Send, Turn, Lose, Alter, CutLink, MendLink, RotateKey}
 use Rattle.network_core.specs.Value.{Shipment, PacketValue, NetValue}
-use Rattle.network_core.specs.Step.{Made, has_room, with_beacon, with_segment, begun, passed_on, ended, beacon_at, with_network, flying_at, options_asked, shipment_by, packet_of, GivesAnswer, Leads, Asks, Sends, Step}
+use Rattle.network_core.specs.Step.{Made, has_room, with_beacon, with_segment, new_beacon, passed_on, new_segment, beacon_at, with_network, flying_at, options_asked, shipment_by, packet_of, GivesAnswer, Leads, Asks, Sends, Step}
 use Rattle.network_core.specs.Delivery.{is_done}
 
 -- ---- steps of a definition
@@ -62,7 +62,7 @@ pub record IsRekeyed (old : NetValue) (event : EventValue) (reply : Reply) (new 
   pub key : List ℕ
   pub event_is : event ≡ RotateKey ia key
   pub done : is_done reply ≡ true
-  pub change : rotated ia key old.network ≡ Ok new.network
+  pub change : with_rotated_key ia key old.network ≡ Ok new.network
 
 abbrev pub Renews : NetValue → EventValue → Reply → NetValue → Type 0
 Renews old event reply new = (new.network ≡ old.network)
@@ -78,7 +78,7 @@ pub record IsStart (old : NetValue) (event : EventValue) (reply : Reply) (new : 
   pub event_is : event ≡ Originate ia egress beta0
   pub reply_is : reply ≡ Begun (length old.beacons)
   pub chain : Chain
-  pub made : originated old.network ia egress old.moment beta0 ≡ Ok chain
+  pub made : originated_beacon old.network ia egress old.moment beta0 ≡ Ok chain
   pub beacons : new.beacons ≡ old.beacons ++ chain ∷ []
   pub segments : new.segments ≡ old.segments
 
@@ -92,7 +92,7 @@ pub record IsPass (old : NetValue) (event : EventValue) (reply : Reply) (new : N
   pub from : Chain
   pub was : slice_get old.beacons beacon ≡ Some from
   pub chain : Chain
-  pub made : extended old.network from ia egress ≡ Ok chain
+  pub made : extended_beacon old.network from ia egress ≡ Ok chain
   pub beacons : new.beacons ≡ old.beacons ++ chain ∷ []
   pub segments : new.segments ≡ old.segments
 
@@ -106,16 +106,16 @@ pub record IsEnd (old : NetValue) (event : EventValue) (reply : Reply) (new : Ne
   pub from : Chain
   pub was : slice_get old.beacons beacon ≡ Some from
   pub chain : Chain
-  pub made : terminated old.network from ia ≡ Ok chain
+  pub made : terminated_beacon old.network from ia ≡ Ok chain
   pub beacons : new.beacons ≡ old.beacons
-  pub segments : new.segments ≡ registered old.segments chain old.moment
+  pub segments : new.segments ≡ with_registered old.segments chain old.moment
 
 -- nothing becomes of beacons and store, and the store is swept
 abbrev pub Leaves : NetValue → NetValue → Type 0
 Leaves old new = (new.beacons ≡ old.beacons) × (new.segments ≡ old.segments)
 
 abbrev pub IsSwept : NetValue → NetValue → Type 0
-IsSwept old new = (new.beacons ≡ old.beacons) × (new.segments ≡ swept old.segments old.moment)
+IsSwept old new = (new.beacons ≡ old.beacons) × (new.segments ≡ live_segments old.segments old.moment)
 
 abbrev pub Stores : NetValue → EventValue → Reply → NetValue → Type 0
 Stores old event reply new =
@@ -152,13 +152,13 @@ IsTurn old event number one packet =
     (event ≡ Turn number) × (packet ≡ (turn_of old.network old.moment one.packet).1)
 
 abbrev pub IsLoss : EventValue → ℕ → PacketValue → Packet → Type 0
-IsLoss event number one packet = (event ≡ Lose number) × (packet ≡ lost one.packet)
+IsLoss event number one packet = (event ≡ Lose number) × (packet ≡ lost_packet one.packet)
 
 pub record IsAlteration (event : EventValue) (number : ℕ) (one : PacketValue) (packet : Packet) : Type 0 where
   pub at : ℕ
   pub change : ℕ
   pub event_is : event ≡ Alter number at change
-  pub is : packet ≡ altered one.packet at change
+  pub is : packet ≡ altered_packet one.packet at change
 
 pub record IsMove (old : NetValue) (event : EventValue) (new : NetValue) : Type 0 where
   pub number : ℕ
@@ -336,7 +336,7 @@ effect old new (Tick to) reply is =
     (λ _ _ done. in_moment old new (Tick to) reply to done.1) is
 effect old new (Originate ia egress beta0) reply is =
     let event = Originate ia egress beta0 in
-    then_effect old new event reply (begun old ia egress beta0) (with_beacon old) (λ chain made.
+    then_effect old new event reply (new_beacon old ia egress beta0) (with_beacon old) (λ chain made.
     added old new event reply chain (λ told beacons segments. inr (inl (record {
       ia = ia;
       egress = egress;
@@ -344,7 +344,7 @@ effect old new (Originate ia egress beta0) reply is =
       event_is = refl;
       reply_is = told;
       chain = chain;
-      made = done_below faults.Beacon (originated old.network ia egress old.moment beta0) chain made;
+      made = done_below faults.Beacon (originated_beacon old.network ia egress old.moment beta0) chain made;
       beacons = beacons;
       segments = segments;
     })))) is
@@ -362,13 +362,13 @@ effect old new (Extend beacon ia egress) reply is =
       from = was.0;
       was = ok_or_ok (slice_get old.beacons beacon) faults.NoBeacon was.0 was.1.0;
       chain = chain;
-      made = done_below faults.Beacon (extended old.network was.0 ia egress) chain was.1.1;
+      made = done_below faults.Beacon (extended_beacon old.network was.0 ia egress) chain was.1.1;
       beacons = beacons;
       segments = segments;
     })))))) is
 effect old new (Terminate beacon ia) reply is =
     let event = Terminate beacon ia in
-    then_effect old new event reply (ended old beacon ia) (with_segment old) (λ chain made.
+    then_effect old new event reply (new_segment old beacon ia) (with_segment old) (λ chain made.
     then_effect old new event reply (refused_as faults.Store (answer_to old.segments chain old.moment)) _ (λ is_new _ done. (
     let was = both_done (beacon_at old beacon) _ chain made in
     in_store old new event reply old.beacons _ done.1 (inr (inr (inr (inl (record {
@@ -380,7 +380,7 @@ effect old new (Terminate beacon ia) reply is =
       from = was.0;
       was = ok_or_ok (slice_get old.beacons beacon) faults.NoBeacon was.0 was.1.0;
       chain = chain;
-      made = done_below faults.Beacon (terminated old.network was.0 ia) chain was.1.1;
+      made = done_below faults.Beacon (terminated_beacon old.network was.0 ia) chain was.1.1;
       beacons = beacons_now old new event reply _ done.1;
       segments = segments_now old new event reply _ done.1;
     })))))))) is
@@ -410,5 +410,5 @@ effect old new (MendLink ia number) reply is =
     in_network old new (MendLink ia number) reply (set_up true ia number old.network) is (λ done change.
     inr (inl (record { up = true; ia = ia; number = number; event_is = refl; done = done; change = change })))
 effect old new (RotateKey ia key) reply is =
-    in_network old new (RotateKey ia key) reply (rotated ia key old.network) is (λ done change.
+    in_network old new (RotateKey ia key) reply (with_rotated_key ia key old.network) is (λ done change.
     inr (inr (record { ia = ia; key = key; event_is = refl; done = done; change = change })))

@@ -13,7 +13,7 @@ use Rattle.beaconing.specs.Entry.{key_in}
 use Rattle.beaconing.specs.Issued.{IsUnderWay, IsIssued}
 use Rattle.beaconing.proofs.Made.{begun_under_way, passed_under_way, ended_issued}
 use Rattle.path_server.specs.declared.fault.StoreFault.{StoreFault}
-use Rattle.path_server.specs.Store.{answer_to, with_new, registered, swept}
+use Rattle.path_server.specs.Store.{answer_to, with_new, with_registered, live_segments}
 use Rattle.network_core.specs.declared.reply.Reply.{Reply}
 use Rattle.network_core.specs.declared.reply.Reply.TheVariants.{Begun, Registered}
 use Rattle.network_core.specs.Event.{EventValue, Originate, Extend, Terminate}
@@ -83,8 +83,8 @@ all_filter P p (x ∷ xs) all = elim (cases_Bool (p x)) [
 ]
 
 all_swept : (P : Chain → Type 0) (segments : List Chain) (now : ℕ) → All P segments
-    → All P (swept segments now)
-unfolding swept
+    → All P (live_segments segments now)
+unfolding live_segments
 all_swept P segments now all = all_filter P (is_live now) segments all
 
 all_with_new : (P : Chain → Type 0) (r : Result Bool StoreFault) (segments : List Chain) (s : Chain)
@@ -94,8 +94,8 @@ all_with_new P (Ok false) segments s new all = all
 all_with_new P (Err fault) segments s new all = all
 
 all_registered : (P : Chain → Type 0) (segments : List Chain) (s : Chain) (now : ℕ)
-    → P s → All P segments → All P (registered segments s now)
-unfolding registered
+    → P s → All P segments → All P (with_registered segments s now)
+unfolding with_registered
 all_registered P segments s now new all = all_with_new P (answer_to segments s now) segments s new all
 
 -- ---- in a history that begins with nothing made

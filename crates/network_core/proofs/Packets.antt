@@ -3,13 +3,13 @@ use Rattle.std.proofs.Common.{◌≡◌, ℕ, zero, suc, ◌⊎◌, Bool, List, 
 use Rattle.std.specs.Prelude.{slice_get}
 use Rattle.refusal.proofs.Steps.{ok_or_ok}
 use Rattle.scion_topology.specs.Network.{Network}
-use Rattle.scion_topology.specs.Topology.{owner_in, set_up, rotated}
+use Rattle.scion_topology.specs.Topology.{owner_in, set_up, with_rotated_key}
 use Rattle.path_verifier.specs.Walk.{walk_of}
 use Rattle.forwarding.specs.declared.location.RouterStop.{RouterStop}
 use Rattle.forwarding.specs.declared.location.PacketLocation.{PacketLocation}
 use Rattle.forwarding.specs.declared.location.PacketLocation.TheVariants as places
 use Rattle.forwarding.specs.Journey.{first_out}
-use Rattle.forwarding.specs.Turn.{Packet, turn_of, lost, altered}
+use Rattle.forwarding.specs.Turn.{Packet, turn_of, lost_packet, altered_packet}
 use Rattle.network_core.specs.declared.fault.EventFault.TheVariants as faults
 use Rattle.network_core.specs.declared.reply.Reply.{Reply}
 use Rattle.network_core.specs.Event.{EventValue}
@@ -53,13 +53,13 @@ pub record Outlasts (IsSane : Network → Type 0) (P : Network → PacketValue �
   pub turned : (n : Network) (now : ℕ) (one : PacketValue) (stop : RouterStop) → IsSane n
       → one.packet.place ≡ places.AtRouter stop → P n one
       → P n (record one { packet = (turn_of n now one.packet).1 })
-  pub lost : (n : Network) (one : PacketValue) → P n one → P n (record one { packet = lost one.packet })
+  pub lost : (n : Network) (one : PacketValue) → P n one → P n (record one { packet = lost_packet one.packet })
   pub altered : (n : Network) (one : PacketValue) (at change : ℕ) → P n one
-      → P n (record one { packet = altered one.packet at change })
+      → P n (record one { packet = altered_packet one.packet at change })
   pub linked : (n m : Network) (up : Bool) (ia number : ℕ) (one : PacketValue)
       → set_up up ia number n ≡ Ok m → P n one → P m one
   pub keyed : (n m : Network) (ia : ℕ) (key : List ℕ) (one : PacketValue)
-      → rotated ia key n ≡ Ok m → P n one → P m one
+      → with_rotated_key ia key n ≡ Ok m → P n one → P m one
 
 abbrev pub AllHold : (Network → PacketValue → Type 0) → NetValue → Type 0
 AllHold P net =

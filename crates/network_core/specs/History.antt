@@ -6,7 +6,7 @@ use Rattle.path_segment.specs.Chain.{Chain}
 use Rattle.policy_expr.specs.Options.{WeighedRules}
 use Rattle.path_verifier.specs.Accepted.{IsAccepted}
 use Rattle.beaconing.specs.Entry.{key_in}
-use Rattle.beaconing.specs.Calls.{terminated}
+use Rattle.beaconing.specs.Calls.{terminated_beacon}
 use Rattle.beaconing.specs.Issued.{IsIssued}
 use Rattle.network_core.specs.declared.reply.Reply.{Reply}
 use Rattle.network_core.specs.declared.reply.Reply.TheVariants.{Answered, Begun, Registered}
@@ -79,7 +79,7 @@ pub record IssuedIn (start : NetValue) (history : List EventRecord) (first last 
   pub ended : Occurs history last (Terminate beacon at) (Registered is_new)
   pub chain : Chain
   pub kept : slice_get (net_at start history last).beacons beacon ≡ Some chain
-  pub gives : terminated (net_at start history last).network chain at ≡ Ok segment
+  pub gives : terminated_beacon (net_at start history last).network chain at ≡ Ok segment
   pub made : IsIssued (net_at start history last).network
       (map (key_then start history) (first ∷ between ++ last ∷ [])) segment
 

@@ -6,16 +6,16 @@ use Rattle.std.specs.Option.{ok_or, option_map_or}
 use Rattle.refusal.specs.Refusal.{◌>>=◌, check, refused_as, or_else}
 use Rattle.scion_topology.specs.declared.fault.TopologyFault.{TopologyFault}
 use Rattle.scion_topology.specs.Network.{Network}
-use Rattle.scion_topology.specs.Topology.{owner_in, set_up, rotated}
+use Rattle.scion_topology.specs.Topology.{owner_in, set_up, with_rotated_key}
 use Rattle.path_segment.specs.Chain.{Chain}
-use Rattle.beaconing.specs.Calls.{originated, extended, terminated}
-use Rattle.path_server.specs.Store.{answer_to, registered, swept, expired_count}
+use Rattle.beaconing.specs.Calls.{originated_beacon, extended_beacon, terminated_beacon}
+use Rattle.path_server.specs.Store.{answer_to, with_registered, live_segments, expired_count}
 use Rattle.path_server.specs.Lookup.{segments_for}
 use Rattle.policy_expr.specs.Policy.{Rules}
 use Rattle.policy_expr.specs.declared.option_fault.OptionFault.{OptionFault}
 use Rattle.policy_expr.specs.Options.{WeighedRules}
 use Rattle.path_header.specs.Value.{HeaderValue}
-use Rattle.path_header.specs.Reversal.{reversed}
+use Rattle.path_header.specs.Reversal.{reversed_header}
 use Rattle.path_verifier.specs.declared.fault.VerifyFault.{VerifyFault}
 use Rattle.path_verifier.specs.Walk.{walk_of}
 use Rattle.path_verifier.specs.Turned.{turned_pieces}
@@ -25,8 +25,8 @@ use Rattle.combinator.specs.Fault.{ends_at}
 use Rattle.router_step.specs.Packet.{destination_of, source_of, header_in}
 use Rattle.forwarding.specs.declared.location.PacketLocation.{PacketLocation}
 use Rattle.forwarding.specs.declared.location.PacketLocation.TheVariants as places
-use Rattle.forwarding.specs.Frame.{framed}
-use Rattle.forwarding.specs.Turn.{Packet, put_at, turn_of, lost, altered}
+use Rattle.forwarding.specs.Frame.{frame_of}
+use Rattle.forwarding.specs.Turn.{Packet, put_at, turn_of, lost_packet, altered_packet}
 use Rattle.forwarding.specs.Turned.{no_rules}
 use Rattle.forwarding.specs.Journey.{first_out}
 use Rattle.network_core.specs.declared.fault.EventFault.{EventFault}
@@ -45,8 +45,8 @@ abbrev pub Made : Type 0
 Made = Result (Reply × NetValue) EventFault
 
 -- the network's time goes on to `to`: TimeBack if that is earlier
-abbrev pub ticked : NetValue → ℕ → Made
-ticked net to = do
+abbrev pub ticks : NetValue → ℕ → Made
+ticks net to = do
   _ ← check (nat_le net.moment to) faults.TimeBack
   Ok (Done, record net { moment = to })
 
@@ -61,41 +61,42 @@ abbrev pub beacon_at : NetValue → ℕ → Result Chain EventFault
 beacon_at net beacon = ok_or (slice_get net.beacons beacon) faults.NoBeacon
 
 -- the beacon that an AS begins, with the current second as its timestamp
-abbrev pub begun : (net : NetValue) (ia out beta0 : ℕ) → Result Chain EventFault
-begun net ia out beta0 = refused_as faults.Beacon (originated net.network ia out net.moment beta0)
+abbrev pub new_beacon : (net : NetValue) (ia out beta0 : ℕ) → Result Chain EventFault
+new_beacon net ia out beta0 =
+    refused_as faults.Beacon (originated_beacon net.network ia out net.moment beta0)
 
 -- the beacon after an AS has passed it on
 abbrev pub passed_on : (net : NetValue) (beacon ia egress : ℕ) → Result Chain EventFault
 passed_on net beacon ia egress = do
   old ← beacon_at net beacon
-  refused_as faults.Beacon (extended net.network old ia egress)
+  refused_as faults.Beacon (extended_beacon net.network old ia egress)
 
 -- the segment that a beacon becomes if it ends in an AS
-abbrev pub ended : (net : NetValue) (beacon ia : ℕ) → Result Chain EventFault
-ended net beacon ia = do
+abbrev pub new_segment : (net : NetValue) (beacon ia : ℕ) → Result Chain EventFault
+new_segment net beacon ia = do
   old ← beacon_at net beacon
-  refused_as faults.Beacon (terminated net.network old ia)
+  refused_as faults.Beacon (terminated_beacon net.network old ia)
 
 -- the network after a segment was registered at the current second
 abbrev pub with_segment : NetValue → Chain → Made
 with_segment net segment = do
   is_new ← refused_as faults.Store (answer_to net.segments segment net.moment)
-  Ok (Registered is_new, record net { segments = registered net.segments segment net.moment })
+  Ok (Registered is_new, record net { segments = with_registered net.segments segment net.moment })
 
 -- Originate and Extend: one more beacon; Terminate: one more segment
 abbrev pub originates : (net : NetValue) (ia egress beta0 : ℕ) → Made
-originates net ia egress beta0 = begun net ia egress beta0 >>= with_beacon net
+originates net ia egress beta0 = new_beacon net ia egress beta0 >>= with_beacon net
 
 abbrev pub extends : (net : NetValue) (beacon ia egress : ℕ) → Made
 extends net beacon ia egress = passed_on net beacon ia egress >>= with_beacon net
 
 abbrev pub terminates : (net : NetValue) (beacon ia : ℕ) → Made
-terminates net beacon ia = ended net beacon ia >>= with_segment net
+terminates net beacon ia = new_segment net beacon ia >>= with_segment net
 
 -- the network without the stored segments that are not live at the current second
-abbrev pub cleared : NetValue → Made
-cleared net =
-    let segments = swept net.segments net.moment in
+abbrev pub sweeps : NetValue → Made
+sweeps net =
+    let segments = live_segments net.segments net.moment in
     Ok (Swept (expired_count net.segments net.moment), record net { segments = segments })
 
 -- the network with a changed topology, or the refusal of the change
@@ -181,14 +182,14 @@ turns net number = do
 abbrev pub loses : NetValue → ℕ → Made
 loses net number = do
   one ← flying_at net number
-  Ok (Done, with_packet net number one (lost one.packet))
+  Ok (Done, with_packet net number one (lost_packet one.packet))
 
 -- the network after a byte of a packet was changed by exclusive or: BadOffset
 abbrev pub alters : (net : NetValue) (number at change : ℕ) → Made
 alters net number at change = do
   one ← flying_at net number
   _ ← check (nat_lt at (length one.packet.bytes)) faults.BadOffset
-  Ok (Done, with_packet net number one (altered one.packet at change))
+  Ok (Done, with_packet net number one (altered_packet one.packet at change))
 
 -- ---- sending
 
@@ -196,7 +197,7 @@ alters net number at change = do
 abbrev pub header_back : Packet → PacketLocation → Result HeaderValue EventFault
 header_back packet places.Delivered = do
   read ← or_else faults.NotDelivered (header_in packet.bytes)
-  Ok (reversed read.0)
+  Ok (reversed_header read.0)
 header_back packet place = Err faults.NotDelivered
 
 -- the way back of a delivered packet: its source and destination, as its bytes give them,
@@ -232,7 +233,7 @@ shipment_by net route payload = do
 -- the packet of a shipment, at this router of its source
 abbrev pub packet_of : Shipment → ℕ → PacketValue
 packet_of sent router =
-    let bytes = framed sent.way.source sent.way.destination sent.way.header sent.payload in
+    let bytes = frame_of sent.way.source sent.way.destination sent.way.header sent.payload in
     record { sent = sent; packet = put_at bytes sent.way.source router }
 
 -- the network with the packet of this shipment, at the router that owns the first way out of its
@@ -263,11 +264,11 @@ Sends (Err fault) old reply new = (reply ≡ Refused fault) × (new ≡ old)
 
 -- one event, from the network before it to its reply and the network after it
 abbrev pub Step : (old : NetValue) (event : EventValue) (reply : Reply) (new : NetValue) → Type 0
-Step old (Tick to) reply new = Leads (ticked old to) old reply new
+Step old (Tick to) reply new = Leads (ticks old to) old reply new
 Step old (Originate ia egress beta) reply new = Leads (originates old ia egress beta) old reply new
 Step old (Extend beacon ia egress) reply new = Leads (extends old beacon ia egress) old reply new
 Step old (Terminate beacon ia) reply new = Leads (terminates old beacon ia) old reply new
-Step old Sweep reply new = Leads (cleared old) old reply new
+Step old Sweep reply new = Leads (sweeps old) old reply new
 Step old (Ask src dst read limit) reply new =
     Asks (options_asked old src dst read limit) src dst limit old reply new
 Step old (Send route payload) reply new = Sends (shipment_by old route payload) old reply new
@@ -279,7 +280,7 @@ Step old (CutLink ia interface) reply new =
 Step old (MendLink ia interface) reply new =
     Leads (with_network old (set_up true ia interface old.network)) old reply new
 Step old (RotateKey ia key) reply new =
-    Leads (with_network old (rotated ia key old.network)) old reply new
+    Leads (with_network old (with_rotated_key ia key old.network)) old reply new
 
 -- the verifier accepts the path, and the packet departs
 abbrev pub Departs : NetValue → Result Shipment EventFault → Type 0
@@ -292,7 +293,7 @@ abbrev pub TakesMemory : NetValue → EventValue → Type 0
 TakesMemory net (Tick to) = ⊥
 TakesMemory net (Originate ia egress beta0) = IsOk (originates net ia egress beta0)
 TakesMemory net (Extend beacon ia egress) = IsOk (extends net beacon ia egress)
-TakesMemory net (Terminate beacon ia) = IsOk (ended net beacon ia)
+TakesMemory net (Terminate beacon ia) = IsOk (new_segment net beacon ia)
 TakesMemory net Sweep = ⊥
 TakesMemory net (Ask src dst read limit) = IsOk (options_asked net src dst read limit)
 TakesMemory net (Send route payload) = Departs net (shipment_by net route payload)

@@ -5,10 +5,10 @@ ghost use Rattle.refusal.specs.Refusal.{Fails};
 ghost use Rattle.refusal.specs.declared.fault.OrMemory.TheVariants.{Refused};
 ghost use Rattle.path_segment.specs.Chain.{Chain};
 ghost use Rattle.beaconing.specs.declared.fault.BeaconFault.{BeaconFault};
-ghost use Rattle.scion_topology.specs.Topology.{set_up, rotated};
+ghost use Rattle.scion_topology.specs.Topology.{set_up, with_rotated_key};
 ghost use Rattle.network_core.specs.declared.fault.EventFault.TheVariants as faults;
 ghost use Rattle.network_core.specs.inner.Doing.{DoesOrFails, JudgesEvent, error_as, with_made};
-ghost use Rattle.network_core.specs.Step.{ticked, beacon_at, ended, originates, extends, terminates, with_beacon, with_segment, with_network, cleared};
+ghost use Rattle.network_core.specs.Step.{ticks, beacon_at, new_segment, originates, extends, terminates, with_beacon, with_segment, with_network, sweeps};
 
 use crate::fault::EventFault;
 use crate::net::{EventError, Net};
@@ -27,7 +27,7 @@ pub const MAX_OBJECTS: usize = 1_000_000;
 impl Net {
     /// Sets the time of the network.
     pub(crate) fn tick(&mut self, to: u32) -> Result<Reply, EventError>
-        ensures { DoesOrFails (ticked self.old to) ⊥ self.old self.new result }
+        ensures { DoesOrFails (ticks self.old to) ⊥ self.old self.new result }
     {
         if to < self.moment {
             return Err(OrMemory::Refused(EventFault::TimeBack));
@@ -79,7 +79,7 @@ impl Net {
         ia: IsdAs,
     ) -> Result<Reply, EventError>
         ensures { DoesOrFails (terminates self.old beacon ia)
-            (IsOk (ended self.old beacon ia)) self.old self.new result }
+            (IsOk (new_segment self.old beacon ia)) self.old self.new result }
     {
         let old = self.beacon(beacon)?;
         let segment = terminate(alloc, &self.topology, old, ia);
@@ -137,7 +137,7 @@ impl Net {
 
     /// Removes the segments from the store that are not live.
     pub(crate) fn sweep(&mut self) -> Reply
-        ensures { cleared self.old ≡ Ok (result, self.new) }
+        ensures { sweeps self.old ≡ Ok (result, self.new) }
     {
         Reply::Swept(self.store.sweep(self.moment))
     }
@@ -162,7 +162,8 @@ impl Net {
 
     /// Takes another key into use for an AS.
     pub(crate) fn rotate_key(&mut self, ia: IsdAs, key: &[u8]) -> Result<Reply, EventError>
-        ensures { DoesOrFails (with_network self.old (rotated ia key.now self.old.network)) ⊥
+        ensures { DoesOrFails
+            (with_network self.old (with_rotated_key ia key.now self.old.network)) ⊥
             self.old self.new result }
     {
         self.topology.rotate_key(ia, key).map_err(of_topology)?;

@@ -6,7 +6,7 @@ use Rattle.scion_topology.specs.View.{View, entry_of}
 use Rattle.path_header.specs.declared.fields.InfoField.{InfoField}
 use Rattle.path_header.specs.declared.fields.HopField.{HopField}
 use Rattle.path_header.specs.Value.{HeaderValue}
-use Rattle.path_header.specs.Shown.{judged}
+use Rattle.path_header.specs.Shown.{without_value}
 use Rattle.router_step.specs.declared.arrival.Arrival.{Arrival}
 use Rattle.router_step.specs.declared.fault.Refusal.{Refusal}
 use Rattle.router_step.specs.declared.fault.Refusal.TheVariants as refusal
@@ -22,22 +22,22 @@ pub record CheckValue : Type 0 where
   pub verdict : Result (Unit {0}) Refusal
 
 -- the check with these sides, which succeeds if `holds` and else gives this refusal
-abbrev pub tested : List ℕ → Bool → Refusal → CheckValue
-tested sides holds refusal = record { sides = sides; verdict = check holds refusal }
+abbrev pub check_with : List ℕ → Bool → Refusal → CheckValue
+check_with sides holds refusal = record { sides = sides; verdict = check holds refusal }
 
 -- checks 4 and 5: the hop is live, and its authenticator is right
 unfoldable pub pass_checks : (four five : ℕ) (view : View) (now : ℕ) (info : InfoField)
     (hop : HopField) → List CheckValue
 pass_checks four five view now info hop =
-    tested (live_sides four now info hop) (is_hop_live now info hop) refusal.Expired
-    ∷ tested (mac_sides five view info hop) (is_mac_right view info hop) refusal.BadMac ∷ []
+    check_with (live_sides four now info hop) (is_hop_live now info hop) refusal.Expired
+    ∷ check_with (mac_sides five view info hop) (is_mac_right view info hop) refusal.BadMac ∷ []
 
 -- checks 2 and 3
 unfoldable pub place_checks : Situation → List CheckValue
 place_checks at =
-    tested (indices_sides at.arrival at.header) (indices_fit at.arrival at.header)
+    check_with (indices_sides at.arrival at.header) (indices_fit at.arrival at.header)
     refusal.IndexMismatch
-    ∷ tested (way_in_sides at.view at.arrival (current_info at.header) (current_hop at.header))
+    ∷ check_with (way_in_sides at.view at.arrival (current_info at.header) (current_hop at.header))
     (way_in_fits at.view at.arrival (current_info at.header) (current_hop at.header))
     refusal.WrongIngress
     ∷ []
@@ -45,16 +45,18 @@ place_checks at =
 -- checks 6 and 7
 unfoldable pub end_checks : Situation → List CheckValue
 end_checks at =
-    tested (source_sides at.view at.arrival at.source) (source_fits at.view at.arrival at.source)
+    check_with (source_sides at.view at.arrival at.source)
+    (source_fits at.view at.arrival at.source)
     refusal.SourceAs
-    ∷ tested (destination_sides at.view at.destination at.header)
+    ∷ check_with (destination_sides at.view at.destination at.header)
     (destination_fits at.view at.destination (is_last at.header)) refusal.DestinationAs ∷ []
 
 -- check 9: at the last hop of a segment, also checks 4 and 5 on the first hop of the next segment
 unfoldable pub switch_checks : Situation → List CheckValue
 switch_checks at =
     if ends_segment at.header
-    then tested (switch_sides at.arrival at.header) (is_over_link at.arrival) refusal.SwitchInside
+    then check_with (switch_sides at.arrival at.header) (is_over_link at.arrival)
+    refusal.SwitchInside
     ∷ pass_checks 9 9 at.view at.now (current_info (moved_on true (on_arrival at)))
     (current_hop (moved_on true at.header))
     else []
@@ -62,10 +64,11 @@ switch_checks at =
 -- checks 11 to 13, over this interface
 abbrev pub leave_by_checks : View → Arrival → Bool → IfEntry → List CheckValue
 leave_by_checks view arrival switched out =
-    tested (kinds_sides view arrival switched out.kind) (kinds_fit view arrival switched out.kind)
+    check_with (kinds_sides view arrival switched out.kind)
+    (kinds_fit view arrival switched out.kind)
     refusal.LinkKinds
     ∷ record { sides = owner_sides view out; verdict = Ok tt }
-    ∷ (if out.router == view.router then tested (link_sides out.up) out.up refusal.LinkDown ∷ []
+    ∷ (if out.router == view.router then check_with (link_sides out.up) out.up refusal.LinkDown ∷ []
     else [])
 
 -- checks 10 to 13, from this info and hop field, and with the interface of the way out if there is
@@ -116,7 +119,7 @@ checks_behind view now arrival packet (Err refusal) = []
 -- all checks: that there is a path header, and the checks 2 to 13
 unfoldable pub checks_of : View → ℕ → Arrival → List ℕ → List CheckValue
 checks_of view now arrival packet =
-    record { sides = header_sides packet; verdict = judged (header_in packet) }
+    record { sides = header_sides packet; verdict = without_value (header_in packet) }
     ∷ checks_behind view now arrival packet (header_in packet)
 
 -- the first refusal among checks

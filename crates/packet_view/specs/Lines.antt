@@ -1,6 +1,6 @@
 -- The output of `scionet_view packet`: the packet's fields, the checks, and the line of the turn.
 use Rattle.std.specs.Prelude.{ℕ, codes, if◌then◌else◌, List, [], ◌∷◌, ◌++◌, Option, Some, Result, Ok, Err, is_ok}
-use Rattle.separators.specs.Blanks.{trimmed}
+use Rattle.separators.specs.Blanks.{trimmed_text}
 use Rattle.refusal.specs.Optional.{◌>>=◌}
 use Rattle.router_step.specs.declared.fault.Refusal.{Refusal}
 use Rattle.step_line.specs.Fields.{hex_bytes_of}
@@ -31,6 +31,6 @@ lines_before turn packet =
 -- all lines; the last is that of the turn, and has no line end
 unfoldable pub lines_of : Turn → List ℕ → Option (List ℕ)
 lines_of turn text = do
-  packet ← hex_bytes_of (trimmed text)
+  packet ← hex_bytes_of (trimmed_text text)
   line ← line_of turn text
   Some (lines_before turn packet ++ line)

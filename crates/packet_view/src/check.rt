@@ -1,5 +1,5 @@
 ghost use Rattle.std.specs.Prelude.{◌≡◌, ◌++◌, [], ◌∷◌, OnOk};
-ghost use Rattle.packet_view.specs.Checks.{tested};
+ghost use Rattle.packet_view.specs.Checks.{check_with};
 ghost use Rattle.packet_view.specs.inner.Part.{parts_text};
 
 use crate::part::{Part, add_parts};
@@ -49,7 +49,7 @@ pub(crate) fn add_test(
     refusal: Refusal,
 ) -> Result<(), AllocError>
     ensures { OnOk result (checks.new.items ≡ checks.old.items
-        ++ tested (parts_text parts.now) holds refusal ∷ []) }
+        ++ check_with (parts_text parts.now) holds refusal ∷ []) }
 {
     let verdict = if holds { Ok(()) } else { Err(refusal) };
     add_check(alloc, checks, parts, verdict)

@@ -1,6 +1,6 @@
 -- A header in bytes, after an accumulator or the indices were written over.
 use Rattle.std.proofs.Common.{◌≡◌, ℕ, zero, suc, ◌+◌, ◌*◌, ◌/◌, ◌%◌, ◌^◌, ◌<◌, true, List, [], ◌∷◌, ◌++◌, length, take, drop, set, Some, Ok, refl, sym, ap, subst, ◌∙◌, append_assoc, arith, length-append}
-use Rattle.std.specs.Prelude.{slice_get, if◌then◌else◌}
+use Rattle.std.specs.Prelude.{is_ok, slice_get, if◌then◌else◌}
 use Rattle.std.specs.Int.{w16, w32, to_be_bytes}
 use Rattle.std.specs.List.{flat_map, AllByRecursion}
 use Rattle.std.proofs.lemmas.List.{take_at, drop_at, take-append-drop, set_at, length-take, length-set}
@@ -11,7 +11,7 @@ use Rattle.path_header.specs.declared.fields.InfoField.{InfoField}
 use Rattle.path_header.specs.Value.{HeaderValue, IsHeader, header_len}
 use Rattle.path_header.specs.Spelling.{meta_of, meta_word, info_spelling, hop_spelling, spelling, InfoFits, FitsBits, SpellsHeader}
 use Rattle.path_header.specs.Reading.{header_at}
-use Rattle.path_header.specs.Shown.{is_read, has_header, read_or_none, header_at_front}
+use Rattle.path_header.specs.Shown.{has_header, read_or_none, header_at_front}
 use Rattle.path_header.proofs.OneField.{length-info_spelling}
 use Rattle.path_header.proofs.WholeHeader.{header_again, length-spelling}
 
@@ -26,7 +26,7 @@ shows v bytes rest is fits e =
     let read : header_at bytes ≡ Ok v = ap (λ (t : List ℕ). header_at t) e ∙ header_again v rest is fits in
     let value : header_at_front bytes ≡ v = ap (λ r. read_or_none r) read in
     let behind : drop (header_len v) bytes ≡ rest = ap (λ (t : List ℕ). drop (header_len v) t) e ∙ drop_at (spelling v) rest (header_len v) (length-spelling v is fits) in
-    record { has = ap (λ r. is_read r) read; value = value; rest_is = ap (λ (w : HeaderValue). drop (header_len w) bytes) value ∙ behind }
+    record { has = ap (λ r. is_ok r) read; value = value; rest_is = ap (λ (w : HeaderValue). drop (header_len w) bytes) value ∙ behind }
 
 -- bytes in front of which this header is spelled
 whole : (v : HeaderValue) (bytes : List ℕ) → SpellsHeader (take (header_len v) bytes) v → bytes ≡ spelling v ++ drop (header_len v) bytes

@@ -10,7 +10,7 @@ use Rattle.path_header.specs.declared.meta.Meta.{Meta}
 use Rattle.path_header.specs.Value.{AreLens, hop_count, len_for}
 use Rattle.path_header.specs.Building.{has_gap, is_wide, checked_lens}
 use Rattle.path_header.specs.Spelling.{meta_word}
-use Rattle.path_header.specs.Reading.{word_at, reserved_bits, meta_from, announced, meta_at}
+use Rattle.path_header.specs.Reading.{word_at, reserved_bits, meta_from, checked_meta, meta_at}
 use Rattle.refusal.proofs.Steps.{bind_ok, bind_from, ok_is}
 use Rattle.path_header.proofs.Answered.{AreBytes, passed}
 use Rattle.path_header.proofs.OneField.{four}
@@ -110,7 +110,7 @@ pub record Begins (bytes : List ℕ) (m : Meta) : Type 0 where
 abbrev if_long : List ℕ → Meta → SegLens → Result Meta HeaderFault
 if_long bytes m lens = cond (ltb (length bytes) (len_for lens)) (Err faults.Short) (Ok m)
 
-pub announced_takes : (bytes : List ℕ) (m m' : Meta) → announced bytes m ≡ Ok m' → AreLens m.lens × (len_for m.lens ≤ length bytes) × (m ≡ m')
+pub announced_takes : (bytes : List ℕ) (m m' : Meta) → checked_meta bytes m ≡ Ok m' → AreLens m.lens × (len_for m.lens ≤ length bytes) × (m ≡ m')
 announced_takes bytes m m' e =
     let b = bind_ok (checked_lens m.lens) (λ lens. if_long bytes m lens) m' e in
     let ok = lens_ok m.lens b.0 b.1 in
@@ -118,7 +118,7 @@ announced_takes bytes m m' e =
     let long : len_for b.0 ≤ length bytes = ltb-false (length bytes) (len_for b.0) p.0 in
     (ok.0, subst (λ (l : SegLens). len_for l ≤ length bytes) (sym ok.1) long, ok_is m m' p.1)
 
-announced_again : (bytes : List ℕ) (m : Meta) → AreLens m.lens → len_for m.lens ≤ length bytes → announced bytes m ≡ Ok m
+announced_again : (bytes : List ℕ) (m : Meta) → AreLens m.lens → len_for m.lens ≤ length bytes → checked_meta bytes m ≡ Ok m
 announced_again bytes m are long =
     bind_from (checked_lens m.lens) (λ lens. if_long bytes m lens) m.lens (Ok m) (lens_again m.lens are)
     (cond-false (ltb (length bytes) (len_for m.lens)) (Err faults.Short) (Ok m) (le-ltb _ _ long))
@@ -127,8 +127,8 @@ pub meta_takes : (bytes : List ℕ) (m : Meta) → AreBytes bytes → meta_at by
 unfolding meta_at
 meta_takes bytes m fits e =
     let n = word_at bytes in
-    let p = passed (ltb (length bytes) 4) faults.Short (cond (ltb 0 (reserved_bits n)) (Err faults.Reserved) (announced bytes (meta_from n))) m e in
-    let q = passed (ltb 0 (reserved_bits n)) faults.Reserved (announced bytes (meta_from n)) m p.1 in
+    let p = passed (ltb (length bytes) 4) faults.Short (cond (ltb 0 (reserved_bits n)) (Err faults.Reserved) (checked_meta bytes (meta_from n))) m e in
+    let q = passed (ltb 0 (reserved_bits n)) faults.Reserved (checked_meta bytes (meta_from n)) m p.1 in
     let r = announced_takes bytes (meta_from n) m q.1 in
     let word_again : meta_word (meta_from n) ≡ n = meta_word-meta_from n (ltb-false 0 (reserved_bits n) q.0) in
     let text : take 4 bytes ≡ to_be_bytes w32 (meta_word (meta_from n)) = four_cells bytes (ltb-false (length bytes) 4 p.0) ∙ sym (four bytes 0 1 2 3 fits) ∙ ap (λ k. to_be_bytes w32 k) (sym word_again) in
@@ -138,10 +138,10 @@ meta_at_from : (bytes : List ℕ) (m : Meta) → 4 ≤ length bytes → reserved
 unfolding meta_at
 meta_at_from bytes m long clear is are fits =
     let n = word_at bytes in
-    let after_reserved : Result Meta HeaderFault = announced bytes (meta_from n) in
+    let after_reserved : Result Meta HeaderFault = checked_meta bytes (meta_from n) in
     cond-false (ltb (length bytes) 4) (Err faults.Short) (cond (ltb 0 (reserved_bits n)) (Err faults.Reserved) after_reserved) (le-ltb _ _ long)
     ∙ cond-false (ltb 0 (reserved_bits n)) (Err faults.Reserved) after_reserved (le-ltb _ _ clear)
-    ∙ ap (λ (x : Meta). announced bytes x) is
+    ∙ ap (λ (x : Meta). checked_meta bytes x) is
     ∙ announced_again bytes m are fits
 
 pub meta_again : (m : Meta) (rest : List ℕ) → MetaFits m → len_for m.lens ≤ 4 + length rest → meta_at (to_be_bytes w32 (meta_word m) ++ rest) ≡ Ok m

@@ -1,6 +1,6 @@
 -- What bytes show that begin with a header, field by field.
 use Rattle.std.proofs.Common.{◌≡◌, ℕ, zero, suc, ◌+◌, ◌*◌, ◌<◌, true, cond, ltb, ◌||◌, ◌&&◌, List, [], ◌∷◌, length, get_or, drop, Some, Result, Ok, Err, refl, sym, ap, subst, ◌∙◌, arith}
-use Rattle.std.specs.Prelude.{slice_get}
+use Rattle.std.specs.Prelude.{is_ok, slice_get}
 use Rattle.std.specs.Int.Bits.{bit_and}
 use Rattle.std.proofs.lemmas.List.{drop-drop}
 use Rattle.path_header.specs.declared.fault.HeaderFault.{HeaderFault}
@@ -11,8 +11,8 @@ use Rattle.path_header.specs.declared.fields.HopField.{HopField}
 use Rattle.path_header.specs.Value.{HeaderValue, info_count, hop_count}
 use Rattle.refusal.specs.Refusal.{◌>>=◌}
 use Rattle.path_header.specs.Spelling.{meta_of}
-use Rattle.path_header.specs.Reading.{word_at, reserved_bits, meta_from, announced, meta_at, info_from, info_at, hop_from, hop_at, fields_at, header_at}
-use Rattle.path_header.specs.Shown.{is_read, has_header, read_or_none, header_at_front}
+use Rattle.path_header.specs.Reading.{word_at, reserved_bits, meta_from, checked_meta, meta_at, info_from, info_at, hop_from, hop_at, fields_at, header_at}
+use Rattle.path_header.specs.Shown.{has_header, read_or_none, header_at_front}
 use Rattle.refusal.proofs.Steps.{bind_ok, ok_is}
 use Rattle.path_header.proofs.Answered.{AreBytes, passed, passed_last}
 use Rattle.path_header.proofs.MetaField.{announced_takes}
@@ -20,7 +20,7 @@ use Rattle.path_header.proofs.WholeHeader.{BeginsWith, header_takes, checked_ind
 
 -- ---- there is a header
 
-is_the_read : (r : Result HeaderValue HeaderFault) → is_read r ≡ true → r ≡ Ok (read_or_none r)
+is_the_read : (r : Result HeaderValue HeaderFault) → is_ok r ≡ true → r ≡ Ok (read_or_none r)
 is_the_read (Ok v) e = refl
 is_the_read (Err f) e = absurd cc
 
@@ -42,8 +42,8 @@ meta_is : (bytes : List ℕ) (m : Meta) → meta_at bytes ≡ Ok m → meta_from
 unfolding meta_at
 meta_is bytes m e =
     let n = word_at bytes in
-    let p = passed (ltb (length bytes) 4) faults.Short (cond (ltb 0 (reserved_bits n)) (Err faults.Reserved) (announced bytes (meta_from n))) m e in
-    let q = passed (ltb 0 (reserved_bits n)) faults.Reserved (announced bytes (meta_from n)) m p.1 in
+    let p = passed (ltb (length bytes) 4) faults.Short (cond (ltb 0 (reserved_bits n)) (Err faults.Reserved) (checked_meta bytes (meta_from n))) m e in
+    let q = passed (ltb 0 (reserved_bits n)) faults.Reserved (checked_meta bytes (meta_from n)) m p.1 in
     (announced_takes bytes (meta_from n) m q.1).2
 
 parts : (bytes : List ℕ) (v : HeaderValue) → header_at bytes ≡ Ok v → ReadFrom bytes v

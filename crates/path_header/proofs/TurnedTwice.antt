@@ -7,7 +7,7 @@ use Rattle.path_header.specs.declared.lens.SegLens.{SegLens}
 use Rattle.path_header.specs.declared.fields.InfoField.{InfoField}
 use Rattle.path_header.specs.declared.fields.HopField.{HopField}
 use Rattle.path_header.specs.Value.{HeaderValue, IsHeader, AreLens}
-use Rattle.path_header.specs.Reversal.{turned_info, reversed_lens, reversed}
+use Rattle.path_header.specs.Reversal.{turned_info, reversed_lens, reversed_header}
 
 map-reverse : {A B : Type 0} (f : A → B) (xs : List A) → map f (reverse xs) ≡ reverse (map f xs)
 map-reverse f [] = refl
@@ -62,6 +62,6 @@ info_index_twice xs i lt = omega (arith, length-reverse (map turned_info xs), le
 hop_index_twice : (ys : List HopField) (i : ℕ) → i < length ys → length (reverse ys) - 1 - (length ys - 1 - i) ≡ i
 hop_index_twice ys i lt = omega (arith, length-reverse ys)
 
-pub turned_twice : (v : HeaderValue) → IsHeader v → reversed (reversed v) ≡ v
+pub turned_twice : (v : HeaderValue) → IsHeader v → reversed_header (reversed_header v) ≡ v
 turned_twice v is = header_like _ v.curr_inf _ v.curr_hf _ v.lens _ v.infos _ v.hops
     (info_index_twice v.infos v.curr_inf is.curr_inf) (hop_index_twice v.hops v.curr_hf is.curr_hf) (lens_twice v.lens is.lens) (infos_twice v.infos) (reverse-reverse v.hops)

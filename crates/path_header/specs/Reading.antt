@@ -29,8 +29,8 @@ meta_from n = record {
 }
 
 -- the meta field if its lengths are those of a path and the bytes are long enough for all fields
-abbrev pub announced : List ℕ → Meta → Result Meta HeaderFault
-announced bytes m = do
+abbrev pub checked_meta : List ℕ → Meta → Result Meta HeaderFault
+checked_meta bytes m = do
   lens ← checked_lens m.lens
   if nat_lt (length bytes) (len_for lens) then Err Short else Ok m
 
@@ -38,7 +38,7 @@ announced bytes m = do
 unfoldable pub meta_at : List ℕ → Result Meta HeaderFault
 meta_at bytes = if nat_lt (length bytes) 4 then Err Short
     else if nat_lt 0 (reserved_bits (word_at bytes)) then Err Reserved
-    else announced bytes (meta_from (word_at bytes))
+    else checked_meta bytes (meta_from (word_at bytes))
 
 -- the values in the info field at the front, without checks
 abbrev pub info_from : List ℕ → InfoField

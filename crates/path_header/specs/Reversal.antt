@@ -17,8 +17,8 @@ abbrev pub turned_info : InfoField → InfoField
 turned_info x = record x { construction = not x.construction }
 
 -- the header of the way back: all fields in reverse order, with the packet at the same hop field
-abbrev pub reversed : HeaderValue → HeaderValue
-reversed v = record {
+abbrev pub reversed_header : HeaderValue → HeaderValue
+reversed_header v = record {
   curr_inf = length v.infos - 1 - v.curr_inf;
   curr_hf = length v.hops - 1 - v.curr_hf;
   lens = reversed_lens v.lens;

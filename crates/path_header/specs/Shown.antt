@@ -1,22 +1,17 @@
 -- The header with which bytes begin, and the tests for one.
-use Rattle.std.specs.Prelude.{ℕ, Bool, true, false, List, [], Result, Ok, Err}
+use Rattle.std.specs.Prelude.{ℕ, Bool, is_ok, List, [], Result, Ok, Err}
 use Rattle.path_header.specs.declared.fault.HeaderFault.{HeaderFault}
 use Rattle.path_header.specs.Value.{HeaderValue, lens_from}
 use Rattle.path_header.specs.Reading.{header_at}
 
 -- the same result without its value
-abbrev pub judged : {A F : Type 0} → Result A F → Result (Unit {0}) F
-judged (Ok x) = Ok tt
-judged (Err fault) = Err fault
-
--- whether there is a value
-abbrev pub is_read : {A F : Type 0} → Result A F → Bool
-is_read (Ok x) = true
-is_read (Err fault) = false
+abbrev pub without_value : {A F : Type 0} → Result A F → Result (Unit {0}) F
+without_value (Ok x) = Ok tt
+without_value (Err fault) = Err fault
 
 -- whether the bytes begin with a header
 abbrev pub has_header : List ℕ → Bool
-has_header bytes = is_read (header_at bytes)
+has_header bytes = is_ok (header_at bytes)
 
 -- the header that was read, or a header without fields if none was
 abbrev pub read_or_none : Result HeaderValue HeaderFault → HeaderValue

@@ -41,7 +41,7 @@ impl<'a> HeaderMut<'a> {
     ghost use Rattle.path_header.specs.Value.{IsHeader, IsInSegment, header_len, segment_at};
     ghost use Rattle.path_header.specs.Spelling.{meta_of, SpellsHeader};
     ghost use Rattle.path_header.specs.Reading.{header_at};
-    ghost use Rattle.path_header.specs.Shown.{judged, has_header};
+    ghost use Rattle.path_header.specs.Shown.{without_value, has_header};
     ghost use Rattle.path_header.specs.Borrowed.{bytes_of, value_of, rest_of};
 
     /// The header at the front of these bytes, which it borrows; with the refusals of
@@ -61,7 +61,7 @@ impl<'a> HeaderMut<'a> {
     /// Checks whether these bytes begin with a header, as [`HeaderMut::new`] does and with its
     /// refusals, but does not keep them borrowed.
     pub fn check(bytes: &[u8]) -> Result<(), HeaderFault>
-        ensures { result ≡ judged (header_at bytes.now) }
+        ensures { result ≡ without_value (header_at bytes.now) }
     {
         check(bytes)
     }

@@ -2,7 +2,7 @@
 
 ghost use Rattle.std.specs.Prelude.{◌≡◌, ◌*◌, ◌≤◌, length};
 ghost use Rattle.path_header.specs.Reading.{info_at, hop_at, fields_at, header_at};
-ghost use Rattle.path_header.specs.Shown.{judged};
+ghost use Rattle.path_header.specs.Shown.{without_value};
 
 use crate::fault::HeaderFault;
 use crate::lens::{HOP_LEN, INFO_LEN, META_LEN};
@@ -12,7 +12,7 @@ use crate::reading::{check_hop, check_info, meta_of};
 fn check_infos(bytes: &[u8], count: usize) -> Result<(), HeaderFault>
     requires few { count ≤ 3 }
     requires long { 8 * count ≤ length bytes.now }
-    ensures { result ≡ judged (fields_at info_at 8 count bytes.now) }
+    ensures { result ≡ without_value (fields_at info_at 8 count bytes.now) }
 {
     for i in 0..count {
         let (_, rest) = bytes.split_at(INFO_LEN * i);
@@ -25,7 +25,7 @@ fn check_infos(bytes: &[u8], count: usize) -> Result<(), HeaderFault>
 fn check_hops(bytes: &[u8], count: usize) -> Result<(), HeaderFault>
     requires few { count ≤ 64 }
     requires long { 12 * count ≤ length bytes.now }
-    ensures { result ≡ judged (fields_at hop_at 12 count bytes.now) }
+    ensures { result ≡ without_value (fields_at hop_at 12 count bytes.now) }
 {
     for i in 0..count {
         let (_, rest) = bytes.split_at(HOP_LEN * i);
@@ -37,7 +37,7 @@ fn check_hops(bytes: &[u8], count: usize) -> Result<(), HeaderFault>
 /// Checks whether the bytes begin with a path header, with the refusals of [`crate::decode`].
 #[tactic(auto, unfolding(crate::specs::Reading::header_at))]
 pub(crate) fn check(bytes: &[u8]) -> Result<(), HeaderFault>
-    ensures { result ≡ judged (header_at bytes.now) }
+    ensures { result ≡ without_value (header_at bytes.now) }
 {
     let meta = meta_of(bytes)?;
     let info_count = meta.lens.info_count();

@@ -5,7 +5,7 @@ ghost use Rattle.path_header.specs.declared.lens.SegLens.{SegLens};
 ghost use Rattle.path_header.specs.Value.{HeaderValue, IsHeader, IsInSegment, header_len, hop_count, segment_at};
 ghost use Rattle.path_header.specs.Spelling.{FitsBits, SpellsHeader, spelling};
 ghost use Rattle.path_header.specs.Reading.{read_at};
-ghost use Rattle.path_header.specs.Reversal.{reversed};
+ghost use Rattle.path_header.specs.Reversal.{reversed_header};
 
 /// Each header has exactly one spelling, no two headers have the same, and no spelling is the
 /// beginning of another.
@@ -28,8 +28,8 @@ pub fn one_segment()
 
 /// The reversed header is a header, and reversing it again gives the first header back.
 pub fn reversed_twice()
-    ensures back { (v : HeaderValue) → IsHeader v → reversed (reversed v) ≡ v }
-    ensures header { (v : HeaderValue) → IsHeader v → IsHeader (reversed v) }
+    ensures back { (v : HeaderValue) → IsHeader v → reversed_header (reversed_header v) ≡ v }
+    ensures header { (v : HeaderValue) → IsHeader v → IsHeader (reversed_header v) }
 {}
 
 /// Reading a spelling of a header gives that header and its length, whatever follows; and

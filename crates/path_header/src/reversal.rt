@@ -1,5 +1,5 @@
 ghost use Rattle.std.specs.Prelude.{◌≡◌, map};
-ghost use Rattle.path_header.specs.Reversal.{turned_info, reversed};
+ghost use Rattle.path_header.specs.Reversal.{turned_info, reversed_header};
 
 use crate::fields::InfoField;
 use crate::header::Header;
@@ -8,7 +8,7 @@ impl Header {
     /// Makes this the header of the way back: the segments and all fields in reverse order, each
     /// segment in the other direction, and the packet at the same hop field.
     pub fn reverse(&mut self)
-        ensures { self.new ≡ reversed self.old }
+        ensures { self.new ≡ reversed_header self.old }
     {
         self.curr_inf = self.infos.len() as u8 - 1 - self.curr_inf;
         self.curr_hf = self.hops.len() as u8 - 1 - self.curr_hf;

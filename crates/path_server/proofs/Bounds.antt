@@ -12,7 +12,7 @@ use Rattle.path_server.specs.declared.fault.StoreFault.{StoreFault}
 use Rattle.path_server.specs.declared.op.StoreOp.TheVariants.{Register, Sweep}
 use Rattle.path_segment.specs.Tests.{is_live}
 use Rattle.path_server.specs.Segment.{is_alike}
-use Rattle.path_server.specs.Store.{Operation, answer_to, IsRegisterAnswer, with_new, registered, swept, after_operation, store_of}
+use Rattle.path_server.specs.Store.{Operation, answer_to, IsRegisterAnswer, with_new, with_registered, live_segments, after_operation, store_of}
 use Rattle.path_server.proofs.Plain.{answer_is_plain}
 use Rattle.path_server.proofs.Decided.{is_alike-same}
 
@@ -38,7 +38,7 @@ distinct_with segments segment now (Ok false) is distinct = distinct
 distinct_with segments segment now (Err fault) is distinct = distinct
 
 distinct_after : (segments : List Chain) (operation : Operation) → IsDistinct segments → IsDistinct (after_operation segments operation)
-unfolding registered swept
+unfolding with_registered live_segments
 distinct_after segments (Register segment now) distinct = distinct_with segments segment now (answer_to segments segment now) (answer_is_plain segments segment now) distinct
 distinct_after segments (Sweep now) distinct = AllPairs-filter (λ one other. one ≢ other) (is_live now) segments distinct
 
@@ -66,7 +66,7 @@ bounded_with segments segment now (Ok false) is bounded = bounded
 bounded_with segments segment now (Err fault) is bounded = bounded
 
 bounded_after : (segments : List Chain) (operation : Operation) → IsBounded segments → IsBounded (after_operation segments operation)
-unfolding registered swept
+unfolding with_registered live_segments
 bounded_after segments (Register segment now) bounded = bounded_with segments segment now (answer_to segments segment now) (answer_is_plain segments segment now) bounded
 bounded_after segments (Sweep now) bounded = λ other. (
     let parts = sum_by-filter_both (is_live now) (λ s. not (is_live now s)) (λ _. refl) (λ s. cond (is_alike other s) 1 0) segments in

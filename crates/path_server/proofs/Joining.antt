@@ -13,7 +13,7 @@ use Rattle.path_segment.specs.Tests.{is_live, same_kind}
 use Rattle.path_segment.proofs.Decided.{same_kind-Decides}
 use Rattle.path_server.specs.Index.{IsIndex, HasAddresses, rank_between, rank, rank_at}
 use Rattle.path_server.specs.inner.Index.{core_places, lies_between, segments_at, passes_at, is_in}
-use Rattle.path_server.specs.Lookup.{joins, is_reached}
+use Rattle.path_server.specs.Lookup.{leads_between, is_reached}
 use Rattle.path_server.proofs.Lying.{lies_exactly, addresses_at}
 use Rattle.path_server.proofs.Orders.{same_test, same_decided, any_none, any_on, any_same, any_and, any_flat_map}
 use Rattle.path_server.proofs.Places.{found_is_kept, is_in-live}
@@ -113,8 +113,8 @@ is_led firsts lasts now there o =
     list_any (λ last. list_any (λ first. (option_map_or (λ s. same_kind s.kind Core && is_live now s) o false && there) && option_map_or (λ s. nat_eq (first_as s) first && nat_eq (last_as s) last) o false) firsts) lasts
 
 sides_one : (near far : List ℕ) (now : ℕ) (there : Bool) (o : Option Chain)
-    → (is_led near far now there o || is_led far near now there o) ≡ (option_map_or (joins (is_in near) (is_in far) now) o false && there)
-unfolding joins
+    → (is_led near far now there o || is_led far near now there o) ≡ (option_map_or (leads_between (is_in near) (is_in far) now) o false && there)
+unfolding leads_between
 sides_one near far now there None = either_same (none_of_pairs near far) (none_of_pairs far near)
 sides_one near far now there (Some s) =
     let c = (same_kind s.kind Core && is_live now s) && there in
@@ -125,9 +125,9 @@ sides_one near far now there (Some s) =
 -- the live core segments between two sides, found by the index
 pub joining_is_kept : (segments : List Chain) (index places near far : List ℕ) → IsIndex segments index → All (λ ia. ia < 2 ^ 64) near → All (λ ia. ia < 2 ^ 64) far → (now : ℕ) → IsStrictlyIncreasing places
     → ((i : ℕ) → is_in places i ≡ is_in (flat_map (λ last. flat_map (core_places segments index now last) near) far ++ flat_map (λ last. flat_map (core_places segments index now last) far) near) i)
-    → segments_at segments places ≡ filter (joins (is_in near) (is_in far) now) segments
+    → segments_at segments places ≡ filter (leads_between (is_in near) (is_in far) now) segments
 joining_is_kept segments index places near far is nears fars now rises just =
-    found_is_kept (joins (is_in near) (is_in far) now) segments places rises (λ i. just i
+    found_is_kept (leads_between (is_in near) (is_in far) now) segments places rises (λ i. just i
     ∙ list_any-append (nat_eq i) (flat_map (λ last. flat_map (core_places segments index now last) near) far) _
     ∙ either_same (all_leading segments index near far is nears fars now i) (all_leading segments index far near is fars nears now i)
     ∙ sides_one near far now (is_in (range_with_len 0 (length segments)) i) (slice_get segments i))

@@ -7,7 +7,7 @@ use Rattle.path_segment.specs.Chain.{Chain, IsChainLive}
 use Rattle.path_segment.specs.Tests.{is_live}
 use Rattle.path_segment.proofs.Decided.{is_live-Decides}
 use Rattle.path_server.specs.Expiry.{IsLiveUpTo}
-use Rattle.path_server.specs.Store.{swept, expired_count}
+use Rattle.path_server.specs.Store.{live_segments, expired_count}
 use Rattle.path_server.proofs.Counts.{left_out}
 
 -- what is live up to a half second is live up to an earlier one
@@ -34,8 +34,8 @@ all_live : (segments : List Chain) (now : ℕ) → All (λ segment. IsChainLive 
 all_live segments now live = all_pass (is_live now) segments (λ k d within. (is_live-Decides now (get_or segments k d)).1 (live k d within))
 
 -- a sweep takes nothing out where all segments are live
-pub swept_live : (segments : List Chain) (now : ℕ) → All (λ segment. IsChainLive segment now) segments → segments ≡ swept segments now
-unfolding swept
+pub swept_live : (segments : List Chain) (now : ℕ) → All (λ segment. IsChainLive segment now) segments → segments ≡ live_segments segments now
+unfolding live_segments
 swept_live segments now live = sym (all_live segments now live)
 
 pub none_expired : (segments : List Chain) (now : ℕ) → All (λ segment. IsChainLive segment now) segments → 0 ≡ expired_count segments now

@@ -11,8 +11,8 @@ use Rattle.path_server.specs.declared.fault.StoreFault.{StoreFault}
 use Rattle.path_segment.specs.Chain.{first_as, last_as}
 use Rattle.path_segment.specs.Tests.{is_live, is_same}
 use Rattle.path_server.specs.Segment.{is_alike}
-use Rattle.path_server.specs.Store.{answer_to, IsRegisterAnswer, with_new, registered, swept, expired_count}
-use Rattle.path_server.specs.Lookup.{is_intra_to, is_reached, joins, segments_for, LeadsTo, IsReached, LeadsBetween}
+use Rattle.path_server.specs.Store.{answer_to, IsRegisterAnswer, with_new, with_registered, live_segments, expired_count}
+use Rattle.path_server.specs.Lookup.{is_intra_to, is_reached, leads_between, segments_for, LeadsTo, IsReached, LeadsBetween}
 use Rattle.path_server.proofs.Counts.{left_out}
 use Rattle.path_server.proofs.Members.{Contains-filter, is_in-Decides, any-Decides, filter-filter}
 use Rattle.path_segment.proofs.Decided.{is_live-Decides, is_same-Decides, same_kind-Decides}
@@ -41,29 +41,29 @@ with_new-added (Ok true) segments segment other there = Contains-push_cases segm
 with_new-added (Ok false) segments segment other there = inl there
 with_new-added (Err fault) segments segment other there = inl there
 
-pub Contains-registered_kept : (segments : List Chain) (segment : Chain) (now : ℕ) (other : Chain) → Contains segments other → Contains (registered segments segment now) other
-unfolding registered
+pub Contains-registered_kept : (segments : List Chain) (segment : Chain) (now : ℕ) (other : Chain) → Contains segments other → Contains (with_registered segments segment now) other
+unfolding with_registered
 Contains-registered_kept segments segment now other = with_new-kept (answer_to segments segment now) segments segment other
 
-pub Contains-registered_added : (segments : List Chain) (segment : Chain) (now : ℕ) (other : Chain) → Contains (registered segments segment now) other → Contains segments other ⊎ (segment ≡ other)
-unfolding registered
+pub Contains-registered_added : (segments : List Chain) (segment : Chain) (now : ℕ) (other : Chain) → Contains (with_registered segments segment now) other → Contains segments other ⊎ (segment ≡ other)
+unfolding with_registered
 Contains-registered_added segments segment now other = with_new-added (answer_to segments segment now) segments segment other
 
 -- ---- sweeps
 
-pub Contains-swept : (segments : List Chain) (now : ℕ) (segment : Chain) → Contains (swept segments now) segment ↔ (Contains segments segment × IsChainLive segment now)
-unfolding swept
+pub Contains-swept : (segments : List Chain) (now : ℕ) (segment : Chain) → Contains (live_segments segments now) segment ↔ (Contains segments segment × IsChainLive segment now)
+unfolding live_segments
 Contains-swept segments now segment =
     let there = Contains-filter (is_live now) segments segment in
     let live = is_live-Decides now segment in
     (λ h. ((there.0 h).0, live.0 (there.0 h).1), λ h. there.1 (h.0, live.1 h.1))
 
-pub swept-swept : (segments : List Chain) (now : ℕ) → swept (swept segments now) now ≡ swept segments now
-unfolding swept
+pub swept-swept : (segments : List Chain) (now : ℕ) → live_segments (live_segments segments now) now ≡ live_segments segments now
+unfolding live_segments
 swept-swept segments now = filter-filter (is_live now) segments
 
-pub expired_count-swept : (segments : List Chain) (now : ℕ) → expired_count (swept segments now) now ≡ 0
-unfolding swept
+pub expired_count-swept : (segments : List Chain) (now : ℕ) → expired_count (live_segments segments now) now ≡ 0
+unfolding live_segments
 expired_count-swept segments now =
     let out = left_out (is_live now) (filter (is_live now) segments) in
     let same = ap length (filter-filter (is_live now) segments) in
@@ -85,10 +85,10 @@ unfolding is_reached
 is_reached-Decides ia segments other =
     Decides-or _ _ (Decides-eqb other ia) (any-Decides (λ s. first_as s == other) (λ s. first_as s ≡ other) (λ s. Decides-eqb (first_as s) other) segments)
 
-joins-plain : (segments : List Chain) (near far : ℕ → Bool) (Near Far : ℕ → Type 0) → ((ia : ℕ) → Decides (near ia) (Near ia)) → ((ia : ℕ) → Decides (far ia) (Far ia)) → (now : ℕ) (segment : Chain) → Contains (filter (joins near far now) segments) segment ↔ LeadsBetween segments Near Far now segment
-unfolding joins
+joins-plain : (segments : List Chain) (near far : ℕ → Bool) (Near Far : ℕ → Type 0) → ((ia : ℕ) → Decides (near ia) (Near ia)) → ((ia : ℕ) → Decides (far ia) (Far ia)) → (now : ℕ) (segment : Chain) → Contains (filter (leads_between near far now) segments) segment ↔ LeadsBetween segments Near Far now segment
+unfolding leads_between
 joins-plain segments near far Near Far nears fars now segment =
-    let there = Contains-filter (joins near far now) segments segment in
+    let there = Contains-filter (leads_between near far now) segments segment in
     let first = first_as segment in
     let last = last_as segment in
     let ways = Decides-or _ _ (Decides-and _ _ (nears first) (fars last)) (Decides-and _ _ (nears last) (fars first)) in

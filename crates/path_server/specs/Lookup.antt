@@ -24,8 +24,8 @@ is_reached ia segments other = (other == ia) || list_any (λ one. first_as one =
 
 -- a live core segment with one end on the near side and the other end on the far side, in either
 -- direction
-unfoldable pub joins : (ℕ → Bool) → (ℕ → Bool) → ℕ → Chain → Bool
-joins near far now segment = same_kind segment.kind Core
+unfoldable pub leads_between : (ℕ → Bool) → (ℕ → Bool) → ℕ → Chain → Bool
+leads_between near far now segment = same_kind segment.kind Core
     && (is_live now segment && ((near (first_as segment) && far (last_as segment))
     || (near (last_as segment) && far (first_as segment))))
 
@@ -34,7 +34,7 @@ unfoldable pub segments_for : (segments : List Chain) (src dst now : ℕ) → Se
 segments_for segments src dst now =
     let ups = filter (is_intra_to src now) segments in
     let downs = filter (is_intra_to dst now) segments in
-    let cores = filter (joins (is_reached src ups) (is_reached dst downs) now) segments in
+    let cores = filter (leads_between (is_reached src ups) (is_reached dst downs) now) segments in
     record { ups = ups; cores = cores; downs = downs; moment = now }
 
 -- `is_intra_to` without tests: a segment of the list that is intra, live, and ends in this AS

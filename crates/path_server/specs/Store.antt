@@ -35,12 +35,12 @@ with_new (Ok true) segments segment = segments ++ segment ∷ []
 with_new answer segments segment = segments
 
 -- the list after this segment was registered at this second
-unfoldable pub registered : List Chain → Chain → ℕ → List Chain
-registered segments segment now = with_new (answer_to segments segment now) segments segment
+unfoldable pub with_registered : List Chain → Chain → ℕ → List Chain
+with_registered segments segment now = with_new (answer_to segments segment now) segments segment
 
 -- the list without the segments that are not live at this second
-unfoldable pub swept : List Chain → ℕ → List Chain
-swept segments now = filter (is_live now) segments
+unfoldable pub live_segments : List Chain → ℕ → List Chain
+live_segments segments now = filter (is_live now) segments
 
 -- the number of segments that are not live at this second
 abbrev pub expired_count : List Chain → ℕ → ℕ
@@ -52,8 +52,8 @@ Operation = StoreOp
 
 -- the list after one operation
 abbrev pub after_operation : List Chain → Operation → List Chain
-after_operation segments (Register segment now) = registered segments segment now
-after_operation segments (Sweep now) = swept segments now
+after_operation segments (Register segment now) = with_registered segments segment now
+after_operation segments (Sweep now) = live_segments segments now
 
 -- the operation stores a new segment
 abbrev pub TakesIn : Operation → List Chain → Type 0

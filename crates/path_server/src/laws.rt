@@ -3,7 +3,7 @@
 ghost use Rattle.std.specs.Prelude.{◌≡◌, ◌≢◌, ◌↔◌, ◌⊎◌, ℕ, ◌≤◌, List, ◌++◌, AllPairs, Contains, count_by, fold, IsTrue};
 ghost use Rattle.path_segment.specs.Chain.{Chain, IsChainLive, first_as, last_as};
 ghost use Rattle.path_server.specs.Segment.{is_alike};
-ghost use Rattle.path_server.specs.Store.{Operation, answer_to, IsRegisterAnswer, registered, swept, expired_count, after_operation, store_of};
+ghost use Rattle.path_server.specs.Store.{Operation, answer_to, IsRegisterAnswer, with_registered, live_segments, expired_count, after_operation, store_of};
 ghost use Rattle.path_server.specs.Lookup.{segments_for, LeadsTo, IsReached, LeadsBetween};
 
 /// What `is_alike` means: equal kinds, first ASes and last ASes.
@@ -22,20 +22,22 @@ pub fn answers_are_plain()
 /// Registering a segment keeps all that is there and adds nothing else.
 pub fn registering_adds_the_segment_alone()
     ensures kept { (segments : List Chain) (segment : Chain) (now : ℕ) (other : Chain)
-        → Contains segments other → Contains (registered segments segment now) other }
+        → Contains segments other → Contains (with_registered segments segment now) other }
     ensures added { (segments : List Chain) (segment : Chain) (now : ℕ) (other : Chain)
-        → Contains (registered segments segment now) other → Contains segments other
+        → Contains (with_registered segments segment now) other → Contains segments other
         ⊎ (segment ≡ other) }
 {}
 
 /// A sweep keeps exactly the live segments, and another one at the same second removes nothing.
 pub fn sweeps_keep_the_live()
     ensures kept { (segments : List Chain) (now : ℕ) (segment : Chain)
-        → Contains (swept segments now) segment
+        → Contains (live_segments segments now) segment
         ↔ (Contains segments segment × IsChainLive segment now) }
-    ensures again { (segments : List Chain) (now : ℕ) → swept (swept segments now) now
-        ≡ swept segments now }
-    ensures none { (segments : List Chain) (now : ℕ) → expired_count (swept segments now) now ≡ 0 }
+    ensures again { (segments : List Chain) (now : ℕ)
+        → live_segments (live_segments segments now) now
+        ≡ live_segments segments now }
+    ensures none { (segments : List Chain) (now : ℕ)
+        → expired_count (live_segments segments now) now ≡ 0 }
 {}
 
 /// In a store that operations made, no two segments are equal, and at most 32 have the same kind,

@@ -6,7 +6,7 @@ ghost use Rattle.std.specs.List.Sorted.{IsNonDecreasingBy, IsStrictlyIncreasing}
 ghost use Rattle.path_segment.specs.Tests.{is_live};
 ghost use Rattle.path_server.specs.Index.{IsIndex, order_at};
 ghost use Rattle.path_server.specs.inner.Index.{segments_at, passes_at, core_places, is_in};
-ghost use Rattle.path_server.specs.Lookup.{is_intra_to, is_reached, joins};
+ghost use Rattle.path_server.specs.Lookup.{is_intra_to, is_reached, leads_between};
 
 use crate::ends::Ends;
 use crate::index::range;
@@ -100,7 +100,7 @@ pub(crate) fn core_segments_between(
 ) -> Result<Vec<Segment>, AllocError>
     requires { IsIndex segments.now index.now }
     ensures { IfOk result (λ found. found.items ≡
-        filter (joins (is_in near.now) (is_in far.now) now) segments.now) }
+        filter (leads_between (is_in near.now) (is_in far.now) now) segments.now) }
 {
     let mut places = Vec::new(alloc);
     add_between(&mut places, segments, index, near, far, now)?;

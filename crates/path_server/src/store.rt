@@ -4,7 +4,7 @@ ghost use Rattle.path_segment.specs.Tests.{is_live};
 ghost use Rattle.path_server.specs.Expiry.{IsLiveUpTo};
 ghost use Rattle.path_server.specs.Fault.{Registers};
 ghost use Rattle.path_server.specs.Index.{IsIndex};
-ghost use Rattle.path_server.specs.Store.{answer_to, registered, swept, expired_count, after_operation, TakesIn};
+ghost use Rattle.path_server.specs.Store.{answer_to, with_registered, live_segments, expired_count, after_operation, TakesIn};
 ghost use Rattle.path_server.specs.Lookup.{segments_for};
 
 use crate::ends::Ends;
@@ -89,10 +89,10 @@ impl PathStore {
     ///
     /// It reads only the segments of that kind and those ends, and moves the places in the index
     /// that come after the new one.
-    #[tactic(auto, unfolding(crate::specs::Store::registered))]
+    #[tactic(auto, unfolding(crate::specs::Store::with_registered))]
     pub fn register(&mut self, segment: Segment, now: u32) -> Result<bool, (Segment, StoreError)>
         ensures answer { Registers segment result (answer_to self.old segment now) }
-        ensures taken { OnOk result (self.new ≡ registered self.old segment now) }
+        ensures taken { OnOk result (self.new ≡ with_registered self.old segment now) }
         ensures kept { OnErr result (self.new ≡ self.old) }
     {
         match self.answer_to(&segment, now) {
@@ -136,9 +136,9 @@ impl PathStore {
     ///
     /// If there are none, it reads no segment. Else it reads each segment and sorts the places of
     /// those that stay. It takes no memory.
-    #[tactic(auto, unfolding(crate::specs::Store::swept))]
+    #[tactic(auto, unfolding(crate::specs::Store::live_segments))]
     pub fn sweep(&mut self, now: u32) -> usize
-        ensures kept { self.new ≡ swept self.old now }
+        ensures kept { self.new ≡ live_segments self.old now }
         ensures count { result ≡ expired_count self.old now }
     {
         if self.are_all_live(now) {
@@ -156,9 +156,9 @@ impl PathStore {
     }
 
     /// Removes the segments that are not live at the second `now`, and returns their number.
-    #[tactic(auto, using(crate::proofs::Counts::left_out), unfolding(crate::specs::Store::swept))]
+    #[tactic(auto, using(crate::proofs::Counts::left_out), unfolding(crate::specs::Store::live_segments))]
     fn remove_expired(&mut self, now: u32) -> usize
-        ensures kept { self.new ≡ swept self.old now }
+        ensures kept { self.new ≡ live_segments self.old now }
         ensures count { result ≡ expired_count self.old now }
     {
         let before = self.segments.len();
@@ -187,14 +187,14 @@ impl PathStore {
     }
 
     /// Stores a copy of a segment if it is new at the second `now`.
-    #[tactic(auto, unfolding(crate::specs::Store::registered))]
+    #[tactic(auto, unfolding(crate::specs::Store::with_registered))]
     fn register_copy(
         &mut self,
         alloc: Global,
         segment: &Segment,
         now: u32,
     ) -> Result<(), AllocError>
-        ensures done { OnOk result (self.new ≡ registered self.old segment.now now) }
+        ensures done { OnOk result (self.new ≡ with_registered self.old segment.now now) }
         ensures kept { OnErr result (self.new ≡ self.old) }
         ensures wanted { OnErr result (answer_to self.old segment.now now ≡ Ok true) }
     {

@@ -9,7 +9,7 @@ use Rattle.std.proofs.lemmas.Option.{slice_get-get_or}
 use Rattle.path_segment.specs.declared.entry.Entry.{Entry}
 use Rattle.policy_expr.specs.declared.hop.WalkHop.{WalkHop}
 use Rattle.path_segment.specs.Chain.{as_at}
-use Rattle.path_verifier.specs.Piece.{PieceValue, HasRange, travelled, begins_in, ends_in}
+use Rattle.path_verifier.specs.Piece.{PieceValue, HasRange, travelled_entries, begins_in, ends_in}
 use Rattle.path_verifier.specs.Walk.{hop_of, hops_of, left_by, entered_by, walk_with, walk_of}
 use Rattle.path_verifier.specs.Accepted.{DoBeginIn, DoEndIn, MakesPath}
 use Rattle.path_verifier.proofs.Entries.{length_travelled}
@@ -53,19 +53,19 @@ unfolding hop_of
 ases_travelled along [] = refl
 ases_travelled along (entry ∷ entries) = ap (λ xs. entry.ia ∷ xs) (ases_travelled along entries)
 
-ases-hops_of : (piece : PieceValue) → ases (hops_of piece) ≡ map (λ (entry : Entry). entry.ia) (travelled piece)
+ases-hops_of : (piece : PieceValue) → ases (hops_of piece) ≡ map (λ (entry : Entry). entry.ia) (travelled_entries piece)
 unfolding hops_of
-ases-hops_of piece = ases_travelled piece.along (travelled piece)
+ases-hops_of piece = ases_travelled piece.along (travelled_entries piece)
 
 begins : (piece : PieceValue) → first_in (ases (hops_of piece)) ≡ begins_in piece
 unfolding begins_in
-begins piece = ap first_in (ases-hops_of piece) ∙ at_map (travelled piece) 0
+begins piece = ap first_in (ases-hops_of piece) ∙ at_map (travelled_entries piece) 0
 
 ends : (piece : PieceValue) → last_in (ases (hops_of piece)) ≡ ends_in piece
 unfolding ends_in
 ends piece =
-    ap last_in (ases-hops_of piece) ∙ ap (λ n. get_or (map (λ (entry : Entry). entry.ia) (travelled piece)) (n - 1) 0) (length-map (travelled piece) (λ entry. entry.ia))
-    ∙ at_map (travelled piece) (length (travelled piece) - 1)
+    ap last_in (ases-hops_of piece) ∙ ap (λ n. get_or (map (λ (entry : Entry). entry.ia) (travelled_entries piece)) (n - 1) 0) (length-map (travelled_entries piece) (λ entry. entry.ia))
+    ∙ at_map (travelled_entries piece) (length (travelled_entries piece) - 1)
 
 pub two_ases : (piece : PieceValue) → HasRange piece → 2 ≤ length (ases (hops_of piece))
 two_ases piece range =

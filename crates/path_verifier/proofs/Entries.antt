@@ -3,7 +3,7 @@ use Rattle.std.proofs.Common.{◌≡◌, ℕ, ◌+◌, ◌-◌, ◌≤◌, Bool,
 use Rattle.std.proofs.lemmas.List.{drop-take, length-reverse}
 use Rattle.path_segment.specs.declared.entry.Entry.{Entry}
 use Rattle.path_segment.specs.Chain.{between}
-use Rattle.path_verifier.specs.Piece.{PieceValue, HasRange, entries_of, in_order, travelled}
+use Rattle.path_verifier.specs.Piece.{PieceValue, HasRange, entries_of, in_order, travelled_entries}
 
 -- what is cut from one place to behind another is what lies between both
 pub take_between : (a b : ℕ) (entries : List Entry) → a ≤ b → take (b + 1 - a) (drop a entries) ≡ between a b entries
@@ -18,5 +18,5 @@ length-in_order : (along : Bool) (entries : List Entry) → length (in_order alo
 length-in_order true entries = refl
 length-in_order false entries = length-reverse entries
 
-pub length_travelled : (piece : PieceValue) → HasRange piece → length (travelled piece) ≡ piece.to + 1 - piece.from
+pub length_travelled : (piece : PieceValue) → HasRange piece → length (travelled_entries piece) ≡ piece.to + 1 - piece.from
 length_travelled piece range = length-in_order piece.along (entries_of piece) ∙ length-entries_of piece range

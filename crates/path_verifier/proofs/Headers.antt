@@ -12,21 +12,21 @@ use Rattle.path_header.specs.Building.{first_header}
 use Rattle.path_verifier.specs.declared.pieces.PieceSlots.{PieceSlots}
 use Rattle.path_verifier.specs.declared.pieces.PieceSlots.TheVariants.{Zero, One, Two, Three}
 use Rattle.path_verifier.specs.PieceSlots.{pieces_in}
-use Rattle.path_verifier.specs.Piece.{PieceValue, HasRange, travelled}
+use Rattle.path_verifier.specs.Piece.{PieceValue, HasRange, travelled_entries}
 use Rattle.path_verifier.specs.Header.{field_of, fields_of, info_of, len_of, total_hops, header_of}
 use Rattle.path_verifier.specs.inner.Header.{HaveSixBits}
 use Rattle.path_verifier.specs.Accepted.{MakesPath}
 use Rattle.path_verifier.proofs.Entries.{length_travelled}
 use Rattle.path_verifier.proofs.Lengths.{path_is_short}
 
-pub field_there : (piece : PieceValue) (i : ℕ) (entry : Entry) (field : HopField) → slice_get (travelled piece) i ≡ Some entry → field ≡ field_of entry
+pub field_there : (piece : PieceValue) (i : ℕ) (entry : Entry) (field : HopField) → slice_get (travelled_entries piece) i ≡ Some entry → field ≡ field_of entry
     → slice_get (fields_of piece) i ≡ Some field
 unfolding fields_of
-field_there piece i entry field there is = slice_get-map field_of (travelled piece) i ∙ ap (option_map field_of) there ∙ ap Some (sym is)
+field_there piece i entry field there is = slice_get-map field_of (travelled_entries piece) i ∙ ap (option_map field_of) there ∙ ap Some (sym is)
 
 pub length_fields_of : (piece : PieceValue) → length (fields_of piece) ≡ len_of piece
 unfolding fields_of
-length_fields_of piece = length-map (travelled piece) field_of
+length_fields_of piece = length-map (travelled_entries piece) field_of
 
 pub length-pieces_in : (held : PieceSlots) → length (pieces_in held) ≤ 3
 length-pieces_in Zero = omega arith

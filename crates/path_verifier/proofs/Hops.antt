@@ -5,18 +5,18 @@ use Rattle.std.proofs.lemmas.List.{length-map, drop_all, append-nil}
 use Rattle.std.proofs.lemmas.Option.{slice_get-map, same_Some}
 use Rattle.path_segment.specs.declared.entry.Entry.{Entry}
 use Rattle.policy_expr.specs.declared.hop.WalkHop.{WalkHop}
-use Rattle.path_verifier.specs.Piece.{PieceValue, travelled}
-use Rattle.path_verifier.specs.Walk.{hop_of, hops_of, left_by, met, walk_with}
+use Rattle.path_verifier.specs.Piece.{PieceValue, travelled_entries}
+use Rattle.path_verifier.specs.Walk.{hop_of, hops_of, left_by, with_meeting_hop, walk_with}
 use Rattle.path_verifier.specs.Header.{len_of}
 
-pub hop_there : (piece : PieceValue) (i : ℕ) (entry : Entry) (hop : WalkHop) → slice_get (travelled piece) i ≡ Some entry → hop ≡ hop_of piece.along entry
+pub hop_there : (piece : PieceValue) (i : ℕ) (entry : Entry) (hop : WalkHop) → slice_get (travelled_entries piece) i ≡ Some entry → hop ≡ hop_of piece.along entry
     → slice_get (hops_of piece) i ≡ Some hop
 unfolding hops_of
-hop_there piece i entry hop there is = slice_get-map (hop_of piece.along) (travelled piece) i ∙ ap (option_map (hop_of piece.along)) there ∙ ap Some (sym is)
+hop_there piece i entry hop there is = slice_get-map (hop_of piece.along) (travelled_entries piece) i ∙ ap (option_map (hop_of piece.along)) there ∙ ap Some (sym is)
 
 pub length_hops_of : (piece : PieceValue) → length (hops_of piece) ≡ len_of piece
 unfolding hops_of
-length_hops_of piece = length-map (travelled piece) (hop_of piece.along)
+length_hops_of piece = length-map (travelled_entries piece) (hop_of piece.along)
 
 drop_at : {A : Type 0} (xs : List A) (i : ℕ) (x : A) → slice_get xs i ≡ Some x → drop i xs ≡ x ∷ drop (suc i) xs
 drop_at [] i x there = absurd cc
@@ -41,5 +41,5 @@ pub length_later : (walk : List WalkHop) (piece : PieceValue) → length (walk +
 length_later walk piece = simp (length-append, length-drop, length_hops_of) refl
 
 pub joined_from : (walk : List WalkHop) (piece : PieceValue) (hop : WalkHop) → slice_get (hops_of piece) 0 ≡ Some hop
-    → met walk hop ++ drop 1 (hops_of piece) ≡ walk_with walk (hops_of piece)
+    → with_meeting_hop walk hop ++ drop 1 (hops_of piece) ≡ walk_with walk (hops_of piece)
 joined_from walk piece hop there = rw (drop_at (hops_of piece) 0 hop there) refl

@@ -5,7 +5,7 @@ use Rattle.std.proofs.lemmas.List.{reverse-append, reverse-reverse, length-rever
 use Rattle.path_segment.specs.declared.entry.Entry.{Entry}
 use Rattle.policy_expr.specs.declared.hop.WalkHop.{WalkHop}
 use Rattle.path_segment.specs.Chain.{as_at}
-use Rattle.path_verifier.specs.Piece.{PieceValue, entries_of, in_order, travelled, begins_in, ends_in}
+use Rattle.path_verifier.specs.Piece.{PieceValue, entries_of, in_order, travelled_entries, begins_in, ends_in}
 use Rattle.path_verifier.specs.Walk.{hop_of, hops_of}
 use Rattle.path_verifier.specs.Header.{field_of, fields_of, len_of}
 use Rattle.path_verifier.specs.Turned.{turned_piece, turned_hop, turned_walk}
@@ -29,18 +29,18 @@ order_turned true entries = refl
 order_turned false entries = sym (reverse-reverse entries)
 
 pub travelled_turned : (piece : PieceValue)
-    → travelled (turned_piece piece) ≡ reverse (travelled piece)
+    → travelled_entries (turned_piece piece) ≡ reverse (travelled_entries piece)
 travelled_turned piece = order_turned piece.along (entries_of piece)
 
 pub len_turned : (piece : PieceValue) → len_of (turned_piece piece) ≡ len_of piece
 len_turned piece = ap (λ (es : List Entry). length es) (travelled_turned piece)
-    ∙ length-reverse (travelled piece)
+    ∙ length-reverse (travelled_entries piece)
 
 pub fields_turned : (piece : PieceValue)
     → fields_of (turned_piece piece) ≡ reverse (fields_of piece)
 unfolding fields_of
 fields_turned piece = ap (λ (es : List Entry). map field_of es) (travelled_turned piece)
-    ∙ map_back field_of (travelled piece)
+    ∙ map_back field_of (travelled_entries piece)
 
 -- ---- the ASes where it begins and ends
 
@@ -70,12 +70,12 @@ as_last entries = sym (as_first (reverse entries))
 pub begins_turned : (piece : PieceValue) → begins_in (turned_piece piece) ≡ ends_in piece
 unfolding begins_in ends_in
 begins_turned piece = ap (λ (es : List Entry). as_at es 0) (travelled_turned piece)
-    ∙ as_first (travelled piece)
+    ∙ as_first (travelled_entries piece)
 
 pub ends_turned : (piece : PieceValue) → ends_in (turned_piece piece) ≡ begins_in piece
 unfolding begins_in ends_in
 ends_turned piece = ap (λ (es : List Entry). as_at es (length es - 1)) (travelled_turned piece)
-    ∙ as_last (travelled piece)
+    ∙ as_last (travelled_entries piece)
 
 -- ---- its hops
 
@@ -96,5 +96,5 @@ pub hops_turned : (piece : PieceValue) → hops_of (turned_piece piece) ≡ turn
 unfolding hops_of
 hops_turned piece =
     ap (λ (es : List Entry). map (hop_of (not piece.along)) es) (travelled_turned piece)
-    ∙ map_back (hop_of (not piece.along)) (travelled piece)
-    ∙ ap (λ (hs : List WalkHop). reverse hs) (hops_turned_all piece.along (travelled piece))
+    ∙ map_back (hop_of (not piece.along)) (travelled_entries piece)
+    ∙ ap (λ (hs : List WalkHop). reverse hs) (hops_turned_all piece.along (travelled_entries piece))

@@ -7,8 +7,8 @@ use Rattle.std.proofs.lemmas.Option.{slice_get-map, slice_get-get_or, slice_get_
 use Rattle.path_segment.specs.declared.entry.Entry.{Entry}
 use Rattle.policy_expr.specs.declared.hop.WalkHop.{WalkHop}
 use Rattle.path_segment.specs.Chain.{as_at}
-use Rattle.path_verifier.specs.Piece.{PieceValue, travelled, begins_in, ends_in}
-use Rattle.path_verifier.specs.Walk.{hop_of, hops_of, left_by, entered_by, met, walk_with, walk_of}
+use Rattle.path_verifier.specs.Piece.{PieceValue, travelled_entries, begins_in, ends_in}
+use Rattle.path_verifier.specs.Walk.{hop_of, hops_of, left_by, entered_by, with_meeting_hop, walk_with, walk_of}
 use Rattle.path_verifier.specs.Accepted.{DoMeet, NamesOnce}
 use Rattle.path_verifier.proofs.Hops.{length_hops_of, length_left_by}
 use Rattle.path_verifier.specs.Turned.{turned_piece, turned_pieces, turned_hop, turned_walk}
@@ -83,7 +83,7 @@ joined_none [] = refl
 joined_none (hop ∷ later) = refl
 
 met_some : (walk : List WalkHop) (hop : WalkHop) → 0 < length walk
-    → met walk hop ≡ left_by hop.egress walk
+    → with_meeting_hop walk hop ≡ left_by hop.egress walk
 met_some [] hop some = absurd (omega arith)
 met_some (first ∷ rest) hop some = refl
 
@@ -170,8 +170,8 @@ joined_assoc a (y ∷ []) (z ∷ c) some_a some_b =
     ap (λ (hs : List WalkHop). hs ++ c) (met_some a (record y { egress = z.egress }) some_a)
     ∙ ap (λ (hs : List WalkHop). hs ++ c) (sym (left_twice y.egress z.egress a))
     ∙ ap (λ (hs : List WalkHop). hs ++ c) (sym (met_some (left_by y.egress a) z still))
-    ∙ ap (λ (hs : List WalkHop). met hs z ++ c) (sym none)
-    ∙ ap (λ (hs : List WalkHop). met (hs ++ []) z ++ c) (sym (met_some a y some_a))
+    ∙ ap (λ (hs : List WalkHop). with_meeting_hop hs z ++ c) (sym none)
+    ∙ ap (λ (hs : List WalkHop). with_meeting_hop (hs ++ []) z ++ c) (sym (met_some a y some_a))
 joined_assoc a (y ∷ w ∷ b) (z ∷ c) some_a some_b =
     let count = length_left_by y.egress a in
     let front = left_by y.egress a in
@@ -181,13 +181,13 @@ joined_assoc a (y ∷ w ∷ b) (z ∷ c) some_a some_b =
     ∙ sym (append_assoc front (left_by z.egress (w ∷ b)) c)
     ∙ ap (λ (hs : List WalkHop). hs ++ c) (sym (left_append z.egress front w b))
     ∙ ap (λ (hs : List WalkHop). hs ++ c) (sym (met_some (front ++ w ∷ b) z still))
-    ∙ ap (λ (hs : List WalkHop). met (hs ++ w ∷ b) z ++ c) (sym (met_some a y some_a))
+    ∙ ap (λ (hs : List WalkHop). with_meeting_hop (hs ++ w ∷ b) z ++ c) (sym (met_some a y some_a))
 
 -- ---- the walk
 
 first_hops : (piece : PieceValue) → first_as (hops_of piece) ≡ begins_in piece
 unfolding hops_of begins_in hop_of
-first_hops piece = go (travelled piece)
+first_hops piece = go (travelled_entries piece)
   where
     go : (entries : List Entry) → first_as (map (hop_of piece.along) entries) ≡ as_at entries 0
     go [] = refl

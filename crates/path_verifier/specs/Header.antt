@@ -7,7 +7,7 @@ use Rattle.path_header.specs.declared.fields.InfoField.{InfoField}
 use Rattle.path_header.specs.declared.fields.HopField.{HopField}
 use Rattle.path_header.specs.Value.{HeaderValue, lens_from}
 use Rattle.path_header.specs.Building.{first_header}
-use Rattle.path_verifier.specs.Piece.{PieceValue, travelled, first_place}
+use Rattle.path_verifier.specs.Piece.{PieceValue, travelled_entries, first_place}
 
 -- the hop field of an entry
 abbrev pub field_of : Entry → HopField
@@ -30,11 +30,11 @@ info_of piece = info_with piece (beta_of piece.segment (first_place piece))
 
 -- the hop fields of a piece, in order of travel
 unfoldable pub fields_of : PieceValue → List HopField
-fields_of piece = map field_of (travelled piece)
+fields_of piece = map field_of (travelled_entries piece)
 
 -- the number of hop fields of a piece
 abbrev pub len_of : PieceValue → ℕ
-len_of piece = length (travelled piece)
+len_of piece = length (travelled_entries piece)
 
 -- the number of hop fields of all pieces together
 abbrev pub total_hops : List PieceValue → ℕ

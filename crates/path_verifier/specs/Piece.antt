@@ -40,8 +40,8 @@ in_order true entries = entries
 in_order false entries = reverse entries
 
 -- the entries in order of travel
-abbrev pub travelled : PieceValue → List Entry
-travelled piece = in_order piece.along (entries_of piece)
+abbrev pub travelled_entries : PieceValue → List Entry
+travelled_entries piece = in_order piece.along (entries_of piece)
 
 -- the place in the segment of the first entry travelled
 abbrev pub first_place : PieceValue → ℕ
@@ -49,8 +49,8 @@ first_place piece = if piece.along then piece.from else piece.to
 
 -- the AS in which a piece begins, in order of travel
 unfoldable pub begins_in : PieceValue → ℕ
-begins_in piece = as_at (travelled piece) 0
+begins_in piece = as_at (travelled_entries piece) 0
 
 -- the AS in which a piece ends, in order of travel
 unfoldable pub ends_in : PieceValue → ℕ
-ends_in piece = as_at (travelled piece) (length (travelled piece) - 1)
+ends_in piece = as_at (travelled_entries piece) (length (travelled_entries piece) - 1)

@@ -5,7 +5,7 @@ use Rattle.std.specs.Prelude.{ℕ, Bool, if◌then◌else◌, List, [], ◌∷�
 use Rattle.std.specs.List.{fold}
 use Rattle.path_segment.specs.declared.entry.Entry.{Entry}
 use Rattle.policy_expr.specs.declared.hop.WalkHop.{WalkHop}
-use Rattle.path_verifier.specs.Piece.{PieceValue, travelled}
+use Rattle.path_verifier.specs.Piece.{PieceValue, travelled_entries}
 
 -- the hop of an entry: in construction direction it is entered by ConsIngress and left by
 -- ConsEgress, against it the other way round
@@ -17,7 +17,7 @@ hop_of along entry =
 
 -- the hops of a piece, in order of travel
 unfoldable pub hops_of : PieceValue → List WalkHop
-hops_of piece = map (hop_of piece.along) (travelled piece)
+hops_of piece = map (hop_of piece.along) (travelled_entries piece)
 
 -- these hops, with the first entered by this interface
 abbrev pub entered_by : ℕ → List WalkHop → List WalkHop
@@ -31,15 +31,15 @@ left_by way (hop ∷ []) = record hop { egress = way } ∷ []
 left_by way (hop ∷ next ∷ later) = hop ∷ left_by way (next ∷ later)
 
 -- a walk that continues in its last AS: the way out of `hop` becomes the walk's last way out
-abbrev pub met : List WalkHop → WalkHop → List WalkHop
-met [] hop = hop ∷ []
-met (first ∷ later) hop = left_by hop.egress (first ∷ later)
+abbrev pub with_meeting_hop : List WalkHop → WalkHop → List WalkHop
+with_meeting_hop [] hop = hop ∷ []
+with_meeting_hop (first ∷ later) hop = left_by hop.egress (first ∷ later)
 
 -- a walk that continues with these hops: the AS in which they meet becomes one hop, with the way in
 -- of the walk and the way out of the first hop
 abbrev pub walk_with : (walk later : List WalkHop) → List WalkHop
 walk_with walk [] = walk
-walk_with walk (hop ∷ later) = met walk hop ++ later
+walk_with walk (hop ∷ later) = with_meeting_hop walk hop ++ later
 
 -- the hops of all pieces, joined where the pieces meet
 abbrev pub joined_hops : List PieceValue → List WalkHop

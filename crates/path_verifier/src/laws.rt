@@ -6,7 +6,7 @@ ghost use Rattle.path_header.specs.Value.{HeaderValue, IsHeader};
 ghost use Rattle.policy_expr.specs.Policy.{Rules};
 ghost use Rattle.path_verifier.specs.declared.fault.VerifyFault.{VerifyFault};
 ghost use Rattle.path_verifier.specs.declared.fault.VerifyFault.TheVariants.{Expired};
-ghost use Rattle.path_verifier.specs.Piece.{PieceValue, HasRange, kind_of, travelled};
+ghost use Rattle.path_verifier.specs.Piece.{PieceValue, HasRange, kind_of, travelled_entries};
 ghost use Rattle.path_verifier.specs.Header.{field_of, fields_of, len_of, header_of, total_hops};
 ghost use Rattle.path_verifier.specs.Walk.{hop_of, hops_of, walk_of};
 ghost use Rattle.path_verifier.specs.Accepted.{AreLive, IsAccepted, IsExpiry, MakesPath, MayAdjoin, Request, request_of, IsRefused, Keeps};
@@ -65,14 +65,14 @@ pub fn headers_are_of_the_grammar()
 /// included; each is that of its entry.
 pub fn pieces_go_by_entries()
     ensures entries { (piece : PieceValue) → HasRange piece
-        → length (travelled piece) ≡ piece.to + 1 - piece.from }
+        → length (travelled_entries piece) ≡ piece.to + 1 - piece.from }
     ensures hops { (piece : PieceValue) → length (hops_of piece) ≡ len_of piece }
     ensures fields { (piece : PieceValue) → length (fields_of piece) ≡ len_of piece }
     ensures hop { (piece : PieceValue) (i : ℕ) (entry : Entry)
-        → slice_get (travelled piece) i ≡ Some entry
+        → slice_get (travelled_entries piece) i ≡ Some entry
         → slice_get (hops_of piece) i ≡ Some (hop_of piece.along entry) }
     ensures field { (piece : PieceValue) (i : ℕ) (entry : Entry)
-        → slice_get (travelled piece) i ≡ Some entry
+        → slice_get (travelled_entries piece) i ≡ Some entry
         → slice_get (fields_of piece) i ≡ Some (field_of entry) }
 {}
 
@@ -93,8 +93,8 @@ pub fn paths_turn_back()
         → IsRefused (request_of pieces header src dst moment rules) Expired }
 
     // The entries of a piece, and its hop fields, are in reverse order on the way back.
-    ensures entries { (piece : PieceValue) → travelled (turned_piece piece)
-        ≡ reverse (travelled piece) }
+    ensures entries { (piece : PieceValue) → travelled_entries (turned_piece piece)
+        ≡ reverse (travelled_entries piece) }
     ensures fields { (piece : PieceValue) → fields_of (turned_piece piece)
         ≡ reverse (fields_of piece) }
 {}

@@ -1,7 +1,7 @@
 ghost use Rattle.std.specs.Prelude.{◌≡◌, ◌↔◌, ◌+◌, ◌-◌, ◌<◌, ◌≤◌, All, length, slice_get, Some, IsTrue};
 ghost use Rattle.hop_mac.specs.Lifetime.{IsLive};
 ghost use Rattle.path_segment.specs.Chain.{between, IsLeastExpiry};
-ghost use Rattle.path_verifier.specs.Piece.{HasRange, kind_of, entries_of, travelled, first_place, begins_in, ends_in};
+ghost use Rattle.path_verifier.specs.Piece.{HasRange, kind_of, entries_of, travelled_entries, first_place, begins_in, ends_in};
 ghost use Rattle.path_verifier.specs.Accepted.{IsCore};
 ghost use Rattle.path_verifier.specs.Turned.{turned_piece};
 
@@ -156,7 +156,7 @@ impl<'s> Piece<'s> {
     #[tactic(auto, using(crate::proofs::Entries::length_travelled))]
     pub fn len(&self) -> usize
         requires { HasRange self.now }
-        ensures value { result ≡ length (travelled self.now) }
+        ensures value { result ≡ length (travelled_entries self.now) }
         ensures few { result ≤ 63 }
     {
         let segment = self.segment;
@@ -167,8 +167,8 @@ impl<'s> Piece<'s> {
     /// The entry at this place in order of travel, from 0.
     pub fn entry(&self, place: usize) -> &'s Entry
         requires range { HasRange self.now }
-        requires within { place < length (travelled self.now) }
-        ensures { slice_get (travelled self.now) place ≡ Some result.now }
+        requires within { place < length (travelled_entries self.now) }
+        ensures { slice_get (travelled_entries self.now) place ≡ Some result.now }
     {
         let segment = self.segment;
         let at = if self.along {

@@ -2,7 +2,7 @@ ghost use Rattle.std.specs.Prelude.{◌≡◌, ◌↔◌, ◌+◌, ◌<◌, ◌�
 ghost use Rattle.std.specs.List.{AllByRecursion};
 ghost use Rattle.path_verifier.specs.PieceSlots.{pieces_in};
 ghost use Rattle.path_verifier.specs.Piece.{HasRange};
-ghost use Rattle.path_verifier.specs.Walk.{hop_of, hops_of, entered_by, left_by, met, walk_with, walk_of};
+ghost use Rattle.path_verifier.specs.Walk.{hop_of, hops_of, entered_by, left_by, with_meeting_hop, walk_with, walk_of};
 ghost use Rattle.path_verifier.specs.Header.{len_of, total_hops};
 ghost use Rattle.path_verifier.specs.Accepted.{NamesOnce};
 
@@ -140,7 +140,7 @@ impl Walk {
     /// Continues in the last AS: the way out of this hop becomes the last way out.
     fn meet(&mut self, hop: WalkHop)
         requires { length self.old < 64 }
-        ensures walk { self.new ≡ met self.old hop }
+        ensures walk { self.new ≡ with_meeting_hop self.old hop }
         ensures few { length self.new ≤ length self.old + 1 }
     {
         if self.len() == 0 {

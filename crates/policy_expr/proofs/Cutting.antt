@@ -8,7 +8,7 @@ use Rattle.std.specs.Str.{IsAscii}
 use Rattle.std.specs.List.{prefix_len}
 use Rattle.policy_expr.specs.declared.token.Token.{Token}
 use Rattle.policy_expr.specs.Predicate.{predicate_at}
-use Rattle.policy_expr.specs.Tokens.{is_mark, lengthened, token_texts, read_token, sign_token, token_of, tokens}
+use Rattle.policy_expr.specs.Tokens.{is_mark, with_byte_before, token_texts, read_token, sign_token, token_of, tokens}
 use Rattle.separators.specs.Blanks.{is_blank, after_blanks}
 
 -- a mark is below 128, and no blank
@@ -57,7 +57,7 @@ behind_more text rest behind b same begins mark =
 -- not
 abbrev with_byte : ℕ → Bool → List (List ℕ) → List (List ℕ)
 with_byte b mark_follows later =
-    if is_blank b then later else if is_mark b && mark_follows then lengthened b later else (b ∷ []) ∷ later
+    if is_blank b then later else if is_mark b && mark_follows then with_byte_before b later else (b ∷ []) ∷ later
 
 -- the marks at the front of a text
 abbrev pub marks_of : List ℕ → List ℕ

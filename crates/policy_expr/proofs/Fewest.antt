@@ -4,7 +4,7 @@ use Rattle.std.proofs.lemmas.Bool.{le-ltb}
 use Rattle.policy_expr.specs.declared.token.Token.{Token}
 use Rattle.policy_expr.specs.declared.token.Token.TheVariants as signs
 use Rattle.policy_expr.specs.Grammar.{Part, following, alternatives, item, SpellsPart, SpellsSequence, predicate, in_parentheses, with_optional, with_repeated, with_once_or_more, one_alternative, one_more, one_part, behind}
-use Rattle.policy_expr.specs.Printing.{IsSequence, opened, printed}
+use Rattle.policy_expr.specs.Printing.{IsSequence, open_count, sequence_text}
 use Rattle.policy_expr.specs.Tokens.{tokens}
 use Rattle.policy_expr.specs.Language.{Tree, hop, followed, either, optional, repeated, once_or_more}
 use Rattle.policy_expr.proofs.Readable.{strength}
@@ -29,9 +29,9 @@ tightness item = 2
 
 -- what the printed text of the tree opens where it is such a part
 abbrev cost : Part → Tree → ℕ
-cost part t = opened (tokens_of t) + pairs (nat_lt (strength t) (tightness part))
+cost part t = open_count (tokens_of t) + pairs (nat_lt (strength t) (tightness part))
 
-opened_append : (ts us : List Token) → opened (ts ++ us) ≡ opened ts + opened us
+opened_append : (ts us : List Token) → open_count (ts ++ us) ≡ open_count ts + open_count us
 opened_append [] us = omega arith
 opened_append (signs.Open ∷ ts) us = let e = opened_append ts us in omega (arith, e)
 opened_append (signs.Hop pred ∷ ts) us = opened_append ts us
@@ -42,12 +42,12 @@ opened_append (signs.Or ∷ ts) us = opened_append ts us
 opened_append (signs.Close ∷ ts) us = opened_append ts us
 opened_append (signs.Other ∷ ts) us = opened_append ts us
 
-opened_closed_in : (wanted : Bool) (ts : List Token) → opened (closed_in wanted ts) ≡ opened ts + pairs wanted
+opened_closed_in : (wanted : Bool) (ts : List Token) → open_count (closed_in wanted ts) ≡ open_count ts + pairs wanted
 opened_closed_in false ts = omega arith
 opened_closed_in true ts = let e = opened_append ts (signs.Close ∷ []) in omega (arith, e)
 
 -- a postfix sign behind tokens opens nothing
-opened_behind : (wanted : Bool) (ts : List Token) (sign : Token) → opened (sign ∷ []) ≡ 0 → opened (closed_in wanted ts ++ sign ∷ []) ≡ opened ts + pairs wanted
+opened_behind : (wanted : Bool) (ts : List Token) (sign : Token) → open_count (sign ∷ []) ≡ 0 → open_count (closed_in wanted ts ++ sign ∷ []) ≡ open_count ts + pairs wanted
 opened_behind wanted ts sign none =
     let e = opened_append (closed_in wanted ts) (sign ∷ []) in
     let f = opened_closed_in wanted ts in
@@ -63,7 +63,7 @@ pairs_fewer (repeated a) = omega arith
 pairs_fewer (once_or_more a) = omega arith
 
 -- whatever spells the tree as such a part opens at least as many
-costs : (depth : ℕ) (part : Part) (ts : List Token) (t : Tree) → SpellsPart depth part ts t → cost part t ≤ opened ts
+costs : (depth : ℕ) (part : Part) (ts : List Token) (t : Tree) → SpellsPart depth part ts t → cost part t ≤ open_count ts
 costs _ _ _ _ (predicate depth p) = omega arith
 costs _ _ _ _ (in_parentheses depth us t spells) =
     let e = costs depth following us t spells in
@@ -109,9 +109,9 @@ costs _ _ _ _ (behind depth front back a b first second) =
     let i = opened_closed_in (nat_lt (strength b) 1) (tokens_of b) in
     omega (arith, e, f, g, h, i)
 
-pub fewest : (tree : Tree) (text : List ℕ) → IsSequence tree → SpellsSequence text tree → opened (tokens (printed tree)) ≤ opened (tokens text)
+pub fewest : (tree : Tree) (text : List ℕ) → IsSequence tree → SpellsSequence text tree → open_count (tokens (sequence_text tree)) ≤ open_count (tokens text)
 fewest tree text is spells =
-    let readable = read_is_sequence (printed tree) tree (sequence_again tree is) in
-    let e = ap opened (printed_tokens tree readable.predicates) in
+    let readable = read_is_sequence (sequence_text tree) tree (sequence_again tree is) in
+    let e = ap open_count (printed_tokens tree readable.predicates) in
     let f = costs 32 following (tokens text) tree spells in
     omega (arith, e, f)

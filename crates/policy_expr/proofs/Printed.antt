@@ -9,7 +9,7 @@ use Rattle.policy_expr.specs.declared.token.Token.TheVariants as signs
 use Rattle.policy_expr.specs.Predicate.{predicate_at}
 use Rattle.policy_expr.specs.Tokens.{is_mark, begins_with_mark, token_texts, token_of, read_token, tokens}
 use Rattle.policy_expr.specs.Language.{Tree, hop, followed, either, optional, repeated, once_or_more}
-use Rattle.policy_expr.specs.Printing.{in_parentheses, predicate_text, printed, printed_as}
+use Rattle.policy_expr.specs.Printing.{in_parentheses, predicate_text, sequence_text, printed_as}
 use Rattle.policy_expr.proofs.Readable.{ArePredicates, IsReadable, strength}
 use Rattle.policy_expr.proofs.Cutting.{after_marks, marks_of, texts_of_run}
 use Rattle.policy_expr.specs.Reading.{new_level, tree_at, sequence_at, node_count}
@@ -120,15 +120,15 @@ prints (repeated a) least fits are = prints_signed a 42 signs.Repeated least ref
 prints (once_or_more a) least fits are = prints_signed a 43 signs.OnceOrMore least refl (λ rest. (sign_first rest).5) fits (prints a 2 (omega arith) are)
 
 -- the tokens of a printed tree
-pub printed_tokens : (t : Tree) → ArePredicates t → tokens (printed t) ≡ tokens_of t
+pub printed_tokens : (t : Tree) → ArePredicates t → tokens (sequence_text t) ≡ tokens_of t
 unfolding token_texts
 printed_tokens t are =
-    let prints_t = subst (Prints (printed t)) (never_closed t (tokens_of t)) (prints t 0 (omega arith) are) in
-    ap tokens (sym (append-nil (printed t))) ∙ prints_t [] refl ∙ append-nil (tokens_of t)
+    let prints_t = subst (Prints (sequence_text t)) (never_closed t (tokens_of t)) (prints t 0 (omega arith) are) in
+    ap tokens (sym (append-nil (sequence_text t))) ∙ prints_t [] refl ∙ append-nil (tokens_of t)
 
 -- what is printed of a sequence is read as it
-pub printed_again : (t : Tree) → IsReadable t → sequence_at (printed t) ≡ Ok t
+pub printed_again : (t : Tree) → IsReadable t → sequence_at (sequence_text t) ≡ Ok t
 printed_again t is =
-    let whole : tree_at (printed t) ≡ Ok t = sym (tree_is_read (printed t)) ∙ ap (read_on (wants [] new_level)) (printed_tokens t is.predicates) ∙ tokens_read t is.shallow in
+    let whole : tree_at (sequence_text t) ≡ Ok t = sym (tree_is_read (sequence_text t)) ∙ ap (read_on (wants [] new_level)) (printed_tokens t is.predicates) ∙ tokens_read t is.shallow in
     let small : nat_lt 256 (node_count t) ≡ false = le-ltb 256 (node_count t) is.small in
     rw (whole, small) refl

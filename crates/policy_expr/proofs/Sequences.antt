@@ -2,7 +2,7 @@
 use Rattle.std.proofs.Common.{◌≡◌, ◌∙◌, ℕ, true, false, List, Result, Ok, Err, IsOk, refl, ap}
 use Rattle.policy_expr.specs.declared.fault.PolicyFault.{PolicyFault}
 use Rattle.policy_expr.specs.Language.{Tree}
-use Rattle.policy_expr.specs.Printing.{printed, IsSequence}
+use Rattle.policy_expr.specs.Printing.{sequence_text, IsSequence}
 use Rattle.policy_expr.specs.Reading.{tree_at, sequence_at}
 use Rattle.policy_expr.proofs.Readable.{IsReadable}
 use Rattle.policy_expr.proofs.Printed.{printed_again}
@@ -12,12 +12,12 @@ use Rattle.policy_expr.proofs.Found.{within, sequence_is_spelled, spelled_is_seq
 readable_is_sequence : (tree : Tree) → IsReadable tree → IsSequence tree
 readable_is_sequence tree readable = record {
   small = readable.small;
-  spelled = (sequence_is_spelled (printed tree) tree (printed_again tree readable)).0;
+  spelled = (sequence_is_spelled (sequence_text tree) tree (printed_again tree readable)).0;
 }
 
 -- what is printed of a sequence is read as it again
-pub sequence_again : (tree : Tree) → IsSequence tree → sequence_at (printed tree) ≡ Ok tree
-sequence_again tree sequence = spelled_is_sequence (printed tree) tree sequence.spelled sequence.small
+pub sequence_again : (tree : Tree) → IsSequence tree → sequence_at (sequence_text tree) ≡ Ok tree
+sequence_again tree sequence = spelled_is_sequence (sequence_text tree) tree sequence.spelled sequence.small
 
 -- what is read of a text is a sequence
 pub read_sequence : (text : List ℕ) (tree : Tree) → sequence_at text ≡ Ok tree → IsSequence tree

@@ -6,7 +6,7 @@ use Rattle.std.proofs.lemmas.Bool.{cases_Bool, eqb-true}
 use Rattle.std.proofs.lemmas.List.{append-nil, reverse-append, reverse-reverse, length-reverse}
 use Rattle.std.proofs.lemmas.List.Elements.{All-nil, All-cons, All-head, All-tail, All-same, All-append, All-push, All-from_recursion}
 use Rattle.isd_as.specs.Address.{dash}
-use Rattle.separators.specs.Blanks.{is_blank, after_blanks, trimmed}
+use Rattle.separators.specs.Blanks.{is_blank, after_blanks, trimmed_text}
 use Rattle.refusal.specs.Refusal.{◌>>=◌, each, unless}
 use Rattle.refusal.proofs.Steps.{bind_ok, ok_is, unless_ok}
 use Rattle.policy_expr.specs.declared.hop.HopPred.{HopPred}
@@ -70,7 +70,7 @@ record Ended (text : List ℕ) : Type 0 where
   behind : List ℕ
   blank_before : AreBlank before
   blank_behind : AreBlank behind
-  parts : text ≡ before ++ (trimmed text ++ behind)
+  parts : text ≡ before ++ (trimmed_text text ++ behind)
 
 ended : (text : List ℕ) → Ended text
 ended text =
@@ -88,7 +88,7 @@ ended text =
 
 -- a text that neither begins nor ends with a blank is what trimming leaves of it with blanks round it
 trimmed_is : (before behind more : List ℕ) (c : ℕ) → AreBlank before → AreBlank behind → is_blank c ≡ false
-    → after_blanks (reverse (c ∷ more)) ≡ reverse (c ∷ more) → trimmed (before ++ (c ∷ (more ++ behind))) ≡ c ∷ more
+    → after_blanks (reverse (c ∷ more)) ≡ reverse (c ∷ more) → trimmed_text (before ++ (c ∷ (more ++ behind))) ≡ c ∷ more
 trimmed_is before behind more c blank_before blank_behind first last =
     ap (λ (t : List ℕ). reverse (after_blanks (reverse t)))
     (behind_blanks before (c ∷ (more ++ behind)) blank_before ∙ none_in_front c (more ++ behind) first)
@@ -134,7 +134,7 @@ unfolding entry_at
 entry_spelled text entry read =
     let ends = ended text in
     subst (λ (t : List ℕ). SpellsEntry t entry) (sym ends.parts)
-    (core_spelled ends.before (trimmed text) ends.behind entry ends.blank_before ends.blank_behind read)
+    (core_spelled ends.before (trimmed_text text) ends.behind entry ends.blank_before ends.blank_behind read)
 
 -- ---- what is spelled is read
 
@@ -176,7 +176,7 @@ read_predicate allows (b ∷ more) pred s some = rw (predicate_read (b ∷ more)
 
 read_signed : (allows : Bool) (before between text behind : List ℕ) (pred : HopPred) → AreBlank before → AreBlank between → AreBlank behind
     → SpellsPredicate text pred → All IsMark text → 0 < length text
-    → trimmed_at (trimmed (before ++ (sign_of allows ∷ (between ++ (text ++ behind))))) ≡ Ok (signed_entry allows pred)
+    → trimmed_at (trimmed_text (before ++ (sign_of allows ∷ (between ++ (text ++ behind))))) ≡ Ok (signed_entry allows pred)
 read_signed allows before between text behind pred blank_before blank_between blank_behind s marks some =
     let sign = sign_of allows in
     let turned_marks = all_turned IsMark text marks in
@@ -185,7 +185,7 @@ read_signed allows before between text behind pred blank_before blank_between bl
     subst (λ (t : List ℕ). after_blanks t ≡ t) (sym (reverse-append (sign ∷ between) text))
     (marks_in_front (reverse text) (reverse (sign ∷ between)) turned_marks turned_some) in
     let alone : after_blanks text ≡ text = subst (λ (t : List ℕ). after_blanks t ≡ t) (append-nil text) (marks_in_front text [] marks some) in
-    ap (λ (t : List ℕ). trimmed_at (trimmed (before ++ (sign ∷ t)))) (sym (append_assoc between text behind))
+    ap (λ (t : List ℕ). trimmed_at (trimmed_text (before ++ (sign ∷ t)))) (sym (append_assoc between text behind))
     ∙ ap trimmed_at (trimmed_is before behind (between ++ text) sign blank_before blank_behind (sign_is_no_blank allows) last)
     ∙ read_behind_sign allows (between ++ text)
     ∙ ap (signed_at allows) (behind_blanks between text blank_between ∙ alone)

@@ -12,7 +12,7 @@ use Rattle.policy_expr.specs.declared.acl.Denied.{Denied}
 use Rattle.policy_expr.specs.Hop.{Matches}
 use Rattle.refusal.specs.Refusal.{◌>>=◌, each, unless}
 use Rattle.policy_expr.specs.Predicate.{predicate_at}
-use Rattle.separators.specs.Blanks.{after_blanks, trimmed}
+use Rattle.separators.specs.Blanks.{after_blanks, trimmed_text}
 
 -- the entry matches the hop; an entry without a predicate matches every hop
 abbrev pub MatchesBy : Option HopPred → WalkHop → Type 0
@@ -73,7 +73,7 @@ trimmed_at (sign ∷ rest) = if sign == 43 then signed_at true (after_blanks res
 
 -- the entry of a text: '+' or '-', and then a predicate or nothing; blanks around both are ignored
 unfoldable pub entry_at : List ℕ → Result AclEntry PolicyFault
-entry_at text = trimmed_at (trimmed text)
+entry_at text = trimmed_at (trimmed_text text)
 
 -- an entry without a predicate
 abbrev pub is_bare : AclEntry → Bool

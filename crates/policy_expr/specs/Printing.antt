@@ -42,14 +42,14 @@ printed_as least (repeated a) = printed_as 2 a ++ codes "*"
 printed_as least (once_or_more a) = printed_as 2 a ++ codes "+"
 
 -- the text of a whole sequence
-abbrev pub printed : Tree → List ℕ
-printed tree = printed_as 0 tree
+abbrev pub sequence_text : Tree → List ℕ
+sequence_text tree = printed_as 0 tree
 
 -- the number of opening parentheses among these tokens
-abbrev pub opened : List Token → ℕ
-opened [] = 0
-opened (signs.Open ∷ tokens) = opened tokens + 1
-opened (token ∷ tokens) = opened tokens
+abbrev pub open_count : List Token → ℕ
+open_count [] = 0
+open_count (signs.Open ∷ tokens) = open_count tokens + 1
+open_count (token ∷ tokens) = open_count tokens
 
 -- interfaces as reading gives them: numbers of 16 bits, not all of them 0
 abbrev pub AreInterfaces : Interfaces → Type 0
@@ -65,4 +65,4 @@ IsPredicate pred = (pred.ia < 2 ^ 64) × AreInterfaces pred.interfaces
 -- text gives it back
 pub record IsSequence (tree : Tree) : Type 0 where
   pub small : node_count tree ≤ 256
-  pub spelled : SpellsSequence (printed tree) tree
+  pub spelled : SpellsSequence (sequence_text tree) tree

@@ -19,16 +19,16 @@ begins_with_mark [] = false
 begins_with_mark (b ∷ rest) = is_mark b
 
 -- these texts, with the byte put in front of the first
-abbrev pub lengthened : ℕ → List (List ℕ) → List (List ℕ)
-lengthened b [] = (b ∷ []) ∷ []
-lengthened b (first ∷ later) = (b ∷ first) ∷ later
+abbrev pub with_byte_before : ℕ → List (List ℕ) → List (List ℕ)
+with_byte_before b [] = (b ∷ []) ∷ []
+with_byte_before b (first ∷ later) = (b ∷ first) ∷ later
 
 -- the texts of the tokens: the longest runs of characters of predicates, and every other byte that
 -- is no blank
 unfoldable pub token_texts : List ℕ → List (List ℕ)
 token_texts [] = []
 token_texts (b ∷ rest) = if is_blank b then token_texts rest
-    else if is_mark b && begins_with_mark rest then lengthened b (token_texts rest)
+    else if is_mark b && begins_with_mark rest then with_byte_before b (token_texts rest)
     else (b ∷ []) ∷ token_texts rest
 
 -- the token of a text that was read as a predicate: the predicate, or `Other` if it is none

@@ -10,7 +10,7 @@ ghost use Rattle.policy_expr.specs.Predicate.{predicate_at};
 ghost use Rattle.policy_expr.specs.Language.{Tree};
 ghost use Rattle.policy_expr.specs.Grammar.{SpellsSequence};
 ghost use Rattle.policy_expr.specs.Reading.{node_count, sequence_at};
-ghost use Rattle.policy_expr.specs.Printing.{IsPredicate, IsSequence, opened, predicate_text, printed};
+ghost use Rattle.policy_expr.specs.Printing.{IsPredicate, IsSequence, open_count, predicate_text, sequence_text};
 ghost use Rattle.policy_expr.specs.Tokens.{tokens};
 
 /// Reading accepts exactly the texts that the grammar spells with at most 256 nodes, and gives the
@@ -22,7 +22,8 @@ pub fn reading_is_the_grammar()
 
 /// Reading the printed text of a sequence or of a predicate gives it back.
 pub fn printed_is_read()
-    ensures sequence { (tree : Tree) → IsSequence tree → sequence_at (printed tree) ≡ Ok tree }
+    ensures sequence { (tree : Tree) → IsSequence tree
+        → sequence_at (sequence_text tree) ≡ Ok tree }
     ensures predicate { (pred : HopPred) → IsPredicate pred → predicate_at (predicate_text pred)
         ≡ Ok pred }
 {}
@@ -30,7 +31,7 @@ pub fn printed_is_read()
 /// No text that spells a sequence has fewer parentheses than its printed text.
 pub fn printed_has_fewest_parentheses()
     ensures { (tree : Tree) (text : List ℕ) → IsSequence tree → SpellsSequence text tree
-        → opened (tokens (printed tree)) ≤ opened (tokens text) }
+        → open_count (tokens (sequence_text tree)) ≤ open_count (tokens text) }
 {}
 
 /// Whatever is read from a text keeps the rules of a sequence or of a predicate.

@@ -1,6 +1,6 @@
 ghost use Rattle.std.specs.Prelude.{◌≡◌, ◌++◌, OnOk, Some};
 ghost use Rattle.std.specs.String.{string_bytes};
-ghost use Rattle.policy_expr.specs.Printing.{interfaces_text, predicate_text, printed, printed_as};
+ghost use Rattle.policy_expr.specs.Printing.{interfaces_text, predicate_text, sequence_text, printed_as};
 ghost use Rattle.policy_expr.specs.Language.{tree_of};
 
 use crate::hop::{HopPred, Interfaces};
@@ -44,7 +44,7 @@ impl<A: Allocator> SeqNode<A> {
     #[cycle(printing)]
     pub(crate) fn print_to<B: Allocator>(&self, out: &mut String<B>) -> Result<(), AllocError>
         ensures { OnOk result
-            (string_bytes out.new ≡ string_bytes out.old ++ printed (tree_of self.now)) }
+            (string_bytes out.new ≡ string_bytes out.old ++ sequence_text (tree_of self.now)) }
     {
         match self {
             SeqNode::Hop(pred) => write!(out, "{pred}"),

@@ -2,7 +2,7 @@ ghost use Rattle.std.specs.Prelude.{◌≡◌, ◌↔◌, ◌≤◌, ℕ, List, 
 ghost use Rattle.std.specs.String.{string_bytes};
 ghost use Rattle.refusal.specs.Refusal.{Answers};
 ghost use Rattle.policy_expr.specs.Language.{Lang, Tree, tree_of};
-ghost use Rattle.policy_expr.specs.Printing.{IsSequence, printed};
+ghost use Rattle.policy_expr.specs.Printing.{IsSequence, sequence_text};
 ghost use Rattle.policy_expr.specs.Grammar.{SpellsSequence};
 ghost use Rattle.policy_expr.specs.Reading.{node_count, sequence_at, IsTextRefusal};
 ghost use Rattle.policy_expr.specs.Tokens.{tokens};
@@ -108,7 +108,7 @@ impl<A: Allocator + Clone> Seq<A> {
     /// back.
     pub fn known(&self)
         ensures kept { IsSequence self.now }
-        ensures again { sequence_at (printed self.now) ≡ Ok self.now }
+        ensures again { sequence_at (sequence_text self.now) ≡ Ok self.now }
     {
         let _ = &self.root;
     }
@@ -124,7 +124,7 @@ impl<A: Allocator + Clone> Seq<A> {
     /// and no space around `|`. Addresses are in their canonical text; the ISD stands alone if the
     /// AS and the interfaces are wildcards. [`AllocError`] if memory runs out.
     pub fn print<B: Allocator>(&self, alloc: B) -> Result<String<B>, AllocError>
-        ensures { IfOk result (λ text. string_bytes text ≡ printed self.now) }
+        ensures { IfOk result (λ text. string_bytes text ≡ sequence_text self.now) }
     {
         let mut text = String::new(alloc);
         self.root.print_to(&mut text)?;

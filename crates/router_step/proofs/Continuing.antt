@@ -9,7 +9,7 @@ use Rattle.router_step.specs.declared.arrival.Arrival.{Arrival}
 use Rattle.router_step.specs.declared.arrival.Arrival.TheVariants.{FromHost, Inside, Link}
 use Rattle.router_step.specs.declared.outcome.Outcome.{Outcome}
 use Rattle.router_step.specs.declared.outcome.Outcome.TheVariants.{ToLink, ToRouter, Deliver}
-use Rattle.router_step.specs.Place.{current_info, current_hop, seg_id_on_leaving, moved_on, gone}
+use Rattle.router_step.specs.Place.{current_info, current_hop, seg_id_on_leaving, moved_on, header_on_leaving}
 use Rattle.router_step.specs.Checks.{has_no_single, is_start_right, indices_fit, ends_segment}
 use Rattle.router_step.specs.Done.{Situation, DoesStep, on_arrival, at_the_way_out}
 use Rattle.router_step.proofs.DoneSteps.{not_true, not_false, switched_ok, step_ok, indices_ok}
@@ -62,7 +62,7 @@ record GoesOn (old new : HeaderValue) : Type 0 where
   segment : new.curr_inf ≡ segment_at new.lens new.curr_hf
 
 kept : (outcome : Outcome) (h : HeaderValue) → AreLens h.lens → length h.infos ≡ info_count h.lens → length h.hops ≡ hop_count h.lens → IsMovedOn h.lens h.curr_inf h.curr_hf
-    → GoesOn h (gone outcome h)
+    → GoesOn h (header_on_leaving outcome h)
 kept (ToLink interface) h lens infos hops on = record {
   header = record { lens = lens; infos = length-set h.infos h.curr_inf _ ∙ infos; hops = hops; curr_inf = rw (length-set, infos) on.segment; curr_hf = rw hops on.more };
   lens = refl;
@@ -114,7 +114,7 @@ goes_on at outcome new h e =
           let choice : ((ends_segment at.header ≡ true) × (w.1.0 ≡ true)) ⊎ ((ends_segment at.header ≡ false) × (w.1.0 ≡ false)) =
           elim (switched_ok at.view at.now at.arrival (on_arrival at) w.1.0 w.1.1.switch) [ inl s ↦ inl (s.0, s.1.0) | inr s ↦ inr s ] in
           let on = on_its_segment at.header w.1.0 h p more choice in
-          let made : GoesOn (moved_on w.1.0 (on_arrival at)) (gone outcome (moved_on w.1.0 (on_arrival at))) = kept outcome (moved_on w.1.0 (on_arrival at)) h.lens infos h.hops on in
+          let made : GoesOn (moved_on w.1.0 (on_arrival at)) (header_on_leaving outcome (moved_on w.1.0 (on_arrival at))) = kept outcome (moved_on w.1.0 (on_arrival at)) h.lens infos h.hops on in
           subst (GoesOn at.header) (sym w.1.1.new_is) (record { header = made.header; lens = made.lens; segment = made.segment })
     ]
 
@@ -132,8 +132,8 @@ pub leaving : (at : Situation) (interface : ℕ) (new : HeaderValue) → IsHeade
     → (current_info (at_the_way_out at)).construction ≡ true → (current_info new).seg_id ≡ beta_after (current_info (at_the_way_out at)).seg_id (current_hop (at_the_way_out at)).mac
 leaving at interface new h e forward =
     let there : HeaderValue = at_the_way_out at in
-    let made : new ≡ gone (ToLink interface) there = new_header at (ToLink interface) new e in
-    let whole : IsHeader (gone (ToLink interface) there) = subst IsHeader made (header_again at (ToLink interface) new h e) in
+    let made : new ≡ header_on_leaving (ToLink interface) there = new_header at (ToLink interface) new e in
+    let whole : IsHeader (header_on_leaving (ToLink interface) there) = subst IsHeader made (header_again at (ToLink interface) new h e) in
     let within : there.curr_inf < length there.infos = rw length-set at whole.curr_inf in
     ap (λ (n : HeaderValue). (current_info n).seg_id) made
     ∙ ap (λ (i : InfoField). i.seg_id) (info_of-with_seg_id there (seg_id_on_leaving (current_info there) (current_hop there)) within)

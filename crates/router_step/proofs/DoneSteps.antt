@@ -13,9 +13,9 @@ use Rattle.router_step.specs.declared.outcome.Outcome.TheVariants.{ToLink, ToRou
 use Rattle.router_step.specs.declared.fault.Refusal.{Refusal}
 use Rattle.router_step.specs.declared.fault.Refusal.TheVariants as refusal
 use Rattle.refusal.specs.Refusal.{◌>>=◌, check}
-use Rattle.router_step.specs.Place.{current_info, current_hop, is_over_link, way_out, arrived, moved_on, gone}
+use Rattle.router_step.specs.Place.{current_info, current_hop, is_over_link, way_out, header_on_arrival, moved_on, header_on_leaving}
 use Rattle.router_step.specs.Checks.{indices_fit, way_in_fits, is_hop_live, is_mac_right, source_fits, is_last, destination_fits, ends_segment, kinds_fit}
-use Rattle.router_step.specs.Step.{passes, admitted, at_path_end, switched, left, step_of}
+use Rattle.router_step.specs.Step.{passes, admitted_header, at_path_end, switches_here, chosen_outcome, step_of}
 
 bind_ok : {A B : Type 0} (r : Result A Refusal) (f : A → Result B Refusal) (y : B) → (r >>= f) ≡ Ok y → (x : A) × ((r ≡ Ok x) × (f x ≡ Ok y))
 bind_ok (Ok x) f y e = (x, (refl, e))
@@ -45,13 +45,13 @@ passes_ok view now info hop e =
     let parts = check_bind (is_hop_live now info hop) refusal.Expired (λ _. check (is_mac_right view info hop) refusal.BadMac) tt e in
     (parts.0, check_ok (is_mac_right view info hop) refusal.BadMac parts.1)
 
-admitted_ok : (view : View) (now : ℕ) (arrival : Arrival) (header here : HeaderValue) → admitted view now arrival header ≡ Ok here
-    → (passes view now (current_info (arrived arrival header)) (current_hop header) ≡ Ok tt) × (arrived arrival header ≡ here)
-unfolding admitted
+admitted_ok : (view : View) (now : ℕ) (arrival : Arrival) (header here : HeaderValue) → admitted_header view now arrival header ≡ Ok here
+    → (passes view now (current_info (header_on_arrival arrival header)) (current_hop header) ≡ Ok tt) × (header_on_arrival arrival header ≡ here)
+unfolding admitted_header
 admitted_ok view now arrival header here e =
     let second = check_bind (indices_fit arrival header) refusal.IndexMismatch _ here e in
     let third = check_bind (way_in_fits view arrival (current_info header) (current_hop header)) refusal.WrongIngress _ here second.1 in
-    let fifth = bind_ok (passes view now (current_info (arrived arrival header)) (current_hop header)) (λ _. Ok (arrived arrival header)) here third.1 in
+    let fifth = bind_ok (passes view now (current_info (header_on_arrival arrival header)) (current_hop header)) (λ _. Ok (header_on_arrival arrival header)) here third.1 in
     (fifth.1.0, same_value _ _ fifth.1.1)
 
 ended_ok : (view : View) (arrival : Arrival) (source destination : ℕ) (header : HeaderValue) (last : Bool) → at_path_end view arrival source destination header ≡ Ok last → is_last header ≡ last
@@ -61,14 +61,14 @@ ended_ok view arrival source destination header last e =
     let seventh = check_bind (destination_fits view destination (is_last header)) refusal.DestinationAs (λ _. Ok (is_last header)) last sixth.1 in
     same_value _ _ seventh.1
 
-fits_ok : (view : View) (now : ℕ) (arrival : Arrival) (header here : HeaderValue) → admitted view now arrival header ≡ Ok here → indices_fit arrival header ≡ true
-unfolding admitted
+fits_ok : (view : View) (now : ℕ) (arrival : Arrival) (header here : HeaderValue) → admitted_header view now arrival header ≡ Ok here → indices_fit arrival header ≡ true
+unfolding admitted_header
 fits_ok view now arrival header here e = (check_bind (indices_fit arrival header) refusal.IndexMismatch _ here e).0
 
-pub switched_ok : (view : View) (now : ℕ) (arrival : Arrival) (header : HeaderValue) (has_switched : Bool) → switched view now arrival header ≡ Ok has_switched
+pub switched_ok : (view : View) (now : ℕ) (arrival : Arrival) (header : HeaderValue) (has_switched : Bool) → switches_here view now arrival header ≡ Ok has_switched
     → ((ends_segment header ≡ true) × ((has_switched ≡ true) × (passes view now (current_info (moved_on true header)) (current_hop (moved_on true header)) ≡ Ok tt)))
     ⊎ ((ends_segment header ≡ false) × (has_switched ≡ false))
-unfolding switched
+unfolding switches_here
 switched_ok view now arrival header has_switched e =
     elim (either (ends_segment header) _ _ (done has_switched) e) [
       | inl w ↦
@@ -103,9 +103,9 @@ pub record Leaves (view : View) (info : InfoField) (hop : HopField) (outcome : O
   pub own : entry.router ≡ view.router
   pub up : entry.up ≡ true
 
-pub left_ok : (view : View) (arrival : Arrival) (has_switched : Bool) (info : InfoField) (hop : HopField) (outcome : Outcome) → left view arrival has_switched info hop ≡ Ok outcome
+pub left_ok : (view : View) (arrival : Arrival) (has_switched : Bool) (info : InfoField) (hop : HopField) (outcome : Outcome) → chosen_outcome view arrival has_switched info hop ≡ Ok outcome
     → ((entry : IfEntry) × GoesInside view info hop outcome entry) ⊎ ((entry : IfEntry) × Leaves view info hop outcome entry)
-unfolding left
+unfolding chosen_outcome
 left_ok view arrival has_switched info hop outcome e =
     let tenth = bind_ok (ok_or (entry_of view (way_out info hop)) refusal.UnknownEgress) _ outcome e in
     let known : entry_of view (way_out info hop) ≡ Some tenth.0 = ok_or_ok _ _ tenth.0 tenth.1.0 in
@@ -135,43 +135,43 @@ left_ok view arrival has_switched info hop outcome e =
 -- the parts of a step, each from what the ones before it answered
 abbrev after_switch : View → Arrival → HeaderValue → Bool → Result (Outcome × HeaderValue) Refusal
 after_switch view arrival here has_switched =
-    left view arrival has_switched (current_info (moved_on has_switched here)) (current_hop (moved_on has_switched here))
-    >>= λ outcome. Ok (outcome, gone outcome (moved_on has_switched here))
+    chosen_outcome view arrival has_switched (current_info (moved_on has_switched here)) (current_hop (moved_on has_switched here))
+    >>= λ outcome. Ok (outcome, header_on_leaving outcome (moved_on has_switched here))
 
 abbrev after_end : View → ℕ → Arrival → HeaderValue → Bool → Result (Outcome × HeaderValue) Refusal
 after_end view now arrival here last =
-    if last then Ok (Deliver, here) else (switched view now arrival here >>= λ has_switched. after_switch view arrival here has_switched)
+    if last then Ok (Deliver, here) else (switches_here view now arrival here >>= λ has_switched. after_switch view arrival here has_switched)
 
 abbrev after_admission : View → ℕ → Arrival → ℕ → ℕ → HeaderValue → Result (Outcome × HeaderValue) Refusal
 after_admission view now arrival source destination here =
     at_path_end view arrival source destination here >>= λ last. after_end view now arrival here last
 
 in_parts : (view : View) (now : ℕ) (arrival : Arrival) (source destination : ℕ) (header : HeaderValue)
-    → step_of view now arrival source destination header ≡ (admitted view now arrival header >>= λ here. after_admission view now arrival source destination here)
+    → step_of view now arrival source destination header ≡ (admitted_header view now arrival header >>= λ here. after_admission view now arrival source destination here)
 unfolding step_of
 in_parts view now arrival source destination header = refl
 
 -- the packet went on: what the switch and the way out answered, and the header that they make
 pub record WentOn (view : View) (now : ℕ) (arrival : Arrival) (here : HeaderValue) (outcome : Outcome) (new : HeaderValue) (has_switched : Bool) : Type 0 where
-  pub switch : switched view now arrival here ≡ Ok has_switched
-  pub leaves : left view arrival has_switched (current_info (moved_on has_switched here)) (current_hop (moved_on has_switched here)) ≡ Ok outcome
-  pub new_is : new ≡ gone outcome (moved_on has_switched here)
+  pub switch : switches_here view now arrival here ≡ Ok has_switched
+  pub leaves : chosen_outcome view arrival has_switched (current_info (moved_on has_switched here)) (current_hop (moved_on has_switched here)) ≡ Ok outcome
+  pub new_is : new ≡ header_on_leaving outcome (moved_on has_switched here)
 
 went_on : (view : View) (now : ℕ) (arrival : Arrival) (here : HeaderValue) (outcome : Outcome) (new : HeaderValue)
-    → (switched view now arrival here >>= λ has_switched. after_switch view arrival here has_switched) ≡ Ok (outcome, new)
+    → (switches_here view now arrival here >>= λ has_switched. after_switch view arrival here has_switched) ≡ Ok (outcome, new)
     → (has_switched : Bool) × WentOn view now arrival here outcome new has_switched
 went_on view now arrival here outcome new e =
     let answer : Outcome × HeaderValue = (outcome, new) in
-    let ninth = bind_ok (switched view now arrival here) (λ has_switched. after_switch view arrival here has_switched) answer e in
-    let rest = bind_ok (left view arrival ninth.0 (current_info (moved_on ninth.0 here)) (current_hop (moved_on ninth.0 here))) (λ way. Ok (way, gone way (moved_on ninth.0 here))) answer ninth.1.1 in
-    let both : (rest.0, gone rest.0 (moved_on ninth.0 here)) ≡ answer = same_value _ _ rest.1.1 in
+    let ninth = bind_ok (switches_here view now arrival here) (λ has_switched. after_switch view arrival here has_switched) answer e in
+    let rest = bind_ok (chosen_outcome view arrival ninth.0 (current_info (moved_on ninth.0 here)) (current_hop (moved_on ninth.0 here))) (λ way. Ok (way, header_on_leaving way (moved_on ninth.0 here))) answer ninth.1.1 in
+    let both : (rest.0, header_on_leaving rest.0 (moved_on ninth.0 here)) ≡ answer = same_value _ _ rest.1.1 in
     let same : rest.0 ≡ outcome = ap (λ (a : Outcome × HeaderValue). a.0) both in
-    let made : gone rest.0 (moved_on ninth.0 here) ≡ new = ap (λ (a : Outcome × HeaderValue). a.1) both in (
+    let made : header_on_leaving rest.0 (moved_on ninth.0 here) ≡ new = ap (λ (a : Outcome × HeaderValue). a.1) both in (
       ninth.0,
       record {
         switch = ninth.1.0;
         leaves = rest.1.0 ∙ ap done same;
-        new_is = sym made ∙ ap (λ way. gone way (moved_on ninth.0 here)) same;
+        new_is = sym made ∙ ap (λ way. header_on_leaving way (moved_on ninth.0 here)) same;
       },
     )
 
@@ -196,15 +196,15 @@ ends_or_goes_on view now arrival source destination here outcome new e =
     ]
 
 pub step_ok : (view : View) (now : ℕ) (arrival : Arrival) (source destination : ℕ) (header new : HeaderValue) (outcome : Outcome) → step_of view now arrival source destination header ≡ Ok (outcome, new)
-    → (passes view now (current_info (arrived arrival header)) (current_hop header) ≡ Ok tt)
-    × (((is_last header ≡ true) × Delivered (arrived arrival header) outcome new)
-    ⊎ ((is_last header ≡ false) × ((has_switched : Bool) × WentOn view now arrival (arrived arrival header) outcome new has_switched)))
+    → (passes view now (current_info (header_on_arrival arrival header)) (current_hop header) ≡ Ok tt)
+    × (((is_last header ≡ true) × Delivered (header_on_arrival arrival header) outcome new)
+    ⊎ ((is_last header ≡ false) × ((has_switched : Bool) × WentOn view now arrival (header_on_arrival arrival header) outcome new has_switched)))
 step_ok view now arrival source destination header new outcome e =
     let answer : Outcome × HeaderValue = (outcome, new) in
-    let admits = bind_ok (admitted view now arrival header) (λ here. after_admission view now arrival source destination here) answer (sym (in_parts view now arrival source destination header) ∙ e) in
+    let admits = bind_ok (admitted_header view now arrival header) (λ here. after_admission view now arrival source destination here) answer (sym (in_parts view now arrival source destination header) ∙ e) in
     let here = admitted_ok view now arrival header admits.0 admits.1.0 in (
       here.0,
-      ends_or_goes_on view now arrival source destination (arrived arrival header) outcome new
+      ends_or_goes_on view now arrival source destination (header_on_arrival arrival header) outcome new
           (ap (λ h. after_admission view now arrival source destination h) here.1 ∙ admits.1.1),
     )
 
@@ -213,5 +213,5 @@ pub indices_ok : (view : View) (now : ℕ) (arrival : Arrival) (source destinati
     → indices_fit arrival header ≡ true
 indices_ok view now arrival source destination header new outcome e =
     let answer : Outcome × HeaderValue = (outcome, new) in
-    let admits = bind_ok (admitted view now arrival header) (λ here. after_admission view now arrival source destination here) answer (sym (in_parts view now arrival source destination header) ∙ e) in
+    let admits = bind_ok (admitted_header view now arrival header) (λ here. after_admission view now arrival source destination here) answer (sym (in_parts view now arrival source destination header) ∙ e) in
     fits_ok view now arrival header admits.0 admits.1.0

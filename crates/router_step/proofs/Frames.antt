@@ -3,7 +3,7 @@ use Rattle.std.proofs.Common.{◌≡◌, ℕ, ◌+◌, ◌≤◌, List, ◌++◌
 use Rattle.std.proofs.Math.Seq.{take-append_seam, drop-append_seam}
 use Rattle.std.proofs.lemmas.Bool.{le-ltb}
 use Rattle.std.proofs.lemmas.List.{take-append-drop, drop-drop, length-append, length-take-le, length-drop}
-use Rattle.refusal.specs.Refusal.{◌>>=◌}
+use Rattle.refusal.specs.Refusal.{◌>>=◌, refused_as}
 use Rattle.scion_topology.specs.View.{View}
 use Rattle.path_header.specs.Value.{HeaderValue, header_len}
 use Rattle.path_header.specs.Spelling.{SpellsHeader, spelling}
@@ -12,7 +12,8 @@ use Rattle.path_header.proofs.WholeHeader.{spelled_is_read, spelled_is_long}
 use Rattle.router_step.specs.declared.outcome.Outcome.{Outcome}
 use Rattle.router_step.specs.declared.fault.Refusal.{Refusal}
 use Rattle.router_step.specs.declared.arrival.Arrival.{Arrival}
-use Rattle.router_step.specs.Packet.{source_of, destination_of, as_bad_header, header_in, packet_step, frame_step, IsFrame, HasHeader, StepsFrame}
+use Rattle.router_step.specs.declared.fault.Refusal.TheVariants.{BadHeader}
+use Rattle.router_step.specs.Packet.{source_of, destination_of, header_in, packet_step, frame_step, IsFrame, HasHeader, StepsFrame}
 use Rattle.router_step.specs.Step.{step_of}
 
 -- the one text that spells a header spells it
@@ -80,7 +81,7 @@ turned packet addresses text rest after header read new count outcome step f sam
 pub read_in : (packet addresses text rest : List ℕ) (header : HeaderValue) → IsFrame packet addresses text rest header → header_in packet ≡ Ok (header, header_len header)
 read_in packet addresses text rest header f =
     let long : 16 ≤ length packet = rw f.whole (omega (arith, length-append addresses (text ++ rest), f.two)) in
-    rw (le-ltb (length packet) 16 long) (ap as_bad_header (ap read_at (behind packet addresses text rest header f) ∙ spelled_is_read header text rest f.spells))
+    rw (le-ltb (length packet) 16 long) (ap (refused_as BadHeader) (ap read_at (behind packet addresses text rest header f) ∙ spelled_is_read header text rest f.spells))
 
 rest_of : (packet addresses text rest : List ℕ) (header : HeaderValue) → IsFrame packet addresses text rest header → drop (16 + header_len header) packet ≡ rest
 rest_of packet addresses text rest header f =

@@ -11,9 +11,9 @@ use Rattle.path_header.specs.Value.{HeaderValue, IsHeader}
 use Rattle.router_step.specs.declared.arrival.Arrival.{Arrival}
 use Rattle.router_step.specs.declared.outcome.Outcome.{Outcome}
 use Rattle.router_step.specs.declared.outcome.Outcome.TheVariants.{ToLink, ToRouter, Deliver}
-use Rattle.router_step.specs.Place.{current_info, current_hop, way_out, with_seg_id, is_over_link, seg_id_on_arrival, seg_id_on_leaving, arrived, moved_on, gone}
+use Rattle.router_step.specs.Place.{current_info, current_hop, way_out, with_seg_id, is_over_link, seg_id_on_arrival, seg_id_on_leaving, header_on_arrival, moved_on, header_on_leaving}
 use Rattle.router_step.specs.Checks.{is_last, ends_segment, changes_segment}
-use Rattle.router_step.specs.Step.{passes, switched}
+use Rattle.router_step.specs.Step.{passes, switches_here}
 use Rattle.router_step.specs.Done.{Situation, DoesStep, on_arrival, at_the_way_out, IsOwnHop, IsOwnLink, StaysOnSegment}
 use Rattle.router_step.proofs.FieldReads.{info_of-with_seg_id}
 use Rattle.router_step.proofs.DoneSteps.{passes_ok, switched_ok, left_ok, step_ok}
@@ -35,9 +35,9 @@ changes header last ends at_last at_end = ap (λ b. not b && ends_segment header
 changes_at_last : (header : HeaderValue) → is_last header ≡ true → changes_segment header ≡ false
 changes_at_last header last = ap (λ b. not b && ends_segment header) last
 
-switch_is : (view : View) (now : ℕ) (arrival : Arrival) (header : HeaderValue) (has_switched : Bool) → is_last header ≡ false → switched view now arrival (arrived arrival header) ≡ Ok has_switched → has_switched ≡ changes_segment header
+switch_is : (view : View) (now : ℕ) (arrival : Arrival) (header : HeaderValue) (has_switched : Bool) → is_last header ≡ false → switches_here view now arrival (header_on_arrival arrival header) ≡ Ok has_switched → has_switched ≡ changes_segment header
 switch_is view now arrival header has_switched on e =
-    elim (switched_ok view now arrival (arrived arrival header) has_switched e) [
+    elim (switched_ok view now arrival (header_on_arrival arrival header) has_switched e) [
       | inl w ↦ w.1.0 ∙ sym (changes header false true on w.0)
       | inr w ↦ w.1 ∙ sym (changes header false false on w.0)
     ]
@@ -52,34 +52,34 @@ module _ (by_test : (view : View) (mac : List ℕ) (beta timestamp exp_time cons
         authentic = (by_test view (current_hop header).mac (current_info header).seg_id (current_info header).timestamp (current_hop header).exp_time (current_hop header).cons_ingress (current_hop header).cons_egress).0 held.1;
       }
 
-  pub own_here : (at : Situation) (outcome : Outcome) (new : HeaderValue) → DoesStep at outcome new → IsOwnHop at.view at.now (arrived at.arrival at.header)
+  pub own_here : (at : Situation) (outcome : Outcome) (new : HeaderValue) → DoesStep at outcome new → IsOwnHop at.view at.now (header_on_arrival at.arrival at.header)
   own_here at outcome new e =
-      own_hop at.view at.now (arrived at.arrival at.header) (step_ok at.view at.now at.arrival at.source at.destination at.header new outcome e).0
+      own_hop at.view at.now (header_on_arrival at.arrival at.header) (step_ok at.view at.now at.arrival at.source at.destination at.header new outcome e).0
 
   pub own_beyond : (at : Situation) (outcome : Outcome) (new : HeaderValue) → DoesStep at outcome new → IsOwnHop at.view at.now (at_the_way_out at)
   own_beyond at outcome new e =
       let here = own_here at outcome new e in
-      let at_same : changes_segment at.header ≡ false → IsOwnHop at.view at.now (moved_on (changes_segment at.header) (arrived at.arrival at.header)) =
-      λ same. subst (IsOwnHop at.view at.now) (sym (unmoved at.header (arrived at.arrival at.header) same)) here in
+      let at_same : changes_segment at.header ≡ false → IsOwnHop at.view at.now (moved_on (changes_segment at.header) (header_on_arrival at.arrival at.header)) =
+      λ same. subst (IsOwnHop at.view at.now) (sym (unmoved at.header (header_on_arrival at.arrival at.header) same)) here in
       elim (step_ok at.view at.now at.arrival at.source at.destination at.header new outcome e).1 [
         | inl w ↦ at_same (changes_at_last at.header w.0)
         | inr w ↦
-            elim (switched_ok at.view at.now at.arrival (arrived at.arrival at.header) w.1.0 w.1.1.switch) [
-              | inl s ↦ subst (λ b. IsOwnHop at.view at.now (moved_on b (arrived at.arrival at.header))) (sym (changes at.header false true w.0 s.0)) (own_hop at.view at.now (moved_on true (arrived at.arrival at.header)) s.1.1)
+            elim (switched_ok at.view at.now at.arrival (header_on_arrival at.arrival at.header) w.1.0 w.1.1.switch) [
+              | inl s ↦ subst (λ b. IsOwnHop at.view at.now (moved_on b (header_on_arrival at.arrival at.header))) (sym (changes at.header false true w.0 s.0)) (own_hop at.view at.now (moved_on true (header_on_arrival at.arrival at.header)) s.1.1)
               | inr s ↦ at_same (changes at.header false false w.0 s.0)
             ]
       ]
 
 pub new_header : (at : Situation) (outcome : Outcome) (new : HeaderValue) → DoesStep at outcome new
-    → new ≡ gone outcome (at_the_way_out at)
+    → new ≡ header_on_leaving outcome (at_the_way_out at)
 new_header at outcome new e =
     elim (step_ok at.view at.now at.arrival at.source at.destination at.header new outcome e).1 [
-      | inl w ↦ w.1.new_is ∙ sym (ap (λ o. gone o (moved_on (changes_segment at.header) (arrived at.arrival at.header))) w.1.outcome_is ∙ unmoved at.header (arrived at.arrival at.header) (changes_at_last at.header w.0))
-      | inr w ↦ w.1.1.new_is ∙ ap (λ b. gone outcome (moved_on b (arrived at.arrival at.header))) (switch_is at.view at.now at.arrival at.header w.1.0 w.0 w.1.1.switch)
+      | inl w ↦ w.1.new_is ∙ sym (ap (λ o. header_on_leaving o (moved_on (changes_segment at.header) (header_on_arrival at.arrival at.header))) w.1.outcome_is ∙ unmoved at.header (header_on_arrival at.arrival at.header) (changes_at_last at.header w.0))
+      | inr w ↦ w.1.1.new_is ∙ ap (λ b. header_on_leaving outcome (moved_on b (header_on_arrival at.arrival at.header))) (switch_is at.view at.now at.arrival at.header w.1.0 w.0 w.1.1.switch)
     ]
 
 pub at_the_end : (at : Situation) (new : HeaderValue) → DoesStep at Deliver new
-    → (is_last at.header ≡ true) × (new ≡ arrived at.arrival at.header)
+    → (is_last at.header ≡ true) × (new ≡ header_on_arrival at.arrival at.header)
 at_the_end at new e =
     elim (step_ok at.view at.now at.arrival at.source at.destination at.header new Deliver e).1 [
       | inl w ↦ (w.0, w.1.new_is)
@@ -101,9 +101,9 @@ stays_with header seg_id hop within = record {
   hops = refl;
 }
 
-stays_through : (arrival : Arrival) (header : HeaderValue) (outcome : Outcome) → header.curr_inf < length header.infos → StaysOnSegment header (gone outcome (arrived arrival header))
+stays_through : (arrival : Arrival) (header : HeaderValue) (outcome : Outcome) → header.curr_inf < length header.infos → StaysOnSegment header (header_on_leaving outcome (header_on_arrival arrival header))
 stays_through arrival header (ToLink interface) within =
-    let here : HeaderValue = arrived arrival header in
+    let here : HeaderValue = header_on_arrival arrival header in
     subst (λ (h : HeaderValue). StaysOnSegment header (record h { curr_hf = header.curr_hf + 1 }))
     (sym (with_later header (seg_id_on_arrival arrival (current_info header) (current_hop header)) (seg_id_on_leaving (current_info here) (current_hop here)) within))
     (stays_with header (seg_id_on_leaving (current_info here) (current_hop here)) (header.curr_hf + 1) within)
@@ -112,9 +112,9 @@ stays_through arrival header Deliver within = stays_with header (seg_id_on_arriv
 
 -- the new header where the packet stays on its segment
 on_segment : (at : Situation) (outcome : Outcome) (new : HeaderValue) → DoesStep at outcome new
-    → changes_segment at.header ≡ false → new ≡ gone outcome (arrived at.arrival at.header)
+    → changes_segment at.header ≡ false → new ≡ header_on_leaving outcome (header_on_arrival at.arrival at.header)
 on_segment at outcome new e same =
-    new_header at outcome new e ∙ ap (gone outcome) (unmoved at.header (arrived at.arrival at.header) same)
+    new_header at outcome new e ∙ ap (header_on_leaving outcome) (unmoved at.header (header_on_arrival at.arrival at.header) same)
 
 pub stays : (at : Situation) (outcome : Outcome) (new : HeaderValue) → IsHeader at.header → DoesStep at outcome new
     → changes_segment at.header ≡ false → StaysOnSegment at.header new
@@ -128,10 +128,10 @@ seg_id_gone (ToRouter router) info hop = info.seg_id
 seg_id_gone Deliver info hop = info.seg_id
 
 new_seg_id : (arrival : Arrival) (header : HeaderValue) (outcome : Outcome) → header.curr_inf < length header.infos
-    → (current_info (gone outcome (arrived arrival header))).seg_id ≡ seg_id_gone outcome (record (current_info header) { seg_id = seg_id_on_arrival arrival (current_info header) (current_hop header) }) (current_hop header)
+    → (current_info (header_on_leaving outcome (header_on_arrival arrival header))).seg_id ≡ seg_id_gone outcome (record (current_info header) { seg_id = seg_id_on_arrival arrival (current_info header) (current_hop header) }) (current_hop header)
 unfolding seg_id_gone
 new_seg_id arrival header (ToLink interface) within =
-    let here : HeaderValue = arrived arrival header in
+    let here : HeaderValue = header_on_arrival arrival header in
     let within_here : header.curr_inf < length here.infos = rw length-set within in
     ap (λ (i : InfoField). i.seg_id) (info_of-with_seg_id here (seg_id_on_leaving (current_info here) (current_hop here)) within_here)
     ∙ ap (λ (i : InfoField). seg_id_on_leaving i (current_hop header)) (info_of-with_seg_id header _ within)

@@ -73,17 +73,17 @@ changes_segment header = not (is_last header) && ends_segment header
 
 -- whether a path may come in by a link of one kind and leave by one of another, within one segment
 -- (`false`) and from one segment to the next (`true`)
-abbrev pub are_joined : (switched : Bool) (from to : LinkKind) → Bool
-are_joined false Core Core = true
-are_joined false Child Parent = true
-are_joined false Parent Child = true
-are_joined true Child Core = true
-are_joined true Core Child = true
-are_joined true Child Child = true
-are_joined switched from to = false
+abbrev pub may_follow : (switched : Bool) (from to : LinkKind) → Bool
+may_follow false Core Core = true
+may_follow false Child Parent = true
+may_follow false Parent Child = true
+may_follow true Child Core = true
+may_follow true Core Child = true
+may_follow true Child Child = true
+may_follow switched from to = false
 
 -- step 11: the links by which a packet comes in and leaves may be joined
 abbrev pub kinds_fit : View → Arrival → Bool → LinkKind → Bool
 kinds_fit view (Link interface) switched out =
-    option_map_or (λ entry. are_joined switched entry.kind out) (entry_of view interface) false
+    option_map_or (λ entry. may_follow switched entry.kind out) (entry_of view interface) false
 kinds_fit view arrival switched out = true

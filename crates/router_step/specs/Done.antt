@@ -6,7 +6,7 @@ use Rattle.scion_topology.specs.View.{View, IsAuthentic, entry_of}
 use Rattle.path_header.specs.Value.{HeaderValue}
 use Rattle.router_step.specs.declared.arrival.Arrival.{Arrival}
 use Rattle.router_step.specs.declared.outcome.Outcome.{Outcome}
-use Rattle.router_step.specs.Place.{info_field_at, current_info, current_hop, arrived, moved_on}
+use Rattle.router_step.specs.Place.{info_field_at, current_info, current_hop, header_on_arrival, moved_on}
 use Rattle.router_step.specs.Checks.{changes_segment}
 use Rattle.router_step.specs.Step.{step_of}
 
@@ -27,11 +27,11 @@ DoesStep at outcome new =
 
 -- the header after step 5, the change on arrival
 abbrev pub on_arrival : Situation → HeaderValue
-on_arrival at = arrived at.arrival at.header
+on_arrival at = header_on_arrival at.arrival at.header
 
 -- the header after the arrival and, if there is a switch, at the first hop of the next segment
 abbrev pub at_the_way_out : Situation → HeaderValue
-at_the_way_out at = moved_on (changes_segment at.header) (arrived at.arrival at.header)
+at_the_way_out at = moved_on (changes_segment at.header) (header_on_arrival at.arrival at.header)
 
 -- the current hop is live, and its authenticator is right under a key that the AS accepts
 pub record IsOwnHop (view : View) (now : ℕ) (header : HeaderValue) : Type 0 where

@@ -6,13 +6,13 @@ use Rattle.path_header.specs.Value.{HeaderValue}
 use Rattle.router_step.specs.declared.arrival.Arrival.{Arrival}
 use Rattle.router_step.specs.declared.outcome.Outcome.{Outcome}
 use Rattle.router_step.specs.declared.outcome.Outcome.TheVariants.{ToLink, ToRouter}
-use Rattle.router_step.specs.Place.{current_info, current_hop, way_out, arrived}
+use Rattle.router_step.specs.Place.{current_info, current_hop, way_out, header_on_arrival}
 use Rattle.router_step.specs.Checks.{indices_fit, way_in_fits, is_hop_live, is_mac_right, source_fits, kinds_fit}
 
 -- the packet passes steps 2 to 6; `here` is the header after the arrival
 pub record IsAdmitted (view : View) (now : ℕ) (arrival : Arrival) (source : ℕ)
     (header here : HeaderValue) : Type 0 where
-  pub here_is : arrived arrival header ≡ here
+  pub here_is : header_on_arrival arrival header ≡ here
   pub indices : indices_fit arrival header ≡ true
   pub way_in : way_in_fits view arrival (current_info header) (current_hop header) ≡ true
   pub live : is_hop_live now (current_info here) (current_hop header) ≡ true

@@ -2,9 +2,8 @@
 -- step of a router over it (draft-dekater-scion-dataplane).
 use Rattle.std.specs.Prelude.{◌≡◌, ℕ, ◌+◌, List, ◌++◌, length, take, drop, nat_lt, if◌then◌else◌, Result, Ok, Err}
 use Rattle.std.specs.Int.{w64, from_be_bytes}
-use Rattle.refusal.specs.Refusal.{◌>>=◌}
+use Rattle.refusal.specs.Refusal.{◌>>=◌, refused_as}
 use Rattle.scion_topology.specs.View.{View}
-use Rattle.path_header.specs.declared.fault.HeaderFault.{HeaderFault}
 use Rattle.path_header.specs.declared.fault.HeaderFault.TheVariants.{Short}
 use Rattle.path_header.specs.Value.{HeaderValue}
 use Rattle.path_header.specs.Spelling.{SpellsHeader, spelling}
@@ -23,15 +22,10 @@ destination_of packet = from_be_bytes w64 (take 8 packet)
 abbrev pub source_of : List ℕ → ℕ
 source_of packet = from_be_bytes w64 (take 8 (drop 8 packet))
 
--- the refusal of a header as the refusal of its packet
-abbrev pub as_bad_header : Result (HeaderValue × ℕ) HeaderFault → Result (HeaderValue × ℕ) Refusal
-as_bad_header (Ok read) = Ok read
-as_bad_header (Err fault) = Err (BadHeader fault)
-
 -- the path header behind the addresses, and its length in bytes
 abbrev pub header_in : List ℕ → Result (HeaderValue × ℕ) Refusal
 header_in packet = if nat_lt (length packet) 16 then Err (BadHeader Short)
-    else as_bad_header (read_at (drop 16 packet))
+    else refused_as BadHeader (read_at (drop 16 packet))
 
 -- all steps on a packet's bytes: the first refusal, or the outcome and the new packet; only the
 -- bytes of the header change

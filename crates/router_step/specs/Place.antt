@@ -49,8 +49,8 @@ seg_id_on_arrival arrival info hop = if is_over_link arrival && not info.constru
     then beta_after info.seg_id hop.mac else info.seg_id
 
 -- the header after the arrival: the change of step 5
-abbrev pub arrived : Arrival → HeaderValue → HeaderValue
-arrived arrival header =
+abbrev pub header_on_arrival : Arrival → HeaderValue → HeaderValue
+header_on_arrival arrival header =
     with_seg_id header (seg_id_on_arrival arrival (current_info header) (current_hop header))
 
 -- the header after step 9: both indices go on by one if there is a switch to the next segment
@@ -66,7 +66,7 @@ seg_id_on_leaving info hop =
     if info.construction then beta_after info.seg_id hop.mac else info.seg_id
 
 -- the header after step 13: over a link the packet goes on to the next hop; else nothing changes
-abbrev pub gone : Outcome → HeaderValue → HeaderValue
-gone (ToLink interface) header = record (with_seg_id header
+abbrev pub header_on_leaving : Outcome → HeaderValue → HeaderValue
+header_on_leaving (ToLink interface) header = record (with_seg_id header
     (seg_id_on_leaving (current_info header) (current_hop header))) { curr_hf = header.curr_hf + 1 }
-gone outcome header = header
+header_on_leaving outcome header = header

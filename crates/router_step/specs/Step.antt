@@ -12,7 +12,7 @@ use Rattle.router_step.specs.declared.outcome.Outcome.{Outcome}
 use Rattle.router_step.specs.declared.outcome.Outcome.TheVariants.{ToLink, ToRouter, Deliver}
 use Rattle.router_step.specs.declared.fault.Refusal.{Refusal}
 use Rattle.router_step.specs.declared.fault.Refusal.TheVariants as refusal
-use Rattle.router_step.specs.Place.{current_info, current_hop, is_over_link, way_out, arrived, moved_on, gone}
+use Rattle.router_step.specs.Place.{current_info, current_hop, is_over_link, way_out, header_on_arrival, moved_on, header_on_leaving}
 use Rattle.router_step.specs.Checks.{indices_fit, way_in_fits, is_hop_live, is_mac_right, source_fits, is_last, destination_fits, ends_segment, kinds_fit}
 
 -- steps 4 and 5 for this info and hop field
@@ -22,13 +22,14 @@ passes view now info hop = do
   check (is_mac_right view info hop) refusal.BadMac  -- 5
 
 -- steps 2 to 5: the first refusal, or the header after the arrival
-unfoldable pub admitted : View → ℕ → Arrival → HeaderValue → Result HeaderValue Refusal
-admitted view now arrival header = do
+unfoldable pub admitted_header : View → ℕ → Arrival → HeaderValue → Result HeaderValue Refusal
+admitted_header view now arrival header = do
   _ ← check (indices_fit arrival header) refusal.IndexMismatch  -- 2
   _ ← check (way_in_fits view arrival (current_info header) (current_hop header))
       refusal.WrongIngress  -- 3
-  _ ← passes view now (current_info (arrived arrival header)) (current_hop header)  -- 4, 5
-  Ok (arrived arrival header)
+  _ ← passes view now (current_info (header_on_arrival arrival header))
+      (current_hop header)  -- 4, 5
+  Ok (header_on_arrival arrival header)
 
 -- steps 6 and 7: the first refusal, or whether the packet is at the last hop of its path
 unfoldable pub at_path_end : (view : View) (arrival : Arrival) (source destination : ℕ)
@@ -40,15 +41,16 @@ at_path_end view arrival source destination header = do
 
 -- step 9: whether there is a switch to the next segment. Only a packet that came over a link may
 -- switch, and the next hop has to pass steps 4 and 5.
-unfoldable pub switched : View → ℕ → Arrival → HeaderValue → Result Bool Refusal
-switched view now arrival header = if ends_segment header then (do
+unfoldable pub switches_here : View → ℕ → Arrival → HeaderValue → Result Bool Refusal
+switches_here view now arrival header = if ends_segment header then (do
   _ ← check (is_over_link arrival) refusal.SwitchInside
   _ ← passes view now (current_info (moved_on true header)) (current_hop (moved_on true header))
   Ok true) else Ok false
 
 -- steps 10 to 13: the first refusal, or the outcome
-unfoldable pub left : View → Arrival → Bool → InfoField → HopField → Result Outcome Refusal
-left view arrival has_switched info hop = do
+unfoldable pub chosen_outcome : View → Arrival → Bool → InfoField → HopField
+    → Result Outcome Refusal
+chosen_outcome view arrival has_switched info hop = do
   out ← ok_or (entry_of view (way_out info hop)) refusal.UnknownEgress  -- 10
   _ ← check (kinds_fit view arrival has_switched out.kind) refusal.LinkKinds  -- 11
   if not (out.router == view.router) then Ok (ToRouter out.router) else (do  -- 12
@@ -59,10 +61,11 @@ left view arrival has_switched info hop = do
 unfoldable pub step_of : (view : View) (now : ℕ) (arrival : Arrival) (source destination : ℕ)
     (header : HeaderValue) → Result (Outcome × HeaderValue) Refusal
 step_of view now arrival source destination header = do
-  here ← admitted view now arrival header  -- 2 to 5
+  here ← admitted_header view now arrival header  -- 2 to 5
   last ← at_path_end view arrival source destination here  -- 6, 7
   if last then Ok (Deliver, here) else (do  -- 8
-    has_switched ← switched view now arrival here  -- 9
+    has_switched ← switches_here view now arrival here  -- 9
     let next = moved_on has_switched here in (do
-      outcome ← left view arrival has_switched (current_info next) (current_hop next)  -- 10 to 13
-      Ok (outcome, gone outcome next)))
+      outcome ← chosen_outcome view arrival has_switched (current_info next)
+          (current_hop next)  -- 10 to 13
+      Ok (outcome, header_on_leaving outcome next)))

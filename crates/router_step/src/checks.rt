@@ -4,7 +4,7 @@
 
 ghost use Rattle.std.specs.Prelude.{◌≡◌};
 ghost use Rattle.router_step.specs.Place.{is_over_link};
-ghost use Rattle.router_step.specs.Checks.{has_no_single, is_start_right, is_owned, way_in_fits, is_hop_live, is_mac_right, source_fits, destination_fits, are_joined, kinds_fit};
+ghost use Rattle.router_step.specs.Checks.{has_no_single, is_start_right, is_owned, way_in_fits, is_hop_live, is_mac_right, source_fits, destination_fits, may_follow, kinds_fit};
 ghost use Rattle.router_step.specs.Step.{passes};
 
 use crate::arrival::Arrival;
@@ -128,7 +128,7 @@ pub fn destination_fits(view: &RouterView<'_>, destination: IsdAs, last: bool) -
 /// Whether a path may come in by a link of one kind and leave by one of the other, with or without
 /// a switch to another segment in between.
 pub fn are_joined(switched: bool, from: LinkKind, to: LinkKind) -> bool
-    ensures { result ≡ are_joined switched from to }
+    ensures { result ≡ may_follow switched from to }
 {
     match (switched, from, to) {
         (false, LinkKind::Core, LinkKind::Core)

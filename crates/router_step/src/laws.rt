@@ -7,9 +7,9 @@ ghost use Rattle.scion_topology.specs.View.{View, entry_of};
 ghost use Rattle.path_header.specs.Value.{HeaderValue, IsHeader};
 ghost use Rattle.router_step.specs.declared.arrival.Arrival.{Arrival};
 ghost use Rattle.router_step.specs.declared.outcome.Outcome.{Outcome};
-ghost use Rattle.router_step.specs.Place.{current_info, current_hop, is_over_link, way_out, moved_on, gone};
+ghost use Rattle.router_step.specs.Place.{current_info, current_hop, is_over_link, way_out, moved_on, header_on_leaving};
 ghost use Rattle.router_step.specs.Checks.{changes_segment, destination_fits, ends_segment, indices_fit, is_last, is_hop_live, is_mac_right};
-ghost use Rattle.router_step.specs.Step.{step_of, switched};
+ghost use Rattle.router_step.specs.Step.{step_of, switches_here};
 ghost use Rattle.router_step.specs.Packet.{IsFrame, frame_step, packet_step};
 ghost use Rattle.router_step.specs.Done.{Situation, DoesStep, on_arrival, at_the_way_out, IsOwnHop, IsOwnLink, StaysOnSegment, ChangesSegment};
 ghost use Rattle.router_step.specs.Forward.{IsAdmitted, MayLeave, goes};
@@ -47,7 +47,7 @@ pub fn own_links_alone()
 /// path goes on to another segment, and that of the outcome.
 pub fn three_changes()
     ensures all { (at : Situation) (outcome : Outcome) (new : HeaderValue)
-        → DoesStep at outcome new → new ≡ gone outcome (at_the_way_out at) }
+        → DoesStep at outcome new → new ≡ header_on_leaving outcome (at_the_way_out at) }
 
     // A packet that goes to another router has only the changes of the arrival and of a switch.
     ensures to_router { (at : Situation) (router : ℕ) (new : HeaderValue)
@@ -120,21 +120,21 @@ pub fn checks_lead_on()
         (header here : HeaderValue) (has_switched : Bool) (out : IfEntry)
         → IsAdmitted view now arrival source header here → is_last here ≡ false
         → destination_fits view destination false ≡ true
-        → switched view now arrival here ≡ Ok has_switched
+        → switches_here view now arrival here ≡ Ok has_switched
         → MayLeave view arrival has_switched (moved_on has_switched here) out
         → let there = moved_on has_switched here in let way = goes view out there in
-        step_of view now arrival source destination header ≡ Ok (way, gone way there) }
+        step_of view now arrival source destination header ≡ Ok (way, header_on_leaving way there) }
 
     // Whether the step switches to another segment.
     ensures on_its_segment { (view : View) (now : ℕ) (arrival : Arrival) (here : HeaderValue)
-        → ends_segment here ≡ false → switched view now arrival here ≡ Ok false }
+        → ends_segment here ≡ false → switches_here view now arrival here ≡ Ok false }
     ensures to_the_next { (view : View) (now : ℕ) (arrival : Arrival) (here : HeaderValue)
         → ends_segment here ≡ true → is_over_link arrival ≡ true
         → is_hop_live now (current_info (moved_on true here)) (current_hop (moved_on true here))
         ≡ true
         → is_mac_right view (current_info (moved_on true here)) (current_hop (moved_on true here))
         ≡ true
-        → switched view now arrival here ≡ Ok true }
+        → switches_here view now arrival here ≡ Ok true }
 {}
 
 /// A step on a packet in these parts is the step on its path header; in the new packet the new

@@ -2,7 +2,7 @@
 
 ghost use Rattle.std.specs.Prelude.{◌≡◌, ◌+◌, ◌<◌, length, if◌then◌else◌};
 ghost use Rattle.path_header.specs.Borrowed.{value_of, rest_of};
-ghost use Rattle.router_step.specs.Place.{current_info, current_hop, way_in, way_out, with_seg_id, seg_id_on_arrival, arrived, moved_on, seg_id_on_leaving, gone};
+ghost use Rattle.router_step.specs.Place.{current_info, current_hop, way_in, way_out, with_seg_id, seg_id_on_arrival, header_on_arrival, moved_on, seg_id_on_leaving, header_on_leaving};
 
 use crate::arrival::Arrival;
 use crate::outcome::Outcome;
@@ -72,7 +72,7 @@ fn seg_id_on_leaving(info: &InfoField, hop: &HopField) -> u16
 
 /// The current info field after the arrival.
 pub(crate) fn info_on_arrival(arrival: &Arrival, header: &HeaderMut<'_>) -> InfoField
-    ensures { result ≡ current_info (arrived arrival.now (value_of header.now)) }
+    ensures { result ≡ current_info (header_on_arrival arrival.now (value_of header.now)) }
 {
     let mut info = info_at(header);
     info.seg_id = seg_id_on_arrival(arrival, &info, &hop_at(header));
@@ -84,7 +84,7 @@ pub(crate) fn info_to_leave(arrival: &Arrival, switched: bool, header: &HeaderMu
     requires { let value = value_of header.now
         in value.curr_inf + (if switched then 1 else 0) < length value.infos }
     ensures { result
-        ≡ current_info (moved_on switched (arrived arrival.now (value_of header.now))) }
+        ≡ current_info (moved_on switched (header_on_arrival arrival.now (value_of header.now))) }
 {
     if switched {
         header.info(header.curr_inf() + 1)
@@ -118,7 +118,7 @@ fn write_seg_id(seg_id: u16, header: &mut HeaderMut<'_>)
 
 /// Sets the accumulator on arrival.
 pub(crate) fn write_arrival(arrival: &Arrival, header: &mut HeaderMut<'_>)
-    ensures value { value_of header.new ≡ arrived arrival.now (value_of header.old) }
+    ensures value { value_of header.new ≡ header_on_arrival arrival.now (value_of header.old) }
     ensures rest { rest_of header.new ≡ rest_of header.old }
     ensures same_reference { header.new.bytes.ghost_name ≡ header.old.bytes.ghost_name }
 {
@@ -147,7 +147,7 @@ pub(crate) fn write_switch(switched: bool, header: &mut HeaderMut<'_>)
 /// field.
 pub(crate) fn write_outcome(outcome: &Outcome, header: &mut HeaderMut<'_>)
     requires { (value_of header.old).curr_hf + 1 < length (value_of header.old).hops }
-    ensures value { value_of header.new ≡ gone outcome.now (value_of header.old) }
+    ensures value { value_of header.new ≡ header_on_leaving outcome.now (value_of header.old) }
     ensures rest { rest_of header.new ≡ rest_of header.old }
     ensures same_reference { header.new.bytes.ghost_name ≡ header.old.bytes.ghost_name }
 {

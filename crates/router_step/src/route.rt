@@ -4,9 +4,9 @@ ghost use Rattle.std.specs.Prelude.{◌≡◌, ◌+◌, ◌<◌, true, false, le
 ghost use Rattle.path_header.specs.Value.{segment_at};
 ghost use Rattle.path_header.specs.Borrowed.{bytes_of, value_of, rest_of};
 ghost use Rattle.refusal.specs.Refusal.{Gives};
-ghost use Rattle.router_step.specs.Place.{arrived};
+ghost use Rattle.router_step.specs.Place.{header_on_arrival};
 ghost use Rattle.router_step.specs.Checks.{has_no_single, indices_fit};
-ghost use Rattle.router_step.specs.Step.{admitted, at_path_end, switched, left, step_of};
+ghost use Rattle.router_step.specs.Step.{admitted_header, at_path_end, switches_here, chosen_outcome, step_of};
 ghost use Rattle.router_step.specs.inner.Step.{IsStepped};
 
 use crate::arrival::Arrival;
@@ -35,15 +35,15 @@ fn indices_fit(arrival: &Arrival, header: &HeaderMut<'_>) -> bool
 }
 
 /// Steps 2 to 5: checks the indices, the way in, and that the hop is live and of this AS.
-#[tactic(auto, unfolding(crate::specs::Step::admitted))]
+#[tactic(auto, unfolding(crate::specs::Step::admitted_header))]
 fn admit(
     view: &RouterView<'_>,
     now: u32,
     arrival: &Arrival,
     header: &HeaderMut<'_>,
 ) -> Result<(), Refusal>
-    ensures exact { Gives (λ _. arrived arrival.now (value_of header.now)) result
-        (admitted view.now now arrival.now (value_of header.now)) }
+    ensures exact { Gives (λ _. header_on_arrival arrival.now (value_of header.now)) result
+        (admitted_header view.now now arrival.now (value_of header.now)) }
     ensures segment { let value = value_of header.now
         in OnOk result (value.curr_inf ≡ segment_at value.lens value.curr_hf) }
     ensures lens { OnOk result (has_no_single (value_of header.now).lens ≡ true) }
@@ -70,7 +70,7 @@ fn end(
 ) -> Result<bool, Refusal>
     ensures exact { result
         ≡ at_path_end view.now arrival.now source destination
-        (arrived arrival.now (value_of header.now)) }
+        (header_on_arrival arrival.now (value_of header.now)) }
     ensures more { let value = value_of header.now
         in IfOk result (λ last. last ≡ false → value.curr_hf + 1 < length value.hops) }
 {
@@ -85,7 +85,7 @@ fn end(
 }
 
 /// Step 9: returns whether the path switches to another segment here, after checking the hop there.
-#[tactic(auto, unfolding(crate::specs::Step::switched))]
+#[tactic(auto, unfolding(crate::specs::Step::switches_here))]
 fn switch(
     view: &RouterView<'_>,
     now: u32,
@@ -97,7 +97,8 @@ fn switch(
         in value.curr_inf ≡ segment_at value.lens value.curr_hf }
     requires lens { has_no_single (value_of header.now).lens ≡ true }
     ensures exact { result
-        ≡ switched view.now now arrival.now (arrived arrival.now (value_of header.now)) }
+        ≡ switches_here view.now now arrival.now
+        (header_on_arrival arrival.now (value_of header.now)) }
     ensures infos { let value = value_of header.now
         in IfOk result (λ has_switched.
         value.curr_inf + (if has_switched then 1 else 0) < length value.infos) }
@@ -122,7 +123,7 @@ fn switch(
 }
 
 /// Steps 10 to 13: chooses where the packet goes from this info and hop field.
-#[tactic(auto, unfolding(crate::specs::Step::left))]
+#[tactic(auto, unfolding(crate::specs::Step::chosen_outcome))]
 fn leave(
     view: &RouterView<'_>,
     arrival: &Arrival,
@@ -130,7 +131,7 @@ fn leave(
     info: &InfoField,
     hop: &HopField,
 ) -> Result<Outcome, Refusal>
-    ensures { result ≡ left view.now arrival.now switched info.now hop.now }
+    ensures { result ≡ chosen_outcome view.now arrival.now switched info.now hop.now }
 {
     let interface = way_out(info, hop);
     let Some(out) = view.entry(interface) else {

@@ -8,7 +8,7 @@ use Rattle.scion_topology.specs.Topology.{owner_in}
 use Rattle.path_verifier.specs.Walk.{walk_of}
 use Rattle.path_verifier.specs.Accepted.{AreLive}
 use Rattle.path_verifier.specs.Header.{total_hops}
-use Rattle.forwarding.specs.Frame.{framed}
+use Rattle.forwarding.specs.Frame.{frame_of}
 use Rattle.forwarding.specs.Turn.{Packet, put_at, after}
 use Rattle.forwarding.specs.Forwardable.{MayForward}
 use Rattle.forwarding.specs.OnPath.{OnPath, arrived_with}
@@ -18,7 +18,7 @@ use Rattle.forwarding.proofs.Sending.{starts}
 use Rattle.forwarding.proofs.Made.{sound_is_let_through}
 use Rattle.forwarding.proofs.Journeys.{stands_after, delivered_after}
 use Rattle.network_core.specs.Delivery.{IsRefusedAt, IsAtRouter}
-use Rattle.router_workers.specs.Flight.{SentPacket, IsFlight, put_with, departed, grounded}
+use Rattle.router_workers.specs.Flight.{SentPacket, IsFlight, put_with, packet_at_source, flight_at_start}
 use Rattle.router_workers.specs.Delivery.{IsFlightForwarded, IsSoundIn}
 
 -- ---- where a flight departs
@@ -27,7 +27,7 @@ pub record Departs (n : Network) (sent : SentPacket) (start : Packet) : Type 0 w
   pub router : ℕ
   pub owned : owner_in n sent.source (first_out (walk_of sent.pieces)) ≡ Ok router
   pub is : start
-      ≡ put_at (framed sent.source sent.destination sent.header sent.payload) sent.source router
+      ≡ put_at (frame_of sent.source sent.destination sent.header sent.payload) sent.source router
 
 departs_with : (n : Network) (sent : SentPacket) (start : Packet) (owner : Result ℕ TopologyFault)
     → owner_in n sent.source (first_out (walk_of sent.pieces)) ≡ owner
@@ -35,7 +35,7 @@ departs_with : (n : Network) (sent : SentPacket) (start : Packet) (owner : Resul
 departs_with n sent start (Ok router) is put = record { router = router; owned = is; is = cc }
 departs_with n sent start (Err fault) is put = absurd cc
 
-pub departs : (n : Network) (sent : SentPacket) (start : Packet) → departed n sent ≡ Ok start
+pub departs : (n : Network) (sent : SentPacket) (start : Packet) → packet_at_source n sent ≡ Ok start
     → Departs n sent start
 departs n sent start put = departs_with n sent start
     (owner_in n sent.source (first_out (walk_of sent.pieces))) refl put
@@ -84,7 +84,7 @@ behind sent total done packet enough there =
     }
 
 pub delivered : (n : Network) (sent : SentPacket) (start : Packet) (moments : List ℕ)
-    → IsFlight (grounded n sent start) → IsSoundIn n sent
+    → IsFlight (flight_at_start n sent start) → IsSoundIn n sent
     → All (λ now. AreLive now sent.pieces) moments
     → IsFlightForwarded sent (turns_for n (walk_of sent.pieces)) (length moments)
     (after n start moments)
@@ -99,7 +99,7 @@ delivered n sent start moments flight sound live =
     flight.moment sent.pieces flight.network path (live k d within) sound in
     let stands = subst (λ header. OnPath n sent.source sent.destination sent.payload
     sent.pieces total
-    (put_at (framed sent.source sent.destination header sent.payload) sent.source
+    (put_at (frame_of sent.source sent.destination header sent.payload) sent.source
     from.router)) (sym flight.accepted.header)
     (starts n sent.source sent.destination flight.moment from.router sent.payload
     sent.pieces path flight.frame from.owned) in

@@ -15,7 +15,7 @@ use Rattle.path_verifier.specs.Accepted.{IsAccepted, request_of}
 use Rattle.forwarding.specs.declared.location.RouterStop.{RouterStop}
 use Rattle.forwarding.specs.declared.location.PacketLocation.{PacketLocation}
 use Rattle.forwarding.specs.declared.location.PacketLocation.TheVariants.{AtRouter, Delivered, Refused, Lost}
-use Rattle.forwarding.specs.Frame.{framed, HasFrame}
+use Rattle.forwarding.specs.Frame.{frame_of, HasFrame}
 use Rattle.forwarding.specs.Journey.{first_out}
 use Rattle.forwarding.specs.Turn.{Packet, IsAtNoRouter, put_at, turn_under, turn_of, turned_packet, after}
 use Rattle.forwarding.proofs.Ended.{turn_by_view}
@@ -53,7 +53,7 @@ pub begins : (n : Network) (sent : SentPacket) (packet : Packet) (router moment 
     moment rules)
     → HasFrame sent.source sent.destination sent.pieces
     → owner_in n sent.source (first_out (walk_of sent.pieces)) ≡ Ok router
-    → packet ≡ put_at (framed sent.source sent.destination sent.header sent.payload) sent.source
+    → packet ≡ put_at (frame_of sent.source sent.destination sent.header sent.payload) sent.source
     router
     → IsFlight (flight_with n sent 0 packet)
 begins n sent packet router moment rules network accepted frame owned at = record {
@@ -74,7 +74,7 @@ begins n sent packet router moment rules network accepted frame owned at = recor
 
 at_stop : (flight : FlightValue) (is : IsFlight flight) (stop : RouterStop)
     → flight.packet.place ≡ AtRouter stop
-    → (after flight.fabric (put_at (framed flight.sent.source flight.sent.destination
+    → (after flight.fabric (put_at (frame_of flight.sent.source flight.sent.destination
     flight.sent.header flight.sent.payload) flight.sent.source
     (departs flight.fabric flight.sent is.start is.departs).router) is.moments).place
     ≡ AtRouter stop

@@ -8,7 +8,7 @@ use Rattle.scion_topology.specs.declared.network.AsEntry.{AsEntry}
 use Rattle.scion_topology.specs.declared.network.AsInfo.{AsInfo}
 use Rattle.scion_topology.specs.Network.{Network}
 use Rattle.scion_topology.specs.Rules.{IsNetwork}
-use Rattle.scion_topology.specs.Topology.{known, info_in}
+use Rattle.scion_topology.specs.Topology.{known_as, info_in}
 
 pub position_within : {X : Type 0} (p : X → Bool) (xs : List X)
     → position_or_len p xs ≤ length xs
@@ -23,7 +23,7 @@ pub position_small : (n : Network) (ia : ℕ) (info : AsInfo) → IsNetwork n
     → info_in n ia ≡ Ok info → info.position ≤ 1024
 unfolding info_in
 position_small n ia info network is =
-    let at = bind_ok (known n ia) _ info is in
+    let at = bind_ok (known_as n ia) _ info is in
     let same : position_or_len (λ other. other.ia == ia) n.ases ≡ info.position =
     ap (λ (i : AsInfo). i.position) (ok_is _ info at.2) in
     let within = position_within (λ (other : AsEntry). other.ia == ia) n.ases in

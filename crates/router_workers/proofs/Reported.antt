@@ -12,9 +12,9 @@ use Rattle.forwarding.specs.Journey.{turns_for}
 use Rattle.router_workers.specs.declared.end.End.{End}
 use Rattle.router_workers.specs.declared.end.End.TheVariants as ends
 use Rattle.network_core.specs.Delivery.{IsRefusedAt, IsAtRouter}
-use Rattle.router_workers.specs.Flight.{SentPacket, FlightValue, IsFlight, grounded}
+use Rattle.router_workers.specs.Flight.{SentPacket, FlightValue, IsFlight, flight_at_start}
 use Rattle.router_workers.specs.Delivery.{IsFlightForwarded, IsSoundIn, IsSoundEnd}
-use Rattle.router_workers.specs.Run.{repeated, place_after, IsFlightEnd, IsReport}
+use Rattle.router_workers.specs.Run.{packet_after_turns, place_after, IsFlightEnd, IsReport}
 use Rattle.router_workers.proofs.Delivered.{delivered}
 
 -- ---- one second, so many times
@@ -34,12 +34,12 @@ all_again P now (suc k) holds zero d within = holds
 all_again P now (suc k) holds (suc j) d within = all_again P now k holds j d (omega (arith, within))
 
 one_before : (n : Network) (now : ℕ) (packet : Packet) (k : ℕ)
-    → repeated n now (turned_packet n now packet) k ≡ turned_packet n now (repeated n now packet k)
+    → packet_after_turns n now (turned_packet n now packet) k ≡ turned_packet n now (packet_after_turns n now packet k)
 one_before n now packet zero = refl
 one_before n now packet (suc k) = ap (turned_packet n now) (one_before n now packet k)
 
 same_as_after : (n : Network) (now : ℕ) (packet : Packet) (k : ℕ)
-    → repeated n now packet k ≡ after n packet (again now k)
+    → packet_after_turns n now packet k ≡ after n packet (again now k)
 same_as_after n now packet zero = refl
 same_as_after n now packet (suc k) =
     sym (one_before n now packet k) ∙ same_as_after n now (turned_packet n now packet) k
@@ -54,15 +54,15 @@ refused_at : (place other : PacketLocation) (ia router : ℕ) (refusal : _)
 refused_at place other ia router refusal is = subst IsRefusedAt (sym is) tt
 
 module _ (n : Network) (sent : SentPacket) (start : Packet) (now : ℕ)
-    (flight : IsFlight (grounded n sent start)) (sound : IsSoundIn n sent)
+    (flight : IsFlight (flight_at_start n sent start)) (sound : IsSoundIn n sent)
     (live : AreLive now sent.pieces) where
   abbrev total : ℕ
   total = turns_for n (walk_of sent.pieces)
 
   abbrev given : FlightValue
-  given = grounded n sent start
+  given = flight_at_start n sent start
 
-  forwarded : (k : ℕ) → IsFlightForwarded sent total k (repeated n now start k)
+  forwarded : (k : ℕ) → IsFlightForwarded sent total k (packet_after_turns n now start k)
   forwarded k = subst (λ p. IsFlightForwarded sent total k p) (sym (same_as_after n now start k))
       (subst (λ m. IsFlightForwarded sent total m (after n start (again now k))) (length_again now k)
       (delivered n sent start (again now k) flight sound
@@ -88,9 +88,9 @@ module _ (n : Network) (sent : SentPacket) (start : Packet) (now : ℕ)
 
 pub sound_reported : (flights : List FlightValue) (now slots i : ℕ) (ends : List End) (n : Network)
     (sent : SentPacket) (start : Packet) (end : End) → IsReport flights now slots ends
-    → slice_get flights i ≡ Some (grounded n sent start) → slice_get ends i ≡ Some end
-    → IsFlight (grounded n sent start) → IsSoundIn n sent → AreLive now sent.pieces
+    → slice_get flights i ≡ Some (flight_at_start n sent start) → slice_get ends i ≡ Some end
+    → IsFlight (flight_at_start n sent start) → IsSoundIn n sent → AreLive now sent.pieces
     → IsSoundEnd (turns_for n (walk_of sent.pieces)) end
 sound_reported flights now slots i ends n sent start end report there here flight sound live =
     ended n sent start now flight sound live flights slots end
-    (report.each i (grounded n sent start) end there here)
+    (report.each i (flight_at_start n sent start) end there here)

@@ -4,7 +4,7 @@ use Rattle.std.proofs.lemmas.Bool.{cases_lt}
 use Rattle.forwarding.specs.Turn.{Packet, turned_packet}
 use Rattle.network_core.specs.Delivery.{IsAtRouter}
 use Rattle.router_workers.specs.Flight.{FlightValue, advanced_flight}
-use Rattle.router_workers.specs.Run.{repeated, place_after}
+use Rattle.router_workers.specs.Run.{packet_after_turns, place_after}
 use Rattle.router_workers.specs.inner.Run.{IsCarried}
 
 -- where the carried flight is
@@ -27,7 +27,7 @@ went_on flights now number turns carried c here =
       is =
           ap (λ n. turned_packet n now carried.packet) c.same
           ∙ ap (λ (p : Packet). turned_packet c.given.fabric now p) c.is
-          ∙ ap (repeated c.given.fabric now c.given.packet) (sym more);
+          ∙ ap (packet_after_turns c.given.fabric now c.given.packet) (sym more);
       flew = λ k early. elim (cases_lt k turns) [
         | inl before ↦ c.flew k before
         | inr not ↦ (let last : turns ≡ k = omega arith in

@@ -11,7 +11,7 @@ use Rattle.router_step.specs.Packet.{packet_step}
 use Rattle.forwarding.specs.declared.location.RouterStop.{RouterStop}
 use Rattle.forwarding.specs.declared.location.PacketLocation.{PacketLocation}
 use Rattle.forwarding.specs.declared.location.PacketLocation.TheVariants.{AtRouter, Delivered, Refused, Lost}
-use Rattle.forwarding.specs.Turn.{Packet, at_owner, over_link, put, stepped, by_view, by_place, turn_of, turned_packet, after}
+use Rattle.forwarding.specs.Turn.{Packet, at_owner, over_link, after_outcome, after_step, by_view, by_place, turn_of, turned_packet, after}
 use Rattle.router_workers.specs.Flight.{FlightValue, IsFlight}
 use Rattle.router_workers.proofs.Delivered.{departs}
 
@@ -32,14 +32,14 @@ link_unlost n packet stop out (Ok end) is =
 link_unlost n packet stop out (Err fault) is = is
 
 put_unlost : (n : Network) (packet : Packet) (stop : RouterStop) (outcome : Outcome)
-    → IsUnlost packet.place → IsUnlost (put n packet stop outcome).place
+    → IsUnlost packet.place → IsUnlost (after_outcome n packet stop outcome).place
 put_unlost n packet stop (ToLink out) is = link_unlost n packet stop out (far_end_in n stop.ia out) is
 put_unlost n packet stop (ToRouter router) is = tt
 put_unlost n packet stop Deliver is = tt
 
 stepped_unlost : (n : Network) (packet : Packet) (stop : RouterStop)
     (result : Result (Outcome × List ℕ) Refusal) → IsUnlost packet.place
-    → IsUnlost (stepped n packet stop result).1.place
+    → IsUnlost (after_step n packet stop result).1.place
 stepped_unlost n packet stop (Ok done) is =
     put_unlost n (record packet { bytes = done.1 }) stop done.0 is
 stepped_unlost n packet stop (Err refusal) is = tt

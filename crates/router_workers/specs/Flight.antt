@@ -13,7 +13,7 @@ use Rattle.path_verifier.specs.Walk.{walk_of}
 use Rattle.path_verifier.specs.Accepted.{IsAccepted, request_of}
 use Rattle.forwarding.specs.declared.location.PacketLocation.{PacketLocation}
 use Rattle.forwarding.specs.declared.location.PacketLocation.TheVariants as places
-use Rattle.forwarding.specs.Frame.{framed, HasFrame}
+use Rattle.forwarding.specs.Frame.{frame_of, HasFrame}
 use Rattle.forwarding.specs.Turn.{Packet, put_at, turned_packet, after}
 use Rattle.forwarding.specs.Journey.{first_out}
 use Rattle.network_core.specs.Value.{Shipment}
@@ -59,15 +59,15 @@ flight_with fabric sent turns packet =
 -- the packet at the start of a flight: at the router that owns the first way out of its walk
 abbrev pub put_with : SentPacket → Result ℕ TopologyFault → Result Packet TopologyFault
 put_with sent (Ok router) = Ok
-    (put_at (framed sent.source sent.destination sent.header sent.payload) sent.source router)
+    (put_at (frame_of sent.source sent.destination sent.header sent.payload) sent.source router)
 put_with sent (Err fault) = Err fault
 
-abbrev pub departed : Network → SentPacket → Result Packet TopologyFault
-departed n sent = put_with sent (owner_in n sent.source (first_out (walk_of sent.pieces)))
+abbrev pub packet_at_source : Network → SentPacket → Result Packet TopologyFault
+packet_at_source n sent = put_with sent (owner_in n sent.source (first_out (walk_of sent.pieces)))
 
 -- a flight without any turns
-abbrev pub grounded : Network → SentPacket → Packet → FlightValue
-grounded n sent start = flight_with n sent 0 start
+abbrev pub flight_at_start : Network → SentPacket → Packet → FlightValue
+flight_at_start n sent start = flight_with n sent 0 start
 
 -- the flight after one more turn, at this second
 abbrev pub advanced_flight : ℕ → FlightValue → FlightValue
@@ -92,7 +92,7 @@ pub record IsFlight (flight : FlightValue) : Type 0 where
       flight.sent.destination moment rules)
   pub frame : HasFrame flight.sent.source flight.sent.destination flight.sent.pieces
   pub start : Packet
-  pub departs : departed flight.fabric flight.sent ≡ Ok start
+  pub departs : packet_at_source flight.fabric flight.sent ≡ Ok start
   pub moments : List ℕ
   pub count : length moments ≡ flight.turns
   pub is : flight.packet ≡ after flight.fabric start moments

@@ -15,13 +15,13 @@ abbrev pub is_number_of_workers : ℕ → Bool
 is_number_of_workers workers = nat_le 1 workers && nat_le workers 8
 
 -- a packet after this number of turns, all at one second
-abbrev pub repeated : (n : Network) (now : ℕ) (packet : Packet) (turns : ℕ) → Packet
-repeated n now packet zero = packet
-repeated n now packet (suc k) = turned_packet n now (repeated n now packet k)
+abbrev pub packet_after_turns : (n : Network) (now : ℕ) (packet : Packet) (turns : ℕ) → Packet
+packet_after_turns n now packet zero = packet
+packet_after_turns n now packet (suc k) = turned_packet n now (packet_after_turns n now packet k)
 
 -- the place of a flight's packet after this number of turns of the run
 abbrev pub place_after : (now : ℕ) (given : FlightValue) (turns : ℕ) → PacketLocation
-place_after now given turns = (repeated given.fabric now given.packet turns).place
+place_after now given turns = (packet_after_turns given.fabric now given.packet turns).place
 
 -- the packet was at a router before each of these turns
 abbrev pub FliesUntil : (now : ℕ) (given : FlightValue) (turns : ℕ) → Type 0

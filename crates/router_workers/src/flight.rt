@@ -2,7 +2,7 @@ ghost use Rattle.std.specs.Prelude.{◌≡◌, ◌≤◌, ◌<◌, None, IfOk, I
 ghost use Rattle.refusal.specs.Refusal.{Answers};
 ghost use Rattle.forwarding.specs.Turn.{IsAtNoRouter};
 ghost use Rattle.network_core.specs.Delivery.{IsAtRouter};
-ghost use Rattle.router_workers.specs.Flight.{FlightValue, departed, sent_packet_of, grounded, advanced_flight, IsViewAt, IsFlight};
+ghost use Rattle.router_workers.specs.Flight.{FlightValue, packet_at_source, sent_packet_of, flight_at_start, advanced_flight, IsViewAt, IsFlight};
 
 use crate::transit::Transit;
 use forwarding::{PacketLocation, frame};
@@ -65,9 +65,9 @@ impl<'a> Flight<'a> {
         sent: &'a Sent,
     ) -> Result<Flight<'a>, OrMemory<TopologyFault>>
         ensures departs { Answers (λ flight. flight.packet) result
-            (departed fabric.now (sent_packet_of sent.now)) }
+            (packet_at_source fabric.now (sent_packet_of sent.now)) }
         ensures grounded { IfOk result (λ flight.
-            flight ≡ grounded fabric.now (sent_packet_of sent.now) flight.packet) }
+            flight ≡ flight_at_start fabric.now (sent_packet_of sent.now) flight.packet) }
     {
         fabric.known();
         sent.known();

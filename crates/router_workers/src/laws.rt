@@ -7,7 +7,7 @@ ghost use Rattle.path_verifier.specs.Walk.{walk_of};
 ghost use Rattle.forwarding.specs.Turn.{Packet, after};
 ghost use Rattle.forwarding.specs.Journey.{turns_for};
 ghost use Rattle.router_workers.specs.declared.end.End.{End};
-ghost use Rattle.router_workers.specs.Flight.{SentPacket, FlightValue, IsFlight, grounded};
+ghost use Rattle.router_workers.specs.Flight.{SentPacket, FlightValue, IsFlight, flight_at_start};
 ghost use Rattle.router_workers.specs.Delivery.{IsFlightForwarded, IsSoundIn, IsSoundEnd};
 ghost use Rattle.router_workers.specs.Run.{IsReport};
 
@@ -17,7 +17,7 @@ ghost use Rattle.router_workers.specs.Run.{IsReport};
 /// had all its turns, with its whole walk passed. Two turns for each of its hop fields are enough.
 pub fn sound_flights_are_delivered()
     ensures { (n : Network) (sent : SentPacket) (start : Packet) (moments : List ℕ)
-        → IsFlight (grounded n sent start) → IsSoundIn n sent
+        → IsFlight (flight_at_start n sent start) → IsSoundIn n sent
         → All (λ now. AreLive now sent.pieces) moments
         → IsFlightForwarded sent (turns_for n (walk_of sent.pieces)) (length moments)
         (after n start moments) }
@@ -28,7 +28,7 @@ pub fn sound_flights_are_delivered()
 pub fn sound_flights_are_reported()
     ensures { (flights : List FlightValue) (now slots i : ℕ) (ends : List End) (n : Network)
         (sent : SentPacket) (start : Packet) (end : End) → IsReport flights now slots ends
-        → slice_get flights i ≡ Some (grounded n sent start) → slice_get ends i ≡ Some end
-        → IsFlight (grounded n sent start) → IsSoundIn n sent → AreLive now sent.pieces
+        → slice_get flights i ≡ Some (flight_at_start n sent start) → slice_get ends i ≡ Some end
+        → IsFlight (flight_at_start n sent start) → IsSoundIn n sent → AreLive now sent.pieces
         → IsSoundEnd (turns_for n (walk_of sent.pieces)) end }
 {}

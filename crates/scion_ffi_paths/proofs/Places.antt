@@ -8,7 +8,7 @@ use Rattle.std.proofs.lemmas.Map.Made.{Contains-tail}
 use Rattle.path_segment.specs.Chain.{Chain}
 use Rattle.path_segment.specs.Tests.{is_same}
 use Rattle.path_segment.proofs.Decided.{is_same-Decides}
-use Rattle.path_server.specs.Store.{registered}
+use Rattle.path_server.specs.Store.{with_registered}
 use Rattle.path_server.specs.Lookup.{segments_for}
 use Rattle.path_server.proofs.Plain.{Contains-registered_added, ups_are_plain, downs_are_plain, cores_are_plain}
 use Rattle.path_verifier.specs.declared.kind.PieceKind.{PieceKind}
@@ -19,7 +19,7 @@ use Rattle.combinator.specs.Candidate.{PathValue, segments_of}
 use Rattle.combinator.specs.Answer.{AnswerValue, AnswersWith}
 use Rattle.scion_ffi_paths.specs.Asked.{PathsAsked}
 use Rattle.scion_ffi_paths.specs.Text.{place_in_list}
-use Rattle.scion_ffi_paths.specs.Answer.{AreAnswer, selection_of, stored}
+use Rattle.scion_ffi_paths.specs.Answer.{AreAnswer, selection_of, with_all_registered}
 
 behind : (one : Chain) (later : List Chain) (k : ℕ) → slice_get (one ∷ later) (1 + k) ≡ slice_get later k
 behind one later k = let next : 1 + k ≡ suc k = omega arith in ap (slice_get (one ∷ later)) next
@@ -39,10 +39,10 @@ found_at (one ∷ later) segment there =
 
 -- a store has no segments but those that were registered
 of_list : (moment : ℕ) (store segments : List Chain) (segment : Chain)
-    → Contains (stored moment store segments) segment → Contains store segment ⊎ Contains segments segment
+    → Contains (with_all_registered moment store segments) segment → Contains store segment ⊎ Contains segments segment
 of_list moment store [] segment there = inl there
 of_list moment store (one ∷ later) segment there =
-    elim (of_list moment (registered store one moment) later segment there) [
+    elim (of_list moment (with_registered store one moment) later segment there) [
       | inl kept ↦ elim (Contains-registered_added store one moment segment kept) [
         | inl old ↦ inl old
         | inr same ↦ inr (0, omega arith, same)
@@ -62,11 +62,11 @@ abbrev IsToldAt : List Chain → PieceValue → Type 0
 IsToldAt segments piece = slice_get segments (place_in_list piece.segment segments) ≡ Some piece.segment
 
 told_at : (moment src dst now : ℕ) (segments : List Chain) (piece : PieceValue)
-    → Contains (segments_of (segments_for (stored moment [] segments) src dst now) (kind_of piece)) piece.segment
+    → Contains (segments_of (segments_for (with_all_registered moment [] segments) src dst now) (kind_of piece)) piece.segment
     → IsToldAt segments piece
 told_at moment src dst now segments piece there =
     elim (of_list moment [] segments piece.segment
-    (in_store (stored moment [] segments) src dst now (kind_of piece) piece.segment there)) [
+    (in_store (with_all_registered moment [] segments) src dst now (kind_of piece) piece.segment there)) [
       | inl none ↦ absurd (let within = none.1 in omega arith)
       | inr some ↦ found_at segments piece.segment some
     ]

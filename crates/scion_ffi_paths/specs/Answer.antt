@@ -3,7 +3,7 @@ use Rattle.std.specs.Prelude.{◌≡◌, ℕ, List, [], Result, Ok, Err}
 use Rattle.std.specs.List.{fold}
 use Rattle.refusal.specs.Refusal.{◌>>=◌, check, refused_as}
 use Rattle.path_segment.specs.Chain.{Chain}
-use Rattle.path_server.specs.Store.{registered}
+use Rattle.path_server.specs.Store.{with_registered}
 use Rattle.path_server.specs.Lookup.{Selection, segments_for}
 use Rattle.policy_expr.specs.Options.{WeighedRules, options_at}
 use Rattle.combinator.specs.Answer.{AnswerValue, AnswersWith, is_limit}
@@ -22,14 +22,15 @@ options_of_request request = do
   Ok options
 
 -- the store after each of these segments was registered, in their order
-abbrev pub stored : (moment : ℕ) (store segments : List Chain) → List Chain
-stored moment store segments =
-    fold (λ known segment. registered known segment moment) store segments
+abbrev pub with_all_registered : (moment : ℕ) (store segments : List Chain) → List Chain
+with_all_registered moment store segments =
+    fold (λ known segment. with_registered known segment moment) store segments
 
 -- the lookup in a store of the request's segments
 abbrev pub selection_of : Asked → Selection
 selection_of asked =
-    segments_for (stored asked.moment [] asked.segments) asked.src asked.dst asked.moment
+    segments_for (with_all_registered asked.moment [] asked.segments)
+    asked.src asked.dst asked.moment
 
 -- the answer is one to the request under these options
 abbrev pub AreAnswer : PathsAsked → List WeighedRules → AnswerValue → Type 0

@@ -13,9 +13,9 @@ use Rattle.scion_ffi_paths.specs.declared.fault.RequestFault.TheVariants.{BadReq
 use Rattle.scion_ffi_paths.specs.Fault.{of_segment}
 
 -- the value, or BadRequest if nothing was found
-abbrev pub formed : {A : Type 0} → Option A → Result A RequestFault
-formed None = Err BadRequest
-formed (Some found) = Ok found
+abbrev pub found_or_bad_request : {A : Type 0} → Option A → Result A RequestFault
+found_or_bad_request None = Err BadRequest
+found_or_bad_request (Some found) = Ok found
 
 -- the largest number of bytes in a request
 abbrev pub most_request : ℕ
@@ -25,7 +25,7 @@ most_request = 4194304
 unfoldable pub value_asked : List ℕ → Result Data RequestFault
 value_asked bytes = do
   _ ← check (nat_le (length bytes) most_request) BadRequest
-  formed (document_in bytes)
+  found_or_bad_request (document_in bytes)
 
 -- the segment of a JSON value, or why it is refused
 abbrev pub segment_asked : Data → Result Chain RequestFault
@@ -51,11 +51,11 @@ pub record Asked : Type 0 where
 -- the common part of a request, from its object
 unfoldable pub asked_in : Data → Result Asked RequestFault
 asked_in d = do
-  options ← formed (options_in d)
-  src ← formed (ia_in (codes "src") d)
-  dst ← formed (ia_in (codes "dst") d)
-  moment ← formed (long_at (codes "now") d)
-  items ← formed (list_at (codes "segments") d)
+  options ← found_or_bad_request (options_in d)
+  src ← found_or_bad_request (ia_in (codes "src") d)
+  dst ← found_or_bad_request (ia_in (codes "dst") d)
+  moment ← found_or_bad_request (long_at (codes "now") d)
+  items ← found_or_bad_request (list_at (codes "segments") d)
   segments ← each_item segment_asked items
   Ok (record { src = src; dst = dst; options = options; moment = moment; segments = segments })
 
@@ -69,5 +69,5 @@ unfoldable pub paths_asked_in : List ℕ → Result PathsAsked RequestFault
 paths_asked_in bytes = do
   d ← value_asked bytes
   asked ← asked_in d
-  limit ← formed (long_at (codes "limit") d)
+  limit ← found_or_bad_request (long_at (codes "limit") d)
   Ok (record { asked = asked; limit = limit })

@@ -13,7 +13,7 @@ use Rattle.path_verifier.specs.Accepted.{Request, request_of}
 use Rattle.event_lines.specs.Line.{bytes_at}
 use Rattle.scion_ffi_paths.specs.declared.fault.RequestFault.{RequestFault}
 use Rattle.scion_ffi_paths.specs.declared.fault.RequestFault.TheVariants.{BadRequest, Policy, Header, Path}
-use Rattle.scion_ffi_paths.specs.Asked.{Asked, asked_in, formed, value_asked}
+use Rattle.scion_ffi_paths.specs.Asked.{Asked, asked_in, found_or_bad_request, value_asked}
 use Rattle.scion_ffi_paths.specs.Stretch.{piece_at}
 
 -- a request to verify: the common part, the pieces in order of travel, and bytes that begin with
@@ -29,9 +29,9 @@ given_of asked pieces header = record { asked = asked; pieces = pieces; header =
 -- the request to verify in a JSON value whose common part is this one
 unfoldable pub given_with : Asked → Data → Result Given RequestFault
 given_with asked d = do
-  items ← formed (list_at (codes "pieces") d)
-  pieces ← formed (items_at (piece_at asked.segments) items)
-  header ← formed (bytes_at (codes "header") d)
+  items ← found_or_bad_request (list_at (codes "pieces") d)
+  pieces ← found_or_bad_request (items_at (piece_at asked.segments) items)
+  header ← found_or_bad_request (bytes_at (codes "header") d)
   Ok (given_of asked pieces header)
 
 -- the request to verify in these bytes

@@ -3,7 +3,7 @@
 ghost use Rattle.std.specs.Prelude.{◌≡◌, ◌<◌, [], Ok, IfOk, OnOk};
 ghost use Rattle.refusal.specs.Refusal.{Reads};
 ghost use Rattle.combinator.specs.Fault.{ends_at};
-ghost use Rattle.scion_ffi_paths.specs.Answer.{options_of_request, selection_of, stored};
+ghost use Rattle.scion_ffi_paths.specs.Answer.{options_of_request, selection_of, with_all_registered};
 
 use crate::fault::{RequestError, RequestFault};
 use crate::request::{PathsRequest, Request};
@@ -43,7 +43,7 @@ pub(crate) fn options(
 
 /// The store after each segment was registered, in their order.
 fn store_of(alloc: Global, segments: &[Segment], moment: u32) -> Result<PathStore, AllocError>
-    ensures { IfOk result (λ store. store ≡ stored moment [] segments.now) }
+    ensures { IfOk result (λ store. store ≡ with_all_registered moment [] segments.now) }
 {
     let mut store = PathStore::new(alloc);
     for segment in segments {

@@ -8,9 +8,9 @@ use Rattle.scion_topology.specs.declared.network.AsEntry.{AsEntry}
 use Rattle.scion_topology.specs.declared.network.Link.{Link}
 use Rattle.scion_topology.specs.declared.network.LinkClass.{LinkClass}
 use Rattle.scion_topology.specs.declared.network.LinkClass.TheVariants.{Core, Child}
-use Rattle.scion_topology.specs.Network.{Network, as_named, is_end, has_end, link_named, kind_at_a, kind_at_b, end_as_interface, interface_of, table_of, mirrored, interface_in}
+use Rattle.scion_topology.specs.Network.{Network, as_named, is_end, has_end, link_named, kind_at_a, kind_at_b, end_as_interface, interface_of, table_of, mirrored_kind, interface_in}
 use Rattle.scion_topology.specs.Causes.{is_listed, has_unknown_end, lacks_router, has_no_router, is_ill_joined, stands, joins_twice}
-use Rattle.scion_topology.specs.Topology.{IsNetwork, known, known_link, near_end, far_end, far_end_in, owner_in}
+use Rattle.scion_topology.specs.Topology.{IsNetwork, known_as, known_link, near_end, far_end, far_end_in, owner_in}
 use Rattle.refusal.proofs.Steps.{bind_ok, ok_is, ok_or_ok}
 use Rattle.scion_topology.proofs.Judging.{IsFree-IsNetwork, listed_known, has_router}
 use Rattle.scion_topology.proofs.Places.{are_apart, is_numbered, ends_there, network_apart}
@@ -83,7 +83,7 @@ ends_at_b link = or_right (is_end link.a link.b.ia link.b.number) _ (and_from _ 
 pub joined_by_end : (n : Network) (ia number x m : ℕ) (link : Link) → IsNetwork n → known_link n ia number ≡ Ok link → has_end link x m ≡ true → known_link n x m ≡ Ok link
 joined_by_end n ia number x m link network found ends =
     let free = IsFree-IsNetwork n network in
-    let at = bind_ok (known n ia) _ link found in
+    let at = bind_ok (known_as n ia) _ link found in
     let named = ok_or_ok (link_named n.links ia number) faults.NoLink link at.2 in
     let again = found_by_end n.links ia number x m link free.interfaces named ends in
     let ends_known = or_parts (not (is_listed n.ases link.a.ia)) (not (is_listed n.ases link.b.ia)) (found_fails (λ l. has_unknown_end n.ases l) n.links ia number link named free.known_ends) in
@@ -116,7 +116,7 @@ pub record IsJoined (n : Network) (ia number : ℕ) (link : Link) : Type 0 where
 pub IsJoined-known_link : (n : Network) (ia number : ℕ) (link : Link) → IsNetwork n → known_link n ia number ≡ Ok link → IsJoined n ia number link
 IsJoined-known_link n ia number link network found =
     let free = IsFree-IsNetwork n network in
-    let at = bind_ok (known n ia) _ link found in
+    let at = bind_ok (known_as n ia) _ link found in
     let named = ok_or_ok (link_named n.links ia number) faults.NoLink link at.2 in
     record {
       named = named;
@@ -159,7 +159,7 @@ far_back n ia number x m network found =
 
 -- ---- owners
 
-pub owner_below : (n : Network) (ia number router : ℕ) (one : AsEntry) → IsNetwork n → owner_in n ia number ≡ Ok router → known n ia ≡ Ok one → router < one.routers
+pub owner_below : (n : Network) (ia number router : ℕ) (one : AsEntry) → IsNetwork n → owner_in n ia number ≡ Ok router → known_as n ia ≡ Ok one → router < one.routers
 unfolding owner_in
 owner_below n ia number router one network found is_known =
     let at = bind_ok (known_link n ia number) _ router found in
@@ -199,11 +199,11 @@ interface_in-table_of ia number (first ∷ links) link apart found =
           past_table number (interface_of ia first) (table_of ia links) (sym says ∙ other) ∙ interface_in-table_of ia number links link parts.1 later)
     ]
 
-mirrored_b : (class : LinkClass) → kind_at_b class ≡ mirrored (kind_at_a class)
+mirrored_b : (class : LinkClass) → kind_at_b class ≡ mirrored_kind (kind_at_a class)
 mirrored_b Core = refl
 mirrored_b Child = refl
 
-mirrored_a : (class : LinkClass) → kind_at_a class ≡ mirrored (kind_at_b class)
+mirrored_a : (class : LinkClass) → kind_at_a class ≡ mirrored_kind (kind_at_b class)
 mirrored_a Core = refl
 mirrored_a Child = refl
 
@@ -211,7 +211,7 @@ mirrored_a Child = refl
 pub record AreMirrored (n : Network) (x m : ℕ) (near : IfEntry) : Type 0 where
   pub far : IfEntry
   pub shown : interface_in (table_of x n.links) m ≡ Some far
-  pub kind : far.kind ≡ mirrored near.kind
+  pub kind : far.kind ≡ mirrored_kind near.kind
   pub up : far.up ≡ near.up
 
 pub seen_at_a : (link : Link) → interface_of link.a.ia link ≡ Some (end_as_interface link.a (kind_at_a link.class) link.up)
@@ -259,7 +259,7 @@ far_is_mirrored n ia number x m near network found shown =
     let pair = ok_is ((far_end at.0 ia number).ia, (far_end at.0 ia number).number) (x, m) at.2 in
     mirrored_at n ia number x m near at.0 network at.1 (ap (λ (p : ℕ × ℕ). p.0) pair) (ap (λ (p : ℕ × ℕ). p.1) pair) shown
 
-pub far_is_shown : (n : Network) (ia number x m : ℕ) (near : IfEntry) → IsNetwork n → far_end_in n ia number ≡ Ok (x, m) → interface_in (table_of ia n.links) number ≡ Some near → IfSome (interface_in (table_of x n.links) m) (λ far. (far.kind ≡ mirrored near.kind) × (far.up ≡ near.up))
+pub far_is_shown : (n : Network) (ia number x m : ℕ) (near : IfEntry) → IsNetwork n → far_end_in n ia number ≡ Ok (x, m) → interface_in (table_of ia n.links) number ≡ Some near → IfSome (interface_in (table_of x n.links) m) (λ far. (far.kind ≡ mirrored_kind near.kind) × (far.up ≡ near.up))
 far_is_shown n ia number x m near network found shown =
     let far = far_is_mirrored n ia number x m near network found shown in
     rw far.shown (far.kind, far.up)

@@ -3,7 +3,7 @@ use Rattle.std.proofs.Common.{◌≡◌, ℕ, Bool, true, false, cond, List, [],
 use Rattle.std.specs.Prelude.{nat_le}
 use Rattle.std.specs.List.{list_all}
 use Rattle.std.proofs.lemmas.Bool.{and_parts, and_from, leb-true, le-leb, true≢false}
-use Rattle.scion_topology.specs.Keys.{IsKey, AreKeys, is_key, accepted, key_from, keys_of, renewed}
+use Rattle.scion_topology.specs.Keys.{IsKey, AreKeys, is_key, accepted_keys, key_from, keys_of, renewed_keys}
 use Rattle.scion_topology.specs.inner.Keys.{are_keys}
 use Rattle.scion_topology.specs.declared.fault.TopologyFault.{TopologyFault}
 use Rattle.scion_topology.proofs.Deciding.{All-from_list_all, list_all-from_All}
@@ -32,7 +32,7 @@ are_keys-AreKeys keys are =
     (and_from _ _ (le-leb (length keys) 2 are.few) (list_all-from_All is_key IsKey is_key-IsKey keys are.each))
 
 -- a key with the one before it
-pub are_keys_renewed : (key : List ℕ) (keys : List (List ℕ)) → is_key key ≡ true → are_keys keys ≡ true → are_keys (renewed key keys) ≡ true
+pub are_keys_renewed : (key : List ℕ) (keys : List (List ℕ)) → is_key key ≡ true → are_keys keys ≡ true → are_keys (renewed_keys key keys) ≡ true
 are_keys_renewed key [] fits are = absurd (true≢false (sym are))
 are_keys_renewed key (current ∷ older) fits are =
     let first = and_parts (nat_le 1 (length (current ∷ older))) _ are in
@@ -41,7 +41,7 @@ are_keys_renewed key (current ∷ older) fits are =
     and_from (is_key key) _ fits (and_from (is_key current) true own.0 refl)
 
 -- the keys that are accepted of these are right
-pub AreKeys-accepted : (key : List ℕ) (previous : Option (List ℕ)) → list_all is_key (accepted key previous) ≡ true → AreKeys (accepted key previous)
+pub AreKeys-accepted : (key : List ℕ) (previous : Option (List ℕ)) → list_all is_key (accepted_keys key previous) ≡ true → AreKeys (accepted_keys key previous)
 AreKeys-accepted key None all = AreKeys-are_keys (key ∷ []) all
 AreKeys-accepted key (Some before) all = AreKeys-are_keys (key ∷ before ∷ []) all
 
@@ -62,5 +62,5 @@ guards false f new keys e = absurd cc
 pub AreKeys-keys_of : (key : List ℕ) (previous : Option (List ℕ)) (keys : List (List ℕ)) → keys_of key previous ≡ Ok keys → AreKeys keys
 unfolding keys_of
 AreKeys-keys_of key previous keys made =
-    let is = guards (list_all is_key (accepted key previous)) _ (accepted key previous) keys made in
+    let is = guards (list_all is_key (accepted_keys key previous)) _ (accepted_keys key previous) keys made in
     subst AreKeys is.1 (AreKeys-accepted key previous is.0)

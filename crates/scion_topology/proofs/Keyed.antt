@@ -11,13 +11,13 @@ use Rattle.scion_topology.specs.declared.network.End.{End}
 use Rattle.scion_topology.specs.declared.network.Link.{Link}
 use Rattle.scion_topology.specs.declared.network.LinkClass.{LinkClass}
 use Rattle.scion_topology.specs.declared.network.LinkClass.TheVariants.{Core, Child}
-use Rattle.scion_topology.specs.Keys.{is_key, key_from, renewed}
+use Rattle.scion_topology.specs.Keys.{is_key, key_from, renewed_keys}
 use Rattle.scion_topology.specs.inner.Keys.{are_keys}
 use Rattle.refusal.specs.Refusal.{◌>>=◌}
 use Rattle.scion_topology.specs.Network.{Network, is_wildcard, as_named}
 use Rattle.scion_topology.specs.Causes.{lists_twice, has_unknown_end, lacks_router, has_no_router, is_core, is_ill_classed, is_ill_joined, cause_of}
 use Rattle.scion_topology.specs.inner.Causes.{is_as}
-use Rattle.scion_topology.specs.Topology.{IsNetwork, known, with_key, rotated}
+use Rattle.scion_topology.specs.Topology.{IsNetwork, known_as, with_key, with_rotated_key}
 use Rattle.scion_topology.specs.Index.{IndexValue, index_at, index_from}
 use Rattle.scion_topology.specs.inner.Index.{index_in, keyed_at}
 use Rattle.refusal.proofs.Steps.{bind_ok, ok_is, ok_or_ok}
@@ -38,12 +38,12 @@ with_key-keyed_at ia key (one ∷ rest) = elim (cases_Bool (eqb one.ia ia)) [
     next k = let e : suc k ≡ 1 + k = omega arith in ap (λ (i : ℕ). keyed_at i key (one ∷ rest)) e
 
 -- the AS at a place, written anew
-pub keyed_at-slice_set : (k : ℕ) (key : List ℕ) (ases : List AsEntry) (one : AsEntry) → slice_get ases k ≡ Some one → slice_set ases k (record one { keys = renewed key one.keys }) ≡ keyed_at k key ases
+pub keyed_at-slice_set : (k : ℕ) (key : List ℕ) (ases : List AsEntry) (one : AsEntry) → slice_get ases k ≡ Some one → slice_set ases k (record one { keys = renewed_keys key one.keys }) ≡ keyed_at k key ases
 keyed_at-slice_set k key [] one found = absurd cc
 keyed_at-slice_set zero key (first ∷ rest) one found = (let same : first ≡ one = cc in rw same refl)
 keyed_at-slice_set (suc k) key (first ∷ rest) one found = ap (λ (ases : List AsEntry). first ∷ ases) (keyed_at-slice_set k key rest one found)
 
-pub put_key-is : (k : ℕ) (key : List ℕ) (ases : List AsEntry) (one : AsEntry) → k < length ases → one ≡ get_or ases k one → slice_set ases k (record one { keys = renewed key one.keys }) ≡ keyed_at k key ases
+pub put_key-is : (k : ℕ) (key : List ℕ) (ases : List AsEntry) (one : AsEntry) → k < length ases → one ≡ get_or ases k one → slice_set ases k (record one { keys = renewed_keys key one.keys }) ≡ keyed_at k key ases
 put_key-is k key ases one below is = keyed_at-slice_set k key ases one (slice_get-get_or ases k one below ∙ ap Some (sym is))
 
 -- ---- what a network is judged by
@@ -53,12 +53,12 @@ IgnoresKeys f = (one : AsEntry) (keys : List (List ℕ)) → f (record one { key
 
 same_any : (f : AsEntry → Bool) → IgnoresKeys f → (k : ℕ) (key : List ℕ) (ases : List AsEntry) → list_any f (keyed_at k key ases) ≡ list_any f ases
 same_any f same k key [] = refl
-same_any f same zero key (one ∷ rest) = rw (same one (renewed key one.keys)) refl
+same_any f same zero key (one ∷ rest) = rw (same one (renewed_keys key one.keys)) refl
 same_any f same (suc k) key (one ∷ rest) = rw (same_any f same k key rest) refl
 
 same_named : (f : AsEntry → Bool) → IgnoresKeys f → (ia k : ℕ) (key : List ℕ) (ases : List AsEntry) → option_map_or f (as_named (keyed_at k key ases) ia) false ≡ option_map_or f (as_named ases ia) false
 same_named f same ia k key [] = refl
-same_named f same ia zero key (one ∷ rest) = elim (cases_Bool (eqb one.ia ia)) [ inl here ↦ rw here (same one (renewed key one.keys)) | inr other ↦ rw other refl ]
+same_named f same ia zero key (one ∷ rest) = elim (cases_Bool (eqb one.ia ia)) [ inl here ↦ rw here (same one (renewed_keys key one.keys)) | inr other ↦ rw other refl ]
 same_named f same ia (suc k) key (one ∷ rest) = elim (cases_Bool (eqb one.ia ia)) [ inl here ↦ rw here refl | inr other ↦ rw other (same_named f same ia k key rest) ]
 
 length-keyed_at : (k : ℕ) (key : List ℕ) (ases : List AsEntry) → length (keyed_at k key ases) ≡ length ases
@@ -108,9 +108,9 @@ all_keyed : (k : ℕ) (key : List ℕ) (ases : List AsEntry) → is_key key ≡ 
 all_keyed k key [] fit all = all
 all_keyed zero key (one ∷ rest) fit all =
     let parts = and_parts (is_as one) (list_all is_as rest) all in
-    and_from (is_as (record one { keys = renewed key one.keys })) (list_all is_as rest) (as_keyed one parts.0) parts.1
+    and_from (is_as (record one { keys = renewed_keys key one.keys })) (list_all is_as rest) (as_keyed one parts.0) parts.1
   where
-    as_keyed : (one : AsEntry) → is_as one ≡ true → is_as (record one { keys = renewed key one.keys }) ≡ true
+    as_keyed : (one : AsEntry) → is_as one ≡ true → is_as (record one { keys = renewed_keys key one.keys }) ≡ true
     as_keyed one passed =
         let a = and_parts (not (is_wildcard one.ia)) _ passed in
         let b = and_parts (nat_le 1 one.routers) _ a.1 in
@@ -134,10 +134,10 @@ index_from-keyed_at base (suc k) key (one ∷ rest) links x = rw (index_from-key
 
 -- ---- the change
 
-pub rotated-index_in : (ia : ℕ) (key new : List ℕ) (n : Network) (one : AsEntry) (index : IndexValue) → index_in n ia ≡ Ok (one, index) → key_from key ≡ Ok new → rotated ia key n ≡ Ok (rekeyed index.position new n)
-unfolding rotated
+pub rotated-index_in : (ia : ℕ) (key new : List ℕ) (n : Network) (one : AsEntry) (index : IndexValue) → index_in n ia ≡ Ok (one, index) → key_from key ≡ Ok new → with_rotated_key ia key n ≡ Ok (rekeyed index.position new n)
+unfolding with_rotated_key
 rotated-index_in ia key new n one index found fits =
-    let at = bind_ok (known n ia) _ (one, index) found in
+    let at = bind_ok (known_as n ia) _ (one, index) found in
     let pair = ok_is (at.0, index_at (position_or_len (λ other. eqb other.ia ia) n.ases) ia n.links) (one, index) at.2 in
     let place : position_or_len (λ other. eqb other.ia ia) n.ases ≡ index.position = ap (λ (p : AsEntry × IndexValue). p.1.position) pair in
     rw (at.1, fits, with_key-keyed_at ia new n.ases, place) refl
@@ -153,17 +153,17 @@ unknown_both : (r : Result AsEntry TopologyFault) (n : Network) (ia : ℕ) (key 
 unknown_both (Ok x) n ia key f e = absurd cc
 unknown_both (Err g) n ia key f e = cc
 
-pub rotated-unknown : (ia : ℕ) (key : List ℕ) (n : Network) (f : TopologyFault) → index_in n ia ≡ Err f → rotated ia key n ≡ Err f
-unfolding rotated
-rotated-unknown ia key n f none = unknown_both (known n ia) n ia key f none
+pub rotated-unknown : (ia : ℕ) (key : List ℕ) (n : Network) (f : TopologyFault) → index_in n ia ≡ Err f → with_rotated_key ia key n ≡ Err f
+unfolding with_rotated_key
+rotated-unknown ia key n f none = unknown_both (known_as n ia) n ia key f none
 
-pub rotated-bad : (ia : ℕ) (key : List ℕ) (n : Network) (one : AsEntry) (index : IndexValue) (f : TopologyFault) → index_in n ia ≡ Ok (one, index) → key_from key ≡ Err f → rotated ia key n ≡ Err f
-unfolding rotated
-rotated-bad ia key n one index f found bad = let at = bind_ok (known n ia) _ (one, index) found in rw (at.1, bad) refl
+pub rotated-bad : (ia : ℕ) (key : List ℕ) (n : Network) (one : AsEntry) (index : IndexValue) (f : TopologyFault) → index_in n ia ≡ Ok (one, index) → key_from key ≡ Err f → with_rotated_key ia key n ≡ Err f
+unfolding with_rotated_key
+rotated-bad ia key n one index f found bad = let at = bind_ok (known_as n ia) _ (one, index) found in rw (at.1, bad) refl
 
 pub within-index_in : (n : Network) (ia : ℕ) (one : AsEntry) (index : IndexValue) → index_in n ia ≡ Ok (one, index) → index.position < length n.ases
 within-index_in n ia one index found =
-    let at = bind_ok (known n ia) _ (one, index) found in
+    let at = bind_ok (known_as n ia) _ (one, index) found in
     let pair = ok_is (at.0, index_at (position_or_len (λ other. eqb other.ia ia) n.ases) ia n.links) (one, index) at.2 in
     let place : position_or_len (λ other. eqb other.ia ia) n.ases ≡ index.position = ap (λ (p : AsEntry × IndexValue). p.1.position) pair in
     let named = ok_or_ok (as_named n.ases ia) _ at.0 at.1 in

@@ -12,9 +12,9 @@ use Rattle.scion_topology.specs.declared.fault.TopologyFault.TheVariants as faul
 use Rattle.scion_topology.specs.declared.network.AsEntry.{AsEntry}
 use Rattle.scion_topology.specs.declared.network.End.{End}
 use Rattle.scion_topology.specs.declared.network.Link.{Link}
-use Rattle.scion_topology.specs.Keys.{is_key, key_from, renewed}
+use Rattle.scion_topology.specs.Keys.{is_key, key_from, renewed_keys}
 use Rattle.scion_topology.specs.Network.{Network, as_named, is_end, has_end, link_named, interface_of, table_of, interface_in}
-use Rattle.scion_topology.specs.Topology.{IsNetwork, known, known_link, near_end, far_end, interface_at, far_end_in, owner_in, with_up, with_key, set_up, rotated}
+use Rattle.scion_topology.specs.Topology.{IsNetwork, known_as, known_link, near_end, far_end, interface_at, far_end_in, owner_in, with_up, with_key, set_up, with_rotated_key}
 use Rattle.scion_topology.specs.Ends.{IsAt, IsShown, at_a, at_b, IsUp, IsStill, IsSame}
 use Rattle.scion_topology.specs.inner.Index.{place_in, set_from}
 use Rattle.refusal.proofs.Steps.{bind_ok, ok_is, ok_or_ok}
@@ -47,17 +47,17 @@ pub record IsKeyed (x : ℕ) (key : List ℕ) (n m : Network) : Type 0 where
   pub made : key_from key ≡ Ok new
   pub is : record n { ases = with_key x new n.ases } ≡ m
 
-pub is_keyed : (x : ℕ) (key : List ℕ) (n m : Network) → rotated x key n ≡ Ok m → IsKeyed x key n m
-unfolding rotated
+pub is_keyed : (x : ℕ) (key : List ℕ) (n m : Network) → with_rotated_key x key n ≡ Ok m → IsKeyed x key n m
+unfolding with_rotated_key
 is_keyed x key n m change =
-    let at = bind_ok (known n x) _ m change in
+    let at = bind_ok (known_as n x) _ m change in
     let made = bind_ok (key_from key) _ m at.2 in
     record { new = made.0; made = made.1; is = ok_is (record n { ases = with_key x made.0 n.ases }) m made.2 }
 
 pub same_ases : (up : Bool) (x y : ℕ) (n m : Network) → set_up up x y n ≡ Ok m → m.ases ≡ n.ases
 same_ases up x y n m change = sym (ap (λ (k : Network). k.ases) (is_linked up x y n m change).is)
 
-pub same_links : (x : ℕ) (key : List ℕ) (n m : Network) → rotated x key n ≡ Ok m → m.links ≡ n.links
+pub same_links : (x : ℕ) (key : List ℕ) (n m : Network) → with_rotated_key x key n ≡ Ok m → m.links ≡ n.links
 same_links x key n m change = sym (ap (λ (k : Network). k.links) (is_keyed x key n m change).is)
 
 -- ---- a network stays one
@@ -65,7 +65,7 @@ same_links x key n m change = sym (ap (λ (k : Network). k.links) (is_keyed x ke
 fitting : (key new : List ℕ) → key_from key ≡ Ok new → is_key new ≡ true
 fitting key new made = let is = made_key key new made in subst (λ (k : List ℕ). is_key k ≡ true) is.1 is.0
 
-pub rotated_network : (x : ℕ) (key : List ℕ) (n m : Network) → IsNetwork n → rotated x key n ≡ Ok m → IsNetwork m
+pub rotated_network : (x : ℕ) (key : List ℕ) (n m : Network) → IsNetwork n → with_rotated_key x key n ≡ Ok m → IsNetwork m
 rotated_network x key n m network change =
     let keyed = is_keyed x key n m change in
     let same = with_key-keyed_at x keyed.new n.ases in
@@ -86,7 +86,7 @@ linked_network up x y n m network change = go (place_in n x y) refl
     go : (place : Result ℕ TopologyFault) → place_in n x y ≡ place → IsNetwork m
     go (Err d) none = absurd (not_both d m (sym (set_up-none up x y n d none) ∙ change))
     go (Ok place) found =
-        let first_at = bind_ok (known n x) _ place found in
+        let first_at = bind_ok (known_as n x) _ place found in
         let first = ok_or_ok (position (λ l. has_end l x y) n.links) faults.NoLink place first_at.2 in
         let zero_place : 0 + place ≡ place = omega arith in
         let same : with_up up x y n.links ≡ set_from 0 place up n.links = rw zero_place at (with_up-set_from 0 x y place up n.links first) in
@@ -105,27 +105,27 @@ named_elsewhere x ia key (one ∷ rest) other = elim (cases_Bool (eqb one.ia x))
 ]
 
 -- another AS's new key
-pub named_still : (x ia : ℕ) (key : List ℕ) (n m : Network) → rotated x key n ≡ Ok m → x ≢ ia → as_named m.ases ia ≡ as_named n.ases ia
+pub named_still : (x ia : ℕ) (key : List ℕ) (n m : Network) → with_rotated_key x key n ≡ Ok m → x ≢ ia → as_named m.ases ia ≡ as_named n.ases ia
 named_still x ia key n m change other =
     let keyed = is_keyed x key n m change in
     ap (λ (k : Network). as_named k.ases ia) (sym keyed.is) ∙ named_elsewhere x ia keyed.new n.ases other
 
-named_here : (x : ℕ) (key : List ℕ) (ases : List AsEntry) (one : AsEntry) → as_named ases x ≡ Some one → as_named (with_key x key ases) x ≡ Some (record one { keys = renewed key one.keys })
+named_here : (x : ℕ) (key : List ℕ) (ases : List AsEntry) (one : AsEntry) → as_named ases x ≡ Some one → as_named (with_key x key ases) x ≡ Some (record one { keys = renewed_keys key one.keys })
 named_here x key [] one named = absurd cc
 named_here x key (first ∷ rest) one named = elim (cases_Bool (eqb first.ia x)) [
   | inl here ↦ (
       let now : cond true (Some first) (as_named rest x) ≡ Some one = rw here at named in
       let same : first ≡ one = same_Some first one now in
-      rw (here, here) (ap (λ (o : AsEntry). Some (record o { keys = renewed key o.keys })) same))
+      rw (here, here) (ap (λ (o : AsEntry). Some (record o { keys = renewed_keys key o.keys })) same))
   | inr past ↦ (let later : cond false (Some first) (as_named rest x) ≡ Some one = rw past at named in rw (past, past) (named_here x key rest one later))
 ]
 
 -- the AS that took it into use
-pub named_renewed : (x : ℕ) (key : List ℕ) (n m : Network) (one : AsEntry) → rotated x key n ≡ Ok m → as_named n.ases x ≡ Some one → as_named m.ases x ≡ Some (record one { keys = renewed key one.keys })
+pub named_renewed : (x : ℕ) (key : List ℕ) (n m : Network) (one : AsEntry) → with_rotated_key x key n ≡ Ok m → as_named n.ases x ≡ Some one → as_named m.ases x ≡ Some (record one { keys = renewed_keys key one.keys })
 named_renewed x key n m one change named =
     let keyed = is_keyed x key n m change in
     ap (λ (k : Network). as_named k.ases x) (sym keyed.is) ∙ named_here x keyed.new n.ases one named
-    ∙ ap (λ (new : List ℕ). Some (record one { keys = renewed new one.keys })) (sym (made_key key keyed.new keyed.made).1)
+    ∙ ap (λ (new : List ℕ). Some (record one { keys = renewed_keys new one.keys })) (sym (made_key key keyed.new keyed.made).1)
 
 -- ---- owners, far ends and presence
 
@@ -166,14 +166,14 @@ asked_split : {A : Type 0} (g : Link → A) (a : Result AsEntry TopologyFault) (
 asked_split g (Ok one) o = asked_found g o
 asked_split g (Err fault) o = refl
 
-asked_at : {A : Type 0} (g : Link → A) (n : Network) (ia i : ℕ) → (known_link n ia i >>= λ link. Ok (g link)) ≡ if_known (known n ia) (asked g (link_named n.links ia i))
-asked_at g n ia i = asked_split g (known n ia) (link_named n.links ia i)
+asked_at : {A : Type 0} (g : Link → A) (n : Network) (ia i : ℕ) → (known_link n ia i >>= λ link. Ok (g link)) ≡ if_known (known_as n ia) (asked g (link_named n.links ia i))
+asked_at g n ia i = asked_split g (known_as n ia) (link_named n.links ia i)
 
 asked_linked : {A : Type 0} (g : Link → A) → IgnoresState g → (up : Bool) (x y ia i : ℕ) (n m : Network) → set_up up x y n ≡ Ok m → (known_link m ia i >>= λ link. Ok (g link)) ≡ (known_link n ia i >>= λ link. Ok (g link))
 asked_linked g same up x y ia i n m change =
     ap (λ (k : Network). known_link k ia i >>= λ link. Ok (g link)) (sym (is_linked up x y n m change).is)
     ∙ asked_at g (record n { links = with_up up x y n.links }) ia i
-    ∙ ap (if_known (known n ia)) (asked_up g same up x y ia i n.links)
+    ∙ ap (if_known (known_as n ia)) (asked_up g same up x y ia i n.links)
     ∙ sym (asked_at g n ia i)
 
 abbrev is_there : Option AsEntry → Bool
@@ -193,7 +193,7 @@ if_there None (Some one) r e = absurd cc
 if_there (Some one) None r e = absurd cc
 if_there (Some one) (Some other) r e = refl
 
-asked_keyed : {A : Type 0} (g : Link → A) (x : ℕ) (key : List ℕ) (ia i : ℕ) (n m : Network) → rotated x key n ≡ Ok m → (known_link m ia i >>= λ link. Ok (g link)) ≡ (known_link n ia i >>= λ link. Ok (g link))
+asked_keyed : {A : Type 0} (g : Link → A) (x : ℕ) (key : List ℕ) (ia i : ℕ) (n m : Network) → with_rotated_key x key n ≡ Ok m → (known_link m ia i >>= λ link. Ok (g link)) ≡ (known_link n ia i >>= λ link. Ok (g link))
 asked_keyed g x key ia i n m change =
     let keyed = is_keyed x key n m change in
     ap (λ (k : Network). known_link k ia i >>= λ link. Ok (g link)) (sym keyed.is)
@@ -208,7 +208,7 @@ entry_split (Err fault) o = refl
 
 -- ---- after a new key
 
-pub same_interfaces : (x : ℕ) (key : List ℕ) (n m : Network) (ia i : ℕ) → rotated x key n ≡ Ok m → IsSame n m ia i
+pub same_interfaces : (x : ℕ) (key : List ℕ) (n m : Network) (ia i : ℕ) → with_rotated_key x key n ≡ Ok m → IsSame n m ia i
 unfolding owner_in far_end_in
 same_interfaces x key n m ia i change =
     let keyed = is_keyed x key n m change in
@@ -217,9 +217,9 @@ same_interfaces x key n m ia i change =
       owner = asked_keyed (λ link. (near_end link ia i).router) x key ia i n m change;
       leads = asked_keyed (λ link. ((far_end link ia i).ia, (far_end link ia i).number)) x key ia i n m change;
       shown = ap (λ (w : Network). interface_at w ia i) (sym keyed.is)
-          ∙ entry_split (known k ia) (interface_in (table_of ia n.links) i)
+          ∙ entry_split (known_as k ia) (interface_in (table_of ia n.links) i)
           ∙ if_there (as_named k.ases ia) (as_named n.ases ia) (ok_or (interface_in (table_of ia n.links) i) faults.NoLink) (there_still ia x keyed.new n.ases)
-          ∙ sym (entry_split (known n ia) (interface_in (table_of ia n.links) i));
+          ∙ sym (entry_split (known_as n ia) (interface_in (table_of ia n.links) i));
     }
 
 -- ---- after a link went up or down
@@ -264,11 +264,11 @@ some_state up x y ia number (link ∷ links) entry shown = elim (cases_Bool (has
 -- an interface in a network of the same ASes
 shown_in : (n : Network) (links : List Link) (ia number : ℕ) (entry other : IfEntry) → interface_at n ia number ≡ Ok entry → interface_in (table_of ia links) number ≡ Some other → interface_at (record n { links = links }) ia number ≡ Ok other
 shown_in n links ia number entry other found there =
-    let at = bind_ok (known n ia) _ entry found in
+    let at = bind_ok (known_as n ia) _ entry found in
     rw (at.1, there) refl
 
 in_table_at : (n : Network) (ia number : ℕ) (entry : IfEntry) → interface_at n ia number ≡ Ok entry → interface_in (table_of ia n.links) number ≡ Some entry
-in_table_at n ia number entry found = ok_or_ok _ faults.NoLink entry (bind_ok (known n ia) _ entry found).2
+in_table_at n ia number entry found = ok_or_ok _ faults.NoLink entry (bind_ok (known_as n ia) _ entry found).2
 
 pub still_there : (up : Bool) (x y : ℕ) (n m : Network) (ia i : ℕ) → set_up up x y n ≡ Ok m → IsStill n m ia i
 unfolding owner_in far_end_in
@@ -413,7 +413,7 @@ others_stay up x y ia m far far_m n k network change leads not_near not_far =
     let others = others_in n.links link x y ia m (network_apart n network)
     (λ i l within there has. same_Some l link (sym (found_at n.links i l ia m free.interfaces within there has) ∙ shown.named)) ends in
     ap (λ (w : Network). interface_at w ia m) (sym (is_linked up x y n k change).is)
-    ∙ ap (λ (o : Option IfEntry). known n ia >>= λ _. ok_or o faults.NoLink) (set_elsewhere up x y ia m n.links others)
+    ∙ ap (λ (o : Option IfEntry). known_as n ia >>= λ _. ok_or o faults.NoLink) (set_elsewhere up x y ia m n.links others)
 
 -- ---- a mended link
 

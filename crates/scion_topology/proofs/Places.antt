@@ -13,7 +13,7 @@ use Rattle.scion_topology.specs.declared.network.Link.{Link}
 use Rattle.scion_topology.specs.Network.{Network, has_end, link_named, interface_of, table_of}
 use Rattle.scion_topology.specs.Causes.{is_ill_joined}
 use Rattle.refusal.specs.Refusal.{◌>>=◌}
-use Rattle.scion_topology.specs.Topology.{IsNetwork, known, known_link}
+use Rattle.scion_topology.specs.Topology.{IsNetwork, known_as, known_link}
 use Rattle.scion_topology.specs.Index.{IndexValue, places_of, index_at}
 use Rattle.scion_topology.specs.inner.Index.{place_beside, index_in, place_in}
 use Rattle.std.proofs.lemmas.Option.{slice_get-get_or}
@@ -99,13 +99,13 @@ zero_moved (Some k) = ap Some (omega arith)
 
 -- the index that was found is what the definitions say of the AS
 pub record IsIndex (n : Network) (ia : ℕ) (one : AsEntry) (index : IndexValue) : Type 0 where
-  pub known : known n ia ≡ Ok one
+  pub known : known_as n ia ≡ Ok one
   pub table : index.table ≡ table_of ia n.links
   pub places : index.places ≡ places_of 0 ia n.links
 
 pub IsIndex-index_in : (n : Network) (ia : ℕ) (one : AsEntry) (index : IndexValue) → index_in n ia ≡ Ok (one, index) → IsIndex n ia one index
 IsIndex-index_in n ia one index found =
-    let at = bind_ok (known n ia) _ (one, index) found in
+    let at = bind_ok (known_as n ia) _ (one, index) found in
     let pair = ok_is (at.0, index_at (position_or_len (λ other. eqb other.ia ia) n.ases) ia n.links) (one, index) at.2 in
     let same : at.0 ≡ one = ap (λ (p : AsEntry × IndexValue). p.0) pair in
     let is : index_at (position_or_len (λ other. eqb other.ia ia) n.ases) ia n.links ≡ index = ap (λ (p : AsEntry × IndexValue). p.1) pair in
@@ -149,12 +149,12 @@ none_at p xs e = elim (cases_lt (position_or_len p xs) (length xs)) [
 -- the place of a link, and the link
 pub IsFirst-place_in : (n : Network) (ia number k : ℕ) → place_in n ia number ≡ Ok k → IsFirst (λ link. has_end link ia number) n.links k
 IsFirst-place_in n ia number k e =
-    let at = bind_ok (known n ia) _ k e in
+    let at = bind_ok (known_as n ia) _ k e in
     IsFirst-position (λ link. has_end link ia number) n.links k (ok_or_ok (position (λ link. has_end link ia number) n.links) faults.NoLink k at.2)
 
 pub known_link-place_in : (n : Network) (ia number k : ℕ) (link : Link) → place_in n ia number ≡ Ok k → link ≡ get_or n.links k link → known_link n ia number ≡ Ok link
 known_link-place_in n ia number k link e is =
-    let at = bind_ok (known n ia) _ k e in
+    let at = bind_ok (known_as n ia) _ k e in
     let first = IsFirst-place_in n ia number k e in
     let found : link_named n.links ia number ≡ Some link = first.found link is in
     rw (at.1, found) refl
@@ -172,7 +172,7 @@ joined_err (Ok x) links ia number d e =
 joined_err (Err f) links ia number d e = cc
 
 pub known_link-place_in_err : (n : Network) (ia number : ℕ) (d : TopologyFault) → place_in n ia number ≡ Err d → known_link n ia number ≡ Err d
-known_link-place_in_err n ia number d e = joined_err (known n ia) n.links ia number d e
+known_link-place_in_err n ia number d e = joined_err (known_as n ia) n.links ia number d e
 
 pub place_in-bound : (n : Network) (ia number : ℕ) (r : Result ℕ TopologyFault) → r ≡ place_in n ia number → IfOk r (λ k. k < length n.links)
 place_in-bound n ia number (Ok k) e = (IsFirst-place_in n ia number k (sym e)).within

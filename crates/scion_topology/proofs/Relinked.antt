@@ -10,7 +10,7 @@ use Rattle.scion_topology.specs.declared.network.AsEntry.{AsEntry}
 use Rattle.scion_topology.specs.declared.network.Link.{Link}
 use Rattle.scion_topology.specs.Network.{Network, has_end, table_of}
 use Rattle.scion_topology.specs.Causes.{stands, joins_twice}
-use Rattle.scion_topology.specs.Topology.{IsNetwork, known, set_up, with_up}
+use Rattle.scion_topology.specs.Topology.{IsNetwork, known_as, set_up, with_up}
 use Rattle.scion_topology.specs.inner.Table.{marked_table}
 use Rattle.scion_topology.specs.Index.{IndexValue, index_at, index_from, places_of}
 use Rattle.scion_topology.specs.inner.Index.{place_in, marked, set_from}
@@ -33,7 +33,7 @@ relinked place up n = record { ases = n.ases; links = set_from 0 place up n.link
 pub set_up-place_in : (up : Bool) (ia number place : ℕ) (n : Network) (link : Link) → place_in n ia number ≡ Ok place → link ≡ get_or n.links place link → set_up up ia number n ≡ Ok (relinked place up n)
 unfolding set_up
 set_up-place_in up ia number place n link found is =
-    let at = bind_ok (known n ia) _ place found in
+    let at = bind_ok (known_as n ia) _ place found in
     let first = ok_or_ok (position (λ l. has_end l ia number) n.links) faults.NoLink place at.2 in
     let zero_place : 0 + place ≡ place = omega arith in
     let same : with_up up ia number n.links ≡ set_from 0 place up n.links = rw zero_place at (with_up-set_from 0 ia number place up n.links first) in

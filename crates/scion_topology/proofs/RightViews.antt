@@ -8,7 +8,7 @@ use Rattle.std.proofs.lemmas.Bool.Decides.{Decides-eqb}
 use Rattle.scion_topology.specs.declared.entry.IfEntry.{IfEntry}
 use Rattle.scion_topology.specs.declared.fault.TopologyFault.TheVariants as faults
 use Rattle.scion_topology.specs.View.{View, IsRight, entry_of}
-use Rattle.scion_topology.specs.Keys.{IsKey, AreKeys, is_key, accepted}
+use Rattle.scion_topology.specs.Keys.{IsKey, AreKeys, is_key, accepted_keys}
 use Rattle.scion_topology.specs.Network.{is_wildcard}
 use Rattle.scion_topology.specs.Building.{has_bad_field, is_named, numbers_twice, view_of}
 use Rattle.scion_topology.proofs.KeyTests.{is_key-IsKey, AreKeys-accepted}
@@ -48,10 +48,10 @@ by_tests false true view P h = tt
 by_tests false false view P h = h refl refl
 
 pub made_right : (ia router : ℕ) (key : List ℕ) (previous : Option (List ℕ)) (table : List IfEntry)
-    → IfOk (view_of ia router key previous table) (λ view. (view ≡ record { ia = ia; router = router; keys = accepted key previous; table = table }) × IsRight view)
+    → IfOk (view_of ia router key previous table) (λ view. (view ≡ record { ia = ia; router = router; keys = accepted_keys key previous; table = table }) × IsRight view)
 unfolding view_of
 made_right ia router key previous table =
-    let keys = accepted key previous in
+    let keys = accepted_keys key previous in
     by_tests (has_bad_field ia keys table) (numbers_twice table) (record { ia = ia; router = router; keys = keys; table = table })
     (λ view. (view ≡ record { ia = ia; router = router; keys = keys; table = table }) × IsRight view)
     (λ fine once. (
@@ -65,10 +65,10 @@ no_bad_field view h =
     (false_or _ _ (is_wildcard-IsPlain view.ia h.plain)
     (list_any_none (λ entry. entry.number == 0) view.table (λ k d below. apart_test _ _ (h.numbered k d below))))
 
-pub right_made : (view : View) (key : List ℕ) (previous : Option (List ℕ)) → IsRight view → view.keys ≡ accepted key previous → view_of view.ia view.router key previous view.table ≡ Ok view
+pub right_made : (view : View) (key : List ℕ) (previous : Option (List ℕ)) → IsRight view → view.keys ≡ accepted_keys key previous → view_of view.ia view.router key previous view.table ≡ Ok view
 unfolding view_of
 right_made view key previous h are =
-    let fine : has_bad_field view.ia (accepted key previous) view.table ≡ false = rw (← are) (no_bad_field view h) in
+    let fine : has_bad_field view.ia (accepted_keys key previous) view.table ≡ false = rw (← are) (no_bad_field view h) in
     rw (fine, not_named_twice view.table h.once)
     (ap (λ (keys : List (List ℕ)). Ok (record { ia = view.ia; router = view.router; keys = keys; table = view.table })) (sym are))
 

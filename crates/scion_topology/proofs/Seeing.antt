@@ -11,7 +11,7 @@ use Rattle.scion_topology.specs.Rules.{IsAs}
 use Rattle.scion_topology.specs.Network.{Network, is_wildcard, as_named, has_end, interface_of, table_of}
 use Rattle.scion_topology.specs.Causes.{stands, joins_twice}
 use Rattle.scion_topology.specs.inner.Causes.{is_as, is_link}
-use Rattle.scion_topology.specs.Topology.{IsNetwork, known}
+use Rattle.scion_topology.specs.Topology.{IsNetwork, known_as}
 use Rattle.refusal.proofs.Steps.{ok_or_ok}
 use Rattle.scion_topology.proofs.Judging.{IsFree-IsNetwork, judged, listed_of_named}
 use Rattle.scion_topology.proofs.Places.{are_apart, is_numbered, ends_there, network_apart}
@@ -94,7 +94,7 @@ pub record IsSeen (n : Network) (ia : ℕ) (one : AsEntry) : Type 0 where
   pub numbered : is_named 0 (table_of ia n.links) ≡ false
   pub once : numbers_twice (table_of ia n.links) ≡ false
 
-pub IsSeen-known : (n : Network) (ia : ℕ) (one : AsEntry) → IsNetwork n → known n ia ≡ Ok one → IsSeen n ia one
+pub IsSeen-known : (n : Network) (ia : ℕ) (one : AsEntry) → IsNetwork n → known_as n ia ≡ Ok one → IsSeen n ia one
 IsSeen-known n ia one network found =
     let free = IsFree-IsNetwork n network in
     let apart = network_apart n network in

@@ -11,7 +11,7 @@ use Rattle.scion_topology.specs.declared.network.Link.{Link}
 use Rattle.scion_topology.specs.Network.{Network, as_named, is_end, has_end, link_named, interface_of, table_of, interface_in}
 use Rattle.scion_topology.specs.Rules.{IsAs, IsLink}
 use Rattle.scion_topology.specs.Causes.{stands, joins_twice}
-use Rattle.scion_topology.specs.Topology.{IsNetwork, known, known_link, far_end, interface_at, far_end_in, owner_in}
+use Rattle.scion_topology.specs.Topology.{IsNetwork, known_as, known_link, far_end, interface_at, far_end_in, owner_in}
 use Rattle.scion_topology.specs.Ends.{IsAt, ShowsBothEnds, AreJoined, IsEndOf, at_a, at_b}
 use Rattle.refusal.proofs.Steps.{bind_ok, ok_is, ok_or_ok}
 use Rattle.scion_topology.proofs.Judging.{IsFree-IsNetwork, are_named, listed_of_named, ia_of_named}
@@ -140,7 +140,7 @@ shown_by (first ∷ rest) ia number entry shown = first_of_two first rest ia num
 
 pub is_end_of : (n : Network) (ia number : ℕ) (entry : IfEntry) → interface_at n ia number ≡ Ok entry → IsEndOf n ia number entry
 is_end_of n ia number entry found =
-    let step = bind_ok (known n ia) _ entry found in
+    let step = bind_ok (known_as n ia) _ entry found in
     let of = shown_by n.links ia number entry (ok_or_ok _ faults.NoLink entry step.2) in
     let link = of.link in
     record {

@@ -4,7 +4,7 @@ use Rattle.std.specs.List.{list_any, list_all}
 use Rattle.scion_topology.specs.declared.entry.IfEntry.{IfEntry}
 use Rattle.scion_topology.specs.declared.fault.TopologyFault.{TopologyFault}
 use Rattle.scion_topology.specs.declared.fault.TopologyFault.TheVariants as faults
-use Rattle.scion_topology.specs.Keys.{is_key, accepted}
+use Rattle.scion_topology.specs.Keys.{is_key, accepted_keys}
 use Rattle.scion_topology.specs.Network.{is_wildcard}
 use Rattle.scion_topology.specs.View.{View}
 
@@ -27,6 +27,6 @@ numbers_twice (entry ∷ rest) = is_named entry.number rest || numbers_twice res
 unfoldable pub view_of : (ia router : ℕ) (key : List ℕ) (previous : Option (List ℕ))
     (table : List IfEntry) → Result View TopologyFault
 view_of ia router key previous table =
-    if has_bad_field ia (accepted key previous) table then Err faults.BadField
+    if has_bad_field ia (accepted_keys key previous) table then Err faults.BadField
     else if numbers_twice table then Err faults.DuplicateIf
-    else Ok (record { ia = ia; router = router; keys = accepted key previous; table = table })
+    else Ok (record { ia = ia; router = router; keys = accepted_keys key previous; table = table })

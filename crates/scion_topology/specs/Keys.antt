@@ -29,17 +29,17 @@ unfoldable pub key_from : List ℕ → Result (List ℕ) TopologyFault
 key_from bytes = if is_key bytes then Ok bytes else Err faults.BadField
 
 -- the key in use, and the one before it if there is one
-abbrev pub accepted : List ℕ → Option (List ℕ) → List (List ℕ)
-accepted key None = key ∷ []
-accepted key (Some previous) = key ∷ previous ∷ []
+abbrev pub accepted_keys : List ℕ → Option (List ℕ) → List (List ℕ)
+accepted_keys key None = key ∷ []
+accepted_keys key (Some previous) = key ∷ previous ∷ []
 
 -- the accepted keys from the key in use and the one before it, or BadField
 unfoldable pub keys_of : List ℕ → Option (List ℕ) → Result (List (List ℕ)) TopologyFault
 keys_of key previous =
-    if list_all is_key (accepted key previous) then Ok (accepted key previous)
+    if list_all is_key (accepted_keys key previous) then Ok (accepted_keys key previous)
     else Err faults.BadField
 
 -- the keys after another key was taken into use: the key that was in use is now the one before
-abbrev pub renewed : List ℕ → List (List ℕ) → List (List ℕ)
-renewed key [] = key ∷ []
-renewed key (current ∷ older) = key ∷ current ∷ []
+abbrev pub renewed_keys : List ℕ → List (List ℕ) → List (List ℕ)
+renewed_keys key [] = key ∷ []
+renewed_keys key (current ∷ older) = key ∷ current ∷ []

@@ -64,10 +64,10 @@ abbrev pub table_of : ℕ → List Link → List IfEntry
 table_of ia links = filter_map (interface_of ia) links
 
 -- the kind of a link as seen from its other end
-abbrev pub mirrored : LinkKind → LinkKind
-mirrored kinds.Core = kinds.Core
-mirrored kinds.Parent = kinds.Child
-mirrored kinds.Child = kinds.Parent
+abbrev pub mirrored_kind : LinkKind → LinkKind
+mirrored_kind kinds.Core = kinds.Core
+mirrored_kind kinds.Parent = kinds.Child
+mirrored_kind kinds.Child = kinds.Parent
 
 -- the interface of this number in a table
 abbrev pub interface_in : List IfEntry → ℕ → Option IfEntry

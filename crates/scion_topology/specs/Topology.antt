@@ -13,7 +13,7 @@ use Rattle.scion_topology.specs.declared.network.AsInfo.{AsInfo}
 use Rattle.scion_topology.specs.declared.network.End.{End}
 use Rattle.scion_topology.specs.declared.network.Link.{Link}
 use Rattle.scion_topology.specs.View.{View}
-use Rattle.scion_topology.specs.Keys.{key_from, renewed}
+use Rattle.scion_topology.specs.Keys.{key_from, renewed_keys}
 use Rattle.scion_topology.specs.Network.{Network, as_named, is_end, has_end, link_named, table_of, interface_in}
 use Rattle.scion_topology.specs.Causes.{cause_of}
 pub use Rattle.scion_topology.specs.Rules.{IsNetwork}
@@ -41,17 +41,17 @@ network_in bytes = of_value (document_in bytes)
 -- ---- asking
 
 -- the AS of this address, or UnknownAs
-abbrev pub known : Network → ℕ → Result AsEntry TopologyFault
-known n ia = ok_or (as_named n.ases ia) faults.UnknownAs
+abbrev pub known_as : Network → ℕ → Result AsEntry TopologyFault
+known_as n ia = ok_or (as_named n.ases ia) faults.UnknownAs
 
 -- the link at this interface of this AS: UnknownAs, then NoLink
 abbrev pub known_link : (n : Network) (ia number : ℕ) → Result Link TopologyFault
-known_link n ia number = known n ia >>= λ _. ok_or (link_named n.links ia number) faults.NoLink
+known_link n ia number = known_as n ia >>= λ _. ok_or (link_named n.links ia number) faults.NoLink
 
 -- the place of an AS in the list, and its values there
 unfoldable pub info_in : Network → ℕ → Result AsInfo TopologyFault
 info_in n ia = do
-  one ← known n ia
+  one ← known_as n ia
   Ok (record {
     position = position_or_len (λ other. other.ia == ia) n.ases;
     core = one.core;
@@ -62,7 +62,7 @@ info_in n ia = do
 -- the interface of this number of an AS: UnknownAs, then NoLink
 abbrev pub interface_at : (n : Network) (ia number : ℕ) → Result IfEntry TopologyFault
 interface_at n ia number =
-    known n ia >>= λ _. ok_or (interface_in (table_of ia n.links) number) faults.NoLink
+    known_as n ia >>= λ _. ok_or (interface_in (table_of ia n.links) number) faults.NoLink
 
 -- the end of a link at this interface, and its other end
 abbrev pub near_end : (link : Link) (ia number : ℕ) → End
@@ -86,7 +86,7 @@ owner_in n ia number = do
 -- the view of a router: UnknownAs, then NoRouter
 unfoldable pub view_in : (n : Network) (ia router : ℕ) → Result View TopologyFault
 view_in n ia router = do
-  one ← known n ia
+  one ← known_as n ia
   if nat_lt router one.routers
       then Ok (record { ia = ia; router = router; keys = one.keys; table = table_of ia n.links })
       else Err faults.NoRouter
@@ -103,7 +103,7 @@ with_up up ia number (link ∷ links) = if has_end link ia number then record li
 abbrev pub with_key : ℕ → List ℕ → List AsEntry → List AsEntry
 with_key ia key [] = []
 with_key ia key (one ∷ rest) =
-    if one.ia == ia then record one { keys = renewed key one.keys } ∷ rest
+    if one.ia == ia then record one { keys = renewed_keys key one.keys } ∷ rest
     else one ∷ with_key ia key rest
 
 -- the network with the link at this interface up or down
@@ -113,9 +113,9 @@ set_up up ia number n = do
   Ok (record n { links = with_up up ia number n.links })
 
 -- the network with another key in use for an AS: UnknownAs, then BadField for the key
-unfoldable pub rotated : ℕ → List ℕ → Network → Result Network TopologyFault
-rotated ia key n = do
-  one ← known n ia
+unfoldable pub with_rotated_key : ℕ → List ℕ → Network → Result Network TopologyFault
+with_rotated_key ia key n = do
+  one ← known_as n ia
   new ← key_from key
   Ok (record n { ases = with_key ia new n.ases })
 

@@ -1,5 +1,5 @@
 ghost use Rattle.std.specs.Prelude.{◌≡◌, ◌<◌, true, false, vec_len};
-ghost use Rattle.scion_topology.specs.Topology.{Becomes, set_up, rotated};
+ghost use Rattle.scion_topology.specs.Topology.{Becomes, set_up, with_rotated_key};
 ghost use Rattle.scion_topology.specs.inner.Index.{set_from, keyed_at};
 
 use crate::fault::TopologyFault;
@@ -30,7 +30,7 @@ impl Topology {
     /// the older one is dropped. [`TopologyFault::UnknownAs`] if the AS isn't listed, then
     /// [`TopologyFault::BadField`] if the key is empty or has more than 64 bytes.
     pub fn rotate_key(&mut self, ia: IsdAs, key: &[u8]) -> Result<(), TopologyFault>
-        ensures { Becomes (rotated ia key.now self.old) self.old self.new result }
+        ensures { Becomes (with_rotated_key ia key.now self.old) self.old self.new result }
     {
         let (_, index) = self.as_and_index(ia)?;
         let place = index.position;

@@ -3,7 +3,7 @@ ghost use Rattle.std.specs.List.{list_any};
 ghost use Rattle.std.specs.Option.{option_copied};
 ghost use Rattle.std.specs.Str.{bytes_eq};
 ghost use Rattle.hop_mac.specs.Hop.{authenticator};
-ghost use Rattle.scion_topology.specs.Keys.{accepted, is_key, key_from, key_in_use, keys_of, renewed};
+ghost use Rattle.scion_topology.specs.Keys.{accepted_keys, is_key, key_from, key_in_use, keys_of, renewed_keys};
 
 use crate::fault::TopologyFault;
 use arrayvec::ArrayVec;
@@ -26,14 +26,14 @@ pub struct Key {
 
 impl Model for Key {
     ghost use Rattle.std.specs.Prelude.{◌≡◌, ℕ, List, true};
-    ghost use Rattle.hop_mac.specs.Hmac.{padded};
+    ghost use Rattle.hop_mac.specs.Hmac.{padded_key};
     ghost use Rattle.scion_topology.specs.Keys.{is_key};
 
     ghost Value = { List ℕ };
 
     ghost view = { λ k. k.bytes.items };
 
-    ghost invariant = { λ k. (k.ready ≡ padded k.bytes.items) × (is_key k.bytes.items ≡ true) };
+    ghost invariant = { λ k. (k.ready ≡ padded_key k.bytes.items) × (is_key k.bytes.items ≡ true) };
 }
 
 impl Key {
@@ -90,11 +90,11 @@ pub struct Keys {
 
 impl Model for Keys {
     ghost use Rattle.std.specs.Prelude.{ℕ, List};
-    ghost use Rattle.scion_topology.specs.Keys.{accepted};
+    ghost use Rattle.scion_topology.specs.Keys.{accepted_keys};
 
     ghost Value = { List (List ℕ) };
 
-    ghost view = { λ k. accepted k.current k.previous };
+    ghost view = { λ k. accepted_keys k.current k.previous };
 }
 
 impl Keys {
@@ -114,7 +114,7 @@ impl Keys {
 
     /// An AS's first key.
     pub(crate) fn first(key: Key) -> Keys
-        ensures { result ≡ accepted key None }
+        ensures { result ≡ accepted_keys key None }
     {
         Keys {
             current: key,
@@ -140,7 +140,7 @@ impl Keys {
     /// Takes another key into use. The key in use until now becomes the one before, and the older
     /// one is dropped.
     pub(crate) fn renew(&mut self, key: Key)
-        ensures { self.new ≡ renewed key self.old }
+        ensures { self.new ≡ renewed_keys key self.old }
     {
         self.previous = Some(mem::replace(&mut self.current, key));
     }

@@ -6,12 +6,12 @@ ghost use Rattle.scion_topology.specs.declared.entry.IfEntry.{IfEntry};
 ghost use Rattle.scion_topology.specs.declared.network.AsEntry.{AsEntry};
 ghost use Rattle.scion_topology.specs.declared.network.Link.{Link};
 ghost use Rattle.scion_topology.specs.View.{View, IsRight, IsAuthentic, entry_of, is_authentic};
-ghost use Rattle.scion_topology.specs.Keys.{accepted, renewed};
+ghost use Rattle.scion_topology.specs.Keys.{accepted_keys, renewed_keys};
 ghost use Rattle.scion_topology.specs.Building.{view_of};
 ghost use Rattle.scion_topology.specs.Causes.{cause_of};
-ghost use Rattle.scion_topology.specs.Network.{Network, as_named, table_of, mirrored, interface_in};
+ghost use Rattle.scion_topology.specs.Network.{Network, as_named, table_of, mirrored_kind, interface_in};
 ghost use Rattle.scion_topology.specs.Rules.{IsAs, IsNetwork, IsNumbered};
-ghost use Rattle.scion_topology.specs.Topology.{known, interface_at, far_end_in, owner_in, set_up, rotated};
+ghost use Rattle.scion_topology.specs.Topology.{known_as, interface_at, far_end_in, owner_in, set_up, with_rotated_key};
 ghost use Rattle.scion_topology.specs.Ends.{ShowsBothEnds, AreJoined, IsEndOf, IsUp, IsStill, IsSame};
 
 /// A network keeps its rules if and only if each AS and each link keeps its own, and `cause_of`
@@ -26,14 +26,19 @@ pub fn rules_without_cause()
 pub fn view_shows_its_parts()
     ensures { (ia router : ℕ) (key : List ℕ) (previous : Option (List ℕ)) (table : List IfEntry)
         → IfOk (view_of ia router key previous table) (λ view.
-        (view ≡ record { ia = ia; router = router; keys = accepted key previous; table = table })
+        (view ≡ record {
+          ia = ia;
+          router = router;
+          keys = accepted_keys key previous;
+          table = table;
+        })
         × IsRight view) }
 {}
 
 /// A view is built from any parts that keep the rules.
 pub fn right_parts_are_accepted()
     ensures { (view : View) (key : List ℕ) (previous : Option (List ℕ)) → IsRight view
-        → view.keys ≡ accepted key previous
+        → view.keys ≡ accepted_keys key previous
         → view_of view.ia view.router key previous view.table ≡ Ok view }
 {}
 
@@ -60,7 +65,7 @@ pub fn far_end_of_far_end()
 /// An interface is owned by a router of its AS.
 pub fn owner_is_a_router()
     ensures { (n : Network) (ia number router : ℕ) (one : AsEntry) → IsNetwork n
-        → owner_in n ia number ≡ Ok router → known n ia ≡ Ok one → router < one.routers }
+        → owner_in n ia number ≡ Ok router → known_as n ia ≡ Ok one → router < one.routers }
 {}
 
 /// Both ends of a link agree: both are up or both are down. Both ends of a core link are Core; the
@@ -70,7 +75,7 @@ pub fn ends_are_mirrored()
         → far_end_in n ia number ≡ Ok (far_ia, far_number)
         → interface_in (table_of ia n.links) number ≡ Some near
         → IfSome (interface_in (table_of far_ia n.links) far_number)
-        (λ far. (far.kind ≡ mirrored near.kind) × (far.up ≡ near.up)) }
+        (λ far. (far.kind ≡ mirrored_kind near.kind) × (far.up ≡ near.up)) }
     ensures there { (n : Network) (ia number far_ia far_number : ℕ) → IsNetwork n
         → far_end_in n ia number ≡ Ok (far_ia, far_number)
         → IsSome (interface_in (table_of ia n.links) number) }
@@ -110,20 +115,23 @@ pub fn networks_outlast_changes()
     ensures links { (n m : Network) (up : Bool) (x y : ℕ) → IsNetwork n
         → set_up up x y n ≡ Ok m → IsNetwork m }
     ensures keys { (n m : Network) (x : ℕ) (key : List ℕ) → IsNetwork n
-        → rotated x key n ≡ Ok m → IsNetwork m }
+        → with_rotated_key x key n ≡ Ok m → IsNetwork m }
 {}
 
 /// A new key changes the keys of one AS only, which still accepts the key in use before. The other
 /// ASes, all links, and each interface with its owner and its far end stay as they were.
 pub fn keys_change_alone()
-    ensures own { (n m : Network) (x : ℕ) (key : List ℕ) (one : AsEntry) → rotated x key n ≡ Ok m
+    ensures own { (n m : Network) (x : ℕ) (key : List ℕ) (one : AsEntry)
+        → with_rotated_key x key n ≡ Ok m
         → as_named n.ases x ≡ Some one
-        → as_named m.ases x ≡ Some (record one { keys = renewed key one.keys }) }
-    ensures others { (n m : Network) (x ia : ℕ) (key : List ℕ) → rotated x key n ≡ Ok m → x ≢ ia
+        → as_named m.ases x ≡ Some (record one { keys = renewed_keys key one.keys }) }
+    ensures others { (n m : Network) (x ia : ℕ) (key : List ℕ) → with_rotated_key x key n ≡ Ok m
+        → x ≢ ia
         → as_named m.ases ia ≡ as_named n.ases ia }
-    ensures links { (n m : Network) (x : ℕ) (key : List ℕ) → rotated x key n ≡ Ok m
+    ensures links { (n m : Network) (x : ℕ) (key : List ℕ) → with_rotated_key x key n ≡ Ok m
         → m.links ≡ n.links }
-    ensures interfaces { (n m : Network) (x ia number : ℕ) (key : List ℕ) → rotated x key n ≡ Ok m
+    ensures interfaces { (n m : Network) (x ia number : ℕ) (key : List ℕ)
+        → with_rotated_key x key n ≡ Ok m
         → IsSame n m ia number }
 {}
 

@@ -1,7 +1,7 @@
 ghost use Rattle.std.specs.Prelude.{◌≡◌, ◌<◌, Some, None, IfOk, MatchResult, length};
 ghost use Rattle.scion_topology.specs.Network.{as_named};
 ghost use Rattle.refusal.specs.Refusal.{Gives};
-ghost use Rattle.scion_topology.specs.Topology.{IsNetwork, known, known_link, info_in, interface_at, far_end_in, owner_in, view_in};
+ghost use Rattle.scion_topology.specs.Topology.{IsNetwork, known_as, known_link, info_in, interface_at, far_end_in, owner_in, view_in};
 ghost use Rattle.scion_topology.specs.Index.{value_of_index};
 ghost use Rattle.scion_topology.specs.inner.Index.{index_in, place_in};
 
@@ -91,7 +91,7 @@ impl Topology {
 
     /// An AS as the list has it, with its keys: [`TopologyFault::UnknownAs`] if it isn't listed.
     pub fn as_entry(&self, ia: IsdAs) -> Result<&AsEntry, TopologyFault>
-        ensures value { Gives (λ one. one.now) result (known self.now ia) }
+        ensures value { Gives (λ one. one.now) result (known_as self.now ia) }
         ensures named { MatchResult result (λ one. as_named self.now.ases ia ≡ Some one.now)
             (λ _. as_named self.now.ases ia ≡ None) }
     {

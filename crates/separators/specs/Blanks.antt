@@ -11,5 +11,5 @@ after_blanks [] = []
 after_blanks (b ∷ rest) = if is_blank b then after_blanks rest else b ∷ rest
 
 -- the text without blanks at its ends
-abbrev pub trimmed : List ℕ → List ℕ
-trimmed text = reverse (after_blanks (reverse (after_blanks text)))
+abbrev pub trimmed_text : List ℕ → List ℕ
+trimmed_text text = reverse (after_blanks (reverse (after_blanks text)))

@@ -1,13 +1,13 @@
 //! Blanks around bytes.
 
 ghost use Rattle.std.specs.Prelude.{◌≡◌, reverse};
-ghost use Rattle.separators.specs.Blanks.{after_blanks, trimmed};
+ghost use Rattle.separators.specs.Blanks.{after_blanks, trimmed_text};
 
 use crate::is_blank;
 
 /// The bytes without blanks at both ends. Its time is linear in the blanks removed.
 pub fn trim(bytes: &[u8]) -> &[u8]
-    ensures { result.now ≡ trimmed bytes.now }
+    ensures { result.now ≡ trimmed_text bytes.now }
 {
     trim_end(trim_start(bytes))
 }

@@ -1,13 +1,13 @@
 //! Blanks around text.
 
 ghost use Rattle.std.specs.Prelude.{◌≡◌, reverse};
-ghost use Rattle.separators.specs.Blanks.{after_blanks, trimmed};
+ghost use Rattle.separators.specs.Blanks.{after_blanks, trimmed_text};
 
 use crate::is_blank;
 
 /// The text without blanks at both ends. Its time is linear in the blanks removed.
 pub fn trim(text: &str) -> &str
-    ensures { result.now ≡ trimmed text.now }
+    ensures { result.now ≡ trimmed_text text.now }
 {
     trim_end(trim_start(text))
 }

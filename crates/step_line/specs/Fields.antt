@@ -3,7 +3,8 @@ use Rattle.std.specs.Prelude.{ℕ, ◌&&◌, nat_lt, nat_le, Bool, true, false, 
 use Rattle.std.specs.Str.{bytes_eq}
 use Rattle.std.specs.Str.Parse.{digits_value}
 use Rattle.hex.specs.Hex.{decode_of}
-use Rattle.refusal.specs.Optional.{◌>>=◌, only}
+use Rattle.std.specs.Result.{result_ok}
+use Rattle.refusal.specs.Optional.{◌>>=◌}
 use Rattle.separators.specs.Signs.{cut_at}
 use Rattle.isd_as.specs.Reading.{address_at, all_digits}
 use Rattle.scion_topology.specs.declared.entry.IfEntry.{IfEntry}
@@ -24,11 +25,11 @@ bounded_number_at low high text =
 
 -- bytes in hexadecimal, with letters of either case
 abbrev pub hex_bytes_of : List ℕ → Option (List ℕ)
-hex_bytes_of text = only (decode_of text)
+hex_bytes_of text = result_ok (decode_of text)
 
 -- the address of an AS
 abbrev pub as_address_at : List ℕ → Option ℕ
-as_address_at text = only (address_at text)
+as_address_at text = result_ok (address_at text)
 
 -- how the packet came: `host`, `inside`, or the number of the interface
 unfoldable pub arrival_at : List ℕ → Option Arrival

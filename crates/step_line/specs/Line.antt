@@ -1,7 +1,7 @@
 -- The line that `scionet step` prints for a packet.
 use Rattle.std.specs.Prelude.{ℕ, codes, List, ◌++◌, Option, option_map, Result, Ok, Err}
 use Rattle.std.specs.Fmt.{decimal}
-use Rattle.separators.specs.Blanks.{trimmed}
+use Rattle.separators.specs.Blanks.{trimmed_text}
 use Rattle.hex.specs.Hex.{encode_lower}
 use Rattle.router_step.specs.declared.outcome.Outcome.{Outcome}
 use Rattle.router_step.specs.declared.outcome.Outcome.TheVariants.{ToLink, ToRouter, Deliver}
@@ -37,4 +37,4 @@ text_of (Err refusal) = refusal_line refusal
 unfoldable pub line_of : Turn → List ℕ → Option (List ℕ)
 line_of turn text =
     option_map (λ packet. text_of (packet_step turn.view turn.moment turn.arrival packet))
-    (hex_bytes_of (trimmed text))
+    (hex_bytes_of (trimmed_text text))

@@ -2,10 +2,11 @@
 use Rattle.std.specs.Prelude.{ℕ, List, Option, Some, None, option_map, Vec}
 use Rattle.scion_topology.specs.declared.entry.IfEntry.{IfEntry}
 use Rattle.scion_topology.specs.View.{View}
-use Rattle.scion_topology.specs.Keys.{accepted}
+use Rattle.scion_topology.specs.Keys.{accepted_keys}
 use Rattle.scion_topology.specs.Building.{view_of}
 use Rattle.router_step.specs.declared.arrival.Arrival.{Arrival}
-use Rattle.refusal.specs.Optional.{◌>>=◌, only}
+use Rattle.std.specs.Result.{result_ok}
+use Rattle.refusal.specs.Optional.{◌>>=◌}
 use Rattle.step_line.specs.Fields.{as_address_at, bounded_number_at, hex_bytes_of, arrival_at, table_at}
 
 -- the texts of the options, and those of the interfaces
@@ -28,7 +29,7 @@ pub record Turn : Type 0 where
 unfoldable pub turn_with : (ia router : ℕ) (key : List ℕ) (previous : Option (List ℕ)) (moment : ℕ)
     (arrival : Arrival) (table : List IfEntry) → Option Turn
 turn_with ia router key previous moment arrival table = do
-  view ← only (view_of ia router key previous table)
+  view ← result_ok (view_of ia router key previous table)
   Some (record { view = view; moment = moment; arrival = arrival })
 
 -- the key before, if there is one
@@ -58,4 +59,4 @@ items_of key = option_map (λ v. v.items) key
 abbrev pub parts_seen : (ia router : ℕ) (key : List ℕ) (previous : Option (List ℕ))
     (table : List IfEntry) → View
 parts_seen ia router key previous table =
-    record { ia = ia; router = router; keys = accepted key previous; table = table }
+    record { ia = ia; router = router; keys = accepted_keys key previous; table = table }

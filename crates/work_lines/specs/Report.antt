@@ -5,7 +5,7 @@ use Rattle.scion_topology.specs.Network.{Network}
 use Rattle.network_core.specs.Value.{NetValue, PacketValue, Shipment}
 use Rattle.router_workers.specs.declared.end.End.{End}
 use Rattle.router_workers.specs.declared.end.End.TheVariants.{Delivered, Refused, Dropped}
-use Rattle.router_workers.specs.Flight.{FlightValue, departed, grounded, sent_packet_of}
+use Rattle.router_workers.specs.Flight.{FlightValue, packet_at_source, flight_at_start, sent_packet_of}
 use Rattle.router_workers.specs.Run.{IsReport}
 use Rattle.router_step.specs.Fault.{refusal_text}
 use Rattle.event_lines.specs.Run.{ended_lines}
@@ -13,8 +13,8 @@ use Rattle.event_lines.specs.Run.{ended_lines}
 -- a flight of this shipment at its start in this network
 abbrev pub IsFlightOf : Network → Shipment → FlightValue → Type 0
 IsFlightOf n sent flight =
-    (departed n (sent_packet_of sent) ≡ Ok flight.packet)
-    × (flight ≡ grounded n (sent_packet_of sent) flight.packet)
+    (packet_at_source n (sent_packet_of sent) ≡ Ok flight.packet)
+    × (flight ≡ flight_at_start n (sent_packet_of sent) flight.packet)
 
 -- one such flight for each packet of the network, in their order
 pub record AreFlights (net : NetValue) (flights : List FlightValue) : Type 0 where

@@ -38,7 +38,8 @@ IsNext n workers place next = Unit {0}
 -- the packet of this flight is at a router, whose worker is this one
 abbrev pub IsPosted : (n : Network) (workers worker : ℕ) (flight : FlightValue) → Type 0
 IsPosted n workers worker flight =
-    (worker < workers) × IsAtRouter flight.packet.place × IsNext n workers flight.packet.place worker
+    (worker < workers) × IsAtRouter flight.packet.place
+    × IsNext n workers flight.packet.place worker
 
 -- a way into an inbox after this flight was put in
 abbrev pub put_in : {T : Type 0} → T → WayThrough T → WayThrough T

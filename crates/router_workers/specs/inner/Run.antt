@@ -2,7 +2,7 @@
 use Rattle.std.specs.Prelude.{◌≡◌, ℕ, List, Some, slice_get}
 use Rattle.router_workers.specs.Flight.{FlightValue}
 use Rattle.router_workers.specs.declared.end.End.{End}
-use Rattle.router_workers.specs.Run.{repeated, FliesUntil, IsFlightEnd}
+use Rattle.router_workers.specs.Run.{packet_after_turns, FliesUntil, IsFlightEnd}
 
 -- the end of the flight of this number
 abbrev pub IsEndOfFlight : (flights : List FlightValue) (now slots number : ℕ) (end : End) → Type 0
@@ -16,7 +16,7 @@ pub record IsCarried (flights : List FlightValue) (now number turns : ℕ) (carr
   pub given : FlightValue
   pub there : slice_get flights number ≡ Some given
   pub same : carried.fabric ≡ given.fabric
-  pub is : carried.packet ≡ repeated given.fabric now given.packet turns
+  pub is : carried.packet ≡ packet_after_turns given.fabric now given.packet turns
   pub flew : FliesUntil now given turns
 
 -- the ends are those of the first flights

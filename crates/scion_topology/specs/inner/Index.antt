@@ -8,10 +8,10 @@ use Rattle.scion_topology.specs.declared.network.AsEntry.{AsEntry}
 use Rattle.scion_topology.specs.declared.network.Link.{Link}
 use Rattle.scion_topology.specs.declared.fault.TopologyFault.{TopologyFault}
 use Rattle.scion_topology.specs.declared.fault.TopologyFault.TheVariants as faults
-use Rattle.scion_topology.specs.Keys.{renewed}
+use Rattle.scion_topology.specs.Keys.{renewed_keys}
 use Rattle.scion_topology.specs.Network.{Network, has_end, table_of}
 use Rattle.scion_topology.specs.inner.Table.{place_in_table, marked_table}
-use Rattle.scion_topology.specs.Topology.{known}
+use Rattle.scion_topology.specs.Topology.{known_as}
 use Rattle.scion_topology.specs.Index.{IndexValue, places_of, index_at}
 
 -- the index that an AS already had, or else `new` if this is its AS
@@ -27,13 +27,13 @@ place_beside number table places =
 -- an AS together with its index
 abbrev pub index_in : Network → ℕ → Result (AsEntry × IndexValue) TopologyFault
 index_in n ia = do
-  one ← known n ia
+  one ← known_as n ia
   Ok (one, index_at (position_or_len (λ other. other.ia == ia) n.ases) ia n.links)
 
 -- the place of the link at this interface of this AS
 abbrev pub place_in : (n : Network) (ia number : ℕ) → Result ℕ TopologyFault
 place_in n ia number =
-    known n ia >>= λ _. ok_or (position (λ link. has_end link ia number) n.links) faults.NoLink
+    known_as n ia >>= λ _. ok_or (position (λ link. has_end link ia number) n.links) faults.NoLink
 
 -- the index with one more interface, and with the place of its link
 abbrev pub added : IfEntry → ℕ → IndexValue → IndexValue
@@ -78,5 +78,5 @@ set_from base place up (link ∷ links) =
 -- the ASes with this key in use for the AS at this place
 abbrev pub keyed_at : ℕ → List ℕ → List AsEntry → List AsEntry
 keyed_at place key [] = []
-keyed_at zero key (one ∷ rest) = record one { keys = renewed key one.keys } ∷ rest
+keyed_at zero key (one ∷ rest) = record one { keys = renewed_keys key one.keys } ∷ rest
 keyed_at (suc place) key (one ∷ rest) = one ∷ keyed_at place key rest

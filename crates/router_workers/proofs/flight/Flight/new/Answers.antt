@@ -3,7 +3,7 @@ use Rattle.path_header.specs.Value.{HeaderValue, IsHeader}
 use Rattle.path_header.specs.Spelling.{FitsBits}
 use Rattle.path_verifier.specs.Walk.{walk_of}
 use Rattle.scion_topology.specs.Topology.{owner_in}
-use Rattle.forwarding.specs.Frame.{framed}
+use Rattle.forwarding.specs.Frame.{frame_of}
 use Rattle.forwarding.specs.Journey.{first_out}
 use Rattle.forwarding.specs.Turn.{Packet, packet_with, put_at}
 use Rattle.router_workers.specs.Flight.{SentPacket, IsFlight, flight_with, sent_with, sent_packet_of}
@@ -27,8 +27,8 @@ invariant_of-result c =
     let owned : owner_in n sent.source (first_out (walk_of sent.pieces)) ≡ Ok c.in_ok-router.router =
     ap (λ s. owner_in n s (first_out (walk_of sent.pieces))) (sym c.source.ensures)
     ∙ ap (λ out. owner_in n c.source.result out) (sym c.way_out.ensures) ∙ owner in
-    let bytes : c.in_ok-bytes.bytes.items ≡ framed sent.source sent.destination sent.header sent.payload =
-    c.in_ok-bytes.ensures.value ∙ (λ i. framed (c.source-2.ensures i) (c.destination.ensures i) (c.header-2.ensures i) (c.payload.ensures.value i)) in
+    let bytes : c.in_ok-bytes.bytes.items ≡ frame_of sent.source sent.destination sent.header sent.payload =
+    c.in_ok-bytes.ensures.value ∙ (λ i. frame_of (c.source-2.ensures i) (c.destination.ensures i) (c.header-2.ensures i) (c.payload.ensures.value i)) in
     let at = made.packet ∙ (λ i. put_at (bytes i) (c.source-3.ensures i) c.in_ok-router.router) in
     let frame = framed_with sent.source sent.destination sent.pieces sent.header
     (c.known-2.ensures.1.header)
