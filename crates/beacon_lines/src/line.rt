@@ -1,4 +1,5 @@
 //! The line of an event.
+#![tactic(auto, unfolding(crate::specs::Lines::event_line))]
 
 ghost use Rattle.std.specs.Prelude.{◌≡◌, ◌++◌, OnOk};
 ghost use Rattle.std.specs.String.{string_bytes};
@@ -10,7 +11,6 @@ use std::alloc::AllocError;
 use std::fmt::Write;
 
 /// Adds the line of an event, with its end.
-#[tactic(auto, unfolding(crate::specs::Lines::event_line))]
 pub(crate) fn push_line(text: &mut String, event: BeaconEvent) -> Result<(), AllocError>
     ensures { OnOk result
         (string_bytes text.new ≡ string_bytes text.old ++ event_line (network_event event)) }

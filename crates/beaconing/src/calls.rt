@@ -1,3 +1,5 @@
+#![tactic(auto, unfolding(crate::specs::Calls::extended_beacon, crate::specs::Calls::originated_beacon, crate::specs::Calls::terminated_beacon, path_segment::specs::Rules::first_fault, path_segment::specs::Rules::last_fault, path_segment::specs::Rules::next_fault,))]
+
 ghost use Rattle.std.specs.Prelude.{◌≡◌, ◌∷◌, [], None, IfOk};
 ghost use Rattle.path_segment.specs.Chain.{Chain, with_last};
 ghost use Rattle.path_segment.specs.Rules.{first_fault, next_fault, last_fault};
@@ -86,7 +88,6 @@ pub fn terminate(
 }
 
 /// The kind of a new beacon, and its first entry.
-#[tactic(auto, unfolding(crate::specs::Calls::originated_beacon, path_segment::specs::Rules::first_fault))]
 fn first_entry(
     topology: &Topology,
     ia: IsdAs,
@@ -119,7 +120,6 @@ fn first_entry(
 }
 
 /// The entry by which an AS passes a beacon on.
-#[tactic(auto, unfolding(crate::specs::Calls::extended_beacon, path_segment::specs::Rules::next_fault))]
 fn next_entry(
     topology: &Topology,
     beacon: &Beacon,
@@ -151,7 +151,6 @@ fn next_entry(
 }
 
 /// The entry by which an AS ends a beacon.
-#[tactic(auto, unfolding(crate::specs::Calls::terminated_beacon, path_segment::specs::Rules::last_fault))]
 fn last_entry(topology: &Topology, beacon: &Beacon, ia: IsdAs) -> Result<Entry, BeaconFault>
     ensures value { Gives (λ entry. with_last beacon.now entry) result
         (terminated_beacon topology.now beacon.now ia) }

@@ -1,4 +1,5 @@
 //! The parts of a call: the entry that an AS makes, and the beacon's way in and way out.
+#![tactic(auto, unfolding(crate::specs::Calls::come_to, crate::specs::Calls::is_new))]
 
 ghost use Rattle.std.specs.Prelude.{◌≡◌, ◌≢◌, ◌==◌, false, IfOk, IsTrue};
 ghost use Rattle.std.specs.List.{list_any};
@@ -81,7 +82,6 @@ pub(crate) fn way_out(topology: &Topology, ia: IsdAs, number: IfId) -> Result<&I
 }
 
 /// The interface by which a beacon arrives in an AS.
-#[tactic(auto, unfolding(crate::specs::Calls::come_to))]
 pub(crate) fn come_to(topology: &Topology, beacon: &Beacon, ia: IsdAs) -> Result<IfId, BeaconFault>
     ensures value { result ≡ come_to topology.now beacon.now ia }
     ensures above { IfOk result (λ ingress. ingress ≢ 0) }
@@ -105,7 +105,6 @@ pub(crate) fn come_to(topology: &Topology, beacon: &Beacon, ia: IsdAs) -> Result
 }
 
 /// Whether a beacon has no entry of this AS.
-#[tactic(auto, unfolding(crate::specs::Calls::is_new))]
 pub(crate) fn is_new(beacon: &Beacon, ia: IsdAs) -> bool
     ensures value { result ≡ is_new beacon.now ia }
     ensures clear { IsTrue result → list_any (λ entry. entry.ia == ia) beacon.now.entries ≡ false }

@@ -1,3 +1,5 @@
+#![tactic(auto, unfolding(crate::specs::Words::command_or_run))]
+
 ghost use Rattle.std.specs.Prelude.{◌≡◌, IfErr, IfOk, IfSome, map};
 ghost use Rattle.clap.specs.Words.{subcommand_rows_of};
 ghost use Rattle.commands.specs.Words.{IsCommandLine, IsInRange, command_or_run, command_in, turn_asked};
@@ -65,7 +67,6 @@ impl Command {
     /// The same fault with the text `scionet: usage`, if the words name no command, those of `step`
     /// give no turn, or a number of `work` can't be read. [`WordsFault::Memory`] if memory runs
     /// out.
-    #[tactic(auto, unfolding(crate::specs::Words::command_or_run))]
     pub fn parse<'a>(alloc: Global, words: &'a [&'a str]) -> Result<Command, WordsFault>
         ensures asks { AsksFor result (command_or_run (map (λ word. word.now) words.entry.now)) }
         ensures range { IfOk result IsInRange }

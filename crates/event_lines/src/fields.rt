@@ -1,4 +1,5 @@
 //! The members of a line's JSON object, also for other readers of such objects.
+#![tactic(auto, unfolding(crate::specs::Line::bytes_at, crate::specs::Line::ia_in, crate::specs::Line::listed_options, crate::specs::Line::maybe_text_at, crate::specs::Line::one_option, crate::specs::Line::option_in, crate::specs::Line::option_with, crate::specs::Line::texts_at,))]
 
 ghost use Rattle.std.specs.Prelude.{◌≡◌, IfOk, IsSome, OnErr, option_map};
 ghost use Rattle.std.specs.String.{string_bytes};
@@ -46,7 +47,6 @@ pub(crate) fn interface(object: &Node<'_, '_>, name: &str) -> Option<IfId>
 }
 
 /// A member that is an address.
-#[tactic(auto, unfolding(crate::specs::Line::ia_in))]
 pub fn read_address(object: &Node<'_, '_>, name: &str) -> Option<IsdAs>
     ensures { result ≡ ia_in name.now (node_data object.now) }
 {
@@ -57,7 +57,6 @@ pub fn read_address(object: &Node<'_, '_>, name: &str) -> Option<IsdAs>
 /// A member that is bytes in hexadecimal, with digits of either case.
 ///
 /// [`AllocError`] if memory runs out, which it may only if the member is a text.
-#[tactic(auto, unfolding(crate::specs::Line::bytes_at))]
 pub fn read_bytes(
     alloc: Global,
     object: &Node<'_, '_>,
@@ -94,7 +93,6 @@ fn acl_text(alloc: Global, values: NodeList<'_, '_>) -> Result<Option<AclText>, 
 }
 
 /// A list of texts; it may be absent.
-#[tactic(auto, unfolding(crate::specs::Line::texts_at))]
 fn texts(
     alloc: Global,
     object: &Node<'_, '_>,
@@ -115,7 +113,6 @@ fn texts(
 }
 
 /// A text; it may be absent.
-#[tactic(auto, unfolding(crate::specs::Line::maybe_text_at))]
 fn maybe_text(
     alloc: Global,
     object: &Node<'_, '_>,
@@ -134,7 +131,6 @@ fn maybe_text(
 }
 
 /// An option of this weight from the members `acl` and `sequence`.
-#[tactic(auto, unfolding(crate::specs::Line::option_with))]
 fn option_of_weight(
     alloc: Global,
     weight: u32,
@@ -156,7 +152,6 @@ fn option_of_weight(
 }
 
 /// A policy option of a list.
-#[tactic(auto, unfolding(crate::specs::Line::option_in))]
 fn option(alloc: Global, object: &Node<'_, '_>) -> Result<Option<OwnedOptionText>, AllocError>
     ensures { IfOk result (λ o. o ≡ option_in (node_data object.now)) }
 {
@@ -187,7 +182,6 @@ fn each_option(
 }
 
 /// The policy options of the member `options`, with which neither `acl` nor `sequence` may occur.
-#[tactic(auto, unfolding(crate::specs::Line::listed_options))]
 fn read_list(
     alloc: Global,
     object: &Node<'_, '_>,
@@ -205,7 +199,6 @@ fn read_list(
 }
 
 /// One policy option of weight 0.
-#[tactic(auto, unfolding(crate::specs::Line::one_option))]
 fn single(alloc: Global, object: &Node<'_, '_>) -> Result<Option<Vec<OwnedOptionText>>, AllocError>
     ensures { IfOk result (λ o. option_map (λ v. v.items) o ≡ one_option (node_data object.now)) }
 {

@@ -2,6 +2,7 @@
 //!
 //! Each reply is written into a text that is empty before it. Where memory runs out, that text may
 //! have a beginning of the reply.
+#![tactic(auto, unfolding(crate::specs::Line::ask_in, crate::specs::Line::line_in, crate::specs::Line::line_with_word, crate::specs::Line::said_by,))]
 
 ghost use Rattle.std.specs.Prelude.{◌≡◌, [], OnOk, Some, option_map};
 ghost use Rattle.std.specs.String.{string_bytes};
@@ -96,7 +97,6 @@ fn answer_show(
 }
 
 /// Writes the reply to a line that asks for paths. Its policies are owned first, and then borrowed.
-#[tactic(auto, unfolding(crate::specs::Line::ask_in))]
 fn answer_ask(
     alloc: Global,
     accepted: AcceptedLines,
@@ -144,7 +144,6 @@ fn answer_untexted(
 }
 
 /// Writes the reply to a JSON object.
-#[tactic(auto, unfolding(crate::specs::Line::said_by, crate::specs::Line::line_with_word))]
 fn answer_object(
     alloc: Global,
     accepted: AcceptedLines,
@@ -172,7 +171,6 @@ fn answer_object(
 /// another form.
 ///
 /// It takes the time and memory of the line's event, and more in proportion to its bytes.
-#[tactic(auto, unfolding(crate::specs::Line::line_in))]
 pub(crate) fn answer_line(
     alloc: Global,
     accepted: AcceptedLines,

@@ -1,4 +1,5 @@
 //! The values of lines.
+#![tactic(auto, unfolding(crate::specs::Line::ask_in, crate::specs::Line::plain_event, crate::specs::Line::show_in, crate::specs::Line::traffic_event, crate::specs::Line::untexted_event, crate::specs::inner::Seen::bytes_in,))]
 
 ghost use Rattle.std.specs.Prelude.{◌≡◌, IfOk, None, Ok, Some, codes, option_map};
 ghost use Rattle.json_fields.specs.Documents.{node_data};
@@ -25,7 +26,6 @@ pub(crate) enum Line<'a> {
 }
 
 /// The line that shows a packet.
-#[tactic(auto, unfolding(crate::specs::Line::show_in))]
 pub(crate) fn show<'a>(object: &Node<'_, '_>) -> Option<Line<'a>>
     ensures { option_map line_value result ≡ show_in (node_data object.now) }
 {
@@ -35,7 +35,6 @@ pub(crate) fn show<'a>(object: &Node<'_, '_>) -> Option<Line<'a>>
 
 /// The bytes that an event carries, a payload or a key, decoded; no bytes if it carries none.
 /// `None` if they are missing or are no hexadecimal text.
-#[tactic(auto, unfolding(crate::specs::inner::Seen::bytes_in))]
 pub(crate) fn payload(
     alloc: Global,
     word: &str,
@@ -53,7 +52,6 @@ pub(crate) fn payload(
 }
 
 /// The event of a line without texts, with the bytes that it carries.
-#[tactic(auto, unfolding(crate::specs::Line::untexted_event, crate::specs::inner::Seen::bytes_in))]
 pub(crate) fn event_without_texts<'a>(
     word: &str,
     object: &Node<'_, '_>,
@@ -82,7 +80,6 @@ pub(crate) fn event_without_texts<'a>(
 }
 
 /// The event of a line without bytes and without texts.
-#[tactic(auto, unfolding(crate::specs::Line::plain_event))]
 fn plain<'a>(word: &str, object: &Node<'_, '_>) -> Option<Event<'a>>
     ensures { option_map events.event_value result ≡ plain_event word.now (node_data object.now) }
 {
@@ -110,7 +107,6 @@ fn plain<'a>(word: &str, object: &Node<'_, '_>) -> Option<Event<'a>>
 }
 
 /// The event of a line about a packet or a link, without bytes and without texts.
-#[tactic(auto, unfolding(crate::specs::Line::traffic_event))]
 fn traffic<'a>(word: &str, object: &Node<'_, '_>) -> Option<Event<'a>>
     ensures { option_map events.event_value result
         ≡ traffic_event word.now (node_data object.now) }
@@ -140,7 +136,6 @@ fn traffic<'a>(word: &str, object: &Node<'_, '_>) -> Option<Event<'a>>
 }
 
 /// The event of a line that asks for paths, with its policy options.
-#[tactic(auto, unfolding(crate::specs::Line::ask_in))]
 pub(crate) fn ask<'a>(object: &Node<'_, '_>, options: &'a [OptionText<'a>]) -> Option<Event<'a>>
     requires { options_in (node_data object.now) ≡ Some options.now }
     ensures { option_map events.event_value result ≡ ask_in (node_data object.now) }

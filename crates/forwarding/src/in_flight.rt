@@ -1,3 +1,5 @@
+#![tactic(auto, unfolding(crate::specs::Turn::turn_of, crate::specs::Turn::turn_under))]
+
 ghost use Rattle.std.specs.Prelude.{◌≡◌, ℕ, ◌<◌, ◌≤◌, List, length, vec_capacity, IfOk, IfErr};
 ghost use Rattle.scion_topology.specs.Topology.{far_end_in};
 ghost use Rattle.forwarding.specs.Turn.{packet_with, altered_packet, hop_by, lost_packet, put_at, over_link, after_outcome, turn_under, turn_of};
@@ -107,7 +109,6 @@ impl PacketInFlight {
     /// router of the network stays as it is.
     ///
     /// It takes no memory, and costs the router's step and three lookups.
-    #[tactic(auto, unfolding(crate::specs::Turn::turn_of, crate::specs::Turn::turn_under))]
     pub fn turn(&mut self, topology: &Topology, now: u32) -> TurnReply
         ensures reply { result ≡ (turn_of topology.now now self.old).0 }
         ensures packet { self.new ≡ (turn_of topology.now now self.old).1 }
@@ -123,7 +124,6 @@ impl PacketInFlight {
 
     /// A turn with a router's view that the caller already has. With the view of the router that
     /// has the packet, this is [`PacketInFlight::turn`].
-    #[tactic(auto, unfolding(crate::specs::Turn::turn_under))]
     pub fn turn_under(&mut self, topology: &Topology, view: &RouterView<'_>, now: u32) -> TurnReply
         ensures reply { result ≡ (turn_under topology.now view.now now self.old).0 }
         ensures packet { self.new ≡ (turn_under topology.now view.now now self.old).1 }
@@ -170,7 +170,6 @@ impl PacketInFlight {
 
 /// A turn, as [`PacketInFlight::turn_under`] makes it, of a packet whose parts the caller has.
 /// There must be room for one hop more, up to 64 hops; no memory is taken.
-#[tactic(auto, unfolding(crate::specs::Turn::turn_under))]
 pub fn turn_in_place(
     topology: &Topology,
     view: &RouterView<'_>,

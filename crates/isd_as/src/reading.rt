@@ -1,3 +1,5 @@
+#![tactic(auto, unfolding(crate::specs::Reading::address_at, crate::specs::Reading::as_number_at, crate::specs::Reading::groups_at, crate::specs::Reading::isd_at, crate::specs::Reading::number_at,))]
+
 ghost use Rattle.std.specs.Prelude.{◌≡◌, ℕ, ◌^◌, ◌<◌, ◌≤◌, ◌==◌, length, IfOk};
 ghost use Rattle.std.specs.List.{list_any};
 ghost use Rattle.std.specs.Str.{chars};
@@ -84,7 +86,6 @@ fn is_all_digits(text: &str, radix: u32) -> bool
 }
 
 /// The number of a text of digits, if it is below the limit.
-#[tactic(auto, unfolding(crate::specs::Reading::number_at))]
 fn number_of(text: &str, radix: u32, limit: u64, too_large: AddrFault) -> Result<u64, AddrFault>
     requires low { 2 ≤ radix }
     requires high { radix ≤ 16 }
@@ -122,7 +123,6 @@ fn has_colon(text: &str) -> bool
 }
 
 /// The number of three groups of hexadecimal digits, joined by `:`.
-#[tactic(auto, unfolding(crate::specs::Reading::groups_at))]
 fn groups_of(text: &str) -> Result<u64, AddrFault>
     ensures exact { result ≡ groups_at text.now }
     ensures bound { IfOk result (λ n. n < 2 ^ 48) }
@@ -142,7 +142,6 @@ fn groups_of(text: &str) -> Result<u64, AddrFault>
 }
 
 /// The number of an AS number's text, in decimal or in groups.
-#[tactic(auto, unfolding(crate::specs::Reading::as_number_at))]
 fn as_number_of(text: &str) -> Result<u64, AddrFault>
     ensures exact { result ≡ as_number_at text.now }
     ensures bound { IfOk result (λ n. n < 2 ^ 48) }
@@ -155,7 +154,6 @@ fn as_number_of(text: &str) -> Result<u64, AddrFault>
 }
 
 /// Reads an ISD; the public call adds the clauses about spellings.
-#[tactic(auto, unfolding(crate::specs::Reading::isd_at))]
 fn read_isd(text: &str) -> Result<Isd, AddrFault>
     ensures { result ≡ isd_at text.now }
 {
@@ -175,7 +173,6 @@ fn read_as_number(text: &str) -> Result<AsNumber, AddrFault>
 }
 
 /// Reads an address; the public call adds the clauses about spellings.
-#[tactic(auto, unfolding(crate::specs::Reading::address_at))]
 fn read_address(text: &str) -> Result<IsdAs, AddrFault>
     ensures { result ≡ address_at text.now }
 {

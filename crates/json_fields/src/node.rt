@@ -1,3 +1,5 @@
+#![tactic(auto, unfolding(crate::specs::Fields::list_at, crate::specs::Fields::text_at, crate::specs::Fields::truth_at, crate::specs::Fields::whole_at,))]
+
 ghost use Rattle.std.specs.Prelude.{◌≡◌, ℕ, ◌≤◌, IfSome, is_some, option_map, option_and_then};
 ghost use Rattle.json.specs.Value.{value_view};
 ghost use Rattle.serde_json.specs.Find.{get, as_str, as_array, as_bool, as_number, as_u64};
@@ -72,7 +74,6 @@ impl<'v, 'a> Node<'v, 'a> {
     }
 
     /// The text at this name: `None` if there is no such member or it is no text.
-    #[tactic(auto, unfolding(crate::specs::Fields::text_at))]
     pub fn text(&self, name: &str) -> Option<&'a str>
         ensures { option_map (λ t. t.now) result ≡ text_at name.now (node_data self.now) }
     {
@@ -80,7 +81,6 @@ impl<'v, 'a> Node<'v, 'a> {
     }
 
     /// The Boolean at this name: `None` if there is no such member or it is neither true nor false.
-    #[tactic(auto, unfolding(crate::specs::Fields::truth_at))]
     pub fn truth(&self, name: &str) -> Option<bool>
         ensures { result ≡ truth_at name.now (node_data self.now) }
     {
@@ -89,7 +89,6 @@ impl<'v, 'a> Node<'v, 'a> {
 
     /// The whole number at this name: `None` if there is no such member, or it is not written as a
     /// whole number from `low` to `high`, both included.
-    #[tactic(auto, unfolding(crate::specs::Fields::whole_at))]
     pub fn whole(&self, name: &str, low: u64, high: u64) -> Option<u64>
         ensures value { result ≡ whole_at low high name.now (node_data self.now) }
         ensures low { IfSome result (λ n. low ≤ n) }
@@ -104,7 +103,6 @@ impl<'v, 'a> Node<'v, 'a> {
     }
 
     /// The values of the list at this name: `None` if there is no such member or it is no list.
-    #[tactic(auto, unfolding(crate::specs::Fields::list_at))]
     pub fn list(&self, name: &str) -> Option<NodeList<'v, 'a>>
         ensures { option_map (λ l. list_items l) result ≡ list_at name.now (node_data self.now) }
     {

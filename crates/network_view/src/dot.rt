@@ -1,4 +1,5 @@
 //! The picture, in one of two forms.
+#![tactic(auto, unfolding(crate::specs::Dot::dot_of))]
 
 ghost use Rattle.std.specs.Prelude.{◌≡◌, ◌++◌, IfOk, OnOk, flat_map};
 ghost use Rattle.std.specs.String.{string_bytes};
@@ -114,7 +115,6 @@ fn add_links(
 /// marked, or its AS in a picture without routers.
 ///
 /// `AllocError` if memory runs out. It takes time for each pair of a link and a hop.
-#[tactic(auto, unfolding(crate::specs::Dot::dot_of))]
 pub fn network_dot(
     alloc: Global,
     ases: &[AsEntry],

@@ -1,4 +1,5 @@
 //! The checks of a router on a packet, in their order.
+#![tactic(auto, unfolding(crate::specs::Checks::checks_at, crate::specs::Checks::checks_of, crate::specs::Checks::end_checks, crate::specs::Checks::leave_checks, crate::specs::Checks::pass_checks, crate::specs::Checks::place_checks, crate::specs::Checks::switch_checks,))]
 
 ghost use Rattle.std.specs.Prelude.{◌≡◌, ◌+◌, ◌<◌, ◌++◌, IfOk, OnOk, length};
 ghost use Rattle.scion_topology.specs.View.{entry_of};
@@ -20,7 +21,6 @@ use scion_topology::{IfEntry, RouterView};
 use std::alloc::{AllocError, Global};
 
 /// Adds the checks of the packet's place and way in.
-#[tactic(auto, unfolding(crate::specs::Checks::place_checks))]
 fn add_place(alloc: Global, at: &Situation<'_>, checks: &mut Vec<Check>) -> Result<(), AllocError>
     ensures { OnOk result (checks.new.items ≡ checks.old.items ++ place_checks at.entry.now) }
 {
@@ -35,7 +35,6 @@ fn add_place(alloc: Global, at: &Situation<'_>, checks: &mut Vec<Check>) -> Resu
 }
 
 /// Adds the checks of a hop: that it is live, and that its authenticator is right.
-#[tactic(auto, unfolding(crate::specs::Checks::pass_checks))]
 fn add_pass(
     alloc: Global,
     four: u8,
@@ -57,7 +56,6 @@ fn add_pass(
 }
 
 /// Adds the checks of both addresses.
-#[tactic(auto, unfolding(crate::specs::Checks::end_checks))]
 fn add_end(alloc: Global, at: &Situation<'_>, checks: &mut Vec<Check>) -> Result<(), AllocError>
     ensures { OnOk result (checks.new.items ≡ checks.old.items ++ end_checks at.entry.now) }
 {
@@ -70,7 +68,6 @@ fn add_end(alloc: Global, at: &Situation<'_>, checks: &mut Vec<Check>) -> Result
 }
 
 /// Adds the checks of a switch to the next segment.
-#[tactic(auto, unfolding(crate::specs::Checks::switch_checks))]
 fn add_switch(alloc: Global, at: &Situation<'_>, checks: &mut Vec<Check>) -> Result<(), AllocError>
     requires { at.now.header.curr_hf + 1 < length at.now.header.hops }
     ensures { OnOk result (checks.new.items ≡ checks.old.items ++ switch_checks at.entry.now) }
@@ -116,7 +113,6 @@ fn add_leave_by(
 }
 
 /// Adds the checks of the way out, from this info and hop field.
-#[tactic(auto, unfolding(crate::specs::Checks::leave_checks))]
 fn add_leave(
     alloc: Global,
     at: &Situation<'_>,
@@ -140,7 +136,6 @@ fn add_leave(
 }
 
 /// Adds the checks of a packet with a path header.
-#[tactic(auto, unfolding(crate::specs::Checks::checks_at))]
 fn add_checks(alloc: Global, at: &Situation<'_>, checks: &mut Vec<Check>) -> Result<(), AllocError>
     ensures { OnOk result (checks.new.items ≡ checks.old.items ++ checks_at at.entry.now) }
 {
@@ -159,7 +154,6 @@ fn add_checks(alloc: Global, at: &Situation<'_>, checks: &mut Vec<Check>) -> Res
 
 /// The checks that a router with this view makes at the second `now` on a packet that came to it by
 /// `arrival`.
-#[tactic(auto, unfolding(crate::specs::Checks::checks_of))]
 pub(crate) fn checks_of(
     alloc: Global,
     view: RouterView<'_>,

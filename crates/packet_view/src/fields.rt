@@ -1,4 +1,5 @@
 //! The fields of a packet, each on a line: its bytes in hexadecimal, and their meaning.
+#![tactic(auto, unfolding(crate::specs::Fields::address_text, crate::specs::Fields::addresses_text, crate::specs::Fields::behind_text, crate::specs::Fields::each_below, crate::specs::Fields::field_text, crate::specs::Fields::fields_text, crate::specs::Fields::hop_field_text, crate::specs::Fields::hop_fields_text, crate::specs::Fields::info_field_text, crate::specs::Fields::info_fields_text, crate::specs::Fields::mac_text, crate::specs::Fields::meta_text, crate::specs::Fields::number_text, crate::specs::Fields::payload_text,))]
 
 ghost use Rattle.std.specs.Prelude.{◌≡◌, ◌+◌, ◌<◌, ◌≤◌, ◌++◌, length, IfOk, OnOk};
 ghost use Rattle.std.specs.String.{string_bytes};
@@ -18,7 +19,6 @@ use std::alloc::{AllocError, Global};
 const FIELDS_START: usize = ADDRESSES_LEN + META_LEN;
 
 /// Adds the line of `len` bytes of the packet from this place on, with their meaning.
-#[tactic(auto, unfolding(crate::specs::Fields::field_text))]
 fn add_field(
     alloc: Global,
     text: &mut String,
@@ -40,7 +40,6 @@ fn add_field(
 }
 
 /// Adds the line of a number in an info or a hop field.
-#[tactic(auto, unfolding(crate::specs::Fields::number_text))]
 fn add_number<'a>(
     alloc: Global,
     text: &mut String,
@@ -69,7 +68,6 @@ fn add_number<'a>(
 }
 
 /// Adds the line of an address.
-#[tactic(auto, unfolding(crate::specs::Fields::address_text))]
 fn add_address(
     alloc: Global,
     text: &mut String,
@@ -87,7 +85,6 @@ fn add_address(
 }
 
 /// Adds the lines of the meta field.
-#[tactic(auto, unfolding(crate::specs::Fields::meta_text))]
 fn add_meta(
     alloc: Global,
     text: &mut String,
@@ -117,7 +114,6 @@ pub(crate) fn last_live(timestamp: u32, hop: &HopField) -> u64
 }
 
 /// Adds the lines of the info field of this index, at this place of the packet.
-#[tactic(auto, unfolding(crate::specs::Fields::info_field_text))]
 fn add_info(
     alloc: Global,
     text: &mut String,
@@ -162,7 +158,6 @@ fn add_info(
 }
 
 /// Adds the line of the authenticator of the hop field of this index.
-#[tactic(auto, unfolding(crate::specs::Fields::mac_text))]
 fn add_mac(
     alloc: Global,
     text: &mut String,
@@ -184,7 +179,6 @@ fn add_mac(
 
 /// Adds the lines of the hop field of this index, at this place of the packet, on a segment with
 /// this timestamp.
-#[tactic(auto, unfolding(crate::specs::Fields::hop_field_text))]
 fn add_hop(
     alloc: Global,
     text: &mut String,
@@ -250,7 +244,6 @@ fn add_info_at(
 }
 
 /// The info fields.
-#[tactic(auto, unfolding(crate::specs::Fields::info_fields_text, crate::specs::Fields::each_below))]
 fn info_fields_text(alloc: Global, packet: &[u8], header: &Header) -> Result<String, AllocError>
     requires { 16 + header_len header.now ≤ length packet.now }
     ensures { IfOk result (λ text. string_bytes text
@@ -284,7 +277,6 @@ fn add_hop_at(
 }
 
 /// The hop fields.
-#[tactic(auto, unfolding(crate::specs::Fields::hop_fields_text, crate::specs::Fields::each_below))]
 fn hop_fields_text(alloc: Global, packet: &[u8], header: &Header) -> Result<String, AllocError>
     requires { 16 + header_len header.now ≤ length packet.now }
     ensures { IfOk result (λ text. string_bytes text
@@ -298,7 +290,6 @@ fn hop_fields_text(alloc: Global, packet: &[u8], header: &Header) -> Result<Stri
 }
 
 /// Adds the line of the payload, if there is one.
-#[tactic(auto, unfolding(crate::specs::Fields::payload_text))]
 fn add_payload(
     alloc: Global,
     text: &mut String,
@@ -334,7 +325,6 @@ fn add_header(
 }
 
 /// Adds the lines after the addresses: of a path header and a payload.
-#[tactic(auto, unfolding(crate::specs::Fields::behind_text))]
 fn add_behind(alloc: Global, text: &mut String, packet: &[u8]) -> Result<(), AllocError>
     requires { 16 ≤ length packet.now }
     ensures { OnOk result (string_bytes text.new
@@ -352,7 +342,6 @@ fn add_behind(alloc: Global, text: &mut String, packet: &[u8]) -> Result<(), All
 /// The fields of a packet, each on a line with its bytes in hexadecimal: addresses, meta field,
 /// info fields, hop fields and payload. If the packet has no addresses or no path header, the lines
 /// say so. `AllocError` if memory runs out.
-#[tactic(auto, unfolding(crate::specs::Fields::fields_text, crate::specs::Fields::addresses_text))]
 pub fn fields_text(alloc: Global, packet: &[u8]) -> Result<String, AllocError>
     ensures { IfOk result (λ text. string_bytes text ≡ fields_text packet.now) }
 {

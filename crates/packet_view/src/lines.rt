@@ -1,4 +1,5 @@
 //! The output of `scionet_view packet` about a packet.
+#![tactic(auto, unfolding(crate::specs::Lines::check_text, crate::specs::Lines::checks_text, crate::specs::Lines::lines_of,))]
 
 ghost use Rattle.std.specs.Prelude.{◌≡◌, ◌++◌, IfOk, OnOk};
 ghost use Rattle.std.specs.String.{string_bytes};
@@ -14,7 +15,6 @@ use std::alloc::{AllocError, Global};
 use step_line::{StepCommand, TurnFault, bytes, refusal_line};
 
 /// Adds the line of a check.
-#[tactic(auto, unfolding(crate::specs::Lines::check_text))]
 fn add_line(alloc: Global, text: &mut String, check: &Check) -> Result<(), AllocError>
     ensures { OnOk result (string_bytes text.new ≡ string_bytes text.old ++ check_text check.now) }
 {
@@ -28,7 +28,6 @@ fn add_line(alloc: Global, text: &mut String, check: &Check) -> Result<(), Alloc
 }
 
 /// The checks up to the first that fails, each on a line.
-#[tactic(auto, unfolding(crate::specs::Lines::checks_text))]
 fn checks_text(alloc: Global, checks: &[Check]) -> Result<String, AllocError>
     ensures { IfOk result (λ text. string_bytes text ≡ checks_text checks.now) }
 {
@@ -64,7 +63,6 @@ fn add_checks(
 ///
 /// [`TurnFault::PacketText`] if the text is not hexadecimal digits, two for each byte;
 /// [`TurnFault::Memory`] if memory runs out.
-#[tactic(auto, unfolding(crate::specs::Lines::lines_of))]
 pub fn packet_lines(alloc: Global, command: &StepCommand, text: &[u8]) -> Result<String, TurnFault>
     ensures { PrintsTurn result (lines_of command.now text.now) }
 {

@@ -1,4 +1,5 @@
 //! The parts of a line, which are numbers and words until the line is written.
+#![tactic(auto, unfolding(crate::specs::Fields::indices_text, crate::specs::Fields::lens_text))]
 
 ghost use Rattle.std.specs.Prelude.{◌≡◌, ◌++◌, OnOk};
 ghost use Rattle.std.specs.String.{string_bytes};
@@ -35,7 +36,6 @@ pub(crate) enum Part<'a> {
 }
 
 /// The place of the packet on its path.
-#[tactic(auto, unfolding(crate::specs::Fields::indices_text))]
 pub(crate) fn place_part(header: &Header) -> Part<'static>
     ensures { part_text result ≡ indices_text header.now }
 {
@@ -66,7 +66,6 @@ fn add_place(text: &mut String, info: usize, hop: usize) -> Result<(), AllocErro
 }
 
 /// Adds the number of hop fields of each segment.
-#[tactic(auto, unfolding(crate::specs::Fields::lens_text))]
 fn add_lens(text: &mut String, first: u8, second: u8, third: u8) -> Result<(), AllocError>
     ensures { OnOk result
         (string_bytes text.new ≡ string_bytes text.old ++ part_text (Lens first second third)) }

@@ -1,4 +1,5 @@
 //! The two sides of each check, as the parts of a line.
+#![tactic(auto, unfolding(crate::specs::Sides::arrival_text, crate::specs::Sides::before_text, crate::specs::Sides::destination_sides, crate::specs::Sides::header_sides, crate::specs::Sides::kinds_sides, crate::specs::Sides::link_kind_text, crate::specs::Sides::link_sides, crate::specs::Sides::live_sides, crate::specs::Sides::mac_under, crate::specs::Sides::origin_text, crate::specs::Sides::owner_sides, crate::specs::Sides::owner_text, crate::specs::Sides::source_sides, crate::specs::Sides::switch_sides, crate::specs::Sides::way_in_sides, crate::specs::Sides::way_out_sides,))]
 
 ghost use Rattle.std.specs.Prelude.{◌≡◌, ◌+◌, ◌<◌, ◌≤◌, length, slice_get};
 ghost use Rattle.std.specs.Option.{option_copied};
@@ -15,7 +16,6 @@ use router_step::{Arrival, way_in, way_out};
 use scion_topology::{IfEntry, LinkKind};
 
 /// How the packet came.
-#[tactic(auto, unfolding(crate::specs::Sides::arrival_text))]
 fn arrival_part(arrival: Arrival) -> Part<'static>
     ensures { part_text result ≡ arrival_text arrival }
 {
@@ -27,7 +27,6 @@ fn arrival_part(arrival: Arrival) -> Part<'static>
 }
 
 /// The kind of a link: what the AS at its far end is.
-#[tactic(auto, unfolding(crate::specs::Sides::link_kind_text))]
 fn link_kind_text(kind: LinkKind) -> &'static str
     ensures { result.now ≡ link_kind_text kind }
 {
@@ -39,7 +38,6 @@ fn link_kind_text(kind: LinkKind) -> &'static str
 }
 
 /// The router that owns an interface, if the AS has the interface.
-#[tactic(auto, unfolding(crate::specs::Sides::owner_text))]
 fn owner_part(entry: Option<&IfEntry>) -> Part<'static>
     ensures { part_text result ≡ owner_text (option_copied entry.entry) }
 {
@@ -50,7 +48,6 @@ fn owner_part(entry: Option<&IfEntry>) -> Part<'static>
 }
 
 /// The length of the packet.
-#[tactic(auto, unfolding(crate::specs::Sides::header_sides))]
 pub(crate) fn header_sides(packet: &[u8]) -> [Part<'static>; 3]
     ensures { parts_text result ≡ header_sides packet.now }
 {
@@ -62,7 +59,6 @@ pub(crate) fn header_sides(packet: &[u8]) -> [Part<'static>; 3]
 }
 
 /// The router that owns the way out, and this one.
-#[tactic(auto, unfolding(crate::specs::Sides::owner_sides))]
 pub(crate) fn owner_sides(at: &Situation<'_>, out: &IfEntry) -> [Part<'static>; 4]
     ensures { parts_text result ≡ owner_sides at.entry.now.view out.now }
 {
@@ -75,7 +71,6 @@ pub(crate) fn owner_sides(at: &Situation<'_>, out: &IfEntry) -> [Part<'static>; 
 }
 
 /// The state of the link.
-#[tactic(auto, unfolding(crate::specs::Sides::link_sides))]
 pub(crate) fn link_sides(up: bool) -> [Part<'static>; 1]
     ensures { parts_text result ≡ link_sides up }
 {
@@ -99,7 +94,6 @@ pub(crate) fn indices_sides(at: &Situation<'_>) -> [Part<'static>; 8]
 }
 
 /// How the packet came, and the hop's way in.
-#[tactic(auto, unfolding(crate::specs::Sides::way_in_sides))]
 pub(crate) fn way_in_sides(
     at: &Situation<'_>,
     info: &InfoField,
@@ -122,7 +116,6 @@ pub(crate) fn way_in_sides(
 }
 
 /// The last second at which the hop is live, and the current second.
-#[tactic(auto, unfolding(crate::specs::Sides::live_sides))]
 pub(crate) fn live_sides(
     number: u8,
     now: u32,
@@ -141,7 +134,6 @@ pub(crate) fn live_sides(
 }
 
 /// The hop's authenticator under a key and the info field's accumulator.
-#[tactic(auto, unfolding(crate::specs::Sides::mac_under))]
 fn mac_under(info: &InfoField, hop: &HopField, key: &[u8]) -> [u8; 6]
     requires { length key.now ≤ 64 }
     ensures { result ≡ mac_under info.now hop.now key.now }
@@ -164,7 +156,6 @@ fn right_mac(at: &Situation<'_>, info: &InfoField, hop: &HopField) -> [u8; 6]
 }
 
 /// The authenticator under the key before, if there is one.
-#[tactic(auto, unfolding(crate::specs::Sides::before_text))]
 fn before_part(at: &Situation<'_>, info: &InfoField, hop: &HopField) -> Part<'static>
     ensures { part_text result
         ≡ before_text info.now hop.now (slice_get at.entry.now.view.keys 1) }
@@ -197,7 +188,6 @@ pub(crate) fn mac_sides(
 }
 
 /// The source, how the packet came, and this AS.
-#[tactic(auto, unfolding(crate::specs::Sides::source_sides))]
 pub(crate) fn source_sides(at: &Situation<'_>) -> [Part<'static>; 6]
     ensures { parts_text result
         ≡ source_sides at.entry.now.view at.entry.now.arrival at.entry.now.source }
@@ -213,7 +203,6 @@ pub(crate) fn source_sides(at: &Situation<'_>) -> [Part<'static>; 6]
 }
 
 /// The destination, this AS, and the packet's place on its path.
-#[tactic(auto, unfolding(crate::specs::Sides::destination_sides))]
 pub(crate) fn destination_sides(at: &Situation<'_>) -> [Part<'static>; 8]
     ensures { parts_text result
         ≡ destination_sides at.entry.now.view at.entry.now.destination at.entry.now.header }
@@ -231,7 +220,6 @@ pub(crate) fn destination_sides(at: &Situation<'_>) -> [Part<'static>; 8]
 }
 
 /// The segment of the packet, that of its next hop, and how the packet came.
-#[tactic(auto, unfolding(crate::specs::Sides::switch_sides))]
 pub(crate) fn switch_sides(at: &Situation<'_>) -> [Part<'static>; 6]
     requires { at.now.header.curr_hf + 1 < length at.now.header.hops }
     ensures { parts_text result ≡ switch_sides at.entry.now.arrival at.entry.now.header }
@@ -247,7 +235,6 @@ pub(crate) fn switch_sides(at: &Situation<'_>) -> [Part<'static>; 6]
 }
 
 /// The way out, and the router that owns it.
-#[tactic(auto, unfolding(crate::specs::Sides::way_out_sides))]
 pub(crate) fn way_out_sides(
     at: &Situation<'_>,
     info: &InfoField,
@@ -265,7 +252,6 @@ pub(crate) fn way_out_sides(
 }
 
 /// The kind of the link by which the packet came.
-#[tactic(auto, unfolding(crate::specs::Sides::origin_text))]
 fn origin_text(at: &Situation<'_>) -> &'static str
     ensures { result.now ≡ origin_text at.entry.now.view at.entry.now.arrival }
 {
@@ -280,7 +266,6 @@ fn origin_text(at: &Situation<'_>) -> &'static str
 }
 
 /// The kinds of the links in and out, and whether there is a switch between them.
-#[tactic(auto, unfolding(crate::specs::Sides::kinds_sides))]
 pub(crate) fn kinds_sides(at: &Situation<'_>, switched: bool, out: LinkKind) -> [Part<'static>; 5]
     ensures { parts_text result
         ≡ kinds_sides at.entry.now.view at.entry.now.arrival switched out }

@@ -1,4 +1,5 @@
 //! The line of a pair of ASes.
+#![tactic(auto, unfolding(crate::specs::Line::best_text, crate::specs::Line::link_name, crate::specs::Line::more_text, crate::specs::Line::needed_text, crate::specs::Line::pair_line,))]
 
 ghost use Rattle.std.specs.Prelude.{◌≡◌, ◌++◌, codes, flat_map, OnOk};
 ghost use Rattle.std.specs.String.{string_bytes};
@@ -11,7 +12,6 @@ use std::alloc::AllocError;
 use std::fmt::Write;
 
 /// What stands behind a number if there may be more.
-#[tactic(auto, unfolding(crate::specs::Line::more_text))]
 fn more_text(is_full: bool) -> &'static str
     ensures { result.now ≡ more_text is_full }
 {
@@ -19,7 +19,6 @@ fn more_text(is_full: bool) -> &'static str
 }
 
 /// Adds a link by its ends, as `ISD-AS#IF~ISD-AS#IF`.
-#[tactic(auto, unfolding(crate::specs::Line::link_name))]
 pub(crate) fn add_link(text: &mut String, link: &Link) -> Result<(), AllocError>
     ensures { OnOk result (string_bytes text.new ≡ string_bytes text.old ++ link_name link.now) }
 {
@@ -28,7 +27,6 @@ pub(crate) fn add_link(text: &mut String, link: &Link) -> Result<(), AllocError>
 }
 
 /// Adds what is said of the best path, and how many pairs of paths share no link.
-#[tactic(auto, unfolding(crate::specs::Line::best_text))]
 fn add_best(
     text: &mut String,
     best: BestPath,
@@ -55,7 +53,6 @@ fn add_links(text: &mut String, links: &[Link]) -> Result<(), AllocError>
 }
 
 /// Adds the links that the paths need, with their number.
-#[tactic(auto, unfolding(crate::specs::Line::needed_text))]
 fn add_needed(text: &mut String, is_full: bool, needed: &[Link]) -> Result<(), AllocError>
     ensures { OnOk result
         (string_bytes text.new ≡ string_bytes text.old ++ needed_text is_full needed.now) }
@@ -81,7 +78,6 @@ fn add_paths(text: &mut String, report: &PairReport) -> Result<(), AllocError>
 }
 
 /// Adds the line of a pair.
-#[tactic(auto, unfolding(crate::specs::Line::pair_line))]
 pub(crate) fn add_line(text: &mut String, report: &PairReport) -> Result<(), AllocError>
     ensures { OnOk result
         (string_bytes text.new ≡ string_bytes text.old ++ pair_line report.now) }

@@ -1,4 +1,5 @@
 //! The links that most pairs of ASes need.
+#![tactic(auto, unfolding(crate::specs::Summary::rank_line))]
 
 ghost use Rattle.std.specs.Prelude.{◌≡◌, ◌++◌, IfOk, IsPermutation, IsSorted, OnOk, flat_map};
 ghost use Rattle.std.specs.String.{string_bytes};
@@ -104,7 +105,6 @@ fn ranked_links(
 }
 
 /// Adds the line of a link.
-#[tactic(auto, unfolding(crate::specs::Summary::rank_line))]
 fn add_rank(text: &mut String, ranked: &RankedLink) -> Result<(), AllocError>
     ensures { OnOk result
         (string_bytes text.new ≡ string_bytes text.old ++ rank_line ranked.now) }

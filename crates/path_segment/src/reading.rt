@@ -1,3 +1,5 @@
+#![tactic(auto, unfolding(crate::specs::Reading::any_address_in, crate::specs::Reading::chain_at, crate::specs::Reading::entry_in, crate::specs::Reading::mac_at, crate::specs::Reading::segment_kind_at, json_fields::specs::Fields::document_in,))]
+
 ghost use Rattle.std.specs.Prelude.{◌≡◌, IfErr, IsTrue};
 ghost use Rattle.std.specs.Str.{is_utf8};
 ghost use Rattle.json_fields.specs.Documents.{node_data};
@@ -25,7 +27,6 @@ impl Segment {
     /// [`SegmentFault::NotJson`] if the text is not of this form, and then the refusals of
     /// [`Segment::new`]. Running out of memory is [`OrMemory::Memory`], which comes only if the
     /// bytes are UTF-8.
-    #[tactic(auto, unfolding(json_fields::specs::Fields::document_in))]
     pub fn from_json(alloc: Global, bytes: &[u8]) -> Result<Segment, SegmentError>
         ensures value { Reads (λ s. s) result (segment_in bytes.now) }
         ensures wanted { IfErr result (λ error. error ≡ OrMemory.Memory
@@ -39,7 +40,6 @@ impl Segment {
     /// The segment that an object of a JSON text describes, in the form and with the refusals of
     /// [`Segment::from_json`]; or memory runs out, which it can only if `kind`, `timestamp` and
     /// `beta0` are right and `entries` is a list.
-    #[tactic(auto, unfolding(crate::specs::Reading::chain_at))]
     pub fn from_object(alloc: Global, object: &Node<'_, '_>) -> Result<Segment, SegmentError>
         ensures value { Reads (λ s. s) result (chain_or_fault (chain_at (node_data object.now))) }
         ensures wanted { IfErr result (λ error. error ≡ OrMemory.Memory
@@ -59,7 +59,6 @@ impl Segment {
 }
 
 /// The entry of a JSON object.
-#[tactic(auto, unfolding(crate::specs::Reading::entry_in))]
 fn entry_of(object: &Node<'_, '_>) -> Option<Entry>
     ensures { result ≡ entry_in (node_data object.now) }
 {
@@ -78,7 +77,6 @@ fn entry_of(object: &Node<'_, '_>) -> Option<Entry>
 }
 
 /// A member whose value is an address.
-#[tactic(auto, unfolding(crate::specs::Reading::any_address_in))]
 fn address(object: &Node<'_, '_>, name: &str) -> Option<IsdAs>
     ensures { result ≡ any_address_in name.now (node_data object.now) }
 {
@@ -87,7 +85,6 @@ fn address(object: &Node<'_, '_>, name: &str) -> Option<IsdAs>
 }
 
 /// A member whose value is an authenticator in hexadecimal.
-#[tactic(auto, unfolding(crate::specs::Reading::mac_at))]
 fn mac(object: &Node<'_, '_>, name: &str) -> Option<[u8; 6]>
     ensures { result ≡ mac_at name.now (node_data object.now) }
 {
@@ -96,7 +93,6 @@ fn mac(object: &Node<'_, '_>, name: &str) -> Option<[u8; 6]>
 }
 
 /// A member whose value is the name of a kind.
-#[tactic(auto, unfolding(crate::specs::Reading::segment_kind_at))]
 fn kind(object: &Node<'_, '_>, name: &str) -> Option<SegKind>
     ensures { result ≡ segment_kind_at name.now (node_data object.now) }
 {

@@ -1,3 +1,5 @@
+#![tactic(auto, unfolding(crate::specs::Rules::beacon_fault, crate::specs::Rules::first_fault, crate::specs::Rules::last_fault, crate::specs::Rules::next_fault, crate::specs::Rules::segment_fault,))]
+
 ghost use Rattle.std.specs.Prelude.{◌≡◌, ◌==◌, ◌∷◌, [], ◌++◌, None};
 ghost use Rattle.std.specs.List.{list_any, list_all};
 ghost use Rattle.path_segment.specs.Rules.{has_way_in, has_way_out, begins_well, ends_well, names_as_twice, beacon_fault, first_fault, next_fault, last_fault, segment_fault};
@@ -13,7 +15,6 @@ pub const MAX_BEACON_LEN: usize = 62;
 pub const MAX_SEGMENT_LEN: usize = 63;
 
 /// The first rule that a segment of these entries breaks.
-#[tactic(auto, unfolding(crate::specs::Rules::segment_fault))]
 pub(crate) fn fault_of_segment(entries: &[Entry]) -> Option<SegmentFault>
     ensures { result ≡ segment_fault entries.now }
 {
@@ -31,7 +32,6 @@ pub(crate) fn fault_of_segment(entries: &[Entry]) -> Option<SegmentFault>
 }
 
 /// The first rule that a beacon of this one entry breaks.
-#[tactic(auto, unfolding(crate::specs::Rules::first_fault, crate::specs::Rules::beacon_fault))]
 pub(crate) fn fault_of_first(entry: &Entry) -> Option<SegmentFault>
     ensures step { result ≡ first_fault entry.now }
     ensures whole { result ≡ beacon_fault (entry.now ∷ []) }
@@ -53,7 +53,6 @@ pub(crate) fn fault_of_next(entries: &[Entry], entry: &Entry) -> Option<SegmentF
     fault_at_next(entries, entry)
 }
 
-#[tactic(auto, unfolding(crate::specs::Rules::next_fault))]
 fn fault_at_next(entries: &[Entry], entry: &Entry) -> Option<SegmentFault>
     ensures { result ≡ next_fault entries.now entry.now }
 {
@@ -78,7 +77,6 @@ pub(crate) fn fault_of_last(entries: &[Entry], entry: &Entry) -> Option<SegmentF
     fault_at_last(entries, entry)
 }
 
-#[tactic(auto, unfolding(crate::specs::Rules::last_fault))]
 fn fault_at_last(entries: &[Entry], entry: &Entry) -> Option<SegmentFault>
     ensures { result ≡ last_fault entries.now entry.now }
 {

@@ -1,3 +1,5 @@
+#![tactic(auto, unfolding(crate::specs::Chain::first_as, crate::specs::Chain::last_as))]
+
 ghost use Rattle.std.specs.Prelude.{◌≡◌, ◌<◌, ◌≤◌, ◌↔◌, length, Ok, IfOk, OnOk, IsTrue};
 ghost use Rattle.path_segment.specs.Chain.{chain_of, beta_of, between, first_as, last_as, IsLeastExpiry, IsChainLive};
 ghost use Rattle.path_segment.specs.Rules.{AreOfSegment, IsSegment, segment_of};
@@ -130,7 +132,6 @@ impl Segment {
     }
 
     /// The AS in which it begins.
-    #[tactic(auto, unfolding(crate::specs::Chain::first_as))]
     pub fn first_as(&self) -> IsdAs
         ensures { result ≡ first_as self.now }
     {
@@ -141,7 +142,6 @@ impl Segment {
     }
 
     /// The AS in which it ends.
-    #[tactic(auto, unfolding(crate::specs::Chain::last_as))]
     pub fn last_as(&self) -> IsdAs
         ensures { result ≡ last_as self.now }
     {

@@ -1,3 +1,5 @@
+#![tactic(auto, unfolding(crate::specs::Text::entry_data, crate::specs::Text::segment_data))]
+
 ghost use Rattle.std.specs.Prelude.{◌≡◌, Ok, Some, IfOk, string_bytes, map, length};
 ghost use Rattle.hex.specs.Hex.{encode_lower, decode_sized};
 ghost use Rattle.isd_as.specs.Address.{canonical};
@@ -62,7 +64,6 @@ fn mac_text(alloc: Global, mac: &[u8]) -> Result<String, AllocError>
 }
 
 /// An entry as a JSON value; reading it gives the entry back.
-#[tactic(auto, unfolding(crate::specs::Text::entry_data))]
 fn entry_value(alloc: Global, entry: &Entry) -> Result<Value, AllocError>
     ensures value { IfOk result (λ v. view v ≡ entry_data entry.now) }
     ensures again { IfOk result (λ _. entry_in (entry_data entry.now) ≡ Some entry.now) }
@@ -93,7 +94,6 @@ fn entries_value(alloc: Global, entries: &[Entry]) -> Result<Value, AllocError>
 }
 
 /// A segment as a JSON value; reading it gives the segment back.
-#[tactic(auto, unfolding(crate::specs::Text::segment_data))]
 fn value_of(alloc: Global, segment: &Segment) -> Result<Value, AllocError>
     ensures value { IfOk result (λ v. view v ≡ segment_data segment.now) }
     ensures again { IfOk result

@@ -1,3 +1,5 @@
+#![tactic(auto, unfolding(crate::specs::Index::rank_between))]
+
 ghost use Rattle.std.specs.Prelude.{◌≡◌, ◌^◌, ◌<◌, nat_lt};
 ghost use Rattle.std.specs.Ordering.{nat_cmp};
 ghost use Rattle.path_server.specs.Index.{rank_between, rank, rank_at, order_at, HasAddresses};
@@ -16,7 +18,6 @@ pub(crate) struct Ends {
 
 impl Ends {
     /// The ends of the segments of a kind from one AS to another; both ASes are given as numbers.
-    #[tactic(auto, unfolding(crate::specs::Index::rank_between))]
     pub(crate) fn new(kind: SegKind, first: u64, last: u64) -> Ends
         ensures { ends_number result ≡ rank_between kind first last }
     {

@@ -1,4 +1,5 @@
 //! The answer to a registration, from the segments of the same kind and ends.
+#![tactic(auto, unfolding(crate::specs::Store::answer_to))]
 
 ghost use Rattle.std.specs.Prelude.{◌≡◌, count_by, length};
 ghost use Rattle.std.specs.List.{list_any};
@@ -17,7 +18,6 @@ use path_segment::Segment;
 pub const MAX_ALIKE: usize = 32;
 
 /// The answer to a registration, before memory is requested.
-#[tactic(auto, unfolding(crate::specs::Store::answer_to))]
 pub(crate) fn answer_to(
     segments: &[Segment],
     index: &[usize],

@@ -1,3 +1,5 @@
+#![tactic(auto, unfolding(crate::specs::Lookup::segments_for, crate::specs::Store::live_segments, crate::specs::Store::with_registered,))]
+
 ghost use Rattle.std.specs.Prelude.{◌≡◌, ◌↔◌, [], ◌∷◌, ◌++◌, ◌≤◌, true, Ok, length, filter, vec_len, All, IfErr, IfOk, IsTrue, OnErr, OnOk};
 ghost use Rattle.path_segment.specs.Chain.{IsChainLive};
 ghost use Rattle.path_segment.specs.Tests.{is_live};
@@ -89,7 +91,6 @@ impl PathStore {
     ///
     /// It reads only the segments of that kind and those ends, and moves the places in the index
     /// that come after the new one.
-    #[tactic(auto, unfolding(crate::specs::Store::with_registered))]
     pub fn register(&mut self, segment: Segment, now: u32) -> Result<bool, (Segment, StoreError)>
         ensures answer { Registers segment result (answer_to self.old segment now) }
         ensures taken { OnOk result (self.new ≡ with_registered self.old segment now) }
@@ -136,7 +137,6 @@ impl PathStore {
     ///
     /// If there are none, it reads no segment. Else it reads each segment and sorts the places of
     /// those that stay. It takes no memory.
-    #[tactic(auto, unfolding(crate::specs::Store::live_segments))]
     pub fn sweep(&mut self, now: u32) -> usize
         ensures kept { self.new ≡ live_segments self.old now }
         ensures count { result ≡ expired_count self.old now }
@@ -187,7 +187,6 @@ impl PathStore {
     }
 
     /// Stores a copy of a segment if it is new at the second `now`.
-    #[tactic(auto, unfolding(crate::specs::Store::with_registered))]
     fn register_copy(
         &mut self,
         alloc: Global,
@@ -218,7 +217,6 @@ impl PathStore {
     /// segments that end in an AS of one side once for each AS of the other. Apart from that its
     /// time and memory grow with the number of segments that have these ends. [`AllocError`] if
     /// memory runs out.
-    #[tactic(auto, unfolding(crate::specs::Lookup::segments_for))]
     pub fn segments_for(
         &self,
         alloc: Global,

@@ -1,3 +1,5 @@
+#![tactic(auto, unfolding(crate::specs::Header::header_of))]
+
 ghost use Rattle.std.specs.Prelude.{◌≡◌, ◌+◌, ◌<◌, ◌≤◌, ◌++◌, length, map};
 ghost use Rattle.std.specs.List.{AllByRecursion, flat_map};
 ghost use Rattle.path_header.specs.Value.{IsHeader, lens_from};
@@ -14,7 +16,6 @@ use path_header::{Header, HopField, InfoField, MAX_HOPS};
 use path_segment::Entry;
 
 /// The header of these pieces, with the packet at the first info and hop field.
-#[tactic(auto, unfolding(crate::specs::Header::header_of))]
 pub(crate) fn header_of(held: &PieceSlots<'_>) -> Header
     requires some { 0 < length (pieces_in held.now) }
     requires ranges { AllByRecursion HasRange (pieces_in held.now) }

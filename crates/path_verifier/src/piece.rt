@@ -1,3 +1,5 @@
+#![tactic(auto, unfolding(crate::specs::Piece::begins_in, crate::specs::Piece::ends_in))]
+
 ghost use Rattle.std.specs.Prelude.{◌≡◌, ◌↔◌, ◌+◌, ◌-◌, ◌<◌, ◌≤◌, All, length, slice_get, Some, IsTrue};
 ghost use Rattle.hop_mac.specs.Lifetime.{IsLive};
 ghost use Rattle.path_segment.specs.Chain.{between, IsLeastExpiry};
@@ -101,7 +103,6 @@ impl<'s> Piece<'s> {
     }
 
     /// The AS in which it begins, in order of travel.
-    #[tactic(auto, unfolding(crate::specs::Piece::begins_in))]
     pub fn begins_in(&self) -> IsdAs
         requires { HasRange self.now }
         ensures { result ≡ begins_in self.now }
@@ -110,7 +111,6 @@ impl<'s> Piece<'s> {
     }
 
     /// The AS in which it ends, in order of travel.
-    #[tactic(auto, unfolding(crate::specs::Piece::ends_in))]
     pub fn ends_in(&self) -> IsdAs
         requires { HasRange self.now }
         ensures { result ≡ ends_in self.now }

@@ -1,3 +1,5 @@
+#![tactic(auto, unfolding(crate::specs::Walk::hop_of, crate::specs::Walk::walk_of))]
+
 ghost use Rattle.std.specs.Prelude.{◌≡◌, ◌↔◌, ◌+◌, ◌<◌, ◌≤◌, [], ◌∷◌, ◌++◌, length, map, drop, slice_get, IsTrue, Some};
 ghost use Rattle.std.specs.List.{AllByRecursion};
 ghost use Rattle.path_verifier.specs.PieceSlots.{pieces_in};
@@ -96,7 +98,6 @@ impl Walk {
 }
 
 /// The hop of an entry that is travelled in construction direction or against it.
-#[tactic(auto, unfolding(crate::specs::Walk::hop_of))]
 fn hop_of(along: bool, entry: &Entry) -> WalkHop
     ensures { result ≡ hop_of along entry.now }
 {
@@ -163,7 +164,6 @@ impl Walk {
     }
 
     /// Makes a walk of no hops the walk of these pieces.
-    #[tactic(auto, unfolding(crate::specs::Walk::walk_of))]
     pub(crate) fn follow(&mut self, held: &PieceSlots<'_>)
         requires empty { self.old ≡ [] }
         requires ranges { AllByRecursion HasRange (pieces_in held.now) }

@@ -1,4 +1,5 @@
 //! The steps of a router on many packets; its parts are read once for all of them.
+#![tactic(auto, unfolding(crate::specs::Packets::packet_after))]
 
 ghost use Rattle.std.specs.Prelude.{◌≡◌, map};
 ghost use Rattle.scion_topology.specs.View.{View};
@@ -11,7 +12,6 @@ use crate::router::step_packet;
 use scion_topology::RouterView;
 
 /// One step on a packet, whose answer is written into its record.
-#[tactic(auto, unfolding(crate::specs::Packets::packet_after))]
 fn step_one(view: &RouterView<'_>, now: u32, packet: &mut ScionPacket<'_>)
     ensures { packet.new ≡ packet_after view.now now packet.old }
 {

@@ -1,4 +1,5 @@
 //! The arguments of a host's calls, as values of this network.
+#![tactic(auto, unfolding(crate::specs::Parts::entries_told, crate::specs::Parts::entry_told))]
 
 ghost use Rattle.std.specs.Prelude.{◌≡◌, ◌≤◌, length, take, Some, None, if◌then◌else◌};
 ghost use Rattle.std.specs.Option.{option_copied};
@@ -54,7 +55,6 @@ fn is_up(number: u8) -> Option<bool>
 }
 
 /// An interface of the AS.
-#[tactic(auto, unfolding(crate::specs::Parts::entry_told))]
 fn entry(interface: &ScionInterface) -> Option<IfEntry>
     ensures { result ≡ entry_told interface.now }
 {
@@ -70,7 +70,6 @@ fn entry(interface: &ScionInterface) -> Option<IfEntry>
 
 /// Writes the interfaces to the front of the room, in their order; `false` if a number of one has
 /// no meaning.
-#[tactic(auto, unfolding(crate::specs::Parts::entries_told))]
 fn fill(room: &mut [IfEntry], interfaces: &[ScionInterface]) -> bool
     requires { length interfaces.now ≤ length room.old }
     ensures len { length room.new ≡ length room.old }

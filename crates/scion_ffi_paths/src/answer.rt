@@ -1,4 +1,5 @@
 //! The paths in the answer to a request.
+#![tactic(auto, unfolding(crate::specs::Answer::options_of_request))]
 
 ghost use Rattle.std.specs.Prelude.{◌≡◌, ◌<◌, [], Ok, IfOk, OnOk};
 ghost use Rattle.refusal.specs.Refusal.{Reads};
@@ -15,7 +16,6 @@ use refusal::OrMemory;
 use std::alloc::{AllocError, Global};
 
 /// The options of a request, or its first refusal.
-#[tactic(auto, unfolding(crate::specs::Answer::options_of_request))]
 pub(crate) fn options(
     alloc: Global,
     request: &PathsRequest,

@@ -1,4 +1,5 @@
 //! The half second at which a path expires.
+#![tactic(auto, unfolding(crate::specs::Expiry::path_expiry))]
 
 ghost use Rattle.std.specs.Prelude.{◌≡◌, ◌≤◌, All, length};
 ghost use Rattle.path_verifier.specs.Piece.{HasRange};
@@ -17,7 +18,6 @@ fn piece_expiry(piece: &OwnedPiece) -> u64
 }
 
 /// The half second at which the first hop of pieces expires.
-#[tactic(auto, unfolding(crate::specs::Expiry::path_expiry))]
 pub(crate) fn path_expiry(pieces: &[OwnedPiece]) -> u64
     requires ranges { All HasRange pieces.now }
     requires few { length pieces.now ≤ 3 }

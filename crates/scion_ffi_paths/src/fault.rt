@@ -1,3 +1,5 @@
+#![tactic(auto, unfolding(crate::specs::Text::fault_json))]
+
 ghost use Rattle.std.specs.Prelude.{◌≡◌, Some};
 ghost use Rattle.scion_ffi_paths.specs.Fault as faults;
 ghost use Rattle.scion_ffi_paths.specs.Fault.{of_segment};
@@ -46,7 +48,6 @@ impl RequestFault {
 impl fmt::Display for RequestFault {
     ghost output = { λ fault. Some (fault_json fault) };
 
-    #[tactic(auto, unfolding(crate::specs::Text::fault_json))]
     fn fmt<W: fmt::Write>(&self, f: &mut fmt::Formatter<W>) -> fmt::Result {
         let (code, name) = self.code_and_name();
         write!(f, "{{\"code\":{code},\"name\":\"{name}\"}}")

@@ -1,4 +1,5 @@
 //! Requests, as values.
+#![tactic(auto, unfolding(crate::specs::Asked::asked_in, crate::specs::Asked::paths_asked_in, crate::specs::Asked::value_asked,))]
 
 ghost use Rattle.json_fields.specs.Documents.{document_data, node_data};
 ghost use Rattle.refusal.specs.Refusal.{Reads};
@@ -20,7 +21,6 @@ pub const MAX_REQUEST_LEN: usize = 4_194_304;
 
 /// The JSON value in the bytes of a request: [`RequestFault::BadRequest`] if they are more than
 /// [`MAX_REQUEST_LEN`], or no JSON.
-#[tactic(auto, unfolding(crate::specs::Asked::value_asked))]
 pub(crate) fn read_document<'a>(
     alloc: Global,
     room: &'a mut JsonRoom,
@@ -68,7 +68,6 @@ impl Request {
     /// another form, [`RequestFault::Segment`] if a segment breaks a rule.
     ///
     /// It takes time and memory in proportion to the object.
-    #[tactic(auto, unfolding(crate::specs::Asked::asked_in))]
     pub(crate) fn of(alloc: Global, object: &Node<'_, '_>) -> Result<Request, RequestError>
         ensures { Reads (λ r. r) result (asked_in (node_data object.now)) }
     {
@@ -107,7 +106,6 @@ impl Model for PathsRequest {
 
 impl PathsRequest {
     /// The request for paths in these bytes, with the refusals of [`Request::of`].
-    #[tactic(auto, unfolding(crate::specs::Asked::paths_asked_in))]
     pub(crate) fn read(alloc: Global, bytes: &[u8]) -> Result<PathsRequest, RequestError>
         ensures { Reads (λ r. r) result (paths_asked_in bytes.now) }
     {

@@ -1,4 +1,5 @@
 //! The pieces of a request to verify a path.
+#![tactic(auto, unfolding(crate::specs::Stretch::piece_at))]
 
 ghost use Rattle.std.specs.Prelude.{◌≡◌, ◌≤◌, length, option_map, IfErr, IfOk, IsOk};
 ghost use Rattle.json_fields.specs.Documents.{list_items, node_data};
@@ -13,7 +14,6 @@ use path_verifier::{Piece, Pieces, VerifyFault};
 use std::alloc::{AllocError, Global};
 
 /// A piece of one of these segments, if the value is one.
-#[tactic(auto, unfolding(crate::specs::Stretch::piece_at))]
 fn piece<'s>(segments: &'s [Segment], object: &Node<'_, '_>) -> Option<Piece<'s>>
     ensures { result ≡ piece_at segments.now (node_data object.now) }
 {

@@ -1,4 +1,5 @@
 //! The text of an answer.
+#![tactic(auto, unfolding(crate::specs::Text::accepted_json, crate::specs::Text::answer_json, crate::specs::Text::place_in_list,))]
 
 ghost use Rattle.std.specs.Prelude.{◌≡◌, ◌++◌, codes, All, IfOk, OnOk};
 ghost use Rattle.std.specs.List.{join_by};
@@ -19,7 +20,6 @@ use path_verifier::{VerifiedPath, lend_all};
 use std::alloc::{AllocError, Global};
 
 /// The place of the first of these segments that equals this one.
-#[tactic(auto, unfolding(crate::specs::Text::place_in_list))]
 fn place_in_list(segment: &Segment, segments: &[Segment]) -> usize
     ensures { result ≡ place_in_list segment.now segments.now }
 {
@@ -39,6 +39,7 @@ fn truth(is_so: bool) -> &'static str
 }
 
 /// A piece.
+// Opened here alone: lists of pieces are told by the definition's name.
 #[tactic(auto, unfolding(crate::specs::Text::piece_json))]
 fn piece(alloc: Global, segments: &[Segment], piece: &OwnedPiece) -> Result<String, AllocError>
     ensures { IfOk result (λ text. string_bytes text ≡ piece_json segments.now piece.now) }
@@ -94,6 +95,7 @@ fn header(alloc: Global, header: &Header) -> Result<String, AllocError>
 }
 
 /// A path.
+// As for a piece.
 #[tactic(auto, unfolding(crate::specs::Text::path_json))]
 fn path(alloc: Global, segments: &[Segment], path: &Path) -> Result<String, AllocError>
     requires { All HasRange path.now.pieces }
@@ -148,7 +150,6 @@ fn push_option(text: &mut String, used: Option<usize>) -> Result<(), AllocError>
 }
 
 /// An answer.
-#[tactic(auto, unfolding(crate::specs::Text::answer_json))]
 pub(crate) fn answer(
     alloc: Global,
     segments: &[Segment],
@@ -166,7 +167,6 @@ pub(crate) fn answer(
 }
 
 /// A path that may be sent.
-#[tactic(auto, unfolding(crate::specs::Text::accepted_json))]
 pub(crate) fn verified_path(
     alloc: Global,
     path: &VerifiedPath<'_, '_, Global>,

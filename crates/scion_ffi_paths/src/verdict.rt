@@ -1,4 +1,5 @@
 //! Requests to verify a path.
+#![tactic(auto, unfolding(crate::specs::Given::given_in, crate::specs::Given::given_with, crate::specs::Given::request_at, crate::specs::Given::request_under,))]
 
 ghost use Rattle.std.specs.Prelude.{IfOk};
 ghost use Rattle.std.specs.String.{string_bytes};
@@ -61,7 +62,6 @@ fn path_verdict(
 
 /// The answer under a policy about a path of these pieces, whose header is at the front of the
 /// bytes.
-#[tactic(auto, unfolding(crate::specs::Given::request_under))]
 fn verdict_under(
     alloc: Global,
     request: &Request,
@@ -84,7 +84,6 @@ fn verdict_under(
 }
 
 /// The answer about a path of these pieces, whose header is at the front of the bytes.
-#[tactic(auto, unfolding(crate::specs::Given::request_at))]
 fn verdict_of(
     alloc: Global,
     request: &Request,
@@ -99,7 +98,6 @@ fn verdict_of(
 }
 
 /// The answer to a request whose common part was read from this JSON object.
-#[tactic(auto, unfolding(crate::specs::Given::given_with))]
 fn verdict_with(
     alloc: Global,
     request: &Request,
@@ -114,7 +112,6 @@ fn verdict_with(
 }
 
 /// The answer to the request in these bytes.
-#[tactic(auto, unfolding(crate::specs::Given::given_in))]
 fn verdict(alloc: Global, bytes: &[u8]) -> Result<String, RequestError>
     ensures { Tells (AnswersVerify bytes.now) result }
 {

@@ -1,4 +1,5 @@
 //! The path of a packet of the network after some lines, as text.
+#![tactic(auto, unfolding(crate::specs::Path::numbered_piece, crate::specs::Path::piece_kind_name))]
 
 ghost use Rattle.std.specs.Prelude.{◌≡◌, ◌||◌, ◌++◌, IfOk, OnOk, length, option_map, slice_get};
 ghost use Rattle.std.specs.String.{string_bytes};
@@ -18,7 +19,6 @@ use std::alloc::{AllocError, Global};
 use streams::Source;
 
 /// The name of a kind of piece.
-#[tactic(auto, unfolding(crate::specs::Path::piece_kind_name))]
 fn piece_kind_name(kind: PieceKind) -> &'static str
     ensures { result.now ≡ piece_kind_name kind }
 {
@@ -30,7 +30,6 @@ fn piece_kind_name(kind: PieceKind) -> &'static str
 }
 
 /// The line of the piece of this number: its kind, and the ASes in which it begins and ends.
-#[tactic(auto, unfolding(crate::specs::Path::numbered_piece))]
 fn numbered_piece(alloc: Global, number: usize, piece: &Piece<'_>) -> Result<String, AllocError>
     requires { HasRange piece.now }
     ensures { IfOk result (λ text. string_bytes text ≡ numbered_piece number piece.now) }
@@ -59,6 +58,7 @@ fn add_piece(
 }
 
 /// The pieces of a path.
+// Opened here and below alone: what is told of a packet cites these by their names.
 #[tactic(auto, unfolding(crate::specs::Path::piece_lines, packet_view::specs::Fields::each_below))]
 fn piece_lines(alloc: Global, path: &VerifiedPath<'_, '_, Global>) -> Result<String, AllocError>
     ensures { IfOk result (λ text. string_bytes text

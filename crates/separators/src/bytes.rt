@@ -1,4 +1,5 @@
 //! Blanks around bytes.
+#![tactic(auto, unfolding(crate::specs::Blanks::after_blanks))]
 
 ghost use Rattle.std.specs.Prelude.{◌≡◌, reverse};
 ghost use Rattle.separators.specs.Blanks.{after_blanks, trimmed_text};
@@ -13,7 +14,6 @@ pub fn trim(bytes: &[u8]) -> &[u8]
 }
 
 /// The bytes from the first on that is no blank. Its time is linear in the blanks removed.
-#[tactic(auto, unfolding(crate::specs::Blanks::after_blanks))]
 pub fn trim_start(bytes: &[u8]) -> &[u8]
     ensures { result.now ≡ after_blanks bytes.now }
 {
@@ -28,7 +28,6 @@ pub fn trim_start(bytes: &[u8]) -> &[u8]
 }
 
 /// The bytes up to the last that is no blank. Its time is linear in the blanks removed.
-#[tactic(auto, unfolding(crate::specs::Blanks::after_blanks))]
 pub fn trim_end(bytes: &[u8]) -> &[u8]
     ensures { result.now ≡ reverse (after_blanks (reverse bytes.now)) }
 {

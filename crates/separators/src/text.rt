@@ -1,4 +1,5 @@
 //! Blanks around text.
+#![tactic(auto, unfolding(crate::specs::Blanks::after_blanks))]
 
 ghost use Rattle.std.specs.Prelude.{◌≡◌, reverse};
 ghost use Rattle.separators.specs.Blanks.{after_blanks, trimmed_text};
@@ -13,7 +14,6 @@ pub fn trim(text: &str) -> &str
 }
 
 /// The text from its first character on that is no blank. Its time is linear in the blanks removed.
-#[tactic(auto, unfolding(crate::specs::Blanks::after_blanks))]
 pub fn trim_start(text: &str) -> &str
     ensures { result.now ≡ after_blanks text.now }
 {
@@ -28,7 +28,6 @@ pub fn trim_start(text: &str) -> &str
 }
 
 /// The text up to its last character that is no blank. Its time is linear in the blanks removed.
-#[tactic(auto, unfolding(crate::specs::Blanks::after_blanks))]
 pub fn trim_end(text: &str) -> &str
     ensures { result.now ≡ reverse (after_blanks (reverse text.now)) }
 {

@@ -1,3 +1,5 @@
+#![tactic(auto, unfolding(crate::specs::Line::line_of, crate::specs::Turn::turn_from))]
+
 ghost use Rattle.std.specs.Prelude.{◌≡◌, IfOk, IsSome, OnErr, option_map};
 ghost use Rattle.std.specs.Option.{option_copied};
 ghost use Rattle.step_line.specs.Fields.{as_address_at, bounded_number_at};
@@ -51,7 +53,6 @@ impl StepCommand {
     ///
     /// [`AllocError`] if memory runs out, which it may only if the address and the number of the
     /// router can be read.
-    #[tactic(auto, unfolding(crate::specs::Turn::turn_from))]
     pub fn from_texts(
         alloc: Global,
         texts: StepArgs<'_, '_>,
@@ -146,7 +147,6 @@ impl StepCommand {
     /// ignored. The text need not be UTF-8.
     ///
     /// [`TurnFault::PacketText`] if the text is not hexadecimal digits, two for each byte.
-    #[tactic(auto, unfolding(crate::specs::Line::line_of))]
     pub fn line(&self, alloc: Global, text: &[u8]) -> Result<String, TurnFault>
         ensures { PrintsTurn result (line_of self.now text.now) }
     {
