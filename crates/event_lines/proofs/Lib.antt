@@ -1,4 +1,3 @@
-pub mod Reading
 pub mod Front
 pub mod Letters
 pub mod Ending

@@ -146,28 +146,36 @@ plain_event word d =
     else if bytes_eq word (codes "sweep") then Some Sweep
     else traffic_event word d
 
--- the events that have no texts
-unfoldable pub untexted_event : List ℕ → Data → Option EventValue
-untexted_event word d =
-    if bytes_eq word (codes "send") then (do
-      payload ← bytes_at (codes "payload") d
-      ask ← long_at (codes "ask") d
-      path ← long_at (codes "path") d
-      Some (Send (ByAnswer ask path) payload))
-    else if bytes_eq word (codes "back") then (do
-      payload ← bytes_at (codes "payload") d
-      packet ← long_at (codes "packet") d
-      Some (Send (BackOf packet) payload))
-    else if bytes_eq word (codes "rotate") then (do
-      key ← bytes_at (codes "key") d
-      ia ← ia_in (codes "ia") d
-      Some (RotateKey ia key))
-    else plain_event word d
+-- a packet that is sent on a path of an answer
+unfoldable pub send_in : Data → Option EventValue
+send_in d = do
+  payload ← bytes_at (codes "payload") d
+  ask ← long_at (codes "ask") d
+  path ← long_at (codes "path") d
+  Some (Send (ByAnswer ask path) payload)
+
+-- a packet that is sent back
+unfoldable pub back_in : Data → Option EventValue
+back_in d = do
+  payload ← bytes_at (codes "payload") d
+  packet ← long_at (codes "packet") d
+  Some (Send (BackOf packet) payload)
+
+-- a key that is taken into use
+unfoldable pub rotate_in : Data → Option EventValue
+rotate_in d = do
+  key ← bytes_at (codes "key") d
+  ia ← ia_in (codes "ia") d
+  Some (RotateKey ia key)
 
 -- all events
 abbrev pub event_in : List ℕ → Data → Option EventValue
 event_in word d =
-    if bytes_eq word (codes "ask") then ask_in d else untexted_event word d
+    if bytes_eq word (codes "ask") then ask_in d
+    else if bytes_eq word (codes "send") then send_in d
+    else if bytes_eq word (codes "back") then back_in d
+    else if bytes_eq word (codes "rotate") then rotate_in d
+    else plain_event word d
 
 -- ---- lines
 

@@ -2,20 +2,20 @@
 //!
 //! Each reply is written into a text that is empty before it. Where memory runs out, that text may
 //! have a beginning of the reply.
-#![tactic(auto, unfolding(crate::specs::Line::ask_in, crate::specs::Line::line_in, crate::specs::Line::line_with_word, crate::specs::Line::said_by,))]
+#![tactic(auto, unfolding(crate::specs::Line::ask_in, crate::specs::Line::back_in, crate::specs::Line::line_in, crate::specs::Line::line_with_word, crate::specs::Line::rotate_in, crate::specs::Line::said_by, crate::specs::Line::send_in,))]
 
 ghost use Rattle.std.specs.Prelude.{◌≡◌, [], OnOk, Some, option_map};
 ghost use Rattle.std.specs.String.{string_bytes};
 ghost use Rattle.json_fields.specs.Documents.{node_data};
 ghost use Rattle.network_core.specs.Seen as events;
 ghost use Rattle.event_lines.specs.AcceptedLines.{accepted_as};
-ghost use Rattle.event_lines.specs.Line.{Happens, ask_in, line_in, said_by, show_in, untexted_event, line_with_word};
+ghost use Rattle.event_lines.specs.Line.{Happens, ask_in, back_in, line_in, line_with_word, plain_event, rotate_in, said_by, send_in, show_in};
 ghost use Rattle.event_lines.specs.inner.Seen.{line_value};
 ghost use Rattle.event_lines.specs.inner.Replies.{Replies};
 
 use crate::accepted::AcceptedLines;
-use crate::fields::read_options;
-use crate::line::{Line, ask, event_without_texts, payload, show};
+use crate::fields::{read_bytes, read_options};
+use crate::line::{Line, ask, back, plain, rotate, send, show};
 use crate::text::{push_bad_line, push_outcome, push_packet, push_reply};
 use forwarding::TurnReply;
 use json_fields::{Document, JsonRoom, Node};
@@ -96,6 +96,26 @@ fn answer_show(
     }
 }
 
+/// Writes the reply to a line of a word whose event carries neither bytes nor texts.
+fn answer_plain(
+    alloc: Global,
+    accepted: AcceptedLines,
+    net: &mut Net,
+    word: &str,
+    object: &Node<'_, '_>,
+    reply: &mut String,
+) -> Result<(), AllocError>
+    requires { string_bytes reply.old ≡ [] }
+    ensures { OnOk result (Replies net.old
+        (accepted_as accepted (option_map Happens (plain_event word.now (node_data object.now))))
+        (string_bytes reply.new) net.new) }
+{
+    match plain(word, object) {
+        Some(event) => answer_accepted(alloc, accepted, net, &Line::Happens(event), reply),
+        None => push_bad_line(reply),
+    }
+}
+
 /// Writes the reply to a line that asks for paths. Its policies are owned first, and then borrowed.
 fn answer_ask(
     alloc: Global,
@@ -119,25 +139,67 @@ fn answer_ask(
     }
 }
 
-/// Writes the reply to a line without texts. Its bytes are decoded first, and then borrowed.
-#[tactic(auto, using(crate::proofs::Reading::no_event))]
-fn answer_untexted(
+/// Writes the reply to a line that sends a packet. Its payload is decoded first, and then borrowed.
+fn answer_send(
     alloc: Global,
     accepted: AcceptedLines,
     net: &mut Net,
-    word: &str,
     object: &Node<'_, '_>,
     reply: &mut String,
 ) -> Result<(), AllocError>
     requires { string_bytes reply.old ≡ [] }
     ensures { OnOk result (Replies net.old
-        (accepted_as accepted (option_map Happens (untexted_event word.now (node_data object.now))))
+        (accepted_as accepted (option_map Happens (send_in (node_data object.now))))
         (string_bytes reply.new) net.new) }
 {
-    let Some(payload) = payload(alloc, word, object)? else {
+    let Some(payload) = read_bytes(alloc, object, "payload")? else {
         return push_bad_line(reply);
     };
-    match event_without_texts(word, object, &payload) {
+    match send(object, &payload) {
+        Some(event) => answer_accepted(alloc, accepted, net, &Line::Happens(event), reply),
+        None => push_bad_line(reply),
+    }
+}
+
+/// Writes the reply to a line that sends a packet back.
+fn answer_back(
+    alloc: Global,
+    accepted: AcceptedLines,
+    net: &mut Net,
+    object: &Node<'_, '_>,
+    reply: &mut String,
+) -> Result<(), AllocError>
+    requires { string_bytes reply.old ≡ [] }
+    ensures { OnOk result (Replies net.old
+        (accepted_as accepted (option_map Happens (back_in (node_data object.now))))
+        (string_bytes reply.new) net.new) }
+{
+    let Some(payload) = read_bytes(alloc, object, "payload")? else {
+        return push_bad_line(reply);
+    };
+    match back(object, &payload) {
+        Some(event) => answer_accepted(alloc, accepted, net, &Line::Happens(event), reply),
+        None => push_bad_line(reply),
+    }
+}
+
+/// Writes the reply to a line that takes a key into use.
+fn answer_rotate(
+    alloc: Global,
+    accepted: AcceptedLines,
+    net: &mut Net,
+    object: &Node<'_, '_>,
+    reply: &mut String,
+) -> Result<(), AllocError>
+    requires { string_bytes reply.old ≡ [] }
+    ensures { OnOk result (Replies net.old
+        (accepted_as accepted (option_map Happens (rotate_in (node_data object.now))))
+        (string_bytes reply.new) net.new) }
+{
+    let Some(key) = read_bytes(alloc, object, "key")? else {
+        return push_bad_line(reply);
+    };
+    match rotate(object, &key) {
         Some(event) => answer_accepted(alloc, accepted, net, &Line::Happens(event), reply),
         None => push_bad_line(reply),
     }
@@ -161,7 +223,10 @@ fn answer_object(
     match word {
         "show" => answer_show(alloc, accepted, net, object, reply),
         "ask" => answer_ask(alloc, accepted, net, object, reply),
-        _ => answer_untexted(alloc, accepted, net, word, object, reply),
+        "send" => answer_send(alloc, accepted, net, object, reply),
+        "back" => answer_back(alloc, accepted, net, object, reply),
+        "rotate" => answer_rotate(alloc, accepted, net, object, reply),
+        _ => answer_plain(alloc, accepted, net, word, object, reply),
     }
 }
 

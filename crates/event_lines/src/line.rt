@@ -1,17 +1,16 @@
 //! The values of lines.
-#![tactic(auto, unfolding(crate::specs::Line::ask_in, crate::specs::Line::plain_event, crate::specs::Line::show_in, crate::specs::Line::traffic_event, crate::specs::Line::untexted_event, crate::specs::inner::Seen::bytes_in,))]
+#![tactic(auto, unfolding(crate::specs::Line::ask_in, crate::specs::Line::back_in, crate::specs::Line::plain_event, crate::specs::Line::rotate_in, crate::specs::Line::send_in, crate::specs::Line::show_in, crate::specs::Line::traffic_event,))]
 
-ghost use Rattle.std.specs.Prelude.{◌≡◌, IfOk, None, Ok, Some, codes, option_map};
+ghost use Rattle.std.specs.Prelude.{◌≡◌, None, Some, codes, option_map};
 ghost use Rattle.json_fields.specs.Documents.{node_data};
 ghost use Rattle.network_core.specs.Seen as events;
-ghost use Rattle.event_lines.specs.Line.{ask_in, options_in, plain_event, show_in, traffic_event, untexted_event};
-ghost use Rattle.event_lines.specs.inner.Seen.{bytes_in, line_value};
+ghost use Rattle.event_lines.specs.Line.{ask_in, back_in, bytes_at, options_in, plain_event, rotate_in, send_in, show_in, traffic_event};
+ghost use Rattle.event_lines.specs.inner.Seen.{line_value};
 
-use crate::fields::{interface, read_address, read_bytes, read_u8, read_u16, read_u32};
+use crate::fields::{interface, read_address, read_u8, read_u16, read_u32};
 use json_fields::Node;
 use network_core::Event;
 use policy_expr::OptionText;
-use std::alloc::{AllocError, Global};
 
 /// The value of a line.
 #[derive(Clone, Copy)]
@@ -33,54 +32,42 @@ pub(crate) fn show<'a>(object: &Node<'_, '_>) -> Option<Line<'a>>
     Some(Line::Show { packet })
 }
 
-/// The bytes that an event carries, a payload or a key, decoded; no bytes if it carries none.
-/// `None` if they are missing or are no hexadecimal text.
-pub(crate) fn payload(
-    alloc: Global,
-    word: &str,
-    object: &Node<'_, '_>,
-) -> Result<Option<Vec<u8>>, AllocError>
-    ensures { IfOk result (λ o. option_map (λ v. v.items) o
-        ≡ bytes_in word.now (node_data object.now)) }
+/// The event of a line that sends a packet on a path of an answer, with its payload.
+pub(crate) fn send<'a>(object: &Node<'_, '_>, payload: &'a [u8]) -> Option<Event<'a>>
+    requires { bytes_at (codes "payload") (node_data object.now) ≡ Some payload.now }
+    ensures { option_map events.event_value result ≡ send_in (node_data object.now) }
 {
-    match word {
-        "send" => read_bytes(alloc, object, "payload"),
-        "back" => read_bytes(alloc, object, "payload"),
-        "rotate" => read_bytes(alloc, object, "key"),
-        _ => Ok(Some(Vec::new(alloc))),
-    }
+    Some(Event::Send {
+        ask: read_u32(object, "ask")?,
+        path: read_u32(object, "path")?,
+        payload,
+    })
 }
 
-/// The event of a line without texts, with the bytes that it carries.
-pub(crate) fn event_without_texts<'a>(
-    word: &str,
-    object: &Node<'_, '_>,
-    payload: &'a [u8],
-) -> Option<Event<'a>>
-    requires { bytes_in word.now (node_data object.now) ≡ Some payload.now }
-    ensures { option_map events.event_value result
-        ≡ untexted_event word.now (node_data object.now) }
+/// The event of a line that sends a packet back, with its payload.
+pub(crate) fn back<'a>(object: &Node<'_, '_>, payload: &'a [u8]) -> Option<Event<'a>>
+    requires { bytes_at (codes "payload") (node_data object.now) ≡ Some payload.now }
+    ensures { option_map events.event_value result ≡ back_in (node_data object.now) }
 {
-    match word {
-        "send" => Some(Event::Send {
-            ask: read_u32(object, "ask")?,
-            path: read_u32(object, "path")?,
-            payload,
-        }),
-        "back" => Some(Event::Back {
-            packet: read_u32(object, "packet")?,
-            payload,
-        }),
-        "rotate" => Some(Event::RotateKey {
-            ia: read_address(object, "ia")?,
-            key: payload,
-        }),
-        _ => plain(word, object),
-    }
+    Some(Event::Back {
+        packet: read_u32(object, "packet")?,
+        payload,
+    })
+}
+
+/// The event of a line that takes a key into use.
+pub(crate) fn rotate<'a>(object: &Node<'_, '_>, key: &'a [u8]) -> Option<Event<'a>>
+    requires { bytes_at (codes "key") (node_data object.now) ≡ Some key.now }
+    ensures { option_map events.event_value result ≡ rotate_in (node_data object.now) }
+{
+    Some(Event::RotateKey {
+        ia: read_address(object, "ia")?,
+        key,
+    })
 }
 
 /// The event of a line without bytes and without texts.
-fn plain<'a>(word: &str, object: &Node<'_, '_>) -> Option<Event<'a>>
+pub(crate) fn plain<'a>(word: &str, object: &Node<'_, '_>) -> Option<Event<'a>>
     ensures { option_map events.event_value result ≡ plain_event word.now (node_data object.now) }
 {
     match word {
