@@ -79,34 +79,29 @@ fn ask_all<R: Wait>(
     tally.end(sum);
 }
 
-/// Asks `count` times with each of these readers, in a thread each.
+/// Asks with each of these readers, in a thread each: the first of them this round, and each other
+/// one the round behind the one before.
 fn ask_in_threads<R: Threads + Wait + Sync>(
     rt: &R,
     alloc: Global,
     daemon: &Daemon,
     readers: Vec<BoardReader>,
-    asking: Asking,
-    count: u32,
+    round: Round,
     tally: &Tally,
 ) -> Result<(), AllocError> {
     thread::scope(
         thread::scope_env(),
         rt,
         move |scope| -> Result<(), AllocError> {
-            let mut first = 1u32;
+            let mut round = round;
             for reader in readers {
-                let round = Round {
-                    asking,
-                    first,
-                    count,
-                };
                 if scope
                     .spawn(move || ask_all(rt, alloc, daemon, reader, round, tally))
                     .is_err()
                 {
                     return Err(AllocError);
                 }
-                first = first.wrapping_add(count);
+                round.first = round.first.wrapping_add(round.count);
             }
             Ok(())
         },
@@ -120,16 +115,15 @@ fn count_paths<R: Threads + Wait + Sync>(
     alloc: Global,
     daemon: &Daemon,
     board: &mut BoardWriter,
-    asking: Asking,
     threads: usize,
-    count: u32,
+    round: Round,
 ) -> Result<u64> {
     publish_six(rt, alloc, board)?;
     let mut own = board.reader()?;
     ask(rt, alloc, daemon, &mut own, 0).context("the first request was not answered")?;
     let readers = readers_of(alloc, board, threads)?;
     let tally = Tally::new();
-    ask_in_threads(rt, alloc, daemon, readers, asking, count, &tally)?;
+    ask_in_threads(rt, alloc, daemon, readers, round, &tally)?;
     Ok(tally.sum.load(Ordering::SeqCst))
 }
 
@@ -146,7 +140,12 @@ pub(crate) fn asks<R: Threads + Wait + Sync>(
 {
     let daemon = Daemon::new(alloc, CAPACITY)?;
     let mut board = new_board(rt, alloc, threads + 1)?;
-    let sum = count_paths(rt, alloc, &daemon, &mut board, asking, threads, count);
+    let round = Round {
+        asking,
+        first: 1,
+        count,
+    };
+    let sum = count_paths(rt, alloc, &daemon, &mut board, threads, round);
     board.close(rt);
     sum
 }

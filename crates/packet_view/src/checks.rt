@@ -34,23 +34,35 @@ fn add_place(alloc: Global, at: &Situation<'_>, checks: &mut Vec<Check>) -> Resu
     add_test(alloc, checks, &sides, holds, Refusal::WrongIngress)
 }
 
+/// The numbers of the two checks of a hop.
+#[derive(Clone, Copy)]
+struct HopChecks {
+    live: u8,
+    mac: u8,
+}
+
+/// The checks of the hop at which the packet arrives.
+const ON_ARRIVAL: HopChecks = HopChecks { live: 4, mac: 5 };
+
+/// The checks of the hop after a switch.
+const AFTER_SWITCH: HopChecks = HopChecks { live: 9, mac: 9 };
+
 /// Adds the checks of a hop: that it is live, and that its authenticator is right.
 fn add_pass(
     alloc: Global,
-    four: u8,
-    five: u8,
+    numbers: HopChecks,
     at: &Situation<'_>,
     info: &InfoField,
     hop: &HopField,
     checks: &mut Vec<Check>,
 ) -> Result<(), AllocError>
     ensures { OnOk result (checks.new.items ≡ checks.old.items
-        ++ pass_checks four five at.entry.now.view at.entry.now.now info.now hop.now) }
+        ++ pass_checks numbers.live numbers.mac at.entry.now.view at.entry.now.now info.now hop.now) }
 {
-    let sides = live_sides(four, at.now, info, hop);
+    let sides = live_sides(numbers.live, at.now, info, hop);
     let holds = is_hop_live(at.now, info, hop);
     add_test(alloc, checks, &sides, holds, Refusal::Expired)?;
-    let sides = mac_sides(five, at, info, hop);
+    let sides = mac_sides(numbers.mac, at, info, hop);
     let holds = is_mac_right(&at.view, info, hop);
     add_test(alloc, checks, &sides, holds, Refusal::BadMac)
 }
@@ -80,7 +92,7 @@ fn add_switch(alloc: Global, at: &Situation<'_>, checks: &mut Vec<Check>) -> Res
     add_test(alloc, checks, &sides, holds, Refusal::SwitchInside)?;
     let info = at.info_to_leave(true);
     let hop = at.hop_to_leave(true);
-    add_pass(alloc, 9, 9, at, &info, &hop, checks)
+    add_pass(alloc, AFTER_SWITCH, at, &info, &hop, checks)
 }
 
 /// Adds the checks of the way out over this interface, behind the one that there is such an
@@ -140,7 +152,14 @@ fn add_checks(alloc: Global, at: &Situation<'_>, checks: &mut Vec<Check>) -> Res
     ensures { OnOk result (checks.new.items ≡ checks.old.items ++ checks_at at.entry.now) }
 {
     add_place(alloc, at, checks)?;
-    add_pass(alloc, 4, 5, at, &at.info_on_arrival(), &at.hop(), checks)?;
+    add_pass(
+        alloc,
+        ON_ARRIVAL,
+        at,
+        &at.info_on_arrival(),
+        &at.hop(),
+        checks,
+    )?;
     add_end(alloc, at, checks)?;
     if at.is_last() {
         return Ok(());

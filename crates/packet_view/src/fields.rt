@@ -1,7 +1,7 @@
 //! The fields of a packet, each on a line: its bytes in hexadecimal, and their meaning.
-#![tactic(auto, unfolding(crate::specs::Fields::address_text, crate::specs::Fields::addresses_text, crate::specs::Fields::behind_text, crate::specs::Fields::each_below, crate::specs::Fields::field_text, crate::specs::Fields::fields_text, crate::specs::Fields::hop_field_text, crate::specs::Fields::hop_fields_text, crate::specs::Fields::info_field_text, crate::specs::Fields::info_fields_text, crate::specs::Fields::mac_text, crate::specs::Fields::meta_text, crate::specs::Fields::number_text, crate::specs::Fields::payload_text,))]
+#![tactic(auto, unfolding(crate::specs::Fields::address_text, crate::specs::Fields::addresses_text, crate::specs::Fields::behind_text, crate::specs::Fields::each_below, crate::specs::Fields::field_text, crate::specs::Fields::fields_text, crate::specs::Fields::hop_fields_text, crate::specs::Fields::info_fields_text, crate::specs::Fields::mac_text, crate::specs::Fields::meta_text, crate::specs::Fields::number_text, crate::specs::Fields::payload_text,))]
 
-ghost use Rattle.std.specs.Prelude.{◌≡◌, ◌+◌, ◌<◌, ◌≤◌, ◌++◌, length, IfOk, OnOk};
+ghost use Rattle.std.specs.Prelude.{◌≡◌, ◌+◌, ◌<◌, ◌≤◌, ◌++◌, length, codes, IfOk, OnOk};
 ghost use Rattle.std.specs.String.{string_bytes};
 ghost use Rattle.path_header.specs.Value.{header_len};
 ghost use Rattle.packet_view.specs.Fields.{address_text, behind_text, field_text, fields_text, flag_of, header_text, hop_field_text, hop_field_text_at, hop_fields_text, info_field_text, info_field_text_at, info_fields_text, last_live, mac_text, meta_text, number_text, payload_text};
@@ -37,34 +37,6 @@ fn add_field(
     text.push_str(" ")?;
     add_parts(alloc, text, says)?;
     text.push_str("\n")
-}
-
-/// Adds the line of a number in an info or a hop field.
-fn add_number<'a>(
-    alloc: Global,
-    text: &mut String,
-    packet: &[u8],
-    start: usize,
-    len: usize,
-    kind: &'a str,
-    index: usize,
-    name: &'a str,
-    value: u64,
-) -> Result<(), AllocError>
-    requires { start + len ≤ length packet.now }
-    ensures { OnOk result (string_bytes text.new ≡ string_bytes text.old
-        ++ number_text packet.now start len kind.now index name.now value) }
-{
-    let says = [
-        Part::Words(kind),
-        Part::Words(" "),
-        Part::Number(index as u64),
-        Part::Words(" "),
-        Part::Words(name),
-        Part::Words(" "),
-        Part::Number(value),
-    ];
-    add_field(alloc, text, packet, start, len, &says)
 }
 
 /// Adds the line of an address.
@@ -113,116 +85,100 @@ pub(crate) fn last_live(timestamp: u32, hop: &HopField) -> u64
     expiry(timestamp, hop.exp_time) / 2
 }
 
-/// Adds the lines of the info field of this index, at this place of the packet.
-fn add_info(
+/// An info or a hop field of a packet: its kind, its index among those of the kind, and the place
+/// of its first byte.
+#[derive(Clone, Copy)]
+struct Field<'a> {
     alloc: Global,
-    text: &mut String,
-    packet: &[u8],
-    start: usize,
+    packet: &'a [u8],
+    kind: &'a str,
     index: usize,
-    info: &InfoField,
-) -> Result<(), AllocError>
-    requires { start + 8 ≤ length packet.now }
-    ensures { OnOk result (string_bytes text.new
-        ≡ string_bytes text.old ++ info_field_text packet.now start index info.now) }
-{
-    let flag = flag_of(info);
-    let name = "construction direction";
-    add_number(alloc, text, packet, start, 2, "info", index, name, flag)?;
-    let seg_id = u64::from(info.seg_id);
-    let name = "accumulator";
-    add_number(
-        alloc,
-        text,
-        packet,
-        start + 2,
-        2,
-        "info",
-        index,
-        name,
-        seg_id,
-    )?;
-    let second = u64::from(info.timestamp);
-    let name = "made at second";
-    add_number(
-        alloc,
-        text,
-        packet,
-        start + 4,
-        4,
-        "info",
-        index,
-        name,
-        second,
-    )
+    start: usize,
 }
 
-/// Adds the line of the authenticator of the hop field of this index.
-fn add_mac(
-    alloc: Global,
-    text: &mut String,
-    packet: &[u8],
-    start: usize,
-    index: usize,
-) -> Result<(), AllocError>
-    requires { start + 6 ≤ length packet.now }
-    ensures { OnOk result (string_bytes text.new
-        ≡ string_bytes text.old ++ mac_text packet.now start index) }
-{
-    let says = [
-        Part::Words("hop "),
-        Part::Number(index as u64),
-        Part::Words(" authenticator"),
-    ];
-    add_field(alloc, text, packet, start, 6, &says)
-}
+impl<'a> Field<'a> {
+    /// Adds the line of a number in the field, from this place on.
+    fn add_number(
+        &self,
+        text: &mut String,
+        start: usize,
+        len: usize,
+        name: &'a str,
+        value: u64,
+    ) -> Result<(), AllocError>
+        requires { start + len ≤ length self.now.packet.now }
+        ensures { OnOk result (string_bytes text.new ≡ string_bytes text.old
+            ++ number_text self.now.packet.now start len self.now.kind.now self.now.index
+            name.now value) }
+    {
+        let says = [
+            Part::Words(self.kind),
+            Part::Words(" "),
+            Part::Number(self.index as u64),
+            Part::Words(" "),
+            Part::Words(name),
+            Part::Words(" "),
+            Part::Number(value),
+        ];
+        add_field(self.alloc, text, self.packet, start, len, &says)
+    }
 
-/// Adds the lines of the hop field of this index, at this place of the packet, on a segment with
-/// this timestamp.
-fn add_hop(
-    alloc: Global,
-    text: &mut String,
-    packet: &[u8],
-    start: usize,
-    index: usize,
-    timestamp: u32,
-    hop: &HopField,
-) -> Result<(), AllocError>
-    requires { start + 12 ≤ length packet.now }
-    ensures { OnOk result (string_bytes text.new
-        ≡ string_bytes text.old ++ hop_field_text packet.now start index timestamp hop.now) }
-{
-    add_number(alloc, text, packet, start, 1, "hop", index, "flags", 0)?;
-    let last = last_live(timestamp, hop);
-    let name = "live up to second";
-    add_number(alloc, text, packet, start + 1, 1, "hop", index, name, last)?;
-    let number = u64::from(hop.cons_ingress.number());
-    let name = "construction ingress";
-    add_number(
-        alloc,
-        text,
-        packet,
-        start + 2,
-        2,
-        "hop",
-        index,
-        name,
-        number,
-    )?;
-    let number = u64::from(hop.cons_egress.number());
-    let name = "construction egress";
-    add_number(
-        alloc,
-        text,
-        packet,
-        start + 4,
-        2,
-        "hop",
-        index,
-        name,
-        number,
-    )?;
-    add_mac(alloc, text, packet, start + 6, index)
+    /// Adds the lines of an info field.
+    fn add_info(&self, text: &mut String, info: &InfoField) -> Result<(), AllocError>
+        requires whole { self.now.start + 8 ≤ length self.now.packet.now }
+        requires kind { self.now.kind.now ≡ codes "info" }
+        ensures { OnOk result (string_bytes text.new ≡ string_bytes text.old
+            ++ info_field_text self.now.packet.now self.now.start self.now.index info.now) }
+    {
+        let start = self.start;
+        self.add_number(text, start, 2, "construction direction", flag_of(info))?;
+        self.add_number(text, start + 2, 2, "accumulator", u64::from(info.seg_id))?;
+        self.add_number(
+            text,
+            start + 4,
+            4,
+            "made at second",
+            u64::from(info.timestamp),
+        )
+    }
+
+    /// Adds the line of the authenticator of a hop field.
+    fn add_mac(&self, text: &mut String) -> Result<(), AllocError>
+        requires { self.now.start + 12 ≤ length self.now.packet.now }
+        ensures { OnOk result (string_bytes text.new ≡ string_bytes text.old
+            ++ mac_text self.now.packet.now (self.now.start + 6) self.now.index) }
+    {
+        let says = [
+            Part::Words("hop "),
+            Part::Number(self.index as u64),
+            Part::Words(" authenticator"),
+        ];
+        add_field(self.alloc, text, self.packet, self.start + 6, 6, &says)
+    }
+
+    /// Adds the lines of a hop field on a segment with this timestamp.
+    fn add_hop(&self, text: &mut String, timestamp: u32, hop: &HopField) -> Result<(), AllocError>
+        requires whole { self.now.start + 12 ≤ length self.now.packet.now }
+        requires kind { self.now.kind.now ≡ codes "hop" }
+        ensures { OnOk result (string_bytes text.new ≡ string_bytes text.old
+            ++ hop_field_text self.now.packet.now self.now.start self.now.index timestamp
+            hop.now) }
+    {
+        let start = self.start;
+        self.add_number(text, start, 1, "flags", 0)?;
+        self.add_number(
+            text,
+            start + 1,
+            1,
+            "live up to second",
+            last_live(timestamp, hop),
+        )?;
+        let ingress = u64::from(hop.cons_ingress.number());
+        self.add_number(text, start + 2, 2, "construction ingress", ingress)?;
+        let egress = u64::from(hop.cons_egress.number());
+        self.add_number(text, start + 4, 2, "construction egress", egress)?;
+        self.add_mac(text)
+    }
 }
 
 /// Adds the lines of the info field of this index of a header.
@@ -239,8 +195,14 @@ fn add_info_at(
         ≡ string_bytes text.old ++ info_field_text_at packet.now header.now index) }
 {
     header.known();
-    let start = FIELDS_START + INFO_LEN * index;
-    add_info(alloc, text, packet, start, index, &header.info(index))
+    let field = Field {
+        alloc,
+        packet,
+        kind: "info",
+        index,
+        start: FIELDS_START + INFO_LEN * index,
+    };
+    field.add_info(text, &header.info(index))
 }
 
 /// The info fields.
@@ -271,9 +233,14 @@ fn add_hop_at(
 {
     header.known();
     let timestamp = header.info(header.segment_of(index)).timestamp;
-    let start = FIELDS_START + INFO_LEN * header.info_count() + HOP_LEN * index;
-    let hop = header.hop(index);
-    add_hop(alloc, text, packet, start, index, timestamp, &hop)
+    let field = Field {
+        alloc,
+        packet,
+        kind: "hop",
+        index,
+        start: FIELDS_START + INFO_LEN * header.info_count() + HOP_LEN * index,
+    };
+    field.add_hop(text, timestamp, &header.hop(index))
 }
 
 /// The hop fields.

@@ -34,6 +34,16 @@ pub fn is_number_of_workers(workers: usize) -> bool
     (1..=MAX_WORKERS).contains(&workers)
 }
 
+/// What a run is given beside its flights: the network, the second, the number of workers, and the
+/// number of places of each inbox.
+#[derive(Clone, Copy)]
+struct RunSetup<'t> {
+    topology: &'t Topology,
+    moment: u32,
+    workers: usize,
+    slots: usize,
+}
+
 /// Carries flights at the second `now` through the network of `topology`, on `workers` workers.
 /// Each worker is a thread with an inbox of `slots` places. The report says for each flight, in
 /// their order, how it ended. It was delivered, or refused by a router, after exactly the number of
@@ -65,7 +75,13 @@ pub fn run_workers<'f, R: Threads + Wait + Sync, G: Gate>(
     if !is_number_of_workers(workers) {
         return Err(RunFault::Workers);
     }
-    match run_with::<Brand, R, G>(rt, alloc, topology, now, workers, slots, flights, gate) {
+    let setup = RunSetup {
+        topology,
+        moment: now,
+        workers,
+        slots,
+    };
+    match run_with::<Brand, R, G>(rt, alloc, &setup, flights, gate) {
         Ok(report) => Ok(report),
         Err(AllocError) => Err(RunFault::Memory),
     }
@@ -75,33 +91,30 @@ pub fn run_workers<'f, R: Threads + Wait + Sync, G: Gate>(
 fn run_with<'f, J: RunFacts + Send + Sync, R: Threads + Wait + Sync, G: Gate>(
     rt: &R,
     alloc: Global,
-    topology: &Topology,
-    now: u32,
-    workers: usize,
-    slots: usize,
+    setup: &RunSetup<'_>,
     flights: &[Flight<'f>],
     gate: &G,
 ) -> Result<Report, AllocError>
-    requires some_workers { 0 < workers }
-    requires some { 0 < slots }
-    requires few { slots ≤ 4096 }
+    requires some_workers { 0 < setup.now.workers }
+    requires some { 0 < setup.now.slots }
+    requires few { setup.now.slots ≤ 4096 }
     requires flights { flights.now ≡ J.flights }
-    requires network { topology.now ≡ J.network }
-    requires now { now ≡ J.now }
-    requires workers { workers ≡ J.workers }
-    requires slots { slots ≡ J.slots }
-    ensures { IfOk result (λ report. IsReport flights.now now slots report) }
+    requires network { setup.now.topology.now ≡ J.network }
+    requires now { setup.now.moment ≡ J.now }
+    requires workers { setup.now.workers ≡ J.workers }
+    requires slots { setup.now.slots ≡ J.slots }
+    ensures { IfOk result (λ report. IsReport flights.now setup.now.moment setup.now.slots report) }
 {
     let left = AtomicUsize::new(flights.len());
     let begun = AtomicBool::new(false);
-    let (inboxes, pairs) = inboxes_of::<PostedFlight<'f, J>>(alloc, workers, slots)?;
+    let (inboxes, pairs) = inboxes_of::<PostedFlight<'f, J>>(alloc, setup.workers, setup.slots)?;
     let state = RunState {
         left: &left,
         begun: &begun,
         gate,
-        topology,
-        now,
-        crowded: flights.len() > slots,
+        topology: setup.topology,
+        now: setup.moment,
+        crowded: flights.len() > setup.slots,
         of: PhantomData,
     };
     let (mut first_senders, receivers) = ends_of(alloc, &inboxes, pairs)?;

@@ -18,10 +18,9 @@ use separators::bytes::trim;
 use std::alloc::{AllocError, Global};
 use std::marker::Model;
 
-/// One router's turn, read from texts: the router's view, the second of its step, and how the
-/// packet came to it.
+/// The parts of a turn, of which a view can be made or not.
 #[derive(Drop)]
-pub struct StepCommand {
+struct TurnParts {
     ia: IsdAs,
     router: u8,
     key: Vec<u8>,
@@ -29,6 +28,13 @@ pub struct StepCommand {
     moment: u32,
     arrival: Arrival,
     table: Vec<IfEntry>,
+}
+
+/// One router's turn, read from texts: the router's view, the second of its step, and how the
+/// packet came to it.
+#[derive(Drop)]
+pub struct StepCommand {
+    parts: TurnParts,
 }
 
 impl Model for StepCommand {
@@ -39,13 +45,16 @@ impl Model for StepCommand {
     ghost Value = { Turn };
 
     ghost view = { λ c. record {
-      view = parts_seen c.ia c.router c.key.items (items_of c.previous) c.table.items;
-      moment = c.moment;
-      arrival = c.arrival;
+      view = parts_seen c.parts.ia c.parts.router c.parts.key.items (items_of c.parts.previous)
+          c.parts.table.items;
+      moment = c.parts.moment;
+      arrival = c.parts.arrival;
     } };
 
-    ghost invariant = { λ c. view_of c.ia c.router c.key.items (items_of c.previous) c.table.items
-        ≡ Ok (parts_seen c.ia c.router c.key.items (items_of c.previous) c.table.items) };
+    ghost invariant = { λ c. view_of c.parts.ia c.parts.router c.parts.key.items
+        (items_of c.parts.previous) c.parts.table.items
+        ≡ Ok (parts_seen c.parts.ia c.parts.router c.parts.key.items (items_of c.parts.previous)
+        c.parts.table.items) };
 }
 
 impl StepCommand {
@@ -82,34 +91,34 @@ impl StepCommand {
         let Some(table) = interfaces(alloc, texts.interfaces)? else {
             return Ok(None);
         };
-        Ok(StepCommand::of_parts(ia, router, key, previous, moment as u32, arrival, table))
-    }
-
-    /// The turn of these parts, or `None` if they are no view.
-    fn of_parts(
-        ia: IsdAs,
-        router: u8,
-        key: Vec<u8>,
-        previous: Option<Vec<u8>>,
-        moment: u32,
-        arrival: Arrival,
-        table: Vec<IfEntry>,
-    ) -> Option<StepCommand>
-        ensures { result
-            ≡ turn_with ia router key.items (items_of previous) moment arrival table.items }
-    {
-        if RouterView::new(ia, router, &key, lend(&previous), &table).is_err() {
-            return None;
-        }
-        Some(StepCommand {
+        Ok(StepCommand::of_parts(TurnParts {
             ia,
             router,
             key,
             previous,
-            moment,
+            moment: moment as u32,
             arrival,
             table,
-        })
+        }))
+    }
+
+    /// The turn of these parts, or `None` if they are no view.
+    fn of_parts(parts: TurnParts) -> Option<StepCommand>
+        ensures { result ≡ turn_with parts.ia parts.router parts.key.items (items_of parts.previous)
+            parts.moment parts.arrival parts.table.items }
+    {
+        if RouterView::new(
+            parts.ia,
+            parts.router,
+            &parts.key,
+            lend(&parts.previous),
+            &parts.table,
+        )
+        .is_err()
+        {
+            return None;
+        }
+        Some(StepCommand { parts })
     }
 
     /// The router's view of its AS. It takes no memory.
@@ -117,11 +126,11 @@ impl StepCommand {
         ensures { result ≡ self.now.view }
     {
         match RouterView::new(
-            self.ia,
-            self.router,
-            &self.key,
-            lend(&self.previous),
-            &self.table,
+            self.parts.ia,
+            self.parts.router,
+            &self.parts.key,
+            lend(&self.parts.previous),
+            &self.parts.table,
         ) {
             Ok(view) => view,
             Err(_) => unreachable!(),
@@ -132,14 +141,14 @@ impl StepCommand {
     pub fn moment(&self) -> u32
         ensures { result ≡ self.now.moment }
     {
-        self.moment
+        self.parts.moment
     }
 
     /// How the packet came to the router.
     pub fn arrival(&self) -> Arrival
         ensures { result ≡ self.now.arrival }
     {
-        self.arrival
+        self.parts.arrival
     }
 
     /// The line, without its end, that the turn prints for the packet that the text gives in
@@ -153,7 +162,7 @@ impl StepCommand {
         let Some(mut packet) = bytes(alloc, trim(text))? else {
             return Err(TurnFault::PacketText);
         };
-        match step(&self.view(), self.moment, self.arrival, &mut packet) {
+        match step(&self.view(), self.moment(), self.arrival(), &mut packet) {
             Ok(outcome) => Ok(outcome_line(alloc, outcome, &packet)?),
             Err(refusal) => Ok(refusal_line(alloc, refusal)?),
         }

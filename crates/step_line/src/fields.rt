@@ -1,4 +1,5 @@
 //! The values of the options, from their texts.
+#![tactic(auto, unfolding(crate::specs::Fields::arrival_at, crate::specs::Fields::table_at, crate::specs::Fields::table_entry_at))]
 
 ghost use Rattle.std.specs.Prelude.{◌≡◌, ℕ, ◌≤◌, IfOk, IfSome, List, map, option_map};
 ghost use Rattle.isd_as.specs.Reading.{all_digits};
@@ -48,7 +49,6 @@ pub fn bytes(alloc: Global, text: &[u8]) -> Result<Option<Vec<u8>>, AllocError>
 }
 
 /// How the packet came: `host`, `inside` or the number of an interface.
-#[tactic(auto, unfolding(crate::specs::Fields::arrival_at))]
 pub(crate) fn arrival(text: &str) -> Option<Arrival>
     ensures { result ≡ arrival_at text.now }
 {
@@ -88,7 +88,6 @@ fn is_up(text: &str) -> Option<bool>
 }
 
 /// An interface, `NUMBER,core|parent|child,ROUTER,up|down`.
-#[tactic(auto, unfolding(crate::specs::Fields::table_entry_at))]
 fn interface(text: &str) -> Option<IfEntry>
     ensures { result ≡ table_entry_at text.now }
 {
@@ -116,7 +115,6 @@ pub(crate) fn number_of_router(text: &str) -> Option<u8>
 }
 
 /// The table of these interfaces.
-#[tactic(auto, unfolding(crate::specs::Fields::table_at))]
 pub(crate) fn interfaces(alloc: Global, texts: &[&str]) -> Result<Option<Vec<IfEntry>>, AllocError>
     ensures { IfOk result
         (λ o. option_map (λ v. v.items) o ≡ table_at (map (λ t. t.now) texts.now)) }
