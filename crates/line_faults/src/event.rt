@@ -1,12 +1,12 @@
 //! Lines after the first that are refused.
 
 use crate::form::Form;
-use crate::found::{push_misfit, push_wanted};
+use crate::found::{Place, push_misfit, push_wanted};
 use crate::history::text_of;
 use crate::member::members_of;
 use crate::policy::push_bad_form;
 use serde_json::Value;
-use std::alloc::{AllocError, Global};
+use std::alloc::AllocError;
 
 /// The words of lines.
 static WORDS: &str = "one of tick, originate, extend, terminate, sweep, ask, send, back, turn, \
@@ -14,11 +14,7 @@ lose, alter, cut, mend, rotate and show";
 
 /// Adds why a line has none of the forms of lines: the first of its members, in the order in which
 /// they are read, that is missing or has not its form.
-pub(crate) fn push_bad_line(
-    alloc: Global,
-    why: &mut String,
-    line: &Value,
-) -> Result<(), AllocError> {
+pub(crate) fn push_bad_line(why: &mut String, line: &Value) -> Result<(), AllocError> {
     if !line.is_object() {
         why.push_str("the line")?;
         return push_wanted(why, Some(line), &Form::Object);
@@ -31,9 +27,9 @@ pub(crate) fn push_bad_line(
         why.push_str("do")?;
         return push_wanted(why, line.get("do"), &WORDS);
     };
-    if word == "ask" && push_bad_form(alloc, why, line)? {
+    if word == "ask" && push_bad_form(why, line)? {
         return Ok(());
     }
-    push_misfit(why, "", line, members)?;
+    push_misfit(why, Place::line(), line, members)?;
     Ok(())
 }

@@ -4,16 +4,60 @@ use crate::form::Form;
 use crate::member::{Member, first_misfit};
 use serde_json::Value;
 use std::alloc::{AllocError, Allocator};
+use std::fmt;
 use std::fmt::{Display, Write};
 
 /// The most characters of a value that are shown.
 const MAX_SHOWN: usize = 60;
 
-/// Adds a place: that of the object, and the member's name.
-pub(crate) fn push_place(why: &mut String, object: &str, name: &str) -> Result<(), AllocError> {
-    if !object.is_empty() {
-        why.push_str(object)?;
-        why.push_str(".")?;
+/// Where an object stands in a line: it is the line itself, an item of a list of the line, or an
+/// object in one of these.
+#[derive(Clone, Copy)]
+pub(crate) struct Place<'a> {
+    item: Option<(&'a str, usize)>,
+    part: &'a str,
+}
+
+impl<'a> Place<'a> {
+    /// The line itself.
+    pub(crate) fn line() -> Place<'static> {
+        Place {
+            item: None,
+            part: "",
+        }
+    }
+
+    /// The item of this number in a list of the line.
+    pub(crate) fn item(list: &'a str, number: usize) -> Place<'a> {
+        Place {
+            item: Some((list, number)),
+            part: "",
+        }
+    }
+
+    /// The object of this name in this one.
+    pub(crate) fn part(self, name: &'a str) -> Place<'a> {
+        Place {
+            item: self.item,
+            part: name,
+        }
+    }
+}
+
+impl<'a> fmt::Display for Place<'a> {
+    fn fmt<W: fmt::Write>(&self, f: &mut fmt::Formatter<W>) -> fmt::Result {
+        match self.item {
+            None => f.write_str("the line"),
+            Some((list, number)) if self.part.is_empty() => write!(f, "{list}[{number}]"),
+            Some((list, number)) => write!(f, "{list}[{number}].{}", self.part),
+        }
+    }
+}
+
+/// Adds the place of a member: that of its object, and the member's name.
+pub(crate) fn push_place(why: &mut String, place: Place<'_>, name: &str) -> Result<(), AllocError> {
+    if place.item.is_some() {
+        write!(why, "{place}.")?;
     }
     why.push_str(name)
 }
@@ -69,19 +113,19 @@ pub(crate) fn push_wanted<D: Display>(
 /// it is no object. Returns whether something was added.
 pub(crate) fn push_misfit(
     why: &mut String,
-    place: &str,
+    place: Place<'_>,
     object: &Value,
     members: &[Member],
 ) -> Result<bool, AllocError> {
     if !object.is_object() {
-        why.push_str(if place.is_empty() { "the line" } else { place })?;
+        write!(why, "{place}")?;
         push_wanted(why, Some(object), &Form::Object)?;
         return Ok(true);
     }
-    let Some(member) = first_misfit(object, members) else {
+    let Some(Member(name, form)) = first_misfit(object, members) else {
         return Ok(false);
     };
-    push_place(why, place, member.name)?;
-    push_wanted(why, object.get(member.name), &member.form)?;
+    push_place(why, place, name)?;
+    push_wanted(why, object.get(name), &form)?;
     Ok(true)
 }

@@ -3,12 +3,9 @@
 use crate::form::Form;
 use serde_json::Value;
 
-/// A member that an object is to have.
+/// A member that an object is to have: its name and its form.
 #[derive(Clone, Copy)]
-pub(crate) struct Member {
-    pub(crate) name: &'static str,
-    pub(crate) form: Form,
-}
+pub(crate) struct Member(pub(crate) &'static str, pub(crate) Form);
 
 /// A number of 8 bits.
 const BYTE: Form = Form::Whole(0, 255);
@@ -20,246 +17,93 @@ const SHORT: Form = Form::Whole(0, 65_535);
 const LONG: Form = Form::Whole(0, 4_294_967_295);
 
 /// The members of a topology.
-pub(crate) static TOPOLOGY: [Member; 2] = [
-    Member {
-        name: "ases",
-        form: Form::List,
-    },
-    Member {
-        name: "links",
-        form: Form::List,
-    },
-];
+pub(crate) static TOPOLOGY: [Member; 2] = [Member("ases", Form::List), Member("links", Form::List)];
 
 /// The members of an AS.
 pub(crate) static AS: [Member; 5] = [
-    Member {
-        name: "ia",
-        form: Form::AsAddress,
-    },
-    Member {
-        name: "core",
-        form: Form::Truth,
-    },
-    Member {
-        name: "exp",
-        form: BYTE,
-    },
-    Member {
-        name: "key",
-        form: Form::Key,
-    },
-    Member {
-        name: "routers",
-        form: Form::Whole(1, 64),
-    },
+    Member("ia", Form::AsAddress),
+    Member("core", Form::Truth),
+    Member("exp", BYTE),
+    Member("key", Form::Key),
+    Member("routers", Form::Whole(1, 64)),
 ];
 
 /// The members of a link.
 pub(crate) static LINK: [Member; 3] = [
-    Member {
-        name: "kind",
-        form: Form::LinkKind,
-    },
-    Member {
-        name: "a",
-        form: Form::Object,
-    },
-    Member {
-        name: "b",
-        form: Form::Object,
-    },
+    Member("kind", Form::LinkKind),
+    Member("a", Form::Object),
+    Member("b", Form::Object),
 ];
 
 /// The members of an end of a link.
 pub(crate) static END: [Member; 3] = [
-    Member {
-        name: "ia",
-        form: Form::AsAddress,
-    },
-    Member {
-        name: "if",
-        form: Form::Whole(1, 65_535),
-    },
-    Member {
-        name: "router",
-        form: Form::Whole(0, 63),
-    },
+    Member("ia", Form::AsAddress),
+    Member("if", Form::Whole(1, 65_535)),
+    Member("router", Form::Whole(0, 63)),
 ];
 
 /// The members of an event that is about a packet alone.
-static PACKET: [Member; 1] = [Member {
-    name: "packet",
-    form: LONG,
-}];
+static PACKET: [Member; 1] = [Member("packet", LONG)];
 
 /// The members of `cut` and `mend`.
-static LINK_AT: [Member; 2] = [
-    Member {
-        name: "ia",
-        form: Form::Address,
-    },
-    Member {
-        name: "if",
-        form: SHORT,
-    },
-];
+static LINK_AT: [Member; 2] = [Member("ia", Form::Address), Member("if", SHORT)];
 
-static TICK: [Member; 1] = [Member {
-    name: "now",
-    form: LONG,
-}];
+static TICK: [Member; 1] = [Member("now", LONG)];
 
 static ORIGINATE: [Member; 3] = [
-    Member {
-        name: "ia",
-        form: Form::Address,
-    },
-    Member {
-        name: "egress",
-        form: SHORT,
-    },
-    Member {
-        name: "beta0",
-        form: SHORT,
-    },
+    Member("ia", Form::Address),
+    Member("egress", SHORT),
+    Member("beta0", SHORT),
 ];
 
 static EXTEND: [Member; 3] = [
-    Member {
-        name: "beacon",
-        form: LONG,
-    },
-    Member {
-        name: "ia",
-        form: Form::Address,
-    },
-    Member {
-        name: "egress",
-        form: SHORT,
-    },
+    Member("beacon", LONG),
+    Member("ia", Form::Address),
+    Member("egress", SHORT),
 ];
 
-static TERMINATE: [Member; 2] = [
-    Member {
-        name: "beacon",
-        form: LONG,
-    },
-    Member {
-        name: "ia",
-        form: Form::Address,
-    },
-];
+static TERMINATE: [Member; 2] = [Member("beacon", LONG), Member("ia", Form::Address)];
 
 static SWEEP: [Member; 0] = [];
 
 static ASK: [Member; 3] = [
-    Member {
-        name: "src",
-        form: Form::Address,
-    },
-    Member {
-        name: "dst",
-        form: Form::Address,
-    },
-    Member {
-        name: "limit",
-        form: LONG,
-    },
+    Member("src", Form::Address),
+    Member("dst", Form::Address),
+    Member("limit", LONG),
 ];
 
 static SEND: [Member; 3] = [
-    Member {
-        name: "payload",
-        form: Form::Bytes,
-    },
-    Member {
-        name: "ask",
-        form: LONG,
-    },
-    Member {
-        name: "path",
-        form: LONG,
-    },
+    Member("payload", Form::Bytes),
+    Member("ask", LONG),
+    Member("path", LONG),
 ];
 
-static BACK: [Member; 2] = [
-    Member {
-        name: "payload",
-        form: Form::Bytes,
-    },
-    Member {
-        name: "packet",
-        form: LONG,
-    },
-];
+static BACK: [Member; 2] = [Member("payload", Form::Bytes), Member("packet", LONG)];
 
 static ALTER: [Member; 3] = [
-    Member {
-        name: "packet",
-        form: LONG,
-    },
-    Member {
-        name: "at",
-        form: LONG,
-    },
-    Member {
-        name: "xor",
-        form: BYTE,
-    },
+    Member("packet", LONG),
+    Member("at", LONG),
+    Member("xor", BYTE),
 ];
 
-static ROTATE: [Member; 2] = [
-    Member {
-        name: "key",
-        form: Form::Bytes,
-    },
-    Member {
-        name: "ia",
-        form: Form::Address,
-    },
-];
+static ROTATE: [Member; 2] = [Member("key", Form::Bytes), Member("ia", Form::Address)];
 
 /// The member with the word of an event.
-pub(crate) static EVENT: [Member; 1] = [Member {
-    name: "do",
-    form: Form::Text,
-}];
+pub(crate) static EVENT: [Member; 1] = [Member("do", Form::Text)];
 
 /// The members of a request that have its policy, and its word.
 pub(crate) static POLICY: [Member; 4] = [
-    Member {
-        name: "do",
-        form: Form::Text,
-    },
-    Member {
-        name: "acl",
-        form: Form::List,
-    },
-    Member {
-        name: "sequence",
-        form: Form::Text,
-    },
-    Member {
-        name: "options",
-        form: Form::List,
-    },
+    Member("do", Form::Text),
+    Member("acl", Form::List),
+    Member("sequence", Form::Text),
+    Member("options", Form::List),
 ];
 
 /// The members of a policy option: first the one that it has to have.
 pub(crate) static OPTION: [Member; 3] = [
-    Member {
-        name: "weight",
-        form: LONG,
-    },
-    Member {
-        name: "acl",
-        form: Form::List,
-    },
-    Member {
-        name: "sequence",
-        form: Form::Text,
-    },
+    Member("weight", LONG),
+    Member("acl", Form::List),
+    Member("sequence", Form::Text),
 ];
 
 /// The members of the line with this word, in the order in which they are read; `None` if there is
@@ -282,11 +126,6 @@ pub(crate) fn members_of(word: &str) -> Option<&'static [Member]> {
     })
 }
 
-/// Whether a value is an object that has each of these members in its form.
-pub(crate) fn has_all(value: &Value, members: &[Member]) -> bool {
-    value.is_object() && first_misfit(value, members).is_none()
-}
-
 /// The first of these members that the object does not have in its form.
 pub(crate) fn first_misfit(object: &Value, members: &[Member]) -> Option<Member> {
     members
@@ -296,14 +135,14 @@ pub(crate) fn first_misfit(object: &Value, members: &[Member]) -> Option<Member>
 }
 
 /// Whether an object has a member in its form.
-fn is_fit(object: &Value, member: Member) -> bool {
-    match object.get(member.name) {
-        Some(value) => member.form.fits(value),
+fn is_fit(object: &Value, Member(name, form): Member) -> bool {
+    match object.get(name) {
+        Some(value) => form.fits(value),
         None => false,
     }
 }
 
 /// Whether a member of this name is among these.
 pub(crate) fn is_among(name: &str, members: &[Member]) -> bool {
-    members.iter().any(|member| member.name == name)
+    members.iter().any(|member| member.0 == name)
 }

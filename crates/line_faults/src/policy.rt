@@ -1,7 +1,7 @@
 //! Policies of a request: of which form they are not, or where they can't be read.
 
 use crate::form::Form;
-use crate::found::{push_front, push_misfit, push_place, push_value, push_wanted};
+use crate::found::{Place, push_misfit, push_place, push_value, push_wanted};
 use crate::history::text_of;
 use crate::member::OPTION;
 use crate::sentence::push_sentence;
@@ -14,13 +14,9 @@ use std::alloc::{AllocError, Global};
 use std::fmt::Write;
 
 /// Adds the first part of a request's policy that has not its form. Returns whether there is one.
-pub(crate) fn push_bad_form(
-    alloc: Global,
-    why: &mut String,
-    request: &Value,
-) -> Result<bool, AllocError> {
+pub(crate) fn push_bad_form(why: &mut String, request: &Value) -> Result<bool, AllocError> {
     let Some(options) = request.get("options") else {
-        return push_bad_texts(why, "", request);
+        return push_bad_texts(why, Place::line(), request);
     };
     for name in ["acl", "sequence"] {
         if let Some(value) = request.get(name) {
@@ -34,17 +30,14 @@ pub(crate) fn push_bad_form(
         push_wanted(why, Some(options), &Form::List)?;
         return Ok(true);
     };
-    push_bad_option(alloc, why, options)
+    push_bad_option(why, options)
 }
 
 /// Adds the first option that has not its form. Returns whether there is one.
-fn push_bad_option(alloc: Global, why: &mut String, options: &[Value]) -> Result<bool, AllocError> {
+fn push_bad_option(why: &mut String, options: &[Value]) -> Result<bool, AllocError> {
     for (number, option) in options.iter().enumerate() {
-        let place = format!(in alloc; "options[{number}]")?;
-        if push_misfit(why, &place, option, &OPTION[..1])? {
-            return Ok(true);
-        }
-        if push_bad_texts(why, &place, option)? {
+        let place = Place::item("options", number);
+        if push_misfit(why, place, option, &OPTION[..1])? || push_bad_texts(why, place, option)? {
             return Ok(true);
         }
     }
@@ -52,7 +45,7 @@ fn push_bad_option(alloc: Global, why: &mut String, options: &[Value]) -> Result
 }
 
 /// Adds the text of a policy that is none. Returns whether there is one.
-fn push_bad_texts(why: &mut String, place: &str, policy: &Value) -> Result<bool, AllocError> {
+fn push_bad_texts(why: &mut String, place: Place<'_>, policy: &Value) -> Result<bool, AllocError> {
     match policy.get("acl") {
         None => {}
         Some(Value::Array(entries)) => {
@@ -77,7 +70,7 @@ fn push_bad_texts(why: &mut String, place: &str, policy: &Value) -> Result<bool,
 }
 
 /// Adds the first entry of a list that is no text. Returns whether there is one.
-fn push_no_text(why: &mut String, place: &str, entries: &[Value]) -> Result<bool, AllocError> {
+fn push_no_text(why: &mut String, place: Place<'_>, entries: &[Value]) -> Result<bool, AllocError> {
     for (number, entry) in entries.iter().enumerate() {
         if !entry.is_string() {
             push_place(why, place, "acl")?;
@@ -99,7 +92,7 @@ pub(crate) fn push_unread(
 ) -> Result<(), AllocError> {
     match request.get("options") {
         Some(Value::Array(options)) => push_unread_option(alloc, why, options)?,
-        _ => push_unread_policy(alloc, why, "", request)?,
+        _ => push_unread_policy(alloc, why, Place::line(), request)?,
     };
     why.push_str(": ")?;
     push_sentence(why, code)
@@ -112,8 +105,7 @@ fn push_unread_option(
     options: &[Value],
 ) -> Result<bool, AllocError> {
     for (number, option) in options.iter().enumerate() {
-        let place = format!(in alloc; "options[{number}]")?;
-        if push_unread_policy(alloc, why, &place, option)? {
+        if push_unread_policy(alloc, why, Place::item("options", number), option)? {
             return Ok(true);
         }
     }
@@ -124,7 +116,7 @@ fn push_unread_option(
 fn push_unread_policy(
     alloc: Global,
     why: &mut String,
-    place: &str,
+    place: Place<'_>,
     policy: &Value,
 ) -> Result<bool, AllocError> {
     if let Some(Value::Array(entries)) = policy.get("acl") {
@@ -142,7 +134,7 @@ fn push_unread_policy(
 fn push_unread_sequence(
     alloc: Global,
     why: &mut String,
-    place: &str,
+    place: Place<'_>,
     text: &str,
 ) -> Result<bool, AllocError> {
     match Seq::parse(alloc, text) {
@@ -192,7 +184,7 @@ fn unread_entry(alloc: Global, entries: &[Value]) -> Result<Option<usize>, Alloc
 fn push_unread_list(
     alloc: Global,
     why: &mut String,
-    place: &str,
+    place: Place<'_>,
     entries: &[Value],
 ) -> Result<bool, AllocError> {
     let number = unread_entry(alloc, entries)?;

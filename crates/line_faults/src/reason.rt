@@ -78,7 +78,7 @@ fn push_topology(
     topology: &Value,
 ) -> Result<(), AllocError> {
     match code {
-        11 => push_bad_field(alloc, why, topology),
+        11 => push_bad_field(why, topology),
         _ => push_broken_rule(alloc, why, code, topology),
     }
 }
@@ -92,7 +92,7 @@ fn push_event(
     event: &Value,
 ) -> Result<(), AllocError> {
     match code {
-        140 => push_bad_line(alloc, why, event),
+        140 => push_bad_line(why, event),
         60..=66 => push_unread(alloc, why, code, event),
         _ => push_refused(why, context, code, event),
     }

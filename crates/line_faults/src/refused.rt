@@ -1,6 +1,6 @@
 //! Events that are refused: what of the event is meant.
 
-use crate::found::{push_found, push_place};
+use crate::found::push_found;
 use crate::history::{History, text_of, whole_of, word_of};
 use crate::sentence::push_sentence;
 use forwarding::PacketLocation;
@@ -54,7 +54,7 @@ pub(crate) fn push_refused(
     event: &Value,
 ) -> Result<(), AllocError> {
     let name = subject_of(context, code, event);
-    push_place(why, "", name)?;
+    why.push_str(name)?;
     push_found(why, event.get(name))?;
     why.push_str(": ")?;
     push_sentence(why, code)?;

@@ -1,6 +1,6 @@
 //! What is strange in a line and no fault: members that nobody reads, and addresses that no AS has.
 
-use crate::found::{push_front, push_place};
+use crate::found::{Place, push_front, push_place};
 use crate::history::word_of;
 use crate::member::{AS, END, EVENT, LINK, Member, OPTION, POLICY, TOPOLOGY, is_among, members_of};
 use crate::refused::{Context, address_at};
@@ -12,7 +12,7 @@ use std::alloc::{AllocError, Global};
 fn add_unread(
     alloc: Global,
     warnings: &mut Vec<String>,
-    place: &str,
+    place: Place<'_>,
     object: &Value,
     members: &[Member],
     others: &[Member],
@@ -29,7 +29,7 @@ fn add_unread(
 }
 
 /// The warning about a member that nobody reads.
-fn unread_warning(alloc: Global, place: &str, name: &str) -> Result<String, AllocError> {
+fn unread_warning(alloc: Global, place: Place<'_>, name: &str) -> Result<String, AllocError> {
     let mut warning = String::new(alloc);
     push_place(&mut warning, place, "")?;
     push_front(&mut warning, name)?;
@@ -43,16 +43,15 @@ pub(crate) fn add_unread_of_topology(
     warnings: &mut Vec<String>,
     topology: &Value,
 ) -> Result<(), AllocError> {
-    add_unread(alloc, warnings, "", topology, &TOPOLOGY, &[])?;
+    add_unread(alloc, warnings, Place::line(), topology, &TOPOLOGY, &[])?;
     for (number, one) in values_of(topology, "ases").iter().enumerate() {
-        let place = format!(in alloc; "ases[{number}]")?;
-        add_unread(alloc, warnings, &place, one, &AS, &[])?;
+        add_unread(alloc, warnings, Place::item("ases", number), one, &AS, &[])?;
     }
     for (number, link) in values_of(topology, "links").iter().enumerate() {
-        let place = format!(in alloc; "links[{number}]")?;
-        add_unread(alloc, warnings, &place, link, &LINK, &[])?;
-        add_unread_of_end(alloc, warnings, &place, link, "a")?;
-        add_unread_of_end(alloc, warnings, &place, link, "b")?;
+        let place = Place::item("links", number);
+        add_unread(alloc, warnings, place, link, &LINK, &[])?;
+        add_unread_of_end(alloc, warnings, place, link, "a")?;
+        add_unread_of_end(alloc, warnings, place, link, "b")?;
     }
     Ok(())
 }
@@ -61,15 +60,14 @@ pub(crate) fn add_unread_of_topology(
 fn add_unread_of_end(
     alloc: Global,
     warnings: &mut Vec<String>,
-    place: &str,
+    place: Place<'_>,
     link: &Value,
     name: &str,
 ) -> Result<(), AllocError> {
-    let Some(end) = link.get(name) else {
-        return Ok(());
-    };
-    let place = format!(in alloc; "{place}.{name}")?;
-    add_unread(alloc, warnings, &place, end, &END, &[])
+    match link.get(name) {
+        Some(end) => add_unread(alloc, warnings, place.part(name), end, &END, &[]),
+        None => Ok(()),
+    }
 }
 
 /// Adds a warning for each member of a line after the first that nobody reads, and for each address
@@ -85,12 +83,12 @@ pub(crate) fn add_unread_of_event(
         return Ok(());
     };
     if word != "ask" {
-        return add_unread(alloc, warnings, "", event, members, &EVENT);
+        return add_unread(alloc, warnings, Place::line(), event, members, &EVENT);
     }
-    add_unread(alloc, warnings, "", event, members, &POLICY)?;
+    add_unread(alloc, warnings, Place::line(), event, members, &POLICY)?;
     for (number, option) in values_of(event, "options").iter().enumerate() {
-        let place = format!(in alloc; "options[{number}]")?;
-        add_unread(alloc, warnings, &place, option, &OPTION, &[])?;
+        let place = Place::item("options", number);
+        add_unread(alloc, warnings, place, option, &OPTION, &[])?;
     }
     add_unlisted(alloc, warnings, context, event, "src")?;
     add_unlisted(alloc, warnings, context, event, "dst")
