@@ -9,7 +9,7 @@ use Rattle.network_core.specs.Event.{EventValue}
 use Rattle.network_core.specs.Value.{PacketValue, NetValue, new_net}
 use Rattle.network_core.specs.Step.{Step}
 use Rattle.network_core.specs.Delivery.{MayDepart, AllMayDepart}
-use Rattle.network_core.proofs.Packets.{Outlasts, holds_on}
+use Rattle.network_core.proofs.EachPacket.{Outlasts, holds_on}
 
 abbrev Any : Network → Type 0
 Any n = Unit {0}

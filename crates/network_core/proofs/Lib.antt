@@ -14,7 +14,7 @@ pub mod Runs
 pub mod Accepting
 pub mod Answerable
 pub mod Asked
-pub mod Packets
+pub mod EachPacket
 pub mod Allowing
 pub mod Present
 pub mod Full

@@ -17,7 +17,7 @@ use Rattle.network_core.specs.Step.{Made, turns, flying_at, Leads}
 use Rattle.network_core.specs.History.{EventRecord, IsHistory, net_at, Occurs}
 use Rattle.network_core.proofs.Effects.{both_done}
 use Rattle.network_core.proofs.Numbers.{becomes_at, kept_to, network_on}
-use Rattle.network_core.proofs.Packets.{Outlasts, AllHold, flying_there, holds_on}
+use Rattle.network_core.proofs.EachPacket.{Outlasts, AllHold, flying_there, holds_on}
 
 abbrev Stands : Network → PacketValue → Type 0
 Stands n one = IsPresent n one.packet

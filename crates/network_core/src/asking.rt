@@ -10,8 +10,8 @@ ghost use Rattle.network_core.specs.inner.Doing.{AnswersTo, DoesAsk, JudgesEvent
 ghost use Rattle.network_core.specs.Step.{options_asked, rules_used};
 
 use crate::answer::{Answer, SharedAnswer};
-use crate::beacons::MAX_OBJECTS;
 use crate::fault::EventFault;
+use crate::limits::MAX_OBJECTS;
 use crate::net::{EventError, Net};
 use crate::reply::Reply;
 use combinator::{CombineFault, combine, is_limit};

@@ -1,16 +1,15 @@
-//! Events of the control plane: beaconing, registration, and changes of links and keys.
+//! Events of beaconing: beacons begin, are passed on, and end as registered segments.
 
-ghost use Rattle.std.specs.Prelude.{◌≡◌, IsOk, Ok, Result, false, true};
+ghost use Rattle.std.specs.Prelude.{◌≡◌, IsOk, Result};
 ghost use Rattle.refusal.specs.Refusal.{Fails};
-ghost use Rattle.refusal.specs.declared.fault.OrMemory.TheVariants.{Refused};
 ghost use Rattle.path_segment.specs.Chain.{Chain};
 ghost use Rattle.beaconing.specs.declared.fault.BeaconFault.{BeaconFault};
-ghost use Rattle.scion_topology.specs.Topology.{set_up, with_rotated_key};
 ghost use Rattle.network_core.specs.declared.fault.EventFault.TheVariants as faults;
 ghost use Rattle.network_core.specs.inner.Doing.{DoesOrFails, JudgesEvent, error_as, with_made};
-ghost use Rattle.network_core.specs.Step.{ticks, beacon_at, new_segment, originates, extends, terminates, with_beacon, with_segment, with_network, sweeps};
+ghost use Rattle.network_core.specs.Step.{beacon_at, new_segment, originates, extends, terminates, with_beacon, with_segment};
 
 use crate::fault::EventFault;
+use crate::limits::MAX_OBJECTS;
 use crate::net::{EventError, Net};
 use crate::reply::Reply;
 use beaconing::{BeaconError, extend, originate, terminate};
@@ -18,24 +17,9 @@ use isd_as::{IfId, IsdAs};
 use path_segment::{Beacon, Segment};
 use path_server::StoreError;
 use refusal::OrMemory;
-use scion_topology::TopologyFault;
 use std::alloc::Global;
 
-/// The largest number of beacons, of answers, and of packets.
-pub const MAX_OBJECTS: usize = 1_000_000;
-
 impl Net {
-    /// Sets the time of the network.
-    pub(crate) fn tick(&mut self, to: u32) -> Result<Reply, EventError>
-        ensures { DoesOrFails (ticks self.old to) ⊥ self.old self.new result }
-    {
-        if to < self.moment {
-            return Err(OrMemory::Refused(EventFault::TimeBack));
-        }
-        self.moment = to;
-        Ok(Reply::Done)
-    }
-
     /// An AS begins a beacon.
     pub(crate) fn originate(
         &mut self,
@@ -134,41 +118,6 @@ impl Net {
             Err((_, error)) => Err(of_store(error)),
         }
     }
-
-    /// Removes the segments from the store that are not live.
-    pub(crate) fn sweep(&mut self) -> Reply
-        ensures { sweeps self.old ≡ Ok (result, self.new) }
-    {
-        Reply::Swept(self.store.sweep(self.moment))
-    }
-
-    /// Cuts a link.
-    pub(crate) fn cut_link(&mut self, ia: IsdAs, interface: IfId) -> Result<Reply, EventError>
-        ensures { DoesOrFails (with_network self.old (set_up false ia interface self.old.network)) ⊥
-            self.old self.new result }
-    {
-        self.topology.cut_link(ia, interface).map_err(of_topology)?;
-        Ok(Reply::Done)
-    }
-
-    /// Mends a link.
-    pub(crate) fn mend_link(&mut self, ia: IsdAs, interface: IfId) -> Result<Reply, EventError>
-        ensures { DoesOrFails (with_network self.old (set_up true ia interface self.old.network)) ⊥
-            self.old self.new result }
-    {
-        self.topology.mend_link(ia, interface).map_err(of_topology)?;
-        Ok(Reply::Done)
-    }
-
-    /// Takes another key into use for an AS.
-    pub(crate) fn rotate_key(&mut self, ia: IsdAs, key: &[u8]) -> Result<Reply, EventError>
-        ensures { DoesOrFails
-            (with_network self.old (with_rotated_key ia key.now self.old.network)) ⊥
-            self.old self.new result }
-    {
-        self.topology.rotate_key(ia, key).map_err(of_topology)?;
-        Ok(Reply::Done)
-    }
 }
 
 /// The error of beaconing as that of an event.
@@ -189,11 +138,4 @@ fn of_store(error: StoreError) -> EventError
         OrMemory::Memory => OrMemory::Memory,
         OrMemory::Refused(fault) => OrMemory::Refused(EventFault::Store(fault)),
     }
-}
-
-/// The refusal of the topology as that of an event.
-fn of_topology(fault: TopologyFault) -> EventError
-    ensures { result ≡ Refused (faults.Topology fault) }
-{
-    OrMemory::Refused(EventFault::Topology(fault))
 }

@@ -6,22 +6,23 @@
 mod answer;
 mod asking;
 mod beacons;
+mod control;
 mod event;
 mod fault;
 pub mod laws;
+mod limits;
 mod net;
 mod packet;
+mod packets;
 mod reply;
 mod running;
 mod sending;
-mod turning;
 mod way;
 
-pub use beacons::MAX_OBJECTS;
 pub use event::{Event, Given};
 pub use fault::EventFault;
+pub use limits::{MAX_OBJECTS, MAX_PAYLOAD_LEN};
 pub use net::Net;
 pub use packet::{Packet, Sent};
 pub use reply::Reply;
 pub use running::{Stopped, run};
-pub use sending::MAX_PAYLOAD_LEN;

@@ -13,9 +13,9 @@ ghost use Rattle.network_core.specs.Value.{asked_at, way_on};
 ghost use Rattle.network_core.specs.Step.{header_back, packet_of, shipment_by, shipment_of};
 
 use crate::answer::{Answer, SharedAnswer};
-use crate::beacons::MAX_OBJECTS;
 use crate::event::Given;
 use crate::fault::EventFault;
+use crate::limits::{MAX_OBJECTS, MAX_PAYLOAD_LEN};
 use crate::net::{EventError, Net};
 use crate::packet::{Packet, Sent};
 use crate::reply::Reply;
@@ -28,9 +28,6 @@ use policy_expr::Policy;
 use refusal::OrMemory;
 use router_step::{destination_in, read_header, source_in};
 use std::alloc::{AllocError, Global};
-
-/// The largest number of bytes of a payload.
-pub const MAX_PAYLOAD_LEN: usize = 1024;
 
 impl Net {
     /// Sends a packet by a path of an answer.

@@ -1,4 +1,4 @@
-//! Turns, losses and changes of packets.
+//! Events of packets: turns, losses and changes.
 
 ghost use Rattle.std.specs.Prelude.{◌<◌, IfOk, length};
 ghost use Rattle.network_core.specs.inner.Doing.{DoesOrFails, Flies, JudgesEvent};
