@@ -87,7 +87,9 @@ fn keys_overlap(rt: HostRuntime) -> Result<(), Fail> {
     let first = hop_mac(b"a1", 0xb396, 100, 63, 2, 0);
     let second = hop_mac(b"b1", 0xb396, 100, 63, 2, 0);
     let third = hop_mac(b"c1", 0xb396, 100, 63, 2, 0);
-    assert!(rt; first != second && second != third && third != first);
+    assert!(rt; first != second);
+    assert!(rt; second != third);
+    assert!(rt; third != first);
     let mut packet = UP;
     packet[34..40].copy_from_slice(&first);
     let rows: [(&[u8], Result<Outcome, Refusal>); 3] = [

@@ -70,7 +70,8 @@ fn refusals_of_options(rt: HostRuntime) -> Result<(), Fail> {
     ];
     for (fault, name, sentence) in rows {
         let told = format!(in rt.alloc(); "{fault}")?;
-        assert!(rt; told.as_str() == sentence && fault.name() == name);
+        assert!(rt; told.as_str() == sentence);
+        assert!(rt; fault.name() == name);
     }
     Ok(())
 }

@@ -68,7 +68,8 @@ fn one_piece(rt: HostRuntime) -> Result<(), Fail> {
     let segment = worked_segment(alloc)?;
     let header = worked_header([0xb3, 0x96])?;
     let mut pieces = Pieces::new();
-    assert!(rt; pieces.is_empty() && pieces.get(0).is_none());
+    assert!(rt; pieces.is_empty());
+    assert!(rt; pieces.get(0).is_none());
     let up = piece(&segment, 0, 1, false);
     assert_eq!(rt; up.kind(), PieceKind::Up);
     pieces.push(up)?;
@@ -259,7 +260,8 @@ fn expect_report(
     name: &str,
     sentence: &str,
 ) -> Result<(), AllocError> {
-    assert!(rt; fault.code() == code && fault.name() == name);
+    assert!(rt; fault.code() == code);
+    assert!(rt; fault.name() == name);
     assert_eq!(rt; format!(in alloc; "{fault}")?.as_str(), sentence);
     Ok(())
 }

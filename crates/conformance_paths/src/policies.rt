@@ -332,7 +332,8 @@ fn expect_report(
     name: &str,
     sentence: &str,
 ) -> Result<(), Fail> {
-    assert!(rt; fault.code() == code && fault.name() == name);
+    assert!(rt; fault.code() == code);
+    assert!(rt; fault.name() == name);
     assert!(rt; fault.to_string(alloc)?.as_str() == sentence);
     let shown = PolicyError::Refused(fault).to_string(alloc)?;
     assert!(rt; shown.as_str() == sentence);

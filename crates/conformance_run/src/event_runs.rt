@@ -111,7 +111,8 @@ fn a_run_delivers_its_packet(rt: HostRuntime) -> Result<(), Fail> {
     let shortage = Shortage::new();
     let net = network(rt.alloc(), &shortage).ok_or(AllocError)?;
     shortage.tell(&rt);
-    assert!(rt; net.now() == 1000 && net.packets().len() == 1);
+    assert!(rt; net.now() == 1000);
+    assert!(rt; net.packets().len() == 1);
     expect_delivered(&rt, net.packet(0).ok_or(AllocError)?);
     Ok(())
 }

@@ -56,7 +56,8 @@ fn other_spellings_print_canonically(rt: HostRuntime) -> Result<(), Fail> {
 /// Asserts the fault, the number and the name by which a text is refused.
 fn expect_refusal(rt: &impl Abort, text: &str, fault: AddrFault, code: u16, name: &str) {
     assert_eq!(rt; IsdAs::parse(text), Err(fault), "{text}");
-    assert!(rt; fault.code() == code && fault.name() == name, "{text}");
+    assert!(rt; fault.code() == code, "{text}");
+    assert!(rt; fault.name() == name, "{text}");
 }
 
 /// Asserts that a character of a text is no digit of its number.
@@ -104,9 +105,12 @@ fn an_address_has_its_parts(rt: HostRuntime) -> Result<(), Fail> {
     let address = IsdAs::new(isd, as_number);
     assert_eq!(rt; address.number(), 0x0001_ff00_0000_0110);
     assert!(rt; IsdAs::from_number(address.number()) == address);
-    assert!(rt; address.isd() == isd && address.as_number() == as_number);
+    assert!(rt; address.isd() == isd);
+    assert!(rt; address.as_number() == as_number);
     assert!(rt; as_number.number() == 0xff00_0000_0110);
-    assert!(rt; !address.is_wildcard() && !isd.is_wildcard() && !as_number.is_wildcard());
+    assert!(rt; !address.is_wildcard());
+    assert!(rt; !isd.is_wildcard());
+    assert!(rt; !as_number.is_wildcard());
     assert!(rt; IsdAs::new(Isd(0), as_number).is_wildcard());
     assert!(rt; AsNumber::new(1 << 48).is_none());
     assert!(rt; is_between(address, "1-2", "2-1")?);
@@ -116,6 +120,7 @@ fn an_address_has_its_parts(rt: HostRuntime) -> Result<(), Fail> {
         shown.as_str(),
         "1 ff00:0:110 7 an address has a '-' between its ISD and its AS number"
     );
-    assert!(rt; IfId::NONE.is_none() && IfId(7).number() == 7);
+    assert!(rt; IfId::NONE.is_none());
+    assert!(rt; IfId(7).number() == 7);
     Ok(())
 }

@@ -169,7 +169,8 @@ fn meta_fields_are_spelled(rt: HostRuntime) -> Result<(), Fail> {
     assert_eq!(rt; meta_of(&header)?, [0x00, 0x00, 0x30, 0x83]);
     if header.info_count() > 1 && header.hop_count() > 3 {
         header.set_indices(1, 3);
-        assert!(rt; header.segment_of(2) == 0 && header.segment_of(3) == 1);
+        assert!(rt; header.segment_of(2) == 0);
+        assert!(rt; header.segment_of(3) == 1);
     }
     assert_eq!(rt; meta_of(&header)?, [0x43, 0x00, 0x30, 0x83]);
     Ok(())
@@ -177,7 +178,8 @@ fn meta_fields_are_spelled(rt: HostRuntime) -> Result<(), Fail> {
 
 /// Asserts the values of the header of [`WORKED`].
 fn expect_worked(rt: &impl Abort, header: &Header) {
-    assert!(rt; header.curr_inf() == 0 && header.curr_hf() == 1);
+    assert!(rt; header.curr_inf() == 0);
+    assert!(rt; header.curr_hf() == 1);
     assert!(rt; header.seg_lens().first == 2);
     assert!(rt; header.info(header.curr_inf()) == header.current_info());
     assert!(rt; header.hop(header.curr_hf()) == header.current_hop());

@@ -1,7 +1,7 @@
 //! Segments of as many entries as a segment may have, and of one more.
 
 use crate::segments::{code_of, entries_of, is_text_of};
-use crate::store::{answer_to, are_same};
+use crate::store::{are_same, register_copy};
 use isd_as::IsdAs;
 use path_segment::{SegKind, Segment};
 use path_server::PathStore;
@@ -19,7 +19,7 @@ fn expect_kept(
     dst: IsdAs,
 ) -> Result<(), Fail> {
     let mut store = PathStore::new(alloc);
-    assert_eq!(rt; answer_to(alloc, &mut store, segment, 100)?, 1);
+    assert_eq!(rt; register_copy(alloc, &mut store, segment, 100)?, Ok(true));
     let set = store.segments_for(alloc, src, dst, 100)?;
     assert!(rt; are_same(set.ups(), &[segment]));
     assert!(rt; are_same(set.try_clone(alloc)?.ups(), &[segment]));

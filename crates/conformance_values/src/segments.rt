@@ -59,12 +59,16 @@ pub(crate) fn code_of<T: Drop>(answer: Result<T, SegmentError>) -> u16 {
 
 /// Asserts the values of the worked segment.
 fn expect_worked(rt: &impl Abort, segment: &Segment) {
-    assert!(rt; segment.kind() == SegKind::Intra && segment.timestamp() == 100);
-    assert!(rt; segment.beta0() == 4660 && segment.entries().len() == 2);
+    assert!(rt; segment.kind() == SegKind::Intra);
+    assert!(rt; segment.timestamp() == 100);
+    assert!(rt; segment.beta0() == 4660);
+    assert!(rt; segment.entries().len() == 2);
     let betas = [segment.beta_at(0), segment.beta_at(1), segment.beta_at(2)];
     assert_eq!(rt; betas, [0x1234, 0xb396, 0x0224]);
     assert_eq!(rt; segment.least_expiry(0, 1), 43_400);
-    assert!(rt; segment.is_live(0) && segment.is_live(21_700) && !segment.is_live(21_701));
+    assert!(rt; segment.is_live(0));
+    assert!(rt; segment.is_live(21_700));
+    assert!(rt; !segment.is_live(21_701));
 }
 
 /// Whether the text is that of the segment.
@@ -91,8 +95,10 @@ fn worked(rt: HostRuntime) -> Result<(), Fail> {
 fn under_way(rt: HostRuntime) -> Result<(), Fail> {
     let alloc = rt.alloc();
     let beacon = Beacon::first(alloc, SegKind::Intra, 100, 4660, first_entry())?;
-    assert!(rt; beacon.kind() == SegKind::Intra && beacon.timestamp() == 100);
-    assert!(rt; beacon.beta0() == 4660 && beacon.beta_at(1) == 0xb396);
+    assert!(rt; beacon.kind() == SegKind::Intra);
+    assert!(rt; beacon.timestamp() == 100);
+    assert!(rt; beacon.beta0() == 4660);
+    assert!(rt; beacon.beta_at(1) == 0xb396);
     assert!(rt; beacon.try_clone(alloc)?.is_same(&beacon));
     let segment = beacon.finish(alloc, last_entry())?;
     assert!(rt; segment.is_same(&Segment::from_json(alloc, text().as_bytes())?));
@@ -141,7 +147,8 @@ fn expect_longest(rt: &impl Abort, alloc: Global, beacon: &Beacon) -> Result<(),
 
 /// Asserts the number and the name of a refusal.
 fn expect_named(rt: &impl Abort, fault: SegmentFault, code: u16, name: &str) {
-    assert!(rt; fault.code() == code && fault.name() == name);
+    assert!(rt; fault.code() == code);
+    assert!(rt; fault.name() == name);
 }
 
 /// The codes of the refusals of an entry with these interfaces: as the first of a beacon, as its

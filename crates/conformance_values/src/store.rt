@@ -41,20 +41,20 @@ fn worked(alloc: Global, beta0: u16) -> Result<Segment, Fail> {
     segment(alloc, SegKind::Intra, beta0, ia(0x110), ia(0x111))
 }
 
-/// The code of registering a copy of a segment: 1 if it is new, 0 if it is known, or the code of
-/// the refusal; 2 if memory ran out, and 3 if another segment was returned.
-pub(crate) fn answer_to(
+/// What comes of registering a copy of a segment: whether it is new, or the refusal, with which the
+/// copy has to be handed back.
+pub(crate) fn register_copy(
     alloc: Global,
     store: &mut PathStore,
     segment: &Segment,
     now: u32,
-) -> Result<u16, AllocError> {
-    Ok(match store.register(segment.try_clone(alloc)?, now) {
-        Ok(is_new) => u16::from(is_new),
-        Err((back, _)) if !back.is_same(segment) => 3,
-        Err((_, OrMemory::Memory)) => 2,
-        Err((_, OrMemory::Refused(fault))) => fault.code(),
-    })
+) -> Result<Result<bool, StoreFault>, Fail> {
+    match store.register(segment.try_clone(alloc)?, now) {
+        Ok(is_new) => Ok(Ok(is_new)),
+        Err((_, OrMemory::Memory)) => Err(Fail::from(AllocError)),
+        Err((back, OrMemory::Refused(fault))) if back.is_same(segment) => Ok(Err(fault)),
+        Err(_) => Err(Fail::from("another segment was handed back")),
+    }
 }
 
 /// Whether these are the same segments in the same order.
@@ -88,17 +88,6 @@ fn copies(alloc: Global, store: &PathStore, worked: &Segment) -> Result<bool, Al
     Ok(are_same(copy.ups(), &[worked]) && copy.now() == 100)
 }
 
-/// The codes of registering a segment at first, a second time, and after it has expired.
-fn answers_to(
-    alloc: Global,
-    store: &mut PathStore,
-    segment: &Segment,
-) -> Result<[u16; 3], AllocError> {
-    let first = answer_to(alloc, store, segment, 100)?;
-    let again = answer_to(alloc, store, segment, 100)?;
-    Ok([first, again, answer_to(alloc, store, segment, 21_701)?])
-}
-
 /// Asserts that a segment is stored once, known the second time and refused when it has expired.
 fn expect_stored(
     rt: &impl Abort,
@@ -107,8 +96,14 @@ fn expect_stored(
     segment: &Segment,
 ) -> Result<(), Fail> {
     assert!(rt; store.is_empty());
-    assert_eq!(rt; answers_to(alloc, store, segment)?, [1, 0, 51]);
-    assert!(rt; store.len() == 1 && are_same(store.segments(), &[segment]));
+    assert_eq!(rt; register_copy(alloc, store, segment, 100)?, Ok(true));
+    assert_eq!(rt; register_copy(alloc, store, segment, 100)?, Ok(false));
+    assert_eq!(rt;
+        register_copy(alloc, store, segment, 21_701)?,
+        Err(StoreFault::Expired)
+    );
+    assert!(rt; store.len() == 1);
+    assert!(rt; are_same(store.segments(), &[segment]));
     assert!(rt; copies(alloc, store, segment)?);
     Ok(())
 }
@@ -150,7 +145,7 @@ fn one_segment(rt: HostRuntime) -> Result<(), Fail> {
 fn store_of(alloc: Global, count: u16) -> Result<PathStore, Fail> {
     let mut store = PathStore::new(alloc);
     for beta0 in 1..=count {
-        answer_to(alloc, &mut store, &worked(alloc, beta0)?, 100)?;
+        register_copy(alloc, &mut store, &worked(alloc, beta0)?, 100)??;
     }
     Ok(store)
 }
@@ -162,16 +157,23 @@ fn thirty_two_segments(rt: HostRuntime) -> Result<(), Fail> {
     let mut store = store_of(alloc, 32)?;
     assert_eq!(rt; store.len(), 32);
     let rows = [
-        (SegKind::Intra, 33, 0x110, 0x111, 100, 50),
-        (SegKind::Intra, 32, 0x110, 0x111, 100, 0),
-        (SegKind::Intra, 33, 0x110, 0x111, 21_701, 51),
-        (SegKind::Core, 33, 0x110, 0x111, 100, 1),
-        (SegKind::Intra, 33, 0x110, 0x112, 100, 1),
-        (SegKind::Intra, 33, 0x112, 0x111, 100, 1),
+        (SegKind::Intra, 33, 0x110, 0x111, 100, Err(StoreFault::Full)),
+        (SegKind::Intra, 32, 0x110, 0x111, 100, Ok(false)),
+        (
+            SegKind::Intra,
+            33,
+            0x110,
+            0x111,
+            21_701,
+            Err(StoreFault::Expired),
+        ),
+        (SegKind::Core, 33, 0x110, 0x111, 100, Ok(true)),
+        (SegKind::Intra, 33, 0x110, 0x112, 100, Ok(true)),
+        (SegKind::Intra, 33, 0x112, 0x111, 100, Ok(true)),
     ];
     for (kind, beta0, first, last, now, answer) in rows {
         let one = segment(alloc, kind, beta0, ia(first), ia(last))?;
-        assert_eq!(rt; answer_to(alloc, &mut store, &one, now)?, answer);
+        assert_eq!(rt; register_copy(alloc, &mut store, &one, now)?, answer);
     }
     Ok(())
 }
@@ -201,10 +203,13 @@ fn finds(
 fn expect_full(rt: &impl Abort, alloc: Global, store: &mut PathStore) -> Result<(), Fail> {
     for beta0 in 1..=32 {
         let one = worked(alloc, beta0)?;
-        assert_eq!(rt; answer_to(alloc, store, &one, 100)?, 1);
+        assert_eq!(rt; register_copy(alloc, store, &one, 100)?, Ok(true));
     }
     let one = worked(alloc, 33)?;
-    assert_eq!(rt; answer_to(alloc, store, &one, 100)?, 50);
+    assert_eq!(rt;
+        register_copy(alloc, store, &one, 100)?,
+        Err(StoreFault::Full)
+    );
     Ok(())
 }
 
@@ -225,8 +230,8 @@ fn expect_two(
     left: &Segment,
     right: &Segment,
 ) -> Result<(), Fail> {
-    assert_eq!(rt; answer_to(alloc, store, left, 1000)?, 1);
-    assert_eq!(rt; answer_to(alloc, store, right, 1000)?, 1);
+    assert_eq!(rt; register_copy(alloc, store, left, 1000)?, Ok(true));
+    assert_eq!(rt; register_copy(alloc, store, right, 1000)?, Ok(true));
     assert!(rt; finds(alloc, store, left, right)?);
     assert_eq!(rt; store.sweep(21_701), 32);
     assert!(rt; are_same(store.segments(), &[left, right]));
@@ -244,7 +249,8 @@ fn swept_beside_others(rt: HostRuntime) -> Result<(), Fail> {
     let right = half(alloc, 3, 0x113)?;
     expect_two(&rt, alloc, &mut store, &left, &right)?;
     expect_full(&rt, alloc, &mut store)?;
-    assert!(rt; store.len() == 34 && finds(alloc, &store, &left, &right)?);
+    assert!(rt; store.len() == 34);
+    assert!(rt; finds(alloc, &store, &left, &right)?);
     assert!(rt; finds_worked(alloc, &store, &left)?);
     Ok(())
 }
@@ -282,7 +288,7 @@ fn core_store(alloc: Global) -> Result<PathStore, Fail> {
     let mut store = PathStore::new(alloc);
     for (kind, first, last) in rows {
         let one = segment(alloc, kind, 0, ia(first), ia(last))?;
-        answer_to(alloc, &mut store, &one, 100)?;
+        register_copy(alloc, &mut store, &one, 100)??;
     }
     Ok(store)
 }
@@ -305,10 +311,12 @@ fn core_segments(rt: HostRuntime) -> Result<(), Fail> {
     for (src, dst, ups, downs) in ends {
         let set = store.segments_for(alloc, ia(src), ia(dst), 100)?;
         assert!(rt; are_same(set.cores(), &[to, fro]));
-        assert!(rt; set.ups().len() == ups && set.downs().len() == downs);
+        assert!(rt; set.ups().len() == ups);
+        assert!(rt; set.downs().len() == downs);
     }
     let none = store.segments_for(alloc, ia(0x111), ia(0x140), 100)?;
-    assert!(rt; none.cores().is_empty() && none.downs().is_empty());
+    assert!(rt; none.cores().is_empty());
+    assert!(rt; none.downs().is_empty());
     Ok(())
 }
 
@@ -331,7 +339,8 @@ fn refusals(rt: HostRuntime) -> Result<(), Fail> {
         ),
     ];
     for (fault, code, name, text) in rows {
-        assert!(rt; fault.code() == code && fault.name() == name);
+        assert!(rt; fault.code() == code);
+        assert!(rt; fault.name() == name);
         assert_eq!(rt;
             format!(in alloc; "{}", OrMemory::Refused(fault))?.as_str(),
             text
