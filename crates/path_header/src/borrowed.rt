@@ -187,15 +187,7 @@ impl<'a> HeaderMut<'a> {
         ensures below { result < length (value_of self.now).infos }
     {
         self.known();
-        let lens = self.seg_lens();
-        let first = usize::from(lens.first);
-        if hop < first {
-            0
-        } else if hop < first + usize::from(lens.second) {
-            1
-        } else {
-            2
-        }
+        self.seg_lens().segment_of(hop)
     }
 
     /// Sets the accumulator of this info field; only its two bytes change.

@@ -22,6 +22,8 @@ fn check_infos(bytes: &[u8], count: usize) -> Result<(), HeaderFault>
 }
 
 /// Checks `count` hop fields, one after another.
+// Not inlined: among the values of its callers the loop runs out of registers.
+#[inline(never)]
 fn check_hops(bytes: &[u8], count: usize) -> Result<(), HeaderFault>
     requires few { count ≤ 64 }
     requires long { 12 * count ≤ length bytes.now }

@@ -213,14 +213,7 @@ impl Header {
         ensures segment { IsInSegment self.now.lens hop result }
         ensures below { result < length self.now.infos }
     {
-        let first = usize::from(self.lens.first);
-        if hop < first {
-            0
-        } else if hop < first + usize::from(self.lens.second) {
-            1
-        } else {
-            2
-        }
+        self.lens.segment_of(hop)
     }
 
     /// The length of this header in bytes, 4 + 8 for each info field + 12 for each hop field.

@@ -1,5 +1,5 @@
 ghost use Rattle.std.specs.Prelude.{◌≡◌, ◌≤◌, ◌<◌, OnOk};
-ghost use Rattle.path_header.specs.Value.{info_count, hop_count, len_for, AreLens};
+ghost use Rattle.path_header.specs.Value.{info_count, hop_count, len_for, segment_at, AreLens, IsInSegment};
 ghost use Rattle.path_header.specs.Building.{checked_lens};
 ghost use Rattle.path_header.specs.Reversal.{reversed_lens};
 
@@ -48,6 +48,23 @@ impl SegLens {
         ensures bound { result < 766 }
     {
         usize::from(self.first) + usize::from(self.second) + usize::from(self.third)
+    }
+
+    /// The index of the segment to which this hop field belongs.
+    pub fn segment_of(self, hop: usize) -> usize
+        requires { hop < hop_count self }
+        ensures value { result ≡ segment_at self hop }
+        ensures segment { IsInSegment self hop result }
+        ensures below { AreLens self → result < info_count self }
+    {
+        let first = usize::from(self.first);
+        if hop < first {
+            0
+        } else if hop < first + usize::from(self.second) {
+            1
+        } else {
+            2
+        }
     }
 
     /// The length in bytes of a header with these lengths.
