@@ -9,6 +9,7 @@ ghost use Rattle.beaconing.specs.Calls.{come_to, is_new};
 ghost use Rattle.refusal.specs.Refusal.{Gives, or_else};
 
 use crate::fault::BeaconFault;
+use hop_mac::HopInput;
 use isd_as::{IfId, IsdAs};
 use path_segment::{Beacon, Entry, SegKind};
 use scion_topology::{AsEntry, IfEntry, LinkKind, Topology};
@@ -23,15 +24,19 @@ pub(crate) fn entry_by(
 ) -> Entry
     ensures { result ≡ entry_by one.now timestamp beta cons_ingress cons_egress }
 {
+    let input = HopInput {
+        beta,
+        timestamp,
+        exp_time: one.exp_time,
+        cons_ingress: cons_ingress.number(),
+        cons_egress: cons_egress.number(),
+    };
     Entry {
         ia: one.ia,
         cons_ingress,
         cons_egress,
         exp_time: one.exp_time,
-        mac: one
-            .keys
-            .in_use()
-            .hop_mac(beta, timestamp, one.exp_time, cons_ingress, cons_egress),
+        mac: one.keys.in_use().hop_mac(&input),
     }
 }
 

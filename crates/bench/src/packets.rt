@@ -2,7 +2,7 @@
 
 use crate::input::Input;
 use anyhow::{Context, Result, bail};
-use hop_mac::{MacKey, hop_mac};
+use hop_mac::{HopInput, MacKey, hop_mac};
 use path_header::decode;
 use router_step::{Arrival, Outcome, step};
 use scion_topology::{RouterView, Topology};
@@ -33,7 +33,13 @@ pub(crate) fn macs(count: u32) -> u64 {
     let mut beta = 0u16;
     let mut sum = 0u64;
     for _ in 0..count {
-        let mac = key.hop_mac(beta, 1000, 63, 1, 2);
+        let mac = key.hop_mac(&HopInput {
+            beta,
+            timestamp: 1000,
+            exp_time: 63,
+            cons_ingress: 1,
+            cons_egress: 2,
+        });
         beta = u16::from_be_bytes([mac[0], mac[1]]);
         sum = sum.wrapping_add(u64::from(mac[5]));
     }

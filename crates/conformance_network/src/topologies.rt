@@ -1,6 +1,6 @@
 ghost use Rattle.std.specs.Prelude.{◌<◌};
 
-use hop_mac::hop_mac;
+use hop_mac::{HopInput, hop_mac};
 use isd_as::{IfId, IsdAs};
 use refusal::OrMemory;
 use scion_topology::{AsInfo, IfEntry, LinkKind, RouterView, Topology, TopologyFault};
@@ -21,6 +21,17 @@ pub(crate) fn entry(number: u16, kind: LinkKind, router: u8) -> IfEntry {
     }
 }
 
+/// A hop with this accumulator, between the interfaces 1 and 2.
+fn hop_with(beta: u16) -> HopInput {
+    HopInput {
+        beta,
+        timestamp: 100,
+        exp_time: 63,
+        cons_ingress: 1,
+        cons_egress: 2,
+    }
+}
+
 /// A view has the parts that it was built from, and accepts the authenticators of its key.
 #[test]
 fn shows(rt: HostRuntime) -> Result<(), Fail> {
@@ -32,8 +43,8 @@ fn shows(rt: HostRuntime) -> Result<(), Fail> {
     assert!(rt; view.entry(IfId(1)) == Some(&table[1]));
     assert!(rt; view.entry(IfId(3)).is_none());
     let mac = hop_mac(b"k", 7, 100, 63, 1, 2);
-    assert!(rt; view.authenticates(&mac, 7, 100, 63, IfId(1), IfId(2)));
-    assert!(rt; !view.authenticates(&mac, 8, 100, 63, IfId(1), IfId(2)));
+    assert!(rt; view.authenticates(&mac, &hop_with(7)));
+    assert!(rt; !view.authenticates(&mac, &hop_with(8)));
     Ok(())
 }
 
@@ -67,7 +78,7 @@ fn expect_view(rt: &impl Abort, view: &RouterView<'_>) {
     assert!(rt; view.entry(IfId(1)) == Some(&entry(1, LinkKind::Parent, 0)));
     assert!(rt; view.entry(IfId(2)) == Some(&entry(2, LinkKind::Child, 0)));
     let mac = hop_mac(b"a1", 7, 100, 63, 1, 2);
-    assert!(rt; view.authenticates(&mac, 7, 100, 63, IfId(1), IfId(2)));
+    assert!(rt; view.authenticates(&mac, &hop_with(7)));
 }
 
 /// The queries of the three ASes.

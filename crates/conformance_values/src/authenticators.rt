@@ -1,4 +1,4 @@
-use hop_mac::{MacKey, expiry, hmac_sha256, hop_is_live, hop_mac, mac_input, next_beta};
+use hop_mac::{HopInput, MacKey, expiry, hmac_sha256, hop_is_live, hop_mac, mac_input, next_beta};
 
 /// HMAC-SHA-256 by test cases 1 to 4 of RFC 4231, with the key as bytes and as a [`MacKey`].
 #[test]
@@ -59,7 +59,14 @@ fn hops(rt: HostRuntime) {
     assert_eq!(rt; next_beta(0x1234, &[0xab, 0xcd, 0, 0, 0, 0]), 0xb9f9);
     let mac = [0x11, 0x0e, 0x4c, 0x1d, 0x3d, 0xad];
     assert_eq!(rt; hop_mac(b"k", 0xb396, 100, 63, 2, 0), mac);
-    assert_eq!(rt; MacKey::new(b"k").hop_mac(0xb396, 100, 63, 2, 0), mac);
+    let hop = HopInput {
+        beta: 0xb396,
+        timestamp: 100,
+        exp_time: 63,
+        cons_ingress: 2,
+        cons_egress: 0,
+    };
+    assert_eq!(rt; MacKey::new(b"k").hop_mac(&hop), mac);
 }
 
 /// Hops with timestamp 1000, at the last second at which they are live and at the one after it.

@@ -2,7 +2,7 @@ ghost use Rattle.std.specs.Prelude.{◌≡◌, ⊤, ◌≤◌, ◌++◌, length,
 ghost use Rattle.hop_mac.specs.Hmac.{hmac_under, masked_bytes, padded_key};
 ghost use Rattle.hop_mac.specs.Hop.{authenticator_under};
 
-use crate::hop::mac_input;
+use crate::hop::HopInput;
 use sha2::{Digest, Sha256};
 use std::alloc::AllocError;
 use std::marker::Model;
@@ -82,19 +82,12 @@ impl MacKey {
     }
 
     /// The authenticator of a hop under this key, as [`hop_mac`](crate::hop_mac) returns it.
-    pub fn hop_mac(
-        &self,
-        beta: u16,
-        timestamp: u32,
-        exp_time: u8,
-        cons_ingress: u16,
-        cons_egress: u16,
-    ) -> [u8; 6]
+    pub fn hop_mac(&self, hop: &HopInput) -> [u8; 6]
         ensures { result
-            ≡ authenticator_under self.now beta timestamp exp_time cons_ingress cons_egress }
+            ≡ authenticator_under self.now hop.now.beta hop.now.timestamp hop.now.exp_time
+            hop.now.cons_ingress hop.now.cons_egress }
     {
-        let input = mac_input(beta, timestamp, exp_time, cons_ingress, cons_egress);
-        first_six(&self.mac(input.as_slice()))
+        first_six(&self.mac(hop.bytes().as_slice()))
     }
 }
 

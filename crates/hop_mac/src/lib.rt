@@ -13,6 +13,6 @@ pub mod laws;
 mod lifetime;
 
 pub use hmac::hmac_sha256;
-pub use hop::{hop_mac, mac_input, next_beta};
+pub use hop::{HopInput, hop_mac, mac_input, next_beta};
 pub use key::MacKey;
 pub use lifetime::{expiry, hop_is_live};

@@ -2,6 +2,8 @@
 //!
 //! [`step`](crate::step) makes them in their order; a display of a packet calls them one by one.
 
+#![tactic(auto, unfolding(crate::specs::Step::passes))]
+
 ghost use Rattle.std.specs.Prelude.{◌≡◌};
 ghost use Rattle.router_step.specs.Place.{is_over_link};
 ghost use Rattle.router_step.specs.Checks.{has_no_single, is_start_right, is_owned, way_in_fits, is_hop_live, is_mac_right, source_fits, destination_fits, may_follow, kinds_fit};
@@ -10,7 +12,7 @@ ghost use Rattle.router_step.specs.Step.{passes};
 use crate::arrival::Arrival;
 use crate::fault::Refusal;
 use crate::place::way_in;
-use hop_mac::hop_is_live;
+use hop_mac::{HopInput, hop_is_live};
 use isd_as::{IfId, IsdAs};
 use path_header::{HopField, InfoField, SegLens};
 use scion_topology::{LinkKind, RouterView};
@@ -75,21 +77,24 @@ pub fn is_hop_live(now: u32, info: &InfoField, hop: &HopField) -> bool
 }
 
 /// Whether the hop's authenticator is right under the info field's accumulator and an accepted key.
+// Inlined, as all between it and the key: a router's turn then keeps the hop in registers.
+#[inline(always)]
 pub fn is_mac_right(view: &RouterView<'_>, info: &InfoField, hop: &HopField) -> bool
     ensures { result ≡ is_mac_right view.now info.now hop.now }
 {
-    view.authenticates(
-        &hop.mac,
-        info.seg_id,
-        info.timestamp,
-        hop.exp_time,
-        hop.cons_ingress,
-        hop.cons_egress,
-    )
+    let input = HopInput {
+        beta: info.seg_id,
+        timestamp: info.timestamp,
+        exp_time: hop.exp_time,
+        cons_ingress: hop.cons_ingress.number(),
+        cons_egress: hop.cons_egress.number(),
+    };
+    view.authenticates(&hop.mac, &input)
 }
 
 /// Checks that the hop is live and that its authenticator is right.
-#[tactic(auto, unfolding(crate::specs::Step::passes))]
+// Inlined, as `is_mac_right`.
+#[inline(always)]
 pub(crate) fn pass(
     view: &RouterView<'_>,
     now: u32,

@@ -6,7 +6,7 @@ ghost use Rattle.hop_mac.specs.Hop.{authenticator};
 ghost use Rattle.scion_ffi.specs.Authenticator.{IsMacAnswered};
 
 use crate::answer::{DONE, ScionAnswer, plain, view_answer};
-use isd_as::IfId;
+use hop_mac::HopInput;
 use scion_topology::Key;
 
 /// Writes the authenticator of a hop of these values under this key to `mac`.
@@ -30,12 +30,12 @@ pub extern "C" fn scion_hop_mac(
         Ok(key) => key,
         Err(fault) => return view_answer(fault),
     };
-    *mac = key.hop_mac(
+    *mac = key.hop_mac(&HopInput {
         beta,
         timestamp,
         exp_time,
-        IfId(cons_ingress),
-        IfId(cons_egress),
-    );
+        cons_ingress,
+        cons_egress,
+    });
     plain(DONE)
 }

@@ -7,8 +7,7 @@ ghost use Rattle.scion_topology.specs.Keys.{accepted_keys, is_key, key_from, key
 
 use crate::fault::TopologyFault;
 use arrayvec::ArrayVec;
-use hop_mac::MacKey;
-use isd_as::IfId;
+use hop_mac::{HopInput, MacKey};
 use std::marker::Model;
 use std::mem;
 
@@ -62,21 +61,13 @@ impl Key {
         &self.bytes
     }
 
-    /// The authenticator of a hop of these values under this key.
-    pub fn hop_mac(
-        &self,
-        beta: u16,
-        timestamp: u32,
-        exp_time: u8,
-        cons_ingress: IfId,
-        cons_egress: IfId,
-    ) -> [u8; 6]
-        ensures { result ≡ authenticator self.now beta timestamp exp_time cons_ingress cons_egress }
+    /// The authenticator of a hop under this key.
+    pub fn hop_mac(&self, hop: &HopInput) -> [u8; 6]
+        ensures { result
+            ≡ authenticator self.now hop.now.beta hop.now.timestamp hop.now.exp_time
+            hop.now.cons_ingress hop.now.cons_egress }
     {
-        let ingress = cons_ingress.number();
-        let egress = cons_egress.number();
-        self.ready
-            .hop_mac(beta, timestamp, exp_time, ingress, egress)
+        self.ready.hop_mac(hop)
     }
 }
 
@@ -145,29 +136,20 @@ impl Keys {
         self.previous = Some(mem::replace(&mut self.current, key));
     }
 
-    /// Whether `mac` is the authenticator of a hop of these values under one of the keys. The key
-    /// before is tried only if the key in use does not fit.
-    pub fn authenticate(
-        &self,
-        mac: &[u8; 6],
-        beta: u16,
-        timestamp: u32,
-        exp_time: u8,
-        cons_ingress: IfId,
-        cons_egress: IfId,
-    ) -> bool
+    /// Whether `mac` is the authenticator of this hop under one of the keys. The key before is
+    /// tried only if the key in use does not fit.
+    // Inlined, as `RouterView::authenticates`.
+    #[inline(always)]
+    pub fn authenticate(&self, mac: &[u8; 6], hop: &HopInput) -> bool
         ensures { result ≡ list_any (λ key. bytes_eq mac.now
-            (authenticator key beta timestamp exp_time cons_ingress cons_egress)) self.now }
+            (authenticator key hop.now.beta hop.now.timestamp hop.now.exp_time
+            hop.now.cons_ingress hop.now.cons_egress)) self.now }
     {
-        if *mac
-            == self
-                .current
-                .hop_mac(beta, timestamp, exp_time, cons_ingress, cons_egress)
-        {
+        if *mac == self.current.hop_mac(hop) {
             return true;
         }
         match &self.previous {
-            Some(key) => *mac == key.hop_mac(beta, timestamp, exp_time, cons_ingress, cons_egress),
+            Some(key) => *mac == key.hop_mac(hop),
             None => false,
         }
     }

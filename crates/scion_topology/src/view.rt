@@ -8,6 +8,7 @@ use crate::entry::IfEntry;
 use crate::fault::TopologyFault;
 use crate::keys::Keys;
 use crate::table::InterfaceTable;
+use hop_mac::HopInput;
 use isd_as::{IfId, IsdAs};
 use std::marker::Model;
 
@@ -147,25 +148,20 @@ impl<'a> RouterView<'a> {
         }
     }
 
-    /// Whether `mac` is the authenticator of a hop of these values under the key in use or the one
-    /// before it. That takes two compressions if it is right under the key in use or there is no
-    /// other key, and else four.
-    pub fn authenticates(
-        &self,
-        mac: &[u8; 6],
-        beta: u16,
-        timestamp: u32,
-        exp_time: u8,
-        cons_ingress: IfId,
-        cons_egress: IfId,
-    ) -> bool
+    /// Whether `mac` is the authenticator of this hop under the key in use or the one before it.
+    /// That takes two compressions if it is right under the key in use or there is no other key,
+    /// and else four.
+    // Inlined: a router's turn then keeps the hop in registers.
+    #[inline(always)]
+    pub fn authenticates(&self, mac: &[u8; 6], hop: &HopInput) -> bool
         ensures meaning { IsTrue result
-            ↔ IsAuthentic self.now mac.now beta timestamp exp_time cons_ingress cons_egress }
+            ↔ IsAuthentic self.now mac.now hop.now.beta hop.now.timestamp hop.now.exp_time
+            hop.now.cons_ingress hop.now.cons_egress }
         ensures test { result
-            ≡ is_authentic self.now mac.now beta timestamp exp_time cons_ingress cons_egress }
+            ≡ is_authentic self.now mac.now hop.now.beta hop.now.timestamp hop.now.exp_time
+            hop.now.cons_ingress hop.now.cons_egress }
     {
-        self.keys()
-            .authenticate(mac, beta, timestamp, exp_time, cons_ingress, cons_egress)
+        self.keys().authenticate(mac, hop)
     }
 
     /// Its keys.

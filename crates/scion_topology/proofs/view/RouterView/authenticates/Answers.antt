@@ -6,6 +6,6 @@ use Rattle.scion_topology.proofs.view.RouterView.authenticates.Goals as goal
 
 pub returns-clause-meaning : goal.returns-clause-meaning
 returns-clause-meaning c =
-    let passed : c.authenticate.result ≡ is_authentic c.args.self.now c.args.mac.now c.args.beta c.args.timestamp c.args.exp_time c.args.cons_ingress c.args.cons_egress =
+    let passed : c.authenticate.result ≡ is_authentic c.args.self.now c.args.mac.now c.args.hop.now.beta c.args.hop.now.timestamp c.args.hop.now.exp_time c.args.hop.now.cons_ingress c.args.hop.now.cons_egress =
     rw (← c.keys.ensures) c.authenticate.ensures in
-    meant_by_test c.args.self.now c.args.mac.now c.args.beta c.args.timestamp c.args.exp_time c.args.cons_ingress c.args.cons_egress c.authenticate.result passed
+    meant_by_test c.args.self.now c.args.mac.now c.args.hop.now.beta c.args.hop.now.timestamp c.args.hop.now.exp_time c.args.hop.now.cons_ingress c.args.hop.now.cons_egress c.authenticate.result passed
