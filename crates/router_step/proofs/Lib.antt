@@ -7,3 +7,4 @@ pub mod StepLaws
 pub mod Switched
 pub mod Computed
 pub mod Continuing
+pub mod Leaving

@@ -54,20 +54,3 @@ pub record IsFrame (packet addresses text rest : List ℕ) (header : HeaderValue
   pub whole : packet ≡ addresses ++ (text ++ rest)
   pub two : length addresses ≡ 16
   pub spells : SpellsHeader text header
-
--- the packet has a path header
-abbrev pub HasHeader : List ℕ → Type 0
-HasHeader packet =
-    (addresses : List ℕ) × ((text : List ℕ) × ((rest : List ℕ) × ((header : HeaderValue)
-    × IsFrame packet addresses text rest header)))
-
--- a step on a packet in these parts: the header's bytes are replaced by those of the new header, of
--- the same length; after a refusal the packet is as it was
-abbrev pub StepsFrame : (step : Result (Outcome × HeaderValue) Refusal)
-    (addresses text rest new : List ℕ) (result : Result Outcome Refusal) → Type 0
-StepsFrame (Ok stepped) addresses text rest new result =
-    (result ≡ Ok stepped.0)
-    × ((other : List ℕ) × ((length other ≡ length text)
-    × IsFrame new addresses other rest stepped.1))
-StepsFrame (Err e) addresses text rest new result =
-    (result ≡ Err e) × (new ≡ addresses ++ (text ++ rest))

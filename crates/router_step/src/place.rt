@@ -1,28 +1,31 @@
 //! The place of a packet on its path: the fields there, and the changes that a step makes.
 
-ghost use Rattle.std.specs.Prelude.{◌≡◌, ◌+◌, ◌<◌, length, if◌then◌else◌};
+ghost use Rattle.std.specs.Prelude.{◌≡◌, ℕ, ◌+◌, ◌<◌, true, false, length};
 ghost use Rattle.path_header.specs.Borrowed.{value_of, rest_of};
-ghost use Rattle.router_step.specs.Place.{current_info, current_hop, way_in, way_out, with_seg_id, seg_id_on_arrival, header_on_arrival, moved_on, seg_id_on_leaving, header_on_leaving};
+ghost use Rattle.router_step.specs.Place.{way_in, way_out, with_seg_id, seg_id_on_arrival, moved_on, seg_id_on_leaving, header_on_leaving};
+ghost use Rattle.router_step.specs.inner.Place.{here_in};
 
 use crate::arrival::Arrival;
 use crate::outcome::Outcome;
 use hop_mac::next_beta;
 use isd_as::IfId;
-use path_header::{HeaderMut, HopField, InfoField};
+use path_header::{HeaderMut, HopField, InfoField, SegLens};
 
-/// The current info field.
-pub(crate) fn info_at(header: &HeaderMut<'_>) -> InfoField
-    ensures field { result ≡ current_info (value_of header.now) }
-    ensures within { (value_of header.now).curr_inf < length (value_of header.now).infos }
-{
-    header.current_info()
-}
-
-/// The current hop field.
-pub(crate) fn hop_at(header: &HeaderMut<'_>) -> HopField
-    ensures { result ≡ current_hop (value_of header.now) }
-{
-    header.current_hop()
+/// The place of a packet on its path, and the fields there: what a router reads of its header.
+#[derive(Clone, Copy, Debug, PartialEq, Eq)]
+pub(crate) struct Here {
+    /// Whether the path came to this segment by a switch in this AS.
+    pub(crate) switched: bool,
+    /// The number of hop fields of each segment.
+    pub(crate) lens: SegLens,
+    /// The index of the info field.
+    pub(crate) segment: usize,
+    /// The index of the hop field.
+    pub(crate) place: usize,
+    /// The info field; that of the segment by which the packet came has the accumulator on arrival.
+    pub(crate) info: InfoField,
+    /// The hop field.
+    pub(crate) hop: HopField,
 }
 
 /// The interface by which a packet on this segment enters the hop's AS.
@@ -70,94 +73,75 @@ fn seg_id_on_leaving(info: &InfoField, hop: &HopField) -> u16
     }
 }
 
-/// The current info field after the arrival.
-pub(crate) fn info_on_arrival(arrival: &Arrival, header: &HeaderMut<'_>) -> InfoField
-    ensures { result ≡ current_info (header_on_arrival arrival.now (value_of header.now)) }
+/// The first place of the next segment, for a packet at the last one of its segment.
+pub(crate) fn in_next_segment(here: &Here, header: &HeaderMut<'_>) -> Here
+    requires infos { here.now.segment + 1 < length (value_of header.now).infos }
+    requires hops { here.now.place + 1 < length (value_of header.now).hops }
+    ensures { (seg_id : ℕ) → here.now ≡ here_in false (with_seg_id (value_of header.now) seg_id)
+        → result ≡ here_in true (moved_on true (with_seg_id (value_of header.now) seg_id)) }
 {
-    let mut info = info_at(header);
-    info.seg_id = seg_id_on_arrival(arrival, &info, &hop_at(header));
-    info
-}
-
-/// The info field with which the packet leaves, after the arrival and a switch if there is one.
-pub(crate) fn info_to_leave(arrival: &Arrival, switched: bool, header: &HeaderMut<'_>) -> InfoField
-    requires { let value = value_of header.now
-        in value.curr_inf + (if switched then 1 else 0) < length value.infos }
-    ensures { result
-        ≡ current_info (moved_on switched (header_on_arrival arrival.now (value_of header.now))) }
-{
-    if switched {
-        header.info(header.curr_inf() + 1)
-    } else {
-        info_on_arrival(arrival, header)
+    header.known();
+    Here {
+        switched: true,
+        lens: here.lens,
+        segment: here.segment + 1,
+        place: here.place + 1,
+        info: header.info(here.segment + 1),
+        hop: header.hop(here.place + 1),
     }
 }
 
-/// The hop field with which the packet leaves, after a switch if there is one.
-pub(crate) fn hop_to_leave(switched: bool, header: &HeaderMut<'_>) -> HopField
-    requires { let value = value_of header.now
-        in value.curr_hf + (if switched then 1 else 0) < length value.hops }
-    ensures { result ≡ current_hop (moved_on switched (value_of header.now)) }
-{
-    if switched {
-        header.hop(header.curr_hf() + 1)
-    } else {
-        hop_at(header)
-    }
-}
-
-/// Sets the accumulator of the current info field.
-fn write_seg_id(seg_id: u16, header: &mut HeaderMut<'_>)
+/// Sets the accumulator of the current info field, which has this index.
+fn write_seg_id(segment: usize, seg_id: u16, header: &mut HeaderMut<'_>)
+    requires { segment ≡ (value_of header.old).curr_inf }
     ensures value { value_of header.new ≡ with_seg_id (value_of header.old) seg_id }
     ensures rest { rest_of header.new ≡ rest_of header.old }
     ensures same_reference { header.new.bytes.ghost_name ≡ header.old.bytes.ghost_name }
 {
-    let info = header.curr_inf();
-    header.set_seg_id(info, seg_id);
+    header.known();
+    header.set_seg_id(segment, seg_id);
 }
 
 /// Sets the accumulator on arrival.
-pub(crate) fn write_arrival(arrival: &Arrival, header: &mut HeaderMut<'_>)
-    ensures value { value_of header.new ≡ header_on_arrival arrival.now (value_of header.old) }
+pub(crate) fn write_arrival(here: &Here, header: &mut HeaderMut<'_>)
+    requires { here.now.segment ≡ (value_of header.old).curr_inf }
+    ensures value { value_of header.new ≡ with_seg_id (value_of header.old) here.now.info.seg_id }
     ensures rest { rest_of header.new ≡ rest_of header.old }
     ensures same_reference { header.new.bytes.ghost_name ≡ header.old.bytes.ghost_name }
 {
-    let seg_id = seg_id_on_arrival(arrival, &info_at(header), &hop_at(header));
-    write_seg_id(seg_id, header);
+    write_seg_id(here.segment, here.info.seg_id, header);
 }
 
-/// Goes on to the next segment, if there is a switch.
-pub(crate) fn write_switch(switched: bool, header: &mut HeaderMut<'_>)
-    requires infos { let value = value_of header.old
-        in value.curr_inf + (if switched then 1 else 0) < length value.infos }
-    requires hops { let value = value_of header.old
-        in value.curr_hf + (if switched then 1 else 0) < length value.hops }
-    ensures value { value_of header.new ≡ moved_on switched (value_of header.old) }
+/// Goes on to the place from which the packet leaves.
+pub(crate) fn write_place(there: &Here, header: &mut HeaderMut<'_>)
+    requires infos { there.now.segment < length (value_of header.old).infos }
+    requires hops { there.now.place < length (value_of header.old).hops }
+    ensures value { value_of header.new
+        ≡ record (value_of header.old) {
+          curr_inf = there.now.segment;
+          curr_hf = there.now.place;
+        } }
     ensures rest { rest_of header.new ≡ rest_of header.old }
     ensures same_reference { header.new.bytes.ghost_name ≡ header.old.bytes.ghost_name }
 {
-    if switched {
-        let segment = header.curr_inf() + 1;
-        let hop = header.curr_hf() + 1;
-        header.set_indices(segment, hop);
-    }
+    header.set_indices(there.segment, there.place);
 }
 
 /// If the packet leaves over a link: sets the accumulator of the next hop, and goes on to its hop
 /// field.
-pub(crate) fn write_outcome(outcome: &Outcome, header: &mut HeaderMut<'_>)
-    requires { (value_of header.old).curr_hf + 1 < length (value_of header.old).hops }
+pub(crate) fn write_outcome(outcome: &Outcome, there: &Here, header: &mut HeaderMut<'_>)
+    requires there { there.now ≡ here_in there.now.switched (value_of header.old) }
+    requires more { (value_of header.old).curr_hf + 1 < length (value_of header.old).hops }
     ensures value { value_of header.new ≡ header_on_leaving outcome.now (value_of header.old) }
     ensures rest { rest_of header.new ≡ rest_of header.old }
     ensures same_reference { header.new.bytes.ghost_name ≡ header.old.bytes.ghost_name }
 {
     match *outcome {
         Outcome::ToLink(_) => {
-            let seg_id = seg_id_on_leaving(&info_at(header), &hop_at(header));
-            let info = header.curr_inf();
-            let hop = header.curr_hf() + 1;
-            header.set_indices(info, hop);
-            write_seg_id(seg_id, header);
+            let seg_id = seg_id_on_leaving(&there.info, &there.hop);
+            header.known();
+            header.set_indices(there.segment, there.place + 1);
+            write_seg_id(there.segment, seg_id, header);
         }
         Outcome::ToRouter(_) | Outcome::Deliver => {}
     }

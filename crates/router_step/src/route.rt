@@ -1,12 +1,15 @@
 //! The step on the value of a path header: all checks first, then the changes.
 
+#![tactic(auto, unfolding(crate::specs::Step::admitted_header, crate::specs::Step::at_path_end, crate::specs::Step::switches_here, crate::specs::Step::chosen_outcome, crate::specs::Step::step_of,))]
+
 ghost use Rattle.std.specs.Prelude.{◌≡◌, ◌+◌, ◌<◌, true, false, length, if◌then◌else◌, OnOk, OnErr, IfOk};
-ghost use Rattle.path_header.specs.Value.{segment_at};
+ghost use Rattle.path_header.specs.Value.{HeaderValue, hop_count, segment_at};
 ghost use Rattle.path_header.specs.Borrowed.{bytes_of, value_of, rest_of};
 ghost use Rattle.refusal.specs.Refusal.{Gives};
-ghost use Rattle.router_step.specs.Place.{header_on_arrival};
-ghost use Rattle.router_step.specs.Checks.{has_no_single, indices_fit};
+ghost use Rattle.router_step.specs.Place.{current_info, current_hop, seg_id_on_arrival, header_on_arrival, moved_on};
+ghost use Rattle.router_step.specs.Checks.{has_no_single, indices_fit, is_last};
 ghost use Rattle.router_step.specs.Step.{admitted_header, at_path_end, switches_here, chosen_outcome, step_of};
+ghost use Rattle.router_step.specs.inner.Place.{here_in};
 ghost use Rattle.router_step.specs.inner.Step.{IsStepped};
 
 use crate::arrival::Arrival;
@@ -17,127 +20,133 @@ use crate::checks::{
 use crate::fault::Refusal;
 use crate::outcome::Outcome;
 use crate::place::{
-    hop_at, hop_to_leave, info_at, info_on_arrival, info_to_leave, way_out, write_arrival,
-    write_outcome, write_switch,
+    Here, in_next_segment, seg_id_on_arrival, way_out, write_arrival, write_outcome, write_place,
 };
 use isd_as::IsdAs;
-use path_header::{HeaderMut, HopField, InfoField};
+use path_header::{HeaderMut, SegLens};
 use scion_topology::RouterView;
 
 /// Whether the indices fit the segment lengths and the way in which the packet came.
-fn indices_fit(arrival: &Arrival, header: &HeaderMut<'_>) -> bool
-    ensures { result ≡ indices_fit arrival.now (value_of header.now) }
+fn indices_fit(arrival: &Arrival, lens: SegLens, segment: usize, place: usize) -> bool
+    requires { place < hop_count lens }
+    ensures { (header : HeaderValue) → header.lens ≡ lens → header.curr_inf ≡ segment
+        → header.curr_hf ≡ place → result ≡ indices_fit arrival.now header }
 {
-    let hop = header.curr_hf();
-    header.curr_inf() == header.segment_of(hop)
-        && has_no_single(header.seg_lens())
-        && is_start_right(arrival, hop)
+    segment == lens.segment_of(place) && has_no_single(lens) && is_start_right(arrival, place)
 }
 
-/// Steps 2 to 5: checks the indices, the way in, and that the hop is live and of this AS.
-#[tactic(auto, unfolding(crate::specs::Step::admitted_header))]
+/// Steps 2 to 5: reads where the packet is, and checks the indices, the way in, and that the hop is
+/// live and of this AS.
 fn admit(
     view: &RouterView<'_>,
     now: u32,
     arrival: &Arrival,
     header: &HeaderMut<'_>,
-) -> Result<(), Refusal>
+) -> Result<Here, Refusal>
     ensures exact { Gives (λ _. header_on_arrival arrival.now (value_of header.now)) result
         (admitted_header view.now now arrival.now (value_of header.now)) }
+    ensures here { IfOk result
+        (λ here. here ≡ here_in false (header_on_arrival arrival.now (value_of header.now))) }
+    ensures seg_id { let value = value_of header.now
+        in IfOk result (λ here. here.info.seg_id
+        ≡ seg_id_on_arrival arrival.now (current_info value) (current_hop value)) }
     ensures segment { let value = value_of header.now
         in OnOk result (value.curr_inf ≡ segment_at value.lens value.curr_hf) }
     ensures lens { OnOk result (has_no_single (value_of header.now).lens ≡ true) }
 {
-    if !indices_fit(arrival, header) {
+    let lens = header.seg_lens();
+    let segment = header.curr_inf();
+    let place = header.curr_hf();
+    header.known();
+    if !indices_fit(arrival, lens, segment, place) {
         return Err(Refusal::IndexMismatch);
     }
-    let hop = hop_at(header);
-    if !way_in_fits(view, arrival, &info_at(header), &hop) {
+    let mut info = header.info(segment);
+    let hop = header.hop(place);
+    if !way_in_fits(view, arrival, &info, &hop) {
         return Err(Refusal::WrongIngress);
     }
-    pass(view, now, &info_on_arrival(arrival, header), &hop)
+    info.seg_id = seg_id_on_arrival(arrival, &info, &hop);
+    pass(view, now, &info, &hop)?;
+    Ok(Here {
+        switched: false,
+        lens,
+        segment,
+        place,
+        info,
+        hop,
+    })
 }
 
-/// Steps 6 and 7: checks both addresses, and returns whether the packet is at the last hop of its
-/// path.
-#[tactic(auto, unfolding(crate::specs::Step::at_path_end))]
+/// Steps 6 and 7: checks both addresses of a packet that is at the last hop of its path, or is not.
 fn end(
     view: &RouterView<'_>,
     arrival: &Arrival,
     source: IsdAs,
     destination: IsdAs,
-    header: &HeaderMut<'_>,
-) -> Result<bool, Refusal>
-    ensures exact { result
-        ≡ at_path_end view.now arrival.now source destination
-        (header_on_arrival arrival.now (value_of header.now)) }
-    ensures more { let value = value_of header.now
-        in IfOk result (λ last. last ≡ false → value.curr_hf + 1 < length value.hops) }
+    last: bool,
+) -> Result<(), Refusal>
+    ensures { (header : HeaderValue) → is_last header ≡ last
+        → Gives (λ _. last) result
+        (at_path_end view.now arrival.now source destination header) }
 {
     if !source_fits(view, arrival, source) {
         return Err(Refusal::SourceAs);
     }
-    let last = header.curr_hf() + 1 == header.hop_count();
     if !destination_fits(view, destination, last) {
         return Err(Refusal::DestinationAs);
     }
-    Ok(last)
+    Ok(())
 }
 
-/// Step 9: returns whether the path switches to another segment here, after checking the hop there.
-#[tactic(auto, unfolding(crate::specs::Step::switches_here))]
+/// Step 9: returns the place from which the packet leaves. Where the path switches to another
+/// segment, that is the first place there, whose hop is checked too.
 fn switch(
     view: &RouterView<'_>,
     now: u32,
     arrival: &Arrival,
+    here: Here,
     header: &HeaderMut<'_>,
-) -> Result<bool, Refusal>
+) -> Result<Here, Refusal>
+    requires here { here ≡ here_in false (header_on_arrival arrival.now (value_of header.now)) }
     requires more { (value_of header.now).curr_hf + 1 < length (value_of header.now).hops }
     requires segment { let value = value_of header.now
         in value.curr_inf ≡ segment_at value.lens value.curr_hf }
     requires lens { has_no_single (value_of header.now).lens ≡ true }
-    ensures exact { result
-        ≡ switches_here view.now now arrival.now
-        (header_on_arrival arrival.now (value_of header.now)) }
+    ensures exact { Gives (λ there. there.switched) result
+        (switches_here view.now now arrival.now
+        (header_on_arrival arrival.now (value_of header.now))) }
+    ensures there { IfOk result (λ there. there ≡ here_in there.switched
+        (moved_on there.switched (header_on_arrival arrival.now (value_of header.now)))) }
     ensures infos { let value = value_of header.now
-        in IfOk result (λ has_switched.
-        value.curr_inf + (if has_switched then 1 else 0) < length value.infos) }
+        in IfOk result (λ there.
+        value.curr_inf + (if there.switched then 1 else 0) < length value.infos) }
     ensures hops { let value = value_of header.now
-        in IfOk result (λ has_switched.
-        value.curr_hf + (if has_switched then 1 else 0) + 1 < length value.hops) }
+        in IfOk result (λ there.
+        value.curr_hf + (if there.switched then 1 else 0) + 1 < length value.hops) }
 {
-    if header.segment_of(header.curr_hf() + 1) == header.curr_inf() {
-        return Ok(false);
+    header.known();
+    if here.lens.segment_of(here.place + 1) == here.segment {
+        return Ok(here);
     }
     if !is_over_link(arrival) {
         return Err(Refusal::SwitchInside);
     }
-    header.known();
-    pass(
-        view,
-        now,
-        &info_to_leave(arrival, true, header),
-        &hop_to_leave(true, header),
-    )?;
-    Ok(true)
+    let there = in_next_segment(&here, header);
+    pass(view, now, &there.info, &there.hop)?;
+    Ok(there)
 }
 
-/// Steps 10 to 13: chooses where the packet goes from this info and hop field.
-#[tactic(auto, unfolding(crate::specs::Step::chosen_outcome))]
-fn leave(
-    view: &RouterView<'_>,
-    arrival: &Arrival,
-    switched: bool,
-    info: &InfoField,
-    hop: &HopField,
-) -> Result<Outcome, Refusal>
-    ensures { result ≡ chosen_outcome view.now arrival.now switched info.now hop.now }
+/// Steps 10 to 13: chooses where the packet goes from this place.
+fn leave(view: &RouterView<'_>, arrival: &Arrival, there: &Here) -> Result<Outcome, Refusal>
+    ensures { result
+        ≡ chosen_outcome view.now arrival.now there.now.switched there.now.info there.now.hop }
 {
-    let interface = way_out(info, hop);
+    let interface = way_out(&there.info, &there.hop);
     let Some(out) = view.entry(interface) else {
         return Err(Refusal::UnknownEgress);
     };
-    if !kinds_fit(view, arrival, switched, out.kind) {
+    if !kinds_fit(view, arrival, there.switched, out.kind) {
         return Err(Refusal::LinkKinds);
     }
     if out.router != view.router() {
@@ -151,7 +160,6 @@ fn leave(
 
 /// One step on a path header in its bytes. After it they are the new header, or as they were if the
 /// packet is refused.
-#[tactic(auto, unfolding(crate::specs::Step::step_of))]
 pub(crate) fn step_header(
     view: &RouterView<'_>,
     now: u32,
@@ -163,22 +171,22 @@ pub(crate) fn step_header(
     ensures exact { let step = step_of view.now now arrival source destination (value_of header.old)
         in IsStepped step (value_of header.old) (value_of header.new) result }
     ensures refused { OnErr result (bytes_of header.new ≡ bytes_of header.old) }
-    ensures lens { (value_of header.new).lens ≡ (value_of header.old).lens }
     ensures rest { rest_of header.new ≡ rest_of header.old }
     ensures same_reference { header.new.bytes.ghost_name ≡ header.old.bytes.ghost_name }
 {
     let arrival = &arrival;
-    admit(view, now, arrival, header)?;
-    if end(view, arrival, source, destination, header)? {
-        write_arrival(arrival, header);
+    header.known();
+    let here = admit(view, now, arrival, header)?;
+    let last = here.place + 1 == here.lens.hop_count();
+    end(view, arrival, source, destination, last)?;
+    if last {
+        write_arrival(&here, header);
         return Ok(Outcome::Deliver);
     }
-    let switched = switch(view, now, arrival, header)?;
-    let info = info_to_leave(arrival, switched, header);
-    let hop = hop_to_leave(switched, header);
-    let outcome = leave(view, arrival, switched, &info, &hop)?;
-    write_arrival(arrival, header);
-    write_switch(switched, header);
-    write_outcome(&outcome, header);
+    let there = switch(view, now, arrival, here, header)?;
+    let outcome = leave(view, arrival, &there)?;
+    write_arrival(&here, header);
+    write_place(&there, header);
+    write_outcome(&outcome, &there, header);
     Ok(outcome)
 }
