@@ -73,7 +73,8 @@ TYPES = {
     "policy_expr": [
         (
             "PolicyFault",
-            "PolicyOption::parse_all OptionText::check_all Daemon::ask scion_paths scion_verify",
+            "PolicyOption::parse_all OptionText::check_all LawfulOptions::check Daemon::ask"
+            " scion_paths scion_verify",
             "`ask`",
         ),
         ("OptionFault", "Daemon::ask scion_paths", "`ask`"),

@@ -2,9 +2,7 @@
 use Rattle.std.proofs.Common.{◌≡◌, ℕ, suc, Bool, true, false, ◌&&◌, ◌+◌, ◌<◌, ◌≤◌, List, [], ◌∷◌, ◌++◌, length, get_or, drop, Result, Ok, Err, refl, sym, ap, subst, ◌∙◌, add-one, drop-cons}
 use Rattle.std.specs.Prelude.{IsOk, nat_le}
 use Rattle.std.proofs.lemmas.List.{append-nil, drop_all}
-use Rattle.refusal.specs.declared.fault.OrMemory.{OrMemory}
-use Rattle.refusal.specs.declared.fault.OrMemory.TheVariants.{Memory, Refused}
-use Rattle.refusal.specs.Refusal.{◌>>=◌, check, each, Answers, Fails, Reads}
+use Rattle.refusal.specs.Refusal.{◌>>=◌, check, each}
 use Rattle.policy_expr.specs.declared.option_fault.OptionFault.{OptionFault}
 use Rattle.policy_expr.specs.declared.option_fault.OptionFault.TheVariants.{OptionCount}
 use Rattle.policy_expr.specs.Options.{WeighedRules, OptionTexts, option_at, options_at}
@@ -36,11 +34,14 @@ read_stops : (texts : List OptionTexts) (i : ℕ) (text : OptionTexts) (fault : 
 read_stops texts i text fault front within at read so_far =
     sym so_far ∙ ap (with_front front) (from_here texts i text (Err fault) within at read)
 
-pub stops : {X : Type 0} (view : X → List WeighedRules) (texts : List OptionTexts) (i : ℕ) (text : OptionTexts) (front : List WeighedRules) (error : OrMemory OptionFault)
-    (result : Result X (OrMemory OptionFault)) → i < length texts → text ≡ get_or texts i text → Fails error (option_at text)
-    → with_front front (each option_at (drop i texts)) ≡ each option_at texts → result ≡ Err error → Reads view result (each option_at texts)
-stops view texts i text front Memory result within at read so_far is = rw is tt
-stops view texts i text front (Refused fault) result within at read so_far is = rw is (read_stops texts i text fault front within at read so_far)
+-- what is still to be read has no refusal, so the next text has none
+pub lawful_here : (texts : List OptionTexts) (i : ℕ) (text : OptionTexts) (front : List WeighedRules) → i < length texts → text ≡ get_or texts i text
+    → IsOk (each option_at texts) → with_front front (each option_at (drop i texts)) ≡ each option_at texts → IsOk (option_at text)
+lawful_here texts i text front within at ok so_far = here (option_at text) refl
+  where
+    here : (reading : Result WeighedRules OptionFault) → option_at text ≡ reading → IsOk (option_at text)
+    here (Ok option) is = subst (λ r. IsOk r) (sym is) refl
+    here (Err fault) is = absurd (let f : false ≡ true = subst (λ r. IsOk r) (read_stops texts i text fault front within at is so_far) ok in cc)
 
 pub read_all : (texts : List OptionTexts) (i : ℕ) (front : List WeighedRules) → length texts ≤ i → with_front front (each option_at (drop i texts)) ≡ each option_at texts → each option_at texts ≡ Ok front
 read_all texts i front past so_far =
@@ -55,14 +56,3 @@ by_count false texts ok = absurd cc
 pub options_are : (texts : List OptionTexts) → IsOk (options_at texts) → options_at texts ≡ each option_at texts
 unfolding options_at
 options_are texts ok = by_count (nat_le 1 (length texts) && nat_le (length texts) 16) texts ok
-
-answer_of : {X : Type 0} (view : X → List WeighedRules) (wanted : Result (List WeighedRules) OptionFault) (result : Result X (OrMemory OptionFault))
-    → IsOk wanted → Reads view result wanted → Answers view result wanted
-answer_of view wanted (Ok x) ok reads = reads
-answer_of view wanted (Err Memory) ok reads = ok
-answer_of view wanted (Err (Refused fault)) ok reads = reads
-
-pub judged_read : {X : Type 0} (view : X → List WeighedRules) (texts : List OptionTexts) (result : Result X (OrMemory OptionFault))
-    → IsOk (options_at texts) → Reads view result (each option_at texts) → Answers view result (options_at texts)
-judged_read view texts result ok reads =
-    answer_of view (options_at texts) result ok (subst (λ wanted. Reads view result wanted) (sym (options_are texts ok)) reads)

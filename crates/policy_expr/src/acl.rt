@@ -1,4 +1,4 @@
-ghost use Rattle.std.specs.Prelude.{◌≡◌, ◌↔◌, IfOk, IfErr, IsOk};
+ghost use Rattle.std.specs.Prelude.{◌≡◌, ◌↔◌, IfOk, IfErr, IsOk, Ok};
 ghost use Rattle.refusal.specs.Refusal.{Answers};
 ghost use Rattle.policy_expr.specs.Acl.{AllowsWalk, IsAcl, IsDenial, acl_at, is_bare};
 
@@ -72,6 +72,14 @@ impl<A: Allocator + Clone> Acl<A> {
         ensures { Answers (λ acl. acl) result (acl_at text.now) }
     {
         check_acl(text)?;
+        Ok(Acl::read_lawful(alloc, text)?)
+    }
+
+    /// The list of texts that were judged, and have no refusal.
+    pub(crate) fn read_lawful(alloc: A, text: &AclText) -> Result<Acl<A>, AllocError>
+        requires { IsOk (acl_at text.now) }
+        ensures { IfOk result (λ acl. acl_at text.now ≡ Ok acl) }
+    {
         let entries = read_entries(alloc, text.texts())?;
         Ok(Acl { entries })
     }

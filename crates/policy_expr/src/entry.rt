@@ -1,15 +1,17 @@
-ghost use Rattle.std.specs.Prelude.{◌≡◌, map};
+#![tactic(auto, unfolding(crate::specs::Acl::entry_at))]
+
+ghost use Rattle.std.specs.Prelude.{◌≡◌, map, IfOk, IsOk, Ok};
 ghost use Rattle.std.specs.Result.{result_map_both};
 ghost use Rattle.std.specs.String.{string_bytes};
-ghost use Rattle.refusal.specs.Refusal.{Reads, each, Judges};
+ghost use Rattle.refusal.specs.Refusal.{each, Judges};
 ghost use Rattle.policy_expr.specs.Acl.{acl_at, entry_at, signed_entry, is_bare, says_nothing, signed_at};
 
 use crate::acl::AclEntry;
 use crate::acl_text::AclText;
-use crate::fault::{PolicyError, PolicyFault};
+use crate::fault::PolicyFault;
 use crate::hop::{HopPred, Interfaces};
 use separators::text::{trim, trim_start};
-use std::alloc::Allocator;
+use std::alloc::{AllocError, Allocator};
 
 /// The largest number of entries of a list.
 pub const MAX_ACL_ENTRIES: usize = 256;
@@ -54,22 +56,26 @@ fn is_text_bare(text: &str) -> Result<bool, PolicyFault>
     }
 }
 
-/// The entries of texts, or the refusal of the first that can't be read.
+/// The entries of texts each of which can be read.
 pub(crate) fn read_entries<A: Allocator>(
     alloc: A,
     texts: &[String],
-) -> Result<Vec<AclEntry, A>, PolicyError>
-    ensures { Reads (λ entries. entries.items) result (each entry_at (map string_bytes texts.now)) }
+) -> Result<Vec<AclEntry, A>, AllocError>
+    requires { IsOk (each entry_at (map string_bytes texts.now)) }
+    ensures { IfOk result
+        (λ entries. each entry_at (map string_bytes texts.now) ≡ Ok entries.items) }
 {
-    let mut entries = Vec::new(alloc);
+    let mut entries = Vec::with_capacity(alloc, texts.len())?;
     for text in texts {
-        entries.push(read_entry(text.as_str())?)?;
+        let Ok(entry) = read_entry(text.as_str()) else {
+            unreachable!()
+        };
+        entries.push(entry)?;
     }
     Ok(entries)
 }
 
 /// The entry of a text.
-#[tactic(auto, unfolding(crate::specs::Acl::entry_at))]
 fn read_entry(text: &str) -> Result<AclEntry, PolicyFault>
     ensures { result ≡ entry_at text.now }
 {

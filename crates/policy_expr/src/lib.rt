@@ -36,7 +36,7 @@ pub use fault::{PolicyError, PolicyFault};
 pub use hop::{HopPred, Interfaces, WalkHop};
 pub use node::SeqNode;
 pub use option_fault::{OptionError, OptionFault};
-pub use options::{MAX_OPTIONS, OptionText, PolicyOption};
+pub use options::{LawfulOptions, MAX_OPTIONS, OptionText, PolicyOption};
 pub use owned_option::OwnedOptionText;
 pub use policy::{Policy, PolicyText};
 pub use sequence::Seq;

@@ -1,4 +1,6 @@
-ghost use Rattle.std.specs.Prelude.{◌≡◌, ◌↔◌, None, option_map, IsOk, IsTrue, IfErr, IfOk};
+#![tactic(auto, unfolding(crate::specs::Policy::policy_at))]
+
+ghost use Rattle.std.specs.Prelude.{◌≡◌, ◌↔◌, None, Ok, option_map, IsOk, IsTrue, IfErr, IfOk};
 ghost use Rattle.refusal.specs.Refusal.{Answers, if_there, Judges};
 ghost use Rattle.policy_expr.specs.Reading.{sequence_at};
 ghost use Rattle.policy_expr.specs.Acl.{acl_at};
@@ -60,13 +62,24 @@ impl<A: Allocator + Clone> Policy<A> {
     ///
     /// The refusals are those of [`Acl::parse`], then those of [`Seq::parse`]. Memory can run out
     /// only if none of them is due.
-    #[tactic(auto, unfolding(crate::specs::Policy::policy_at))]
     pub fn parse(alloc: A, text: &PolicyText<'_>) -> Result<Policy<A>, PolicyError>
         ensures { Answers (λ p. p) result
             (policy_at (option_map (λ t. t.now) text.now.acl)
             (option_map (λ t. t.now) text.now.sequence)) }
     {
         check_policy(text)?;
+        Ok(Policy::read_lawful(alloc, text)?)
+    }
+
+    /// The policy of texts that were judged, and have no refusal.
+    pub(crate) fn read_lawful(alloc: A, text: &PolicyText<'_>) -> Result<Policy<A>, AllocError>
+        requires { IsOk
+            (policy_at (option_map (λ t. t.now) text.now.acl)
+            (option_map (λ t. t.now) text.now.sequence)) }
+        ensures { IfOk result (λ p.
+            policy_at (option_map (λ t. t.now) text.now.acl)
+            (option_map (λ t. t.now) text.now.sequence) ≡ Ok p) }
+    {
         let acl = read_acl(alloc.clone()?, text.acl)?;
         let sequence = read_sequence(alloc, unblank(text.sequence))?;
         Ok(Policy { acl, sequence })
@@ -126,7 +139,6 @@ impl<A: Allocator + Clone> Policy<A> {
 }
 
 /// The first refusal of a policy's texts. Takes no memory.
-#[tactic(auto, unfolding(crate::specs::Policy::policy_at))]
 pub(crate) fn check_policy(text: &PolicyText<'_>) -> Result<(), PolicyFault>
     ensures { Judges result
         (policy_at (option_map (λ t. t.now) text.now.acl)
@@ -160,12 +172,14 @@ fn check_sequence(text: Option<&str>) -> Result<(), PolicyFault>
 fn read_acl<A: Allocator + Clone>(
     alloc: A,
     text: Option<&AclText>,
-) -> Result<Option<Acl<A>>, PolicyError>
-    ensures { Answers (λ acl. acl) result (if_there acl_at (option_map (λ t. t.now) text.entry)) }
+) -> Result<Option<Acl<A>>, AllocError>
+    requires { IsOk (if_there acl_at (option_map (λ t. t.now) text)) }
+    ensures { IfOk result
+        (λ acl. if_there acl_at (option_map (λ t. t.now) text.entry) ≡ Ok acl) }
 {
     match text {
         None => Ok(None),
-        Some(text) => Ok(Some(Acl::parse(alloc, text)?)),
+        Some(text) => Ok(Some(Acl::read_lawful(alloc, text)?)),
     }
 }
 
@@ -173,13 +187,14 @@ fn read_acl<A: Allocator + Clone>(
 fn read_sequence<A: Allocator + Clone>(
     alloc: A,
     text: Option<&str>,
-) -> Result<Option<Seq<A>>, PolicyError>
-    ensures { Answers (λ sequence. sequence) result
-        (if_there sequence_at (option_map (λ t. t.now) text.entry)) }
+) -> Result<Option<Seq<A>>, AllocError>
+    requires { IsOk (if_there sequence_at (option_map (λ t. t.now) text)) }
+    ensures { IfOk result
+        (λ sequence. if_there sequence_at (option_map (λ t. t.now) text.entry) ≡ Ok sequence) }
 {
     match text {
         None => Ok(None),
-        Some(text) => Ok(Some(Seq::parse(alloc, text)?)),
+        Some(text) => Ok(Some(Seq::read_lawful(alloc, text)?)),
     }
 }
 

@@ -1,3 +1,5 @@
+#![tactic(auto, unfolding(crate::specs::Predicate::ia_at, crate::specs::Predicate::interfaces_at, crate::specs::Predicate::predicate_at))]
+
 ghost use Rattle.std.specs.Prelude.{◌≡◌, IfOk, Ok};
 ghost use Rattle.policy_expr.specs.declared.hop.HopPred.{HopPred};
 ghost use Rattle.policy_expr.specs.Predicate.{SpellsPredicate, interface_number_at, interfaces_at, one_interface, ia_at, predicate_at, two_interfaces};
@@ -26,7 +28,6 @@ impl HopPred {
 }
 
 /// Reads a predicate.
-#[tactic(auto, unfolding(crate::specs::Predicate::predicate_at))]
 fn read_predicate(text: &str) -> Result<HopPred, PolicyFault>
     ensures { result ≡ predicate_at text.now }
 {
@@ -44,7 +45,6 @@ fn read_predicate(text: &str) -> Result<HopPred, PolicyFault>
 }
 
 /// Reads an address, or an ISD alone.
-#[tactic(auto, unfolding(crate::specs::Predicate::ia_at))]
 fn read_ia(text: &str) -> Result<IsdAs, PolicyFault>
     ensures { result ≡ ia_at text.now }
 {
@@ -65,7 +65,6 @@ fn any_as() -> AsNumber
 }
 
 /// Reads one or two interfaces.
-#[tactic(auto, unfolding(crate::specs::Predicate::interfaces_at))]
 fn read_interfaces(text: &str) -> Result<Interfaces, PolicyFault>
     ensures { result ≡ interfaces_at text.now }
 {

@@ -1,13 +1,10 @@
-ghost use Rattle.std.specs.Prelude.{◌≡◌, [], ◌∷◌, List, None, Some, IfOk, OnOk, option_map};
-ghost use Rattle.refusal.specs.Refusal.{Reads};
+ghost use Rattle.std.specs.Prelude.{◌≡◌, [], ◌∷◌, List, None, Some, Ok, IfOk, IsOk, OnOk, option_map};
 ghost use Rattle.policy_expr.specs.declared.token.Token.{Token};
 ghost use Rattle.policy_expr.specs.declared.token.Token.TheVariants as signs;
 ghost use Rattle.policy_expr.specs.Language.{either, followed, tree_of};
 ghost use Rattle.policy_expr.specs.Reading.{item_behind, new_level, read_rest, whole};
-ghost use Rattle.policy_expr.specs.inner.Views.{GoesOn, gives, gives_behind, level_of, remaining};
+ghost use Rattle.policy_expr.specs.inner.Views.{GoesOn, CanGoOn, gives, gives_behind, level_of, remaining};
 
-use crate::counting::MAX_NESTING;
-use crate::fault::{PolicyError, PolicyFault};
 use crate::node::{SeqNode, box_both, box_node};
 use crate::room::Tokens;
 use crate::token::Token;
@@ -83,7 +80,8 @@ fn join_before<A: Allocator + Clone>(
     }
 }
 
-/// The state of reading a sequence's text. After an error it is of no use.
+/// The state of reading the text of a sequence, which was judged and has no refusal. After an error
+/// it is of no use.
 #[derive(Drop)]
 pub(crate) struct Reader<A: Allocator> {
     alloc: A,
@@ -108,8 +106,9 @@ impl<A: Allocator + Clone> Reader<A> {
     }
 
     /// Reads all these tokens.
-    fn read(&mut self, all: Tokens<'_>) -> Result<SeqNode<A>, PolicyError>
-        ensures { Reads (λ node. tree_of node) result (gives self.old (remaining all.entry)) }
+    fn read(&mut self, all: Tokens<'_>) -> Result<SeqNode<A>, AllocError>
+        requires { IsOk (gives self.old (remaining all)) }
+        ensures { IfOk result (λ node. gives self.old (remaining all.entry) ≡ Ok (tree_of node)) }
     {
         let mut rest = all;
         while let Some((token, behind)) = rest.next() {
@@ -120,8 +119,9 @@ impl<A: Allocator + Clone> Reader<A> {
     }
 
     /// Takes one more token.
-    fn take(&mut self, token: Token) -> Result<(), PolicyError>
-        ensures { GoesOn (λ rest. gives self.old (token ∷ rest)) self.new result }
+    fn take(&mut self, token: Token) -> Result<(), AllocError>
+        requires { CanGoOn (λ rest. gives self.old (token ∷ rest)) }
+        ensures { OnOk result (GoesOn (λ rest. gives self.old (token ∷ rest)) self.new) }
     {
         match self.item.take() {
             None => self.begin(token),
@@ -130,9 +130,10 @@ impl<A: Allocator + Clone> Reader<A> {
     }
 
     /// Takes a token where an item has to come.
-    fn begin(&mut self, token: Token) -> Result<(), PolicyError>
-        requires { self.old.item ≡ None }
-        ensures { GoesOn (λ rest. gives self.old (token ∷ rest)) self.new result }
+    fn begin(&mut self, token: Token) -> Result<(), AllocError>
+        requires none { self.old.item ≡ None }
+        requires lawful { CanGoOn (λ rest. gives self.old (token ∷ rest)) }
+        ensures { OnOk result (GoesOn (λ rest. gives self.old (token ∷ rest)) self.new) }
     {
         match token {
             Token::Hop(pred) => {
@@ -140,28 +141,28 @@ impl<A: Allocator + Clone> Reader<A> {
                 Ok(())
             }
             Token::Open => self.open(),
-            _ => Err(PolicyError::Refused(PolicyFault::BadPredicate)),
+            _ => unreachable!(),
         }
     }
 
     /// Takes a `(`.
-    fn open(&mut self) -> Result<(), PolicyError>
-        requires { self.old.item ≡ None }
-        ensures { GoesOn (λ rest. gives self.old (signs.Open ∷ rest)) self.new result }
+    fn open(&mut self) -> Result<(), AllocError>
+        requires none { self.old.item ≡ None }
+        requires lawful { CanGoOn (λ rest. gives self.old (signs.Open ∷ rest)) }
+        ensures { OnOk result (GoesOn (λ rest. gives self.old (signs.Open ∷ rest)) self.new) }
     {
-        if self.levels.len() >= MAX_NESTING {
-            return Err(PolicyError::Refused(PolicyFault::TooDeep));
-        }
         let outer = mem::replace(&mut self.level, Level::new());
         self.levels.push(outer)?;
         Ok(())
     }
 
     /// Takes a token after this item.
-    fn go_on(&mut self, item: SeqNode<A>, token: Token) -> Result<(), PolicyError>
-        requires { self.old.item ≡ None }
-        ensures { GoesOn (λ rest. gives_behind self.old (Some (tree_of item)) (token ∷ rest))
-            self.new result }
+    fn go_on(&mut self, item: SeqNode<A>, token: Token) -> Result<(), AllocError>
+        requires none { self.old.item ≡ None }
+        requires lawful { CanGoOn (λ rest. gives_behind self.old (Some (tree_of item))
+            (token ∷ rest)) }
+        ensures { OnOk result
+            (GoesOn (λ rest. gives_behind self.old (Some (tree_of item)) (token ∷ rest)) self.new) }
     {
         match token {
             Token::Optional => {
@@ -182,7 +183,7 @@ impl<A: Allocator + Clone> Reader<A> {
                 Ok(())
             }
             Token::Close => self.close(item),
-            Token::Other => Err(PolicyError::Refused(PolicyFault::BadPredicate)),
+            Token::Other => unreachable!(),
             Token::Hop(_) | Token::Open => {
                 let before = self.level.whole(&self.alloc, item)?;
                 self.level.before = Some(before);
@@ -192,41 +193,41 @@ impl<A: Allocator + Clone> Reader<A> {
     }
 
     /// Takes a `)` after this item.
-    fn close(&mut self, item: SeqNode<A>) -> Result<(), PolicyError>
-        ensures { GoesOn (λ rest. gives_behind self.old (Some (tree_of item)) (signs.Close ∷ rest))
-            self.new result }
+    fn close(&mut self, item: SeqNode<A>) -> Result<(), AllocError>
+        requires { CanGoOn (λ rest. gives_behind self.old (Some (tree_of item))
+            (signs.Close ∷ rest)) }
+        ensures { OnOk result
+            (GoesOn (λ rest. gives_behind self.old (Some (tree_of item)) (signs.Close ∷ rest))
+            self.new) }
     {
         self.item = Some(self.level.whole(&self.alloc, item)?);
-        match self.levels.pop() {
-            None => Err(PolicyError::Refused(PolicyFault::Unbalanced)),
-            Some(outer) => {
-                self.level = outer;
-                Ok(())
-            }
-        }
+        let Some(outer) = self.levels.pop() else {
+            unreachable!()
+        };
+        self.level = outer;
+        Ok(())
     }
 
-    /// The tree, if the text ends here.
-    fn end(&mut self) -> Result<SeqNode<A>, PolicyError>
-        ensures { Reads (λ node. tree_of node) result (gives self.old []) }
+    /// The tree, where the text ends.
+    fn end(&mut self) -> Result<SeqNode<A>, AllocError>
+        requires { IsOk (gives self.old []) }
+        ensures { IfOk result (λ node. gives self.old [] ≡ Ok (tree_of node)) }
     {
-        match self.item.take() {
-            None => Err(PolicyError::Refused(PolicyFault::UnexpectedEnd)),
-            Some(_) if !self.levels.is_empty() => {
-                Err(PolicyError::Refused(PolicyFault::Unbalanced))
-            }
-            Some(item) => Ok(self.level.whole(&self.alloc, item)?),
-        }
+        let Some(item) = self.item.take() else {
+            unreachable!()
+        };
+        self.level.whole(&self.alloc, item)
     }
 }
 
-/// The tree of these tokens, of any size.
+/// The tree of tokens that were judged to be those of a sequence.
 pub(crate) fn read_tree<A: Allocator + Clone>(
     alloc: A,
     all: Tokens<'_>,
-) -> Result<SeqNode<A>, PolicyError>
-    ensures { Reads (λ node. tree_of node) result
-        (read_rest [] new_level None (remaining all.entry)) }
+) -> Result<SeqNode<A>, AllocError>
+    requires { IsOk (read_rest [] new_level None (remaining all)) }
+    ensures { IfOk result
+        (λ node. read_rest [] new_level None (remaining all.entry) ≡ Ok (tree_of node)) }
 {
     let mut reader = Reader::new(alloc)?;
     reader.read(all)

@@ -1,4 +1,4 @@
-ghost use Rattle.std.specs.Prelude.{◌≡◌, ◌↔◌, ◌≤◌, ℕ, List, IsTrue, IfErr, IfOk, Ok};
+ghost use Rattle.std.specs.Prelude.{◌≡◌, ◌↔◌, ◌≤◌, ℕ, List, IsTrue, IfErr, IfOk, IsOk, Ok};
 ghost use Rattle.std.specs.String.{string_bytes};
 ghost use Rattle.refusal.specs.Refusal.{Answers};
 ghost use Rattle.policy_expr.specs.Language.{Lang, Tree, tree_of};
@@ -27,8 +27,10 @@ const LONG: usize = 64;
 /// at once.
 #[derive(Drop)]
 pub struct Seq<A: Allocator + Clone> {
-    root: SeqNode<A>,
+    // It stands first, and so is dropped first: else the C library would join the small blocks of
+    // the tree, and the next sequence would have to cut them again.
     table: Table<A>,
+    root: SeqNode<A>,
 }
 
 impl<A: Allocator + Clone> Model for Seq<A> {
@@ -71,7 +73,16 @@ impl<A: Allocator + Clone> Seq<A> {
         Seq::read(alloc, text)
     }
 
-    /// Reads a sequence. A short text is read twice, which costs less than to clear a room.
+    /// The sequence of a text that was judged, and has no refusal.
+    pub(crate) fn read_lawful(alloc: A, text: &str) -> Result<Seq<A>, AllocError>
+        requires { IsOk (sequence_at text.now) }
+        ensures { IfOk result (λ s. sequence_at text.now ≡ Ok s) }
+    {
+        Seq::of_lawful(alloc, Tokens::of(text))
+    }
+
+    /// Judges a text, and then reads it. The tokens of a short text are cut twice, which costs less
+    /// than to clear a room.
     fn read(alloc: A, text: &str) -> Result<Seq<A>, PolicyError>
         ensures { Answers (λ s. s) result (sequence_at text.now) }
     {
@@ -82,7 +93,7 @@ impl<A: Allocator + Clone> Seq<A> {
         }
     }
 
-    /// Reads a sequence, each of its tokens only once.
+    /// Judges a text, and then reads it. Each of its tokens is cut once.
     fn read_long(alloc: A, text: &str) -> Result<Seq<A>, PolicyError>
         ensures { Answers (λ s. s) result (sequence_at text.now) }
     {
@@ -99,9 +110,18 @@ impl<A: Allocator + Clone> Seq<A> {
             → Answers (λ s. s) result (sequence_at text) }
     {
         check_tokens(all)?;
+        Ok(Seq::of_lawful(alloc, all)?)
+    }
+
+    /// Makes a sequence of the tokens of a text that has no refusal.
+    fn of_lawful(alloc: A, all: Tokens<'_>) -> Result<Seq<A>, AllocError>
+        requires { (text : List ℕ) × (tokens text ≡ remaining all) × IsOk (sequence_at text) }
+        ensures { (text : List ℕ) → tokens text ≡ remaining all.entry
+            → IfOk result (λ s. sequence_at text ≡ Ok s) }
+    {
         let root = read_tree(alloc.clone()?, all)?;
         let table = Table::new(alloc, &root)?;
-        Ok(Seq { root, table })
+        Ok(Seq { table, root })
     }
 
     /// Does nothing; its contract tells the caller that printing and parsing gives the sequence
@@ -137,7 +157,7 @@ impl<A: Allocator + Clone> Seq<A> {
     {
         let root = self.root.clone_in(&alloc)?;
         let table = self.table.clone_in(alloc)?;
-        Ok(Seq { root, table })
+        Ok(Seq { table, root })
     }
 
     /// Whether the walk is a word of this sequence. It tries each hop with each predicate at most

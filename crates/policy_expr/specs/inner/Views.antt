@@ -1,7 +1,5 @@
 -- The values of a reader's data while it reads.
-use Rattle.std.specs.Prelude.{◌≡◌, List, ◌++◌, map, reverse, Option, option_map, Result, Ok, Err}
-use Rattle.refusal.specs.declared.fault.OrMemory.{OrMemory}
-use Rattle.refusal.specs.declared.fault.OrMemory.TheVariants.{Memory, Refused}
+use Rattle.std.specs.Prelude.{◌≡◌, List, ◌++◌, map, reverse, Option, option_map, Result, IsOk}
 use Rattle.policy_expr.specs.declared.fault.PolicyFault.{PolicyFault}
 use Rattle.policy_expr.specs.declared.room.Tokens.{Tokens}
 use Rattle.policy_expr.specs.declared.reader.Level.{Level}
@@ -33,10 +31,11 @@ gives_behind reader item rest =
 abbrev pub gives : {A : _} → Reader A → List Token → Result Tree PolicyFault
 gives reader rest = gives_behind reader (option_map tree_of reader.item) rest
 
+-- some remaining tokens give a tree
+abbrev pub CanGoOn : (List Token → Result Tree PolicyFault) → Type 0
+CanGoOn given = (rest : List Token) × IsOk (given rest)
+
 -- the step of a reader to the state `next` is right: for all remaining tokens, the result is the
 -- same before and after it
-abbrev pub GoesOn : {A : _} → (List Token → Result Tree PolicyFault) → Reader A
-    → Result (Unit {0}) (OrMemory PolicyFault) → Type 0
-GoesOn given next (Ok done) = (rest : List Token) → given rest ≡ gives next rest
-GoesOn given next (Err Memory) = Unit {0}
-GoesOn given next (Err (Refused fault)) = (rest : List Token) → given rest ≡ Err fault
+abbrev pub GoesOn : {A : _} → (List Token → Result Tree PolicyFault) → Reader A → Type 0
+GoesOn given next = (rest : List Token) → given rest ≡ gives next rest
