@@ -1,4 +1,6 @@
 //! The daemon.
+// A lawful request wants a path, a refused one has no answer, and what a look-up gives is live.
+#![tactic(auto, using(crate::proofs::Lookups::lawful_wants, crate::proofs::Lookups::gives_none, crate::proofs::Lookups::set_is_live))]
 
 ghost use Rattle.std.specs.Prelude.{◌≡◌, ◌<◌, ◌≤◌, [], Ok, IfErr, IfOk, IfSome, OnOk};
 ghost use mathlib.Core.List.{IsPrefix};
@@ -15,7 +17,7 @@ use combinator::{PathList, combine};
 use isd_as::IsdAs;
 use lru::LruCache;
 use path_server::SegmentSet;
-use policy_expr::{OptionText, PolicyOption};
+use policy_expr::OptionText;
 use refusal::OrMemory;
 use segment_board::BoardReader;
 use std::alloc::{AllocError, Global};
@@ -40,21 +42,16 @@ fn empty_cache(alloc: Global, capacity: usize) -> Result<LruCache<u64, Arc<Entry
     LruCache::new(alloc, capacity)
 }
 
-/// The answer to a lawful request over a set. The options of its texts are read into an arena that
-/// is freed at the end.
-#[tactic(auto, using(crate::proofs::Lookups::lawful_wants))]
+/// The answer to a request over a set. Its options are read into an arena that is freed at the end.
 fn make_answer(
     alloc: Global,
     set: &SegmentSet,
-    request: &Request<'_>,
+    request: &Request<'_, '_>,
 ) -> Result<PathList, AllocError>
-    requires { lawful_at request.now ≡ Ok tt }
     ensures { IfOk result (IsAnswerToRequest request.now set.now) }
 {
     let arena = Bump::new(alloc);
-    let Ok(options) = PolicyOption::parse_all(&arena, request.options) else {
-        return Err(AllocError);
-    };
+    let options = request.options.read(&arena)?;
     let Ok(paths) = combine(
         alloc,
         set,
@@ -91,7 +88,7 @@ impl Daemon {
         rt: &R,
         alloc: Global,
         set: &SegmentSet,
-        request: &Request<'_>,
+        request: &Request<'_, '_>,
     ) -> Option<Result<PathList, AllocError>>
         requires { AreAllLive set.now set.now.moment }
         ensures { IfSome result (λ given. IfOk given (IsAnswerToRequest request.now set.now)) }
@@ -113,16 +110,15 @@ impl Daemon {
         drop(left);
     }
 
-    /// The answer to a lawful request over a set, and whether an entry of the cache gave it.
+    /// The answer to a request over a set, and whether an entry of the cache gave it.
     fn answer_request<R: Wait>(
         &self,
         rt: &R,
         alloc: Global,
         set: SegmentSet,
-        request: &Request<'_>,
+        request: &Request<'_, '_>,
     ) -> Result<(PathList, bool), AllocError>
-        requires lawful { lawful_at request.now ≡ Ok tt }
-        requires live { AreAllLive set set.moment }
+        requires { AreAllLive set set.moment }
         ensures { IfOk result (λ given. IsAnswerToRequest request.now set given.0) }
     {
         match self.find_cached(rt, alloc, &set, request) {
@@ -149,10 +145,9 @@ impl Daemon {
     /// them is verified at most three times. Lists that surely come behind the answer are passed over.
     ///
     /// The first of these refusals is returned: [`AskFault::BadLimit`] if the limit is not 1 to 64;
-    /// those of [`PolicyOption::parse_all`]; [`AskFault::SameAs`] if both ends are the same AS;
-    /// [`AskFault::NoEntry`] if the reader could not enter the board, and then the caller may try
-    /// again. Memory can run out only if none of the first three comes.
-    #[tactic(auto, using(crate::proofs::Lookups::gives_none, crate::proofs::Lookups::set_is_live))]
+    /// those of [`policy_expr::PolicyOption::parse_all`]; [`AskFault::SameAs`] if both ends are the
+    /// same AS; [`AskFault::NoEntry`] if the reader could not enter the board, and then the caller
+    /// may try again. Memory can run out only if none of the first three comes.
     pub fn ask<R: Wait>(
         &self,
         rt: &R,
@@ -177,15 +172,7 @@ impl Daemon {
         ensures refused { IfErr result (λ error. GivesNoAnswer error
             (request_value src dst options.now limit) reader.old reader.new) }
     {
-        let request = Request {
-            src,
-            dst,
-            options,
-            limit,
-        };
-        if let Err(fault) = request.check() {
-            return Err(OrMemory::Refused(fault));
-        }
+        let request = Request::check(src, dst, options, limit)?;
         let set = match reader.lookup(alloc, src, dst, now) {
             Ok(set) => set,
             Err(OrMemory::Refused(_)) => return Err(OrMemory::Refused(AskFault::NoEntry)),

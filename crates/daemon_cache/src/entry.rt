@@ -63,7 +63,7 @@ impl Entry {
     pub(crate) fn of(
         alloc: Global,
         set: SegmentSet,
-        request: &Request<'_>,
+        request: &Request<'_, '_>,
         paths: &PathList,
     ) -> Result<Entry, AllocError>
         requires live { AreAllLive set set.moment }
@@ -84,7 +84,7 @@ impl Entry {
         &self,
         alloc: Global,
         set: &SegmentSet,
-        request: &Request<'_>,
+        request: &Request<'_, '_>,
     ) -> Option<Result<PathList, AllocError>>
         requires { AreAllLive set.now set.now.moment }
         ensures own { IsSome result ↔ IsFor self.now request.now set.now }

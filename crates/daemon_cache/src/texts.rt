@@ -51,24 +51,24 @@ impl Model for KeptRequest {
 
 impl KeptRequest {
     /// A copy of a request.
-    pub(crate) fn of(alloc: Global, request: &Request<'_>) -> Result<KeptRequest, AllocError>
+    pub(crate) fn of(alloc: Global, request: &Request<'_, '_>) -> Result<KeptRequest, AllocError>
         ensures { IfOk result (λ kept. kept ≡ request.now) }
     {
         Ok(KeptRequest {
             src: request.src,
             dst: request.dst,
-            texts: own_texts(alloc, request.options)?,
+            texts: own_texts(alloc, request.options.texts())?,
             limit: request.limit,
         })
     }
 
     /// Whether the request is this one.
-    pub(crate) fn is_of(&self, request: &Request<'_>) -> bool
+    pub(crate) fn is_of(&self, request: &Request<'_, '_>) -> bool
         ensures { IsTrue result ↔ (self.now ≡ request.now) }
     {
         self.src == request.src
             && self.dst == request.dst
             && self.limit == request.limit
-            && are_texts_of(&self.texts, request.options)
+            && are_texts_of(&self.texts, request.options.texts())
     }
 }
