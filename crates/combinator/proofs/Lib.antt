@@ -10,6 +10,7 @@ pub mod Decided
 pub mod Best
 pub mod WaysOut
 pub mod Spelled
+pub mod Sorted
 pub mod Collected
 pub mod Outer
 pub mod Tried

@@ -1,13 +1,14 @@
 -- Trying lists of pieces one by one.
-use Rattle.std.proofs.Common.{◌≡◌, ℕ, zero, suc, ◌+◌, ◌<◌, List, [], ◌∷◌, ◌++◌, length, get_or, take, All, Contains, refl, sym, subst, ap, ◌∙◌, arith, append_assoc, length-append}
+use Rattle.std.proofs.Common.{◌≡◌, ℕ, zero, suc, ◌+◌, ◌<◌, List, [], ◌∷◌, ◌++◌, length, get_or, take, filter, All, Contains, refl, sym, subst, ap, eq-eqb, ◌∙◌, arith, append_assoc, length-append}
 use Rattle.std.specs.List.{AllByRecursion, flat_map}
 use Rattle.std.specs.Ordering.{nat_cmp}
 use Rattle.std.specs.declared.cmp.Ordering.TheVariants.{Less}
 use Rattle.std.proofs.lemmas.Bool.{lt-ltb}
-use Rattle.std.proofs.lemmas.List.Elements.{All-push, All-from_recursion, recursion_from_All}
+use Rattle.std.proofs.lemmas.List.Elements.{All-filter, All-push, All-from_recursion, recursion_from_All}
 use Rattle.std.proofs.lemmas.List.Sums.{sum_by-cons}
 use Rattle.path_header.specs.Value.{HeaderValue}
 use Rattle.path_server.specs.Lookup.{Selection}
+use Rattle.path_server.proofs.Members.{Contains-filter}
 use Rattle.path_verifier.specs.Piece.{PieceValue, HasRange, begins_in, ends_in}
 use Rattle.path_verifier.specs.Header.{header_of, fields_of, len_of, total_hops}
 use Rattle.path_verifier.specs.Accepted.{Request, request_of, DoEndIn, IsAccepted}
@@ -17,6 +18,7 @@ use Rattle.combinator.specs.Order.{path_cmp, shown_cmp}
 use Rattle.combinator.specs.Answer.{IsBest}
 use Rattle.combinator.specs.inner.Placed.{Met}
 use Rattle.combinator.specs.inner.Search.{OfEachBehind, IsMetBy, StillMeet}
+use Rattle.combinator.specs.inner.UsablePieces.{begins_at}
 use Rattle.combinator.proofs.Collected.{by_items}
 
 -- ---- lists that begin with some pieces
@@ -58,12 +60,12 @@ tried_here P usable_pieces depth pieces longer piece end at is ends here behind 
   subst (λ more. OfEachBehind P usable_pieces depth more (ends_in piece)) is (subst (OfEachBehind P usable_pieces depth longer) ends behind),
 )
 
-pub tried_more : (P Q : List PieceValue → Type 0) (usable_pieces : List PieceValue) (depth : ℕ) (pieces : List PieceValue) (at i : ℕ) (piece : PieceValue)
-    → i < length usable_pieces → piece ≡ get_or usable_pieces i piece → ((list : List PieceValue) → P list → Q list)
-    → ((one : PieceValue) → Contains (take i usable_pieces) one → WasTried P usable_pieces depth pieces at one) → WasTried Q usable_pieces depth pieces at piece
-    → (one : PieceValue) → Contains (take (i + 1) usable_pieces) one → WasTried Q usable_pieces depth pieces at one
-tried_more P Q usable_pieces depth pieces at i piece within is goes =
-    by_items (WasTried P usable_pieces depth pieces at) (WasTried Q usable_pieces depth pieces at) usable_pieces i piece within is
+pub tried_more : (P Q : List PieceValue → Type 0) (usable_pieces part : List PieceValue) (depth : ℕ) (pieces : List PieceValue) (at i : ℕ) (piece : PieceValue)
+    → i < length part → piece ≡ get_or part i piece → ((list : List PieceValue) → P list → Q list)
+    → ((one : PieceValue) → Contains (take i part) one → WasTried P usable_pieces depth pieces at one) → WasTried Q usable_pieces depth pieces at piece
+    → (one : PieceValue) → Contains (take (i + 1) part) one → WasTried Q usable_pieces depth pieces at one
+tried_more P Q usable_pieces part depth pieces at i piece within is goes =
+    by_items (WasTried P usable_pieces depth pieces at) (WasTried Q usable_pieces depth pieces at) part i piece within is
     (was_tried_on P Q usable_pieces depth pieces at goes)
 
 pub none_tried : (P : List PieceValue → Type 0) (usable_pieces : List PieceValue) (depth : ℕ) (pieces : List PieceValue) (at : ℕ) → depth ≡ 0 → OfEachBehind P usable_pieces depth pieces at
@@ -71,13 +73,26 @@ unfolding OfEachBehind
 none_tried P usable_pieces zero pieces at is = tt
 none_tried P usable_pieces (suc depth) pieces at is = absurd (omega (arith, is))
 
-pub all_tried : (P : List PieceValue → Type 0) (usable_pieces : List PieceValue) (depth left : ℕ) (pieces : List PieceValue) (at : ℕ) → left + 1 ≡ depth
+each_tried : (P : List PieceValue → Type 0) (usable_pieces : List PieceValue) (depth left : ℕ) (pieces : List PieceValue) (at : ℕ) → left + 1 ≡ depth
     → ((piece : PieceValue) → Contains usable_pieces piece → WasTried P usable_pieces left pieces at piece) → OfEachBehind P usable_pieces depth pieces at
 unfolding OfEachBehind
-all_tried P usable_pieces zero left pieces at is all = tt
-all_tried P usable_pieces (suc depth) left pieces at is all =
+each_tried P usable_pieces zero left pieces at is all = tt
+each_tried P usable_pieces (suc depth) left pieces at is all =
     let same : left ≡ depth = omega (arith, is) in
     subst (λ (n : ℕ). (piece : PieceValue) → Contains usable_pieces piece → WasTried P usable_pieces n pieces at piece) same all
+
+-- where the pieces that begin here were tried, all were
+pub all_tried : (P : List PieceValue → Type 0) (usable_pieces part : List PieceValue) (depth left : ℕ) (pieces : List PieceValue) (at : ℕ) → left + 1 ≡ depth
+    → part ≡ filter (begins_at at) usable_pieces → ((piece : PieceValue) → Contains part piece → WasTried P usable_pieces left pieces at piece) → OfEachBehind P usable_pieces depth pieces at
+all_tried P usable_pieces part depth left pieces at is same tried =
+    each_tried P usable_pieces depth left pieces at is
+    (λ piece there begins. tried piece
+    (subst (λ (ps : List PieceValue). Contains ps piece) (sym same) ((Contains-filter (begins_at at) usable_pieces piece).1 (there, eq-eqb (begins_in piece) at begins)))
+    begins)
+
+-- what holds of all pieces holds of those that begin here
+pub part_own : (P : PieceValue → Type 0) (usable_pieces part : List PieceValue) (at : ℕ) → part ≡ filter (begins_at at) usable_pieces → All P usable_pieces → All P part
+part_own P usable_pieces part at same own = subst (All P) (sym same) (All-filter (begins_at at) P usable_pieces own)
 
 -- ---- a list with one more piece
 

@@ -75,11 +75,12 @@ impl<'s, 'p, A: Allocator + Clone> Paths<'s, 'p, A> {
 /// What it costs: a segment to `src` or `dst` gives at most 62 usable pieces, those with that AS at
 /// their end, and a core segment gives two. With n usable pieces there are at most n + n² + n³ lists
 /// of them; those that meet are tried, but for those that surely come behind `limit` known paths.
-/// Behind each tried list of fewer than three pieces all n are looked at. Each tried list that ends
-/// in `dst` is verified, in a time that grows with its hops, at most 64, and again when the best
-/// path of its walk is sought. That is done once for a walk, or twice if others push its path out
-/// of the first `limit`, as long as no more than 1,024 paths are found behind these. The memory is
-/// that of n pieces of 64 bytes, and of `limit` and up to 1,024 paths of some 2,300 bytes each.
+/// The pieces are sorted once, and those that meet a list are found by binary searches. Each tried
+/// list that ends in `dst` is verified, in a time that grows with its hops, at most 64, and again
+/// when the best path of its walk is sought. That is done once for a walk, or twice if others push
+/// its path out of the first `limit`, as long as no more than 1,024 paths are found behind these.
+/// The memory is that of n pieces of 64 bytes, and of `limit` and up to 1,024 paths of some 2,300
+/// bytes each.
 ///
 /// [`AllocError`] if memory runs out.
 pub fn paths_between<'s, 'p, A: Allocator + Clone>(

@@ -19,6 +19,7 @@ use crate::ordered::is_met;
 use crate::ranked::RankedPath;
 use crate::request::PathRequest;
 use crate::usable_piece::UsablePiece;
+use crate::usable_pieces::UsablePieces;
 use arrayvec::ArrayVec;
 use isd_as::{IfId, IsdAs};
 use path_header::INFO_LEN;
@@ -34,7 +35,7 @@ const MAX_INFOS_LEN: usize = 3 * INFO_LEN;
 struct Search<'a, 's, 'p, A: Allocator + Clone> {
     alloc: Global,
     ask: &'a PathRequest<'s, 'p, A>,
-    usable_pieces: &'a [UsablePiece<'s>],
+    usable_pieces: &'a UsablePieces<'s>,
     limit: usize,
 }
 
@@ -42,7 +43,7 @@ struct Search<'a, 's, 'p, A: Allocator + Clone> {
 pub(crate) fn first_paths<'s, 'p, A: Allocator + Clone>(
     alloc: Global,
     ask: &PathRequest<'s, 'p, A>,
-    usable_pieces: &[UsablePiece<'s>],
+    usable_pieces: &UsablePieces<'s>,
     limit: usize,
 ) -> Result<Vec<RankedPath<'s, 'p, A>>, AllocError>
     requires own { All (IsOf ask.now.set) usable_pieces.now }
@@ -93,10 +94,8 @@ impl<'a, 's, 'p, A: Allocator + Clone> Search<'a, 's, 'p, A> {
         ensures met { OnOk result (OfEachBehind (IsMetBy self.now.ask.now self.now.limit
             kept.new.first.items) self.now.usable_pieces.now depth pieces.now at) }
     {
-        for piece in self.usable_pieces {
-            if piece.begins() != at {
-                continue;
-            }
+        let next_pieces = self.usable_pieces.pieces_from(at);
+        for piece in next_pieces {
             if is_behind(&kept.first, self.limit, pieces, infos, piece, 0) {
                 continue;
             }
@@ -178,10 +177,8 @@ impl<'a, 's, 'p, A: Allocator + Clone> Search<'a, 's, 'p, A> {
             self.now.usable_pieces.now depth pieces.now at) }
     {
         let mut best = found;
-        for piece in self.usable_pieces {
-            if piece.begins() != at {
-                continue;
-            }
+        let next_pieces = self.usable_pieces.pieces_from(at);
+        for piece in next_pieces {
             if !leaves_by(best.path().walk(), place, piece.way_out()) {
                 continue;
             }

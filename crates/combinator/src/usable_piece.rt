@@ -2,7 +2,7 @@ ghost use Rattle.std.specs.Prelude.{◌≡◌, ◌<◌, ◌≤◌, length, All};
 ghost use Rattle.path_header.specs.Spelling.{info_spelling, HopFits};
 ghost use Rattle.path_verifier.specs.Piece.{HasRange, begins_in, ends_in};
 ghost use Rattle.path_verifier.specs.Header.{field_of, info_of, len_of};
-ghost use Rattle.combinator.specs.inner.UsablePieces.{piece_of};
+ghost use Rattle.combinator.specs.inner.UsablePieces.{piece_of, piece_cmp, kind_rank, rank_of};
 ghost use Rattle.combinator.specs.inner.Search.{HasFields, LeavesBy};
 
 use isd_as::{IfId, IsdAs};
@@ -19,6 +19,7 @@ pub(crate) struct UsablePiece<'s> {
     begins: IsdAs,
     ends: IsdAs,
     way_out: IfId,
+    rank: u8,
     info: [u8; INFO_LEN],
 }
 
@@ -28,13 +29,14 @@ impl<'s> Model for UsablePiece<'s> {
     ghost use Rattle.path_header.specs.Spelling.{info_spelling};
     ghost use Rattle.path_verifier.specs.Header.{info_of};
     ghost use Rattle.combinator.specs.inner.Search.{HasFields, LeavesBy};
+    ghost use Rattle.combinator.specs.inner.UsablePieces.{rank_of};
 
     ghost Value = { PieceValue };
 
     ghost view = { λ l. l.piece };
 
     ghost invariant = { λ l. HasRange l.piece × (l.begins ≡ begins_in l.piece)
-        × (l.ends ≡ ends_in l.piece) × LeavesBy l.piece l.way_out
+        × (l.ends ≡ ends_in l.piece) × LeavesBy l.piece l.way_out × (l.rank ≡ rank_of l.piece)
         × HasFields l.piece × (l.info ≡ info_spelling (info_of l.piece)) };
 }
 
@@ -55,12 +57,14 @@ impl<'s> UsablePiece<'s> {
         let begins = piece.begins_in();
         let ends = piece.ends_in();
         let way_out = way_out_of(&piece);
+        let rank = rank_of(&piece);
         let info = info_bytes_of(&piece);
         UsablePiece {
             piece,
             begins,
             ends,
             way_out,
+            rank,
             info,
         }
     }
@@ -108,24 +112,20 @@ impl<'s> UsablePiece<'s> {
         self.way_out
     }
 
-    /// Where it stands in the search: pieces that end in the destination come first, since with
-    /// them paths are short; then short pieces, and those with small info fields.
-    pub(crate) fn compare(&self, other: &UsablePiece<'s>) -> Ordering {
-        match self.kind_rank().cmp(&other.kind_rank()) {
-            Ordering::Equal => match self.len().cmp(&other.len()) {
-                Ordering::Equal => self.info().cmp(other.info()),
+    /// Compares this piece with another one in the order of the search: by the AS in which it
+    /// begins, then by its rank, then by its info field.
+    #[tactic(auto, unfolding(crate::specs::inner::UsablePieces::piece_cmp))]
+    pub(crate) fn compare(&self, other: &UsablePiece<'s>) -> Ordering
+        ensures { result ≡ piece_cmp self.now other.now }
+    {
+        match self.begins.number().cmp(&other.begins.number()) {
+            Ordering::Equal => match self.rank.cmp(&other.rank) {
+                Ordering::Equal => {
+                    u64::from_be_bytes(self.info).cmp(&u64::from_be_bytes(other.info))
+                }
                 decided => decided,
             },
             decided => decided,
-        }
-    }
-
-    /// The place of its kind in the search.
-    fn kind_rank(&self) -> u8 {
-        match self.piece.kind() {
-            PieceKind::Down => 0,
-            PieceKind::Up => 1,
-            PieceKind::Core => 2,
         }
     }
 
@@ -142,6 +142,27 @@ impl<'s> UsablePiece<'s> {
         ensures few { result ≤ 63 }
     {
         self.piece.len()
+    }
+}
+
+/// Where a piece stands among those that begin in its AS: pieces that end in the destination come
+/// first, since with them paths are short; then short pieces.
+fn rank_of(piece: &Piece<'_>) -> u8
+    requires { HasRange piece.now }
+    ensures { result ≡ rank_of piece.now }
+{
+    kind_rank(piece.kind()) * 64 + piece.len() as u8
+}
+
+/// The place of a kind among pieces that begin in one AS.
+fn kind_rank(kind: PieceKind) -> u8
+    ensures value { result ≡ kind_rank kind }
+    ensures few { result ≤ 2 }
+{
+    match kind {
+        PieceKind::Down => 0,
+        PieceKind::Up => 1,
+        PieceKind::Core => 2,
     }
 }
 

@@ -1,14 +1,15 @@
 //! The pieces that may occur in paths.
 
-ghost use Rattle.std.specs.Prelude.{◌≡◌, ◌<◌, ◌+◌, ℕ, Bool, true, false, length, All, Contains, OnOk, IfOk};
-ghost use Rattle.std.specs.List.Sorted.{IsPermutation};
+ghost use Rattle.std.specs.Prelude.{◌≡◌, ◌<◌, ◌≤◌, ◌+◌, ℕ, Bool, true, false, length, filter, All, Contains, OnOk, IfOk};
+ghost use Rattle.std.specs.List.{AllWithin};
+ghost use Rattle.std.specs.List.Sorted.{IsPermutation, IsNonDecreasingBy};
 ghost use Rattle.path_segment.specs.declared.kind.SegKind.TheVariants.{Intra, Core};
 ghost use Rattle.path_server.specs.Lookup.{Selection};
 ghost use Rattle.path_header.specs.Spelling.{HopFits};
-ghost use Rattle.path_verifier.specs.Piece.{PieceValue, kind_in};
+ghost use Rattle.path_verifier.specs.Piece.{PieceValue, kind_in, begins_in};
 ghost use Rattle.path_verifier.specs.Header.{field_of};
 ghost use Rattle.combinator.specs.Candidate.{IsOf, segments_of};
-ghost use Rattle.combinator.specs.inner.UsablePieces.{piece_of, outer_of, IsCut, IsWhole, AreIn};
+ghost use Rattle.combinator.specs.inner.UsablePieces.{piece_of, outer_of, IsCut, IsWhole, AreIn, begins_at};
 ghost use Rattle.combinator.specs.inner.Search.{HasFields};
 
 use crate::request::PathRequest;
@@ -16,36 +17,99 @@ use crate::usable_piece::{UsablePiece, know_hops};
 use isd_as::IsdAs;
 use path_segment::{SegKind, Segment};
 use std::alloc::{AllocError, Allocator, Global};
+use std::marker::Model;
+
+/// The usable pieces of a request, sorted by the ASes in which they begin.
+#[derive(Drop)]
+pub(crate) struct UsablePieces<'s> {
+    sorted: Vec<UsablePiece<'s>>,
+}
+
+impl<'s> Model for UsablePieces<'s> {
+    ghost use Rattle.std.specs.Prelude.{List};
+    ghost use Rattle.std.specs.List.Sorted.{IsNonDecreasingBy};
+    ghost use Rattle.path_verifier.specs.Piece.{PieceValue, begins_in};
+
+    ghost Value = { List PieceValue };
+
+    ghost view = { λ p. p.sorted.items };
+
+    ghost invariant = { λ p. IsNonDecreasingBy begins_in p.sorted.items };
+}
+
+impl<'s> UsablePieces<'s> {
+    /// The pieces that begin in this AS, in the order in which the search takes them.
+    pub(crate) fn pieces_from(&self, at: IsdAs) -> &[UsablePiece<'s>]
+        ensures { result.now ≡ filter (begins_at at) self.now }
+    {
+        part_from(&self.sorted, at)
+    }
+}
+
+/// The part of sorted pieces that begin in this AS.
+fn part_from<'a, 's>(pieces: &'a [UsablePiece<'s>], at: IsdAs) -> &'a [UsablePiece<'s>]
+    requires { IsNonDecreasingBy begins_in pieces.now }
+    ensures { result.now ≡ filter (begins_at at) pieces.now }
+{
+    let (_, rest) = pieces.split_at(count_below(pieces, at));
+    &rest[..count_to(rest, at)]
+}
+
+/// The number of pieces that begin in ASes below this one.
+fn count_below(pieces: &[UsablePiece<'_>], at: IsdAs) -> usize
+    requires { IsNonDecreasingBy begins_in pieces.now }
+    ensures within { result ≤ length pieces.now }
+    ensures below { AllWithin (λ piece. begins_in piece < at) pieces.now 0 result }
+    ensures rest { AllWithin (λ piece. at ≤ begins_in piece) pieces.now result
+        (length pieces.now) }
+{
+    pieces.partition_point(|piece| piece.begins().number() < at.number())
+}
+
+/// The number of pieces that begin in this AS or in ASes below it.
+fn count_to(pieces: &[UsablePiece<'_>], at: IsdAs) -> usize
+    requires { IsNonDecreasingBy begins_in pieces.now }
+    ensures within { result ≤ length pieces.now }
+    ensures below { AllWithin (λ piece. begins_in piece ≤ at) pieces.now 0 result }
+    ensures rest { AllWithin (λ piece. at < begins_in piece) pieces.now result
+        (length pieces.now) }
+{
+    pieces.partition_point(|piece| piece.begins().number() <= at.number())
+}
 
 /// The usable pieces of the set: pieces of up segments that begin in the source, pieces of down
 /// segments that end in the destination, and whole core segments in both directions.
 pub(crate) fn usable_pieces_of<'s, 'p, A: Allocator + Clone>(
     alloc: Global,
     ask: &PathRequest<'s, 'p, A>,
-) -> Result<Vec<UsablePiece<'s>>, AllocError>
-    ensures own { IfOk result (λ usable_pieces. All (IsOf ask.now.set) usable_pieces.items) }
+) -> Result<UsablePieces<'s>, AllocError>
+    ensures own { IfOk result (λ usable_pieces. All (IsOf ask.now.set) usable_pieces) }
     ensures ups { IfOk result (λ usable_pieces. (piece : PieceValue)
-        → IsCut ask.now.set.ups false ask.now.src piece → Contains usable_pieces.items piece) }
+        → IsCut ask.now.set.ups false ask.now.src piece → Contains usable_pieces piece) }
     ensures cores { IfOk result (λ usable_pieces. (piece : PieceValue)
-        → IsWhole ask.now.set.cores piece → Contains usable_pieces.items piece) }
+        → IsWhole ask.now.set.cores piece → Contains usable_pieces piece) }
     ensures downs { IfOk result (λ usable_pieces. (piece : PieceValue)
-        → IsCut ask.now.set.downs true ask.now.dst piece → Contains usable_pieces.items piece) }
-    ensures fields { IfOk result (λ usable_pieces. All HasFields usable_pieces.items) }
+        → IsCut ask.now.set.downs true ask.now.dst piece → Contains usable_pieces piece) }
+    ensures fields { IfOk result (λ usable_pieces. All HasFields usable_pieces) }
 {
     let set = ask.set;
     let mut usable_pieces = Vec::new(alloc);
     add_cuts(&mut usable_pieces, set.downs(), true, ask.dst)?;
     add_cuts(&mut usable_pieces, set.ups(), false, ask.src)?;
     add_cores(&mut usable_pieces, set.cores())?;
-    put_in_order(&mut usable_pieces);
     know_all(&usable_pieces);
-    Ok(usable_pieces)
+    put_in_order(&mut usable_pieces);
+    Ok(UsablePieces {
+        sorted: usable_pieces,
+    })
 }
 
-/// Puts the pieces in the order in which the search takes them. The search ends early if it meets
-/// the first paths early; no answer rests on the order.
+/// Puts the pieces in the order in which the search takes them: by the ASes in which they begin,
+/// and of one AS those first with which paths are short. The search ends early if it meets the
+/// first paths early.
 fn put_in_order(usable_pieces: &mut Vec<UsablePiece<'_>>)
-    ensures { IsPermutation usable_pieces.old.items usable_pieces.new.items }
+    ensures same { IsPermutation usable_pieces.old.items usable_pieces.new.items }
+    ensures sorted { IsNonDecreasingBy begins_in usable_pieces.new.items }
 {
     usable_pieces.sort_unstable_by(|one, other| one.compare(other));
 }

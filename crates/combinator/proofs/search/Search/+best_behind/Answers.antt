@@ -1,4 +1,4 @@
-use Rattle.std.proofs.Common.{◌≡◌, true, false, not, eq-eqb, ◌+◌, ◌-◌, ◌<◌, ◌∙◌, Some, refl, sym, ap, subst, arith, length-take}
+use Rattle.std.proofs.Common.{◌≡◌, ◌+◌, ◌-◌, ◌<◌, ◌∙◌, Some, refl, sym, ap, subst, arith, length-take}
 use Rattle.std.specs.Prelude.{slice_get}
 use Rattle.path_verifier.specs.Piece.{ends_in}
 use Rattle.path_verifier.specs.Walk.{walk_of}
@@ -7,25 +7,15 @@ use Rattle.combinator.specs.Candidate.{IsOf}
 use Rattle.combinator.specs.inner.Search.{IsNoBetter, ways_out}
 use Rattle.combinator.proofs.Collected.{at_end}
 use Rattle.combinator.proofs.Rivals.{no_better_on, passed_over, replaces_itself, replaces_on}
-use Rattle.combinator.proofs.Tried.{WasTried, none_tried, all_tried, tried_here, tried_more, longer_by, one_more, own_more, ranges_more, ends_more}
+use Rattle.combinator.proofs.Tried.{WasTried, none_tried, all_tried, tried_here, tried_more, longer_by, one_more, own_more, part_own, ranges_more, ends_more}
 use Rattle.combinator.proofs.WaysOut.{ways_longer}
 use Rattle.combinator.proofs.search.Search.+best_behind.Goals as goal
 
 pub loop-piece-init : goal.loop-piece-init
 loop-piece-init g t c = record {
   better = replaces_itself c.args.self.now.ask.now c.args.found c.requires.candidate;
-  none = λ piece there. absurd (let within = there.1 in omega (arith, within, length-take 0 c.args.self.now.usable_pieces.now));
+  none = λ piece there. absurd (let within = there.1 in omega (arith, within, length-take 0 c.pieces_from-next_pieces.result.now));
 }
-
-pub loop-piece-preserved-then-ne : goal.loop-piece-preserved-then-ne
-loop-piece-preserved-then-ne g t c =
-    let a = c.args in
-    let all = a.self.now.usable_pieces.now in
-    let fact = IsNoBetter a.self.now.ask.now c.loop-piece.best in record {
-      better = c.loop-piece.invariant.better;
-      none = tried_more fact fact all (a.depth - 1) a.pieces.now a.at c.loop-piece.piece-index c.piece-item.result c.loop-piece-test.true c.piece-item.is (λ list here. here)
-          c.loop-piece.invariant.none (λ begins. absurd (let clash : false ≡ true = sym (ap not (eq-eqb c.begins.result a.at (c.begins.ensures ∙ begins))) ∙ sym c.ne.ensures ∙ c.if-ne.true in cc));
-    }
 
 pub loop-piece-preserved-then-not-leaves_by : goal.loop-piece-preserved-then-not-leaves_by
 loop-piece-preserved-then-not-leaves_by g t c =
@@ -37,7 +27,7 @@ loop-piece-preserved-then-not-leaves_by g t c =
     let walk : c.walk.result.now ≡ walk_of best.pieces = c.walk.ensures.value ∙ ap walk_of c.path.ensures.pieces in
     let never = subst (λ (hops : _). ¬ (slice_get (ways_out hops) a.place ≡ Some c.way_out.result)) walk (c.leaves_by.ensures.never c.if-not-leaves_by.true) in record {
       better = c.loop-piece.invariant.better;
-      none = tried_more fact fact all (a.depth - 1) a.pieces.now a.at c.loop-piece.piece-index c.piece-item.result c.loop-piece-test.true c.piece-item.is (λ list here. here)
+      none = tried_more fact fact all c.pieces_from-next_pieces.result.now (a.depth - 1) a.pieces.now a.at c.loop-piece.piece-index c.piece-item.result c.loop-piece-test.true c.piece-item.is (λ list here. here)
           c.loop-piece.invariant.none
           (passed_over question best a.pieces.now c.piece-item.result a.place c.way_out.result c.way_out.ensures c.requires.place never all (a.depth - 1) a.at);
     }
@@ -47,7 +37,7 @@ better_of-requires-clause-front g t c =
     let a = c.args in
     let is = longer_by a.pieces.now c.in-Some.longer c.piece.result c.piece-item.result c.in-Some.ensures.more c.piece.ensures.value in
     own_more a.self.now.ask.now.set a.pieces.now c.in-Some.longer c.piece-item.result is c.requires.front
-    (subst (IsOf a.self.now.ask.now.set) (sym c.piece-item.is) (c.requires.own c.loop-piece.piece-index c.piece-item.result c.loop-piece-test.true))
+    (subst (IsOf a.self.now.ask.now.set) (sym c.piece-item.is) (part_own (IsOf a.self.now.ask.now.set) a.self.now.usable_pieces.now c.pieces_from-next_pieces.result.now a.at c.pieces_from-next_pieces.ensures c.requires.own c.loop-piece.piece-index c.piece-item.result c.loop-piece-test.true))
 
 pub better_of-requires-clause-end : goal.better_of-requires-clause-end
 better_of-requires-clause-end g t c =
@@ -67,7 +57,7 @@ loop-piece-preserved-then-depth-eq1 g t c =
     let none = none_tried fact all (a.depth - 1) c.in-Some.longer (ends_in c.piece-item.result) (omega (arith, c.if-depth-eq1.true)) in
     let here = tried_here fact all (a.depth - 1) a.pieces.now c.in-Some.longer c.piece-item.result (ends_in c.piece-item.result) a.at is refl c.in_ok-best.ensures.none none in record {
       better = replaces_on question a.found old new c.loop-piece.invariant.better c.in_ok-best.ensures.better;
-      none = tried_more (IsNoBetter question old) fact all (a.depth - 1) a.pieces.now a.at c.loop-piece.piece-index c.piece-item.result c.loop-piece-test.true c.piece-item.is
+      none = tried_more (IsNoBetter question old) fact all c.pieces_from-next_pieces.result.now (a.depth - 1) a.pieces.now a.at c.loop-piece.piece-index c.piece-item.result c.loop-piece-test.true c.piece-item.is
           (no_better_on question old new c.in_ok-best.ensures.better) c.loop-piece.invariant.none here;
     }
 
@@ -103,7 +93,7 @@ best_behind-requires g t c κs within =
             c.in_ok-best.ensures.better.candidate,
             (
               own_more question.set a.pieces.now c.in-Some.longer c.piece-item.result is c.requires.front
-                  (subst (IsOf question.set) (sym c.piece-item.is) (c.requires.own c.loop-piece.piece-index c.piece-item.result c.loop-piece-test.true)),
+                  (subst (IsOf question.set) (sym c.piece-item.is) (part_own (IsOf a.self.now.ask.now.set) a.self.now.usable_pieces.now c.pieces_from-next_pieces.result.now a.at c.pieces_from-next_pieces.ensures c.requires.own c.loop-piece.piece-index c.piece-item.result c.loop-piece-test.true)),
               (
                 ranges_more a.pieces.now c.in-Some.longer c.piece-item.result is c.requires.ranges c.piece.ensures.range,
                 (
@@ -132,7 +122,7 @@ loop-piece-preserved g t c =
     (no_better_on question mid new c.in_ok-best-2.ensures.better c.in-Some.longer c.in_ok-best.ensures.none) c.in_ok-best-2.ensures.none in
     let both = replaces_on question old mid new c.in_ok-best.ensures.better c.in_ok-best-2.ensures.better in record {
       better = replaces_on question a.found old new c.loop-piece.invariant.better both;
-      none = tried_more (IsNoBetter question old) fact all (a.depth - 1) a.pieces.now a.at c.loop-piece.piece-index c.piece-item.result c.loop-piece-test.true c.piece-item.is
+      none = tried_more (IsNoBetter question old) fact all c.pieces_from-next_pieces.result.now (a.depth - 1) a.pieces.now a.at c.loop-piece.piece-index c.piece-item.result c.loop-piece-test.true c.piece-item.is
           (no_better_on question old new both) c.loop-piece.invariant.none here;
     }
 
@@ -143,5 +133,5 @@ returns-clause-none g t c =
     let all = a.self.now.usable_pieces.now in
     let fact = IsNoBetter question c.loop-piece.best in
     let some = c.requires.some in
-    all_tried fact all a.depth (a.depth - 1) a.pieces.now a.at (omega (arith, some))
-    (at_end (WasTried fact all (a.depth - 1) a.pieces.now a.at) all c.loop-piece.piece-index c.loop-piece-test.false c.loop-piece.invariant.none)
+    all_tried fact all c.pieces_from-next_pieces.result.now a.depth (a.depth - 1) a.pieces.now a.at (omega (arith, some)) c.pieces_from-next_pieces.ensures
+    (at_end (WasTried fact all (a.depth - 1) a.pieces.now a.at) c.pieces_from-next_pieces.result.now c.loop-piece.piece-index c.loop-piece-test.false c.loop-piece.invariant.none)

@@ -10,6 +10,6 @@ decreases-best_behind g l = l.depth
 abbrev pub invariant-loop-piece : goal.invariant-loop-piece
 invariant-loop-piece g l = record {
   better : MayReplace l.self.ask.now l.fn.found l.best;
-  none : (piece : PieceValue) → Contains (take l.piece-index l.self.usable_pieces.now) piece
-      → WasTried (IsNoBetter l.self.ask.now l.best) l.self.usable_pieces.now (l.depth - 1) l.pieces l.at piece;
+  none : (piece : PieceValue) → Contains (take l.piece-index l.next_pieces) piece
+      → WasTried (IsNoBetter l.self.ask.now l.best) l.self.usable_pieces.now (l.depth - 1) l.pieces l.fn.at piece;
 }

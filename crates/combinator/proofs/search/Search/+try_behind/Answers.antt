@@ -4,7 +4,7 @@ use Rattle.combinator.specs.Candidate.{IsOf, PathValue}
 use Rattle.combinator.specs.inner.Search.{AreBefore, IsMetBy, OfEachBehind, StillMeet}
 use Rattle.combinator.proofs.Before.{met_here, met_further, infos_longer, infos_fit}
 use Rattle.combinator.proofs.Collected.{at_end}
-use Rattle.combinator.proofs.Tried.{WasTried, none_tried, all_tried, tried_here, tried_more, longer_by, one_more, own_more, ranges_more, ends_more, met_on}
+use Rattle.combinator.proofs.Tried.{WasTried, none_tried, all_tried, tried_here, tried_more, longer_by, one_more, own_more, part_own, ranges_more, ends_more, met_on}
 use Rattle.combinator.proofs.search.Search.+try_behind.Goals as goal
 
 pub consider-requires-clause-front : goal.consider-requires-clause-front
@@ -12,7 +12,7 @@ consider-requires-clause-front g t c =
     let a = c.args in
     let is = longer_by a.pieces.now c.in-Some.longer c.piece.result c.piece-item.result c.in-Some.ensures.more c.piece.ensures.value in
     own_more a.self.now.ask.now.set a.pieces.now c.in-Some.longer c.piece-item.result is c.requires.front
-    (subst (IsOf a.self.now.ask.now.set) (sym c.piece-item.is) (c.requires.own c.loop-piece.piece-index c.piece-item.result c.loop-piece-test.true))
+    (subst (IsOf a.self.now.ask.now.set) (sym c.piece-item.is) (part_own (IsOf a.self.now.ask.now.set) a.self.now.usable_pieces.now c.pieces_from-next_pieces.result.now a.at c.pieces_from-next_pieces.ensures c.requires.own c.loop-piece.piece-index c.piece-item.result c.loop-piece-test.true))
 
 pub consider-requires-clause-end : goal.consider-requires-clause-end
 consider-requires-clause-end g t c =
@@ -31,7 +31,7 @@ loop-piece-preserved-then-is_behind g t c =
     λ begins. (met_here a.self.now.ask.now a.self.now.limit before front 0 full refl, met_further a.self.now.ask.now a.self.now.limit before front 0 full (omega arith) a.self.now.usable_pieces.now (a.depth - 1) (ends_in c.piece-item.result)) in record {
       kept = c.loop-piece.invariant.kept;
       still = c.loop-piece.invariant.still;
-      met = tried_more fact fact a.self.now.usable_pieces.now (a.depth - 1) a.pieces.now a.at c.loop-piece.piece-index c.piece-item.result c.loop-piece-test.true c.piece-item.is (λ list fine. fine)
+      met = tried_more fact fact a.self.now.usable_pieces.now c.pieces_from-next_pieces.result.now (a.depth - 1) a.pieces.now a.at c.loop-piece.piece-index c.piece-item.result c.loop-piece-test.true c.piece-item.is (λ list fine. fine)
           c.loop-piece.invariant.met here;
     }
 
@@ -46,7 +46,7 @@ loop-piece-preserved-then-depth-eq1 g t c =
     let here = tried_here fact a.self.now.usable_pieces.now (a.depth - 1) a.pieces.now c.in-Some.longer c.piece-item.result (ends_in c.piece-item.result) a.at is refl c.in_ok-consider.ensures.met none in record {
       kept = c.in_ok-consider.ensures.kept;
       still = λ path met. c.in_ok-consider.ensures.still path (c.loop-piece.invariant.still path met);
-      met = tried_more (IsMetBy a.self.now.ask.now a.self.now.limit before) fact a.self.now.usable_pieces.now (a.depth - 1) a.pieces.now a.at c.loop-piece.piece-index c.piece-item.result
+      met = tried_more (IsMetBy a.self.now.ask.now a.self.now.limit before) fact a.self.now.usable_pieces.now c.pieces_from-next_pieces.result.now (a.depth - 1) a.pieces.now a.at c.loop-piece.piece-index c.piece-item.result
           c.loop-piece-test.true c.piece-item.is (met_on a.self.now.ask.now a.self.now.limit before after c.in_ok-consider.ensures.still) c.loop-piece.invariant.met here;
     }
 
@@ -64,7 +64,7 @@ loop-piece-preserved-then-is_behind-2 g t c =
     let here = tried_here fact a.self.now.usable_pieces.now (a.depth - 1) a.pieces.now c.in-Some.longer c.piece-item.result (ends_in c.piece-item.result) a.at is refl c.in_ok-consider.ensures.met behind in record {
       kept = c.in_ok-consider.ensures.kept;
       still = λ path met. c.in_ok-consider.ensures.still path (c.loop-piece.invariant.still path met);
-      met = tried_more (IsMetBy a.self.now.ask.now a.self.now.limit before) fact a.self.now.usable_pieces.now (a.depth - 1) a.pieces.now a.at c.loop-piece.piece-index c.piece-item.result
+      met = tried_more (IsMetBy a.self.now.ask.now a.self.now.limit before) fact a.self.now.usable_pieces.now c.pieces_from-next_pieces.result.now (a.depth - 1) a.pieces.now a.at c.loop-piece.piece-index c.piece-item.result
           c.loop-piece-test.true c.piece-item.is (met_on a.self.now.ask.now a.self.now.limit before after c.in_ok-consider.ensures.still) c.loop-piece.invariant.met here;
     }
 
@@ -96,7 +96,7 @@ try_behind-requires g t c κs within =
                 c.in_ok-consider.ensures.kept,
                 (
                   own_more a.self.now.ask.now.set a.pieces.now c.in-Some.longer c.piece-item.result is c.requires.front
-                      (subst (IsOf a.self.now.ask.now.set) (sym c.piece-item.is) (c.requires.own c.loop-piece.piece-index c.piece-item.result c.loop-piece-test.true)),
+                      (subst (IsOf a.self.now.ask.now.set) (sym c.piece-item.is) (part_own (IsOf a.self.now.ask.now.set) a.self.now.usable_pieces.now c.pieces_from-next_pieces.result.now a.at c.pieces_from-next_pieces.ensures c.requires.own c.loop-piece.piece-index c.piece-item.result c.loop-piece-test.true)),
                   (
                     ranges_more a.pieces.now c.in-Some.longer c.piece-item.result is c.requires.ranges c.piece.ensures.range,
                     (
@@ -125,7 +125,7 @@ loop-piece-preserved g t c =
     (met_on a.self.now.ask.now a.self.now.limit mid after c.in_ok-try_behind.ensures.still c.in-Some.longer c.in_ok-consider.ensures.met) c.in_ok-try_behind.ensures.met in record {
       kept = c.in_ok-try_behind.ensures.kept;
       still = λ path met. still path (c.loop-piece.invariant.still path met);
-      met = tried_more (IsMetBy a.self.now.ask.now a.self.now.limit before) fact a.self.now.usable_pieces.now (a.depth - 1) a.pieces.now a.at c.loop-piece.piece-index c.piece-item.result
+      met = tried_more (IsMetBy a.self.now.ask.now a.self.now.limit before) fact a.self.now.usable_pieces.now c.pieces_from-next_pieces.result.now (a.depth - 1) a.pieces.now a.at c.loop-piece.piece-index c.piece-item.result
           c.loop-piece-test.true c.piece-item.is (met_on a.self.now.ask.now a.self.now.limit before after still) c.loop-piece.invariant.met here;
     }
 
@@ -134,5 +134,5 @@ returns-clause-met g t c =
     let a = c.args in
     let fact = IsMetBy a.self.now.ask.now a.self.now.limit c.loop-piece.kept.first.items in
     let some = c.requires.some in
-    all_tried fact a.self.now.usable_pieces.now a.depth (a.depth - 1) a.pieces.now a.at (omega (arith, some))
-    (at_end (WasTried fact a.self.now.usable_pieces.now (a.depth - 1) a.pieces.now a.at) a.self.now.usable_pieces.now c.loop-piece.piece-index c.loop-piece-test.false c.loop-piece.invariant.met)
+    all_tried fact a.self.now.usable_pieces.now c.pieces_from-next_pieces.result.now a.depth (a.depth - 1) a.pieces.now a.at (omega (arith, some)) c.pieces_from-next_pieces.ensures
+    (at_end (WasTried fact a.self.now.usable_pieces.now (a.depth - 1) a.pieces.now a.at) c.pieces_from-next_pieces.result.now c.loop-piece.piece-index c.loop-piece-test.false c.loop-piece.invariant.met)

@@ -1,0 +1,36 @@
+-- The order of usable pieces: what is sorted by it is sorted by the ASes in which pieces begin.
+use Rattle.std.proofs.Common.{◌≡◌, ℕ, ◌<◌, true, false, List, get_or, is_lt, refl, sym, ◌∙◌, inl, inr}
+use Rattle.std.specs.Cmp.{IsTotalOrder, IsStrictWeakOrder}
+use Rattle.std.specs.List.Sorted.{IsSortedBy, IsNonDecreasingBy}
+use Rattle.std.specs.Ordering.{nat_cmp, ordering_then}
+use Rattle.std.specs.declared.cmp.Ordering.{Ordering}
+use Rattle.std.proofs.lemmas.Bool.{cases_lt, lt-ltb}
+use Rattle.std.proofs.lemmas.Cmp.{nat_cmp_total, on_total, then_total}
+use Rattle.std.proofs.lemmas.List.Sorted.{ranks_by, sorted_far}
+use Rattle.path_verifier.specs.Piece.{PieceValue, begins_in}
+use Rattle.combinator.specs.inner.UsablePieces.{rank_of, info_number, piece_cmp}
+
+piece_total : IsTotalOrder piece_cmp
+unfolding piece_cmp
+piece_total =
+    then_total (on_total (λ (piece : PieceValue). begins_in piece) nat_cmp_total)
+    (then_total (on_total (λ (piece : PieceValue). rank_of piece) nat_cmp_total) (on_total (λ (piece : PieceValue). info_number piece) nat_cmp_total))
+
+pub piece_ranks : IsStrictWeakOrder (λ (one other : PieceValue). is_lt (piece_cmp one other))
+piece_ranks = ranks_by piece_total (λ (piece : PieceValue). piece)
+
+less_first : (n m : ℕ) (later : Ordering) → n < m → is_lt (ordering_then (nat_cmp n m) later) ≡ true
+less_first n m later less = rw (lt-ltb n m less) refl
+
+begins_earlier : (one other : PieceValue) → begins_in one < begins_in other → is_lt (piece_cmp one other) ≡ true
+unfolding piece_cmp
+begins_earlier one other = less_first (begins_in one) (begins_in other) _
+
+pub begins_rise : (pieces : List PieceValue) → IsSortedBy (λ one other. is_lt (piece_cmp one other)) pieces → IsNonDecreasingBy begins_in pieces
+begins_rise pieces sorted i j d upward within =
+    let one = get_or pieces i d in
+    let other = get_or pieces j d in
+    elim (cases_lt (begins_in other) (begins_in one)) [
+      | inl less ↦ absurd (let both : true ≡ false = sym (begins_earlier other one less) ∙ sorted_far (λ (a b : PieceValue). is_lt (piece_cmp a b)) piece_ranks pieces sorted i j d upward within in cc)
+      | inr upto ↦ upto
+    ]
