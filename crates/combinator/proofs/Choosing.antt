@@ -133,17 +133,15 @@ module _ (set : Selection) (src dst : ℕ) (options : List WeighedRules) (limit 
   passed None kept weight w paths is some at light chosen = absurd (let none : is_some kept ≡ false = ap is_some is in let both = sym some ∙ none in cc)
   passed (Some used) kept weight w paths is some at light chosen = passed_over set src dst options limit place option here used weight paths (lighter w weight at light) chosen
 
-  pub left : (used : Option ℕ) (weight : ℕ) (paths found : List PathValue) → 0 < limit → found ≡ [] → IsAnswer (question_under set src dst seen) limit found
+  pub left : (used : Option ℕ) (weight : ℕ) (paths found : List PathValue) → 0 < limit → found ≡ [] → IsAnswer (question_under set src dst option) limit found
       → IsChosen set src dst options limit place used weight paths → IsChosen set src dst options limit (place + 1) used weight paths
   left used weight paths found some empty answer chosen =
-      left_none set src dst options limit place option here used weight paths
-      (subst (λ (o : WeighedRules). HasNone (question_under set src dst o)) same (none_there (question_under set src dst seen) limit found some empty answer)) chosen
+      left_none set src dst options limit place option here used weight paths (none_there (question_under set src dst option) limit found some empty answer) chosen
 
   pub taken_up : (used : Option ℕ) (weight : ℕ) (paths found : List PathValue) → ((u : ℕ) → used ≡ Some u → weight < seen.weight) → (found ≡ [] → ⊥)
-      → IsAnswer (question_under set src dst seen) limit found → IsChosen set src dst options limit place used weight paths
+      → IsAnswer (question_under set src dst option) limit found → IsChosen set src dst options limit place used weight paths
       → IsChosen set src dst options limit (place + 1) (Some place) seen.weight found
   taken_up used weight paths found heavier some answer chosen =
       let as_seen : seen.weight ≡ option.weight = ap (λ (o : WeighedRules). o.weight) same in
       subst (λ (w : ℕ). IsChosen set src dst options limit (place + 1) (Some place) w found) (sym as_seen)
-      (now_used set src dst options limit place option here used weight paths found (λ u is. (let more = heavier u is in omega arith)) (not_empty found some)
-      (subst (λ (o : WeighedRules). IsAnswer (question_under set src dst o) limit found) same answer) chosen)
+      (now_used set src dst options limit place option here used weight paths found (λ u is. (let more = heavier u is in omega arith)) (not_empty found some) answer chosen)

@@ -107,7 +107,7 @@ pub fn paths_between<'s, 'p, A: Allocator + Clone>(
 }
 
 /// The answer to a question.
-fn answer<'s, 'p, A: Allocator + Clone>(
+pub(crate) fn answer<'s, 'p, A: Allocator + Clone>(
     alloc: Global,
     ask: &PathRequest<'s, 'p, A>,
     limit: usize,

@@ -1,6 +1,9 @@
+ghost use Rattle.std.specs.Prelude.{◌≡◌};
+ghost use Rattle.combinator.specs.Answer.{question_under};
+
 use isd_as::IsdAs;
 use path_server::SegmentSet;
-use policy_expr::Policy;
+use policy_expr::{Policy, PolicyOption};
 use std::alloc::Allocator;
 use std::marker::Model;
 
@@ -23,4 +26,30 @@ impl<'s, 'p, A: Allocator + Clone> Model for PathRequest<'s, 'p, A> {
     ghost coded = { Prim.hlevel (codes, coded_tree) };
 
     ghost view = { λ a. question_of a.set.now a.src a.dst a.policy.now };
+}
+
+/// A request for at most `limit` paths from one AS to another, of these segments and under one of
+/// several policy options.
+#[derive(Drop)]
+pub(crate) struct ChoiceRequest<'s, 'p, A: Allocator + Clone> {
+    pub(crate) set: &'s SegmentSet,
+    pub(crate) src: IsdAs,
+    pub(crate) dst: IsdAs,
+    pub(crate) options: &'p [PolicyOption<A>],
+    pub(crate) limit: usize,
+}
+
+impl<'s, 'p, A: Allocator + Clone> ChoiceRequest<'s, 'p, A> {
+    /// The request under one of the options.
+    pub(crate) fn under(&self, option: &'p PolicyOption<A>) -> PathRequest<'s, 'p, A>
+        ensures { result ≡ question_under self.now.set.now self.now.src self.now.dst
+            option.entry.now }
+    {
+        PathRequest {
+            set: self.set,
+            src: self.src,
+            dst: self.dst,
+            policy: &option.policy,
+        }
+    }
 }

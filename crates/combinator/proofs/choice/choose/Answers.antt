@@ -1,4 +1,6 @@
-use Rattle.std.proofs.Common.{◌≡◌, true, false, is_some, Some, sym, ap, ◌∙◌, arith}
+use Rattle.std.proofs.Common.{◌≡◌, true, false, is_some, Some, sym, ap, subst, ◌∙◌, arith}
+use Rattle.combinator.specs.Candidate.{Question}
+use Rattle.combinator.specs.Answer.{IsAnswer}
 use Rattle.combinator.specs.Choice.{ChosenValue}
 use Rattle.combinator.proofs.Choosing.{passed, left, taken_up}
 use Rattle.combinator.proofs.choice.choose.Goals as goal
@@ -6,18 +8,18 @@ use Rattle.combinator.proofs.choice.choose.Goals.{else-is_some-via-then-is_some+
 
 pub returns-then-option-choice : goal.returns-then-option-choice
 returns-then-option-choice g c = λ options here chosen.
-    passed c.args.set.now c.args.src c.args.dst options c.args.limit c.args.place c.args.option.now (record { rules = c.option.inside.policy; weight = c.option.inside.weight }) here c.option.view_is
+    passed c.args.request.now.set.now c.args.request.now.src c.args.request.now.dst options c.args.request.now.limit c.args.place c.args.option.now (record { rules = c.option.inside.policy; weight = c.option.inside.weight }) here c.option.view_is
     c.args.choice.used c.choice.inside.option c.args.choice.weight c.choice.inside.weight c.args.choice.paths (ap (λ (v : ChosenValue). v.used) c.choice.view_is)
     (sym c.is_some.ensures ∙ c.if-is_some.true) (ap (λ (v : ChosenValue). v.weight) c.choice.view_is) c.if-option-choice.true chosen
 
 pub returns-then-is_empty : goal.returns-then-is_empty
 returns-then-is_empty g c = λ options here chosen.
-    left c.args.set.now c.args.src c.args.dst options c.args.limit c.args.place c.args.option.now (record { rules = c.option.inside.policy; weight = c.option.inside.weight }) here c.option.view_is
-    c.args.choice.used c.args.choice.weight c.args.choice.paths c.in_ok-paths.paths c.requires (c.is_empty.ensures.0 c.if-is_empty.true) c.in_ok-paths.ensures.answer chosen
+    left c.args.request.now.set.now c.args.request.now.src c.args.request.now.dst options c.args.request.now.limit c.args.place c.args.option.now (record { rules = c.option.inside.policy; weight = c.option.inside.weight }) here c.option.view_is
+    c.args.choice.used c.args.choice.weight c.args.choice.paths c.in_ok-paths.paths c.requires (c.is_empty.ensures.0 c.if-is_empty.true) (subst (λ (question : Question). IsAnswer question c.args.request.now.limit c.in_ok-paths.paths) c.under.ensures c.in_ok-paths.ensures.answer) chosen
 
 pub returns : goal.returns
 returns g c = λ options here chosen.
-    taken_up c.args.set.now c.args.src c.args.dst options c.args.limit c.args.place c.args.option.now (record { rules = c.option.inside.policy; weight = c.option.inside.weight }) here c.option.view_is
+    taken_up c.args.request.now.set.now c.args.request.now.src c.args.request.now.dst options c.args.request.now.limit c.args.place c.args.option.now (record { rules = c.option.inside.policy; weight = c.option.inside.weight }) here c.option.view_is
     c.args.choice.used c.args.choice.weight c.args.choice.paths c.in_ok-paths.paths
     (λ u is. elim c.else-is_some.branch [
       | else-is_some-via-then-is_some+else-option-choice w ↦ (
@@ -32,4 +34,4 @@ returns g c = λ options here chosen.
           cc)
     ])
     (λ empty. (let yes' : c.is_empty.result ≡ true = c.is_empty.ensures.1 empty in let none = c.if-is_empty.false in let both = sym yes' ∙ none in cc))
-    c.in_ok-paths.ensures.answer chosen
+    (subst (λ (question : Question). IsAnswer question c.args.request.now.limit c.in_ok-paths.paths) c.under.ensures c.in_ok-paths.ensures.answer) chosen
