@@ -11,6 +11,7 @@ mod answer;
 mod choice;
 mod combination;
 mod fault;
+mod front;
 mod kept;
 pub mod laws;
 mod limit;

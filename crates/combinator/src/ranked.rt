@@ -10,8 +10,9 @@ ghost use Rattle.path_header.specs.Spelling.{SpellsHeader, spelling};
 ghost use Rattle.path_verifier.specs.Walk.{walk_of};
 ghost use Rattle.combinator.specs.Candidate.{path_with};
 ghost use Rattle.combinator.specs.Order.{path_cmp, walk_cmp, hop_cmp};
-ghost use Rattle.combinator.specs.inner.Search.{ComesBefore, infos_of, IsNoWorse};
+ghost use Rattle.combinator.specs.inner.Search.{ComesBefore, IsNoWorse};
 
+use crate::front::Front;
 use crate::usable_piece::UsablePiece;
 use path_header::{Header, MAX_HEADER_LEN, META_LEN, SegLens, encode};
 use path_verifier::{Pieces, VerifiedPath};
@@ -145,26 +146,23 @@ impl<'s, 'p, A: Allocator + Clone> RankedPath<'s, 'p, A> {
 
 impl<'s, 'p, A: Allocator + Clone> RankedPath<'s, 'p, A> {
     /// Whether this path surely comes before each path that begins with these pieces and one more,
-    /// and goes on with at least `further` pieces, 0 or 1. `infos` has the bytes of the info fields
-    /// of the pieces.
+    /// and goes on with at least `further` pieces, 0 or 1.
     ///
     /// A further piece has two hop fields at least. So a path with as many hop fields as this one
     /// has exactly two for it, and the lengths and the first info fields decide.
     pub(crate) fn comes_before(
         &self,
-        pieces: &Pieces<'s>,
-        infos: &[u8],
+        front: &Front<'s>,
         piece: &UsablePiece<'s>,
         further: usize,
     ) -> bool
-        requires ranges { AllByRecursion HasRange pieces.now }
-        requires infos { infos.now ≡ infos_of pieces.now }
-        requires few { length pieces.now + further ≤ 2 }
+        requires few { length front.now + further ≤ 2 }
         requires one { further ≤ 1 }
-        ensures { IsTrue result → ComesBefore self.now (pieces.now ++ piece.now ∷ []) further }
+        ensures { IsTrue result → ComesBefore self.now (front.now ++ piece.now ∷ []) further }
     {
         let path = self.path();
         path.known();
+        let pieces = front.pieces();
         let mine = self.hop_count();
         let least = pieces.hop_count() + piece.len() + 2 * further;
         if mine != least {
@@ -173,7 +171,7 @@ impl<'s, 'p, A: Allocator + Clone> RankedPath<'s, 'p, A> {
         if !is_same(path.header().seg_lens(), lens_with(pieces, piece, further)) {
             return false;
         }
-        info_fields_come_before(&self.parts.bytes, infos, piece.info())
+        info_fields_come_before(&self.parts.bytes, front.infos(), piece.info())
     }
 }
 

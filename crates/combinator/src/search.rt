@@ -12,23 +12,19 @@ ghost use Rattle.combinator.specs.Candidate.{AreSpelled, IsOf, IsCandidate, path
 ghost use Rattle.combinator.specs.Order.{path_cmp};
 ghost use Rattle.combinator.specs.Answer.{IsBest};
 ghost use Rattle.combinator.specs.inner.Placed.{InOrder};
-ghost use Rattle.combinator.specs.inner.Search.{AreBefore, AreKept, HaveAll, infos_of, IsMetBy, IsNoBetter, MayReplace, OfEachBehind, StillMeet, ways_out, ways_out_of};
+ghost use Rattle.combinator.specs.inner.Search.{AreBefore, AreKept, HaveAll, IsMetBy, IsNoBetter, MayReplace, OfEachBehind, StillMeet, ways_out, ways_out_of};
 
+use crate::front::Front;
 use crate::kept::KeptPaths;
 use crate::ordered::is_met;
 use crate::ranked::RankedPath;
 use crate::request::PathRequest;
 use crate::usable_piece::UsablePiece;
 use crate::usable_pieces::UsablePieces;
-use arrayvec::ArrayVec;
 use isd_as::{IfId, IsdAs};
-use path_header::INFO_LEN;
 use path_verifier::{Piece, Pieces, VerifiedPath, accept};
 use policy_expr::WalkHop;
 use std::alloc::{AllocError, Allocator, Global};
-
-/// The largest length of the info fields of a path in bytes.
-const MAX_INFOS_LEN: usize = 3 * INFO_LEN;
 
 /// A search: the request, the pieces of which its paths are made, and the largest number of paths.
 #[derive(Drop)]
@@ -62,18 +58,17 @@ pub(crate) fn first_paths<'s, 'p, A: Allocator + Clone>(
         limit,
     };
     let mut kept = KeptPaths::none(alloc);
-    search.try_behind(&mut kept, &Pieces::new(), &[], ask.src, 3)?;
+    search.try_behind(&mut kept, &Front::new(), ask.src, 3)?;
     Ok(kept.first)
 }
 
 impl<'a, 's, 'p, A: Allocator + Clone> Search<'a, 's, 'p, A> {
     /// Tries the paths that begin with these pieces and go on, from the AS `at`, with one to
-    /// `depth` usable pieces. `infos` has the bytes of the info fields of the pieces.
+    /// `depth` usable pieces.
     fn try_behind(
         &self,
         kept: &mut KeptPaths<'s, 'p, A>,
-        pieces: &Pieces<'s>,
-        infos: &[u8],
+        front: &Front<'s>,
         at: IsdAs,
         depth: usize,
     ) -> Result<(), AllocError>
@@ -82,36 +77,31 @@ impl<'a, 's, 'p, A: Allocator + Clone> Search<'a, 's, 'p, A> {
         requires spelled { AreSpelled self.now.ask.now }
         requires kept { AreKept self.now.ask.now self.now.limit kept.old.first.items
             kept.old.behind.items }
-        requires front { All (IsOf self.now.ask.now.set) pieces.now }
-        requires ranges { AllByRecursion HasRange pieces.now }
-        requires infos { infos.now ≡ infos_of pieces.now }
+        requires front { All (IsOf self.now.ask.now.set) front.now }
         requires some { 0 < depth }
-        requires few { length pieces.now + depth ≤ 3 }
+        requires few { length front.now + depth ≤ 3 }
         ensures kept { OnOk result (AreKept self.now.ask.now self.now.limit kept.new.first.items
             kept.new.behind.items) }
         ensures still { OnOk result
             (StillMeet self.now.limit kept.old.first.items kept.new.first.items) }
         ensures met { OnOk result (OfEachBehind (IsMetBy self.now.ask.now self.now.limit
-            kept.new.first.items) self.now.usable_pieces.now depth pieces.now at) }
+            kept.new.first.items) self.now.usable_pieces.now depth front.now at) }
     {
         let next_pieces = self.usable_pieces.pieces_from(at);
         for piece in next_pieces {
-            if is_behind(&kept.first, self.limit, pieces, infos, piece, 0) {
+            if is_behind(&kept.first, self.limit, front, piece, 0) {
                 continue;
             }
-            let Some(longer) = pieces.with_piece(piece.piece()) else {
-                unreachable!();
-            };
+            let longer = front.with_piece(piece);
             let end = piece.ends();
-            self.consider(kept, &longer, end)?;
+            self.consider(kept, longer.pieces(), end)?;
             if depth == 1 {
                 continue;
             }
-            if is_behind(&kept.first, self.limit, pieces, infos, piece, 1) {
+            if is_behind(&kept.first, self.limit, front, piece, 1) {
                 continue;
             }
-            let more = with_info(infos, piece.info());
-            self.try_behind(kept, &longer, &more, end, depth - 1)?;
+            self.try_behind(kept, &longer, end, depth - 1)?;
         }
         Ok(())
     }
@@ -186,7 +176,7 @@ impl<'a, 's, 'p, A: Allocator + Clone> Search<'a, 's, 'p, A> {
                 unreachable!();
             };
             let end = piece.ends();
-            best = better_of(self.alloc, self.ask, best, &longer, end)?;
+            best = self.better_of(best, &longer, end)?;
             if depth == 1 {
                 continue;
             }
@@ -194,6 +184,37 @@ impl<'a, 's, 'p, A: Allocator + Clone> Search<'a, 's, 'p, A> {
             best = self.best_behind(best, &longer, end, next, depth - 1)?;
         }
         Ok(best)
+    }
+
+    /// The better one of a path and the path of these pieces, if that may be sent and has the same
+    /// walk. The pieces end in the AS `end`.
+    fn better_of(
+        &self,
+        found: RankedPath<'s, 'p, A>,
+        pieces: &Pieces<'s>,
+        end: IsdAs,
+    ) -> Result<RankedPath<'s, 'p, A>, AllocError>
+        requires candidate { IsCandidate self.now.ask.now found }
+        requires front { All (IsOf self.now.ask.now.set) pieces.now }
+        requires end { DoEndIn end pieces.now }
+        ensures better { IfOk result (MayReplace self.now.ask.now found.entry) }
+        ensures none { IfOk result (λ best. IsNoBetter self.now.ask.now best pieces.now) }
+    {
+        // Most often the pieces are those of the path itself.
+        if has_pieces(&found, pieces) {
+            return Ok(found);
+        }
+        let Some(rival) = candidate_of(self.ask, pieces, end) else {
+            return Ok(found);
+        };
+        if !found.has_walk_of(&rival) {
+            return Ok(found);
+        }
+        if !found.is_worse(&rival) {
+            return Ok(found);
+        }
+        let better = RankedPath::new(self.alloc, rival)?;
+        Ok(better)
     }
 }
 
@@ -223,42 +244,23 @@ fn candidate_of<'s, 'p, A: Allocator + Clone>(
 }
 
 /// Whether there are `limit` paths that come before each path that begins with these pieces and one
-/// more, and goes on with at least `further` pieces, 0 or 1. `infos` has the bytes of the info
-/// fields of the pieces.
+/// more, and goes on with at least `further` pieces, 0 or 1.
 fn is_behind<'s, 'p, A: Allocator + Clone>(
     kept: &[RankedPath<'s, 'p, A>],
     limit: usize,
-    pieces: &Pieces<'s>,
-    infos: &[u8],
+    front: &Front<'s>,
     piece: &UsablePiece<'s>,
     further: usize,
 ) -> bool
     requires order { InOrder path_cmp kept.now }
-    requires ranges { AllByRecursion HasRange pieces.now }
-    requires infos { infos.now ≡ infos_of pieces.now }
-    requires few { length pieces.now + further ≤ 2 }
+    requires few { length front.now + further ≤ 2 }
     requires one { further ≤ 1 }
-    ensures { IsTrue result → AreBefore limit kept.now (pieces.now ++ piece.now ∷ []) further }
+    ensures { IsTrue result → AreBefore limit kept.now (front.now ++ piece.now ∷ []) further }
 {
     match kept.last() {
-        Some(last) => kept.len() == limit && last.comes_before(pieces, infos, piece, further),
+        Some(last) => kept.len() == limit && last.comes_before(front, piece, further),
         None => false,
     }
-}
-
-/// The bytes of these info fields, and of one more behind them.
-fn with_info(infos: &[u8], info: &[u8]) -> ArrayVec<u8, MAX_INFOS_LEN>
-    requires { length infos.now + length info.now ≤ 24 }
-    ensures { result.items ≡ infos.now ++ info.now }
-{
-    let mut more = ArrayVec::new();
-    let (Ok(()), Ok(())) = (
-        more.try_extend_from_slice(infos),
-        more.try_extend_from_slice(info),
-    ) else {
-        unreachable!();
-    };
-    more
 }
 
 /// Whether a walk leaves the AS at this place by an interface.
@@ -270,38 +272,6 @@ fn leaves_by(walk: &[WalkHop], place: usize, way: IfId) -> bool
         Some(hop) => hop.egress == way,
         None => false,
     }
-}
-
-/// The better one of a path and the path of these pieces, if that may be sent and has the same
-/// walk. The pieces end in the AS `end`.
-fn better_of<'s, 'p, A: Allocator + Clone>(
-    alloc: Global,
-    ask: &PathRequest<'s, 'p, A>,
-    found: RankedPath<'s, 'p, A>,
-    pieces: &Pieces<'s>,
-    end: IsdAs,
-) -> Result<RankedPath<'s, 'p, A>, AllocError>
-    requires candidate { IsCandidate ask.now found }
-    requires front { All (IsOf ask.now.set) pieces.now }
-    requires end { DoEndIn end pieces.now }
-    ensures better { IfOk result (MayReplace ask.now found.entry) }
-    ensures none { IfOk result (λ best. IsNoBetter ask.now best pieces.now) }
-{
-    // Most often the pieces are those of the path itself.
-    if has_pieces(&found, pieces) {
-        return Ok(found);
-    }
-    let Some(rival) = candidate_of(ask, pieces, end) else {
-        return Ok(found);
-    };
-    if !found.has_walk_of(&rival) {
-        return Ok(found);
-    }
-    if !found.is_worse(&rival) {
-        return Ok(found);
-    }
-    let better = RankedPath::new(alloc, rival)?;
-    Ok(better)
 }
 
 /// Whether a path is of these pieces.
