@@ -31,7 +31,8 @@ history_more : (start : NetValue) (history : List EventRecord) (m : EventRecord)
 history_more start [] m is step = (step, tt)
 history_more start (x ∷ history) m is step = (is.0, history_more x.net history m is.1 step)
 
-net_more : (start : NetValue) (history : List EventRecord) (m : EventRecord) → net_after start (history ++ m ∷ []) ≡ m.net
+net_more : (start : NetValue) (history : List EventRecord) (m : EventRecord)
+    → net_after start (history ++ m ∷ []) ≡ m.net
 net_more start [] m = refl
 net_more start (x ∷ history) m = net_more x.net history m
 
@@ -54,7 +55,8 @@ goes_on network events net new event reply b step framed done own =
       stored = All-push (StaysStored new) events event still facts.1;
     }
 
-pub same_network : (net new : NetValue) (event : EventValue) (reply : Reply) → IsOfBeaconing event → Step net event reply new
+pub same_network : (net new : NetValue) (event : EventValue) (reply : Reply) → IsOfBeaconing event
+    → Step net event reply new
     → is_done reply ≡ true → new.network ≡ net.network
 same_network net new event reply own step done = (grows net new event reply own step done).0.network
 

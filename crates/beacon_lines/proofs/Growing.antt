@@ -45,10 +45,12 @@ after_tick old new moment is = record {
 }
 
 -- one more beacon
-adds : (old new : NetValue) (chain : Chain) (x : Reply × NetValue) → with_beacon old chain ≡ Ok x → new ≡ x.1 → Grows old new
+adds : (old new : NetValue) (chain : Chain) (x : Reply × NetValue) → with_beacon old chain ≡ Ok x → new ≡ x.1
+    → Grows old new
 adds old new chain x made is =
     let inner = both_done (check (has_room old.beacons) faults.TooMany) _ x made in
-    let more : new ≡ record old { beacons = old.beacons ++ chain ∷ [] } = is ∙ ap (λ (p : Reply × NetValue). p.1) (sym (ok_is _ x inner.1.1)) in
+    let more : new ≡ record old { beacons = old.beacons ++ chain ∷ [] } =
+    is ∙ ap (λ (p : Reply × NetValue). p.1) (sym (ok_is _ x inner.1.1)) in
     record {
       network = ap (λ (n : NetValue). n.network) more;
       beacons = λ number other there. ap (λ (n : NetValue). slice_get n.beacons number) more ∙ still_there old.beacons (chain ∷ []) number other there;
@@ -57,19 +59,23 @@ adds old new chain x made is =
 
 -- a segment that is registered is in the store
 with_itself : (answer : Result Bool StoreFault) (is_new : Bool) (segments : List Chain) (segment : Chain) (now : ℕ)
-    → answer ≡ Ok is_new → IsRegisterAnswer segments segment now answer → Contains (with_new answer segments segment) segment
-with_itself (Ok true) is_new segments segment now is plain = Contains-append_right segments (segment ∷ []) segment (0, omega arith, refl)
+    → answer ≡ Ok is_new → IsRegisterAnswer segments segment now answer
+    → Contains (with_new answer segments segment) segment
+with_itself (Ok true) is_new segments segment now is plain =
+    Contains-append_right segments (segment ∷ []) segment (0, omega arith, refl)
 with_itself (Ok false) is_new segments segment now is plain = plain.1
 with_itself (Err fault) is_new segments segment now is plain = absurd cc
 
-has_itself : (segments : List Chain) (segment : Chain) (now : ℕ) (is_new : Bool) → answer_to segments segment now ≡ Ok is_new
+has_itself : (segments : List Chain) (segment : Chain) (now : ℕ) (is_new : Bool)
+    → answer_to segments segment now ≡ Ok is_new
     → Contains (with_registered segments segment now) segment
 unfolding with_registered
 has_itself segments segment now is_new is =
     with_itself (answer_to segments segment now) is_new segments segment now is (answer_is_plain segments segment now)
 
 -- what a beacon becomes stays
-ended_same : (old new : NetValue) (beacon ia : ℕ) (segment : Chain) → Grows old new → new_segment old beacon ia ≡ Ok segment
+ended_same : (old new : NetValue) (beacon ia : ℕ) (segment : Chain) → Grows old new
+    → new_segment old beacon ia ≡ Ok segment
     → new_segment new beacon ia ≡ Ok segment
 ended_same old new beacon ia segment grows is =
     let was = both_done (beacon_at old beacon) _ segment is in
@@ -120,7 +126,8 @@ ends old new beacon ia x made is =
       ),
     )
 
-pub grows : (old new : NetValue) (event : EventValue) (reply : Reply) → IsOfBeaconing event → Step old event reply new → is_done reply ≡ true
+pub grows : (old new : NetValue) (event : EventValue) (reply : Reply) → IsOfBeaconing event
+    → Step old event reply new → is_done reply ≡ true
     → Grows old new × StaysStored new event
 grows old new (Tick to) reply own is done =
     let made = led (ticks old to) old reply new is done in
@@ -148,7 +155,8 @@ grows old new (MendLink ia interface) reply own is done = absurd own
 grows old new (RotateKey ia key) reply own is done = absurd own
 
 -- an event of a beaconing that is not done changes nothing
-unled : (made : Made) (old : NetValue) (reply : Reply) (new : NetValue) → Leads made old reply new → is_done reply ≡ false
+unled : (made : Made) (old : NetValue) (reply : Reply) (new : NetValue) → Leads made old reply new
+    → is_done reply ≡ false
     → ((x : Reply × NetValue) → made ≡ Ok x → is_done x.0 ≡ true) → new ≡ old
 unled (Ok x) old reply new is undone made = absurd (let done = ap is_done is.0 ∙ made x refl in cc)
 unled (Err fault) old reply new is undone made = is.1
@@ -158,7 +166,8 @@ begun_done net chain x made =
     let inner = both_done (check (has_room net.beacons) faults.TooMany) _ x made in
     ap (λ (p : Reply × NetValue). is_done p.0) (sym (ok_is _ x inner.1.1))
 
-pub unchanged : (old new : NetValue) (event : EventValue) (reply : Reply) → IsOfBeaconing event → Step old event reply new → is_done reply ≡ false
+pub unchanged : (old new : NetValue) (event : EventValue) (reply : Reply) → IsOfBeaconing event
+    → Step old event reply new → is_done reply ≡ false
     → new ≡ old
 unchanged old new (Tick to) reply own is undone =
     unled (ticks old to) old reply new is undone (λ x made.

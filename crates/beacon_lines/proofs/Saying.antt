@@ -20,16 +20,19 @@ pub no_text : (bytes : List ℕ) → ¬ (IsUtf8 bytes) → network_in bytes ≡ 
 no_text bytes none = ap of_value (no_document bytes (λ text. absurd (none text)))
 
 -- the lines of events, one after another
-lines_of : (events : List BeaconEvent) → flat_map event_line (map network_event events) ≡ flat_map (λ event. event_line (network_event event)) events
+lines_of : (events : List BeaconEvent)
+    → flat_map event_line (map network_event events) ≡ flat_map (λ event. event_line (network_event event)) events
 lines_of [] = refl
 lines_of (event ∷ events) =
     flat_map-cons event_line (network_event event) (map network_event events)
     ∙ ap (λ later. event_line (network_event event) ++ later) (lines_of events)
     ∙ sym (flat_map-cons (λ event. event_line (network_event event)) event events)
 
-pub are_lines : (line text : List ℕ) (network : Network) (events : List BeaconEvent) (net : NetValue) → network_in line ≡ Ok network
+pub are_lines : (line text : List ℕ) (network : Network) (events : List BeaconEvent) (net : NetValue)
+    → network_in line ≡ Ok network
     → IsNetwork network → net.network ≡ network → IsBeaconing net.network (map network_event events) net
-    → text ≡ (line ++ codes "\n") ++ flat_map (λ event. event_line (network_event event)) events → AreBeaconLines line text
+    → text ≡ (line ++ codes "\n") ++ flat_map (λ event. event_line (network_event event)) events
+    → AreBeaconLines line text
 are_lines line text network events net topology known same beaconing says =
     let own = subst (λ n. IsBeaconing n (map network_event events) net) same beaconing in
     record {

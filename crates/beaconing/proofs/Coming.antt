@@ -13,12 +13,14 @@ use Rattle.beaconing.specs.Issued.{ComesOver}
 use Rattle.beaconing.proofs.Issuing.{Comes-come_to}
 
 -- an interface that an end of a link is
-seen_at : (n : Network) (end : End) (ia number : ℕ) (entry : IfEntry) → IsAt end ia number → interface_at n end.ia end.number ≡ Ok entry → interface_at n ia number ≡ Ok entry
+seen_at : (n : Network) (end : End) (ia number : ℕ) (entry : IfEntry) → IsAt end ia number
+    → interface_at n end.ia end.number ≡ Ok entry → interface_at n ia number ≡ Ok entry
 seen_at n end ia number entry at shown =
     sym (ap (λ (x : ℕ). interface_at n x end.number) at.0 ∙ ap (interface_at n ia) at.1) ∙ shown
 
 -- both ends of a link are up where one is
-up_at_near : (n : Network) (ia number far_ia far_number : ℕ) (into : IfEntry) → IsNetwork n → far_end_in n ia number ≡ Ok (far_ia, far_number)
+up_at_near : (n : Network) (ia number far_ia far_number : ℕ) (into : IfEntry) → IsNetwork n
+    → far_end_in n ia number ≡ Ok (far_ia, far_number)
     → interface_at n far_ia far_number ≡ Ok into → into.up ≡ true → IsUp n ia number true
 up_at_near n ia number far_ia far_number into network leads shown up =
     let joined = are_joined n ia number far_ia far_number network leads in

@@ -38,7 +38,8 @@ answered f (Err d) x e = absurd cc
 
 -- ---- one entry more
 
-at_end : {A : Type 0} (xs : List A) (x : A) (k : ℕ) (e : A) → slice_get (xs ++ (x ∷ [])) k ≡ Some e → ((k < length xs) × (slice_get xs k ≡ Some e)) ⊎ ((k ≡ length xs) × (x ≡ e))
+at_end : {A : Type 0} (xs : List A) (x : A) (k : ℕ) (e : A) → slice_get (xs ++ (x ∷ [])) k ≡ Some e
+    → ((k < length xs) × (slice_get xs k ≡ Some e)) ⊎ ((k ≡ length xs) × (x ≡ e))
 at_end [] x zero e at = inr (refl, same_Some x e at)
 at_end [] x (suc k) e at = absurd cc
 at_end (y ∷ ys) x zero e at = let some : zero < length (y ∷ ys) = omega arith in inl (some, at)
@@ -90,11 +91,14 @@ made_with_last n keys b key e made core own leads = record {
 -- the entry that was added is the last one
 last_with_last : (b : Chain) (e last : Entry) → last_of (with_last b e) ≡ Some last → e ≡ last
 last_with_last b e last is = elim (at_end b.entries e (length (b.entries ++ (e ∷ [])) - 1) last is) [
-  | inl inside ↦ absurd (let h = inside.0 in let g = length-append b.entries (e ∷ []) in let o : length (e ∷ []) ≡ 1 = refl in omega arith)
+  | inl inside ↦ absurd
+      (let h = inside.0 in let g = length-append b.entries (e ∷ []) in let o : length (e ∷ []) ≡ 1 = refl in omega arith)
   | inr end ↦ end.1
 ]
 
-entry_of : (n : Network) (ia timestamp beta ingress egress : ℕ) (one : AsEntry) → as_named n.ases ia ≡ Some one → IsEntryOf n timestamp beta (key_in_use one.keys) (entry_by one timestamp beta ingress egress)
+entry_of : (n : Network) (ia timestamp beta ingress egress : ℕ) (one : AsEntry)
+    → as_named n.ases ia ≡ Some one
+    → IsEntryOf n timestamp beta (key_in_use one.keys) (entry_by one timestamp beta ingress egress)
 entry_of n ia timestamp beta ingress egress one named = record {
   one = one;
   named = ap (as_named n.ases) (ia_of_named n.ases ia one named) ∙ named;
@@ -116,7 +120,9 @@ rules_of_first : (e : Entry) → e.cons_ingress ≡ 0 → e.cons_egress ≢ 0 �
 unfolding beacon_fault
 rules_of_first e no_in some_out = rw (no_in, ne_eqb e.cons_egress 0 some_out) refl
 
-pub begun : (n : Network) (ia egress timestamp beta0 : ℕ) (one : AsEntry) (b : Chain) → IsNetwork n → as_named n.ases ia ≡ Some one → originated_beacon n ia egress timestamp beta0 ≡ Ok b → IsUnderWay n (key_in_use one.keys ∷ []) b
+pub begun : (n : Network) (ia egress timestamp beta0 : ℕ) (one : AsEntry) (b : Chain) → IsNetwork n
+    → as_named n.ases ia ≡ Some one → originated_beacon n ia egress timestamp beta0 ≡ Ok b
+    → IsUnderWay n (key_in_use one.keys ∷ []) b
 unfolding originated_beacon
 begun n ia egress timestamp beta0 one b network named found =
     let s1 = bind_ok (ok_or (as_named n.ases ia) NotCore) _ b found in
@@ -135,7 +141,8 @@ begun n ia egress timestamp beta0 one b network named found =
     let first_core : is_core n.ases one.ia ≡ true = ap (is_core n.ases) ia_is ∙ is_core_there in
     rw (← is) (record {
       rules = rules_of_first e refl (no_zero n ia egress out network there);
-      made = made_with_last n [] (chain_of (kind_over out.kind) timestamp beta0 []) (key_in_use one.keys) e (made_empty n (kind_over out.kind) timestamp beta0)
+      made = made_with_last n [] (chain_of (kind_over out.kind) timestamp beta0 []) (key_in_use one.keys) e
+          (made_empty n (kind_over out.kind) timestamp beta0)
           (λ first at. rw (← same_Some e first at) first_core)
           (entry_of n ia timestamp beta0 0 egress one named)
           (λ last at. absurd cc);
@@ -158,7 +165,8 @@ pub record Comes (n : Network) (b : Chain) (ia ingress : ℕ) : Type 0 where
   pub shown : interface_at n ia ingress ≡ Ok entry
   pub up : entry.up ≡ true
 
-pub Comes-come_to : (n : Network) (b : Chain) (ia ingress : ℕ) → IsNetwork n → come_to n b ia ≡ Ok ingress → Comes n b ia ingress
+pub Comes-come_to : (n : Network) (b : Chain) (ia ingress : ℕ) → IsNetwork n → come_to n b ia ≡ Ok ingress
+    → Comes n b ia ingress
 unfolding come_to
 Comes-come_to n b ia ingress network found =
     let s1 = bind_ok (ok_or (last_of b) NotHere) _ ingress found in
@@ -189,7 +197,8 @@ unfolding is_new
 new_of b ia new = not-true _ new
 
 -- what an AS adds to a beacon that comes to it is made
-made_added : (n : Network) (keys : List (List ℕ)) (b : Chain) (ia ingress egress : ℕ) (one : AsEntry) → IsNetwork n → IsUnderWay n keys b → as_named n.ases ia ≡ Some one → Comes n b ia ingress
+made_added : (n : Network) (keys : List (List ℕ)) (b : Chain) (ia ingress egress : ℕ) (one : AsEntry)
+    → IsNetwork n → IsUnderWay n keys b → as_named n.ases ia ≡ Some one → Comes n b ia ingress
     → IsMade n (keys ++ (key_in_use one.keys ∷ [])) (with_last b (added_by one b ingress egress))
 made_added n keys b ia ingress egress one network under named comes =
     let e = added_by one b ingress egress in
@@ -201,20 +210,25 @@ made_added n keys b ia ingress egress one network under named comes =
     (entry_of n ia b.timestamp (beta_of b (length b.entries)) ingress egress one named)
     (λ last at. (
     let same : comes.last ≡ last = same_Some comes.last last (sym comes.is_last ∙ at) in
-    let leads : far_end_in n last.ia last.cons_egress ≡ _ = ap (λ (o : Entry). far_end_in n o.ia o.cons_egress) (sym same) ∙ comes.leads in
+    let leads : far_end_in n last.ia last.cons_egress ≡ _ =
+    ap (λ (o : Entry). far_end_in n o.ia o.cons_egress) (sym same) ∙ comes.leads in
     leads_on n b.kind last e ia ingress network (under.out last at) leads (sym (ia_of_named n.ases ia one named)) refl))
 
-rules_of_next : (es : List Entry) (e : Entry) → nat_lt (length es) 62 ≡ true → e.cons_ingress ≢ 0 → e.cons_egress ≢ 0 → list_any (λ other. eqb other.ia e.ia) es ≡ false → next_fault es e ≡ None
+rules_of_next : (es : List Entry) (e : Entry) → nat_lt (length es) 62 ≡ true → e.cons_ingress ≢ 0
+    → e.cons_egress ≢ 0 → list_any (λ other. eqb other.ia e.ia) es ≡ false → next_fault es e ≡ None
 unfolding next_fault
 rules_of_next es e few some_in some_out new =
     let fits : nat_le 62 (length es) ≡ false = grind (arith, nat_tests) in
     rw (fits, ne_eqb e.cons_ingress 0 some_in, ne_eqb e.cons_egress 0 some_out, new) refl
 
-rules_of_last : (es : List Entry) (e : Entry) → e.cons_ingress ≢ 0 → e.cons_egress ≡ 0 → list_any (λ other. eqb other.ia e.ia) es ≡ false → last_fault es e ≡ None
+rules_of_last : (es : List Entry) (e : Entry) → e.cons_ingress ≢ 0 → e.cons_egress ≡ 0
+    → list_any (λ other. eqb other.ia e.ia) es ≡ false → last_fault es e ≡ None
 unfolding last_fault
 rules_of_last es e some_in no_out new = rw (ne_eqb e.cons_ingress 0 some_in, no_out, new) refl
 
-pub passed_on : (n : Network) (keys : List (List ℕ)) (b : Chain) (ia egress : ℕ) (one : AsEntry) (c : Chain) → IsNetwork n → IsUnderWay n keys b → as_named n.ases ia ≡ Some one → extended_beacon n b ia egress ≡ Ok c → IsUnderWay n (keys ++ (key_in_use one.keys ∷ [])) c
+pub passed_on : (n : Network) (keys : List (List ℕ)) (b : Chain) (ia egress : ℕ) (one : AsEntry) (c : Chain)
+    → IsNetwork n → IsUnderWay n keys b → as_named n.ases ia ≡ Some one → extended_beacon n b ia egress ≡ Ok c
+    → IsUnderWay n (keys ++ (key_in_use one.keys ∷ [])) c
 unfolding extended_beacon
 passed_on n keys b ia egress one c network under named found =
     let s1 = bind_ok (ok_or (as_named n.ases ia) NotHere) _ c found in
@@ -223,7 +237,8 @@ passed_on n keys b ia egress one c network under named found =
     let ingress = s2.0 in
     let comes = Comes-come_to n b ia ingress network s2.1 in
     let s3 = bind_ok (check (is_new b s1.0.ia) Loop) _ c s2.2 in
-    let new : list_any (λ entry. eqb entry.ia one.ia) b.entries ≡ false = ap (λ (o : AsEntry). list_any (λ entry. eqb entry.ia o.ia) b.entries) (sym same) ∙ new_of b s1.0.ia (check_ok (is_new b s1.0.ia) Loop s3.0 s3.1) in
+    let new : list_any (λ entry. eqb entry.ia one.ia) b.entries ≡ false =
+    ap (λ (o : AsEntry). list_any (λ entry. eqb entry.ia o.ia) b.entries) (sym same) ∙ new_of b s1.0.ia (check_ok (is_new b s1.0.ia) Loop s3.0 s3.1) in
     let s4 = bind_ok (check (nat_lt (length b.entries) 62) TooLong) _ c s3.2 in
     let few = check_ok (nat_lt (length b.entries) 62) TooLong s4.0 s4.1 in
     let s5 = bind_ok (or_else NoInterface (interface_at n ia egress)) _ c s4.2 in
@@ -233,9 +248,11 @@ passed_on n keys b ia egress one c network under named found =
     let on = check_ok (goes_on b.kind out.kind) WrongKind s6.0 s6.1 in
     let s7 = bind_ok (check out.up LinkDown) _ c s6.2 in
     let e = added_by one b ingress egress in
-    let is : with_last b e ≡ c = ap (λ (o : AsEntry). with_last b (added_by o b ingress egress)) (sym same) ∙ ok_is _ c s7.2 in
+    let is : with_last b e ≡ c =
+    ap (λ (o : AsEntry). with_last b (added_by o b ingress egress)) (sym same) ∙ ok_is _ c s7.2 in
     rw (← is) (record {
-      rules = sym (next_is b.entries e under.rules) ∙ rules_of_next b.entries e few comes.some (no_zero n ia egress out network there) new;
+      rules = sym (next_is b.entries e under.rules) ∙ rules_of_next b.entries e few comes.some
+          (no_zero n ia egress out network there) new;
       made = made_added n keys b ia ingress egress one network under named comes;
       out = λ last at. rw (← last_with_last b e last at) (record {
         out = out;
@@ -244,7 +261,9 @@ passed_on n keys b ia egress one c network under named found =
       });
     })
 
-pub ended : (n : Network) (keys : List (List ℕ)) (b : Chain) (ia : ℕ) (one : AsEntry) (s : Chain) → IsNetwork n → IsUnderWay n keys b → as_named n.ases ia ≡ Some one → terminated_beacon n b ia ≡ Ok s → IsIssued n (keys ++ (key_in_use one.keys ∷ [])) s
+pub ended : (n : Network) (keys : List (List ℕ)) (b : Chain) (ia : ℕ) (one : AsEntry) (s : Chain)
+    → IsNetwork n → IsUnderWay n keys b → as_named n.ases ia ≡ Some one → terminated_beacon n b ia ≡ Ok s
+    → IsIssued n (keys ++ (key_in_use one.keys ∷ [])) s
 unfolding terminated_beacon
 ended n keys b ia one s network under named found =
     let s1 = bind_ok (ok_or (as_named n.ases ia) NotHere) _ s found in
@@ -253,10 +272,13 @@ ended n keys b ia one s network under named found =
     let ingress = s2.0 in
     let comes = Comes-come_to n b ia ingress network s2.1 in
     let s3 = bind_ok (check (is_new b s1.0.ia) Loop) _ s s2.2 in
-    let new : list_any (λ entry. eqb entry.ia one.ia) b.entries ≡ false = ap (λ (o : AsEntry). list_any (λ entry. eqb entry.ia o.ia) b.entries) (sym same) ∙ new_of b s1.0.ia (check_ok (is_new b s1.0.ia) Loop s3.0 s3.1) in
+    let new : list_any (λ entry. eqb entry.ia one.ia) b.entries ≡ false =
+    ap (λ (o : AsEntry). list_any (λ entry. eqb entry.ia o.ia) b.entries) (sym same) ∙ new_of b s1.0.ia (check_ok (is_new b s1.0.ia) Loop s3.0 s3.1) in
     let e = added_by one b ingress 0 in
-    let is : with_last b e ≡ s = ap (λ (o : AsEntry). with_last b (added_by o b ingress 0)) (sym same) ∙ ok_is _ s s3.2 in
+    let is : with_last b e ≡ s =
+    ap (λ (o : AsEntry). with_last b (added_by o b ingress 0)) (sym same) ∙ ok_is _ s s3.2 in
     rw (← is) (record {
-      rules = (segment_in_words (b.entries ++ (e ∷ []))).0 (sym (last_is b.entries e under.rules) ∙ rules_of_last b.entries e comes.some refl new);
+      rules = (segment_in_words (b.entries ++ (e ∷ []))).0
+          (sym (last_is b.entries e under.rules) ∙ rules_of_last b.entries e comes.some refl new);
       made = made_added n keys b ia ingress 0 one network under named comes;
     })

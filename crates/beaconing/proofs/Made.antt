@@ -30,7 +30,8 @@ record IsBegun (n : Network) (ia : ℕ) (b : Chain) : Type 0 where
   pub of : entry.ia ≡ ia
   pub is : b.entries ≡ entry ∷ []
 
-is_begun : (n : Network) (ia egress timestamp beta0 : ℕ) (b : Chain) → originated_beacon n ia egress timestamp beta0 ≡ Ok b → IsBegun n ia b
+is_begun : (n : Network) (ia egress timestamp beta0 : ℕ) (b : Chain)
+    → originated_beacon n ia egress timestamp beta0 ≡ Ok b → IsBegun n ia b
 unfolding originated_beacon
 is_begun n ia egress timestamp beta0 b found =
     let s1 = bind_ok (ok_or (as_named n.ases ia) NotCore) _ b found in
@@ -93,7 +94,8 @@ adds_last n b ia c found =
       };
     }
 
-pub extended_grows : (n : Network) (b : Chain) (ia egress : ℕ) (c : Chain) → extended_beacon n b ia egress ≡ Ok c → Grows n b ia c
+pub extended_grows : (n : Network) (b : Chain) (ia egress : ℕ) (c : Chain)
+    → extended_beacon n b ia egress ≡ Ok c → Grows n b ia c
 extended_grows n b ia egress c found = (adds_next n b ia egress c found).grows
 
 pub terminated_grows : (n : Network) (b : Chain) (ia : ℕ) (c : Chain) → terminated_beacon n b ia ≡ Ok c → Grows n b ia c
@@ -104,24 +106,32 @@ terminated_grows n b ia c found = (adds_last n b ia c found).grows
 key_named : (n : Network) (ia : ℕ) (one : AsEntry) → as_named n.ases ia ≡ Some one → key_in_use one.keys ≡ key_in n ia
 key_named n ia one named = rw named refl
 
-pub begun_under_way : (n : Network) (ia egress timestamp beta0 : ℕ) (b : Chain) → IsNetwork n → originated_beacon n ia egress timestamp beta0 ≡ Ok b → IsUnderWay n (key_in n ia ∷ []) b
+pub begun_under_way : (n : Network) (ia egress timestamp beta0 : ℕ) (b : Chain) → IsNetwork n
+    → originated_beacon n ia egress timestamp beta0 ≡ Ok b → IsUnderWay n (key_in n ia ∷ []) b
 begun_under_way n ia egress timestamp beta0 b network found =
     let s = is_begun n ia egress timestamp beta0 b found in
-    subst (λ (key : List ℕ). IsUnderWay n (key ∷ []) b) (key_named n ia s.one s.named) (begun n ia egress timestamp beta0 s.one b network s.named found)
+    subst (λ (key : List ℕ). IsUnderWay n (key ∷ []) b) (key_named n ia s.one s.named)
+    (begun n ia egress timestamp beta0 s.one b network s.named found)
 
-pub passed_under_way : (n : Network) (keys : List (List ℕ)) (b : Chain) (ia egress : ℕ) (c : Chain) → IsNetwork n → IsUnderWay n keys b → extended_beacon n b ia egress ≡ Ok c → IsUnderWay n (keys ++ (key_in n ia ∷ [])) c
+pub passed_under_way : (n : Network) (keys : List (List ℕ)) (b : Chain) (ia egress : ℕ) (c : Chain)
+    → IsNetwork n → IsUnderWay n keys b → extended_beacon n b ia egress ≡ Ok c
+    → IsUnderWay n (keys ++ (key_in n ia ∷ [])) c
 passed_under_way n keys b ia egress c network under found =
     let s = adds_next n b ia egress c found in
-    subst (λ (key : List ℕ). IsUnderWay n (keys ++ (key ∷ [])) c) (key_named n ia s.one s.named) (calls.passed_on n keys b ia egress s.one c network under s.named found)
+    subst (λ (key : List ℕ). IsUnderWay n (keys ++ (key ∷ [])) c) (key_named n ia s.one s.named)
+    (calls.passed_on n keys b ia egress s.one c network under s.named found)
 
-pub ended_issued : (n : Network) (keys : List (List ℕ)) (b : Chain) (ia : ℕ) (c : Chain) → IsNetwork n → IsUnderWay n keys b → terminated_beacon n b ia ≡ Ok c → IsIssued n (keys ++ (key_in n ia ∷ [])) c
+pub ended_issued : (n : Network) (keys : List (List ℕ)) (b : Chain) (ia : ℕ) (c : Chain) → IsNetwork n
+    → IsUnderWay n keys b → terminated_beacon n b ia ≡ Ok c → IsIssued n (keys ++ (key_in n ia ∷ [])) c
 ended_issued n keys b ia c network under found =
     let s = adds_last n b ia c found in
-    subst (λ (key : List ℕ). IsIssued n (keys ++ (key ∷ [])) c) (key_named n ia s.one s.named) (ended n keys b ia s.one c network under s.named found)
+    subst (λ (key : List ℕ). IsIssued n (keys ++ (key ∷ [])) c) (key_named n ia s.one s.named)
+    (ended n keys b ia s.one c network under s.named found)
 
 -- ---- one network, call by call
 
-keys_grow : (n : Network) (b : Chain) (ia : ℕ) (c : Chain) → Grows n b ia c → keys_in_use n b ++ (key_in n ia ∷ []) ≡ keys_in_use n c
+keys_grow : (n : Network) (b : Chain) (ia : ℕ) (c : Chain) → Grows n b ia c
+    → keys_in_use n b ++ (key_in n ia ∷ []) ≡ keys_in_use n c
 keys_grow n b ia c grows =
     ap (λ (x : ℕ). keys_in_use n b ++ (key_in n x ∷ [])) (sym grows.of)
     ∙ sym (map-append (λ (entry : Entry). key_in n entry.ia) b.entries (grows.entry ∷ []))
@@ -131,22 +141,28 @@ keys_begun : (n : Network) (ia : ℕ) (b : Chain) → IsBegun n ia b → key_in 
 keys_begun n ia b s =
     ap (λ (x : ℕ). key_in n x ∷ []) (sym s.of) ∙ ap (map (λ (entry : Entry). key_in n entry.ia)) (sym s.is)
 
-under_own_keys : (n : Network) (b : Chain) (hops : List (ℕ × ℕ)) (c : Chain) → IsNetwork n → IsUnderWay n (keys_in_use n b) b → passed_through n b hops ≡ Ok c → IsUnderWay n (keys_in_use n c) c
+under_own_keys : (n : Network) (b : Chain) (hops : List (ℕ × ℕ)) (c : Chain) → IsNetwork n
+    → IsUnderWay n (keys_in_use n b) b → passed_through n b hops ≡ Ok c → IsUnderWay n (keys_in_use n c) c
 under_own_keys n b [] c network under found =
     let same : b ≡ c = ok_is b c found in
     subst (λ (x : Chain). IsUnderWay n (keys_in_use n x) x) same under
 under_own_keys n b (hop ∷ hops) c network under found =
     let step = bind_ok (extended_beacon n b hop.0 hop.1) (λ (next : Chain). passed_through n next hops) c found in
     let more = passed_under_way n (keys_in_use n b) b hop.0 hop.1 step.0 network under step.1 in
-    let own = subst (λ (keys : List (List ℕ)). IsUnderWay n keys step.0) (keys_grow n b hop.0 step.0 (extended_grows n b hop.0 hop.1 step.0 step.1)) more in
+    let own =
+    subst (λ (keys : List (List ℕ)). IsUnderWay n keys step.0) (keys_grow n b hop.0 step.0 (extended_grows n b hop.0 hop.1 step.0 step.1)) more in
     under_own_keys n step.0 hops c network own step.2
 
-pub made_is_issued : (n : Network) (ia egress timestamp beta0 : ℕ) (hops : List (ℕ × ℕ)) (last : ℕ) (first beacon segment : Chain) → IsNetwork n
-    → originated_beacon n ia egress timestamp beta0 ≡ Ok first → passed_through n first hops ≡ Ok beacon → terminated_beacon n beacon last ≡ Ok segment
+pub made_is_issued : (n : Network) (ia egress timestamp beta0 : ℕ) (hops : List (ℕ × ℕ)) (last : ℕ) (first beacon segment : Chain)
+    → IsNetwork n
+    → originated_beacon n ia egress timestamp beta0 ≡ Ok first → passed_through n first hops ≡ Ok beacon
+    → terminated_beacon n beacon last ≡ Ok segment
     → IsIssued n (keys_in_use n segment) segment
 made_is_issued n ia egress timestamp beta0 hops last first beacon segment network began on ended_so =
     let s = is_begun n ia egress timestamp beta0 first began in
-    let begun_own = subst (λ (keys : List (List ℕ)). IsUnderWay n keys first) (keys_begun n ia first s) (begun_under_way n ia egress timestamp beta0 first network began) in
+    let begun_own =
+    subst (λ (keys : List (List ℕ)). IsUnderWay n keys first) (keys_begun n ia first s) (begun_under_way n ia egress timestamp beta0 first network began) in
     let under = under_own_keys n first hops beacon network begun_own on in
-    subst (λ (keys : List (List ℕ)). IsIssued n keys segment) (keys_grow n beacon last segment (terminated_grows n beacon last segment ended_so))
+    subst (λ (keys : List (List ℕ)). IsIssued n keys segment)
+    (keys_grow n beacon last segment (terminated_grows n beacon last segment ended_so))
     (ended_issued n (keys_in_use n beacon) beacon last segment network under ended_so)

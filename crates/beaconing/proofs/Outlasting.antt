@@ -34,7 +34,8 @@ record HasAlike (ases : List AsEntry) (ia : ℕ) (one : AsEntry) : Type 0 where
 itself : (ases : List AsEntry) (ia : ℕ) (one : AsEntry) → as_named ases ia ≡ Some one → HasAlike ases ia one
 itself ases ia one named = record { other = one; named = named; lifetime = refl; core = refl }
 
-rekeyed_first : (keys : List (List ℕ)) (x : ℕ) (first : AsEntry) (rest : List AsEntry) (one : AsEntry) → as_named (first ∷ rest) x ≡ Some one → HasAlike (record first { keys = keys } ∷ rest) x one
+rekeyed_first : (keys : List (List ℕ)) (x : ℕ) (first : AsEntry) (rest : List AsEntry) (one : AsEntry)
+    → as_named (first ∷ rest) x ≡ Some one → HasAlike (record first { keys = keys } ∷ rest) x one
 rekeyed_first keys x first rest one named = elim (cases_Bool (eqb first.ia x)) [
   | inl hit ↦ (
       let now : cond true (Some first) (as_named rest x) ≡ Some one = rw hit at named in
@@ -50,7 +51,8 @@ rekeyed_first keys x first rest one named = elim (cases_Bool (eqb first.ia x)) [
       itself (record first { keys = keys } ∷ rest) x one (rw miss later))
 ]
 
-alike_later : (x : ℕ) (first : AsEntry) (rest : List AsEntry) (one : AsEntry) → eqb first.ia x ≡ false → HasAlike rest x one → HasAlike (first ∷ rest) x one
+alike_later : (x : ℕ) (first : AsEntry) (rest : List AsEntry) (one : AsEntry) → eqb first.ia x ≡ false
+    → HasAlike rest x one → HasAlike (first ∷ rest) x one
 alike_later x first rest one miss alike = record {
   other = alike.other;
   named = rw miss alike.named;
@@ -58,7 +60,8 @@ alike_later x first rest one miss alike = record {
   core = alike.core;
 }
 
-rekeyed : (ia : ℕ) (key : List ℕ) (x : ℕ) (ases : List AsEntry) (one : AsEntry) → as_named ases x ≡ Some one → HasAlike (with_key ia key ases) x one
+rekeyed : (ia : ℕ) (key : List ℕ) (x : ℕ) (ases : List AsEntry) (one : AsEntry) → as_named ases x ≡ Some one
+    → HasAlike (with_key ia key ases) x one
 rekeyed ia key x [] one named = absurd cc
 rekeyed ia key x (first ∷ rest) one named = elim (cases_Bool (eqb first.ia ia)) [
   | inl here ↦ rw here (rekeyed_first (renewed_keys key first.keys) x first rest one named)
@@ -74,11 +77,13 @@ rekeyed ia key x (first ∷ rest) one named = elim (cases_Bool (eqb first.ia ia)
 
 -- ---- a link and its state
 
-any_at : {X : Type 0} (P : X → Type 0) (x : X) (xs : List X) (k : ℕ) (d : X) → k < length (x ∷ xs) → get_or (x ∷ xs) k d ≡ d → P d → P x ⊎ Any P xs
+any_at : {X : Type 0} (P : X → Type 0) (x : X) (xs : List X) (k : ℕ) (d : X) → k < length (x ∷ xs)
+    → get_or (x ∷ xs) k d ≡ d → P d → P x ⊎ Any P xs
 any_at P x xs zero d below at p = inl (rw at p)
 any_at P x xs (suc k) d below at p = let inside : k < length xs = omega arith in inr (k, d, inside, at, p)
 
-any_with_up : (P : Link → Type 0) (up : Bool) → ((link : Link) → P link → P (record link { up = up })) → (ia number : ℕ) (ls : List Link) → Any P ls → Any P (with_up up ia number ls)
+any_with_up : (P : Link → Type 0) (up : Bool) → ((link : Link) → P link → P (record link { up = up }))
+    → (ia number : ℕ) (ls : List Link) → Any P ls → Any P (with_up up ia number ls)
 any_with_up P up same ia number [] any = any
 any_with_up P up same ia number (link ∷ ls) any = elim (cases_Bool (has_end link ia number)) [
   | inl here ↦ rw here (elim (any_at P link ls any.0 any.1 any.2 any.3 any.4) [
@@ -91,49 +96,58 @@ any_with_up P up same ia number (link ∷ ls) any = elim (cases_Bool (has_end li
   ])
 ]
 
-leads_still : (kind : SegKind) (entry next : Entry) (up : Bool) (link : Link) → LeadsOn kind entry next link → LeadsOn kind entry next (record link { up = up })
+leads_still : (kind : SegKind) (entry next : Entry) (up : Bool) (link : Link) → LeadsOn kind entry next link
+    → LeadsOn kind entry next (record link { up = up })
 leads_still Core entry next up link leads = leads
 leads_still Intra entry next up link leads = leads
 
 abbrev kind_in : List IfEntry → ℕ → Option LinkKind
 kind_in table number = option_map (λ (e : IfEntry). e.kind) (interface_in table number)
 
-kind_first : (o : Option IfEntry) (number : ℕ) (t s : List IfEntry) → kind_in t number ≡ kind_in s number → kind_in (cons_option o t) number ≡ kind_in (cons_option o s) number
+kind_first : (o : Option IfEntry) (number : ℕ) (t s : List IfEntry) → kind_in t number ≡ kind_in s number
+    → kind_in (cons_option o t) number ≡ kind_in (cons_option o s) number
 kind_first None number t s same = same
 kind_first (Some e) number t s same = elim (cases_Bool (eqb e.number number)) [
   | inl here ↦ rw here refl
   | inr other ↦ rw other same
 ]
 
-kind_changed : (up : Bool) (number : ℕ) (e : IfEntry) (t : List IfEntry) → kind_in (record e { up = up } ∷ t) number ≡ kind_in (e ∷ t) number
+kind_changed : (up : Bool) (number : ℕ) (e : IfEntry) (t : List IfEntry)
+    → kind_in (record e { up = up } ∷ t) number ≡ kind_in (e ∷ t) number
 kind_changed up number e t = elim (cases_Bool (eqb e.number number)) [
   | inl here ↦ rw here refl
   | inr other ↦ rw other refl
 ]
 
-kind_restated : (up : Bool) (x number : ℕ) (link : Link) (t : List IfEntry) → kind_in (cons_option (interface_of x (record link { up = up })) t) number ≡ kind_in (cons_option (interface_of x link) t) number
+kind_restated : (up : Bool) (x number : ℕ) (link : Link) (t : List IfEntry)
+    → kind_in (cons_option (interface_of x (record link { up = up })) t) number ≡ kind_in (cons_option (interface_of x link) t) number
 kind_restated up x number link t = go (eqb link.a.ia x) (eqb link.b.ia x) _ _
   where
-    go : (p q : Bool) (a b : IfEntry) → kind_in (cons_option (cond p (Some (record a { up = up })) (cond q (Some (record b { up = up })) None)) t) number ≡ kind_in (cons_option (cond p (Some a) (cond q (Some b) None)) t) number
+    go : (p q : Bool) (a b : IfEntry)
+        → kind_in (cons_option (cond p (Some (record a { up = up })) (cond q (Some (record b { up = up })) None)) t) number ≡ kind_in (cons_option (cond p (Some a) (cond q (Some b) None)) t) number
     go true q a b = kind_changed up number a t
     go false true a b = kind_changed up number b t
     go false false a b = refl
 
-kind_with_up : (up : Bool) (ia at x number : ℕ) (ls : List Link) → kind_in (table_of x (with_up up ia at ls)) number ≡ kind_in (table_of x ls) number
+kind_with_up : (up : Bool) (ia at x number : ℕ) (ls : List Link)
+    → kind_in (table_of x (with_up up ia at ls)) number ≡ kind_in (table_of x ls) number
 kind_with_up up ia at x number [] = refl
 kind_with_up up ia at x number (link ∷ ls) = elim (cases_Bool (has_end link ia at)) [
   | inl here ↦ rw here (kind_restated up x number link (table_of x ls))
-  | inr other ↦ rw other (kind_first (interface_of x link) number (table_of x (with_up up ia at ls)) (table_of x ls) (kind_with_up up ia at x number ls))
+  | inr other ↦ rw other
+      (kind_first (interface_of x link) number (table_of x (with_up up ia at ls)) (table_of x ls) (kind_with_up up ia at x number ls))
 ]
 
 -- ---- what stays of a network
 
 record Outlasts (n m : Network) : Type 0 where
   pub ases : (ia : ℕ) (one : AsEntry) → as_named n.ases ia ≡ Some one → HasAlike m.ases ia one
-  pub joined : (kind : SegKind) (entry next : Entry) → Any (LeadsOn kind entry next) n.links → Any (LeadsOn kind entry next) m.links
+  pub joined : (kind : SegKind) (entry next : Entry) → Any (LeadsOn kind entry next) n.links
+      → Any (LeadsOn kind entry next) m.links
   pub kinds : (x number : ℕ) → kind_in (table_of x m.links) number ≡ kind_in (table_of x n.links) number
 
-core_some : (o : Option AsEntry) → option_map_or (λ (one : AsEntry). one.core) o false ≡ true → (one : AsEntry) × (o ≡ Some one) × (one.core ≡ true)
+core_some : (o : Option AsEntry) → option_map_or (λ (one : AsEntry). one.core) o false ≡ true
+    → (one : AsEntry) × (o ≡ Some one) × (one.core ≡ true)
 core_some None core = absurd cc
 core_some (Some one) core = (one, refl, core)
 
@@ -143,27 +157,33 @@ core_still n m stays ia core =
     let alike = stays.ases ia some.0 some.1 in
     rw alike.named (sym alike.core ∙ some.2)
 
-kind_some : (o : Option IfEntry) (kind : LinkKind) → option_map (λ (e : IfEntry). e.kind) o ≡ Some kind → (e : IfEntry) × (o ≡ Some e) × (e.kind ≡ kind)
+kind_some : (o : Option IfEntry) (kind : LinkKind) → option_map (λ (e : IfEntry). e.kind) o ≡ Some kind
+    → (e : IfEntry) × (o ≡ Some e) × (e.kind ≡ kind)
 kind_some None kind is = absurd cc
 kind_some (Some e) kind is = (e, refl, same_Some e.kind kind is)
 
-there_by : (m : Network) (ia number : ℕ) (one : AsEntry) (out : IfEntry) → as_named m.ases ia ≡ Some one → interface_in (table_of ia m.links) number ≡ Some out → interface_at m ia number ≡ Ok out
+there_by : (m : Network) (ia number : ℕ) (one : AsEntry) (out : IfEntry) → as_named m.ases ia ≡ Some one
+    → interface_in (table_of ia m.links) number ≡ Some out → interface_at m ia number ≡ Ok out
 there_by m ia number one out named shown = rw (named, shown) refl
 
-out_still : (n m : Network) → Outlasts n m → (kind : SegKind) (entry : Entry) → HasWayOut n kind entry → HasWayOut m kind entry
+out_still : (n m : Network) → Outlasts n m → (kind : SegKind) (entry : Entry) → HasWayOut n kind entry
+    → HasWayOut m kind entry
 out_still n m stays kind entry way =
     let step = bind_ok (known_as n entry.ia) _ way.out way.there in
     let named : as_named n.ases entry.ia ≡ Some step.0 = ok_or_ok _ faults.UnknownAs step.0 step.1 in
-    let shown : interface_in (table_of entry.ia n.links) entry.cons_egress ≡ Some way.out = ok_or_ok _ faults.NoLink way.out step.2 in
+    let shown : interface_in (table_of entry.ia n.links) entry.cons_egress ≡ Some way.out =
+    ok_or_ok _ faults.NoLink way.out step.2 in
     let alike = stays.ases entry.ia step.0 named in
-    let some = kind_some (interface_in (table_of entry.ia m.links) entry.cons_egress) way.out.kind (stays.kinds entry.ia entry.cons_egress ∙ ap (option_map (λ (e : IfEntry). e.kind)) shown) in
+    let some =
+    kind_some (interface_in (table_of entry.ia m.links) entry.cons_egress) way.out.kind (stays.kinds entry.ia entry.cons_egress ∙ ap (option_map (λ (e : IfEntry). e.kind)) shown) in
     record {
       out = some.0;
       there = there_by m entry.ia entry.cons_egress alike.other some.0 alike.named some.1;
       on = ap (goes_on kind) some.2 ∙ way.on;
     }
 
-made_still : (n m : Network) → Outlasts n m → (keys : List (List ℕ)) (chain : Chain) → IsMade n keys chain → IsMade m keys chain
+made_still : (n m : Network) → Outlasts n m → (keys : List (List ℕ)) (chain : Chain) → IsMade n keys chain
+    → IsMade m keys chain
 made_still n m stays keys chain made = record {
   keyed = made.keyed;
   core = λ first at. core_still n m stays first.ia (made.core first at);
@@ -174,14 +194,16 @@ made_still n m stays keys chain made = record {
   joined = λ i entry next at_entry at_next. stays.joined chain.kind entry next (made.joined i entry next at_entry at_next);
 }
 
-under_way_still : (n m : Network) → Outlasts n m → (keys : List (List ℕ)) (b : Chain) → IsUnderWay n keys b → IsUnderWay m keys b
+under_way_still : (n m : Network) → Outlasts n m → (keys : List (List ℕ)) (b : Chain) → IsUnderWay n keys b
+    → IsUnderWay m keys b
 under_way_still n m stays keys b under = record {
   rules = under.rules;
   made = made_still n m stays keys b under.made;
   out = λ last at. out_still n m stays b.kind last (under.out last at);
 }
 
-issued_still : (n m : Network) → Outlasts n m → (keys : List (List ℕ)) (s : Chain) → IsIssued n keys s → IsIssued m keys s
+issued_still : (n m : Network) → Outlasts n m → (keys : List (List ℕ)) (s : Chain) → IsIssued n keys s
+    → IsIssued m keys s
 issued_still n m stays keys s issued = record { rules = issued.rules; made = made_still n m stays keys s issued.made }
 
 -- ---- the two changes
@@ -209,14 +231,18 @@ Outlasts-rotated ia key n m change =
       kinds = λ x at. refl;
     })
 
-pub beacon_linked : (n m : Network) (up : Bool) (ia number : ℕ) (keys : List (List ℕ)) (b : Chain) → set_up up ia number n ≡ Ok m → IsUnderWay n keys b → IsUnderWay m keys b
+pub beacon_linked : (n m : Network) (up : Bool) (ia number : ℕ) (keys : List (List ℕ)) (b : Chain)
+    → set_up up ia number n ≡ Ok m → IsUnderWay n keys b → IsUnderWay m keys b
 beacon_linked n m up ia number keys b change = under_way_still n m (Outlasts-set_up up ia number n m change) keys b
 
-pub beacon_keyed : (n m : Network) (ia : ℕ) (key : List ℕ) (keys : List (List ℕ)) (b : Chain) → with_rotated_key ia key n ≡ Ok m → IsUnderWay n keys b → IsUnderWay m keys b
+pub beacon_keyed : (n m : Network) (ia : ℕ) (key : List ℕ) (keys : List (List ℕ)) (b : Chain)
+    → with_rotated_key ia key n ≡ Ok m → IsUnderWay n keys b → IsUnderWay m keys b
 beacon_keyed n m ia key keys b change = under_way_still n m (Outlasts-rotated ia key n m change) keys b
 
-pub segment_linked : (n m : Network) (up : Bool) (ia number : ℕ) (keys : List (List ℕ)) (s : Chain) → set_up up ia number n ≡ Ok m → IsIssued n keys s → IsIssued m keys s
+pub segment_linked : (n m : Network) (up : Bool) (ia number : ℕ) (keys : List (List ℕ)) (s : Chain)
+    → set_up up ia number n ≡ Ok m → IsIssued n keys s → IsIssued m keys s
 segment_linked n m up ia number keys s change = issued_still n m (Outlasts-set_up up ia number n m change) keys s
 
-pub segment_keyed : (n m : Network) (ia : ℕ) (key : List ℕ) (keys : List (List ℕ)) (s : Chain) → with_rotated_key ia key n ≡ Ok m → IsIssued n keys s → IsIssued m keys s
+pub segment_keyed : (n m : Network) (ia : ℕ) (key : List ℕ) (keys : List (List ℕ)) (s : Chain)
+    → with_rotated_key ia key n ≡ Ok m → IsIssued n keys s → IsIssued m keys s
 segment_keyed n m ia key keys s change = issued_still n m (Outlasts-rotated ia key n m change) keys s

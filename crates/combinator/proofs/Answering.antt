@@ -53,7 +53,8 @@ module _ (question : Question) (usable_pieces : List PieceValue)
     (downs : (piece : PieceValue) → IsCut question.set.downs true question.dst piece → Contains usable_pieces piece) where
   listed : (kind : PieceKind) (piece : PieceValue) → kind_of piece ≡ kind → IsOf question.set piece → HasRange piece
       → (IsCore piece → (piece.from ≡ 0) × (piece.to + 1 ≡ length piece.segment.entries))
-      → (kind ≡ Up → begins_in piece ≡ question.src) → (kind ≡ Down → ends_in piece ≡ question.dst) → Contains usable_pieces piece
+      → (kind ≡ Up → begins_in piece ≡ question.src) → (kind ≡ Down → ends_in piece ≡ question.dst)
+      → Contains usable_pieces piece
   listed Up piece is own range whole up down =
       let parts = up_parts piece.segment.kind piece.along is in
       ups piece (record {
@@ -82,13 +83,16 @@ module _ (question : Question) (usable_pieces : List PieceValue)
       })
 
   -- a piece at a place of a candidate
-  at_place : (path : PathValue) (is : IsCandidate question path) (k : ℕ) (piece : PieceValue) → k < length path.pieces → get_or path.pieces k piece ≡ piece
-      → (kind_of piece ≡ Up → begins_in piece ≡ question.src) → (kind_of piece ≡ Down → ends_in piece ≡ question.dst) → Contains usable_pieces piece
+  at_place : (path : PathValue) (is : IsCandidate question path) (k : ℕ) (piece : PieceValue)
+      → k < length path.pieces → get_or path.pieces k piece ≡ piece
+      → (kind_of piece ≡ Up → begins_in piece ≡ question.src)
+      → (kind_of piece ≡ Down → ends_in piece ≡ question.dst) → Contains usable_pieces piece
   at_place path is k piece within at up down =
       let own : IsOf question.set piece = subst (IsOf question.set) at (is.own k piece within) in
       let range : HasRange piece = subst HasRange at (is.accepted.path.ranges k piece within) in
       let whole : IsCore piece → (piece.from ≡ 0) × (piece.to + 1 ≡ length piece.segment.entries) = λ core. (
-      let cut = subst (λ (p : PieceValue). (p.from ≡ 0) × (IsCore p → p.to + 1 ≡ length p.segment.entries)) at (is.accepted.path.cuts.with_core (k, piece, within, at, core) k piece within) in
+      let cut =
+      subst (λ (p : PieceValue). (p.from ≡ 0) × (IsCore p → p.to + 1 ≡ length p.segment.entries)) at (is.accepted.path.cuts.with_core (k, piece, within, at, core) k piece within) in
       (cut.0, cut.1 core)) in
       listed (kind_of piece) piece refl own range whole up down
 
@@ -101,9 +105,11 @@ module _ (question : Question) (usable_pieces : List PieceValue)
   not_up one next may is = no_up one (subst (MayAdjoin one) is may)
 
   not_down : (one next : PieceKind) → MayAdjoin one next → one ≡ Down → ⊥
-  not_down one next may is = (let h : MayAdjoin Down next = subst (λ (kind : PieceKind). MayAdjoin kind next) is may in h)
+  not_down one next may is =
+      (let h : MayAdjoin Down next = subst (λ (kind : PieceKind). MayAdjoin kind next) is may in h)
 
-  all_of : (pieces : List PieceValue) (header : HeaderValue) → IsCandidate question (path_with pieces header) → AllByRecursion (Contains usable_pieces) pieces
+  all_of : (pieces : List PieceValue) (header : HeaderValue) → IsCandidate question (path_with pieces header)
+      → AllByRecursion (Contains usable_pieces) pieces
   all_of [] header is = tt
   all_of (a ∷ []) header is =
       let path = is.accepted.path in
@@ -111,16 +117,19 @@ module _ (question : Question) (usable_pieces : List PieceValue)
   all_of (a ∷ b ∷ []) header is =
       let path = is.accepted.path in
       let may = pieces_adjoin [] [] a b question.src question.dst question.set.moment path in (
-        at_place (path_with (a ∷ b ∷ []) header) is 0 a (omega arith) refl (λ _. path.source) (λ down. absurd (not_down (kind_of a) (kind_of b) may down)),
+        at_place (path_with (a ∷ b ∷ []) header) is 0 a (omega arith) refl (λ _. path.source)
+            (λ down. absurd (not_down (kind_of a) (kind_of b) may down)),
         (at_place (path_with (a ∷ b ∷ []) header) is 1 b (omega arith) refl (λ up. absurd (not_up (kind_of a) (kind_of b) may up)) (λ _. path.destination), tt),
       )
   all_of (a ∷ b ∷ c ∷ []) header is =
       let path = is.accepted.path in
       let may = pieces_adjoin [] (c ∷ []) a b question.src question.dst question.set.moment path in
       let also = pieces_adjoin (a ∷ []) [] b c question.src question.dst question.set.moment path in (
-        at_place (path_with (a ∷ b ∷ c ∷ []) header) is 0 a (omega arith) refl (λ _. path.source) (λ down. absurd (not_down (kind_of a) (kind_of b) may down)),
+        at_place (path_with (a ∷ b ∷ c ∷ []) header) is 0 a (omega arith) refl (λ _. path.source)
+            (λ down. absurd (not_down (kind_of a) (kind_of b) may down)),
         (
-          at_place (path_with (a ∷ b ∷ c ∷ []) header) is 1 b (omega arith) refl (λ up. absurd (not_up (kind_of a) (kind_of b) may up))
+          at_place (path_with (a ∷ b ∷ c ∷ []) header) is 1 b (omega arith) refl
+              (λ up. absurd (not_up (kind_of a) (kind_of b) may up))
               (λ down. absurd (not_down (kind_of b) (kind_of c) also down)),
           (at_place (path_with (a ∷ b ∷ c ∷ []) header) is 2 c (omega arith) refl (λ up. absurd (not_up (kind_of b) (kind_of c) also up)) (λ _. path.destination), tt),
         ),
@@ -135,7 +144,8 @@ module _ (question : Question) (usable_pieces : List PieceValue)
 
 module _ (question : Question) (usable_pieces : List PieceValue) (whole : HaveAll question usable_pieces) where
   module _ (P : List PieceValue → Type 0) (tried : OfEachBehind P usable_pieces 3 [] question.src) where
-    of_pieces : (pieces : List PieceValue) (header : HeaderValue) → IsCandidate question (path_with pieces header) → P pieces
+    of_pieces : (pieces : List PieceValue) (header : HeaderValue)
+        → IsCandidate question (path_with pieces header) → P pieces
     unfolding OfEachBehind
     of_pieces [] header is = absurd (let some = is.accepted.path.some in omega arith)
     of_pieces (a ∷ []) header is =
@@ -156,7 +166,8 @@ module _ (question : Question) (usable_pieces : List PieceValue) (whole : HaveAl
     pub of_candidate : (path : PathValue) → IsCandidate question path → P path.pieces
     of_candidate path is = of_pieces path.pieces path.header is
 
-  goes_of : (pieces : List PieceValue) (header : HeaderValue) → IsCandidate question (path_with pieces header) → GoesOn usable_pieces 3 [] (path_with pieces header)
+  goes_of : (pieces : List PieceValue) (header : HeaderValue) → IsCandidate question (path_with pieces header)
+      → GoesOn usable_pieces 3 [] (path_with pieces header)
   goes_of [] header is = absurd (let some = is.accepted.path.some in omega arith)
   goes_of (a ∷ []) header is =
       let there = whole (path_with (a ∷ []) header) is in
@@ -175,23 +186,28 @@ module _ (question : Question) (usable_pieces : List PieceValue) (whole : HaveAl
 
 -- ---- the answer
 
-module _ (question : Question) (limit : ℕ) (usable_pieces : List PieceValue) (ordered : List PathValue) (own : All (IsOf question.set) usable_pieces)
+module _ (question : Question) (limit : ℕ) (usable_pieces : List PieceValue) (ordered : List PathValue)
+    (own : All (IsOf question.set) usable_pieces)
     (whole : HaveAll question usable_pieces) (spelled : AreSpelled question) (order : InOrder path_cmp ordered) (few : length ordered ≤ limit) (best : All (IsBest question) ordered)
     (met : OfEachBehind (IsMetBy question limit ordered) usable_pieces 3 [] question.src) where
   pairs : (paths : List PathValue) → InOrder path_cmp paths → AllPairs (λ one other. path_cmp one other ≡ Less) paths
   pairs [] is = λ i j d less within. absurd (omega arith)
   pairs (path ∷ paths) is =
-      AllPairs-cons (λ one other. path_cmp one other ≡ Less) path paths (All-from_recursion (λ other. path_cmp path other ≡ Less) paths is.0) (pairs paths is.1)
+      AllPairs-cons (λ one other. path_cmp one other ≡ Less) path paths
+      (All-from_recursion (λ other. path_cmp path other ≡ Less) paths is.0) (pairs paths is.1)
 
   once : AllPairs (λ one other. ¬ (HaveOneWalk one other)) ordered
   once i j d less within same =
       let first = best i d (omega arith) in
       let second = best j d within in
-      let tie = tied_shown (get_or ordered i d) (get_or ordered j d) (best_is_one question spelled (get_or ordered i d) (get_or ordered j d) first second same) in
+      let tie =
+      tied_shown (get_or ordered i d) (get_or ordered j d) (best_is_one question spelled (get_or ordered i d) (get_or ordered j d) first second same) in
       let both = sym (pairs ordered order i j d less within) ∙ tie in
       cc
 
-  tied_walk : (paths : List PathValue) (one path : PathValue) → All (IsBest question) paths → IsCandidate question one → HaveOneWalk one path → Tied path_cmp one paths → Any (λ p. HaveOneWalk p path) paths
+  tied_walk : (paths : List PathValue) (one path : PathValue) → All (IsBest question) paths
+      → IsCandidate question one → HaveOneWalk one path → Tied path_cmp one paths
+      → Any (λ p. HaveOneWalk p path) paths
   tied_walk [] one path all is same tied = absurd tied
   tied_walk (first ∷ paths) one path all is same (inl tie) =
       let shows = same_shown one first (spelled one is) (spelled first (all 0 first (omega arith)).candidate) tie in
@@ -202,14 +218,17 @@ module _ (question : Question) (limit : ℕ) (usable_pieces : List PieceValue) (
 
   met_best : (path : PathValue) → IsBest question path → Met path_cmp limit ordered path
   unfolding IsMetBy
-  met_best path is = of_candidate question usable_pieces whole (IsMetBy question limit ordered) met path is.candidate path.header is
+  met_best path is = of_candidate question usable_pieces whole
+      (IsMetBy question limit ordered) met path is.candidate path.header is
 
-  each : (path : PathValue) → IsCandidate question path → Any (λ one. HaveOneWalk one path) ordered ⊎ IsLeftOut question limit ordered path
+  each : (path : PathValue) → IsCandidate question path
+      → Any (λ one. HaveOneWalk one path) ordered ⊎ IsLeftOut question limit ordered path
   each path is =
       let first = best_there question path is usable_pieces own (goes_on question usable_pieces whole) in
       elim (met_best first.0 first.1) [
         | inl tied ↦ inl (tied_walk ordered first.0 path best first.1.candidate first.2 tied)
-        | inr full ↦ inr (record { full = full.0; best = first.0; is_best = first.1; same = first.2; behind = All-from_recursion (λ one. path_cmp one first.0 ≡ Less) ordered full.1 })
+        | inr full ↦ inr
+            (record { full = full.0; best = first.0; is_best = first.1; same = first.2; behind = All-from_recursion (λ one. path_cmp one first.0 ≡ Less) ordered full.1 })
       ]
 
   pub answer : IsAnswer question limit ordered

@@ -27,21 +27,26 @@ use Rattle.combinator.proofs.Ranks.{bytes_total}
 -- ---- of two paths one is no worse
 
 lower_cons : (timestamp least : ℕ) (entry : Entry) (entries : List Entry) → least ≤ expiry_of timestamp entry.exp_time
-    → All (λ (e : Entry). least ≤ expiry_of timestamp e.exp_time) entries → All (λ (e : Entry). least ≤ expiry_of timestamp e.exp_time) (entry ∷ entries)
+    → All (λ (e : Entry). least ≤ expiry_of timestamp e.exp_time) entries
+    → All (λ (e : Entry). least ≤ expiry_of timestamp e.exp_time) (entry ∷ entries)
 lower_cons timestamp least entry entries here later zero d within = here
 lower_cons timestamp least entry entries here later (suc k) d within = later k d (omega (arith, within))
 
 lower_still : (timestamp least more : ℕ) (entries : List Entry) → least ≤ more
-    → All (λ (e : Entry). more ≤ expiry_of timestamp e.exp_time) entries → All (λ (e : Entry). least ≤ expiry_of timestamp e.exp_time) entries
-lower_still timestamp least more entries upto lower k d within = (let here = lower k d within in omega (arith, here, upto))
+    → All (λ (e : Entry). more ≤ expiry_of timestamp e.exp_time) entries
+    → All (λ (e : Entry). least ≤ expiry_of timestamp e.exp_time) entries
+lower_still timestamp least more entries upto lower k d within =
+    (let here = lower k d within in omega (arith, here, upto))
 
-least_of : (timestamp : ℕ) (entries : List Entry) → 0 < length entries → (least : ℕ) × IsLeastExpiry timestamp entries least
+least_of : (timestamp : ℕ) (entries : List Entry) → 0 < length entries
+    → (least : ℕ) × IsLeastExpiry timestamp entries least
 least_of timestamp [] some = absurd (omega (arith, some))
 least_of timestamp (entry ∷ []) some = (
   expiry_of timestamp entry.exp_time,
   record {
     reached = (0, entry, omega arith, refl, refl);
-    lower = lower_cons timestamp (expiry_of timestamp entry.exp_time) entry [] (omega arith) (λ k d within. absurd (omega (arith, within)));
+    lower = lower_cons timestamp (expiry_of timestamp entry.exp_time) entry [] (omega arith)
+        (λ k d within. absurd (omega (arith, within)));
   },
 )
 least_of timestamp (entry ∷ next ∷ later) some =
@@ -71,7 +76,8 @@ some_entries piece range =
     omega (arith, count, order)
 
 -- the moment at which pieces expire
-pub expiry_there : (pieces : List PieceValue) → 0 < length pieces → All HasRange pieces → (least : ℕ) × IsExpiry pieces least
+pub expiry_there : (pieces : List PieceValue) → 0 < length pieces → All HasRange pieces
+    → (least : ℕ) × IsExpiry pieces least
 expiry_there [] some ranges = absurd (omega (arith, some))
 expiry_there (piece ∷ []) some ranges =
     let one = least_of piece.segment.timestamp (entries_of piece) (some_entries piece (ranges 0 piece (omega arith))) in
@@ -81,14 +87,18 @@ expiry_there (piece ∷ next ∷ later) some ranges =
     let more = expiry_there (next ∷ later) (omega arith) (λ k d within. ranges (suc k) d (omega (arith, within))) in
     (min one.0 more.0, expiry_of_more piece (next ∷ later) one.0 more.0 one.1 more.1)
 
-by_bytes : (c : Ordering) (one other : PathValue) (e f : ℕ) → IsExpiry one.pieces e → IsExpiry other.pieces f → e ≡ f → bytes_cmp one.header other.header ≡ c
+by_bytes : (c : Ordering) (one other : PathValue) (e f : ℕ) → IsExpiry one.pieces e → IsExpiry other.pieces f
+    → e ≡ f → bytes_cmp one.header other.header ≡ c
     → IsNoWorse one other ⊎ IsNoWorse other one
-by_bytes Less one other e f is also same order = inl (no_more_bytes one other e f is also same (λ greater. (let both = sym order ∙ greater in cc)))
-by_bytes Equal one other e f is also same order = inl (no_more_bytes one other e f is also same (λ greater. (let both = sym order ∙ greater in cc)))
+by_bytes Less one other e f is also same order =
+    inl (no_more_bytes one other e f is also same (λ greater. (let both = sym order ∙ greater in cc)))
+by_bytes Equal one other e f is also same order =
+    inl (no_more_bytes one other e f is also same (λ greater. (let both = sym order ∙ greater in cc)))
 by_bytes Greater one other e f is also same order =
     inr (no_more_bytes other one f e also is (sym same) (λ greater. (let back = bytes_total.antisymm other.header one.header ∙ ap ordering_reverse order in let both = sym back ∙ greater in cc)))
 
-either_no_worse : (one other : PathValue) (e f : ℕ) → IsExpiry one.pieces e → IsExpiry other.pieces f → IsNoWorse one other ⊎ IsNoWorse other one
+either_no_worse : (one other : PathValue) (e f : ℕ) → IsExpiry one.pieces e → IsExpiry other.pieces f
+    → IsNoWorse one other ⊎ IsNoWorse other one
 either_no_worse one other e f is also = elim (cases_lt e f) [
   | inl less ↦ inr (later_wins other one f e also is less)
   | inr upto ↦ elim (cases_lt f e) [
@@ -103,13 +113,16 @@ either_no_worse one other e f is also = elim (cases_lt e f) [
 abbrev Serves : (PathValue → Type 0) → (PathValue → Type 0) → Type 0
 Serves C S = (path : PathValue) → C path → (best : PathValue) × C best × IsNoWorse best path × ((other : PathValue) → S other → C other → IsNoWorse best other)
 
-first_or_later : (piece : PieceValue) (pieces : List PieceValue) (one : PieceValue) (k : ℕ) → k < length (piece ∷ pieces) → get_or (piece ∷ pieces) k one ≡ one → (piece ≡ one) ⊎ Contains pieces one
+first_or_later : (piece : PieceValue) (pieces : List PieceValue) (one : PieceValue) (k : ℕ)
+    → k < length (piece ∷ pieces) → get_or (piece ∷ pieces) k one ≡ one → (piece ≡ one) ⊎ Contains pieces one
 first_or_later piece pieces one zero within at = inl at
 first_or_later piece pieces one (suc k) within at = inr (k, omega (arith, within), at)
 
-module _ (C : PathValue → Type 0) (either : (one other : PathValue) → C one → C other → IsNoWorse one other ⊎ IsNoWorse other one) where
+module _ (C : PathValue → Type 0)
+    (either : (one other : PathValue) → C one → C other → IsNoWorse one other ⊎ IsNoWorse other one) where
   serves_one : (one : PathValue) → Dec (C one) → Serves C (λ other. other ≡ one)
-  serves_one one (no never) path is = (path, is, no_worse_itself path, λ other same also. absurd (never (subst C same also)))
+  serves_one one (no never) path is =
+      (path, is, no_worse_itself path, λ other same also. absurd (never (subst C same also)))
   serves_one one (yes here) path is = elim (either path one is here) [
     | inl fine ↦ (path, is, no_worse_itself path, λ other same also. subst (IsNoWorse path) (sym same) fine)
     | inr better ↦ (one, here, better, λ other same also. subst (IsNoWorse one) (sym same) (no_worse_itself one))
@@ -128,17 +141,21 @@ module _ (C : PathValue → Type 0) (either : (one other : PathValue) → C one 
         ],
       )
 
-  serves_each : (S : PieceValue → PathValue → Type 0) (pieces : List PieceValue) → ((piece : PieceValue) → Contains pieces piece → Serves C (S piece))
+  serves_each : (S : PieceValue → PathValue → Type 0) (pieces : List PieceValue)
+      → ((piece : PieceValue) → Contains pieces piece → Serves C (S piece))
       → Serves C (λ other. (piece : PieceValue) × Contains pieces piece × S piece other)
-  serves_each S [] each path is = (path, is, no_worse_itself path, λ other some also. absurd (let within = some.1.1 in omega (arith, within)))
+  serves_each S [] each path is =
+      (path, is, no_worse_itself path, λ other some also. absurd (let within = some.1.1 in omega (arith, within)))
   serves_each S (piece ∷ pieces) each path is =
       let one = each piece (0, omega arith, refl) path is in
-      let two = serves_each S pieces (λ next there. each next (suc there.0, (let within = there.1 in omega (arith, within)), there.2)) one.0 one.1 in (
+      let two =
+      serves_each S pieces (λ next there. each next (suc there.0, (let within = there.1 in omega (arith, within)), there.2)) one.0 one.1 in (
         two.0,
         two.1,
         no_worse_on two.0 one.0 path two.2 one.2,
         λ other some also. elim (first_or_later piece pieces some.0 some.1.0 some.1.1 some.1.2) [
-          | inl same ↦ no_worse_on two.0 one.0 other two.2 (one.3 other (subst (λ (p : PieceValue). S p other) (sym same) some.2) also)
+          | inl same ↦ no_worse_on two.0 one.0 other two.2
+              (one.3 other (subst (λ (p : PieceValue). S p other) (sym same) some.2) also)
           | inr there ↦ two.3 other (some.0, there, some.2) also
         ],
       )
@@ -162,7 +179,8 @@ module _ (question : Question) (path : PathValue) (is : IsCandidate question pat
       let f = expiry_there other.pieces second.0.accepted.path.some second.0.accepted.path.ranges in
       either_no_worse one other e.0 f.0 e.1 f.1
 
-  dec_rival : (pieces : List PieceValue) → All (IsOf question.set) pieces → Dec (IsRival (path_with pieces (header_of pieces)))
+  dec_rival : (pieces : List PieceValue) → All (IsOf question.set) pieces
+      → Dec (IsRival (path_with pieces (header_of pieces)))
   dec_rival pieces own = elim (dec_walk (walk_of pieces) (walk_of path.pieces)) [
     | no never ↦ no (λ rival. never rival.1)
     | yes same ↦ elim (dec_path pieces question.src question.dst question.set.moment (subst NamesOnce (sym same) is.accepted.path.once)) [
@@ -183,7 +201,8 @@ module _ (question : Question) (path : PathValue) (is : IsCandidate question pat
   ]
 
   module _ (usable_pieces : List PieceValue) (own : All (IsOf question.set) usable_pieces) where
-    serves : (depth : ℕ) (front : List PieceValue) → All (IsOf question.set) front → Serves IsRival (GoesOn usable_pieces depth front)
+    serves : (depth : ℕ) (front : List PieceValue) → All (IsOf question.set) front
+        → Serves IsRival (GoesOn usable_pieces depth front)
     serves zero front all = serves_one IsRival either_rival (path_with front (header_of front)) (dec_rival front all)
     serves (suc depth) front all =
         serves_both IsRival either_rival (λ other. other ≡ path_with front (header_of front))

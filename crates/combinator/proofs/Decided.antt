@@ -69,7 +69,8 @@ module _ {X : Type 0} (P : X → Type 0) (test : (x : X) → Dec (P x)) where
     | no never ↦ no (λ all. never (all 0 x (omega arith)))
   ]
 
-  any_cases : (x : X) (xs : List X) (k : ℕ) (d : X) → k < length (x ∷ xs) → get_or (x ∷ xs) k d ≡ d → P d → P x ⊎ Any P xs
+  any_cases : (x : X) (xs : List X) (k : ℕ) (d : X) → k < length (x ∷ xs) → get_or (x ∷ xs) k d ≡ d → P d
+      → P x ⊎ Any P xs
   any_cases x xs zero d within at p = inl (subst P (sym at) p)
   any_cases x xs (suc k) d within at p = inr (k, d, omega (arith, within), at, p)
 
@@ -79,16 +80,19 @@ module _ {X : Type 0} (P : X → Type 0) (test : (x : X) → Dec (P x)) where
     | yes here ↦ yes (0, x, omega arith, refl, here)
     | no never ↦ elim (dec_any xs) [
       | yes some ↦ yes (suc some.0, some.1, (let within = some.2 in omega (arith, within)), some.3, some.4)
-      | no neither ↦ no (λ some. elim (any_cases x xs some.0 some.1 some.2 some.3 some.4) [ inl here ↦ never here | inr later ↦ neither later ])
+      | no neither ↦ no
+          (λ some. elim (any_cases x xs some.0 some.1 some.2 some.3 some.4) [ inl here ↦ never here | inr later ↦ neither later ])
     ]
   ]
 
 -- ---- walks
 
 by_order : (c : Ordering) (one other : List WalkHop) → walk_cmp one other ≡ c → Dec (one ≡ other)
-by_order Less one other e = no (λ is. (let tie : walk_cmp one other ≡ Equal = ap (walk_cmp one) (sym is) ∙ tied_itself (lists_total hop_total) one in let both = sym e ∙ tie in cc))
+by_order Less one other e =
+    no (λ is. (let tie : walk_cmp one other ≡ Equal = ap (walk_cmp one) (sym is) ∙ tied_itself (lists_total hop_total) one in let both = sym e ∙ tie in cc))
 by_order Equal one other e = yes (same_walk one other e)
-by_order Greater one other e = no (λ is. (let tie : walk_cmp one other ≡ Equal = ap (walk_cmp one) (sym is) ∙ tied_itself (lists_total hop_total) one in let both = sym e ∙ tie in cc))
+by_order Greater one other e =
+    no (λ is. (let tie : walk_cmp one other ≡ Equal = ap (walk_cmp one) (sym is) ∙ tied_itself (lists_total hop_total) one in let both = sym e ∙ tie in cc))
 
 pub dec_walk : (one other : List WalkHop) → Dec (one ≡ other)
 dec_walk one other = by_order (walk_cmp one other) one other refl
@@ -127,7 +131,8 @@ dec_core piece = dec_core_kind (kind_of piece)
 
 dec_cuts : (pieces : List PieceValue) → Dec (AreCutWell pieces)
 dec_cuts pieces =
-    let whole = dec_all (λ (piece : PieceValue). (piece.from ≡ 0) × (IsCore piece → piece.to + 1 ≡ length piece.segment.entries))
+    let whole =
+    dec_all (λ (piece : PieceValue). (piece.from ≡ 0) × (IsCore piece → piece.to + 1 ≡ length piece.segment.entries))
     (λ piece. dec_and (dec_same piece.from 0) (dec_if (dec_core piece) (dec_same (piece.to + 1) (length piece.segment.entries)))) pieces in
     let first = dec_all (λ (piece : PieceValue). piece.from ≡ 0) (λ piece. dec_same piece.from 0) pieces in
     let later = dec_all (λ (piece : PieceValue). 0 < piece.from) (λ piece. dec_lt 0 piece.from) pieces in
@@ -157,9 +162,11 @@ dec_live now pieces =
     (λ piece. dec_all (λ (entry : Entry). 2 * now ≤ expiry_of piece.segment.timestamp entry.exp_time) (λ entry. dec_le (2 * now) (expiry_of piece.segment.timestamp entry.exp_time)) (entries_of piece)) pieces
 
 -- whether pieces are a path, if no AS is twice in their walk
-pub dec_path : (pieces : List PieceValue) (src dst now : ℕ) → NamesOnce (walk_of pieces) → Dec (MakesPath pieces src dst now)
+pub dec_path : (pieces : List PieceValue) (src dst now : ℕ) → NamesOnce (walk_of pieces)
+    → Dec (MakesPath pieces src dst now)
 dec_path pieces src dst now once =
-    let shape = dec_and (dec_lt 0 (length pieces)) (dec_and (dec_all HasRange dec_range pieces) (dec_and (dec_adjoins (map kind_of pieces)) (dec_cuts pieces))) in
+    let shape =
+    dec_and (dec_lt 0 (length pieces)) (dec_and (dec_all HasRange dec_range pieces) (dec_and (dec_adjoins (map kind_of pieces)) (dec_cuts pieces))) in
     let ends = dec_and (dec_meet pieces) (dec_and (dec_begin src pieces) (dec_end dst pieces)) in
     elim (dec_and shape (dec_and ends (dec_and (dec_le (total_hops pieces) 64) (dec_live now pieces)))) [
       | yes all ↦ yes (record {
@@ -174,5 +181,6 @@ dec_path pieces src dst now once =
         once = once;
         live = all.1.1.1;
       })
-      | no never ↦ no (λ is. never ((is.some, (is.ranges, (is.kinds, is.cuts))), ((is.meet, (is.source, is.destination)), (is.few, is.live))))
+      | no never ↦ no
+          (λ is. never ((is.some, (is.ranges, (is.kinds, is.cuts))), ((is.meet, (is.source, is.destination)), (is.few, is.live))))
     ]

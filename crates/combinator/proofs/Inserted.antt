@@ -45,7 +45,8 @@ length_taken zero (x ∷ xs) within = refl
 length_taken (suc n) [] within = absurd (omega arith)
 length_taken (suc n) (x ∷ xs) within = let rest = length_taken n xs (omega arith) in omega arith
 
-all_put : {X : Type 0} (P : X → Type 0) (xs : List X) (p : ℕ) (x : X) → AllByRecursion P xs → P x → AllByRecursion P (put xs p x)
+all_put : {X : Type 0} (P : X → Type 0) (xs : List X) (p : ℕ) (x : X) → AllByRecursion P xs → P x
+    → AllByRecursion P (put xs p x)
 all_put P xs zero x all here = (here, all)
 all_put P [] (suc p) x all here = (here, tt)
 all_put P (y ∷ ys) (suc p) x all here = (all.0, all_put P ys p x all.1 here)
@@ -54,7 +55,8 @@ module _ {X : Type 0} (R : X → X → Ordering) (o : IsTotalOrder R) where
   pub placed_of : (p : ℕ) (xs : List X) (x : X) → InOrder R xs → p ≤ length xs → IsGap R x xs p → Placed R x p xs
   placed_of zero [] x order within gap = tt
   placed_of zero (y ∷ ys) x order within gap =
-      let less : R x y ≡ Less = o.antisymm x y ∙ ap ordering_reverse (gap.1 0 y (omega arith) (omega arith)) in (less, further R o x y ys less order.0)
+      let less : R x y ≡ Less =
+      o.antisymm x y ∙ ap ordering_reverse (gap.1 0 y (omega arith) (omega arith)) in (less, further R o x y ys less order.0)
   placed_of (suc p) [] x order within gap = absurd (omega arith)
   placed_of (suc p) (y ∷ ys) x order within gap = (
     gap.0 0 y (omega arith) (omega arith),
@@ -65,10 +67,12 @@ module _ {X : Type 0} (R : X → X → Ordering) (o : IsTotalOrder R) where
   order_put : (xs : List X) (p : ℕ) (x : X) → InOrder R xs → Placed R x p xs → InOrder R (put xs p x)
   order_put xs zero x order placed = (placed, order)
   order_put [] (suc p) x order placed = absurd placed
-  order_put (y ∷ ys) (suc p) x order placed = (all_put (λ z. R y z ≡ Less) ys p x order.0 placed.0, order_put ys p x order.1 placed.1)
+  order_put (y ∷ ys) (suc p) x order placed =
+      (all_put (λ z. R y z ≡ Less) ys p x order.0 placed.0, order_put ys p x order.1 placed.1)
 
   pub order_inserted : (xs : List X) (p : ℕ) (x : X) → InOrder R xs → Placed R x p xs → InOrder R (insert xs p x)
-  order_inserted xs p x order placed = subst (λ ys. InOrder R ys) (sym (put_insert xs p x)) (order_put xs p x order placed)
+  order_inserted xs p x order placed = subst (λ ys. InOrder R ys) (sym (put_insert xs p x))
+      (order_put xs p x order placed)
 
   order_taken : (n : ℕ) (xs : List X) → InOrder R xs → InOrder R (take n xs)
   order_taken zero [] order = tt
@@ -102,7 +106,8 @@ module _ {X : Type 0} (R : X → X → Ordering) (o : IsTotalOrder R) where
     | inr full ↦ inr ((let count = full.0 in omega arith), (before_tied w z ws order.0 tied, full.1))
   ]
 
-  before_placed : (xs : List X) (p : ℕ) (x z : X) → Placed R x p xs → p < length xs → AllByRecursion (λ y. R y z ≡ Less) xs → R x z ≡ Less
+  before_placed : (xs : List X) (p : ℕ) (x z : X) → Placed R x p xs → p < length xs
+      → AllByRecursion (λ y. R y z ≡ Less) xs → R x z ≡ Less
   before_placed [] p x z placed within all = absurd (omega arith)
   before_placed (y ∷ ys) zero x z placed within all = o.trans x y z placed.0 all.0
   before_placed (y ∷ ys) (suc p) x z placed within all = before_placed ys p x z placed.1 (omega arith) all.1
@@ -125,10 +130,12 @@ module _ {X : Type 0} (R : X → X → Ordering) (o : IsTotalOrder R) where
       order_new = subst (λ ys. InOrder R ys) (sym as_put) (order_taken n (put xs p x) (order_put xs p x order placed))
 
       pub met_new : Met R n new x
-      met_new = subst (λ ys. Met R n ys x) (sym as_put) (cut_met n (put xs p x) x (order_put xs p x order placed) (new_put xs p x))
+      met_new = subst (λ ys. Met R n ys x) (sym as_put)
+          (cut_met n (put xs p x) x (order_put xs p x order placed) (new_put xs p x))
 
       pub met_still : p < n → (z : X) → Met R n xs z → Met R n new z
-      met_still room z (inl tied) = subst (λ ys. Met R n ys z) (sym as_put) (cut_met n (put xs p x) z (order_put xs p x order placed) (tied_put z xs p x tied))
+      met_still room z (inl tied) = subst (λ ys. Met R n ys z) (sym as_put)
+          (cut_met n (put xs p x) z (order_put xs p x order placed) (tied_put z xs p x tied))
       met_still room z (inr full) =
           let count = full.0 in
           let long = length_put xs p x in

@@ -11,9 +11,11 @@ use Rattle.path_verifier.proofs.Entries.{length_travelled}
 use Rattle.combinator.specs.inner.UsablePieces.{piece_of, outer_of}
 
 as_of : (entries : List Entry) (k : ℕ) (d : Entry) → k < length entries → as_at entries k ≡ (get_or entries k d).ia
-as_of entries k d within = ap (λ entry. option_map_or (λ (e : Entry). e.ia) entry 0) (slice_get-get_or entries k d within)
+as_of entries k d within =
+    ap (λ entry. option_map_or (λ (e : Entry). e.ia) entry 0) (slice_get-get_or entries k d within)
 
-module _ (segment : Chain) (from to : ℕ) (entry : Entry) (order : from < to) (within : to < length segment.entries) (there : slice_get segment.entries to ≡ Some entry) where
+module _ (segment : Chain) (from to : ℕ) (entry : Entry) (order : from < to)
+    (within : to < length segment.entries) (there : slice_get segment.entries to ≡ Some entry) where
   count : length (between from to segment.entries) ≡ to + 1 - from
   count = length_travelled (piece_of segment from to true) (record { order = order; within = within })
 
@@ -37,7 +39,8 @@ module _ (segment : Chain) (from to : ℕ) (entry : Entry) (order : from < to) (
   begins_against =
       let es = between from to segment.entries in
       as_of (reverse es) 0 entry (omega (arith, count, order, length-reverse es))
-      ∙ ap (λ (e : Entry). e.ia) (get_or-reverse es 0 entry (omega (arith, count, order)) ∙ last_there (length es - 1 - 0) (omega (arith, count, order)))
+      ∙ ap (λ (e : Entry). e.ia)
+      (get_or-reverse es 0 entry (omega (arith, count, order)) ∙ last_there (length es - 1 - 0) (omega (arith, count, order)))
 
   pub outer_there : (along : Bool) → outer_of (piece_of segment from to along) ≡ entry.ia
   outer_there true = ends_along

@@ -11,7 +11,8 @@ use Rattle.combinator.specs.Answer.{IsAnswer, question_under, GoesBefore, IsUsed
 use Rattle.combinator.proofs.Agreeing.{answers_agree}
 
 -- of two options one goes before the other, or they are one
-which : (i : ℕ) (one : WeighedRules) (j : ℕ) (other : WeighedRules) → GoesBefore i one j other ⊎ (GoesBefore j other i one ⊎ (i ≡ j))
+which : (i : ℕ) (one : WeighedRules) (j : ℕ) (other : WeighedRules)
+    → GoesBefore i one j other ⊎ (GoesBefore j other i one ⊎ (i ≡ j))
 which i one j other = elim (cases_lt other.weight one.weight) [
   | inl lighter ↦ inl (inl lighter)
   | inr le ↦ elim (cases_lt one.weight other.weight) [
@@ -27,7 +28,8 @@ which i one j other = elim (cases_lt other.weight one.weight) [
 ]
 
 module _ (set : Selection) (src dst : ℕ) (options : List WeighedRules) (limit : ℕ) where
-  some_path : (used : ℕ) (paths : List PathValue) (is : IsUsed set src dst options limit used paths) → HasNone (question_under set src dst is.option) → ⊥
+  some_path : (used : ℕ) (paths : List PathValue) (is : IsUsed set src dst options limit used paths)
+      → HasNone (question_under set src dst is.option) → ⊥
   some_path used [] is none = absurd (let some = is.some in omega arith)
   some_path used (path ∷ paths) is none = none path (is.answer.best 0 path is.some).candidate
 
@@ -35,7 +37,8 @@ module _ (set : Selection) (src dst : ℕ) (options : List WeighedRules) (limit 
       → GoesBefore i one.option j other.option → ⊥
   not_before i j paths others one other before = some_path i paths one (other.first i one.option one.there before)
 
-  same_used : (i j : ℕ) (paths others : List PathValue) → IsUsed set src dst options limit i paths → IsUsed set src dst options limit j others → i ≡ j
+  same_used : (i j : ℕ) (paths others : List PathValue) → IsUsed set src dst options limit i paths
+      → IsUsed set src dst options limit j others → i ≡ j
   same_used i j paths others one other = elim (which i one.option j other.option) [
     | inl before ↦ absurd (not_before i j paths others one other before)
     | inr rest ↦ elim rest [
@@ -44,18 +47,24 @@ module _ (set : Selection) (src dst : ℕ) (options : List WeighedRules) (limit 
     ]
   ]
 
-  there_none : (i : ℕ) (paths : List PathValue) → IsUsed set src dst options limit i paths → All (λ option. HasNone (question_under set src dst option)) options → ⊥
+  there_none : (i : ℕ) (paths : List PathValue) → IsUsed set src dst options limit i paths
+      → All (λ option. HasNone (question_under set src dst option)) options → ⊥
   there_none i paths is none =
-      some_path i paths is (subst (λ (option : WeighedRules). HasNone (question_under set src dst option)) (get_or_from_slice_get options i is.option is.option is.there)
+      some_path i paths is
+      (subst (λ (option : WeighedRules). HasNone (question_under set src dst option)) (get_or_from_slice_get options i is.option is.option is.there)
       (none i is.option (slice_get_within options i is.option is.there)))
 
-  pub options_agree : (used also : Option ℕ) (paths others : List PathValue) → ((option : WeighedRules) → AreSpelled (question_under set src dst option)) → AnswersWith set src dst options limit used paths → AnswersWith set src dst options limit also others
+  pub options_agree : (used also : Option ℕ) (paths others : List PathValue)
+      → ((option : WeighedRules) → AreSpelled (question_under set src dst option))
+      → AnswersWith set src dst options limit used paths → AnswersWith set src dst options limit also others
       → (used ≡ also) × (map header_and_walk paths ≡ map header_and_walk others)
   options_agree None None paths others spelled one other = (refl, ap (map header_and_walk) (one.0 ∙ sym other.0))
   options_agree None (Some j) paths others spelled one other = absurd (there_none j others other one.1)
   options_agree (Some i) None paths others spelled one other = absurd (there_none i paths one other.1)
   options_agree (Some i) (Some j) paths others spelled one other =
       let same = same_used i j paths others one other in
-      let option : one.option ≡ other.option = same_Some one.option other.option (sym one.there ∙ ap (slice_get options) same ∙ other.there) in
-      let answer : IsAnswer (question_under set src dst one.option) limit others = subst (λ (o : WeighedRules). IsAnswer (question_under set src dst o) limit others) (sym option) other.answer in
+      let option : one.option ≡ other.option =
+      same_Some one.option other.option (sym one.there ∙ ap (slice_get options) same ∙ other.there) in
+      let answer : IsAnswer (question_under set src dst one.option) limit others =
+      subst (λ (o : WeighedRules). IsAnswer (question_under set src dst o) limit others) (sym option) other.answer in
       (ap Some same, answers_agree (question_under set src dst one.option) limit paths others (spelled one.option) one.answer answer)

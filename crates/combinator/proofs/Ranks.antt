@@ -44,12 +44,14 @@ hop_at ia ingress egress = record { ia = ia; ingress = ingress; egress = egress 
 
 same_hop : (one other : WalkHop) → hop_cmp one other ≡ Equal → one ≡ other
 same_hop one other e =
-    let parts = then_equal (nat_cmp one.ia other.ia) (ordering_then (nat_cmp one.ingress other.ingress) (nat_cmp one.egress other.egress)) e in
+    let parts =
+    then_equal (nat_cmp one.ia other.ia) (ordering_then (nat_cmp one.ingress other.ingress) (nat_cmp one.egress other.egress)) e in
     let ways = then_equal (nat_cmp one.ingress other.ingress) (nat_cmp one.egress other.egress) parts.1 in
     let ia : one.ia ≡ other.ia = exact_unsigned one.ia other.ia parts.0 in
     let ingress : one.ingress ≡ other.ingress = exact_unsigned one.ingress other.ingress ways.0 in
     let egress : one.egress ≡ other.egress = exact_unsigned one.egress other.egress ways.1 in
-    ap (λ n. hop_at n one.ingress one.egress) ia ∙ ap (λ n. hop_at other.ia n one.egress) ingress ∙ ap (hop_at other.ia other.ingress) egress
+    ap (λ n. hop_at n one.ingress one.egress) ia ∙ ap (λ n. hop_at other.ia n one.egress) ingress ∙ ap
+    (hop_at other.ia other.ingress) egress
 
 pub same_walk : (one other : List WalkHop) → walk_cmp one other ≡ Equal → one ≡ other
 same_walk [] [] e = refl
@@ -62,20 +64,26 @@ same_walk (hop ∷ one) (next ∷ other) e =
     cc
 
 -- headers of the grammar with the same bytes are one
-pub same_header : (one other : HeaderValue) → SpellsHeader (spelling one) one → SpellsHeader (spelling other) other → bytes_cmp one other ≡ Equal → one ≡ other
+pub same_header : (one other : HeaderValue) → SpellsHeader (spelling one) one
+    → SpellsHeader (spelling other) other → bytes_cmp one other ≡ Equal → one ≡ other
 unfolding bytes_cmp
 same_header one other first second e =
     let bytes : spelling one ≡ spelling other = exact_bytes (spelling one) (spelling other) e in
     let longer : spelling other ≡ spelling one ++ [] = sym bytes ∙ sym (append-nil (spelling one)) in
-    let also : SpellsHeader (spelling one ++ []) other = subst (λ (text : List ℕ). SpellsHeader text other) longer second in
+    let also : SpellsHeader (spelling one ++ []) other =
+    subst (λ (text : List ℕ). SpellsHeader text other) longer second in
     (spelled_once one other (spelling one) [] first also).0
 
 -- paths in the grammar that stand at one place of the order show the same
-pub same_shown : (one other : PathValue) → SpellsHeader (spelling one.header) one.header → SpellsHeader (spelling other.header) other.header → path_cmp one other ≡ Equal → header_and_walk one ≡ header_and_walk other
+pub same_shown : (one other : PathValue) → SpellsHeader (spelling one.header) one.header
+    → SpellsHeader (spelling other.header) other.header → path_cmp one other ≡ Equal
+    → header_and_walk one ≡ header_and_walk other
 unfolding shown_cmp
 same_shown one other first second e =
-    let parts = then_equal (nat_cmp (length one.header.hops) (length other.header.hops)) (ordering_then (bytes_cmp one.header other.header) (walk_cmp (header_and_walk one).1 (header_and_walk other).1)) e in
-    let more = then_equal (bytes_cmp one.header other.header) (walk_cmp (header_and_walk one).1 (header_and_walk other).1) parts.1 in
+    let parts =
+    then_equal (nat_cmp (length one.header.hops) (length other.header.hops)) (ordering_then (bytes_cmp one.header other.header) (walk_cmp (header_and_walk one).1 (header_and_walk other).1)) e in
+    let more =
+    then_equal (bytes_cmp one.header other.header) (walk_cmp (header_and_walk one).1 (header_and_walk other).1) parts.1 in
     let header = same_header one.header other.header first second more.0 in
     let walk = same_walk (header_and_walk one).1 (header_and_walk other).1 more.1 in
     let pair : HeaderValue → List WalkHop → HeaderValue × List WalkHop = λ h w. (h, w) in
@@ -84,4 +92,5 @@ same_shown one other first second e =
 -- and paths that show the same stand there
 pub tied_shown : (one other : PathValue) → header_and_walk one ≡ header_and_walk other → path_cmp one other ≡ Equal
 tied_shown one other same =
-    subst (λ (s : HeaderValue × List WalkHop). shown_cmp (header_and_walk one) s ≡ Equal) same (tied_itself shown_total (header_and_walk one))
+    subst (λ (s : HeaderValue × List WalkHop). shown_cmp (header_and_walk one) s ≡ Equal) same
+    (tied_itself shown_total (header_and_walk one))

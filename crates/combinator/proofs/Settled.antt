@@ -18,31 +18,38 @@ use Rattle.combinator.proofs.Ranks.{tied_shown}
 
 -- ---- paths that show the same are met alike
 
-tied_alike : (one other : PathValue) → header_and_walk one ≡ header_and_walk other → (paths : List PathValue) → Tied path_cmp one paths → Tied path_cmp other paths
+tied_alike : (one other : PathValue) → header_and_walk one ≡ header_and_walk other → (paths : List PathValue)
+    → Tied path_cmp one paths → Tied path_cmp other paths
 tied_alike one other same [] tied = tied
-tied_alike one other same (path ∷ paths) (inl tie) = inl (subst (λ (shown : HeaderValue × List WalkHop). shown_cmp shown (header_and_walk path) ≡ Equal) same tie)
+tied_alike one other same (path ∷ paths) (inl tie) =
+    inl (subst (λ (shown : HeaderValue × List WalkHop). shown_cmp shown (header_and_walk path) ≡ Equal) same tie)
 tied_alike one other same (path ∷ paths) (inr tied) = inr (tied_alike one other same paths tied)
 
 before_alike : (one other : PathValue) → header_and_walk one ≡ header_and_walk other → (paths : List PathValue)
-    → AllByRecursion (λ path. path_cmp path one ≡ Less) paths → AllByRecursion (λ path. path_cmp path other ≡ Less) paths
+    → AllByRecursion (λ path. path_cmp path one ≡ Less) paths
+    → AllByRecursion (λ path. path_cmp path other ≡ Less) paths
 before_alike one other same [] all = tt
 before_alike one other same (path ∷ paths) all = (
   subst (λ (shown : HeaderValue × List WalkHop). shown_cmp (header_and_walk path) shown ≡ Less) same all.0,
   before_alike one other same paths all.1,
 )
 
-met_alike : (limit : ℕ) (paths : List PathValue) (one other : PathValue) → header_and_walk one ≡ header_and_walk other → Met path_cmp limit paths one → Met path_cmp limit paths other
+met_alike : (limit : ℕ) (paths : List PathValue) (one other : PathValue)
+    → header_and_walk one ≡ header_and_walk other → Met path_cmp limit paths one
+    → Met path_cmp limit paths other
 met_alike limit paths one other same (inl tied) = inl (tied_alike one other same paths tied)
 met_alike limit paths one other same (inr full) = inr (full.0, before_alike one other same paths full.1)
 
 -- ---- a walk of which the best path is met
 
 module _ (question : Question) (spelled : AreSpelled question) (limit : ℕ) where
-  pub met_by_best : (paths : List PathValue) (best : PathValue) (pieces : List PieceValue) → IsBest question best → Met path_cmp limit paths best → walk_of pieces ≡ walk_of best.pieces
+  pub met_by_best : (paths : List PathValue) (best : PathValue) (pieces : List PieceValue)
+      → IsBest question best → Met path_cmp limit paths best → walk_of pieces ≡ walk_of best.pieces
       → IsMetBy question limit paths pieces
   unfolding IsMetBy
   met_by_best paths best pieces is met walk = λ header also.
-      met_alike limit paths best (path_with pieces header) (best_is_one question spelled best (path_with pieces header) is also (sym walk)) met
+      met_alike limit paths best (path_with pieces header)
+      (best_is_one question spelled best (path_with pieces header) is also (sym walk)) met
 
   pub met_by_kept : (first behind : List PathValue) (pieces : List PieceValue) → AreKept question limit first behind
       → Any (λ (one : PathValue). walk_of pieces ≡ walk_of one.pieces) first ⊎ Any (λ (one : PathValue). walk_of pieces ≡ walk_of one.pieces) behind
@@ -51,13 +58,16 @@ module _ (question : Question) (spelled : AreSpelled question) (limit : ℕ) whe
       met_by_best first some.1 pieces (subst (IsBest question) some.3 (kept.best some.0 some.1 some.2))
       (inl (tied_at some.1 first some.0 some.1 some.2 some.3 (tied_shown some.1 some.1 refl))) some.4
   met_by_kept first behind pieces kept (inr some) =
-      let other = subst (λ (path : PathValue). IsBest question path × Met path_cmp limit first path) some.3 (kept.others some.0 some.1 some.2) in
+      let other =
+      subst (λ (path : PathValue). IsBest question path × Met path_cmp limit first path) some.3 (kept.others some.0 some.1 some.2) in
       met_by_best first some.1 pieces other.0 other.1 some.4
 
 -- ---- one more path that is kept
 
-module _ (question : Question) (limit : ℕ) (first behind : List PathValue) (best : PathValue) (kept : AreKept question limit first behind) (is : IsBest question best) where
-  pub kept_behind : (more : List PathValue) → more ≡ behind ++ best ∷ [] → Met path_cmp limit first best → AreKept question limit first more
+module _ (question : Question) (limit : ℕ) (first behind : List PathValue) (best : PathValue)
+    (kept : AreKept question limit first behind) (is : IsBest question best) where
+  pub kept_behind : (more : List PathValue) → more ≡ behind ++ best ∷ [] → Met path_cmp limit first best
+      → AreKept question limit first more
   kept_behind more at met = record {
     order = kept.order;
     few = kept.few;
@@ -66,5 +76,6 @@ module _ (question : Question) (limit : ℕ) (first behind : List PathValue) (be
         (All-push (λ path. IsBest question path × Met path_cmp limit first path) behind best kept.others (is, met));
   }
 
-  pub others_still : (new : List PathValue) → StillMeet limit first new → All (λ path. IsBest question path × Met path_cmp limit new path) behind
+  pub others_still : (new : List PathValue) → StillMeet limit first new
+      → All (λ path. IsBest question path × Met path_cmp limit new path) behind
   others_still new still = λ k d within. (let other = kept.others k d within in (other.0, still _ other.1))

@@ -26,11 +26,13 @@ begins_earlier : (one other : PieceValue) → begins_in one < begins_in other �
 unfolding piece_cmp
 begins_earlier one other = less_first (begins_in one) (begins_in other) _
 
-pub begins_rise : (pieces : List PieceValue) → IsSortedBy (λ one other. is_lt (piece_cmp one other)) pieces → IsNonDecreasingBy begins_in pieces
+pub begins_rise : (pieces : List PieceValue) → IsSortedBy (λ one other. is_lt (piece_cmp one other)) pieces
+    → IsNonDecreasingBy begins_in pieces
 begins_rise pieces sorted i j d upward within =
     let one = get_or pieces i d in
     let other = get_or pieces j d in
     elim (cases_lt (begins_in other) (begins_in one)) [
-      | inl less ↦ absurd (let both : true ≡ false = sym (begins_earlier other one less) ∙ sorted_far (λ (a b : PieceValue). is_lt (piece_cmp a b)) piece_ranks pieces sorted i j d upward within in cc)
+      | inl less ↦ absurd
+          (let both : true ≡ false = sym (begins_earlier other one less) ∙ sorted_far (λ (a b : PieceValue). is_lt (piece_cmp a b)) piece_ranks pieces sorted i j d upward within in cc)
       | inr upto ↦ upto
     ]

@@ -17,15 +17,18 @@ use Rattle.combinator.specs.inner.Search.{HasFields, HaveAll}
 all_reverse : {X : Type 0} (P : X → Type 0) (xs : List X) → All P xs → All P (reverse xs)
 all_reverse P [] all = all
 all_reverse P (x ∷ xs) all =
-    subst (All P) (sym (reverse_cons x xs)) (All-push P (reverse xs) x (all_reverse P xs (λ k d within. all (suc k) d (omega (arith, within)))) (all 0 x (omega arith)))
+    subst (All P) (sym (reverse_cons x xs))
+    (All-push P (reverse xs) x (all_reverse P xs (λ k d within. all (suc k) d (omega (arith, within)))) (all 0 x (omega arith)))
 
 in_either : (along : Bool) (P : Entry → Type 0) (entries : List Entry) → All P entries → All P (in_order along entries)
 in_either true P entries all = all
 in_either false P entries all = all_reverse P entries all
 
-fields_fit : (entries : List Entry) → All (λ (entry : Entry). HopFits (field_of entry)) entries → AllByRecursion HopFits (map field_of entries)
+fields_fit : (entries : List Entry) → All (λ (entry : Entry). HopFits (field_of entry)) entries
+    → AllByRecursion HopFits (map field_of entries)
 fields_fit [] all = tt
-fields_fit (entry ∷ entries) all = (all 0 entry (omega arith), fields_fit entries (λ k d within. all (suc k) d (omega (arith, within))))
+fields_fit (entry ∷ entries) all =
+    (all 0 entry (omega arith), fields_fit entries (λ k d within. all (suc k) d (omega (arith, within))))
 
 piece_fits : (piece : PieceValue) → HasFields piece → AllByRecursion HopFits (fields_of piece)
 unfolding fields_of HasFields
@@ -37,27 +40,33 @@ piece_fits piece has =
 infos_fit : (pieces : List PieceValue) → All HasFields pieces → AllByRecursion InfoFits (map info_of pieces)
 unfolding HasFields
 infos_fit [] all = tt
-infos_fit (piece ∷ pieces) all = ((all 0 piece (omega arith)).0, infos_fit pieces (λ k d within. all (suc k) d (omega (arith, within))))
+infos_fit (piece ∷ pieces) all =
+    ((all 0 piece (omega arith)).0, infos_fit pieces (λ k d within. all (suc k) d (omega (arith, within))))
 
 both_fit : (xs ys : _) → AllByRecursion HopFits xs → AllByRecursion HopFits ys → AllByRecursion HopFits (xs ++ ys)
-both_fit xs ys first second = recursion_from_All HopFits (xs ++ ys) (All-append HopFits xs ys (All-from_recursion HopFits xs first) (All-from_recursion HopFits ys second))
+both_fit xs ys first second =
+    recursion_from_All HopFits (xs ++ ys)
+    (All-append HopFits xs ys (All-from_recursion HopFits xs first) (All-from_recursion HopFits ys second))
 
 hops_fit : (pieces : List PieceValue) → All HasFields pieces → AllByRecursion HopFits (flat_map fields_of pieces)
 hops_fit [] all = tt
 hops_fit (piece ∷ pieces) all =
-    both_fit (fields_of piece) (flat_map fields_of pieces) (piece_fits piece (all 0 piece (omega arith))) (hops_fit pieces (λ k d within. all (suc k) d (omega (arith, within))))
+    both_fit (fields_of piece) (flat_map fields_of pieces) (piece_fits piece (all 0 piece (omega arith)))
+    (hops_fit pieces (λ k d within. all (suc k) d (omega (arith, within))))
 
 fits : (pieces : List PieceValue) → All HasFields pieces → FitsBits (header_of pieces)
 unfolding header_of
 fits pieces all = record { infos = infos_fit pieces all; hops = hops_fit pieces all }
 
 -- what holds of all usable pieces holds of those of a list
-pub of_all : (P : PieceValue → Type 0) (usable_pieces pieces : List PieceValue) → All P usable_pieces → All (Contains usable_pieces) pieces → All P pieces
+pub of_all : (P : PieceValue → Type 0) (usable_pieces pieces : List PieceValue) → All P usable_pieces
+    → All (Contains usable_pieces) pieces → All P pieces
 of_all P usable_pieces pieces all there k d within =
     let place = there k d within in
     subst P place.2 (all place.0 (get_or pieces k d) place.1)
 
-pub all_spelled : (question : Question) (usable_pieces : List PieceValue) → HaveAll question usable_pieces → All HasFields usable_pieces → AreSpelled question
+pub all_spelled : (question : Question) (usable_pieces : List PieceValue) → HaveAll question usable_pieces
+    → All HasFields usable_pieces → AreSpelled question
 unfolding HasFields
 all_spelled question usable_pieces whole has path is =
     let fields = of_all HasFields usable_pieces path.pieces has (whole path is) in

@@ -10,7 +10,8 @@ use Rattle.std.proofs.lemmas.Cmp.{tied_back}
 use Rattle.combinator.specs.inner.Placed.{Tied, InOrder, Met}
 
 module _ {X : Type 0} (R : X → X → Ordering) (o : IsTotalOrder R) where
-  pub further : (x y : X) (ys : List X) → R x y ≡ Less → AllByRecursion (λ z. R y z ≡ Less) ys → AllByRecursion (λ z. R x z ≡ Less) ys
+  pub further : (x y : X) (ys : List X) → R x y ≡ Less → AllByRecursion (λ z. R y z ≡ Less) ys
+      → AllByRecursion (λ z. R x z ≡ Less) ys
   further x y [] less all = tt
   further x y (z ∷ ys) less all = (o.trans x y z less all.0, further x y ys less all.1)
 

@@ -23,12 +23,14 @@ pub is_program_free : is_simple_and_free program_app ≡ true
 unfolding clap_on_literals
 is_program_free = refl
 
-none_of : (kinds : Kinds) (kind : ErrorKind) (command : Option Command) → IsAmong kind kinds → unless_faulty kinds command ≡ None
+none_of : (kinds : Kinds) (kind : ErrorKind) (command : Option Command) → IsAmong kind kinds
+    → unless_faulty kinds command ≡ None
 none_of [] kind command among = absurd among
 none_of (k ∷ ks) kind command among = refl
 
 -- no words ask for a run
-pub asked-nothing : {A : Type 0} (text : A → Text) (words : List A) → length words ≡ 0 → command_or_run (map text words) ≡ Some Run
+pub asked-nothing : {A : Type 0} (text : A → Text) (words : List A) → length words ≡ 0
+    → command_or_run (map text words) ≡ Some Run
 unfolding command_or_run
 asked-nothing text [] none = refl
 asked-nothing text (word ∷ words) none = absurd (omega (none, arith))
@@ -71,6 +73,7 @@ named-found words found command none is named =
     ∙ (ap command_in (sym is) ∙ sym named)
 
 -- a fault of words is right where they ask for nothing
-pub Asks-none : (fault : WordsFault) (asked : Option Command) → IsWordsFault fault → asked ≡ None → AsksFor (Err fault) asked
+pub Asks-none : (fault : WordsFault) (asked : Option Command) → IsWordsFault fault → asked ≡ None
+    → AsksFor (Err fault) asked
 Asks-none (Usage text) asked is none = none
 Asks-none Memory asked is none = tt

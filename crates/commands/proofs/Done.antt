@@ -34,13 +34,15 @@ IsStill-same bytes failed stream = (Keeps-refl (bytes stream), sym (or-false (fa
 
 -- what was not read is answered
 pub Steps-unread : {A : Type 0} (answer : Result A CommandFault) (fault : InputFault) (turn : Turn) (source sink : Change)
-    → IsErrAnd answer (λ e. e ≡ of_input fault) → ReadsInput (Err fault) source → IsUntouched sink → Steps answer turn source sink
+    → IsErrAnd answer (λ e. e ≡ of_input fault) → ReadsInput (Err fault) source → IsUntouched sink
+    → Steps answer turn source sink
 Steps-unread (Ok x) fault turn source sink is read still = absurd is
 Steps-unread (Err e) fault turn source sink is read still = (Err fault, (read, (ap Err is, still)))
 
 -- so is a turn that gave no line
 pub Prints-fault : {A : Type 0} (answer : Result A CommandFault) (fault : TurnFault) (line : Option (List ℕ)) (sink : Change)
-    → IsErrAnd answer (λ e. e ≡ of_turn fault) → StepPrints {A = List ℕ} (Err fault) line → IsUntouched sink → PrintsLine answer line sink
+    → IsErrAnd answer (λ e. e ≡ of_turn fault) → StepPrints {A = List ℕ} (Err fault) line → IsUntouched sink
+    → PrintsLine answer line sink
 Prints-fault (Ok x) fault line sink is none still = absurd is
 Prints-fault (Err e) turns.PacketText line sink is none still = rw (is, none) still
 Prints-fault (Err e) turns.Memory line sink is none still = rw is still
@@ -53,7 +55,8 @@ Prints-memory (Err e) line sink is still = rw is still
 
 -- so is a write that failed
 pub Prints-unwritten : {A : Type 0} (answer : Result A CommandFault) (line : Option (List ℕ)) (text bytes : List ℕ) (sink : Change)
-    → IsErrAnd answer (λ e. e ≡ Write) → line ≡ Some text → bytes ≡ whole_line text → AppendsFront sink.old sink.new bytes
+    → IsErrAnd answer (λ e. e ≡ Write) → line ≡ Some text → bytes ≡ whole_line text
+    → AppendsFront sink.old sink.new bytes
     → SetsFlag sink true → PrintsLine answer line sink
 Prints-unwritten (Ok x) line text bytes sink is some whole front flag = absurd is
 Prints-unwritten (Err e) line text bytes sink is some whole front flag = rw (is, some, ← whole) (front, flag)
@@ -69,7 +72,8 @@ Appends-none None new keeps = tt
 Appends-none (Some x) None keeps = absurd keeps
 Appends-none (Some x) (Some y) keeps = keeps ∙ sym (append-nil x)
 
-Listens-unbegun : (accepted : AcceptedLines) (before after held holds : Option (List ℕ)) → Keeps before after → Keeps held holds
+Listens-unbegun : (accepted : AcceptedLines) (before after held holds : Option (List ℕ)) → Keeps before after
+    → Keeps held holds
     → Listens accepted (Err run.Memory) before after held holds
 Listens-unbegun accepted before after held holds still quiet = (
   [],
@@ -104,11 +108,13 @@ pub Does-refused : (answer : Result (Unit {0}) CommandFault) (fault : WordsFault
     → DoesCommand answer asked source sink
 Does-refused (Ok x) fault asked source sink is refused still quiet = absurd is
 Does-refused (Err e) (words.Usage text) asked source sink is refused still quiet = rw (is, refused) (tt, (still, quiet))
-Does-refused (Err e) words.Memory asked source sink is refused still quiet = rw is (Does-memory asked source sink still quiet)
+Does-refused (Err e) words.Memory asked source sink is refused still quiet =
+    rw is (Does-memory asked source sink still quiet)
 
 -- a turn of which the input was read answers its line
 pub Steps-read : {A : Type 0} (answer : Result A CommandFault) (turn : Turn) (source sink : Change) (bytes text : List ℕ)
-    → ReadsInput (Ok bytes) source → text ≡ bytes → PrintsLine answer (line_of turn text) sink → Steps answer turn source sink
+    → ReadsInput (Ok bytes) source → text ≡ bytes → PrintsLine answer (line_of turn text) sink
+    → Steps answer turn source sink
 Steps-read answer turn source sink bytes text read same prints =
     (Ok bytes, (read, subst (λ t. PrintsLine answer (line_of turn t) sink) same prints))
 

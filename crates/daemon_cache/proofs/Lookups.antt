@@ -25,13 +25,20 @@ pub found_is_live : (segments : List Chain) (src dst now : ℕ) → AreAllLive (
 found_is_live segments src dst now =
     let set = segments_for segments src dst now in
     record {
-      ups = All-weaker (Contains set.ups) (λ s. IsChainLive s now) (λ s there. ((ups_are_plain segments src dst now s).0 there).live) set.ups (All-contains_itself set.ups);
-      cores = All-weaker (Contains set.cores) (λ s. IsChainLive s now) (λ s there. ((cores_are_plain segments src dst now s).0 there).live) set.cores (All-contains_itself set.cores);
-      downs = All-weaker (Contains set.downs) (λ s. IsChainLive s now) (λ s there. ((downs_are_plain segments src dst now s).0 there).live) set.downs (All-contains_itself set.downs);
+      ups = All-weaker (Contains set.ups) (λ s. IsChainLive s now)
+          (λ s there. ((ups_are_plain segments src dst now s).0 there).live) set.ups
+          (All-contains_itself set.ups);
+      cores = All-weaker (Contains set.cores) (λ s. IsChainLive s now)
+          (λ s there. ((cores_are_plain segments src dst now s).0 there).live) set.cores
+          (All-contains_itself set.cores);
+      downs = All-weaker (Contains set.downs) (λ s. IsChainLive s now)
+          (λ s there. ((downs_are_plain segments src dst now s).0 there).live) set.downs
+          (All-contains_itself set.downs);
     }
 
 same_lists : (segments others : List Chain) → segments ≡ others → HaveSame segments others
-same_lists segments others same s = (subst (λ (l : List Chain). Contains l s) same, subst (λ (l : List Chain). Contains l s) (sym same))
+same_lists segments others same s =
+    (subst (λ (l : List Chain). Contains l s) same, subst (λ (l : List Chain). Contains l s) (sym same))
 
 -- an entry's answer answers its request over each set of its segments, all of which are live
 pub served_answers : (request : RequestValue) (own set : Selection) (answer : AnswerValue) → IsOwn request own answer
@@ -53,20 +60,24 @@ served_answers request own set answer is segments live =
 pub lawful_wants : (request : RequestValue) → lawful_at request ≡ Ok tt → 0 < request.limit
 unfolding lawful_at
 lawful_wants request is =
-    let checked = bind_ok (check (is_limit request.limit) fault.BadLimit) (λ few. refused_as fault.Options (options_at request.texts) >>= (λ options. check (not (request.src == request.dst)) fault.SameAs)) tt is in
-    let holds = and_parts (nat_le 1 request.limit) (nat_le request.limit 64) (check_ok (is_limit request.limit) fault.BadLimit checked.0 checked.1) in
+    let checked =
+    bind_ok (check (is_limit request.limit) fault.BadLimit) (λ few. refused_as fault.Options (options_at request.texts) >>= (λ options. check (not (request.src == request.dst)) fault.SameAs)) tt is in
+    let holds =
+    and_parts (nat_le 1 request.limit) (nat_le request.limit 64) (check_ok (is_limit request.limit) fault.BadLimit checked.0 checked.1) in
     let least : nat_le 1 request.limit ≡ true = holds.0 in
     grind (arith, nat_tests)
 
 -- no request is refused as NoEntry
-no_entry : (b c : Bool) (read : Result (List WeighedRules) OptionFault) → (check b fault.BadLimit >>= (λ few. refused_as fault.Options read >>= (λ options. check c fault.SameAs))) ≢ Err fault.NoEntry
+no_entry : (b c : Bool) (read : Result (List WeighedRules) OptionFault)
+    → (check b fault.BadLimit >>= (λ few. refused_as fault.Options read >>= (λ options. check c fault.SameAs))) ≢ Err fault.NoEntry
 no_entry false c read e = absurd cc
 no_entry true c (Err refusal) e = absurd cc
 no_entry true false (Ok options) e = absurd cc
 no_entry true true (Ok options) e = absurd cc
 
 -- a request that is refused gets no answer, of which the reader sees nothing
-pub gives_none : (request : RequestValue) (reader : Informed) (refusal : AskFault) → lawful_at request ≡ Err refusal → GivesNoAnswer (Refused refusal) request reader reader
+pub gives_none : (request : RequestValue) (reader : Informed) (refusal : AskFault)
+    → lawful_at request ≡ Err refusal → GivesNoAnswer (Refused refusal) request reader reader
 unfolding lawful_at
 gives_none request reader fault.BadLimit is = (is, refl)
 gives_none request reader (fault.Options refusal) is = (is, refl)
@@ -79,5 +90,8 @@ unfolding segments_for
 moment_is_asked segments src dst now = refl
 
 -- what a look-up gave is live at its own second
-pub set_is_live : (set : Selection) (segments : List Chain) (src dst now : ℕ) → set ≡ segments_for segments src dst now → AreAllLive set set.moment
-set_is_live set segments src dst now is = subst (λ (s : Selection). AreAllLive s s.moment) (sym is) (subst (AreAllLive (segments_for segments src dst now)) (sym (moment_is_asked segments src dst now)) (found_is_live segments src dst now))
+pub set_is_live : (set : Selection) (segments : List Chain) (src dst now : ℕ)
+    → set ≡ segments_for segments src dst now → AreAllLive set set.moment
+set_is_live set segments src dst now is =
+    subst (λ (s : Selection). AreAllLive s s.moment) (sym is)
+    (subst (AreAllLive (segments_for segments src dst now)) (sym (moment_is_asked segments src dst now)) (found_is_live segments src dst now))

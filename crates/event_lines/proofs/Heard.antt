@@ -20,7 +20,8 @@ pub record Heard (accepted : AcceptedLines) (bytes left : List ℕ) (old now : S
   pub heard : AnswersLines accepted lines old now.stage now.replies
 
 -- nothing was heard yet
-pub heard_none : (accepted : AcceptedLines) (bytes : List ℕ) (old : SessionValue) → has_line_end old.rest ≡ false → Heard accepted bytes bytes old old
+pub heard_none : (accepted : AcceptedLines) (bytes : List ℕ) (old : SessionValue)
+    → has_line_end old.rest ≡ false → Heard accepted bytes bytes old old
 heard_none accepted bytes old none = record {
   front = [];
   lines = [];
@@ -31,27 +32,32 @@ heard_none accepted bytes old none = record {
 
 -- one line more is told
 pub hears_more : (accepted : AcceptedLines) {lines : List (List ℕ)} {old : SessionValue} (stage next : Stage) (replies after line text : List ℕ)
-    → AnswersLines accepted lines old stage replies → RepliesTo accepted stage line text next → after ≡ replies ++ (text ++ line_end ∷ [])
+    → AnswersLines accepted lines old stage replies → RepliesTo accepted stage line text next
+    → after ≡ replies ++ (text ++ line_end ∷ [])
     → AnswersLines accepted (lines ++ line ∷ []) old next after
 hears_more accepted {lines} {old} stage next replies after line text accepts says grows = record {
   texts = accepts.texts ++ text ∷ [];
-  told = told_append accepted old.stage stage next lines (line ∷ []) accepts.texts (text ∷ []) accepts.told (told_one accepted stage next line text says);
+  told = told_append accepted old.stage stage next lines (line ∷ []) accepts.texts (text ∷ []) accepts.told
+      (told_one accepted stage next line text says);
   kept = grows ∙ ap (λ l. l ++ (text ++ line_end ∷ [])) accepts.kept
       ∙ append_assoc old.replies (ended_lines accepts.texts) (text ++ line_end ∷ [])
       ∙ ap (λ l. old.replies ++ l) (sym (ended_more accepts.texts text));
 }
 
 -- a line and its end behind lines
-line_read : {read rest : List ℕ} {lines : List (List ℕ)} (line : List ℕ) → AreLines read lines rest → has_line_end line ≡ false
+line_read : {read rest : List ℕ} {lines : List (List ℕ)} (line : List ℕ) → AreLines read lines rest
+    → has_line_end line ≡ false
     → AreLines (read ++ (line ++ line_end ∷ [])) (lines ++ (rest ++ line) ∷ []) []
 line_read {read} {rest} {lines} line are one =
     subst (λ l. AreLines l (lines ++ (rest ++ line) ∷ []) []) (append_assoc read line (line_end ∷ []))
     (closed (grown line are one))
 
 -- the front with one line more
-front_more : (front line behind : List ℕ) → front ++ (line ++ line_end ∷ behind) ≡ (front ++ (line ++ line_end ∷ [])) ++ behind
+front_more : (front line behind : List ℕ)
+    → front ++ (line ++ line_end ∷ behind) ≡ (front ++ (line ++ line_end ∷ [])) ++ behind
 front_more front line behind =
-    ap (λ l. front ++ l) (sym (append_assoc line (line_end ∷ []) behind)) ∙ sym (append_assoc front (line ++ line_end ∷ []) behind)
+    ap (λ l. front ++ l) (sym (append_assoc line (line_end ∷ []) behind)) ∙ sym
+    (append_assoc front (line ++ line_end ∷ []) behind)
 
 -- one line more was heard
 pub heard_line : (accepted : AcceptedLines) (bytes left line behind : List ℕ) (old now : SessionValue) (next : Stage) (after text : List ℕ)
@@ -62,7 +68,8 @@ heard_line accepted bytes left line behind old now next after text heard cut say
   front = heard.front ++ (line ++ line_end ∷ []);
   lines = heard.lines ++ (now.rest ++ line) ∷ [];
   whole = heard.whole ∙ ap (λ l. heard.front ++ l) cut.whole ∙ front_more heard.front line behind;
-  are = subst (λ l. AreLines l (heard.lines ++ (now.rest ++ line) ∷ []) []) (append_assoc old.rest heard.front (line ++ line_end ∷ []))
+  are = subst (λ l. AreLines l (heard.lines ++ (now.rest ++ line) ∷ []) [])
+      (append_assoc old.rest heard.front (line ++ line_end ∷ []))
       (line_read line heard.are cut.one);
   heard = hears_more accepted now.stage next now.replies after (now.rest ++ line) text heard.heard says grows;
 }
@@ -75,12 +82,14 @@ pub record Later (bytes left : List ℕ) (old : SessionValue) (lines : List (Lis
   pub more : 0 < length left → HasMore later rest
 
 -- bytes are lines, or a beginning of one
-has_more : (bytes : List ℕ) (lines : List (List ℕ)) (rest : List ℕ) → AreLines bytes lines rest → 0 < length bytes → HasMore lines rest
+has_more : (bytes : List ℕ) (lines : List (List ℕ)) (rest : List ℕ) → AreLines bytes lines rest
+    → 0 < length bytes → HasMore lines rest
 has_more bytes [] [] are some = absurd (omega (arith, some, ap (λ l. length l) are.whole))
 has_more bytes [] (b ∷ rest) are some = tt
 has_more bytes (line ∷ lines) rest are some = tt
 
-pub later_of : (accepted : AcceptedLines) (bytes left : List ℕ) (old now : SessionValue) → (heard : Heard accepted bytes left old now) → Later bytes left old heard.lines
+pub later_of : (accepted : AcceptedLines) (bytes left : List ℕ) (old now : SessionValue)
+    → (heard : Heard accepted bytes left old now) → Later bytes left old heard.lines
 later_of accepted bytes left old now heard =
     let cut = cut_of (now.rest ++ left) in record {
       later = cut.lines;
@@ -102,7 +111,8 @@ heard_closed accepted bytes left line behind old now new text heard cut says gro
     (last.lines, all.later, all.rest, (all.are, last.heard))
 
 -- memory ran out
-pub heard_short : (accepted : AcceptedLines) (bytes left : List ℕ) (old now new : SessionValue) → Heard accepted bytes left old now → new.replies ≡ now.replies
+pub heard_short : (accepted : AcceptedLines) (bytes left : List ℕ) (old now new : SessionValue)
+    → Heard accepted bytes left old now → new.replies ≡ now.replies
     → 0 < length left → GoesOn now.stage → AnswersBytes accepted (Err faults.Memory) bytes old new
 heard_short accepted bytes left old now new heard same some on =
     let all = later_of accepted bytes left old now heard in (

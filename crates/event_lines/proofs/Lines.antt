@@ -16,11 +16,13 @@ pub grown : {bytes rest : List ℕ} {lines : List (List ℕ)} (more : List ℕ)
 grown {bytes} {rest} {lines} more are none = record {
   whole = ap (λ l. l ++ more) are.whole ∙ append_assoc (ended_lines lines) rest more;
   apart = are.apart;
-  last = list_any-append (λ b. b == line_end) rest more ∙ both_none (has_line_end rest) (has_line_end more) are.last none;
+  last = list_any-append (λ b. b == line_end) rest more ∙ both_none (has_line_end rest)
+      (has_line_end more) are.last none;
 }
 
 -- lines with one more
-pub ended_more : (lines : List (List ℕ)) (line : List ℕ) → ended_lines (lines ++ line ∷ []) ≡ ended_lines lines ++ (line ++ line_end ∷ [])
+pub ended_more : (lines : List (List ℕ)) (line : List ℕ)
+    → ended_lines (lines ++ line ∷ []) ≡ ended_lines lines ++ (line ++ line_end ∷ [])
 ended_more lines line =
     flat_map-append (λ l. l ++ line_end ∷ []) lines (line ∷ [])
     ∙ ap (λ l. ended_lines lines ++ l) (append-nil (line ++ line_end ∷ []))
@@ -35,7 +37,8 @@ closed {bytes} {rest} {lines} are = record {
   whole = ap (λ l. l ++ line_end ∷ []) are.whole ∙ append_assoc (ended_lines lines) rest (line_end ∷ [])
       ∙ sym (ended_more lines rest) ∙ sym (append-nil (ended_lines (lines ++ rest ∷ [])));
   apart = list_any-append has_line_end lines (rest ∷ [])
-      ∙ both_none (list_any has_line_end lines) (has_line_end rest || false) are.apart (both_none (has_line_end rest) false are.last refl);
+      ∙ both_none (list_any has_line_end lines) (has_line_end rest || false) are.apart
+      (both_none (has_line_end rest) false are.last refl);
   last = refl;
 }
 

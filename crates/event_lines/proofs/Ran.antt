@@ -46,7 +46,8 @@ goes_on start middle net events more happened later first then =
     record {
       is = history_on start happened later first.is from;
       framed = All-append (λ (m : EventRecord). IsFramed m.event m.reply m.net) happened later first.framed then.framed;
-      of = map-append event_in happened later ∙ ap (λ es. es ++ map event_in later) first.of ∙ ap (λ es. events ++ es) then.of;
+      of = map-append event_in happened later ∙ ap (λ es. es ++ map event_in later) first.of ∙ ap
+          (λ es. events ++ es) then.of;
       ends = net_on start happened later ∙ ap (λ n. net_after n later) first.ends ∙ then.ends;
     }
 

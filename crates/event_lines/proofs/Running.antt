@@ -18,7 +18,8 @@ use Rattle.event_lines.proofs.Ran.{told_as_run}
 use Rattle.event_lines.proofs.Writing.{IsBegun, unbegun_says}
 
 -- these bytes were read, their lines were told, and the replies were written
-pub record SoFar (accepted : AcceptedLines) (before after held holds : Option (List ℕ)) (session : SessionValue) (count : ℕ) : Type 0 where
+pub record SoFar (accepted : AcceptedLines) (before after held holds : Option (List ℕ))
+    (session : SessionValue) (count : ℕ) : Type 0 where
   pub read : List ℕ
   pub consumed : Consumes before after read
   pub counted : length read ≡ count
@@ -34,7 +35,8 @@ pub record SoFar (accepted : AcceptedLines) (before after held holds : Option (L
   pub on : GoesOn session.stage
 
 -- nothing was read yet
-pub begun : (accepted : AcceptedLines) (left held : Option (List ℕ)) (session : SessionValue) → session ≡ record { stage = Unbegun; rest = []; replies = [] }
+pub begun : (accepted : AcceptedLines) (left held : Option (List ℕ)) (session : SessionValue)
+    → session ≡ record { stage = Unbegun; rest = []; replies = [] }
     → SoFar accepted left left held held session 0
 begun accepted left held session is = record {
   read = [];
@@ -54,7 +56,8 @@ begun accepted left held session is = record {
 
 -- lines more were told, and their replies written
 pub passed_on : (accepted : AcceptedLines) (before after now held holds with : Option (List ℕ)) {session : SessionValue} {count : ℕ} (bytes : List ℕ) (next : SessionValue)
-    → SoFar accepted before after held holds session count → Consumes after now bytes → count + length bytes ≤ most_input
+    → SoFar accepted before after held holds session count → Consumes after now bytes
+    → count + length bytes ≤ most_input
     → (lines : List (List ℕ)) → AreLines (session.rest ++ bytes) lines next.rest
     → Passes accepted lines session next.stage holds with → next.replies ≡ [] → GoesOn next.stage
     → SoFar accepted before now held with next (count + length bytes)
@@ -76,7 +79,8 @@ passed_on accepted before after now held holds with {session} {count} bytes next
 
 -- what was told so far is a run
 as_run : (accepted : AcceptedLines) {before after held holds : Option (List ℕ)} {session : SessionValue} {count : ℕ}
-    → (far : SoFar accepted before after held holds session count) → RepliesToInput accepted far.lines far.texts session.stage
+    → (far : SoFar accepted before after held holds session count)
+    → RepliesToInput accepted far.lines far.texts session.stage
 as_run accepted {session} far = told_as_run accepted far.lines far.texts session.stage far.told
 
 -- ---- what was written
@@ -123,7 +127,8 @@ some_on accepted {before} {after} {held} {holds} with {session} {count} lines fa
         told_as_run accepted (far.lines ++ lines) (far.texts ++ passes.texts) passes.stage
             (told_append accepted Unbegun session.stage passes.stage far.lines lines far.texts passes.texts far.told passes.told),
         take_behind far.went (ended_lines passes.texts) passes.most
-            ∙ ap (take (length far.went + passes.most)) (ap (λ l. l ++ ended_lines passes.texts) far.same ∙ sym (ended_append far.texts passes.texts)),
+            ∙ ap (take (length far.went + passes.most))
+            (ap (λ l. l ++ ended_lines passes.texts) far.same ∙ sym (ended_append far.texts passes.texts)),
       ),
     ),
   ),
@@ -133,18 +138,21 @@ some_on accepted {before} {after} {held} {holds} with {session} {count} lines fa
 
 -- the first of what was read, with more
 first_on : (accepted : AcceptedLines) {before after held holds : Option (List ℕ)} {session : SessionValue} {count : ℕ} (bytes : List ℕ) (lines later : List (List ℕ)) (rest : List ℕ)
-    → (far : SoFar accepted before after held holds session count) → AreLines (session.rest ++ bytes) (lines ++ later) rest
+    → (far : SoFar accepted before after held holds session count)
+    → AreLines (session.rest ++ bytes) (lines ++ later) rest
     → AreFirst (far.read ++ bytes) (far.lines ++ lines)
 first_on accepted bytes lines later rest far are = (
   later,
   rest,
-  subst (λ ls. AreLines (far.read ++ bytes) ls rest) (sym (append_assoc far.lines lines later)) (joined bytes far.are are),
+  subst (λ ls. AreLines (far.read ++ bytes) ls rest) (sym (append_assoc far.lines lines later))
+      (joined bytes far.are are),
 )
 
 -- the first of what was read, as it stands
 first_of : (accepted : AcceptedLines) {before after held holds : Option (List ℕ)} {session : SessionValue} {count : ℕ}
     → (far : SoFar accepted before after held holds session count) → AreFirst far.read far.lines
-first_of accepted {session} far = ([], session.rest, subst (λ ls. AreLines far.read ls session.rest) (sym (append-nil far.lines)) far.are)
+first_of accepted {session} far =
+    ([], session.rest, subst (λ ls. AreLines far.read ls session.rest) (sym (append-nil far.lines)) far.are)
 
 -- a line follows these
 next_of : (lines later : List (List ℕ)) (rest : List ℕ) → HasMore later rest
@@ -160,24 +168,29 @@ next_of (l ∷ ls) [] (b ∷ rest) more = (b ∷ rest, [], ap (λ x. l ∷ (x ++
 
 -- a line of what was read follows these
 next_on : (accepted : AcceptedLines) {before after held holds : Option (List ℕ)} {session : SessionValue} {count : ℕ} (bytes : List ℕ) (lines later : List (List ℕ)) (rest : List ℕ)
-    → (far : SoFar accepted before after held holds session count) → AreLines (session.rest ++ bytes) (lines ++ later) rest → HasMore later rest
+    → (far : SoFar accepted before after held holds session count)
+    → AreLines (session.rest ++ bytes) (lines ++ later) rest → HasMore later rest
     → HaveNext (far.read ++ bytes) (far.lines ++ lines)
 next_on accepted bytes lines later rest far are more =
     let (next, after, same) = next_of (far.lines ++ lines) later rest more in
-    let first = subst (λ ls. AreLines (far.read ++ bytes) ls rest) (sym (append_assoc far.lines lines later)) (joined bytes far.are are) in
+    let first =
+    subst (λ ls. AreLines (far.read ++ bytes) ls rest) (sym (append_assoc far.lines lines later)) (joined bytes far.are are) in
     ((far.lines ++ lines) ++ later, rest, next, after, (first, same))
 
 -- where lines were told a run has begun
-says_begun : (accepted : AcceptedLines) (start next : Stage) (line text : List ℕ) → RepliesTo accepted start line text next → IsBegun next
+says_begun : (accepted : AcceptedLines) (start next : Stage) (line text : List ℕ)
+    → RepliesTo accepted start line text next → IsBegun next
 says_begun accepted start Unbegun line text says = absurd (unbegun_says accepted start line text says)
 says_begun accepted start (Open net) line text says = tt
 says_begun accepted start Closed line text says = tt
 
-told_begun : (accepted : AcceptedLines) (start stage : Stage) (line : List ℕ) (lines texts : List (List ℕ)) → RepliesToAll accepted start (line ∷ lines) texts stage → IsBegun stage
+told_begun : (accepted : AcceptedLines) (start stage : Stage) (line : List ℕ) (lines texts : List (List ℕ))
+    → RepliesToAll accepted start (line ∷ lines) texts stage → IsBegun stage
 told_begun accepted start stage line lines [] told = absurd told
 told_begun accepted start stage line [] (text ∷ texts) told =
     subst IsBegun (sym told.1.1.1) (says_begun accepted start told.0 line text told.1.0)
-told_begun accepted start stage line (next ∷ lines) (text ∷ texts) told = told_begun accepted told.0 stage next lines texts told.1.1
+told_begun accepted start stage line (next ∷ lines) (text ∷ texts) told =
+    told_begun accepted told.0 stage next lines texts told.1.1
 
 -- what is left is the last line
 last_begun : (stage : Stage) (line rest : List ℕ) (lines : List (List ℕ)) → IsBegun stage
@@ -188,20 +201,24 @@ last_begun (Open net) line (b ∷ rest) lines begun = refl
 last_begun Closed line [] lines begun = append-nil (line ∷ lines)
 last_begun Closed line (b ∷ rest) lines begun = refl
 
-all_told : (accepted : AcceptedLines) (lines texts : List (List ℕ)) (stage : Stage) (rest : List ℕ) → RepliesToAll accepted Unbegun lines texts stage
+all_told : (accepted : AcceptedLines) (lines texts : List (List ℕ)) (stage : Stage) (rest : List ℕ)
+    → RepliesToAll accepted Unbegun lines texts stage
     → lines ++ last_after stage rest ≡ all_lines lines rest
 all_told accepted [] texts stage rest told = ap (λ s. last_after s rest) told.1
-all_told accepted (line ∷ lines) texts stage rest told = last_begun stage line rest lines (told_begun accepted Unbegun stage line lines texts told)
+all_told accepted (line ∷ lines) texts stage rest told =
+    last_begun stage line rest lines (told_begun accepted Unbegun stage line lines texts told)
 
 -- all lines of what was read
 all_of : (accepted : AcceptedLines) {before after held holds : Option (List ℕ)} {session : SessionValue} {count : ℕ} (at_end : Type 0)
-    → (far : SoFar accepted before after held holds session count) → at_end → AreAll at_end far.read (far.lines ++ last_lines session)
+    → (far : SoFar accepted before after held holds session count) → at_end
+    → AreAll at_end far.read (far.lines ++ last_lines session)
 all_of accepted {session} at_end far end =
     (far.lines, session.rest, (far.are, (end, all_told accepted far.lines far.texts session.stage session.rest far.told)))
 
 -- the last line of what was read follows those that were told
 next_last : (accepted : AcceptedLines) {before after held holds : Option (List ℕ)} {session : SessionValue} {count : ℕ}
-    → (far : SoFar accepted before after held holds session count) → last_lines session ≡ session.rest ∷ [] → HaveNext far.read far.lines
+    → (far : SoFar accepted before after held holds session count) → last_lines session ≡ session.rest ∷ []
+    → HaveNext far.read far.lines
 next_last accepted {session} far one = (
   far.lines,
   session.rest,
@@ -216,12 +233,15 @@ next_last accepted {session} far one = (
 still : (before after now : Option (List ℕ)) (read bytes : List ℕ) → bytes ≡ []
     → Consumes before after read → Consumes after now bytes → Consumes before now read
 still before after now read bytes none first then =
-    subst (Consumes before now) (ap (λ l. read ++ l) none ∙ append-nil read) (Consumes-trans before after now read bytes first then)
+    subst (Consumes before now) (ap (λ l. read ++ l) none ∙ append-nil read)
+    (Consumes-trans before after now read bytes first then)
 
 -- nothing more came, and the run ended
 ended : (accepted : AcceptedLines) (result : Result NetValue RunFault) {before after held holds : Option (List ℕ)} (now with : Option (List ℕ)) {session : SessionValue} {count : ℕ} (bytes went : List ℕ)
-    (far : SoFar accepted before after held holds session count) → bytes ≡ [] → Consumes after now bytes → most_input ≤ most_read result
-    → Appends held with went → Ends accepted result (IsAtEnd now) far.read went → Listens accepted result before now held with
+    (far : SoFar accepted before after held holds session count) → bytes ≡ [] → Consumes after now bytes
+    → most_input ≤ most_read result
+    → Appends held with went → Ends accepted result (IsAtEnd now) far.read went
+    → Listens accepted result before now held with
 ended accepted result {before} {after} now with bytes went far none more most appended ends =
     (far.read, went, (still before after now far.read bytes none far.consumed more, (appended, (omega (arith, far.counted, far.few, most), ends))))
 
@@ -229,9 +249,11 @@ ended accepted result {before} {after} now with bytes went far none more most ap
 ends_reached : (accepted : AcceptedLines) (before after now held holds with : Option (List ℕ)) {session : SessionValue} {count : ℕ} (bytes : List ℕ)
     (stage : Stage) (net : NetValue)
     → SoFar accepted before after held holds session count → bytes ≡ [] → Consumes after now bytes → IsAtEnd now
-    → Finishes accepted (Ok tt) session stage holds with → stage ≡ Open net → Listens accepted (Ok net) before now held with
+    → Finishes accepted (Ok tt) session stage holds with → stage ≡ Open net
+    → Listens accepted (Ok net) before now held with
 ends_reached accepted before after now held holds with {session = session} bytes stage net far none more end finishes is =
-    let passes = subst (λ s. Passes accepted (last_lines session) session s holds with) (sym finishes.1.0 ∙ is) finishes.1.1 in
+    let passes =
+    subst (λ s. Passes accepted (last_lines session) session s holds with) (sym finishes.1.0 ∙ is) finishes.1.1 in
     let wrote = written_on accepted with (last_lines session) (Open net) far passes in
     ended accepted (Ok net) now with bytes wrote.0 far none more (omega arith) wrote.1.0
     (far.lines ++ last_lines session, (all_of accepted (IsAtEnd now) far end, wrote.1.1))
@@ -246,18 +268,24 @@ ends_unfinished accepted before after now held holds with {session = session} by
     ended accepted (Err faults.Topology) now with bytes wrote.0 far none more (omega arith) wrote.1.0
     (far.lines ++ last_lines session, (inr (all_of accepted (IsAtEnd now) far end), wrote.1.1))
 ends_unfinished accepted before after now held holds with {session = session} bytes stage faults.Memory far none more end finishes =
-    ended accepted (Err faults.Memory) now with bytes far.went far none more (omega arith) (Appends-kept held holds with far.went far.appended finishes.1)
+    ended accepted (Err faults.Memory) now with bytes far.went far none more (omega arith)
+    (Appends-kept held holds with far.went far.appended finishes.1)
     (far.lines, (next_last accepted far finishes.0, (session.stage, (far.on, (far.texts, (as_run accepted far, far.same))))))
-ends_unfinished accepted before after now held holds with {session = session} bytes stage faults.Write far none more end (inl finishes) =
+ends_unfinished accepted before after now held holds with {session = session} bytes stage faults.Write far none more end
+    (inl finishes) =
     let wrote = some_on accepted with (last_lines session) far finishes in
     ended accepted (Err faults.Write) now with bytes wrote.0 far none more (omega arith) wrote.1.0
     (far.lines ++ last_lines session, (inr (all_of accepted (IsAtEnd now) far end), wrote.1.1))
-ends_unfinished accepted before after now held holds with {session = session} bytes stage faults.Write far none more end (inr finishes) =
+ends_unfinished accepted before after now held holds with {session = session} bytes stage faults.Write far none more end
+    (inr finishes) =
     let whole = sym (take_all (length far.went) far.went (omega arith)) ∙ ap (take (length far.went)) far.same in
-    ended accepted (Err faults.Write) now with bytes far.went far none more (omega arith) (Appends-kept held holds with far.went far.appended finishes)
+    ended accepted (Err faults.Write) now with bytes far.went far none more (omega arith)
+    (Appends-kept held holds with far.went far.appended finishes)
     (far.lines, (inl (first_of accepted far), (far.texts, session.stage, length far.went, (as_run accepted far, whole))))
-ends_unfinished accepted before after now held holds with bytes stage faults.Read far none more end finishes = absurd finishes
-ends_unfinished accepted before after now held holds with bytes stage faults.InputTooLong far none more end finishes = absurd finishes
+ends_unfinished accepted before after now held holds with bytes stage faults.Read far none more end finishes =
+    absurd finishes
+ends_unfinished accepted before after now held holds with bytes stage faults.InputTooLong far none more end finishes =
+    absurd finishes
 
 -- at the end of the input the last line was answered, or could not be
 pub ends_finished : (accepted : AcceptedLines) (before after now held holds with : Option (List ℕ)) {session : SessionValue} {count : ℕ} (bytes : List ℕ)
@@ -271,7 +299,8 @@ ends_finished accepted before after now held holds with bytes stage (Err fault) 
 
 -- a read failed
 pub ends_unread : (accepted : AcceptedLines) (before after now held holds : Option (List ℕ)) {session : SessionValue} {count : ℕ}
-    → SoFar accepted before after held holds session count → Keeps after now → Listens accepted (Err faults.Read) before now held holds
+    → SoFar accepted before after held holds session count → Keeps after now
+    → Listens accepted (Err faults.Read) before now held holds
 ends_unread accepted before after now held holds {session} far kept = (
   far.read,
   far.went,
@@ -319,14 +348,17 @@ ends_too_long accepted before after now held holds {session = session} (b ∷ []
 ends_too_long accepted before after now held holds (b ∷ x ∷ bytes) far full some few more = absurd (omega (arith, few))
 
 -- what was read and written by a run that ended, and how it ended
-abbrev Ended : AcceptedLines → Result NetValue RunFault → Type 0 → Option (List ℕ) → Option (List ℕ) → Option (List ℕ) → Option (List ℕ) → Type 0
-Ended accepted result at_end before now held with = (read went : List ℕ) × (Consumes before now read × (Appends held with went
+abbrev Ended : AcceptedLines → Result NetValue RunFault → Type 0 → Option (List ℕ) → Option (List ℕ)
+    → Option (List ℕ) → Option (List ℕ) → Type 0
+Ended accepted result at_end before now held with =
+    (read went : List ℕ) × (Consumes before now read × (Appends held with went
     × ((length read ≤ most_read result) × Ends accepted result at_end read went)))
 
 -- these bytes came, and the run ended
 ended_on : (accepted : AcceptedLines) (result : Result NetValue RunFault) (at_end : Type 0) {before after held holds : Option (List ℕ)} (now with : Option (List ℕ)) {session : SessionValue} {count : ℕ}
     (bytes went : List ℕ) (far : SoFar accepted before after held holds session count) → count + length bytes ≤ most_input → Consumes after now bytes
-    → most_input ≤ most_read result → Appends held with went → Ends accepted result at_end (far.read ++ bytes) went → Ended accepted result at_end before now held with
+    → most_input ≤ most_read result → Appends held with went
+    → Ends accepted result at_end (far.read ++ bytes) went → Ended accepted result at_end before now held with
 ended_on accepted result at_end {before} {after} now with bytes went far few more most appended ends = (
   far.read ++ bytes,
   went,
@@ -338,8 +370,10 @@ ended_on accepted result at_end {before} {after} now with bytes went far few mor
 
 -- the lines of what came could not all be answered
 pub ends_short : (accepted : AcceptedLines) (before after now held holds with : Option (List ℕ)) (session new : SessionValue) {count : ℕ} (bytes : List ℕ) (fault : RunFault) (at_end : Type 0)
-    → SoFar accepted before after held holds session count → count + length bytes ≤ most_input → Consumes after now bytes
-    → Exchanges accepted (Err fault) bytes session new holds with → Ended accepted (Err fault) at_end before now held with
+    → SoFar accepted before after held holds session count → count + length bytes ≤ most_input
+    → Consumes after now bytes
+    → Exchanges accepted (Err fault) bytes session new holds with
+    → Ended accepted (Err fault) at_end before now held with
 ends_short accepted before after now held holds with session new bytes faults.Topology at_end far few more exchanges =
     let (lines, later, rest, (are, passes)) = exchanges in
     let wrote = written_on accepted with lines Closed far passes in
@@ -355,5 +389,6 @@ ends_short accepted before after now held holds with session new bytes faults.Wr
     let wrote = some_on accepted with lines far passes in
     ended_on accepted (Err faults.Write) at_end now with bytes wrote.0 far few more (omega arith) wrote.1.0
     (far.lines ++ lines, (inl (first_on accepted bytes lines later rest far are), wrote.1.1))
-ends_short accepted before after now held holds with session new bytes faults.Read at_end far few more exchanges = absurd exchanges
+ends_short accepted before after now held holds with session new bytes faults.Read at_end far few more exchanges =
+    absurd exchanges
 ends_short accepted before after now held holds with session new bytes faults.InputTooLong at_end far few more exchanges = absurd exchanges

@@ -32,5 +32,6 @@ told_append accepted start middle stage (line ∷ lines) more (text ∷ texts) o
     (first.0, (first.1.0, told_append accepted first.0 middle stage lines more texts others first.1.1 second))
 
 -- one line
-pub told_one : (accepted : AcceptedLines) (start stage : Stage) (line text : List ℕ) → RepliesTo accepted start line text stage → RepliesToAll accepted start (line ∷ []) (text ∷ []) stage
+pub told_one : (accepted : AcceptedLines) (start stage : Stage) (line text : List ℕ)
+    → RepliesTo accepted start line text stage → RepliesToAll accepted start (line ∷ []) (text ∷ []) stage
 told_one accepted start stage line text says = (stage, (says, (refl, refl)))

@@ -17,14 +17,16 @@ use Rattle.event_lines.proofs.Telling.{told_one}
 
 -- a beginning of the replies to these lines was written
 some_written : (accepted : AcceptedLines) (lines : List (List ℕ)) (old mid : SessionValue) (stage : Stage) (held holds : Option (List ℕ))
-    → old.replies ≡ [] → AnswersLines accepted lines old stage mid.replies → (n : ℕ) × Appends held holds (take n mid.replies)
+    → old.replies ≡ [] → AnswersLines accepted lines old stage mid.replies
+    → (n : ℕ) × Appends held holds (take n mid.replies)
     → PassesSome accepted lines old held holds
 some_written accepted lines old mid stage held holds none accepts wrote = record {
   texts = accepts.texts;
   stage = stage;
   told = accepts.told;
   most = wrote.0;
-  kept = subst (λ l. Appends held holds (take wrote.0 l)) (accepts.kept ∙ ap (λ l. l ++ ended_lines accepts.texts) none) wrote.1;
+  kept = subst (λ l. Appends held holds (take wrote.0 l))
+      (accepts.kept ∙ ap (λ l. l ++ ended_lines accepts.texts) none) wrote.1;
 }
 
 -- a write failed after bytes were heard
@@ -64,7 +66,8 @@ exchange_failed accepted heard faults.InputTooLong bytes old mid new held holds 
 -- ---- the last line
 
 -- nothing is left to be told
-pub nothing_told : (accepted : AcceptedLines) (old : SessionValue) (net : NetValue) (held : Option (List ℕ)) → IsRunDone old net
+pub nothing_told : (accepted : AcceptedLines) (old : SessionValue) (net : NetValue) (held : Option (List ℕ))
+    → IsRunDone old net
     → Passes accepted (last_lines old) old (Open net) held held
 nothing_told accepted old net held done = subst (λ ls. Passes accepted ls old (Open net) held held) (sym done.none)
     (record { texts = []; told = (refl, sym done.begun); kept = Appends-nil held })
@@ -82,7 +85,8 @@ last_passes accepted old stage text after held holds none one says grows wrote =
     subst (λ ls. Passes accepted ls old stage held holds) (sym one) (record {
       texts = text ∷ [];
       told = told_one accepted old.stage stage old.rest text says;
-      kept = subst (Appends held holds) (one_reply after text (grows ∙ ap (λ l. l ++ (text ++ line_end ∷ [])) none)) wrote;
+      kept = subst (Appends held holds)
+          (one_reply after text (grows ∙ ap (λ l. l ++ (text ++ line_end ∷ [])) none)) wrote;
     })
 
 -- a stage at which a run has begun
@@ -110,12 +114,14 @@ unbegun_begins : (said : Result Network TopologyFault) (text : List ℕ) → Ope
 unbegun_begins (Ok network) text begins = not_unbegun (Open (new_net network)) begins.1.1 tt
 unbegun_begins (Err fault) text begins = not_unbegun Closed begins.1 tt
 
-pub unbegun_says : (accepted : AcceptedLines) (start : Stage) (line text : List ℕ) → RepliesTo accepted start line text Unbegun → ⊥
+pub unbegun_says : (accepted : AcceptedLines) (start : Stage) (line text : List ℕ)
+    → RepliesTo accepted start line text Unbegun → ⊥
 unbegun_says accepted Unbegun line text says = unbegun_begins (network_in line) text says
 unbegun_says accepted (Open old) line text says = not_unbegun (Open says.0) says.1.1 tt
 unbegun_says accepted Closed line text says = absurd says
 
-pub begun_by : (accepted : AcceptedLines) (net : Option NetValue) (start : Stage) (line text : List ℕ) → RepliesTo accepted start line text (stage_of net)
+pub begun_by : (accepted : AcceptedLines) (net : Option NetValue) (start : Stage) (line text : List ℕ)
+    → RepliesTo accepted start line text (stage_of net)
     → (n : NetValue) × (stage_of net ≡ Open n)
 begun_by accepted None start line text says = absurd (unbegun_says accepted start line text says)
 begun_by accepted (Some net) start line text says = (net, refl)
@@ -154,7 +160,8 @@ some_of accepted old stage text after held holds none one says grows wrote =
       stage = stage;
       told = told_one accepted old.stage stage old.rest text says;
       most = wrote.0;
-      kept = subst (λ l. Appends held holds (take wrote.0 l)) (one_reply after text (grows ∙ ap (λ l. l ++ (text ++ line_end ∷ [])) none)) wrote.1;
+      kept = subst (λ l. Appends held holds (take wrote.0 l))
+          (one_reply after text (grows ∙ ap (λ l. l ++ (text ++ line_end ∷ [])) none)) wrote.1;
     })
 
 take_none : (n : ℕ) (none : List ℕ) → none ≡ [] → take n none ≡ []

@@ -17,7 +17,8 @@ pub none_yet : (number : ℕ) (text : List ℕ) → Adds (AreWarnings number) te
 none_yet number text = ([], (record { warnings = []; each = refl; says = refl }, sym (append-nil text)))
 
 -- warnings with one more
-pub one_more : (number : ℕ) (before text new : List ℕ) → Adds (AreWarnings number) before text → Adds (IsWarning number) text new
+pub one_more : (number : ℕ) (before text new : List ℕ) → Adds (AreWarnings number) before text
+    → Adds (IsWarning number) text new
     → Adds (AreWarnings number) before new
 one_more number before text new old more =
     let told : List ℕ → List ℕ = λ warning. line_about number (codes "warning: " ++ warning) in
@@ -28,7 +29,8 @@ one_more number before text new old more =
         record {
           warnings = all ++ one.warning ∷ [];
           each = list_any-append has_line_end all (one.warning ∷ []) ∙ search (rules, old.1.0.each, one.one);
-          says = ap (λ x. x ++ more.0) old.1.0.says ∙ ap (λ x. flat_map told all ++ x) (one.says ∙ sym (append-nil (told one.warning)))
+          says = ap (λ x. x ++ more.0) old.1.0.says ∙ ap (λ x. flat_map told all ++ x)
+              (one.says ∙ sym (append-nil (told one.warning)))
               ∙ sym (flat_map-append told all (one.warning ∷ []));
         },
         more.1.1 ∙ ap (λ x. x ++ more.0) old.1.1 ∙ append_assoc before old.0 more.0,
@@ -68,7 +70,8 @@ pub record IsFirst (left reply behind : List ℕ) : Type 0 where
   pub one : has_line_end reply ≡ false
 
 pub first_of : (left reply behind : List ℕ) → has_line_end left ≡ true
-    → reply ≡ before_first (λ b. eqb b line_end) left → behind ≡ after_first (λ b. eqb b line_end) left → IsFirst left reply behind
+    → reply ≡ before_first (λ b. eqb b line_end) left → behind ≡ after_first (λ b. eqb b line_end) left
+    → IsFirst left reply behind
 first_of left reply behind has front back = record {
   whole = cut_parts line_end left has
       ∙ ap (λ x. x ++ (line_end ∷ after_first (λ b. eqb b line_end) left)) (sym front)
@@ -103,9 +106,11 @@ more_lines left reply behind lines rest first are = record {
 pub go_on : (replies : List ℕ) (number : ℕ) (left text reply behind new : List ℕ) → Goes replies number left text
     → IsFirst left reply behind → Adds (IsTold (number + 1) reply) text new → Goes replies (number + 1) behind new
 go_on replies number left text reply behind new goes first told lines rest later are more =
-    let all = goes (reply ∷ lines) rest (told.0 ++ later) (more_lines left reply behind lines rest first are) (told.0, later, (told.1.0, (more, refl))) in
+    let all =
+    goes (reply ∷ lines) rest (told.0 ++ later) (more_lines left reply behind lines rest first are) (told.0, later, (told.1.0, (more, refl))) in
     rw told.1.1 (rw (append_assoc text told.0 later) all)
 
-pub finish : (replies : List ℕ) (number : ℕ) (left text : List ℕ) → Goes replies number left text → has_line_end left ≡ false → IsExplanation replies text
+pub finish : (replies : List ℕ) (number : ℕ) (left text : List ℕ) → Goes replies number left text
+    → has_line_end left ≡ false → IsExplanation replies text
 finish replies number left text goes none =
     rw (sym (append-nil text)) (goes [] left [] (record { whole = refl; apart = refl; last = none }) refl)

@@ -97,7 +97,8 @@ module _ (net : NetValue) (p moment : ℕ) (sent : Shipment) (one : PacketValue)
       let late = back_expired sent.way.pieces sent.way.source sent.way.destination moment net.moment
       expiry header no_rules path least past in
       elim (subst (λ (s : Shipment). Sends (Ok s) net reply new) same sends) [
-        | inl done ↦ absurd (refused_is_not_accepted (asked_at net.moment back.way) Expired ((late Expired).1 refl) done.0)
+        | inl done ↦ absurd
+            (refused_is_not_accepted (asked_at net.moment back.way) Expired ((late Expired).1 refl) done.0)
         | inr none ↦ (
           none.1.1.0 ∙ ap (λ f. replies.Refused (faults.Path f)) ((late none.0).0 none.1.0),
           none.1.1.1,

@@ -113,7 +113,8 @@ module _ (start : NetValue) (history : List EventRecord) (is : IsHistory start h
 
   none_at_first : (number : ℕ) (one : KeptAnswer) → slice_get start.answers number ≡ Some one → ⊥
   none_at_first number one there =
-      let e : slice_get {X = KeptAnswer} [] number ≡ Some one = ap (λ xs. slice_get xs number) (sym no_answers) ∙ there in absurd cc
+      let e : slice_get {X = KeptAnswer} [] number ≡ Some one =
+      ap (λ xs. slice_get xs number) (sym no_answers) ∙ there in absurd cc
 
   -- each answer after the first k events was given by one of them
   pub asked_all : (k : ℕ) → AllAsked k
@@ -224,7 +225,8 @@ of_answer network history number p ask path payload known is framed answers =
     let s = of_send start history number p (ByAnswer ask path) payload known is framed answers in
     let by = by_answer (net_at start history number) ask path payload s.0 s.1.0 in
     let a = asked_all start history is known refl refl refl number ask by.one by.there in
-    let at_ask = all_at (λ (one : PathValue). All (λ (piece : PieceValue). IssuedBefore start history a.at piece.segment) one.pieces)
+    let at_ask =
+    all_at (λ (one : PathValue). All (λ (piece : PieceValue). IssuedBefore start history a.at piece.segment) one.pieces)
     by.one.answer.paths path by.chosen a.issued by.found in
     let before = a.before in
     let issued = All-weaker (λ (piece : PieceValue). IssuedBefore start history a.at piece.segment)

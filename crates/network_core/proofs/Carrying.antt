@@ -154,7 +154,8 @@ turn_carried : (p : ℕ) (sent : Shipment) (total done : ℕ) (old new : NetValu
 turn_carried p sent total done old new reply is through c = elim c.state [
   | inl f ↦ (
       let at = flying old p c.packet (Ok tt) c.there (in_flight_there old sent f.left c.packet.packet f.stands) in
-      let made = ap (λ r. r >>= λ one. Ok (replies.Turned (turn_of old.network old.moment one.packet).0, turned_net old p one)) at in
+      let made =
+      ap (λ r. r >>= λ one. Ok (replies.Turned (turn_of old.network old.moment one.packet).0, turned_net old p one)) at in
       let both = leads_ok (turns old p) old new reply
       (replies.Turned (turn_of old.network old.moment c.packet.packet).0, turned_net old p c.packet) made is in
       let next = (turn_of old.network old.moment c.packet.packet).1 in
@@ -179,7 +180,8 @@ turn_carried p sent total done old new reply is through c = elim c.state [
       })
   | inr l ↦ (
       let at = flying old p c.packet (Err faults.NotInFlight) c.there (ended_there sent total done c.packet.packet l) in
-      let made = ap (λ r. r >>= λ one. Ok (replies.Turned (turn_of old.network old.moment one.packet).0, turned_net old p one)) at in
+      let made =
+      ap (λ r. r >>= λ one. Ok (replies.Turned (turn_of old.network old.moment one.packet).0, turned_net old p one)) at in
       let same = leads_err (turns old p) old new reply faults.NotInFlight made is in
       let count = l.count in
       record {
@@ -257,6 +259,8 @@ pub carried_through : (p : ℕ) (sent : Shipment) (total done : ℕ) (net : NetV
 carried_through p sent total done net [] is lets c = same_count p sent total done net c
 carried_through p sent total done net (moment ∷ later) is lets c =
     let next = carried_on p sent total done net moment.net moment.event moment.reply is.0 lets.0 c in
-    let rest = carried_through p sent total (done + one_if (is_turn_of p moment.event)) moment.net later is.1 lets.1 next in
-    let same : done + one_if (is_turn_of p moment.event) + turns_of p later ≡ done + turns_of p (moment ∷ later) = omega arith in
+    let rest =
+    carried_through p sent total (done + one_if (is_turn_of p moment.event)) moment.net later is.1 lets.1 next in
+    let same : done + one_if (is_turn_of p moment.event) + turns_of p later ≡ done + turns_of p (moment ∷ later) =
+    omega arith in
     subst (λ k. Carried (net_after moment.net later) p sent total k) same rest

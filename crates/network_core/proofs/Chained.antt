@@ -257,7 +257,8 @@ module _ (start : NetValue) (history : List EventRecord) (is : IsHistory start h
   good_idle : (k : ℕ) (keys : List (List ℕ)) (chain : Chain) → at (k + 1) ≡ at k → Good k keys chain
       → Good (k + 1) keys chain
   good_idle k keys chain same good = record {
-    holds = subst (λ (net : NetValue). KeysAndLinksHold net.network keys chain piece.from piece.to) (sym same) good.holds;
+    holds = subst (λ (net : NetValue). KeysAndLinksHold net.network keys chain piece.from piece.to)
+        (sym same) good.holds;
     fresh = λ x none. subst (λ (net : NetValue). KeyIsInUse net.network keys chain piece.from piece.to x) (sym same)
         (good.fresh x (unrotated_before history begin k x none));
   }
@@ -318,7 +319,8 @@ module _ (start : NetValue) (history : List EventRecord) (is : IsHistory start h
       → MadeAt b (key_then start history first ∷ [])
   first_made first ia egress beta0 b from answers =
       let m : EventRecord = record { event = Originate ia egress beta0; reply = Begun b; net = answers.net } in
-      let made = originate_made (at first) (at (first + 1)) ia egress beta0 b (becomes_at start history first m is answers.there) in
+      let made =
+      originate_made (at first) (at (first + 1)) ia egress beta0 b (becomes_at start history first m is answers.there) in
       let key = key_is start history first m ia answers.there refl in
       let now = network_at start history first is network in
       record {
@@ -373,7 +375,8 @@ module _ (start : NetValue) (history : List EventRecord) (is : IsHistory start h
         made = k;
         from = omega arith;
         numbered = passed.more.numbered;
-        stands = stand k next passed.to (keys ++ key_in (at k).network ia ∷ []) (keys ++ key_then start history k ∷ []) passed.more
+        stands = stand k next passed.to (keys ++ key_in (at k).network ia ∷ [])
+            (keys ++ key_then start history k ∷ []) passed.more
             (ap (λ x. keys ++ x ∷ []) (sym key))
             (passed_under_way (at k).network keys passed.from ia egress passed.to now under passed.made)
             (λ f. passed_holds (at k).network keys passed.from ia egress passed.to piece.from piece.to now under (good (front f)).holds passed.made)

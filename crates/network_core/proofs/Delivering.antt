@@ -41,7 +41,8 @@ departed : (p : ℕ) (old new : NetValue) (sent : Shipment) → IsAccepted (aske
     → departs old sent ≡ Ok (replies.Sent p, new)
     → Carried new p sent (turns_for old.network (walk_of sent.way.pieces)) 0
 departed p old new sent accepted frame is =
-    let owner = refused_as faults.Topology (owner_in old.network sent.way.source (first_out (walk_of sent.way.pieces))) in
+    let owner =
+    refused_as faults.Topology (owner_in old.network sent.way.source (first_out (walk_of sent.way.pieces))) in
     let at = bind_ok owner _ (replies.Sent p, new) is in
     let router = at.0 in
     let own = owned (owner_in old.network sent.way.source (first_out (walk_of sent.way.pieces))) router at.1 in
@@ -55,7 +56,8 @@ departed p old new sent accepted frame is =
     sent.way.pieces accepted.path frame own in
     subst (λ (net : NetValue). Carried net p sent (turns_for old.network (walk_of sent.way.pieces)) 0) new_is (record {
       packet = packet_of sent router;
-      there = ap (slice_get (old.packets ++ packet_of sent router ∷ [])) (sym number) ∙ last_there old.packets (packet_of sent router);
+      there = ap (slice_get (old.packets ++ packet_of sent router ∷ [])) (sym number) ∙ last_there old.packets
+          (packet_of sent router);
       holds = refl;
       state = inl (record {
         left = turns_for old.network (walk_of sent.way.pieces);
@@ -89,7 +91,8 @@ pub departed_last : (p : ℕ) (old new : NetValue) (sent : Shipment)
     → departs old sent ≡ Ok (replies.Sent p, new)
     → (one : PacketValue) × ((slice_get new.packets p ≡ Some one) × (one.sent ≡ sent))
 departed_last p old new sent is =
-    let at = bind_ok (refused_as faults.Topology (owner_in old.network sent.way.source (first_out (walk_of sent.way.pieces)))) _ (replies.Sent p, new) is in
+    let at =
+    bind_ok (refused_as faults.Topology (owner_in old.network sent.way.source (first_out (walk_of sent.way.pieces)))) _ (replies.Sent p, new) is in
     let room = bind_ok (check (has_room old.packets) faults.TooMany) _ (replies.Sent p, new) at.2 in
     let one = packet_of sent at.0 in
     let made : NetValue = record old { packets = old.packets ++ one ∷ [] } in

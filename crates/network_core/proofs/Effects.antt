@@ -369,7 +369,8 @@ effect old new (Extend beacon ia egress) reply is =
 effect old new (Terminate beacon ia) reply is =
     let event = Terminate beacon ia in
     then_effect old new event reply (new_segment old beacon ia) (with_segment old) (λ chain made.
-    then_effect old new event reply (refused_as faults.Store (answer_to old.segments chain old.moment)) _ (λ is_new _ done. (
+    then_effect old new event reply (refused_as faults.Store (answer_to old.segments chain old.moment)) _
+    (λ is_new _ done. (
     let was = both_done (beacon_at old beacon) _ chain made in
     in_store old new event reply old.beacons _ done.1 (inr (inr (inr (inl (record {
       beacon = beacon;

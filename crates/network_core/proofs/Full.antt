@@ -11,7 +11,8 @@ use Rattle.network_core.specs.Step.{has_room}
 use Rattle.network_core.specs.inner.Doing.{error_as, with_made}
 
 -- with room it is that of beaconing
-pub with_room : (net : NetValue) (error : OrMemory BeaconFault) (made : Result Chain BeaconFault) → has_room net.beacons ≡ true
+pub with_room : (net : NetValue) (error : OrMemory BeaconFault) (made : Result Chain BeaconFault)
+    → has_room net.beacons ≡ true
     → Fails error made → Fails (error_as faults.Beacon error) (with_made net made)
 with_room net Memory (Ok beacon) room fails = rw room refl
 with_room net Memory (Err fault) room fails = absurd cc

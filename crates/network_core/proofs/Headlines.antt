@@ -223,7 +223,8 @@ pub of_send : (start : NetValue) (history : List EventRecord) (number p : ℕ) (
 of_send start history number p route payload network is framed occurs =
     let step = becomes_at start history number
     (record { event = Send route payload; reply = replies.Sent p; net = occurs.net }) is occurs.there in
-    let s = sends_ok (shipment_by (net_at start history number) route payload) p (net_at start history number) (net_at start history (number + 1)) step in
+    let s =
+    sends_ok (shipment_by (net_at start history number) route payload) p (net_at start history number) (net_at start history (number + 1)) step in
     let frame = frame_sent p (net_at start history number) (net_at start history (number + 1)) s.0 s.1.1
     (framed_at start history number p route payload is framed occurs) in
     (s.0, (s.1.0, headline start history is network number p s.0 s.1.1 frame))

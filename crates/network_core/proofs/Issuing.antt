@@ -120,7 +120,8 @@ module _ (start : NetValue) (history : List EventRecord) (is : IsHistory start h
     start_of = p.start_of;
     between = p.between;
     passed_on = p.passed_on;
-    under = under_on (at k) (at (k + 1)) m.event m.reply (map (key_then start history) (p.first ∷ p.between)) chain step p.under;
+    under = under_on (at k) (at (k + 1)) m.event m.reply
+        (map (key_then start history) (p.first ∷ p.between)) chain step p.under;
   }
 
   started : (k : ℕ) (m : EventRecord) → slice_get history k ≡ Some m → StepAt start history k m
@@ -128,14 +129,16 @@ module _ (start : NetValue) (history : List EventRecord) (is : IsHistory start h
       → IsPassed start history (k + 1) (length (at k).beacons) s.chain
   started k m there step s =
       let key = key_is start history k m s.ia there (ap doer s.event_is) in
-      let under = begun_under_way (at k).network s.ia s.egress (at k).moment s.beta0 s.chain (network_at start history k is network) s.made in
+      let under =
+      begun_under_way (at k).network s.ia s.egress (at k).moment s.beta0 s.chain (network_at start history k is network) s.made in
       record {
         first = k;
         ia = s.ia;
         egress = s.egress;
         beta0 = s.beta0;
         begun = length (at k).beacons;
-        start_of = occurs_at history k m (Originate s.ia s.egress s.beta0) (Begun (length (at k).beacons)) there s.event_is s.reply_is;
+        start_of = occurs_at history k m (Originate s.ia s.egress s.beta0)
+            (Begun (length (at k).beacons)) there s.event_is s.reply_is;
         between = [];
         passed_on = refl;
         under = under_on (at k) (at (k + 1)) m.event m.reply (key_then start history k ∷ []) s.chain step
@@ -156,9 +159,11 @@ module _ (start : NetValue) (history : List EventRecord) (is : IsHistory start h
   went_on k m there step all s =
       let p = all s.beacon s.from s.was in
       let keys = map (key_then start history) (p.first ∷ p.between) in
-      let answers = occurs_at history k m (Extend s.beacon s.ia s.egress) (Begun (length (at k).beacons)) there s.event_is s.reply_is in
+      let answers =
+      occurs_at history k m (Extend s.beacon s.ia s.egress) (Begun (length (at k).beacons)) there s.event_is s.reply_is in
       let key = key_is start history k m s.ia there (ap doer s.event_is) in
-      let under = passed_under_way (at k).network keys s.from s.ia s.egress s.chain (network_at start history k is network) p.under s.made in
+      let under =
+      passed_under_way (at k).network keys s.from s.ia s.egress s.chain (network_at start history k is network) p.under s.made in
       let more = keys_more k p.first p.between (key_in (at k).network s.ia) key in
       record {
         first = p.first;
@@ -168,8 +173,10 @@ module _ (start : NetValue) (history : List EventRecord) (is : IsHistory start h
         begun = p.begun;
         start_of = p.start_of;
         between = p.between ++ k ∷ [];
-        passed_on = pass_more history p.between p.begun s.beacon k s.ia s.egress (length (at k).beacons) p.passed_on answers;
-        under = under_on (at k) (at (k + 1)) m.event m.reply (map (key_then start history) (p.first ∷ p.between ++ k ∷ [])) s.chain step
+        passed_on = pass_more history p.between p.begun s.beacon k s.ia s.egress
+            (length (at k).beacons) p.passed_on answers;
+        under = under_on (at k) (at (k + 1)) m.event m.reply
+            (map (key_then start history) (p.first ∷ p.between ++ k ∷ [])) s.chain step
             (subst (λ ks. IsUnderWay (at k).network ks s.chain) more under);
       }
 
@@ -221,7 +228,9 @@ module _ (start : NetValue) (history : List EventRecord) (is : IsHistory start h
         start_of = p.start_of;
         between = p.between;
         passed_on = p.passed_on;
-        under = subst (λ (net : NetValue). IsUnderWay net.network (map (key_then start history) (p.first ∷ p.between)) chain) (sym same) p.under;
+        under = subst
+            (λ (net : NetValue). IsUnderWay net.network (map (key_then start history) (p.first ∷ p.between)) chain)
+            (sym same) p.under;
       }
 
   -- each beacon after the first k events was given by a chain of events
@@ -247,7 +256,8 @@ module _ (start : NetValue) (history : List EventRecord) (is : IsHistory start h
       let p = passed_all k e.beacon e.from e.was in
       let keys = map (key_then start history) (p.first ∷ p.between) in
       let key = key_is start history k m e.ia there (ap doer e.event_is) in
-      let made = ended_issued (at k).network keys e.from e.ia e.chain (network_at start history k is network) p.under e.made in
+      let made =
+      ended_issued (at k).network keys e.from e.ia e.chain (network_at start history k is network) p.under e.made in
       let more = keys_more k p.first p.between (key_in (at k).network e.ia) key in
       let before : k < k + 1 = omega arith in
       let issued : IssuedIn start history p.first k e.chain = record {
@@ -291,7 +301,8 @@ module _ (start : NetValue) (history : List EventRecord) (is : IsHistory start h
       ]
 
   pub stored_all : (k : ℕ) → All (IssuedBefore start history k) (at k).segments
-  stored_all zero = subst (All (IssuedBefore start history 0)) (sym no_segments) (All-nil (IssuedBefore start history 0))
+  stored_all zero = subst (All (IssuedBefore start history 0)) (sym no_segments)
+      (All-nil (IssuedBefore start history 0))
   stored_all (suc k) =
       let place : k + 1 ≡ suc k = omega arith in
       subst (λ j. All (IssuedBefore start history j) (at j).segments) place (elim (event_or_none start history k) [

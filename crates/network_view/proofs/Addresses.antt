@@ -20,6 +20,7 @@ read_back ia fits = ap the_value (address_at-Spells (canonical ia) ia (Spells-ca
 pub box_name-one : (one other : ℕ) → one < 2 ^ 64 → other < 2 ^ 64 → box_name one ≡ box_name other → one ≡ other
 unfolding box_name
 box_name-one one other one_fits other_fits same =
-    let behind = append_cancel_left (codes "\"cluster_") (canonical one ++ codes "\"") (canonical other ++ codes "\"") same in
+    let behind =
+    append_cancel_left (codes "\"cluster_") (canonical one ++ codes "\"") (canonical other ++ codes "\"") same in
     let text = append_cancel_right (canonical one) (canonical other) (codes "\"") behind in
     sym (read_back one one_fits) ∙ ap (λ (t : List ℕ). the_value (address_at t)) text ∙ read_back other other_fits

@@ -11,7 +11,8 @@ use Rattle.path_report.specs.Report.{ReportOptionsValue}
 use Rattle.path_report.specs.inner.Reports.{AddsReports}
 
 -- none is added
-pub adds_none : (net : NetValue) (wanted : ReportOptionsValue) (old : List PairValue) → AddsReports net wanted [] old old
+pub adds_none : (net : NetValue) (wanted : ReportOptionsValue) (old : List PairValue)
+    → AddsReports net wanted [] old old
 adds_none net wanted old = record { pairs_are = sym (append-nil (map (λ report. report.pair) old)); each = λ all. all }
 
 adds_more : (net : NetValue) (wanted : ReportOptionsValue) (pairs later : List AsPair) (old mid new : List PairValue)

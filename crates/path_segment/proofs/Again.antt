@@ -27,16 +27,19 @@ unfolding entry_in entry_data any_address_in text_at mac_at whole_at
 entry_again e ia mac ingress egress exp =
     rw (ia, from_zero e.cons_ingress 65535 ingress, from_zero e.cons_egress 65535 egress, from_zero e.exp_time 255 exp, mac) refl
 
-kind_again : (k : SegKind) (d : Data) → text_at (codes "kind") d ≡ Some (kind_name k) → segment_kind_at (codes "kind") d ≡ Some k
+kind_again : (k : SegKind) (d : Data) → text_at (codes "kind") d ≡ Some (kind_name k)
+    → segment_kind_at (codes "kind") d ≡ Some k
 unfolding segment_kind_at
 kind_again Core d text = rw text refl
 kind_again Intra d text = rw text refl
 
 -- what was written for a segment is read as it
-pub chain_again : (s : Chain) → items_at entry_in (items_of (map entry_data s.entries)) ≡ Some s.entries → s.timestamp ≤ 4294967295 → s.beta0 ≤ 65535 → chain_at (segment_data s) ≡ Some s
+pub chain_again : (s : Chain) → items_at entry_in (items_of (map entry_data s.entries)) ≡ Some s.entries
+    → s.timestamp ≤ 4294967295 → s.beta0 ≤ 65535 → chain_at (segment_data s) ≡ Some s
 unfolding chain_at segment_data text_at whole_at list_at
 chain_again s entries timestamp beta0 =
-    let kind : segment_kind_at (codes "kind") (segment_data s) ≡ Some s.kind = kind_again s.kind (segment_data s) refl in
+    let kind : segment_kind_at (codes "kind") (segment_data s) ≡ Some s.kind =
+    kind_again s.kind (segment_data s) refl in
     rw (kind, from_zero s.timestamp 4294967295 timestamp, from_zero s.beta0 65535 beta0, entries) refl
 
 entries_no_float : (es : List Entry) → items_have_float (items_of (map entry_data es)) ≡ false
@@ -60,5 +63,6 @@ unfolding segment_data
 depth-segment_data s = omega (arith, entries_depth s.entries)
 
 -- what was written for a segment is read as it, under the rules too
-pub judged_again : (s : Chain) → chain_at (segment_data s) ≡ Some s → IsSegment s → chain_or_fault (chain_at (segment_data s)) ≡ Ok s
+pub judged_again : (s : Chain) → chain_at (segment_data s) ≡ Some s → IsSegment s
+    → chain_or_fault (chain_at (segment_data s)) ≡ Ok s
 judged_again s again rules = rw (again, rules) refl

@@ -16,7 +16,8 @@ pub is_live-Decides : (now : ℕ) (segment : Chain) → Decides (is_live now seg
 unfolding is_live
 is_live-Decides now segment =
     let test : Entry → Bool = λ entry. is_live_at segment.timestamp entry.exp_time now in
-    Decides-by_and test (λ entry. IsLive segment.timestamp entry.exp_time now) (list_all test) (λ entry. (leb-true _ _, le-leb _ _)) refl (λ _ _. refl) segment.entries
+    Decides-by_and test (λ entry. IsLive segment.timestamp entry.exp_time now) (list_all test)
+    (λ entry. (leb-true _ _, le-leb _ _)) refl (λ _ _. refl) segment.entries
 
 pub same_kind-Decides : (a b : SegKind) → Decides (same_kind a b) (a ≡ b)
 same_kind-Decides Core Core = (λ _. refl, λ _. refl)
@@ -27,7 +28,8 @@ same_kind-Decides Intra Intra = (λ _. refl, λ _. refl)
 same_entries-Decides : (a b : List Entry) → Decides (same_entries a b) (a ≡ b)
 same_entries-Decides a b = slice_eq-Decides {A = Entry} {E = same_entry} same_entry-Decides a b _ refl
 
-chain_is : (a b : Chain) → a.kind ≡ b.kind → a.timestamp ≡ b.timestamp → a.beta0 ≡ b.beta0 → a.entries ≡ b.entries → a ≡ b
+chain_is : (a b : Chain) → a.kind ≡ b.kind → a.timestamp ≡ b.timestamp → a.beta0 ≡ b.beta0
+    → a.entries ≡ b.entries → a ≡ b
 chain_is a b kind timestamp beta0 entries =
     ap (λ x. chain_of x a.timestamp a.beta0 a.entries) kind ∙ ap (λ x. chain_of b.kind x a.beta0 a.entries) timestamp
     ∙ ap (λ x. chain_of b.kind b.timestamp x a.entries) beta0 ∙ ap (chain_of b.kind b.timestamp b.beta0) entries
@@ -38,7 +40,8 @@ equal a b e =
     let p1 = and_parts (same_kind a.kind b.kind) _ e in
     let p2 = and_parts (a.timestamp == b.timestamp) _ p1.1 in
     let p3 = and_parts (a.beta0 == b.beta0) (same_entries a.entries b.entries) p2.1 in
-    chain_is a b ((same_kind-Decides a.kind b.kind).0 p1.0) (eqb-true _ _ p2.0) (eqb-true _ _ p3.0) ((same_entries-Decides a.entries b.entries).0 p3.1)
+    chain_is a b ((same_kind-Decides a.kind b.kind).0 p1.0) (eqb-true _ _ p2.0) (eqb-true _ _ p3.0)
+    ((same_entries-Decides a.entries b.entries).0 p3.1)
 
 itself : (a : Chain) → is_same a a ≡ true
 unfolding is_same

@@ -11,7 +11,8 @@ use Rattle.path_segment.specs.declared.fault.SegmentFault.{SegmentFault}
 use Rattle.path_segment.specs.declared.fault.SegmentFault.TheVariants as faults
 use Rattle.path_segment.specs.Rules.{has_way_in, has_way_out, begins_well, ends_well, names_as_twice, next_fault, last_fault, beacon_fault, segment_fault}
 
-pub guard_none : (b : Bool) (f : SegmentFault) (r : Option SegmentFault) → cond b (Some f) r ≡ None → (b ≡ false) × (r ≡ None)
+pub guard_none : (b : Bool) (f : SegmentFault) (r : Option SegmentFault) → cond b (Some f) r ≡ None
+    → (b ≡ false) × (r ≡ None)
 guard_none true f r e = absurd cc
 guard_none false f r e = (refl, e)
 
@@ -48,13 +49,15 @@ length_push es e = length-append es (e ∷ [])
 all_push : (p : Entry → Bool) (es : List Entry) (e : Entry) → list_all p es ≡ true → list_all p (es ++ (e ∷ [])) ≡ p e
 all_push p es e all = list_all-append p es (e ∷ []) ∙ rw all (and-true (p e))
 
-begins_push : (es : List Entry) (e : Entry) → 1 ≤ length es → begins_well es ≡ true → begins_well (es ++ (e ∷ [])) ≡ has_way_in e
+begins_push : (es : List Entry) (e : Entry) → 1 ≤ length es → begins_well es ≡ true
+    → begins_well (es ++ (e ∷ [])) ≡ has_way_in e
 begins_push [] e some all = absurd (omega arith)
 begins_push (first ∷ later) e some all =
     let parts = and_parts (not (has_way_in first)) (list_all has_way_in later) all in
     rw parts.0 (all_push has_way_in later e parts.1)
 
-ends_push : (es : List Entry) (e : Entry) → list_all has_way_out es ≡ true → ends_well (es ++ (e ∷ [])) ≡ not (has_way_out e)
+ends_push : (es : List Entry) (e : Entry) → list_all has_way_out es ≡ true
+    → ends_well (es ++ (e ∷ [])) ≡ not (has_way_out e)
 ends_push [] e all = refl
 ends_push (x ∷ []) e all = let parts = and_parts (has_way_out x) true all in rw parts.0 refl
 ends_push (x ∷ y ∷ more) e all =
@@ -66,7 +69,8 @@ shuffled true b c d e f = absurd cc
 shuffled false true c d e f = rw (← f) refl
 shuffled false false c d e f = rw (← f) refl
 
-twice_push : (es : List Entry) (e : Entry) → names_as_twice es ≡ false → names_as_twice (es ++ (e ∷ [])) ≡ list_any (λ other. other.ia == e.ia) es
+twice_push : (es : List Entry) (e : Entry) → names_as_twice es ≡ false
+    → names_as_twice (es ++ (e ∷ [])) ≡ list_any (λ other. other.ia == e.ia) es
 twice_push [] e once = refl
 twice_push (x ∷ xs) e once =
     let parts = or_parts (list_any (λ other. other.ia == x.ia) xs) (names_as_twice xs) once in
@@ -81,7 +85,8 @@ next_is es e none =
     let long : nat_lt 62 (length es + 1) ≡ nat_le 62 (length es) = grind (arith, nat_tests) in
     rw (length_push es e, some, long, begins_push es e free.some free.begins, all_push has_way_out es e free.on, twice_push es e free.once) refl
 
-last_tests : (way_in way_out loop : Bool) → cond (not way_in || way_out) (Some faults.BadEnds) (cond loop (Some faults.Loop) None) ≡ cond (not (way_in && not way_out)) (Some faults.BadEnds) (cond loop (Some faults.Loop) None)
+last_tests : (way_in way_out loop : Bool)
+    → cond (not way_in || way_out) (Some faults.BadEnds) (cond loop (Some faults.Loop) None) ≡ cond (not (way_in && not way_out)) (Some faults.BadEnds) (cond loop (Some faults.Loop) None)
 last_tests true true loop = refl
 last_tests true false loop = refl
 last_tests false way_out loop = refl
@@ -90,7 +95,9 @@ pub last_is : (es : List Entry) (e : Entry) → beacon_fault es ≡ None → las
 unfolding segment_fault last_fault
 last_is es e none =
     let free = IsFree-beacon_fault es none in
-    let some : nat_lt (length es + 1) 2 ≡ false = (let more : 2 ≤ length es + 1 = (let h = free.some in omega arith) in le-ltb _ _ more) in
-    let long : nat_lt 63 (length es + 1) ≡ false = (let few : length es + 1 ≤ 63 = (let h = free.few in omega arith) in le-ltb _ _ few) in
+    let some : nat_lt (length es + 1) 2 ≡ false =
+    (let more : 2 ≤ length es + 1 = (let h = free.some in omega arith) in le-ltb _ _ more) in
+    let long : nat_lt 63 (length es + 1) ≡ false =
+    (let few : length es + 1 ≤ 63 = (let h = free.few in omega arith) in le-ltb _ _ few) in
     rw (length_push es e, some, long, begins_push es e free.some free.begins, ends_push es e free.on, twice_push es e free.once)
     (last_tests (has_way_in e) (has_way_out e) (list_any (λ other. other.ia == e.ia) es))

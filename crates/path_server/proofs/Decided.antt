@@ -7,7 +7,8 @@ use Rattle.path_segment.specs.Tests.{same_kind}
 use Rattle.path_segment.proofs.Decided.{same_kind-Decides}
 use Rattle.path_server.specs.Segment.{is_alike}
 
-pub is_alike-Decides : (a b : Chain) → Decides (is_alike a b) ((a.kind ≡ b.kind) × (first_as a ≡ first_as b) × (last_as a ≡ last_as b))
+pub is_alike-Decides : (a b : Chain)
+    → Decides (is_alike a b) ((a.kind ≡ b.kind) × (first_as a ≡ first_as b) × (last_as a ≡ last_as b))
 unfolding is_alike
 is_alike-Decides a b = (
   λ e.
@@ -17,7 +18,8 @@ is_alike-Decides a b = (
   λ h. and_from _ _ ((same_kind-Decides a.kind b.kind).1 h.0) (and_from _ _ (eq-eqb _ _ h.1) (eq-eqb _ _ h.2)),
 )
 
-alike_tests : (k l m : SegKind) (f g h i j n : ℕ) → k ≡ l → f ≡ g → i ≡ j → (same_kind k m && ((f == h) && (i == n))) ≡ (same_kind l m && ((g == h) && (j == n)))
+alike_tests : (k l m : SegKind) (f g h i j n : ℕ) → k ≡ l → f ≡ g → i ≡ j
+    → (same_kind k m && ((f == h) && (i == n))) ≡ (same_kind l m && ((g == h) && (j == n)))
 alike_tests k l m f g h i j n kind first last = rw (kind, first, last) refl
 
 -- what is like a segment is like those that it is like
@@ -25,4 +27,5 @@ pub is_alike-same : (a b : Chain) → is_alike a b ≡ true → (x : Chain) → 
 unfolding is_alike
 is_alike-same a b same_ends x =
     let same = (is_alike-Decides a b).0 same_ends in
-    alike_tests a.kind b.kind x.kind (first_as a) (first_as b) (first_as x) (last_as a) (last_as b) (last_as x) same.0 same.1 same.2
+    alike_tests a.kind b.kind x.kind (first_as a) (first_as b) (first_as x) (last_as a) (last_as b)
+    (last_as x) same.0 same.1 same.2

@@ -18,9 +18,11 @@ use Rattle.path_server.proofs.Places.{any_alike}
 -- ---- each place
 
 one_more : (n : ℕ) → range_with_len 0 (n + 1) ≡ range_with_len 0 n ++ n ∷ []
-one_more n = sym (map-id _) ∙ map-range_with_len_more (λ k. k) 0 n n (omega arith) ∙ ap (λ numbers. numbers ++ n ∷ []) (map-id _)
+one_more n =
+    sym (map-id _) ∙ map-range_with_len_more (λ k. k) 0 n n (omega arith) ∙ ap (λ numbers. numbers ++ n ∷ []) (map-id _)
 
-each_with : (segments : List Chain) (segment : Chain) (index : List ℕ) (at : ℕ) → HasEachPlace segments index → HasEachPlace (segments ++ segment ∷ []) (insert index at (length segments))
+each_with : (segments : List Chain) (segment : Chain) (index : List ℕ) (at : ℕ) → HasEachPlace segments index
+    → HasEachPlace (segments ++ segment ∷ []) (insert index at (length segments))
 each_with segments segment index at each test =
     let f : ℕ → ℕ = λ place. cond (test place) 1 0 in
     let more : length (segments ++ segment ∷ []) ≡ length segments + 1 = length_push segments segment in
@@ -30,7 +32,8 @@ each_with segments segment index at each test =
     ∙ ap (count_by test) (sym (one_more (length segments)) ∙ ap (range_with_len 0) (sym more))
 
 -- every element of an index is a place
-places_are_within : (segments : List Chain) (index : List ℕ) → HasEachPlace segments index → All (λ place. place < length segments) index
+places_are_within : (segments : List Chain) (index : List ℕ) → HasEachPlace segments index
+    → All (λ place. place < length segments) index
 places_are_within segments index each k d within =
     let place = get_or index k d in
     let here : is_in index place ≡ true = list_any_at (nat_eq place) index k d within (eq-eqb place place refl) in
@@ -43,18 +46,22 @@ places_are_within segments index each k d within =
 
 -- ---- the order
 
-rank_before : (segments : List Chain) (segment : Chain) (i : ℕ) → i < length segments → slice_get (segments ++ segment ∷ []) i ≡ slice_get segments i
+rank_before : (segments : List Chain) (segment : Chain) (i : ℕ) → i < length segments
+    → slice_get (segments ++ segment ∷ []) i ≡ slice_get segments i
 rank_before [] segment i within = absurd (omega arith)
 rank_before (s ∷ segments) segment zero within = refl
 rank_before (s ∷ segments) segment (suc i) within = rank_before segments segment i (omega arith)
 
-rank_last : (segments : List Chain) (segment : Chain) → slice_get (segments ++ segment ∷ []) (length segments) ≡ Some segment
+rank_last : (segments : List Chain) (segment : Chain)
+    → slice_get (segments ++ segment ∷ []) (length segments) ≡ Some segment
 rank_last [] segment = refl
 rank_last (s ∷ segments) segment = rank_last segments segment
 
 -- the index with the place of one more segment, behind those of its ends or ends below them
-pub grown_is_index : (segments : List Chain) (segment : Chain) (index : List ℕ) (at : ℕ) → IsIndex segments index → HasAddresses segment → length segments < 2 ^ 64 → at ≤ length index
-    → AllWithin (λ place. rank_at segments place ≤ rank segment) index 0 at → AllWithin (λ place. rank segment < rank_at segments place) index at (length index)
+pub grown_is_index : (segments : List Chain) (segment : Chain) (index : List ℕ) (at : ℕ)
+    → IsIndex segments index → HasAddresses segment → length segments < 2 ^ 64 → at ≤ length index
+    → AllWithin (λ place. rank_at segments place ≤ rank segment) index 0 at
+    → AllWithin (λ place. rank segment < rank_at segments place) index at (length index)
     → IsIndex (segments ++ segment ∷ []) (insert index at (length segments))
 grown_is_index segments segment index at is fits short within below above =
     let n = length segments in

@@ -36,9 +36,11 @@ pub any_and : {X : Type 0} (b : Bool) (p : X → Bool) (xs : List X) → list_an
 any_and true p xs = refl
 any_and false p xs = any_none xs
 
-pub any_flat_map : {X A : Type 0} (p : A → Bool) (f : X → List A) (xs : List X) → list_any p (flat_map f xs) ≡ list_any (λ x. list_any p (f x)) xs
+pub any_flat_map : {X A : Type 0} (p : A → Bool) (f : X → List A) (xs : List X)
+    → list_any p (flat_map f xs) ≡ list_any (λ x. list_any p (f x)) xs
 any_flat_map p f [] = refl
-any_flat_map p f (x ∷ xs) = list_any-append p (f x) (flat_map f xs) ∙ ap (λ rest. list_any p (f x) || rest) (any_flat_map p f xs)
+any_flat_map p f (x ∷ xs) =
+    list_any-append p (f x) (flat_map f xs) ∙ ap (λ rest. list_any p (f x) || rest) (any_flat_map p f xs)
 
 pub any_filter : {X : Type 0} (p q : X → Bool) (xs : List X) → list_any q (filter p xs) ≡ list_any (λ x. p x && q x) xs
 any_filter p q [] = refl
@@ -59,12 +61,14 @@ any_is_kept p (x ∷ xs) = elim (cases_Bool (p x)) [
 pub filter_on : {X : Type 0} (p q : X → Bool) (xs : List X) → All (λ x. p x ≡ q x) xs → filter p xs ≡ filter q xs
 filter_on p q [] same = refl
 filter_on p q (x ∷ xs) same =
-    rw (same 0 x (omega arith)) (ap (λ rest. cond (q x) (x ∷ rest) rest) (filter_on p q xs (λ k d within. same (suc k) d (omega arith))))
+    rw (same 0 x (omega arith))
+    (ap (λ rest. cond (q x) (x ∷ rest) rest) (filter_on p q xs (λ k d within. same (suc k) d (omega arith))))
 
 -- ---- numbers
 
 -- numbers rise if each was found below the next
-pub rises_where_checked : (xs : List ℕ) (b : Bool) → IsAllAdjacentAnswer (λ x y b. b ≡ ltb x y) xs b → b ≡ true → IsStrictlyIncreasing xs
+pub rises_where_checked : (xs : List ℕ) (b : Bool) → IsAllAdjacentAnswer (λ x y b. b ≡ ltb x y) xs b
+    → b ≡ true → IsStrictlyIncreasing xs
 rises_where_checked xs true below is k within = ltb-true _ _ (sym (below k 0 within))
 rises_where_checked xs false below is k within = absurd (true≢false (sym is))
 
@@ -103,7 +107,9 @@ rest_rises : (x : ℕ) (xs : List ℕ) → Rises (x ∷ xs) → Rises xs
 rest_rises x xs rises i j d before within = rises (suc i) (suc j) d (omega arith) (omega arith)
 
 none_below : (x : ℕ) (xs : List ℕ) → Rises (x ∷ xs) → (i : ℕ) → i ≤ x → is_in xs i ≡ false
-none_below x xs rises i low = list_any_none (nat_eq i) xs (λ k d within. (let up = rises 0 (suc k) d (omega arith) (omega arith) in ne_eqb _ _ (λ same. omega arith)))
+none_below x xs rises i low =
+    list_any_none (nat_eq i) xs
+    (λ k d within. (let up = rises 0 (suc k) d (omega arith) (omega arith) in ne_eqb _ _ (λ same. omega arith)))
 
 itself : (x : ℕ) (xs : List ℕ) → is_in (x ∷ xs) x ≡ true
 itself x xs = rw (eq-eqb x x refl) refl
@@ -111,7 +117,8 @@ itself x xs = rw (eq-eqb x x refl) refl
 absent : (x y : ℕ) (ys : List ℕ) → Rises (y ∷ ys) → x < y → is_in (y ∷ ys) x ≡ false
 absent x y ys rises low = rw (ne_eqb x y (λ same. omega arith)) (none_below y ys rises x (omega arith))
 
-rest_same : (i x y : ℕ) (xs ys : List ℕ) → Rises (x ∷ xs) → Rises (y ∷ ys) → x ≡ y → is_in (x ∷ xs) i ≡ is_in (y ∷ ys) i → is_in xs i ≡ is_in ys i
+rest_same : (i x y : ℕ) (xs ys : List ℕ) → Rises (x ∷ xs) → Rises (y ∷ ys) → x ≡ y
+    → is_in (x ∷ xs) i ≡ is_in (y ∷ ys) i → is_in xs i ≡ is_in ys i
 rest_same i x y xs ys one other equal same = elim (cases_eq i x) [
   | inl here ↦ none_below x xs one i (omega arith) ∙ sym (none_below y ys other i (omega arith))
   | inr apart ↦ (
@@ -126,7 +133,8 @@ same_numbers [] [] one other same = refl
 same_numbers [] (y ∷ ys) one other same = absurd (true≢false (sym (itself y ys) ∙ sym (same y)))
 same_numbers (x ∷ xs) [] one other same = absurd (true≢false (sym (itself x xs) ∙ same x))
 same_numbers (x ∷ xs) (y ∷ ys) one other same = elim (cases_order x y) [
-  | inl equal ↦ (let rest = same_numbers xs ys (rest_rises x xs one) (rest_rises y ys other) (λ i. rest_same i x y xs ys one other equal (same i)) in rw (equal, rest) refl)
+  | inl equal ↦
+      (let rest = same_numbers xs ys (rest_rises x xs one) (rest_rises y ys other) (λ i. rest_same i x y xs ys one other equal (same i)) in rw (equal, rest) refl)
   | inr (inl low) ↦ absurd (true≢false (sym (itself x xs) ∙ same x ∙ absent x y ys other low))
   | inr (inr high) ↦ absurd (true≢false (sym (itself y ys) ∙ sym (same y) ∙ absent y x xs one high))
 ]

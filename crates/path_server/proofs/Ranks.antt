@@ -12,14 +12,17 @@ use Rattle.path_segment.specs.Chain.{Chain}
 use Rattle.path_server.specs.Index.{rank_at, order_at}
 
 -- places in order have ends in order
-pub ranks_rise : (segments : List Chain) (index : List ℕ) → All (λ place. place < 2 ^ 64) index → IsNonDecreasingBy (order_at segments) index → IsNonDecreasingBy (rank_at segments) index
+pub ranks_rise : (segments : List Chain) (index : List ℕ) → All (λ place. place < 2 ^ 64) index
+    → IsNonDecreasingBy (order_at segments) index → IsNonDecreasingBy (rank_at segments) index
 ranks_rise segments index small rises i j d upward within =
     let order = rises i j d upward within in
     let bound = small j d within in
     omega arith
 
 -- what is no higher than a bound comes first
-pub no_higher_first : (segments : List Chain) (index : List ℕ) (bound : ℕ) → IsNonDecreasingBy (rank_at segments) index → IsPartitionedBy (λ place. not (ltb bound (rank_at segments place))) index
+pub no_higher_first : (segments : List Chain) (index : List ℕ) (bound : ℕ)
+    → IsNonDecreasingBy (rank_at segments) index
+    → IsPartitionedBy (λ place. not (ltb bound (rank_at segments place))) index
 no_higher_first segments index bound rises i j d upward within passes =
     let rise = rises i j d upward within in
     let low = ltb-false _ _ (not-true _ passes) in
@@ -38,28 +41,38 @@ all_above segments (one ∷ rest) bound place first rises above (suc k) d low hi
     let rise = rises 0 (suc k) d (omega arith) high in
     omega arith
 
-nothing_passes : {X : Type 0} (p : X → Bool) (xs : List X) → AllWithin (λ x. p x ≡ false) xs 0 (length xs) → filter p xs ≡ []
+nothing_passes : {X : Type 0} (p : X → Bool) (xs : List X) → AllWithin (λ x. p x ≡ false) xs 0 (length xs)
+    → filter p xs ≡ []
 nothing_passes p [] fails = refl
-nothing_passes p (x ∷ xs) fails = rw (fails 0 x (omega arith) (omega arith)) (nothing_passes p xs (λ k d low high. fails (suc k) d (omega arith) (omega arith)))
+nothing_passes p (x ∷ xs) fails =
+    rw (fails 0 x (omega arith) (omega arith))
+    (nothing_passes p xs (λ k d low high. fails (suc k) d (omega arith) (omega arith)))
 
 -- where just the n elements from one place on pass a test, they are what a filter keeps
-pub part_is_kept : {X : Type 0} (p : X → Bool) (xs : List X) (from n : ℕ) → from + n ≤ length xs → AllWithin (λ x. p x ≡ false) xs 0 from → AllWithin (λ x. p x ≡ true) xs from (from + n) → AllWithin (λ x. p x ≡ false) xs (from + n) (length xs) → take n (drop from xs) ≡ filter p xs
+pub part_is_kept : {X : Type 0} (p : X → Bool) (xs : List X) (from n : ℕ) → from + n ≤ length xs
+    → AllWithin (λ x. p x ≡ false) xs 0 from → AllWithin (λ x. p x ≡ true) xs from (from + n)
+    → AllWithin (λ x. p x ≡ false) xs (from + n) (length xs) → take n (drop from xs) ≡ filter p xs
 part_is_kept p [] zero zero within before between after = refl
 part_is_kept p [] (suc from) n within before between after = absurd (omega arith)
 part_is_kept p [] zero (suc n) within before between after = absurd (omega arith)
 part_is_kept p (x ∷ xs) zero zero within before between after = sym (nothing_passes p (x ∷ xs) after)
 part_is_kept p (x ∷ xs) zero (suc n) within before between after =
     rw (between 0 x (omega arith) (omega arith)) (ap (λ rest. x ∷ rest) (part_is_kept p xs zero n (omega arith)
-    (λ k d low high. absurd (omega arith)) (λ k d low high. between (suc k) d (omega arith) (omega arith)) (λ k d low high. after (suc k) d (omega arith) (omega arith))))
+    (λ k d low high. absurd (omega arith)) (λ k d low high. between (suc k) d (omega arith) (omega arith))
+    (λ k d low high. after (suc k) d (omega arith) (omega arith))))
 part_is_kept p (x ∷ xs) (suc from) n within before between after =
     rw (before 0 x (omega arith) (omega arith)) (part_is_kept p xs from n (omega arith)
-    (λ k d low high. before (suc k) d (omega arith) (omega arith)) (λ k d low high. between (suc k) d (omega arith) (omega arith)) (λ k d low high. after (suc k) d (omega arith) (omega arith)))
+    (λ k d low high. before (suc k) d (omega arith) (omega arith))
+    (λ k d low high. between (suc k) d (omega arith) (omega arith))
+    (λ k d low high. after (suc k) d (omega arith) (omega arith)))
 
 -- what holds of a part of what stands behind the first elements holds of that part of the list
-pub part_behind : {X : Type 0} (P : X → Type 0) (xs : List X) (from low high : ℕ) → AllWithin P (drop from xs) low high → AllWithin P xs (from + low) (from + high)
+pub part_behind : {X : Type 0} (P : X → Type 0) (xs : List X) (from low high : ℕ)
+    → AllWithin P (drop from xs) low high → AllWithin P xs (from + low) (from + high)
 part_behind P xs from low high holds k d after before =
     let there : from + (k - from) ≡ k = omega arith in
-    subst P (get_or-drop from xs (k - from) d ∙ ap (λ i. get_or xs i d) there) (holds (k - from) d (omega arith) (omega arith))
+    subst P (get_or-drop from xs (k - from) d ∙ ap (λ i. get_or xs i d) there)
+    (holds (k - from) d (omega arith) (omega arith))
 
 -- a list whose elements are their own places
 pub numbered_is : (xs : List ℕ) → ((k : ℕ) → k < length xs → get_or xs k 0 ≡ k) → xs ≡ range_with_len 0 (length xs)

@@ -19,12 +19,15 @@ doubles_are_twice [] = refl
 doubles_are_twice (hop ∷ later) =
     ap₂ (λ a b. a || b) (named_is (λ other. other.ia) hop.ia later) (doubles_are_twice later)
 
-none_at : (p : WalkHop → Bool) (hs : List WalkHop) → list_any p hs ≡ false → (k : ℕ) (h : WalkHop) → slice_get hs k ≡ Some h → p h ≡ false
+none_at : (p : WalkHop → Bool) (hs : List WalkHop) → list_any p hs ≡ false → (k : ℕ) (h : WalkHop)
+    → slice_get hs k ≡ Some h → p h ≡ false
 none_at p [] none k h at = absurd cc
-none_at p (x ∷ xs) none zero h at = let is : x ≡ h = same_Some x h at in rw (← is) (or_parts (p x) (list_any p xs) none).0
+none_at p (x ∷ xs) none zero h at =
+    let is : x ≡ h = same_Some x h at in rw (← is) (or_parts (p x) (list_any p xs) none).0
 none_at p (x ∷ xs) none (suc k) h at = none_at p xs (or_parts (p x) (list_any p xs) none).1 k h at
 
-none_from : (p : WalkHop → Bool) (hs : List WalkHop) → ((k : ℕ) (h : WalkHop) → slice_get hs k ≡ Some h → p h ≡ false) → list_any p hs ≡ false
+none_from : (p : WalkHop → Bool) (hs : List WalkHop)
+    → ((k : ℕ) (h : WalkHop) → slice_get hs k ≡ Some h → p h ≡ false) → list_any p hs ≡ false
 none_from p [] each = refl
 none_from p (x ∷ xs) each = rw (each zero x refl) (none_from p xs (λ k h at. each (suc k) h at))
 
@@ -39,11 +42,13 @@ once_of [] once j k d e at_j at_k same = absurd cc
 once_of (x ∷ xs) once zero zero d e at_j at_k same = refl
 once_of (x ∷ xs) once zero (suc k) d e at_j at_k same =
     let is : x ≡ d = same_Some x d at_j in
-    let other = none_at (λ o. o.ia == x.ia) xs (or_parts (list_any (λ o. o.ia == x.ia) xs) (names_twice xs) once).0 k e at_k in
+    let other =
+    none_at (λ o. o.ia == x.ia) xs (or_parts (list_any (λ o. o.ia == x.ia) xs) (names_twice xs) once).0 k e at_k in
     absurd (eqb-false e.ia x.ia other (sym same ∙ ap (λ (o : WalkHop). o.ia) (sym is)))
 once_of (x ∷ xs) once (suc j) zero d e at_j at_k same =
     let is : x ≡ e = same_Some x e at_k in
-    let other = none_at (λ o. o.ia == x.ia) xs (or_parts (list_any (λ o. o.ia == x.ia) xs) (names_twice xs) once).0 j d at_j in
+    let other =
+    none_at (λ o. o.ia == x.ia) xs (or_parts (list_any (λ o. o.ia == x.ia) xs) (names_twice xs) once).0 j d at_j in
     absurd (eqb-false d.ia x.ia other (same ∙ ap (λ (o : WalkHop). o.ia) (sym is)))
 once_of (x ∷ xs) once (suc j) (suc k) d e at_j at_k same =
     ap suc (once_of xs (or_parts (list_any (λ o. o.ia == x.ia) xs) (names_twice xs) once).1 j k d e at_j at_k same)

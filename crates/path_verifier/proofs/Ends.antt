@@ -15,7 +15,8 @@ left_at [] n way d there = absurd (omega arith)
 left_at (hop ∷ []) zero way d there = refl
 left_at (hop ∷ next ∷ hops) zero way d there = refl
 left_at (hop ∷ []) (suc n) way d there = absurd (omega arith)
-left_at (hop ∷ next ∷ hops) (suc n) way d there = ap (λ later. hop ∷ later) (left_at (next ∷ hops) n way d (omega arith))
+left_at (hop ∷ next ∷ hops) (suc n) way d there =
+    ap (λ later. hop ∷ later) (left_at (next ∷ hops) n way d (omega arith))
 
 pub left_front : (hops : List WalkHop) (n way : ℕ) (d : WalkHop) → 0 < n → n ≤ length hops
     → take n (set hops (n - 1) (record (get_or hops (n - 1) d) { egress = way })) ≡ left_by way (take n hops)

@@ -18,5 +18,6 @@ length-in_order : (along : Bool) (entries : List Entry) → length (in_order alo
 length-in_order true entries = refl
 length-in_order false entries = length-reverse entries
 
-pub length_travelled : (piece : PieceValue) → HasRange piece → length (travelled_entries piece) ≡ piece.to + 1 - piece.from
+pub length_travelled : (piece : PieceValue) → HasRange piece
+    → length (travelled_entries piece) ≡ piece.to + 1 - piece.from
 length_travelled piece range = length-in_order piece.along (entries_of piece) ∙ length-entries_of piece range

@@ -9,10 +9,13 @@ use Rattle.path_verifier.specs.Piece.{PieceValue, travelled_entries}
 use Rattle.path_verifier.specs.Walk.{hop_of, hops_of, left_by, with_meeting_hop, walk_with}
 use Rattle.path_verifier.specs.Header.{len_of}
 
-pub hop_there : (piece : PieceValue) (i : ℕ) (entry : Entry) (hop : WalkHop) → slice_get (travelled_entries piece) i ≡ Some entry → hop ≡ hop_of piece.along entry
+pub hop_there : (piece : PieceValue) (i : ℕ) (entry : Entry) (hop : WalkHop)
+    → slice_get (travelled_entries piece) i ≡ Some entry → hop ≡ hop_of piece.along entry
     → slice_get (hops_of piece) i ≡ Some hop
 unfolding hops_of
-hop_there piece i entry hop there is = slice_get-map (hop_of piece.along) (travelled_entries piece) i ∙ ap (option_map (hop_of piece.along)) there ∙ ap Some (sym is)
+hop_there piece i entry hop there is =
+    slice_get-map (hop_of piece.along) (travelled_entries piece) i ∙ ap
+    (option_map (hop_of piece.along)) there ∙ ap Some (sym is)
 
 pub length_hops_of : (piece : PieceValue) → length (hops_of piece) ≡ len_of piece
 unfolding hops_of
@@ -24,7 +27,8 @@ drop_at (y ∷ ys) zero x there = let is : y ≡ x = same_Some y x there in ap (
 drop_at (y ∷ ys) (suc i) x there = drop_at ys i x there
 
 -- one element more behind a front, and one less to come
-pub one_more : {A : Type 0} (front xs : List A) (i : ℕ) (x : A) → slice_get xs i ≡ Some x → (front ++ (x ∷ [])) ++ drop (i + 1) xs ≡ front ++ drop i xs
+pub one_more : {A : Type 0} (front xs : List A) (i : ℕ) (x : A) → slice_get xs i ≡ Some x
+    → (front ++ (x ∷ [])) ++ drop (i + 1) xs ≡ front ++ drop i xs
 one_more front xs i x there = rw (append_assoc, add-one, drop_at xs i x there) refl
 
 -- nothing is to come
@@ -37,7 +41,8 @@ length_left_by way (hop ∷ []) = refl
 length_left_by way (hop ∷ next ∷ later) = ap suc (length_left_by way (next ∷ later))
 
 -- a walk with the hops of a piece from the second on
-pub length_later : (walk : List WalkHop) (piece : PieceValue) → length (walk ++ drop 1 (hops_of piece)) ≡ length walk + (len_of piece - 1)
+pub length_later : (walk : List WalkHop) (piece : PieceValue)
+    → length (walk ++ drop 1 (hops_of piece)) ≡ length walk + (len_of piece - 1)
 length_later walk piece = simp (length-append, length-drop, length_hops_of) refl
 
 pub joined_from : (walk : List WalkHop) (piece : PieceValue) (hop : WalkHop) → slice_get (hops_of piece) 0 ≡ Some hop

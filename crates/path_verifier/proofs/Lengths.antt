@@ -24,7 +24,8 @@ length_joined (first ∷ rest) (hop ∷ later) =
     let count = length-append (left_by hop.egress (first ∷ rest)) later in
     omega arith
 
-length_folded : (walk : List WalkHop) (pieces : List PieceValue) → length (fold walk_with walk (map hops_of pieces)) ≤ length walk + total_hops pieces
+length_folded : (walk : List WalkHop) (pieces : List PieceValue)
+    → length (fold walk_with walk (map hops_of pieces)) ≤ length walk + total_hops pieces
 length_folded walk [] = omega arith
 length_folded walk (piece ∷ pieces) =
     let more = length_folded (walk_with walk (hops_of piece)) pieces in
@@ -59,14 +60,16 @@ longer_joined (first ∷ rest) (hop ∷ later) =
     let count = length-append (left_by hop.egress (first ∷ rest)) later in
     omega arith
 
-longer_folded : (walk : List WalkHop) (pieces : List PieceValue) → length walk ≤ length (fold walk_with walk (map hops_of pieces))
+longer_folded : (walk : List WalkHop) (pieces : List PieceValue)
+    → length walk ≤ length (fold walk_with walk (map hops_of pieces))
 longer_folded walk [] = omega arith
 longer_folded walk (piece ∷ pieces) =
     let more = longer_folded (walk_with walk (hops_of piece)) pieces in
     let one = longer_joined walk (hops_of piece) in
     omega arith
 
-some_pieces : (pieces : List PieceValue) → 0 < length pieces → AllByRecursion HasRange pieces → 2 ≤ length (fold walk_with [] (map hops_of pieces))
+some_pieces : (pieces : List PieceValue) → 0 < length pieces → AllByRecursion HasRange pieces
+    → 2 ≤ length (fold walk_with [] (map hops_of pieces))
 some_pieces [] some ranges = absurd (omega arith)
 some_pieces (piece ∷ pieces) some ranges =
     let two = two_ases piece ranges.0 in
@@ -75,7 +78,8 @@ some_pieces (piece ∷ pieces) some ranges =
     let more = longer_folded (walk_with [] (hops_of piece)) pieces in
     omega arith
 
-pub walk_is_long : (pieces : List PieceValue) (src dst now : ℕ) → MakesPath pieces src dst now → 2 ≤ length (walk_of pieces)
+pub walk_is_long : (pieces : List PieceValue) (src dst now : ℕ) → MakesPath pieces src dst now
+    → 2 ≤ length (walk_of pieces)
 walk_is_long pieces src dst now path =
     let a = length_walk_of pieces in
     let two = some_pieces pieces path.some (recursion_from_All HasRange pieces path.ranges) in
@@ -113,6 +117,7 @@ adjoin_in (a ∷ b ∷ past) later piece next adjoin = adjoin_in (b ∷ past) la
 pub path_is_short : (pieces : List PieceValue) (src dst now : ℕ) → MakesPath pieces src dst now → length pieces ≤ 3
 path_is_short pieces src dst now path = three_at_most pieces path.kinds
 
-pub pieces_adjoin : (past later : List PieceValue) (piece next : PieceValue) (src dst now : ℕ) → MakesPath (past ++ (piece ∷ (next ∷ later))) src dst now
+pub pieces_adjoin : (past later : List PieceValue) (piece next : PieceValue) (src dst now : ℕ)
+    → MakesPath (past ++ (piece ∷ (next ∷ later))) src dst now
     → MayAdjoin (kind_of piece) (kind_of next)
 pieces_adjoin past later piece next src dst now path = adjoin_in past later piece next path.kinds

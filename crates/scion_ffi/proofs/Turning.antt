@@ -8,7 +8,8 @@ use Rattle.path_header.specs.Spelling.{SpellsHeader, spelling}
 use Rattle.path_header.specs.Reversal.{reversed_header, turned_info}
 use Rattle.scion_ffi.specs.Header.{IsTurnedRound}
 
-pub reversed_len : (v : HeaderValue) → IsHeader v → IsHeader (reversed_header v) → header_len (reversed_header v) ≡ header_len v
+pub reversed_len : (v : HeaderValue) → IsHeader v → IsHeader (reversed_header v)
+    → header_len (reversed_header v) ≡ header_len v
 reversed_len v old new =
     omega (arith, old.infos, old.hops, new.infos, new.hops, length-reverse (map turned_info v.infos), length-map v.infos turned_info, length-reverse v.hops)
 

@@ -12,13 +12,15 @@ use Rattle.scion_ffi_paths.specs.Asked.{each_item}
 abbrev onward : {A F : Type 0} → (Data → Result A F) → Items → Result A F → Result (List A) F
 onward one later reading = reading >>= λ x. (each_item one later >>= λ xs. Ok (x ∷ xs))
 
-from_here : {A F : Type 0} (one : Data → Result A F) (left later : Items) (d : Data) (reading : Result A F) → left ≡ item d later
+from_here : {A F : Type 0} (one : Data → Result A F) (left later : Items) (d : Data) (reading : Result A F)
+    → left ≡ item d later
     → one d ≡ reading → each_item one left ≡ onward one later reading
 from_here one left later d reading is read = ap (each_item one) is ∙ ap (onward one later) read
 
 pub read_more : {A F : Type 0} (one : Data → Result A F) (all left later : Items) (d : Data) (x : A) (front front' : List A)
     → left ≡ item d later → one d ≡ Ok x → front' ≡ front ++ x ∷ []
-    → with_front front (each_item one left) ≡ each_item one all → with_front front' (each_item one later) ≡ each_item one all
+    → with_front front (each_item one left) ≡ each_item one all
+    → with_front front' (each_item one later) ≡ each_item one all
 read_more one all left later d x front front' is read longer so_far =
     ap (λ (f : List _). with_front f (each_item one later)) longer
     ∙ front_later front x (each_item one later)
@@ -26,7 +28,8 @@ read_more one all left later d x front front' is read longer so_far =
 
 pub stops : {A F X Y : Type 0} (seen : X → List A) (one_seen : Y → A) (one : Data → Result A F) (all left later : Items) (d : Data) (front : List A) (error : OrMemory F)
     (result : Result X (OrMemory F)) → left ≡ item d later → Reads one_seen (Err error) (one d)
-    → with_front front (each_item one left) ≡ each_item one all → result ≡ Err error → Reads seen result (each_item one all)
+    → with_front front (each_item one left) ≡ each_item one all → result ≡ Err error
+    → Reads seen result (each_item one all)
 stops seen one_seen one all left later d front Memory result at read so_far is = rw is tt
 stops seen one_seen one all left later d front (Refused fault) result at read so_far is =
     rw is (sym so_far ∙ ap (with_front front) (from_here one left later d (Err fault) at read))

@@ -22,7 +22,8 @@ use Rattle.scion_ffi_paths.specs.inner.Told.{Tells}
 both : {A B F : Type 0} (first : Result A F) (fits : Bool) (fault : F) (f : A → B) (x : A) → first ≡ Ok x → fits ≡ true
     → (first >>= (λ read. check fits fault >>= (λ few. Ok (f read)))) ≡ Ok (f x)
 both first fits fault f x is holds =
-    ap (λ r. r >>= (λ read. check fits fault >>= (λ few. Ok (f read)))) is ∙ ap (λ b. check b fault >>= (λ few. Ok (f x))) holds
+    ap (λ r. r >>= (λ read. check fits fault >>= (λ few. Ok (f read)))) is ∙ ap
+    (λ b. check b fault >>= (λ few. Ok (f x))) holds
 
 request_read : (rules : Rules) (asked : Asked) (pieces : List PieceValue) (bytes : List ℕ) (header : HeaderValue) (len : ℕ)
     → read_at bytes ≡ Ok (header, len) → length pieces ≤ 3
@@ -31,7 +32,8 @@ request_read : (rules : Rules) (asked : Asked) (pieces : List PieceValue) (bytes
 unfolding request_under
 request_read rules asked pieces bytes header len read few =
     both (refused_as Header (read_at bytes)) (nat_le (length pieces) 3) (Path PieceCount)
-    (λ (read : HeaderValue × ℕ). request_of pieces read.0 asked.src asked.dst asked.moment rules) (header, len) (ap (refused_as Header) read) (le-leb (length pieces) 3 few)
+    (λ (read : HeaderValue × ℕ). request_of pieces read.0 asked.src asked.dst asked.moment rules)
+    (header, len) (ap (refused_as Header) read) (le-leb (length pieces) 3 few)
 
 -- so what answers the request to the verifier answers the request to verify
 pub answered : (rules : Rules) (asked : Asked) (list pieces : List PieceValue) (bytes : List ℕ) (header : HeaderValue) (len : ℕ)

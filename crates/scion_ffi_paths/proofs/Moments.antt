@@ -17,7 +17,8 @@ either m n = elim (cases_lt m n) [
 ]
 
 -- the least is at most each
-least_below : {X : Type 0} (f : X → ℕ) (xs : List X) (k : ℕ) (d : X) → k < length xs → least_of (map f xs) ≤ f (get_or xs k d)
+least_below : {X : Type 0} (f : X → ℕ) (xs : List X) (k : ℕ) (d : X) → k < length xs
+    → least_of (map f xs) ≤ f (get_or xs k d)
 least_below f [] k d within = absurd (omega arith)
 least_below f (x ∷ []) zero d within = omega arith
 least_below f (x ∷ []) (suc k) d within = absurd (omega arith)
@@ -26,7 +27,8 @@ least_below f (x ∷ (y ∷ later)) (suc k) d within =
     let rest = least_below f (y ∷ later) k d (omega arith) in omega arith
 
 -- what is at most each is at most the least, where there is one
-below_least : {X : Type 0} (f : X → ℕ) (xs : List X) (n : ℕ) → 0 < length xs → All (λ x. n ≤ f x) xs → n ≤ least_of (map f xs)
+below_least : {X : Type 0} (f : X → ℕ) (xs : List X) (n : ℕ) → 0 < length xs → All (λ x. n ≤ f x) xs
+    → n ≤ least_of (map f xs)
 below_least f [] n some all = absurd (omega arith)
 below_least f (x ∷ []) n some all = all 0 x (omega arith)
 below_least f (x ∷ (y ∷ later)) n some all =
@@ -35,7 +37,8 @@ below_least f (x ∷ (y ∷ later)) n some all =
     omega arith
 
 -- what is one of them and at most each is the least
-least_is : {X : Type 0} (f : X → ℕ) (xs : List X) (n : ℕ) → Any (λ x. n ≡ f x) xs → All (λ x. n ≤ f x) xs → n ≡ least_of (map f xs)
+least_is : {X : Type 0} (f : X → ℕ) (xs : List X) (n : ℕ) → Any (λ x. n ≡ f x) xs → All (λ x. n ≤ f x) xs
+    → n ≡ least_of (map f xs)
 least_is f xs n some all =
     let within = some.2 in
     let down : least_of (map f xs) ≤ f some.1 = rw some.3 at (least_below f xs some.0 some.1 some.2) in
@@ -43,7 +46,8 @@ least_is f xs n some all =
     let here = some.4 in
     omega arith
 
-pub piece_expires : (piece : PieceValue) (n : ℕ) → IsLeastExpiry piece.segment.timestamp (entries_of piece) n → n ≡ piece_expiry piece
+pub piece_expires : (piece : PieceValue) (n : ℕ) → IsLeastExpiry piece.segment.timestamp (entries_of piece) n
+    → n ≡ piece_expiry piece
 piece_expires piece n is =
     least_is (λ entry. expiry_of piece.segment.timestamp entry.exp_time) (entries_of piece) n is.reached is.lower
 
@@ -53,7 +57,8 @@ has_entry piece range =
     let long = length-entries_of piece range in let order = range.order in omega arith
 
 -- what the verifier tells as the expiry of a path is that of its pieces
-pub path_expires : (request : Request) (n : ℕ) → IsAccepted request → IsExpiry request.pieces n → n ≡ path_expiry request.pieces
+pub path_expires : (request : Request) (n : ℕ) → IsAccepted request → IsExpiry request.pieces n
+    → n ≡ path_expiry request.pieces
 unfolding path_expiry
 path_expires request n accepted is =
     let pieces = request.pieces in
@@ -83,16 +88,19 @@ least_reached f (x ∷ (y ∷ later)) some =
     ]
 
 -- the earliest expiry of the hops of pieces is theirs
-pub expires_first : (pieces : List PieceValue) → 0 < length pieces → All HasRange pieces → IsExpiry pieces (path_expiry pieces)
+pub expires_first : (pieces : List PieceValue) → 0 < length pieces → All HasRange pieces
+    → IsExpiry pieces (path_expiry pieces)
 unfolding path_expiry
 expires_first pieces some ranges =
     let piece = least_reached piece_expiry pieces some in
     let range : HasRange piece.1 = subst HasRange piece.3 (ranges piece.0 piece.1 piece.2) in
-    let entry = least_reached (λ e. expiry_of piece.1.segment.timestamp e.exp_time) (entries_of piece.1) (has_entry piece.1 range) in
+    let entry =
+    least_reached (λ e. expiry_of piece.1.segment.timestamp e.exp_time) (entries_of piece.1) (has_entry piece.1 range) in
     record {
       reached = (piece.0, piece.1, piece.2, piece.3, (entry.0, entry.1, entry.2, entry.3, piece.4 ∙ entry.4));
       lower = λ k d within j e inside.
           let first = least_below piece_expiry pieces k d within in
-          let next = least_below (λ e. expiry_of (get_or pieces k d).segment.timestamp e.exp_time) (entries_of (get_or pieces k d)) j e inside in
+          let next =
+          least_below (λ e. expiry_of (get_or pieces k d).segment.timestamp e.exp_time) (entries_of (get_or pieces k d)) j e inside in
           omega arith;
     }

@@ -79,6 +79,7 @@ told_in request options (Some one) paths used = λ k d within j e inside.
     told_at request.asked.moment request.asked.src request.asked.dst request.asked.moment request.asked.segments
     (get_or (get_or paths k d).pieces j e) ((used.answer.best k d within).candidate.own j e inside)
 
-pub told : (request : PathsAsked) (options : List WeighedRules) (answer : AnswerValue) → AreAnswer request options answer
+pub told : (request : PathsAsked) (options : List WeighedRules) (answer : AnswerValue)
+    → AreAnswer request options answer
     → All (λ path. All (IsToldAt request.asked.segments) path.pieces) answer.paths
 told request options answer is = told_in request options answer.used answer.paths is

@@ -9,8 +9,10 @@ pub first_has : (paths : List PathValue) (first : PathValue) (later : List PathV
 first_has paths first later are all =
     let each = subst (All (λ (path : PathValue). All HasRange path.pieces)) are all in each 0 first (omega arith)
 
-pub later_has : (paths : List PathValue) (first : PathValue) (later : List PathValue) (k : ℕ) (one : PathValue) → paths ≡ first ∷ later
-    → All (λ path. All HasRange path.pieces) paths → k < length later → one ≡ get_or later k one → All HasRange one.pieces
+pub later_has : (paths : List PathValue) (first : PathValue) (later : List PathValue) (k : ℕ) (one : PathValue)
+    → paths ≡ first ∷ later
+    → All (λ path. All HasRange path.pieces) paths → k < length later → one ≡ get_or later k one
+    → All HasRange one.pieces
 later_has paths first later k one are all within at =
     let each = subst (All (λ (path : PathValue). All HasRange path.pieces)) are all in
     subst (λ (path : PathValue). All HasRange path.pieces) (sym at) (each (suc k) one (omega arith))

@@ -8,7 +8,8 @@ use Rattle.scionet_view.specs.Explained.{AreReplies}
 
 -- what a sink holds that was empty before a run over an input
 pub held_after : (input replies : List ℕ) (end : Result NetValue RunFault) (before after held holds : Option (List ℕ))
-    → Listens All end before after held holds → before ≡ Some input → held ≡ Some [] → holds ≡ Some replies → AreReplies input replies
+    → Listens All end before after held holds → before ≡ Some input → held ≡ Some [] → holds ≡ Some replies
+    → AreReplies input replies
 held_after input replies end before after held holds heard all none are = (
   end,
   after,

@@ -48,7 +48,9 @@ request_accepted way pieces header src dst given same_pieces same_header same_sr
     subst IsAccepted (sym same) (accepted_at_once way accepted)
 
 -- the text with the second of its expiry tells of the path
-pub tells_path : {A F : Type 0} (result : Result (String A) F) (pieces : List PieceValue) (half : ℕ) → IsExpiry pieces half
-    → IfOk result (λ text. string_bytes text ≡ path_lines pieces (half / 2)) → IfOk result (λ text. TellsPath pieces (string_bytes text))
+pub tells_path : {A F : Type 0} (result : Result (String A) F) (pieces : List PieceValue) (half : ℕ)
+    → IsExpiry pieces half
+    → IfOk result (λ text. string_bytes text ≡ path_lines pieces (half / 2))
+    → IfOk result (λ text. TellsPath pieces (string_bytes text))
 tells_path (Ok text) pieces half expires is = (half, (expires, is))
 tells_path (Err fault) pieces half expires is = is

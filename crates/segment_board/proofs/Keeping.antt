@@ -16,7 +16,8 @@ fits_on x y None on h = tt
 fits_on x y (Some z) on h = goes_trans z x.front y.front h on
 
 -- a thread sees what lies on the board, which goes on from what lay there
-turned : (seat : ℕ) (x y : BoardValue) (views : List (Option KnownHistory)) → IsTied y → ContinuesFrom x.front y.front → KeepsViews x views → KeepsViews y (set views seat (Some y.front))
+turned : (seat : ℕ) (x y : BoardValue) (views : List (Option KnownHistory)) → IsTied y
+    → ContinuesFrom x.front y.front → KeepsViews x views → KeepsViews y (set views seat (Some y.front))
 turned seat x y views tied on h =
     let all = goes_trans (opening_only x.front) x.front y.front h.begins on in
     record {
@@ -28,11 +29,14 @@ turned seat x y views tied on h =
     }
 
 -- entering
-pub enters : (seat : ℕ) (v : Option KnownHistory) (x : BoardValue) → TurnsAt KeepsViews seat v x x (λ v x y w. (w ≡ Some x.front) × IsTied x × FitsView x v)
-enters seat v x views h at = (Some x.front, turned seat x x views h.tied (goes_self x.front) h, (refl, h.tied, h.fits seat v at))
+pub enters : (seat : ℕ) (v : Option KnownHistory) (x : BoardValue)
+    → TurnsAt KeepsViews seat v x x (λ v x y w. (w ≡ Some x.front) × IsTied x × FitsView x v)
+enters seat v x views h at =
+    (Some x.front, turned seat x x views h.tied (goes_self x.front) h, (refl, h.tied, h.fits seat v at))
 
 -- publishing what is tied to its history, and goes on from what lay there
-pub publishes : (seat : ℕ) (v : Option KnownHistory) (x y : BoardValue) → IsTied y → ContinuesFrom x.front y.front → TurnsAt KeepsViews seat v x y (λ v x y w. w ≡ Some y.front)
+pub publishes : (seat : ℕ) (v : Option KnownHistory) (x y : BoardValue) → IsTied y
+    → ContinuesFrom x.front y.front → TurnsAt KeepsViews seat v x y (λ v x y w. w ≡ Some y.front)
 publishes seat v x y tied on views h at = (Some y.front, turned seat x y views tied on h, refl)
 
 -- giving a reader its place
@@ -43,7 +47,8 @@ admits x views h = record {
   fits = λ j u e. ⊎_elim (h.fits j u) (λ (same : None ≡ u). subst (λ (z : Option KnownHistory). FitsView x z) same tt) (at_snoc views None u j e);
 }
 
-begun_fits : (x : BoardValue) (v : Option KnownHistory) → ContinuesFrom (opening_only x.front) x.front → FitsView x v → FitsView x (begun_as v)
+begun_fits : (x : BoardValue) (v : Option KnownHistory) → ContinuesFrom (opening_only x.front) x.front
+    → FitsView x v → FitsView x (begun_as v)
 begun_fits x None begins h = tt
 begun_fits x (Some y) begins h = record { board = h.board; history = begins.history; newer = begins.newer }
 
@@ -58,9 +63,11 @@ forks seat v x views h at = record {
 }
 
 -- learning it
-pub merges : (seat : ℕ) (v : Option KnownHistory) (other : ℕ) (w : Option KnownHistory) → Merges KeepsViews seat v other w w None
+pub merges : (seat : ℕ) (v : Option KnownHistory) (other : ℕ) (w : Option KnownHistory)
+    → Merges KeepsViews seat v other w w None
 merges seat v other w x views h at apart there =
-    let theirs : FitsView x w = ⊎_elim (λ (t : (other ≡ seat) × (w ≡ w)). absurd (apart t.0)) (λ (t : (other ≢ seat) × (get_elem? views other ≡ some w)). h.fits other w t.1) (at_set views seat other w w there) in
+    let theirs : FitsView x w =
+    ⊎_elim (λ (t : (other ≡ seat) × (w ≡ w)). absurd (apart t.0)) (λ (t : (other ≢ seat) × (get_elem? views other ≡ some w)). h.fits other w t.1) (at_set views seat other w w there) in
     record {
       tied = h.tied;
       begins = h.begins;

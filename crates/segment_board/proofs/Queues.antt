@@ -20,22 +20,26 @@ operations-append (Apply op ∷ xs) ys = ap (λ ops. op ∷ ops) (operations-app
 operations-append (Mark f ∷ xs) ys = operations-append xs ys
 
 -- the store after a queue is the one after its operations
-store_after : (x : BoardValue) (q : List BoardOp) → (fold taken x q).store ≡ fold after_operation x.store (operations_of q)
+store_after : (x : BoardValue) (q : List BoardOp)
+    → (fold taken x q).store ≡ fold after_operation x.store (operations_of q)
 store_after x [] = refl
 store_after x (Apply op ∷ q) = store_after (record x { store = after_operation x.store op }) q
 store_after x (Mark f ∷ q) = store_after (record x { front = f }) q
 
 -- a queue that ends with a mark leaves its front
-pub fold_mark : (x : BoardValue) (q : List BoardOp) (f : KnownHistory) → fold taken x (q ++ Mark f ∷ []) ≡ record { store = fold after_operation x.store (operations_of q); front = f }
+pub fold_mark : (x : BoardValue) (q : List BoardOp) (f : KnownHistory)
+    → fold taken x (q ++ Mark f ∷ []) ≡ record { store = fold after_operation x.store (operations_of q); front = f }
 fold_mark x q f = fold_push taken x q (Mark f) ∙ ap (λ s. record { store = s; front = f }) (store_after x q)
 
 -- a queue may be published that ends with the front of all that is awaited
-pub ready_mark : (x : BoardValue) (q : List BoardOp) (f : KnownHistory) (old : List Edition) → IsTied x → f.board ≡ x.front.board → IsPrefix x.front.log old
+pub ready_mark : (x : BoardValue) (q : List BoardOp) (f : KnownHistory) (old : List Edition) → IsTied x
+    → f.board ≡ x.front.board → IsPrefix x.front.log old
     → f.log ≡ old ++ edition_after (newest x.front.log) (operations_of q) ∷ [] → IsReady x (q ++ Mark f ∷ [])
 ready_mark x q f old tied board before log =
     let e = fold_mark x q f in
     let ops = operations_of q in
-    let last : (newest f.log).operations ≡ (newest x.front.log).operations ++ ops = ap (λ (l : List Edition). (newest l).operations) log ∙ ap (λ (z : Edition). z.operations) (newest_last old (edition_after (newest x.front.log) ops)) in
+    let last : (newest f.log).operations ≡ (newest x.front.log).operations ++ ops =
+    ap (λ (l : List Edition). (newest l).operations) log ∙ ap (λ (z : Edition). z.operations) (newest_last old (edition_after (newest x.front.log) ops)) in
     let made : fold after_operation x.store ops ≡ store_of (newest f.log).operations =
     ap (λ s. fold after_operation s ops) tied ∙ (sym (fold-append after_operation [] (newest x.front.log).operations ops) ∙ ap store_of (sym last)) in
     (subst (λ (y : BoardValue). IsTied y) (sym e) made, subst (λ (y : BoardValue). ContinuesFrom x.front y.front) (sym e) (goes_after x.front f old ops board before log))

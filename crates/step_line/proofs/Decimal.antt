@@ -7,7 +7,10 @@ use Rattle.isd_as.specs.Reading.{all_digits}
 use Rattle.isd_as.proofs.Digits.{AllDigits-all_digits, without_leading_plus-AllDigits}
 use Rattle.step_line.specs.Fields.{bounded_number_at}
 
-pub number_at-refused : (low high : ℕ) (text : List ℕ) → low < 2 ^ 64 → high < 2 ^ 64 → 0 < length text → all_digits 10 text ≡ true → ¬ (IsNumeral 10 (without_leading_plus text) × (digits_value 10 (without_leading_plus text) < 2 ^ 64)) → bounded_number_at low high text ≡ None
+pub number_at-refused : (low high : ℕ) (text : List ℕ) → low < 2 ^ 64 → high < 2 ^ 64 → 0 < length text
+    → all_digits 10 text ≡ true
+    → ¬ (IsNumeral 10 (without_leading_plus text) × (digits_value 10 (without_leading_plus text) < 2 ^ 64))
+    → bounded_number_at low high text ≡ None
 unfolding bounded_number_at
 number_at-refused low high text small bound some passed refused =
     let all = AllDigits-all_digits 10 text passed in

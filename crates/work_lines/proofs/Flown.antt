@@ -39,5 +39,6 @@ one_more n packets count flights one flight first there is = record {
         subst (λ (p : PacketValue). IsFlightOf n p.sent last) same
         (subst (λ (f : FlightValue). IsFlightOf n one.sent f) end.1 is))
   ];
-  fabric = All-push (λ (f : FlightValue). f.fabric ≡ n) flights flight first.fabric (ap (λ (f : FlightValue). f.fabric) is.1);
+  fabric = All-push (λ (f : FlightValue). f.fabric ≡ n) flights flight first.fabric
+      (ap (λ (f : FlightValue). f.fabric) is.1);
 }

@@ -24,9 +24,12 @@ returns-clause-lines c =
     let topology : network_in line ≡ Ok c.in_ok-network.network =
     subst (λ b. network_in b ≡ Ok c.in_ok-network.network) bytes c.in_ok-network.ensures.value in
     let events = c.events.result.now in
-    let same : c.run.inside.net.network ≡ c.in_ok-network.network = ap (λ v. v.net.network) c.run.view_is ∙ c.in_ok-run.ensures in
+    let same : c.run.inside.net.network ≡ c.in_ok-network.network =
+    ap (λ v. v.net.network) c.run.view_is ∙ c.in_ok-run.ensures in
     let shown = ap (λ v. v.events) c.run.view_is ∙ sym c.events.ensures in
     let front = c.in_ok-push_str.ensures.bytes ∙ ap (λ front. front ++ codes "\n") (c.in_ok-text.ensures.ok ∙ text) in
-    let says = c.in_ok-push_lines.ensures ∙ ap (λ front. front ++ flat_map (λ event. event_line (network_event event)) events) front in
-    are_lines line (string_bytes c.push_lines.new.text) c.in_ok-network.network events c.run.inside.net topology c.known.ensures same
+    let says =
+    c.in_ok-push_lines.ensures ∙ ap (λ front. front ++ flat_map (λ event. event_line (network_event event)) events) front in
+    are_lines line
+    (string_bytes c.push_lines.new.text) c.in_ok-network.network events c.run.inside.net topology c.known.ensures same
     (subst (λ es. IsBeaconing c.run.inside.net.network es c.run.inside.net) shown c.run.invariant) says

@@ -11,7 +11,8 @@ loop-low-preserved-in-Less g c = record {
   range = omega (arith, c.loop-low-test.true);
   within = c.loop-low.invariant.within;
   before = less_upto path_cmp path_total c.args.ordered.now c.args.found.now _ c.index-ordered-middle.result c.requires
-      (let upto = c.loop-low.invariant.within in omega (arith, c.loop-low-test.true)) c.index-ordered-middle.is (sym c.compare.ensures ∙ c.in-Less.is);
+      (let upto = c.loop-low.invariant.within in omega (arith, c.loop-low-test.true)) c.index-ordered-middle.is
+      (sym c.compare.ensures ∙ c.in-Less.is);
   behind = c.loop-low.invariant.behind;
 }
 
@@ -21,10 +22,13 @@ loop-low-preserved g c = record {
   within = (let upto = c.loop-low.invariant.within in omega (arith, c.loop-low-test.true));
   before = c.loop-low.invariant.before;
   behind = greater_from path_cmp path_total c.args.ordered.now c.args.found.now _ c.index-ordered-middle.result c.requires
-      (let upto = c.loop-low.invariant.within in omega (arith, c.loop-low-test.true)) c.index-ordered-middle.is (sym c.compare.ensures ∙ c.in-Greater.is);
+      (let upto = c.loop-low.invariant.within in omega (arith, c.loop-low-test.true)) c.index-ordered-middle.is
+      (sym c.compare.ensures ∙ c.in-Greater.is);
 }
 
 pub returns-in-Equal-clause-tied : goal.returns-in-Equal-clause-tied
 returns-in-Equal-clause-tied g c =
-    tied_at c.args.found.now c.args.ordered.now _ c.index-ordered-middle.result (let upto = c.loop-low.invariant.within in omega (arith, c.loop-low-test.true)) (sym c.index-ordered-middle.is)
+    tied_at c.args.found.now c.args.ordered.now _ c.index-ordered-middle.result
+    (let upto = c.loop-low.invariant.within in omega (arith, c.loop-low-test.true))
+    (sym c.index-ordered-middle.is)
     (tied_back path_total c.index-ordered-middle.result c.args.found.now (sym c.compare.ensures ∙ c.in-Equal.is))

@@ -12,4 +12,5 @@ returns-in-Some-None c =
     c.in-Some-None.ensures c.in-Some-None.ensures' c.len-in-Some-None.ensures.value c.len-last.ensures.value
 
 pub returns-in_default : goal.returns-in_default
-returns-in_default c = lens_of_none c.args.pieces.now c.args.piece.now c.args.further c.len-last.result c.requires.one c.in_default.ensures c.len-last.ensures.value
+returns-in_default c =
+    lens_of_none c.args.pieces.now c.args.piece.now c.args.further c.len-last.result c.requires.one c.in_default.ensures c.len-last.ensures.value

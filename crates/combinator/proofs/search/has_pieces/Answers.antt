@@ -6,4 +6,5 @@ pub returns-clause-same : goal.returns-clause-same
 returns-clause-same g c = λ yes. c.are_same.ensures yes ∙ c.pieces.ensures ∙ c.path-own.ensures.pieces
 
 pub returns-clause-header : goal.returns-clause-header
-returns-clause-header g c = sym c.path-own.ensures.header ∙ c.known.ensures.header ∙ ap header_of c.path-own.ensures.pieces
+returns-clause-header g c =
+    sym c.path-own.ensures.header ∙ c.known.ensures.header ∙ ap header_of c.path-own.ensures.pieces

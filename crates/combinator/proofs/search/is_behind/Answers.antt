@@ -4,5 +4,7 @@ use Rattle.combinator.proofs.search.is_behind.Goals as goal
 
 pub returns-then-kept-limit : goal.returns-then-kept-limit
 returns-then-kept-limit g c = λ yes.
-    are_before c.args.limit c.args.kept.now c.in-Some.last.now (c.args.front.now ++ c.args.piece.now ∷ []) c.args.further c.requires.order c.if-kept-limit.true (sym c.in-Some.ensures.value)
+    are_before c.args.limit c.args.kept.now c.in-Some.last.now
+    (c.args.front.now ++ c.args.piece.now ∷ []) c.args.further c.requires.order c.if-kept-limit.true
+    (sym c.in-Some.ensures.value)
     (c.comes_before.ensures yes)

@@ -11,4 +11,5 @@ loop-entry-preserved c =
     (subst HopFits c.field_of.ensures c.hop_bytes.ensures.fits)
 
 pub returns : goal.returns
-returns c = all_taken (λ (entry : Entry). HopFits (field_of entry)) c.args.entries.now c.loop-entry.entry-index c.loop-entry-test.false c.loop-entry.invariant
+returns c =
+    all_taken (λ (entry : Entry). HopFits (field_of entry)) c.args.entries.now c.loop-entry.entry-index c.loop-entry-test.false c.loop-entry.invariant

@@ -10,4 +10,5 @@ loop-segment-preserved c = record {
 }
 
 pub returns-clause-all : goal.returns-clause-all
-returns-clause-all c = whole_all c.args.segments.now c.loop-segment.segment-index c.loop-segment.usable_pieces.items c.loop-segment-test.false c.loop-segment.invariant.all
+returns-clause-all c =
+    whole_all c.args.segments.now c.loop-segment.segment-index c.loop-segment.usable_pieces.items c.loop-segment-test.false c.loop-segment.invariant.all

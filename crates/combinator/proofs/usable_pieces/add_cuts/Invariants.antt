@@ -9,6 +9,8 @@ use Rattle.combinator.proofs.usable_pieces.add_cuts.Given as goal
 abbrev pub invariant-loop-segment : goal.invariant-loop-segment
 invariant-loop-segment l = record {
   more : AreIn l.initial.usable_pieces.items l.usable_pieces.items;
-  own : (set : Selection) → All (Contains (segments_of set (kind_in Intra l.along))) l.segments → All (IsOf set) l.initial.usable_pieces.items → All (IsOf set) l.usable_pieces.items;
-  all : (piece : PieceValue) → IsCut (take l.segment-index l.segments) l.along l.outer piece → Contains l.usable_pieces.items piece;
+  own : (set : Selection) → All (Contains (segments_of set (kind_in Intra l.along))) l.segments
+      → All (IsOf set) l.initial.usable_pieces.items → All (IsOf set) l.usable_pieces.items;
+  all : (piece : PieceValue) → IsCut (take l.segment-index l.segments) l.along l.outer piece
+      → Contains l.usable_pieces.items piece;
 }

@@ -8,6 +8,7 @@ use Rattle.combinator.proofs.usable_pieces.add_cuts_to.Given as goal
 abbrev pub invariant-loop-from : goal.invariant-loop-from
 invariant-loop-from l = record {
   more : AreIn l.initial.usable_pieces.items l.usable_pieces.items;
-  own : (set : Selection) → Contains (segments_of set (kind_in l.segment.kind l.along)) l.segment → All (IsOf set) l.initial.usable_pieces.items → All (IsOf set) l.usable_pieces.items;
+  own : (set : Selection) → Contains (segments_of set (kind_in l.segment.kind l.along)) l.segment
+      → All (IsOf set) l.initial.usable_pieces.items → All (IsOf set) l.usable_pieces.items;
   all : (from : ℕ) → from < l.from → Contains l.usable_pieces.items (piece_of l.segment from l.to l.along);
 }

@@ -33,7 +33,8 @@ loop-to-preserved-then-ne c =
           below_more (λ (to' : ℕ). (from' : ℕ) → from' < to' → outer_of (piece_of a.segment.now from' to' a.along) ≡ a.outer → Contains c.loop-to.usable_pieces.items (piece_of a.segment.now from' to' a.along)) c.loop-to.to
           (λ to' below' from' less' end. c.loop-to.invariant.all from' to' less' below' end)
           (λ from' less' end. absurd (
-          let is : entry.ia ≡ a.outer = sym (outer_there a.segment.now from' c.loop-to.to entry less' within there a.along) ∙ end in
+          let is : entry.ia ≡ a.outer =
+          sym (outer_there a.segment.now from' c.loop-to.to entry less' within there a.along) ∙ end in
           let clash : false ≡ true = sym (ap not (eq-eqb entry.ia a.outer is)) ∙ sym c.ne.ensures ∙ c.if-ne.true in
           cc))
           to below from less;

@@ -5,4 +5,5 @@ use Rattle.combinator.proofs.usable_pieces.add_whole.Goals as goal
 
 pub returns-clause-own : goal.returns-clause-own
 returns-clause-own c = λ set own all.
-    subst (All (IsOf set)) (sym c.in_ok-push.ensures.items) (All-push (IsOf set) c.args.usable_pieces.now.items c.new.result all (subst (IsOf set) (sym c.new.ensures) own))
+    subst (All (IsOf set)) (sym c.in_ok-push.ensures.items)
+    (All-push (IsOf set) c.args.usable_pieces.now.items c.new.result all (subst (IsOf set) (sym c.new.ensures) own))

@@ -7,11 +7,13 @@ use Rattle.combinator.proofs.usable_pieces.count_to.Goals as goal
 pub returns-clause-below : goal.returns-clause-below
 returns-clause-below c =
     let parted = IsPartitionedBy-leb begins_in c.args.pieces.now c.args.at c.requires in
-    let point = IsPartitionPoint-from_clause (λ piece. leb (begins_in piece) c.args.at) _ _ c.partition_point.ensures.partitioned parted (λ a r q k. search rules) in
+    let point =
+    IsPartitionPoint-from_clause (λ piece. leb (begins_in piece) c.args.at) _ _ c.partition_point.ensures.partitioned parted (λ a r q k. search rules) in
     λ k d low high. leb-true _ _ (point.0 k d low high)
 
 pub returns-clause-rest : goal.returns-clause-rest
 returns-clause-rest c =
     let parted = IsPartitionedBy-leb begins_in c.args.pieces.now c.args.at c.requires in
-    let point = IsPartitionPoint-from_clause (λ piece. leb (begins_in piece) c.args.at) _ _ c.partition_point.ensures.partitioned parted (λ a r q k. search rules) in
+    let point =
+    IsPartitionPoint-from_clause (λ piece. leb (begins_in piece) c.args.at) _ _ c.partition_point.ensures.partitioned parted (λ a r q k. search rules) in
     λ k d low high. leb-false _ _ (point.1 k d low high)

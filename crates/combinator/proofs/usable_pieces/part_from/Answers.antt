@@ -10,7 +10,9 @@ use Rattle.combinator.specs.inner.UsablePieces.{begins_at}
 use Rattle.combinator.proofs.usable_pieces.part_from.Goals as goal
 
 pub count_to-requires : goal.count_to-requires
-count_to-requires c = subst (IsNonDecreasingBy begins_in) (sym c.split_at.ensures.back) (IsNonDecreasingBy-drop begins_in c.count_below.result c.args.pieces.now c.requires)
+count_to-requires c =
+    subst (IsNonDecreasingBy begins_in) (sym c.split_at.ensures.back)
+    (IsNonDecreasingBy-drop begins_in c.count_below.result c.args.pieces.now c.requires)
 
 pub returns : goal.returns
 returns c =
@@ -22,9 +24,12 @@ returns c =
     let back = c.split_at.ensures.back in
     let long = length-drop from pieces in
     let short = ap length back in
-    let upto = part_behind (λ piece. begins_in piece ≤ at) pieces from 0 c.count_to.result (subst (λ rest. AllWithin (λ piece. begins_in piece ≤ at) rest 0 c.count_to.result) back end.below) in
-    let above = part_behind (λ piece. at < begins_in piece) pieces from c.count_to.result (length (drop from pieces)) (subst (λ rest. AllWithin (λ piece. at < begins_in piece) rest c.count_to.result (length rest)) back end.rest) in
-    ap (take c.count_to.result) back ∙ part_is_kept (begins_at at) pieces from c.count_to.result (omega (arith, end.within, start.within))
+    let upto =
+    part_behind (λ piece. begins_in piece ≤ at) pieces from 0 c.count_to.result (subst (λ rest. AllWithin (λ piece. begins_in piece ≤ at) rest 0 c.count_to.result) back end.below) in
+    let above =
+    part_behind (λ piece. at < begins_in piece) pieces from c.count_to.result (length (drop from pieces)) (subst (λ rest. AllWithin (λ piece. at < begins_in piece) rest c.count_to.result (length rest)) back end.rest) in
+    ap (take c.count_to.result) back ∙ part_is_kept (begins_at at) pieces from c.count_to.result
+    (omega (arith, end.within, start.within))
     (λ k d low high. ne_eqb _ _ (λ same. (let less = start.below k d low high in omega (arith, less, same))))
     (λ k d low high. (
     let least = start.rest k d low (omega (arith, end.within, start.within)) in

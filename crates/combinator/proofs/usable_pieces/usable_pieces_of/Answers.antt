@@ -13,7 +13,8 @@ listed list segments same = subst (All (Contains list)) (sym same) (All-contains
 pub returns-clause-own : goal.returns-clause-own
 returns-clause-own g c =
     let set = c.args.ask.now.set in
-    All-permutation (IsOf set) c.add_cores.new.usable_pieces.items c.put_in_order.new.usable_pieces.items c.put_in_order.ensures.same
+    All-permutation
+    (IsOf set) c.add_cores.new.usable_pieces.items c.put_in_order.new.usable_pieces.items c.put_in_order.ensures.same
     (c.in_ok-add_cores.ensures.own set (listed set.cores c.cores.result.now (c.cores.ensures ∙ ap (λ (q : Question). q.set.cores) c.ask.view_is))
     (c.in_ok-add_cuts-2.ensures.own set (listed set.ups c.ups.result.now (c.ups.ensures ∙ ap (λ (q : Question). q.set.ups) c.ask.view_is))
     (c.in_ok-add_cuts.ensures.own set (listed set.downs c.downs.result.now (c.downs.ensures ∙ ap (λ (q : Question). q.set.downs) c.ask.view_is))
@@ -40,4 +41,6 @@ returns-clause-downs g c = λ piece is.
     (subst (λ (dst : _). IsCut c.args.ask.now.set.downs true dst piece) (sym (ap (λ (q : Question). q.dst) c.ask.view_is)) is)))))
 
 pub returns-clause-fields : goal.returns-clause-fields
-returns-clause-fields g c = All-permutation HasFields c.add_cores.new.usable_pieces.items c.put_in_order.new.usable_pieces.items c.put_in_order.ensures.same (subst (All HasFields) c.deref.ensures.value c.know_all.ensures)
+returns-clause-fields g c =
+    All-permutation HasFields c.add_cores.new.usable_pieces.items c.put_in_order.new.usable_pieces.items c.put_in_order.ensures.same
+    (subst (All HasFields) c.deref.ensures.value c.know_all.ensures)

@@ -10,10 +10,12 @@ use Rattle.commands.proofs.words.program.Goals as goal
 
 pub returns : goal.returns
 returns c =
-    let step = ap app_of_fields c.after_long_help-2.ensures ∙ (ap app_of_fields c.about-2.ensures ∙ (c.in_ok-with_turn.ensures.app ∙ ap with_turn c.new-2.ensures.app)) in
+    let step =
+    ap app_of_fields c.after_long_help-2.ensures ∙ (ap app_of_fields c.about-2.ensures ∙ (c.in_ok-with_turn.ensures.app ∙ ap with_turn c.new-2.ensures.app)) in
     let local = ap (λ (f : Command-F Command). f.has_globals) c.after_long_help-2.ensures
     ∙ (ap (λ (f : Command-F Command). f.has_globals) c.about-2.ensures ∙ c.in_ok-with_turn.ensures.local c.new-2.ensures.local) in
-    let work = ap app_of_fields c.after_long_help-3.ensures ∙ (ap app_of_fields c.about-3.ensures ∙ c.in_ok-work_command.ensures.app) in
+    let work =
+    ap app_of_fields c.after_long_help-3.ensures ∙ (ap app_of_fields c.about-3.ensures ∙ c.in_ok-work_command.ensures.app) in
     let work_local = ap (λ (f : Command-F Command). f.has_globals) c.after_long_help-3.ensures
     ∙ (ap (λ (f : Command-F Command). f.has_globals) c.about-3.ensures ∙ c.in_ok-work_command.ensures.local) in
     let bare = ap app_of_fields c.no_binary_name.ensures

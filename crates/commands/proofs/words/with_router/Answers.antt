@@ -15,7 +15,8 @@ returns-clause-app c =
     let first = c.in_ok-arg.ensures.shape c.option.ensures.local ∙ ap₂ with_rule refl ia in
     let second = c.in_ok-arg-2.ensures.shape c.number_option.ensures.local ∙ ap₂ with_rule first router in
     let third = c.in_ok-arg-3.ensures.shape c.option-2.ensures.local ∙ ap₂ with_rule second key in
-    IfOk-weaker c.arg-4.result _ _ (λ r adds. adds.shape c.optional.ensures.local ∙ ap₂ with_rule third previous) c.arg-4.ensures
+    IfOk-weaker c.arg-4.result _ _
+    (λ r adds. adds.shape c.optional.ensures.local ∙ ap₂ with_rule third previous) c.arg-4.ensures
 
 pub returns-clause-local : goal.returns-clause-local
 returns-clause-local c =

@@ -10,7 +10,8 @@ pub returns-clause-app : goal.returns-clause-app
 returns-clause-app c =
     let now : rule_of c.number_option.result ≡ number_rule 4294967295 (codes "now") = c.number_option.ensures.rule in
     let from : rule_of c.option.result ≡ option_rule (codes "from") = c.option.ensures.rule in
-    let first = c.in_ok-arg.ensures.shape c.number_option.ensures.local ∙ ap₂ with_rule c.in_ok-with_router.ensures.app now in
+    let first =
+    c.in_ok-arg.ensures.shape c.number_option.ensures.local ∙ ap₂ with_rule c.in_ok-with_router.ensures.app now in
     let second = c.in_ok-arg-2.ensures.shape c.option.ensures.local ∙ ap₂ with_rule first from in
     IfOk-weaker c.arg-3.result _ _ (λ r adds. adds.shape c.interface_argument.ensures.local
     ∙ ap₂ with_rule second c.interface_argument.ensures.rule) c.arg-3.ensures
@@ -19,4 +20,5 @@ pub returns-clause-local : goal.returns-clause-local
 returns-clause-local c =
     λ given. (let first = still_local _ _ _ (c.in_ok-with_router.ensures.local given) c.number_option.ensures.local c.in_ok-arg.ensures in
     let second = still_local _ _ _ first c.option.ensures.local c.in_ok-arg-2.ensures in
-    IfOk-weaker c.arg-3.result _ _ (λ r adds. still_local _ r _ second c.interface_argument.ensures.local adds) c.arg-3.ensures)
+    IfOk-weaker c.arg-3.result _ _
+    (λ r adds. still_local _ r _ second c.interface_argument.ensures.local adds) c.arg-3.ensures)

@@ -12,7 +12,8 @@ returns-then-is_done-clause-told g c =
 pub returns-in_err-write_replies-clause-told : goal.returns-in_err-write_replies-clause-told
 returns-in_err-write_replies-clause-told g c =
     let p = err_from_is_err_and c.from_residual.result c.from_residual.ensures.1 in
-    rw (p.1, p.2) (finish_failed c.args.accepted c.answer-heard.result c.in_err-write_replies.field-0.0 (session_value c.args.session.now)
+    rw (p.1, p.2)
+    (finish_failed c.args.accepted c.answer-heard.result c.in_err-write_replies.field-0.0 (session_value c.args.session.now)
     (session_value c.answer-heard.new.self) (session_value c.write_replies.new.session) c.answer-heard.new.self.net _
     (g.K.Sink.held c.args.sink.now) (g.K.Sink.held c.write_replies.new.sink)
     c.requires (c.is_done.ensures.more c.if-is_done.false) c.answer-heard.ensures.told c.in_err-write_replies.ensures.written)

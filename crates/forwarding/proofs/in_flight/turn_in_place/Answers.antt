@@ -11,5 +11,6 @@ returns-in-AtRouter-clause-packet c =
     let a = c.args in
     let old = packet_with a.bytes.now a.place.now a.passed.now.items in
     let stop = c.in-AtRouter.stop in
-    packet_stepped a.topology.now old stop (packet_step a.view.now a.now stop.arrival old.bytes) c.step-stepped.result _ c.step-stepped.new.packet _ _ c.step-stepped.ensures.exact c.answer.ensures.went c.answer.ensures.refused
+    packet_stepped a.topology.now old stop
+    (packet_step a.view.now a.now stop.arrival old.bytes) c.step-stepped.result _ c.step-stepped.new.packet _ _ c.step-stepped.ensures.exact c.answer.ensures.went c.answer.ensures.refused
     ∙ sym (ap (λ place. (at_place a.topology.now a.view.now a.now old place).1) c.in-AtRouter.is)

@@ -7,5 +7,6 @@ loop-warning-init c = none_yet c.args.number (string_bytes c.args.text.now)
 
 pub loop-warning-preserved : goal.loop-warning-preserved
 loop-warning-preserved c =
-    one_more c.args.number (string_bytes c.args.text.now) (string_bytes c.loop-warning.text) (string_bytes c.push_warning.new.text)
+    one_more c.args.number (string_bytes c.args.text.now) (string_bytes c.loop-warning.text)
+    (string_bytes c.push_warning.new.text)
     c.loop-warning.invariant c.in_ok-push_warning.ensures

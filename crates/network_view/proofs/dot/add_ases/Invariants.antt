@@ -6,4 +6,5 @@ use Rattle.network_view.specs.Dot.{as_text}
 use Rattle.network_view.proofs.dot.add_ases.Given as goal
 
 abbrev pub invariant-loop-one : goal.invariant-loop-one
-invariant-loop-one l = string_bytes l.text ≡ string_bytes l.initial.text ++ flat_map (as_text l.detailed l.at) (take l.one-index l.ases)
+invariant-loop-one l =
+    string_bytes l.text ≡ string_bytes l.initial.text ++ flat_map (as_text l.detailed l.at) (take l.one-index l.ases)

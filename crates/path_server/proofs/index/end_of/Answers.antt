@@ -9,14 +9,18 @@ use Rattle.path_server.proofs.index.end_of.Goals as goal
 
 pub returns-clause-below : goal.returns-clause-below
 returns-clause-below c =
-    let rises = ranks_rise c.args.segments.now c.args.index.now (All-from_get_or (λ place. place < 2 ^ 64) _ 0 (λ i within. omega (arith, c.type_inv.index i))) c.requires in
+    let rises =
+    ranks_rise c.args.segments.now c.args.index.now (All-from_get_or (λ place. place < 2 ^ 64) _ 0 (λ i within. omega (arith, c.type_inv.index i))) c.requires in
     let parted = no_higher_first c.args.segments.now _ (ends_number c.args.ends) rises in
-    let point = IsPartitionPoint-from_clause (λ place. not (ltb (ends_number c.args.ends) (rank_at c.args.segments.now place))) _ _ c.partition_point.ensures.partitioned parted (λ a r q k. search rules) in
+    let point =
+    IsPartitionPoint-from_clause (λ place. not (ltb (ends_number c.args.ends) (rank_at c.args.segments.now place))) _ _ c.partition_point.ensures.partitioned parted (λ a r q k. search rules) in
     λ k d low high. ltb-false _ _ (not-true _ (point.0 k d low high))
 
 pub returns-clause-rest : goal.returns-clause-rest
 returns-clause-rest c =
-    let rises = ranks_rise c.args.segments.now c.args.index.now (All-from_get_or (λ place. place < 2 ^ 64) _ 0 (λ i within. omega (arith, c.type_inv.index i))) c.requires in
+    let rises =
+    ranks_rise c.args.segments.now c.args.index.now (All-from_get_or (λ place. place < 2 ^ 64) _ 0 (λ i within. omega (arith, c.type_inv.index i))) c.requires in
     let parted = no_higher_first c.args.segments.now _ (ends_number c.args.ends) rises in
-    let point = IsPartitionPoint-from_clause (λ place. not (ltb (ends_number c.args.ends) (rank_at c.args.segments.now place))) _ _ c.partition_point.ensures.partitioned parted (λ a r q k. search rules) in
+    let point =
+    IsPartitionPoint-from_clause (λ place. not (ltb (ends_number c.args.ends) (rank_at c.args.segments.now place))) _ _ c.partition_point.ensures.partitioned parted (λ a r q k. search rules) in
     λ k d low high. ltb-true _ _ (not-false _ (point.1 k d low high))

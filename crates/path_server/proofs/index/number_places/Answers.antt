@@ -6,4 +6,6 @@ use Rattle.path_server.proofs.index.number_places.Goals as goal
 pub returns : goal.returns
 returns c =
     let kept = c.loop-place.invariant in
-    numbered_is c.loop-place.index (λ k within. kept.numbered k (omega (arith, c.loop-place-test.false, c.loop-place.auto.place-end, kept.long))) ∙ ap (range_with_len 0) kept.long
+    numbered_is c.loop-place.index
+    (λ k within. kept.numbered k (omega (arith, c.loop-place-test.false, c.loop-place.auto.place-end, kept.long))) ∙ ap
+    (range_with_len 0) kept.long

@@ -11,7 +11,8 @@ use Rattle.path_server.proofs.index.range.Goals as goal
 
 pub end_near-requires : goal.end_near-requires
 end_near-requires c =
-    subst (IsNonDecreasingBy (order_at c.args.segments.now)) (sym c.split_at.ensures.back) (IsNonDecreasingBy-drop (order_at c.args.segments.now) c.start_of.result c.args.index.now c.requires)
+    subst (IsNonDecreasingBy (order_at c.args.segments.now)) (sym c.split_at.ensures.back)
+    (IsNonDecreasingBy-drop (order_at c.args.segments.now) c.start_of.result c.args.index.now c.requires)
 
 pub returns-clause-part : goal.returns-clause-part
 returns-clause-part c =
@@ -23,9 +24,13 @@ returns-clause-part c =
     let back = c.split_at.ensures.back in
     let long = length-drop from index in
     let short = ap length back in
-    let below = part_behind (λ place. ranks place ≤ ends_number c.args.high) index from 0 c.end_near.result (subst (λ rest. AllWithin (λ place. ranks place ≤ ends_number c.args.high) rest 0 c.end_near.result) back end.below) in
-    let above = part_behind (λ place. ends_number c.args.high < ranks place) index from c.end_near.result (length (drop from index)) (subst (λ rest. AllWithin (λ place. ends_number c.args.high < ranks place) rest c.end_near.result (length rest)) back end.rest) in
-    ap (take c.end_near.result) back ∙ part_is_kept (lies_between c.args.segments.now (ends_number c.args.low) (ends_number c.args.high)) index from c.end_near.result (omega (arith, end.within, start.within))
+    let below =
+    part_behind (λ place. ranks place ≤ ends_number c.args.high) index from 0 c.end_near.result (subst (λ rest. AllWithin (λ place. ranks place ≤ ends_number c.args.high) rest 0 c.end_near.result) back end.below) in
+    let above =
+    part_behind (λ place. ends_number c.args.high < ranks place) index from c.end_near.result (length (drop from index)) (subst (λ rest. AllWithin (λ place. ends_number c.args.high < ranks place) rest c.end_near.result (length rest)) back end.rest) in
+    ap (take c.end_near.result) back ∙ part_is_kept
+    (lies_between c.args.segments.now (ends_number c.args.low) (ends_number c.args.high)) index from c.end_near.result
+    (omega (arith, end.within, start.within))
     (λ k d low high. and_left _ _ (lt-leb _ _ (start.below k d low high)))
     (λ k d low high. and_from _ _ (le-leb _ _ (start.rest k d low (omega (arith, end.within, start.within)))) (le-leb _ _ (below k d (omega arith) high)))
     (λ k d low high. and_right _ _ (lt-leb _ _ (above k d low (omega (arith, start.within)))))
@@ -34,4 +39,5 @@ pub returns-clause-ordered : goal.returns-clause-ordered
 returns-clause-ordered c =
     let order = order_at c.args.segments.now in
     let rest = IsNonDecreasingBy-drop order c.start_of.result c.args.index.now c.requires in
-    IsNonDecreasingBy-take order c.end_near.result _ (subst (IsNonDecreasingBy order) (sym c.split_at.ensures.back) rest)
+    IsNonDecreasingBy-take order c.end_near.result _
+    (subst (IsNonDecreasingBy order) (sym c.split_at.ensures.back) rest)

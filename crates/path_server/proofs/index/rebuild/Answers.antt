@@ -13,8 +13,10 @@ returns-clause-each c = λ test. (
     let cut = c.truncate.ensures.len in
     let left : length c.deref_mut.result.now ≡ length c.args.segments.now = omega (arith, c.requires) in
     sum_by-IsPermutation (λ place. cond (test place) 1 0) _ _ c.sort_unstable_by.ensures.permutation
-    ∙ ap (count_by test) (take_at c.number_places.new.index _ c.truncate.new.self.len (omega arith) ∙ c.number_places.ensures ∙ ap (range_with_len 0) left))
+    ∙ ap (count_by test)
+    (take_at c.number_places.new.index _ c.truncate.new.self.len (omega arith) ∙ c.number_places.ensures ∙ ap (range_with_len 0) left))
 
 pub returns-clause-ordered : goal.returns-clause-ordered
 returns-clause-ordered c =
-    IsNonDecreasingBy-from_sort_by (order_at c.args.segments.now) _ c.sort_unstable_by.ensures.sorted (λ a r q k. search rules)
+    IsNonDecreasingBy-from_sort_by (order_at c.args.segments.now) _ c.sort_unstable_by.ensures.sorted
+    (λ a r q k. search rules)

@@ -26,4 +26,5 @@ loop-last-preserved c =
     ∙ ap (λ found. c.loop-last.places.items ++ found) (all_ending_first segments index c.args.now last firsts small)
     ∙ ap (λ items. items ++ all last) c.loop-last.invariant
     ∙ flat_map_more all c.args.places.now.items (take c.loop-last.last-index lasts) last
-    ∙ ap (λ front. c.args.places.now.items ++ flat_map all front) (sym (take_at_read lasts c.loop-last.last-index 0 c.loop-last-test.true).1)
+    ∙ ap (λ front. c.args.places.now.items ++ flat_map all front)
+    (sym (take_at_read lasts c.loop-last.last-index 0 c.loop-last-test.true).1)

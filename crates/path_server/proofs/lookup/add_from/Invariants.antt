@@ -5,4 +5,6 @@ use Rattle.path_server.specs.inner.Index.{core_places}
 use Rattle.path_server.proofs.lookup.add_from.Given as goal
 
 abbrev pub invariant-loop-first : goal.invariant-loop-first
-invariant-loop-first l = l.places.items ≡ l.fn.places.items ++ flat_map (core_places l.segments l.some l.now l.last) (take l.first-index l.firsts)
+invariant-loop-first l =
+    l.places.items ≡ l.fn.places.items ++ flat_map (core_places l.segments l.some l.now l.last)
+    (take l.first-index l.firsts)

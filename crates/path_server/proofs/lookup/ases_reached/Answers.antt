@@ -15,5 +15,6 @@ returns c = λ other. (
     ∙ any-dedup (nat_eq other) _
     ∙ sym (list_any-IsPermutation (nat_eq other) _ _ c.sort_unstable.ensures.permutation)
     ∙ c.loop-segment.invariant other
-    ∙ ap (λ front. is_in (c.args.ia ∷ map first_as front) other) (take_all c.loop-segment.segment-index segments (omega (arith, c.loop-segment-test.false)))
+    ∙ ap (λ front. is_in (c.args.ia ∷ map first_as front) other)
+    (take_all c.loop-segment.segment-index segments (omega (arith, c.loop-segment-test.false)))
     ∙ reached_is c.args.ia segments other)

@@ -16,7 +16,8 @@ loop-place-preserved c =
     elim c.match-get.branch [
       | in-Some+in_ok-try_clone+in_ok-push w ↦ (
           let look = w.in-Some.ensures.lookup in
-          let there = slice_get-get_or segments place w.in-Some.segment.now (ltb-true _ _ (sym look.0)) ∙ ap (λ s. Some s) (sym look.1) in
+          let there =
+          slice_get-get_or segments place w.in-Some.segment.now (ltb-true _ _ (sym look.0)) ∙ ap (λ s. Some s) (sym look.1) in
           ap (λ v. v.items) w.copies-is ∙ w.in_ok-push.ensures.items
           ∙ ap (λ items. items ++ w.in_ok-try_clone.field-0 ∷ []) c.loop-place.invariant
           ∙ ap (λ s. before ++ s ∷ []) w.in_ok-try_clone.ensures

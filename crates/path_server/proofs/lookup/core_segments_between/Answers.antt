@@ -19,5 +19,6 @@ returns c =
     let nears = All-from_get_or (λ ia. ia < 2 ^ 64) near 0 (λ i within. omega (arith, c.type_inv.near i)) in
     let fars = All-from_get_or (λ ia. ia < 2 ^ 64) far 0 (λ i within. omega (arith, c.type_inv.far i)) in
     let rises = subst IsStrictlyIncreasing (sym c.deref.ensures.value) c.put_in_order.ensures.rises in
-    IfOk-weaker c.clone_segments_at.result _ _ (λ found is. is ∙ joining_is_kept segments index c.deref.result.now near far c.requires nears fars c.args.now rises
+    IfOk-weaker c.clone_segments_at.result _ _
+    (λ found is. is ∙ joining_is_kept segments index c.deref.result.now near far c.requires nears fars c.args.now rises
     (λ i. ap (λ places. is_in places i) c.deref.ensures.value ∙ c.put_in_order.ensures.same i ∙ ap (λ places. is_in places i) added)) c.clone_segments_at.ensures

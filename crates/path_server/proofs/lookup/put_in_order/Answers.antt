@@ -10,7 +10,8 @@ use Rattle.path_server.proofs.lookup.put_in_order.Goals as goal
 
 pub returns-then-not-is_sorted_by-clause-rises : goal.returns-then-not-is_sorted_by-clause-rises
 returns-then-not-is_sorted_by-clause-rises c =
-    subst IsStrictlyIncreasing (sym (dedup_is nat_eq _ _ c.dedup.ensures.filtered)) (IsStrictlyIncreasing-dedup _ c.sort_unstable.ensures.sorted)
+    subst IsStrictlyIncreasing (sym (dedup_is nat_eq _ _ c.dedup.ensures.filtered))
+    (IsStrictlyIncreasing-dedup _ c.sort_unstable.ensures.sorted)
 
 pub returns-then-not-is_sorted_by-clause-same : goal.returns-then-not-is_sorted_by-clause-same
 returns-then-not-is_sorted_by-clause-same c = λ place. (

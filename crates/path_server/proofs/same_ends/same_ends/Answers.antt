@@ -13,13 +13,16 @@ returns-clause-count c =
     let segments = c.args.segments.now in
     let segment = c.args.segment.now in
     ap length (c.range.ensures.part ∙ ap (λ n. filter (lies_between segments n n) c.args.index.now) c.of-ends.ensures.number)
-    ∙ count_alike segments c.args.index.now c.requires.each _ (is_alike segment) (lies_alike segments c.requires.addresses segment c.of-ends.ensures.addresses)
+    ∙ count_alike segments c.args.index.now c.requires.each _ (is_alike segment)
+    (lies_alike segments c.requires.addresses segment c.of-ends.ensures.addresses)
 
 pub returns-clause-same : goal.returns-clause-same
 returns-clause-same c =
     let segments = c.args.segments.now in
     let segment = c.args.segment.now in
     let same = passes_at (is_same segment) segments in
-    ap (list_any same) (c.range.ensures.part ∙ ap (λ n. filter (lies_between segments n n) c.args.index.now) c.of-ends.ensures.number)
+    ap (list_any same)
+    (c.range.ensures.part ∙ ap (λ n. filter (lies_between segments n n) c.args.index.now) c.of-ends.ensures.number)
     ∙ any_filter _ same c.args.index.now
-    ∙ found_alike segments c.args.index.now c.requires.each _ (is_same segment) (lies_same segments c.requires.addresses segment c.of-ends.ensures.addresses)
+    ∙ found_alike segments c.args.index.now c.requires.each _ (is_same segment)
+    (lies_same segments c.requires.addresses segment c.of-ends.ensures.addresses)

@@ -8,10 +8,13 @@ use Rattle.path_verifier.proofs.header.push_fields.Goals as goal
 pub loop-place-preserved : goal.loop-place-preserved
 loop-place-preserved c =
     let fields = fields_of c.args.piece.now in
-    let there = field_there c.args.piece.now c.loop-place.place c.entry.result.now c.field_of.result c.entry.ensures c.field_of.ensures in
-    let longer : length c.push.new.self.items ≡ length c.loop-place.fields.items + 1 = rw c.push.ensures.items (length_push c.loop-place.fields.items c.field_of.result) in
+    let there =
+    field_there c.args.piece.now c.loop-place.place c.entry.result.now c.field_of.result c.entry.ensures c.field_of.ensures in
+    let longer : length c.push.new.self.items ≡ length c.loop-place.fields.items + 1 =
+    rw c.push.ensures.items (length_push c.loop-place.fields.items c.field_of.result) in
     record {
-      told = rw c.push.ensures.items (one_more c.loop-place.fields.items fields c.loop-place.place c.field_of.result there ∙ c.loop-place.invariant.told);
+      told = rw c.push.ensures.items
+          (one_more c.loop-place.fields.items fields c.loop-place.place c.field_of.result there ∙ c.loop-place.invariant.told);
       count = omega (arith, c.loop-place.invariant.count, longer);
     }
 

@@ -25,7 +25,9 @@ returns-else-is_live c = rw c.in-Two.is
 pub returns-then-is_live-3 : goal.returns-then-is_live-3
 returns-then-is_live-3 c = rw c.in-Three.is (elim c.if-is_live-2.branch [
   | then-is_live-2 w ↦ (let second : w.is_live-then-is_live-2.result ≡ true = cc in
-      later_of_all (Lives c.args.now) c.is_live-in-Three.result c.is_live-then-is_live-3.result c.in-Three.first (c.in-Three.second ∷ c.in-Three.third ∷ []) c.is_live-in-Three.ensures w.if-is_live-2.true
+      later_of_all
+      (Lives c.args.now) c.is_live-in-Three.result c.is_live-then-is_live-3.result c.in-Three.first
+      (c.in-Three.second ∷ c.in-Three.third ∷ []) c.is_live-in-Three.ensures w.if-is_live-2.true
       (later_of_all (Lives c.args.now) w.is_live-then-is_live-2.result c.is_live-then-is_live-3.result c.in-Three.second (c.in-Three.third ∷ []) w.is_live-then-is_live-2.ensures second
       (last_of_all (Lives c.args.now) c.is_live-then-is_live-3.result c.in-Three.third c.is_live-then-is_live-3.ensures)))
   | else-is_live-2 w ↦ absurd cc
@@ -34,7 +36,10 @@ returns-then-is_live-3 c = rw c.in-Three.is (elim c.if-is_live-2.branch [
 pub returns-else-is_live-3 : goal.returns-else-is_live-3
 returns-else-is_live-3 c = rw c.in-Three.is (elim c.if-is_live-2.branch [
   | then-is_live-2 w ↦ (let second : w.is_live-then-is_live-2.result ≡ false = cc in
-      later_of_all (Lives c.args.now) c.is_live-in-Three.result c.if-is_live-2.value c.in-Three.first (c.in-Three.second ∷ c.in-Three.third ∷ []) c.is_live-in-Three.ensures w.if-is_live-2.true
+      later_of_all (Lives c.args.now) c.is_live-in-Three.result c.if-is_live-2.value c.in-Three.first
+      (c.in-Three.second ∷ c.in-Three.third ∷ []) c.is_live-in-Three.ensures w.if-is_live-2.true
       (first_fails (Lives c.args.now) w.is_live-then-is_live-2.result c.if-is_live-2.value c.in-Three.second (c.in-Three.third ∷ []) w.is_live-then-is_live-2.ensures second c.if-is_live-3.false))
-  | else-is_live-2 w ↦ first_fails (Lives c.args.now) c.is_live-in-Three.result c.if-is_live-2.value c.in-Three.first (c.in-Three.second ∷ c.in-Three.third ∷ []) c.is_live-in-Three.ensures w.if-is_live-2.false c.if-is_live-3.false
+  | else-is_live-2 w ↦ first_fails
+      (Lives c.args.now) c.is_live-in-Three.result c.if-is_live-2.value c.in-Three.first
+      (c.in-Three.second ∷ c.in-Three.third ∷ []) c.is_live-in-Three.ensures w.if-is_live-2.false c.if-is_live-3.false
 ])

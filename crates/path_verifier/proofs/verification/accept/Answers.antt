@@ -10,7 +10,8 @@ pub returns-in_err-follow_pieces-clause-only : goal.returns-in_err-follow_pieces
 returns-in_err-follow_pieces-clause-only g c = λ accepted. absurd (
     let header = header_of c.args.pieces.now in
     let request = request_of c.args.pieces.now header c.args.src c.args.dst c.args.now c.args.policy.now in
-    let refused = subst (λ pieces. IsRefused (request_of pieces header c.args.src c.args.dst c.args.now c.args.policy.now) c.in_err-follow_pieces.field-0.0)
+    let refused =
+    subst (λ pieces. IsRefused (request_of pieces header c.args.src c.args.dst c.args.now c.args.policy.now) c.in_err-follow_pieces.field-0.0)
     c.pieces.view_is (c.in_err-follow_pieces.ensures.fault header c.args.policy.now) in
     refused_is_not_accepted request c.in_err-follow_pieces.field-0.0 refused accepted)
 
@@ -24,8 +25,12 @@ returns-in_err-follow_pieces-clause-exact g c =
 
 pub returns-in_err-check_policy-clause-exact : goal.returns-in_err-check_policy-clause-exact
 returns-in_err-check_policy-clause-exact g c =
-    let p = err_from_is_err_and c.from_residual-in_err-check_policy.result c.from_residual-in_err-check_policy.ensures.1 in
-    let request = request_of c.args.pieces.now (header_of c.args.pieces.now) c.args.src c.args.dst c.args.now c.args.policy.now in
-    let walk : c.as_slice.result.now ≡ walk_of c.args.pieces.now = c.as_slice.ensures.value ∙ c.in_ok-follow_pieces.ensures.walk ∙ ap walk_of c.pieces.view_is in
-    let path = subst (λ pieces. MakesPath pieces c.args.src c.args.dst c.args.now) c.pieces.view_is c.in_ok-follow_pieces.ensures.path in
+    let p =
+    err_from_is_err_and c.from_residual-in_err-check_policy.result c.from_residual-in_err-check_policy.ensures.1 in
+    let request =
+    request_of c.args.pieces.now (header_of c.args.pieces.now) c.args.src c.args.dst c.args.now c.args.policy.now in
+    let walk : c.as_slice.result.now ≡ walk_of c.args.pieces.now =
+    c.as_slice.ensures.value ∙ c.in_ok-follow_pieces.ensures.walk ∙ ap walk_of c.pieces.view_is in
+    let path =
+    subst (λ pieces. MakesPath pieces c.args.src c.args.dst c.args.now) c.pieces.view_is c.in_ok-follow_pieces.ensures.path in
     rw (p.1, p.2) (c.in_err-check_policy.ensures.exact request walk refl (header_keeps request path refl))

@@ -16,7 +16,8 @@ invariant_of-push g c =
     let kept = c.loop-receiver.invariant in
     let gives = c.into_iter-receiver-iterator.ensures.into_iter_gives in
     let list = YieldsList-from_vec c.args.receivers.items gives.0 (gives.1 ∙ c.args.receivers.ok.0) in
-    let turn = YieldsList-turn list c.loop-receiver.yielded c.loop-receiver.receiver-iterator c.loop-receiver.yielded_by c.next.result c.next.new.self c.in-Some.receiver c.in-Some.is c.next.ensures.steps in
+    let turn =
+    YieldsList-turn list c.loop-receiver.yielded c.loop-receiver.receiver-iterator c.loop-receiver.yielded_by c.next.result c.next.new.self c.in-Some.receiver c.in-Some.is c.next.ensures.steps in
     let there = inbox_at c.args.receivers.items (length c.loop-receiver.yielded) c.in-Some.receiver
     (slice_get-get_or c.args.receivers.items (length c.loop-receiver.yielded) c.in-Some.receiver turn.0
     ∙ ap (λ w. Some w) (sym turn.1)) in
@@ -55,7 +56,8 @@ returns g c =
     let kept = c.loop-receiver.invariant in
     let gives = c.into_iter-receiver-iterator.ensures.into_iter_gives in
     let list = YieldsList-from_vec c.args.receivers.items gives.0 (gives.1 ∙ c.args.receivers.ok.0) in
-    let end = YieldsList-end list c.loop-receiver.yielded c.loop-receiver.receiver-iterator c.loop-receiver.yielded_by c.next.result c.next.new.self c.in-None.is c.next.ensures.steps in
+    let end =
+    YieldsList-end list c.loop-receiver.yielded c.loop-receiver.receiver-iterator c.loop-receiver.yielded_by c.next.result c.next.new.self c.in-None.is c.next.ensures.steps in
     let count = as_long c.args.receivers.items c.args.first_senders.items c.requires.own
     ∙ as_many g.J.RunFacts.workers g.J.RunFacts.slots c.args.first_senders.items c.requires.inboxes in
     kept.1.1 ∙ ap (λ (k : ℕ). range_with_len 0 k) (end.1 ∙ count)

@@ -12,4 +12,5 @@ loop-packet-preserved c =
     let i = c.loop-packet.packet-index in
     let x = slice_index_or c.loop-packet.packets i none in
     let below : i < length c.loop-packet.packets = omega arith in
-    rw (c.step_one.ensures) (map_over_more (packet_after c.args.view.now c.args.now) c.args.packets.now c.loop-packet.packets i x c.loop-packet-test.true c.loop-packet.invariant (get_or_default c.loop-packet.packets i none x below))
+    rw (c.step_one.ensures)
+    (map_over_more (packet_after c.args.view.now c.args.now) c.args.packets.now c.loop-packet.packets i x c.loop-packet-test.true c.loop-packet.invariant (get_or_default c.loop-packet.packets i none x below))

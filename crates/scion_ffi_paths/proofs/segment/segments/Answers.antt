@@ -6,7 +6,8 @@ use Rattle.scion_ffi_paths.proofs.segment.segments.Goals as goal
 
 pub returns-in_err-segment : goal.returns-in_err-segment
 returns-in_err-segment c =
-    stops (λ v. v.items) (λ s. s) segment_asked (list_items c.args.values) (list_items c.loop-value.left) (list_items c.in-Some.later)
+    stops (λ v. v.items) (λ s. s) segment_asked (list_items c.args.values) (list_items c.loop-value.left)
+    (list_items c.in-Some.later)
     (node_data c.in-Some.value) c.loop-value.segments.items
     c.in_err-segment.field-0.0 c.from_residual.result c.in-Some.ensures c.in_err-segment.ensures
     c.loop-value.invariant (search rules)
@@ -19,4 +20,5 @@ loop-value-preserved c =
 
 pub returns : goal.returns
 returns c =
-    read_all segment_asked (list_items c.args.values) (list_items c.loop-value.left) c.loop-value.segments.items c.in_default.ensures c.loop-value.invariant
+    read_all segment_asked (list_items c.args.values)
+    (list_items c.loop-value.left) c.loop-value.segments.items c.in_default.ensures c.loop-value.invariant

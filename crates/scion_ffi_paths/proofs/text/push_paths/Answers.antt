@@ -2,7 +2,8 @@ use Rattle.scion_ffi_paths.proofs.Ranges.{first_has, later_has}
 use Rattle.scion_ffi_paths.proofs.text.push_paths.Goals as goal
 
 pub path-requires : goal.path-requires
-path-requires c = first_has c.args.paths.now c.in-Some.first.now c.in-Some.later.now c.in-Some.ensures.cases.0 c.requires
+path-requires c =
+    first_has c.args.paths.now c.in-Some.first.now c.in-Some.later.now c.in-Some.ensures.cases.0 c.requires
 
 pub path-requires-in-loop-one : goal.path-requires-in-loop-one
 path-requires-in-loop-one c =

@@ -12,7 +12,8 @@ use Rattle.work_lines.proofs.flights.flights_of.Goals as goal
 
 pub flight_of-requires : goal.flight_of-requires
 flight_of-requires c =
-    let there = slice_get_read c.packets-packets.result.now _ c.loop-packet.packet-index c.packet-item.result refl c.loop-packet-test.true c.packet-item.is in
+    let there =
+    slice_get_read c.packets-packets.result.now _ c.loop-packet.packet-index c.packet-item.result refl c.loop-packet-test.true c.packet-item.is in
     let net = c.args.net.now in
     let may = c.requires c.loop-packet.packet-index c.packet-item.result
     (ap (λ ps. slice_get ps c.loop-packet.packet-index) (sym c.packets-packets.ensures) ∙ there) in
@@ -22,10 +23,12 @@ flight_of-requires c =
 pub loop-packet-preserved : goal.loop-packet-preserved
 loop-packet-preserved c =
     let flight = c.in_ok-flight_of.field-0 in
-    let there = slice_get_read c.packets-packets.result.now _ c.loop-packet.packet-index c.packet-item.result refl c.loop-packet-test.true c.packet-item.is in
+    let there =
+    slice_get_read c.packets-packets.result.now _ c.loop-packet.packet-index c.packet-item.result refl c.loop-packet-test.true c.packet-item.is in
     let is = subst (λ (n : Network). IsFlightOf n c.packet-item.result.sent flight) c.topology.ensures
     (subst (λ (s : Shipment). IsFlightOf c.topology.result.now s flight) c.sent.ensures c.in_ok-flight_of.ensures) in
-    subst (AreFirst c.args.net.now.network c.packets-packets.result.now (c.loop-packet.packet-index + 1)) (sym {A = List FlightValue} c.in_ok-push.ensures.items)
+    subst (AreFirst c.args.net.now.network c.packets-packets.result.now (c.loop-packet.packet-index + 1))
+    (sym {A = List FlightValue} c.in_ok-push.ensures.items)
     (one_more c.args.net.now.network c.packets-packets.result.now c.loop-packet.packet-index c.loop-packet.flights.items
     c.packet-item.result flight c.loop-packet.invariant there is)
 

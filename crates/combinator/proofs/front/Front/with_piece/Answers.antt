@@ -7,7 +7,8 @@ use Rattle.combinator.proofs.front.Front.with_piece.Goals as goal
 pub with_info-infos-requires : goal.with_info-infos-requires
 with_info-infos-requires c =
     let long : length c.self.inside.pieces ≡ length c.args.self.now = ap length c.self.view_is in
-    infos_fit c.self.inside.pieces c.args.piece.now c.deref.result.now c.info.result.now (c.deref.ensures.0 ∙ c.self.invariant.1) c.info.ensures (omega (arith, long, c.requires))
+    infos_fit c.self.inside.pieces c.args.piece.now c.deref.result.now c.info.result.now
+    (c.deref.ensures.0 ∙ c.self.invariant.1) c.info.ensures (omega (arith, long, c.requires))
 
 pub returns : goal.returns
 returns c =

@@ -24,15 +24,18 @@ pub returns : goal.returns
 returns g c = λ yes.
     let one = c.args.self.now in
     let parts = c.self.inside.parts.value in
-    let own : one.header ≡ header_of one.pieces = sym c.path-path.ensures.header ∙ c.known.ensures.header ∙ ap header_of c.path-path.ensures.pieces in
+    let own : one.header ≡ header_of one.pieces =
+    sym c.path-path.ensures.header ∙ c.known.ensures.header ∙ ap header_of c.path-path.ensures.pieces in
     let equal = c.if-mine-least.false in
     let mine = c.hop_count-mine.ensures in
     let hops = c.hop_count.ensures.value in
     let count = c.len.ensures.value in
     let infos = c.infos.ensures ∙ ap infos_of (sym c.pieces-pieces.ensures.value) in
-    let lens = sym (c.seg_lens.ensures ∙ ap (λ (h : HeaderValue). h.lens) (c.header.ensures ∙ c.path-path.ensures.header)) ∙ c.is_same.ensures c.if-not-is_same.false ∙ c.lens_with.ensures in
+    let lens =
+    sym (c.seg_lens.ensures ∙ ap (λ (h : HeaderValue). h.lens) (c.header.ensures ∙ c.path-path.ensures.header)) ∙ c.is_same.ensures c.if-not-is_same.false ∙ c.lens_with.ensures in
     let bytes : c.deref-2.result.now ≡ parts.bytes.items = cc (c.deref-2.ensures.value, c.deref.ensures) in
-    let spelled = subst (λ (path : PathValue). SpellsHeader parts.bytes.items path.header) c.self.view_is c.self.invariant.1 in
+    let spelled =
+    subst (λ (path : PathValue). SpellsHeader parts.bytes.items path.header) c.self.view_is c.self.invariant.1 in
     subst (λ (pieces : List PieceValue). ComesBefore one (pieces ++ c.args.piece.now ∷ []) c.args.further) c.pieces-pieces.ensures.value
     (before_by_bytes one c.pieces-pieces.result.now c.args.piece.now c.args.further c.infos.result.now c.info.result.now parts.bytes.items infos c.info.ensures own
     (omega (arith, equal, mine, hops, count)) lens spelled

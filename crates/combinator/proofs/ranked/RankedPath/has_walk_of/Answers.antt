@@ -10,7 +10,8 @@ pub returns-in-Equal-clause-same : goal.returns-in-Equal-clause-same
 returns-in-Equal-clause-same g c = λ _.
     let tie = same_walk c.walk.result.now c.walk-2.result.now (sym c.compare_walks.ensures ∙ c.in-Equal.is) in
     sym c.walk-2.ensures.value ∙ sym tie ∙ c.walk.ensures.value
-    ∙ ap (λ (parts : _). walk_of parts.path.pieces) c.deref.ensures ∙ ap (λ (path : PathValue). walk_of path.pieces) c.self.view_is
+    ∙ ap (λ (parts : _). walk_of parts.path.pieces) c.deref.ensures ∙ ap
+    (λ (path : PathValue). walk_of path.pieces) c.self.view_is
 
 pub returns-in_default : goal.returns-in_default
 returns-in_default g c = record {
@@ -18,5 +19,6 @@ returns-in_default g c = record {
   other = λ _ same.
       let walks : c.walk.result.now ≡ c.walk-2.result.now =
       c.walk.ensures.value ∙ ap (λ (parts : _). walk_of parts.path.pieces) c.deref.ensures ∙ ap (λ (path : PathValue). walk_of path.pieces) c.self.view_is ∙ sym same ∙ sym c.walk-2.ensures.value in
-      c.in_default.not-Equal (c.compare_walks.ensures ∙ ap (walk_cmp c.walk.result.now) (sym walks) ∙ tied_itself (lists_total hop_total) c.walk.result.now);
+      c.in_default.not-Equal
+      (c.compare_walks.ensures ∙ ap (walk_cmp c.walk.result.now) (sym walks) ∙ tied_itself (lists_total hop_total) c.walk.result.now);
 }

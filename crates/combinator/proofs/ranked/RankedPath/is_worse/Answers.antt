@@ -35,9 +35,11 @@ returns-clause-worse g c = λ yes.
     let other = path_with c.args.other.now.pieces c.args.other.now.header in
     let expiry : c.deref.result.now.expiry ≡ mine.expiry = cc c.deref.ensures in
     let bytes : c.deref-3.result.now ≡ mine.bytes.items = cc (c.deref-3.ensures.value, c.deref-2.ensures) in
-    let less = subst (λ (header : HeaderValue). slice_cmp nat_cmp (spelling header) mine.bytes.items ≡ Less) c.header.ensures
+    let less =
+    subst (λ (header : HeaderValue). slice_cmp nat_cmp (spelling header) mine.bytes.items ≡ Less) c.header.ensures
     (subst (λ (text : List ℕ). slice_cmp nat_cmp (spelling c.header.result.now) text ≡ Less) bytes (c.header_comes_before.ensures.less yes)) in
-    let spelled = subst (λ (header : HeaderValue). SpellsHeader (spelling header) header) c.header.ensures c.header_comes_before.ensures.spelled in
+    let spelled =
+    subst (λ (header : HeaderValue). SpellsHeader (spelling header) header) c.header.ensures c.header_comes_before.ensures.spelled in
     let same = c.if-expiry-mine.false in
     subst (λ (path : PathValue). ¬ (IsNoWorse path other)) c.self.view_is
     (never_worse_bytes (path_with mine.path.pieces mine.path.header) other mine.expiry c.expiry-expiry.result mine.bytes.items (spelling c.args.other.now.header)
@@ -49,9 +51,11 @@ returns-clause-no_worse g c = λ never.
     let other = path_with c.args.other.now.pieces c.args.other.now.header in
     let expiry : c.deref.result.now.expiry ≡ mine.expiry = cc c.deref.ensures in
     let bytes : c.deref-3.result.now ≡ mine.bytes.items = cc (c.deref-3.ensures.value, c.deref-2.ensures) in
-    let upto = subst (λ (header : HeaderValue). slice_cmp nat_cmp (spelling header) mine.bytes.items ≢ Less) c.header.ensures
+    let upto =
+    subst (λ (header : HeaderValue). slice_cmp nat_cmp (spelling header) mine.bytes.items ≢ Less) c.header.ensures
     (subst (λ (text : List ℕ). slice_cmp nat_cmp (spelling c.header.result.now) text ≢ Less) bytes (c.header_comes_before.ensures.not_less never)) in
-    let spelled = subst (λ (header : HeaderValue). SpellsHeader (spelling header) header) c.header.ensures c.header_comes_before.ensures.spelled in
+    let spelled =
+    subst (λ (header : HeaderValue). SpellsHeader (spelling header) header) c.header.ensures c.header_comes_before.ensures.spelled in
     let same = c.if-expiry-mine.false in
     subst (λ (path : PathValue). IsNoWorse path other) c.self.view_is
     (no_fewer_bytes (path_with mine.path.pieces mine.path.header) other mine.expiry c.expiry-expiry.result mine.bytes.items (spelling c.args.other.now.header)

@@ -25,9 +25,12 @@ loop-piece-preserved-then-not-leaves_by g t c =
     let best = c.loop-piece.best in
     let fact = IsNoBetter question best in
     let walk : c.walk.result.now ≡ walk_of best.pieces = c.walk.ensures.value ∙ ap walk_of c.path.ensures.pieces in
-    let never = subst (λ (hops : _). ¬ (slice_get (ways_out hops) a.place ≡ Some c.way_out.result)) walk (c.leaves_by.ensures.never c.if-not-leaves_by.true) in record {
+    let never =
+    subst (λ (hops : _). ¬ (slice_get (ways_out hops) a.place ≡ Some c.way_out.result)) walk (c.leaves_by.ensures.never c.if-not-leaves_by.true) in record {
       better = c.loop-piece.invariant.better;
-      none = tried_more fact fact all c.pieces_from-next_pieces.result.now (a.depth - 1) a.pieces.now a.at c.loop-piece.piece-index c.piece-item.result c.loop-piece-test.true c.piece-item.is (λ list here. here)
+      none = tried_more fact fact all c.pieces_from-next_pieces.result.now
+          (a.depth - 1) a.pieces.now a.at c.loop-piece.piece-index c.piece-item.result c.loop-piece-test.true c.piece-item.is
+          (λ list here. here)
           c.loop-piece.invariant.none
           (passed_over question best a.pieces.now c.piece-item.result a.place c.way_out.result c.way_out.ensures c.requires.place never all (a.depth - 1) a.at);
     }
@@ -35,14 +38,16 @@ loop-piece-preserved-then-not-leaves_by g t c =
 pub better_of-requires-clause-front : goal.better_of-requires-clause-front
 better_of-requires-clause-front g t c =
     let a = c.args in
-    let is = longer_by a.pieces.now c.in-Some.longer c.piece.result c.piece-item.result c.in-Some.ensures.more c.piece.ensures.value in
+    let is =
+    longer_by a.pieces.now c.in-Some.longer c.piece.result c.piece-item.result c.in-Some.ensures.more c.piece.ensures.value in
     own_more a.self.now.ask.now.set a.pieces.now c.in-Some.longer c.piece-item.result is c.requires.front
     (subst (IsOf a.self.now.ask.now.set) (sym c.piece-item.is) (part_own (IsOf a.self.now.ask.now.set) a.self.now.usable_pieces.now c.pieces_from-next_pieces.result.now a.at c.pieces_from-next_pieces.ensures c.requires.own c.loop-piece.piece-index c.piece-item.result c.loop-piece-test.true))
 
 pub better_of-requires-clause-end : goal.better_of-requires-clause-end
 better_of-requires-clause-end g t c =
     let a = c.args in
-    let is = longer_by a.pieces.now c.in-Some.longer c.piece.result c.piece-item.result c.in-Some.ensures.more c.piece.ensures.value in
+    let is =
+    longer_by a.pieces.now c.in-Some.longer c.piece.result c.piece-item.result c.in-Some.ensures.more c.piece.ensures.value in
     ends_more a.pieces.now c.in-Some.longer c.piece-item.result c.ends-end.result is c.ends-end.ensures
 
 pub loop-piece-preserved-then-depth-eq1 : goal.loop-piece-preserved-then-depth-eq1
@@ -53,11 +58,15 @@ loop-piece-preserved-then-depth-eq1 g t c =
     let old = c.loop-piece.best in
     let new = c.in_ok-best.best in
     let fact = IsNoBetter question new in
-    let is = longer_by a.pieces.now c.in-Some.longer c.piece.result c.piece-item.result c.in-Some.ensures.more c.piece.ensures.value in
-    let none = none_tried fact all (a.depth - 1) c.in-Some.longer (ends_in c.piece-item.result) (omega (arith, c.if-depth-eq1.true)) in
-    let here = tried_here fact all (a.depth - 1) a.pieces.now c.in-Some.longer c.piece-item.result (ends_in c.piece-item.result) a.at is refl c.in_ok-best.ensures.none none in record {
+    let is =
+    longer_by a.pieces.now c.in-Some.longer c.piece.result c.piece-item.result c.in-Some.ensures.more c.piece.ensures.value in
+    let none =
+    none_tried fact all (a.depth - 1) c.in-Some.longer (ends_in c.piece-item.result) (omega (arith, c.if-depth-eq1.true)) in
+    let here =
+    tried_here fact all (a.depth - 1) a.pieces.now c.in-Some.longer c.piece-item.result (ends_in c.piece-item.result) a.at is refl c.in_ok-best.ensures.none none in record {
       better = replaces_on question a.found old new c.loop-piece.invariant.better c.in_ok-best.ensures.better;
-      none = tried_more (IsNoBetter question old) fact all c.pieces_from-next_pieces.result.now (a.depth - 1) a.pieces.now a.at c.loop-piece.piece-index c.piece-item.result c.loop-piece-test.true c.piece-item.is
+      none = tried_more (IsNoBetter question old) fact all c.pieces_from-next_pieces.result.now
+          (a.depth - 1) a.pieces.now a.at c.loop-piece.piece-index c.piece-item.result c.loop-piece-test.true c.piece-item.is
           (no_better_on question old new c.in_ok-best.ensures.better) c.loop-piece.invariant.none here;
     }
 
@@ -78,7 +87,8 @@ pub best_behind-requires : goal.best_behind-requires
 best_behind-requires g t c κs within =
     let a = c.args in
     let question = a.self.now.ask.now in
-    let is = longer_by a.pieces.now c.in-Some.longer c.piece.result c.piece-item.result c.in-Some.ensures.more c.piece.ensures.value in
+    let is =
+    longer_by a.pieces.now c.in-Some.longer c.piece.result c.piece-item.result c.in-Some.ensures.more c.piece.ensures.value in
     let some = c.requires.some in
     let more : 1 < a.depth = omega (arith, some, c.if-depth-eq1.false) in
     let long = one_more a.pieces.now c.in-Some.longer c.piece-item.result is in
@@ -97,7 +107,8 @@ best_behind-requires g t c κs within =
               (
                 ranges_more a.pieces.now c.in-Some.longer c.piece-item.result is c.requires.ranges c.piece.ensures.range,
                 (
-                  ways_longer a.pieces.now c.in-Some.longer c.piece-item.result a.place (a.place + c.len.result - 1) is c.piece.ensures.range c.requires.place
+                  ways_longer a.pieces.now c.in-Some.longer c.piece-item.result a.place
+                      (a.place + c.len.result - 1) is c.piece.ensures.range c.requires.place
                       (ap (λ (n : _). a.place + n - 1) count),
                   (omega (arith, more), omega (arith, more, long, few)),
                 ),
@@ -117,12 +128,16 @@ loop-piece-preserved g t c =
     let mid = c.in_ok-best.best in
     let new = c.in_ok-best-2.best in
     let fact = IsNoBetter question new in
-    let is = longer_by a.pieces.now c.in-Some.longer c.piece.result c.piece-item.result c.in-Some.ensures.more c.piece.ensures.value in
-    let here = tried_here fact all (a.depth - 1) a.pieces.now c.in-Some.longer c.piece-item.result c.ends-end.result a.at is c.ends-end.ensures
+    let is =
+    longer_by a.pieces.now c.in-Some.longer c.piece.result c.piece-item.result c.in-Some.ensures.more c.piece.ensures.value in
+    let here =
+    tried_here fact all
+    (a.depth - 1) a.pieces.now c.in-Some.longer c.piece-item.result c.ends-end.result a.at is c.ends-end.ensures
     (no_better_on question mid new c.in_ok-best-2.ensures.better c.in-Some.longer c.in_ok-best.ensures.none) c.in_ok-best-2.ensures.none in
     let both = replaces_on question old mid new c.in_ok-best.ensures.better c.in_ok-best-2.ensures.better in record {
       better = replaces_on question a.found old new c.loop-piece.invariant.better both;
-      none = tried_more (IsNoBetter question old) fact all c.pieces_from-next_pieces.result.now (a.depth - 1) a.pieces.now a.at c.loop-piece.piece-index c.piece-item.result c.loop-piece-test.true c.piece-item.is
+      none = tried_more (IsNoBetter question old) fact all c.pieces_from-next_pieces.result.now
+          (a.depth - 1) a.pieces.now a.at c.loop-piece.piece-index c.piece-item.result c.loop-piece-test.true c.piece-item.is
           (no_better_on question old new both) c.loop-piece.invariant.none here;
     }
 
@@ -133,5 +148,6 @@ returns-clause-none g t c =
     let all = a.self.now.usable_pieces.now in
     let fact = IsNoBetter question c.loop-piece.best in
     let some = c.requires.some in
-    all_tried fact all c.pieces_from-next_pieces.result.now a.depth (a.depth - 1) a.pieces.now a.at (omega (arith, some)) c.pieces_from-next_pieces.ensures
+    all_tried fact all c.pieces_from-next_pieces.result.now a.depth (a.depth - 1) a.pieces.now a.at
+    (omega (arith, some)) c.pieces_from-next_pieces.ensures
     (at_end (WasTried fact all (a.depth - 1) a.pieces.now a.at) c.pieces_from-next_pieces.result.now c.loop-piece.piece-index c.loop-piece-test.false c.loop-piece.invariant.none)

@@ -11,5 +11,6 @@ abbrev pub invariant-loop-piece : goal.invariant-loop-piece
 invariant-loop-piece g l = record {
   kept : AreKept l.self.ask.now l.self.limit l.kept.first.items l.kept.behind.items;
   still : StillMeet l.self.limit l.fn.kept.first.items l.kept.first.items;
-  met : (piece : PieceValue) → Contains (take l.piece-index l.next_pieces) piece → WasTried (IsMetBy l.self.ask.now l.self.limit l.kept.first.items) l.self.usable_pieces.now (l.depth - 1) l.front l.fn.at piece;
+  met : (piece : PieceValue) → Contains (take l.piece-index l.next_pieces) piece
+      → WasTried (IsMetBy l.self.ask.now l.self.limit l.kept.first.items) l.self.usable_pieces.now (l.depth - 1) l.front l.fn.at piece;
 }

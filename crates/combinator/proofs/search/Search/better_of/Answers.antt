@@ -10,20 +10,24 @@ returns-then-has_pieces-clause-better g c = replaces_itself c.args.self.now.ask.
 
 pub returns-then-has_pieces-clause-none : goal.returns-then-has_pieces-clause-none
 returns-then-has_pieces-clause-none g c =
-    no_better_itself c.args.self.now.ask.now c.args.found c.args.pieces.now (c.has_pieces.ensures.same c.if-has_pieces.true) c.has_pieces.ensures.header
+    no_better_itself c.args.self.now.ask.now c.args.found c.args.pieces.now
+    (c.has_pieces.ensures.same c.if-has_pieces.true) c.has_pieces.ensures.header
 
 pub returns-in_default-clause-better : goal.returns-in_default-clause-better
 returns-in_default-clause-better g c = replaces_itself c.args.self.now.ask.now c.args.found c.requires.candidate
 
 pub returns-in_default-clause-none : goal.returns-in_default-clause-none
-returns-in_default-clause-none g c = no_better_none c.args.self.now.ask.now c.args.found c.args.pieces.now c.in_default.ensures.none
+returns-in_default-clause-none g c =
+    no_better_none c.args.self.now.ask.now c.args.found c.args.pieces.now c.in_default.ensures.none
 
 pub returns-then-not-has_walk_of-clause-better : goal.returns-then-not-has_walk_of-clause-better
-returns-then-not-has_walk_of-clause-better g c = replaces_itself c.args.self.now.ask.now c.args.found c.requires.candidate
+returns-then-not-has_walk_of-clause-better g c =
+    replaces_itself c.args.self.now.ask.now c.args.found c.requires.candidate
 
 pub returns-then-not-has_walk_of-clause-none : goal.returns-then-not-has_walk_of-clause-none
 returns-then-not-has_walk_of-clause-none g c =
-    no_better_apart c.args.self.now.ask.now c.args.found c.args.pieces.now c.in-Some.rival.pieces c.in-Some.ensures.pieces (c.has_walk_of.ensures.other c.if-not-has_walk_of.true)
+    no_better_apart c.args.self.now.ask.now c.args.found c.args.pieces.now c.in-Some.rival.pieces c.in-Some.ensures.pieces
+    (c.has_walk_of.ensures.other c.if-not-has_walk_of.true)
 
 pub returns-then-not-is_worse-clause-better : goal.returns-then-not-is_worse-clause-better
 returns-then-not-is_worse-clause-better g c = replaces_itself c.args.self.now.ask.now c.args.found c.requires.candidate

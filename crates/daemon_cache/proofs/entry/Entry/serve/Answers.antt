@@ -9,5 +9,7 @@ returns-clause-answers c =
     let own = c.self.inside in
     let same = c.if-not-are_of_one.ensures.0 refl in
     let answers = served_answers own.request own.set c.args.set.now own.paths c.self.invariant same c.requires in
-    let mine : IsAnswerToRequest c.args.request.now c.args.set.now own.paths = subst (λ (r : RequestValue). IsAnswerToRequest r c.args.set.now own.paths) (c.if-not-is_of.ensures.0 refl) answers in
-    IfOk-weaker c.try_clone.result _ _ (λ given is. subst (IsAnswerToRequest c.args.request.now c.args.set.now) (sym is) mine) c.try_clone.ensures.same
+    let mine : IsAnswerToRequest c.args.request.now c.args.set.now own.paths =
+    subst (λ (r : RequestValue). IsAnswerToRequest r c.args.set.now own.paths) (c.if-not-is_of.ensures.0 refl) answers in
+    IfOk-weaker c.try_clone.result _ _
+    (λ given is. subst (IsAnswerToRequest c.args.request.now c.args.set.now) (sym is) mine) c.try_clone.ensures.same

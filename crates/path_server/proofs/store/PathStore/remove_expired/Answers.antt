@@ -20,7 +20,8 @@ invariant_of-self-inside c =
       record {
         each = subst (λ all. HasEachPlace all index) same c.rebuild.ensures.each;
         ordered = subst (λ all. IsNonDecreasingBy (order_at all) index) same c.rebuild.ensures.ordered;
-        addresses = subst (All HasAddresses) (sym c.keep_live.ensures.kept) (All-filter (is_live c.args.now) HasAddresses _ c.self.inside.agreed.addresses);
+        addresses = subst (All HasAddresses) (sym c.keep_live.ensures.kept)
+            (All-filter (is_live c.args.now) HasAddresses _ c.self.inside.agreed.addresses);
       },
       (subst (All (IsLiveUpTo c.least_expiry_of-self-inside.result)) c.deref-2.ensures.value c.least_expiry_of-self-inside.ensures, tt),
     )

@@ -20,16 +20,20 @@ invariant_of-self-inside-2 c =
     let at = c.end_of-at.result in
     let old : IsIndex segments index = search rules in
     let below = subst (λ n. AllWithin (λ place. rank_at segments place ≤ n) index 0 at) c.of.ensures.number end.below in
-    let rest = subst (λ n. AllWithin (λ place. n < rank_at segments place) index at (length index)) c.of.ensures.number end.rest in
+    let rest =
+    subst (λ n. AllWithin (λ place. n < rank_at segments place) index at (length index)) c.of.ensures.number end.rest in
     let long = c.deref.ensures.len in
     let place : c.len-place.result ≡ length segments = c.len-place.ensures ∙ sym long in
-    let grown = grown_is_index segments c.args.segment index at old c.of.ensures.addresses (omega (arith, place, c.len-place.type_inv)) end.within below rest in
+    let grown =
+    grown_is_index segments c.args.segment index at old c.of.ensures.addresses (omega (arith, place, c.len-place.type_inv)) end.within below rest in
     let pushed = c.in_default.ensures.items ∙ ap (λ all. all ++ c.args.segment ∷ []) (sym c.deref.ensures.value) in
-    let inserted = c.insert_place.ensures ∙ ap (λ all. insert all at c.len-place.result) (sym c.deref-2.ensures.value) ∙ ap (insert index at) place in
+    let inserted =
+    c.insert_place.ensures ∙ ap (λ all. insert all at c.len-place.result) (sym c.deref-2.ensures.value) ∙ ap (insert index at) place in
     let live = All-push (IsLiveUpTo c.min-self-inside.result) segments c.args.segment
     (all_sooner c.self.inside.least_expiry c.min-self-inside.result segments (omega (arith, c.min-self-inside.ensures)) (subst (All (IsLiveUpTo c.self.inside.least_expiry)) (sym c.deref.ensures.value) c.self.inside.live))
     (λ now soon. c.least_expiry-expiry.ensures now (omega (arith, c.min-self-inside.ensures))) in (
-      subst (λ all. IsIndex all c.insert_place.new.index.items) (sym pushed) (subst (IsIndex (segments ++ c.args.segment ∷ [])) (sym inserted) grown),
+      subst (λ all. IsIndex all c.insert_place.new.index.items) (sym pushed)
+          (subst (IsIndex (segments ++ c.args.segment ∷ [])) (sym inserted) grown),
       (subst (All (IsLiveUpTo c.min-self-inside.result)) (sym pushed) live, tt),
     )
 
@@ -37,6 +41,7 @@ pub invariant_of-self-inside-in-Err-1 : goal.invariant_of-self-inside-in-Err-1
 invariant_of-self-inside-in-Err-1 c =
     let same : c.push.new.self.items ≡ c.self.inside.segments.items = search rules in
     let room : c.try_reserve.new.self.items ≡ c.self.inside.index.items = search rules in (
-      subst (λ all. IsIndex all c.try_reserve.new.self.items) (sym same) (subst (IsIndex c.self.inside.segments.items) (sym room) c.self.inside.agreed),
+      subst (λ all. IsIndex all c.try_reserve.new.self.items) (sym same)
+          (subst (IsIndex c.self.inside.segments.items) (sym room) c.self.inside.agreed),
       (subst (All (IsLiveUpTo c.self.inside.least_expiry)) (sym same) c.self.inside.live, tt),
     )

@@ -7,9 +7,11 @@ use Rattle.path_verifier.proofs.walk.Walk.push_later.Goals as goal
 pub loop-place-preserved : goal.loop-place-preserved
 loop-place-preserved c =
     let hops = hops_of c.args.piece.now in
-    let longer : length c.push.new.self ≡ length c.loop-place.self + 1 = rw c.push.ensures (length_push c.loop-place.self c.hop_at.result) in
+    let longer : length c.push.new.self ≡ length c.loop-place.self + 1 =
+    rw c.push.ensures (length_push c.loop-place.self c.hop_at.result) in
     record {
-      told = rw c.push.ensures (one_more c.loop-place.self hops c.loop-place.place c.hop_at.result c.hop_at.ensures ∙ c.loop-place.invariant.told);
+      told = rw c.push.ensures
+          (one_more c.loop-place.self hops c.loop-place.place c.hop_at.result c.hop_at.ensures ∙ c.loop-place.invariant.told);
       room = omega (arith, c.loop-place.invariant.room, longer);
     }
 
