@@ -75,7 +75,7 @@ pub fn paths_with<'s, 'p, A: Allocator + Clone>(
 
 /// The choice that answers a request.
 #[tactic(auto, using(crate::proofs::Choosing::chosen_of_all, crate::proofs::Choosing::has_weight))]
-pub(crate) fn choice_of<'s, 'p, A: Allocator + Clone>(
+fn choice_of<'s, 'p, A: Allocator + Clone>(
     alloc: Global,
     request: &ChoiceRequest<'s, 'p, A>,
 ) -> Result<Choice<'s, 'p, A>, AllocError>

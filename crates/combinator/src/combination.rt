@@ -3,18 +3,17 @@ ghost use Rattle.refusal.specs.Refusal.{Fails};
 ghost use Rattle.combinator.specs.Answer.{AnswersWith};
 ghost use Rattle.combinator.specs.Fault.{ends_at};
 
-use crate::choice::choice_of;
+use crate::choice::paths_with;
 use crate::fault::{CombineError, CombineFault};
 use crate::path::PathList;
-use crate::request::ChoiceRequest;
 use isd_as::IsdAs;
 use path_server::SegmentSet;
 use policy_expr::PolicyOption;
 use refusal::OrMemory;
 use std::alloc::{Allocator, Global};
 
-/// The result of [`crate::paths_with`] as a list that owns its paths. If both ends are the same AS,
-/// it is [`CombineFault::SameAs`]. Memory can run out only if they are not.
+/// The result of [`paths_with`] as a list that owns its paths. If both ends are the same AS, it is
+/// [`CombineFault::SameAs`]. Memory can run out only if they are not.
 ///
 /// It takes the time of [`crate::paths_between`] for each option that is tried, and time and memory
 /// for the segments of the paths that are returned.
@@ -38,13 +37,6 @@ pub fn combine<A: Allocator + Clone>(
     if src == dst {
         return Err(OrMemory::Refused(CombineFault::SameAs));
     }
-    let request = ChoiceRequest {
-        set,
-        src,
-        dst,
-        options,
-        limit,
-    };
-    let choice = choice_of(alloc, &request)?;
+    let choice = paths_with(alloc, set, src, dst, options, limit)?;
     Ok(PathList::of(alloc, &choice)?)
 }

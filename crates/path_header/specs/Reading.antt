@@ -34,7 +34,7 @@ checked_meta bytes m = do
   lens ← checked_lens m.lens
   if nat_lt (length bytes) (len_for lens) then Err Short else Ok m
 
--- the meta field at the front: Short, then Reserved, then the refusals of `announced`
+-- the meta field at the front: Short, then Reserved, then the refusals of `checked_meta`
 unfoldable pub meta_at : List ℕ → Result Meta HeaderFault
 meta_at bytes = if nat_lt (length bytes) 4 then Err Short
     else if nat_lt 0 (reserved_bits (word_at bytes)) then Err Reserved

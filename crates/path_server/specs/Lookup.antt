@@ -48,8 +48,8 @@ pub record LeadsTo (segments : List Chain) (ia now : ℕ) (segment : Chain) : Ty
 abbrev pub IsReached : (ia : ℕ) (segments : List Chain) (other : ℕ) → Type 0
 IsReached ia segments other = (other ≡ ia) ⊎ Any (λ segment. first_as segment ≡ other) segments
 
--- `joins` without tests: a live core segment of the list between the near side and the far side, in
--- either direction
+-- `leads_between` without tests: a live core segment of the list between the near side and the far
+-- side, in either direction
 pub record LeadsBetween (segments : List Chain) (near far : ℕ → Type 0) (now : ℕ)
     (segment : Chain) : Type 0 where
   pub there : Contains segments segment

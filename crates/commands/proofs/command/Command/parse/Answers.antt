@@ -1,4 +1,4 @@
--- The matches are those of the command line that `asked` names.
+-- The matches are those of the command line that `command_or_run` names.
 use Rattle.std.proofs.Common.{◌∙◌, sym, ap, subst, map, List, rules}
 use Rattle.std.specs.Prelude.{Ok, Err}
 use Rattle.clap.specs.Words.{App, is_simple, subcommand_of, Text}
