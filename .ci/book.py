@@ -99,9 +99,9 @@ LIBRARY = (
     ("Option Some None is_none", "a value or none; whether there is none"),
     ("option_map option_map_or option_and_then unwrap_or ok_or", "a function of the value, if there"
      " is one; or else this; which may give none; the value or else this; or else a refusal"),
-    ("Result Ok Err IsOk is_err IfOk IfErr result_ok", "a value or a refusal; it is a value;"
-     " whether it is a refusal; the statement holds of the value, or of the refusal, if it is one;"
-     " the value as an option"),
+    ("Result Ok Err IsOk is_err IfOk IfErr result_ok result_unwrap_or", "a value or a refusal; it"
+     " is a value; whether it is a refusal; the statement holds of the value, or of the refusal, if"
+     " it is one; the value as an option; the value or else this"),
     ("codes chars is_utf8 bytes_eq", "the bytes of a text that is written out; the characters of"
      " bytes; whether bytes are UTF-8; whether two lists of bytes are the same"),
     ("decimal digits digit_value digits_value", "a number in decimal digits, or in those of a base;"
@@ -134,8 +134,8 @@ FIRST_HOUR = (
     (
         "A run has a history: what happened, event by event. What is promised of it is in `IsRun`,"
         " and of a packet in `Headline`. It is delivered in its destination AS, since it has then"
-        " passed its whole walk (`whole`), which ends there ([`MakesPath`]"
-        "(#path_verifier-Accepted-MakesPath)). [headline.md](headline.md#line-by-line) goes through"
+        " passed its whole walk (`whole`), which ends there (the rule of `Destination` in [`Keeps`]"
+        "(#path_verifier-Accepted-Keeps)). [headline.md](headline.md#line-by-line) goes through"
         " the sentence word by word.",
         "network_core/Ran.IsRun network_core/History.Occurs network_core/History.net_at"
         " network_core/Headline.Headline network_core/Delivery.IsForwarded"

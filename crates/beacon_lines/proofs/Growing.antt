@@ -6,7 +6,7 @@ use Rattle.refusal.specs.Refusal.{◌>>=◌, check, refused_as}
 use Rattle.refusal.proofs.Steps.{ok_is, ok_or_ok}
 use Rattle.scion_topology.specs.Network.{Network}
 use Rattle.path_segment.specs.Chain.{Chain}
-use Rattle.beaconing.specs.Calls.{terminated_beacon}
+use Rattle.beaconing.specs.Calls.{terminated_beacon, originated_beacon, extended_beacon}
 use Rattle.path_server.specs.declared.fault.StoreFault.{StoreFault}
 use Rattle.path_server.specs.Store.{answer_to, with_registered, with_new, IsRegisterAnswer}
 use Rattle.path_server.proofs.Plain.{answer_is_plain, Contains-registered_kept}
@@ -14,7 +14,7 @@ use Rattle.network_core.specs.declared.fault.EventFault.TheVariants as faults
 use Rattle.network_core.specs.declared.reply.Reply.{Reply}
 use Rattle.network_core.specs.Event.{EventValue, Tick, Originate, Extend, Terminate, Sweep, Ask, Send, Turn, Lose, Alter, CutLink, MendLink, RotateKey}
 use Rattle.network_core.specs.Value.{NetValue}
-use Rattle.network_core.specs.Step.{Made, has_room, with_beacon, with_segment, beacon_at, new_beacon, passed_on, new_segment, originates, extends, terminates, ticks, Leads, Step}
+use Rattle.network_core.specs.Step.{Made, has_room, with_beacon, with_segment, beacon_at, new_segment, originates, extends, terminates, ticks, Leads, Step}
 use Rattle.network_core.specs.Delivery.{is_done}
 use Rattle.network_core.proofs.Effects.{both_done, done_below}
 use Rattle.beacon_lines.specs.Beaconing.{IsOfBeaconing, StaysStored}
@@ -135,11 +135,11 @@ grows old new (Tick to) reply own is done =
     (after_tick old new to (made.1.1 ∙ ap (λ (p : Reply × NetValue). p.1) (sym (ok_is _ made.0 inner.1.1))), tt)
 grows old new (Originate ia egress beta) reply own is done =
     let made = led (originates old ia egress beta) old reply new is done in
-    let inner = both_done (new_beacon old ia egress beta) (with_beacon old) made.0 made.1.0 in
+    let inner = both_done (refused_as faults.Beacon (originated_beacon old.network ia egress old.moment beta)) (with_beacon old) made.0 made.1.0 in
     (adds old new inner.0 made.0 inner.1.1 made.1.1, tt)
 grows old new (Extend beacon ia egress) reply own is done =
     let made = led (extends old beacon ia egress) old reply new is done in
-    let inner = both_done (passed_on old beacon ia egress) (with_beacon old) made.0 made.1.0 in
+    let inner = both_done (beacon_at old beacon >>= λ from. refused_as faults.Beacon (extended_beacon old.network from ia egress)) (with_beacon old) made.0 made.1.0 in
     (adds old new inner.0 made.0 inner.1.1 made.1.1, tt)
 grows old new (Terminate beacon ia) reply own is done =
     let made = led (terminates old beacon ia) old reply new is done in
@@ -175,10 +175,10 @@ unchanged old new (Tick to) reply own is undone =
     ap (λ (p : Reply × NetValue). is_done p.0) (sym (ok_is _ x inner.1.1))))
 unchanged old new (Originate ia egress beta) reply own is undone =
     unled (originates old ia egress beta) old reply new is undone (λ x made.
-    (let inner = both_done (new_beacon old ia egress beta) (with_beacon old) x made in begun_done old inner.0 x inner.1.1))
+    (let inner = both_done (refused_as faults.Beacon (originated_beacon old.network ia egress old.moment beta)) (with_beacon old) x made in begun_done old inner.0 x inner.1.1))
 unchanged old new (Extend beacon ia egress) reply own is undone =
     unled (extends old beacon ia egress) old reply new is undone (λ x made.
-    (let inner = both_done (passed_on old beacon ia egress) (with_beacon old) x made in begun_done old inner.0 x inner.1.1))
+    (let inner = both_done (beacon_at old beacon >>= λ from. refused_as faults.Beacon (extended_beacon old.network from ia egress)) (with_beacon old) x made in begun_done old inner.0 x inner.1.1))
 unchanged old new (Terminate beacon ia) reply own is undone =
     unled (terminates old beacon ia) old reply new is undone (λ x made.
     (let outer = both_done (new_segment old beacon ia) (with_segment old) x made in

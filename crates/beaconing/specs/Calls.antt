@@ -12,15 +12,15 @@ use Rattle.beaconing.specs.declared.fault.BeaconFault.TheVariants.{TooLong, Loop
 use Rattle.refusal.specs.Refusal.{◌>>=◌, check, or_else}
 use Rattle.beaconing.specs.Entry.{entry_by, added_by, kind_over, goes_on}
 
--- the beacon that a core AS begins over one of its links: NotCore, NoInterface, LinkDown
-unfoldable pub originated_beacon : (n : Network) (ia egress timestamp beta0 : ℕ)
-    → Result Chain BeaconFault
-originated_beacon n ia egress timestamp beta0 = do
+-- the beacon that a core AS begins over one of its links, with this second as its timestamp:
+-- NotCore, NoInterface, LinkDown
+unfoldable pub originated_beacon : Network → (ia egress now beta0 : ℕ) → Result Chain BeaconFault
+originated_beacon n ia egress now beta0 = do
   one ← ok_or (as_named n.ases ia) NotCore
   _ ← check one.core NotCore
   out ← or_else NoInterface (interface_at n ia egress)
   _ ← check out.up LinkDown
-  Ok (chain_of (kind_over out.kind) timestamp beta0 (entry_by one timestamp beta0 0 egress ∷ []))
+  Ok (chain_of (kind_over out.kind) now beta0 (entry_by one now beta0 0 egress ∷ []))
 
 -- the last entry of a beacon
 abbrev pub last_of : Chain → Option Entry
@@ -43,8 +43,7 @@ is_new beacon ia = not (list_any (λ entry. entry.ia == ia) beacon.entries)
 
 -- the beacon after an AS has passed it on over one of its links: NotHere, LinkDown for the way in,
 -- Loop, TooLong, NoInterface, WrongKind, LinkDown for the way out
-unfoldable pub extended_beacon : (n : Network) (beacon : Chain) (ia egress : ℕ)
-    → Result Chain BeaconFault
+unfoldable pub extended_beacon : Network → Chain → (ia egress : ℕ) → Result Chain BeaconFault
 extended_beacon n beacon ia egress = do
   one ← ok_or (as_named n.ases ia) NotHere
   ingress ← come_to n beacon ia

@@ -12,6 +12,7 @@ use Rattle.path_verifier.specs.declared.kind.PieceKind.TheVariants.{Up, Core, Do
 use Rattle.path_verifier.specs.Piece.{PieceValue, HasRange, kind_in, kind_of, begins_in, ends_in}
 use Rattle.path_verifier.specs.Accepted.{IsCore, MayAdjoin}
 use Rattle.path_verifier.proofs.Lengths.{path_is_short, pieces_adjoin}
+use Rattle.path_verifier.proofs.Breaches.{header_kept, path_kept}
 use Rattle.path_header.specs.Value.{HeaderValue}
 use Rattle.std.specs.List.{AllByRecursion}
 use Rattle.combinator.specs.Candidate.{Question, IsOf, segments_of, PathValue, IsCandidate, path_with, AreSpelled}
@@ -89,10 +90,10 @@ module _ (question : Question) (usable_pieces : List PieceValue)
       → (kind_of piece ≡ Down → ends_in piece ≡ question.dst) → Contains usable_pieces piece
   at_place path is k piece within at up down =
       let own : IsOf question.set piece = subst (IsOf question.set) at (is.own k piece within) in
-      let range : HasRange piece = subst HasRange at (is.accepted.path.ranges k piece within) in
+      let range : HasRange piece = subst HasRange at ((path_kept is.accepted).ranges k piece within) in
       let whole : IsCore piece → (piece.from ≡ 0) × (piece.to + 1 ≡ length piece.segment.entries) = λ core. (
       let cut =
-      subst (λ (p : PieceValue). (p.from ≡ 0) × (IsCore p → p.to + 1 ≡ length p.segment.entries)) at (is.accepted.path.cuts.with_core (k, piece, within, at, core) k piece within) in
+      subst (λ (p : PieceValue). (p.from ≡ 0) × (IsCore p → p.to + 1 ≡ length p.segment.entries)) at ((path_kept is.accepted).cuts.with_core (k, piece, within, at, core) k piece within) in
       (cut.0, cut.1 core)) in
       listed (kind_of piece) piece refl own range whole up down
 
@@ -112,17 +113,17 @@ module _ (question : Question) (usable_pieces : List PieceValue)
       → AllByRecursion (Contains usable_pieces) pieces
   all_of [] header is = tt
   all_of (a ∷ []) header is =
-      let path = is.accepted.path in
+      let path = path_kept is.accepted in
       (at_place (path_with (a ∷ []) header) is 0 a (omega arith) refl (λ _. path.source) (λ _. path.destination), tt)
   all_of (a ∷ b ∷ []) header is =
-      let path = is.accepted.path in
+      let path = path_kept is.accepted in
       let may = pieces_adjoin [] [] a b question.src question.dst question.set.moment path in (
         at_place (path_with (a ∷ b ∷ []) header) is 0 a (omega arith) refl (λ _. path.source)
             (λ down. absurd (not_down (kind_of a) (kind_of b) may down)),
         (at_place (path_with (a ∷ b ∷ []) header) is 1 b (omega arith) refl (λ up. absurd (not_up (kind_of a) (kind_of b) may up)) (λ _. path.destination), tt),
       )
   all_of (a ∷ b ∷ c ∷ []) header is =
-      let path = is.accepted.path in
+      let path = path_kept is.accepted in
       let may = pieces_adjoin [] (c ∷ []) a b question.src question.dst question.set.moment path in
       let also = pieces_adjoin (a ∷ []) [] b c question.src question.dst question.set.moment path in (
         at_place (path_with (a ∷ b ∷ c ∷ []) header) is 0 a (omega arith) refl (λ _. path.source)
@@ -135,7 +136,7 @@ module _ (question : Question) (usable_pieces : List PieceValue)
         ),
       )
   all_of (a ∷ b ∷ c ∷ d ∷ more) header is =
-      absurd (let few = path_is_short (a ∷ b ∷ c ∷ d ∷ more) question.src question.dst question.set.moment is.accepted.path in omega arith)
+      absurd (let few = path_is_short (a ∷ b ∷ c ∷ d ∷ more) question.src question.dst question.set.moment (path_kept is.accepted) in omega arith)
 
   pub have_all : HaveAll question usable_pieces
   have_all path is = All-from_recursion (Contains usable_pieces) path.pieces (all_of path.pieces path.header is)
@@ -147,20 +148,20 @@ module _ (question : Question) (usable_pieces : List PieceValue) (whole : HaveAl
     of_pieces : (pieces : List PieceValue) (header : HeaderValue)
         → IsCandidate question (path_with pieces header) → P pieces
     unfolding OfEachBehind
-    of_pieces [] header is = absurd (let some = is.accepted.path.some in omega arith)
+    of_pieces [] header is = absurd (let some = (path_kept is.accepted).some in omega arith)
     of_pieces (a ∷ []) header is =
-        let path = is.accepted.path in
+        let path = path_kept is.accepted in
         (tried a (whole (path_with (a ∷ []) header) is 0 a (omega arith)) path.source).0
     of_pieces (a ∷ b ∷ []) header is =
-        let path = is.accepted.path in
+        let path = path_kept is.accepted in
         let there = whole (path_with (a ∷ b ∷ []) header) is in
         ((tried a (there 0 a (omega arith)) path.source).1 b (there 1 b (omega arith)) (sym path.meet.0)).0
     of_pieces (a ∷ b ∷ c ∷ []) header is =
-        let path = is.accepted.path in
+        let path = path_kept is.accepted in
         let there = whole (path_with (a ∷ b ∷ c ∷ []) header) is in
         (((tried a (there 0 a (omega arith)) path.source).1 b (there 1 b (omega arith)) (sym path.meet.0)).1 c (there 2 c (omega arith)) (sym path.meet.1.0)).0
     of_pieces (a ∷ b ∷ c ∷ d ∷ more) header is =
-        absurd (let few = path_is_short (a ∷ b ∷ c ∷ d ∷ more) question.src question.dst question.set.moment is.accepted.path in omega arith)
+        absurd (let few = path_is_short (a ∷ b ∷ c ∷ d ∷ more) question.src question.dst question.set.moment (path_kept is.accepted) in omega arith)
 
     -- what holds of each list that was tried holds of the pieces of each candidate
     pub of_candidate : (path : PathValue) → IsCandidate question path → P path.pieces
@@ -168,18 +169,18 @@ module _ (question : Question) (usable_pieces : List PieceValue) (whole : HaveAl
 
   goes_of : (pieces : List PieceValue) (header : HeaderValue) → IsCandidate question (path_with pieces header)
       → GoesOn usable_pieces 3 [] (path_with pieces header)
-  goes_of [] header is = absurd (let some = is.accepted.path.some in omega arith)
+  goes_of [] header is = absurd (let some = (path_kept is.accepted).some in omega arith)
   goes_of (a ∷ []) header is =
       let there = whole (path_with (a ∷ []) header) is in
-      inr (a, there 0 a (omega arith), inl (ap (path_with (a ∷ [])) is.accepted.header))
+      inr (a, there 0 a (omega arith), inl (ap (path_with (a ∷ [])) (header_kept is.accepted)))
   goes_of (a ∷ b ∷ []) header is =
       let there = whole (path_with (a ∷ b ∷ []) header) is in
-      inr (a, there 0 a (omega arith), inr (b, there 1 b (omega arith), inl (ap (path_with (a ∷ b ∷ [])) is.accepted.header)))
+      inr (a, there 0 a (omega arith), inr (b, there 1 b (omega arith), inl (ap (path_with (a ∷ b ∷ [])) (header_kept is.accepted))))
   goes_of (a ∷ b ∷ c ∷ []) header is =
       let there = whole (path_with (a ∷ b ∷ c ∷ []) header) is in
-      inr (a, there 0 a (omega arith), inr (b, there 1 b (omega arith), inr (c, there 2 c (omega arith), ap (path_with (a ∷ b ∷ c ∷ [])) is.accepted.header)))
+      inr (a, there 0 a (omega arith), inr (b, there 1 b (omega arith), inr (c, there 2 c (omega arith), ap (path_with (a ∷ b ∷ c ∷ [])) (header_kept is.accepted))))
   goes_of (a ∷ b ∷ c ∷ d ∷ more) header is =
-      absurd (let few = path_is_short (a ∷ b ∷ c ∷ d ∷ more) question.src question.dst question.set.moment is.accepted.path in omega arith)
+      absurd (let few = path_is_short (a ∷ b ∷ c ∷ d ∷ more) question.src question.dst question.set.moment (path_kept is.accepted) in omega arith)
 
   pub goes_on : (path : PathValue) → IsCandidate question path → GoesOn usable_pieces 3 [] path
   goes_on path is = goes_of path.pieces path.header is

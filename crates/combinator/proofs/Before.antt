@@ -18,6 +18,7 @@ use Rattle.path_header.specs.Spelling.{meta_of, meta_word, info_spelling, hop_sp
 use Rattle.path_verifier.specs.Piece.{PieceValue, HasRange}
 use Rattle.path_verifier.specs.Header.{fields_of, info_of, header_of, len_of, total_hops}
 use Rattle.path_verifier.proofs.TurnedCounts.{long_of}
+use Rattle.path_verifier.proofs.Breaches.{header_kept, path_kept}
 use Rattle.std.specs.Prelude.{slice_get}
 use Rattle.std.proofs.lemmas.Option.{same_Some}
 use Rattle.combinator.specs.Candidate.{Question, PathValue, path_with}
@@ -250,7 +251,7 @@ module _ (question : Question) (limit : ℕ) (paths : List PathValue) (front : L
   met_later : (later : List PieceValue) → further ≤ length later → IsMetBy question limit paths (front ++ later)
   unfolding IsMetBy AreBefore
   met_later later upto = λ header best.
-      inr (before.0, each_before paths front later further header before.1 best.candidate.accepted.path.ranges upto best.candidate.accepted.header)
+      inr (before.0, each_before paths front later further header before.1 (path_kept best.candidate.accepted).ranges upto (header_kept best.candidate.accepted))
 
   -- the lists that go on from these pieces
   pub met_further : further ≤ 1 → (usable_pieces : List PieceValue) (depth at : ℕ)

@@ -15,6 +15,7 @@ use Rattle.path_verifier.specs.Header.{header_of}
 use Rattle.path_verifier.specs.Accepted.{NamesOnce, IsExpiry}
 use Rattle.path_verifier.proofs.Entries.{length-entries_of}
 use Rattle.path_verifier.proofs.Expiry.{expiry_of_one, expiry_of_more}
+use Rattle.path_verifier.proofs.Breaches.{accepts, hops_kept, path_kept, word_kept}
 use Rattle.policy_expr.specs.Policy.{AllowsHops, HasWord}
 use Rattle.combinator.specs.Candidate.{Question, IsOf, PathValue, IsCandidate, path_with}
 use Rattle.combinator.specs.Order.{bytes_cmp, HaveOneWalk}
@@ -175,25 +176,21 @@ module _ (question : Question) (path : PathValue) (is : IsCandidate question pat
 
   pub either_rival : (one other : PathValue) → IsRival one → IsRival other → IsNoWorse one other ⊎ IsNoWorse other one
   either_rival one other first second =
-      let e = expiry_there one.pieces first.0.accepted.path.some first.0.accepted.path.ranges in
-      let f = expiry_there other.pieces second.0.accepted.path.some second.0.accepted.path.ranges in
+      let e = expiry_there one.pieces (path_kept first.0.accepted).some (path_kept first.0.accepted).ranges in
+      let f = expiry_there other.pieces (path_kept second.0.accepted).some (path_kept second.0.accepted).ranges in
       either_no_worse one other e.0 f.0 e.1 f.1
 
   dec_rival : (pieces : List PieceValue) → All (IsOf question.set) pieces
       → Dec (IsRival (path_with pieces (header_of pieces)))
   dec_rival pieces own = elim (dec_walk (walk_of pieces) (walk_of path.pieces)) [
     | no never ↦ no (λ rival. never rival.1)
-    | yes same ↦ elim (dec_path pieces question.src question.dst question.set.moment (subst NamesOnce (sym same) is.accepted.path.once)) [
-      | no never ↦ no (λ rival. never rival.0.accepted.path)
+    | yes same ↦ elim (dec_path pieces question.src question.dst question.set.moment (subst NamesOnce (sym same) (path_kept is.accepted).once)) [
+      | no never ↦ no (λ rival. never (path_kept rival.0.accepted))
       | yes makes ↦ yes (
         record {
           own = own;
-          accepted = record {
-            path = makes;
-            header = refl;
-            hops = subst (AllowsHops question.rules.acl) (sym same) is.accepted.hops;
-            word = subst (HasWord question.rules.sequence) (sym same) is.accepted.word;
-          };
+          accepted = accepts _ makes refl (subst (AllowsHops question.rules.acl) (sym same) (hops_kept is.accepted))
+              (subst (HasWord question.rules.sequence) (sym same) (word_kept is.accepted));
         },
         same,
       )

@@ -10,10 +10,10 @@ use Rattle.hop_mac.specs.Lifetime.{expiry_of}
 use Rattle.path_header.specs.Value.{HeaderValue}
 use Rattle.path_header.specs.Spelling.{SpellsHeader, spelling}
 use Rattle.path_verifier.specs.Piece.{PieceValue, entries_of}
-use Rattle.path_verifier.specs.Accepted.{IsExpiry}
+use Rattle.path_verifier.specs.Accepted.{IsExpiry, LastTo}
 use Rattle.std.proofs.lemmas.Cmp.{upto, tied_itself}
 use Rattle.combinator.specs.Candidate.{PathValue}
-use Rattle.combinator.specs.Order.{bytes_cmp, LastTo, LastAsLong}
+use Rattle.combinator.specs.Order.{bytes_cmp, LastAsLong}
 use Rattle.combinator.specs.inner.Search.{IsNoWorse}
 use Rattle.combinator.proofs.Ranks.{bytes_total}
 

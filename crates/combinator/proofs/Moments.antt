@@ -12,6 +12,7 @@ use Rattle.path_verifier.specs.declared.kind.PieceKind.{PieceKind}
 use Rattle.path_verifier.specs.declared.kind.PieceKind.TheVariants.{Up, Core, Down}
 use Rattle.path_verifier.specs.Piece.{PieceValue, kind_of, entries_of}
 use Rattle.path_verifier.specs.Accepted.{AreLive, MakesPath}
+use Rattle.path_verifier.proofs.Breaches.{accepts, header_kept, hops_kept, path_kept, word_kept}
 use Rattle.combinator.specs.Candidate.{question_of, PathValue, segments_of, IsOf, IsCandidate, HasNone}
 use Rattle.combinator.specs.Answer.{IsBest, IsLeftOut, IsAnswer, AnswersWith, question_under}
 use Rattle.combinator.specs.Lasting.{IsSameSet, AreAllLive}
@@ -56,7 +57,7 @@ module _ (set other : Selection) (src dst : ℕ) (rules : Rules) where
   candidate_too same live path is =
       let own =
       All-weaker (IsOf set) (IsOf other) (λ piece there. also_of set other same (kind_of piece) piece.segment there) path.pieces is.own in
-      let was = is.accepted.path in
+      let was = path_kept is.accepted in
       let makes : MakesPath path.pieces src dst other.moment = record {
         some = was.some;
         ranges = was.ranges;
@@ -71,7 +72,7 @@ module _ (set other : Selection) (src dst : ℕ) (rules : Rules) where
       } in
       record {
         own = own;
-        accepted = record { path = makes; header = is.accepted.header; hops = is.accepted.hops; word = is.accepted.word };
+        accepted = accepts _ makes (header_kept is.accepted) (hops_kept is.accepted) (word_kept is.accepted);
       }
 
 module _ (set other : Selection) (src dst : ℕ) (rules : Rules) (same : IsSameSet set other)

@@ -5,6 +5,7 @@ use Rattle.path_header.specs.Value.{HeaderValue}
 use Rattle.path_verifier.specs.Piece.{PieceValue, ends_in}
 use Rattle.path_verifier.specs.Walk.{walk_of}
 use Rattle.path_verifier.specs.Header.{header_of}
+use Rattle.path_verifier.proofs.Breaches.{header_kept, path_kept}
 use Rattle.policy_expr.specs.declared.hop.WalkHop.{WalkHop}
 use Rattle.combinator.specs.Candidate.{Question, PathValue, IsCandidate, path_with}
 use Rattle.combinator.specs.Order.{HaveOneWalk}
@@ -32,14 +33,14 @@ module _ (question : Question) (found : PathValue) (pieces : List PieceValue) wh
     unfolding IsNoBetter
     no_better_worse header same_header fact = λ own is same.
         subst (λ (ps : List PieceValue). IsNoWorse found (path_with ps own)) same_pieces
-        (subst (λ (h : HeaderValue). IsNoWorse found (path_with rival h)) (same_header ∙ sym is.accepted.header) fact)
+        (subst (λ (h : HeaderValue). IsNoWorse found (path_with rival h)) (same_header ∙ sym (header_kept is.accepted)) fact)
 
 -- a path is no better than itself
 pub no_better_itself : (question : Question) (found : PathValue) (pieces : List PieceValue)
     → pieces ≡ found.pieces → found.header ≡ header_of found.pieces → IsNoBetter question found pieces
 unfolding IsNoBetter
 no_better_itself question found pieces same_pieces own = λ header is same.
-    let same_header : header ≡ found.header = is.accepted.header ∙ ap header_of same_pieces ∙ sym own in
+    let same_header : header ≡ found.header = header_kept is.accepted ∙ ap header_of same_pieces ∙ sym own in
     subst (IsNoWorse found)
     (sym (ap (λ (ps : List PieceValue). path_with ps header) same_pieces ∙ ap (path_with found.pieces) same_header))
     (no_worse_itself found)
@@ -94,7 +95,7 @@ module _ (question : Question) (found : PathValue) (pieces : List PieceValue) (p
   apart : (later : List PieceValue) → IsNoBetter question found (pieces ++ piece ∷ later)
   unfolding IsNoBetter
   apart later = λ header is same. absurd (never (subst (λ (n : ℕ). slice_get (ways_out (walk_of found.pieces)) n ≡ Some way) (sym here)
-      (subst (λ (walk : List WalkHop). slice_get (ways_out walk) (length (ways_out_of pieces)) ≡ Some way) same (way_behind pieces piece later way leaves is.accepted.path.ranges))))
+      (subst (λ (walk : List WalkHop). slice_get (ways_out walk) (length (ways_out_of pieces)) ≡ Some way) same (way_behind pieces piece later way leaves (path_kept is.accepted).ranges))))
 
   pub passed_over : (usable_pieces : List PieceValue) (depth at : ℕ)
       → WasTried (IsNoBetter question found) usable_pieces depth pieces at piece

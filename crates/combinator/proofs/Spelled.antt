@@ -11,6 +11,7 @@ use Rattle.path_verifier.specs.Piece.{PieceValue, in_order, travelled_entries}
 use Rattle.path_verifier.specs.Header.{field_of, fields_of, info_of, header_of}
 use Rattle.path_verifier.proofs.Headers.{header_is_one}
 use Rattle.path_verifier.proofs.Turned.{reverse_cons}
+use Rattle.path_verifier.proofs.Breaches.{header_kept, path_kept}
 use Rattle.combinator.specs.Candidate.{Question, AreSpelled}
 use Rattle.combinator.specs.inner.Search.{HasFields, HaveAll}
 
@@ -71,9 +72,9 @@ unfolding HasFields
 all_spelled question usable_pieces whole has path is =
     let fields = of_all HasFields usable_pieces path.pieces has (whole path is) in
     let short : All (λ (piece : PieceValue). length piece.segment.entries ≤ 63) path.pieces = λ k d within. (fields k d within).2 in
-    subst (λ (header : HeaderValue). SpellsHeader (spelling header) header) (sym is.accepted.header)
+    subst (λ (header : HeaderValue). SpellsHeader (spelling header) header) (sym (header_kept is.accepted))
     (record {
-      is_header = header_is_one path.pieces question.src question.dst question.set.moment is.accepted.path short;
+      is_header = header_is_one path.pieces question.src question.dst question.set.moment (path_kept is.accepted) short;
       fits = fits path.pieces fields;
       spelled = refl;
     })

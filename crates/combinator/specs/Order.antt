@@ -1,14 +1,14 @@
 -- The order of the paths in an answer, and the order of paths with the same walk.
-use Rattle.std.specs.Prelude.{◌≡◌, ℕ, ◌≤◌, List, length, All}
+use Rattle.std.specs.Prelude.{◌≡◌, ℕ, List, length}
 use Rattle.std.specs.declared.cmp.Ordering.{Ordering}
 use Rattle.std.specs.Ordering.{nat_cmp, ordering_then}
 use Rattle.std.specs.Cmp.Lexicographic.{slice_cmp}
-use Rattle.hop_mac.specs.Lifetime.{expiry_of}
 use Rattle.path_header.specs.Value.{HeaderValue}
 use Rattle.path_header.specs.Spelling.{spelling}
 use Rattle.policy_expr.specs.declared.hop.WalkHop.{WalkHop}
-use Rattle.path_verifier.specs.Piece.{PieceValue, entries_of}
+use Rattle.path_verifier.specs.Piece.{PieceValue}
 use Rattle.path_verifier.specs.Walk.{walk_of}
+use Rattle.path_verifier.specs.Accepted.{LastTo}
 use Rattle.combinator.specs.Candidate.{PathValue}
 
 -- the parts of a path by which it is ordered: its header and its walk
@@ -36,11 +36,6 @@ shown_cmp one other = ordering_then (nat_cmp (length one.0.hops) (length other.0
 -- the order of paths in an answer
 abbrev pub path_cmp : (one other : PathValue) → Ordering
 path_cmp one other = shown_cmp (header_and_walk one) (header_and_walk other)
-
--- no hop of the pieces expires before this half second
-abbrev pub LastTo : ℕ → List PieceValue → Type 0
-LastTo half pieces = All (λ piece. All
-    (λ entry. half ≤ expiry_of piece.segment.timestamp entry.exp_time) (entries_of piece)) pieces
 
 -- the pieces expire no earlier than the others
 abbrev pub LastAsLong : (pieces others : List PieceValue) → Type 0

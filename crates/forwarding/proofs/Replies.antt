@@ -12,7 +12,7 @@ use Rattle.path_verifier.specs.Piece.{PieceValue, HasRange}
 use Rattle.path_verifier.specs.Header.{header_of}
 use Rattle.path_verifier.specs.Accepted.{IsExpiry, MakesPath, request_of, IsAccepted, IsRefused}
 use Rattle.path_verifier.specs.Turned.{turned_piece, turned_pieces}
-use Rattle.path_verifier.proofs.Breaches.{refusal_is_one}
+use Rattle.path_verifier.proofs.Breaches.{accepts, refusal_is_one}
 use Rattle.path_verifier.proofs.Expiry.{live_up_to}
 use Rattle.path_verifier.proofs.Lengths.{path_is_short}
 use Rattle.path_verifier.proofs.TurnedPath.{path_turned}
@@ -35,12 +35,9 @@ pub back_in_time : (pieces : List PieceValue) (src dst now moment least : ℕ)
     → MakesPath pieces src dst now → IsExpiry pieces least → 2 * moment ≤ least
     → IsAccepted (request_of (turned_pieces pieces) (reversed_header (header_behind pieces)) dst src moment
     no_rules)
-back_in_time pieces src dst now moment least path is early = record {
-  path = path_turned pieces src dst now moment path ((live_up_to pieces least moment is).1 early);
-  header = header_turned pieces src dst now path;
-  hops = tt;
-  word = tt;
-}
+back_in_time pieces src dst now moment least path is early =
+    let live = (live_up_to pieces least moment is).1 early in
+    accepts _ (path_turned pieces src dst now moment path live) (header_turned pieces src dst now path) tt tt
 
 -- past it the way back is refused for that, whatever its header and the policy
 pub back_expired : (pieces : List PieceValue) (src dst now moment least : ℕ) (header : HeaderValue)

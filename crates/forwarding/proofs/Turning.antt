@@ -1,5 +1,8 @@
 -- Where one turn leads a packet that stands at a spot of an open path.
 use Rattle.std.proofs.Common.{◌≡◌, ◌≢◌, ℕ, ◌+◌, ◌^◌, ◌<◌, true, false, List, [], Result, Ok, Some, ap, ◌∙◌}
+use Rattle.router_step.specs.Packet.{packet_step}
+use Rattle.refusal.specs.Refusal.{◌>>=◌}
+use Rattle.std.specs.Result.{result_unwrap_or}
 use Rattle.std.specs.Prelude.{slice_get}
 use Rattle.std.proofs.lemmas.Bool.{eq-eqb, ne_eqb}
 use Rattle.hop_mac.specs.Lifetime.{IsLive}
@@ -24,7 +27,7 @@ use Rattle.forwarding.specs.declared.location.RouterStop.{RouterStop}
 use Rattle.forwarding.specs.declared.location.PacketLocation.TheVariants.{AtRouter, Delivered}
 use Rattle.path_header.specs.Spelling.{SpellsHeader, spelling}
 use Rattle.forwarding.specs.Frame.{frame_of}
-use Rattle.forwarding.specs.Turn.{Packet, with_passed_hop, after_outcome, after_step, by_view, turn_of, turned_packet}
+use Rattle.forwarding.specs.Turn.{Packet, with_passed_hop, after_outcome, after_step, turn_of, turned_packet, still}
 use Rattle.forwarding.specs.OnPath.{header_on, at_spot}
 use Rattle.forwarding.proofs.Framed.{frame_goes}
 use Rattle.forwarding.proofs.AtSpot.{IsSpot, Comes, IsOwn}
@@ -98,7 +101,8 @@ turn_is n now source destination payload header stop passed one done named below
     step =
     let packet = carried source destination payload header stop passed in
     let view = view_for n one stop.ia stop.router in
-    ap (λ (v : Result View TopologyFault). (by_view n now packet stop v).1)
+    ap (λ (v : Result View TopologyFault). (result_unwrap_or (v >>= λ (seen : View). Ok
+    (after_step n packet stop (packet_step seen now stop.arrival packet.bytes))) (still packet)).1)
     (view_is n stop.ia stop.router one named below)
     ∙ ap (λ (r : Result (Outcome × List ℕ) Refusal). (after_step n packet stop r).1)
     (frame_goes view now stop.arrival source destination header payload done from for spells step)

@@ -80,8 +80,7 @@ pub record ComesNearer (n : Network) (now source destination : ℕ) (payload : L
 
 -- the packet after its delivery: with the header at the end of all pieces, the payload as it was
 -- sent, and the whole walk passed
-abbrev pub arrived_with : (source destination : ℕ) (payload : List ℕ) (pieces : List PieceValue)
-    → Packet
+abbrev pub arrived_with : (source destination : ℕ) → List ℕ → List PieceValue → Packet
 arrived_with source destination payload pieces =
     let bytes = frame_of source destination (header_behind pieces) payload in
     record { bytes = bytes; place = Delivered; passed = walk_of pieces }

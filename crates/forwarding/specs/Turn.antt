@@ -1,6 +1,8 @@
 -- One turn of a packet in a network: the router that has the packet makes its step on the packet's
 -- bytes, and the outcome says where the packet goes (draft-dekater-scion-dataplane).
 use Rattle.std.specs.Prelude.{◌≢◌, ℕ, List, [], ◌∷◌, ◌++◌, length, nat_lt, if◌then◌else◌, bit_xor, slice_index, slice_set, Result, Ok, Err}
+use Rattle.refusal.specs.Refusal.{◌>>=◌}
+use Rattle.std.specs.Result.{result_unwrap_or}
 use Rattle.scion_topology.specs.declared.fault.TopologyFault.{TopologyFault}
 use Rattle.scion_topology.specs.View.{View}
 use Rattle.scion_topology.specs.Network.{Network}
@@ -47,8 +49,7 @@ abbrev pub hop_by : RouterStop → ℕ → WalkHop
 hop_by stop out = record { ia = stop.ia; ingress = stop.came_in_by; egress = out }
 
 -- the packet at the router that owns the far end of a link; if there is none, the packet as it was
-abbrev pub at_owner : (packet : Packet) (stop : RouterStop) (out ia number : ℕ)
-    (owner : Result ℕ TopologyFault) → Packet
+abbrev pub at_owner : Packet → RouterStop → (out ia number : ℕ) → Result ℕ TopologyFault → Packet
 at_owner packet stop out ia number (Ok router) =
     let passed = with_passed_hop packet.passed (hop_by stop out) in
     record packet { place = AtRouter (stop_at ia router (Link number) number); passed = passed }
@@ -81,14 +82,10 @@ still packet = (replies.Still, packet)
 
 -- the turn of the router that has the packet, with the network's view of it; if there is no such
 -- router, no step is made
-abbrev pub by_view : Network → ℕ → Packet → RouterStop → Result View TopologyFault
-    → TurnReply × Packet
-by_view n now packet stop (Ok view) =
-    after_step n packet stop (packet_step view now stop.arrival packet.bytes)
-by_view n now packet stop (Err fault) = still packet
-
 abbrev pub by_place : Network → ℕ → Packet → PacketLocation → TurnReply × Packet
-by_place n now packet (AtRouter stop) = by_view n now packet stop (view_in n stop.ia stop.router)
+by_place n now packet (AtRouter stop) = result_unwrap_or (do
+  view ← view_in n stop.ia stop.router
+  Ok (after_step n packet stop (packet_step view now stop.arrival packet.bytes))) (still packet)
 by_place n now packet place = still packet
 
 -- one turn: the reply, and the packet after it; a packet that is at no router stays as it is

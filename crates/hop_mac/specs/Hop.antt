@@ -17,8 +17,7 @@ authenticator_under block beta timestamp exp_time cons_ingress cons_egress =
     take 6 (hmac_under block (input_of beta timestamp exp_time cons_ingress cons_egress))
 
 -- the authenticator of a hop under a key
-abbrev pub authenticator : (key : List ℕ) (beta timestamp exp_time cons_ingress cons_egress : ℕ)
-    → List ℕ
+abbrev pub authenticator : List ℕ → (beta timestamp exp_time cons_ingress cons_egress : ℕ) → List ℕ
 authenticator key = authenticator_under (padded_key key)
 
 -- the accumulator after a hop: the one before it, exclusive or the first two bytes of the hop's

@@ -23,9 +23,9 @@ use Rattle.network_core.specs.declared.fault.EventFault.{EventFault}
 use Rattle.network_core.specs.declared.fault.EventFault.TheVariants as faults
 use Rattle.network_core.specs.declared.reply.Reply.{Reply}
 use Rattle.network_core.specs.declared.reply.Reply.TheVariants as replies
-use Rattle.network_core.specs.Value.{Way, asked_at, Shipment, PacketValue, NetValue}
-use Rattle.network_core.specs.Event.{BackOf}
-use Rattle.network_core.specs.Step.{packet_at, header_back, way_back, way_by, shipment_of, shipment_by, Sends}
+use Rattle.network_core.specs.Value.{Way, asked_at, Shipment, PacketValue, NetValue, way_with}
+use Rattle.network_core.specs.Event.{BackOf, ByWay}
+use Rattle.network_core.specs.Step.{packet_at, header_back, way_by, shipment_by, Sends}
 use Rattle.network_core.specs.Headline.{IsAnswerable}
 
 abbrev header_ok : HeaderValue → Result HeaderValue EventFault
@@ -65,7 +65,8 @@ module _ (net : NetValue) (p moment : ℕ) (sent : Shipment) (one : PacketValue)
       ap (λ (packet : Packet). header_back packet packet.place) arrived
       ∙ ap (λ r. or_else faults.NotDelivered r >>= λ (x : HeaderValue × ℕ). header_ok (reversed_header x.0)) read.2
 
-  way_is : way_back one header ≡ back.way
+  way_is : way_with (destination_of one.packet.bytes) (source_of one.packet.bytes) (turned_pieces one.sent.way.pieces)
+      header no_rules ≡ back.way
   way_is =
       let read = received sent.way.source sent.way.destination moment sent.payload sent.way.pieces path frame in
       let source = ap (λ (packet : Packet). destination_of packet.bytes) arrived ∙ read.1 in
@@ -78,7 +79,7 @@ module _ (net : NetValue) (p moment : ℕ) (sent : Shipment) (one : PacketValue)
   checked : check (nat_le (length payload) 1024) faults.PayloadTooLong ≡ Ok tt
   checked = ap (λ b. check b faults.PayloadTooLong) (le-leb (length payload) 1024 few)
 
-  sent_is : shipment_of back.way payload ≡ Ok back
+  sent_is : shipment_by net (ByWay back.way) payload ≡ Ok back
   sent_is = bind_from (check (nat_le (length payload) 1024) faults.PayloadTooLong) _ tt (Ok back) checked refl
 
   routed : way_by net (BackOf p) ≡ Ok back.way

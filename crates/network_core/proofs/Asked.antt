@@ -11,12 +11,13 @@ use Rattle.scion_topology.specs.Topology.{IsNetwork}
 use Rattle.beaconing.proofs.Reaching.{any_here, any_there}
 use Rattle.policy_expr.specs.Options.{WeighedRules}
 use Rattle.path_verifier.specs.Piece.{PieceValue}
+use Rattle.path_verifier.proofs.Breaches.{path_kept}
 use Rattle.combinator.specs.Candidate.{PathValue}
 use Rattle.network_core.specs.declared.fault.EventFault.TheVariants as faults
 use Rattle.network_core.specs.declared.reply.Reply.TheVariants as replies
-use Rattle.network_core.specs.Event.{ByAnswer, Ask, Send}
+use Rattle.network_core.specs.Event.{ByAnswer, Ask, Send, ByWay}
 use Rattle.network_core.specs.Value.{Way, KeptAnswer, way_on, Shipment, NetValue, new_net}
-use Rattle.network_core.specs.Step.{shipment_by, way_by, shipment_of, IsAnswerTo}
+use Rattle.network_core.specs.Step.{shipment_by, way_by, IsAnswerTo}
 use Rattle.network_core.specs.History.{EventRecord, IsHistory, net_at, Occurs, IssuedIn, IssuedBefore, IsAskedBefore}
 use Rattle.network_core.specs.Delivery.{AllFramed}
 use Rattle.network_core.specs.Headline.{HaveBeginning}
@@ -71,10 +72,10 @@ module _ (start : NetValue) (history : List EventRecord) (is : IsHistory start h
 
   asked_there : (k : ℕ) (m : EventRecord) → slice_get history k ≡ Some m
       → (a : IsAsk (at k) m.event m.reply (at (k + 1)))
-      → IsAskedBefore start history (k + 1) (length (at k).answers) a.gives.one
+      → IsAskedBefore start history (k + 1) (length (at k).answers) a.one
   asked_there k m there a =
-      let one = a.gives.one in
-      let answers = answer_is one (at k) a.src a.dst a.options a.limit a.gives.is in
+      let one = a.one in
+      let answers = answer_is one (at k) a.src a.dst a.options a.limit a.is in
       record {
         at = k;
         before = omega arith;
@@ -82,8 +83,8 @@ module _ (start : NetValue) (history : List EventRecord) (is : IsHistory start h
         limit = a.limit;
         asked = occurs_at history k m (Ask one.source one.destination (Ok a.options) a.limit)
             (replies.Answered (length (at k).answers)) there
-            (a.event_is ∙ event_of one (at k) a.src a.dst a.options a.limit a.gives.is)
-            a.gives.told;
+            (a.event_is ∙ event_of one (at k) a.src a.dst a.options a.limit a.is)
+            a.told;
         is = answers;
         accepted = kept_accepted (at k) a.options a.limit one answers;
         issued = kept_stored (IssuedBefore start history k) (at k) a.options a.limit one
@@ -97,11 +98,11 @@ module _ (start : NetValue) (history : List EventRecord) (is : IsHistory start h
   one_more : (k : ℕ) (m : EventRecord) → slice_get history k ≡ Some m → AllAsked k
       → IsAsk (at k) m.event m.reply (at (k + 1)) → AllAsked (k + 1)
   one_more k m found all a number one there =
-      let longer = ap (λ (net : NetValue). net.answers) a.gives.kept in
-      elim (last_or (at k).answers a.gives.one number one (ap (λ xs. slice_get xs number) (sym longer) ∙ there)) [
+      let longer = ap (λ (net : NetValue). net.answers) a.kept in
+      elim (last_or (at k).answers a.one number one (ap (λ xs. slice_get xs number) (sym longer) ∙ there)) [
         | inl old ↦ asked_still k number one (all number one old)
         | inr new ↦ subst (λ x. IsAskedBefore start history (k + 1) number x) new.1
-            (subst (λ n. IsAskedBefore start history (k + 1) n a.gives.one) new.0 (asked_there k m found a))
+            (subst (λ n. IsAskedBefore start history (k + 1) n a.one) new.0 (asked_there k m found a))
       ]
 
   asked_next : (k : ℕ) (m : EventRecord) → slice_get history k ≡ Some m → AllAsked k → AllAsked (k + 1)
@@ -185,9 +186,9 @@ module _ (start : NetValue) (history : List EventRecord) (sent : ℕ) where
 
 -- ---- what is sent by an answer
 
-way_sent : (way : Way) (payload : List ℕ) (sent : Shipment) → shipment_of way payload ≡ Ok sent
-    → way ≡ sent.way
-way_sent way payload sent is =
+way_sent : (net : NetValue) (way : Way) (payload : List ℕ) (sent : Shipment)
+    → shipment_by net (ByWay way) payload ≡ Ok sent → way ≡ sent.way
+way_sent net way payload sent is =
     let passed = both_done (check (nat_le (length payload) 1024) faults.PayloadTooLong) _ sent is in
     ap (λ (s : Shipment). s.way) (ok_is (record { way = way; payload = payload }) sent passed.1.1)
 
@@ -211,7 +212,7 @@ by_answer net ask path payload sent is =
       there = ok_or_ok (slice_get net.answers ask) faults.NoAnswer one.0 one.1.0;
       chosen = chosen.0;
       found = ok_or_ok (slice_get one.0.answer.paths path) faults.NoAnswer chosen.0 chosen.1.0;
-      same = ap (λ (w : Way). w.pieces) on ∙ ap (λ (w : Way). w.pieces) (way_sent way.0 payload sent way.1.1);
+      same = ap (λ (w : Way). w.pieces) on ∙ ap (λ (w : Way). w.pieces) (way_sent net way.0 payload sent way.1.1);
     }
 
 pub of_answer : (network : Network) (history : List EventRecord) (number p ask path : ℕ)
@@ -235,7 +236,7 @@ of_answer network history number p ask path payload known is framed answers =
       s.0,
       (
         s.1.0,
-        beginning start history number s.0.way.pieces s.1.1.accepted.path.some
+        beginning start history number s.0.way.pieces (path_kept s.1.1.accepted).some
             (subst (All (λ (piece : PieceValue). IssuedBefore start history number piece.segment)) by.same issued),
       ),
     )

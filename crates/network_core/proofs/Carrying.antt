@@ -1,5 +1,6 @@
 -- A packet on a path that is let through, event by event.
 use Rattle.std.proofs.Common.{◌≡◌, ℕ, zero, suc, ◌+◌, ◌<◌, ◌≤◌, ◌⊎◌, Bool, true, ltb, if◌then◌else◌, List, [], ◌∷◌, length, set, Some, Ok, Err, Result, refl, sym, ap, ◌∙◌, subst, arith, inl, inr}
+use Rattle.std.proofs.lemmas.List.Sums.{sum_by-cons}
 use Rattle.std.specs.Prelude.{slice_get}
 use Rattle.std.specs.Option.{ok_or}
 use Rattle.std.proofs.lemmas.Bool.{cases_eq, eq-eqb, ne_eqb}
@@ -261,6 +262,8 @@ carried_through p sent total done net (moment ∷ later) is lets c =
     let next = carried_on p sent total done net moment.net moment.event moment.reply is.0 lets.0 c in
     let rest =
     carried_through p sent total (done + one_if (is_turn_of p moment.event)) moment.net later is.1 lets.1 next in
+    let more : turns_of p (moment ∷ later) ≡ one_if (is_turn_of p moment.event) + turns_of p later =
+    sum_by-cons _ moment later in
     let same : done + one_if (is_turn_of p moment.event) + turns_of p later ≡ done + turns_of p (moment ∷ later) =
-    omega arith in
+    omega (arith, more) in
     subst (λ k. Carried (net_after moment.net later) p sent total k) same rest

@@ -5,7 +5,7 @@ use Rattle.std.specs.Prelude.{slice_get}
 use Rattle.std.proofs.lemmas.Bool.{cases_lt}
 use Rattle.std.proofs.lemmas.List.{map-append}
 use Rattle.std.proofs.lemmas.Option.{same_Some, slice_get_within}
-use Rattle.refusal.specs.Refusal.{◌>>=◌, check}
+use Rattle.refusal.specs.Refusal.{◌>>=◌, check, refused_as}
 use Rattle.refusal.proofs.Steps.{ok_or_ok}
 use Rattle.scion_topology.specs.Topology.{IsNetwork, set_up}
 use Rattle.path_segment.specs.declared.entry.Entry.{Entry}
@@ -26,7 +26,7 @@ use Rattle.network_core.specs.declared.reply.Reply.TheVariants as replies
 use Rattle.network_core.specs.declared.reply.Reply.TheVariants.{Begun, Registered}
 use Rattle.network_core.specs.Event.{EventValue, Originate, Extend, Terminate, CutLink, RotateKey}
 use Rattle.network_core.specs.Value.{NetValue}
-use Rattle.network_core.specs.Step.{Made, has_room, with_beacon, new_beacon, passed_on, beacon_at, Leads, Step}
+use Rattle.network_core.specs.Step.{Made, has_room, with_beacon, beacon_at, Leads, Step}
 use Rattle.network_core.specs.History.{EventRecord, IsHistory, net_at, Occurs, PassOn, key_then, IssuedIn}
 use Rattle.network_core.specs.Delivery.{is_done}
 use Rattle.network_core.specs.Headline.{IsDone}
@@ -118,7 +118,7 @@ originate_made : (old new : NetValue) (ia egress beta0 n : ℕ)
     → Step old (Originate ia egress beta0) (Begun n) new
     → (c : Chain) × ((originated_beacon old.network ia egress old.moment beta0 ≡ Ok c) × HasMore old new n c)
 originate_made old new ia egress beta0 n is =
-    elim (then_at old new (Begun n) (new_beacon old ia egress beta0) (with_beacon old) is) [
+    elim (then_at old new (Begun n) (refused_as faults.Beacon (originated_beacon old.network ia egress old.moment beta0)) (with_beacon old) is) [
       | inl made ↦ (
         made.0,
         (
@@ -140,7 +140,7 @@ record HasPassed (old new : NetValue) (beacon ia egress number : ℕ) : Type 0 w
 extend_made : (old new : NetValue) (beacon ia egress n : ℕ)
     → Step old (Extend beacon ia egress) (Begun n) new → HasPassed old new beacon ia egress n
 extend_made old new beacon ia egress n is =
-    elim (then_at old new (Begun n) (passed_on old beacon ia egress) (with_beacon old) is) [
+    elim (then_at old new (Begun n) (beacon_at old beacon >>= λ from. refused_as faults.Beacon (extended_beacon old.network from ia egress)) (with_beacon old) is) [
       | inl made ↦ (
           let was = both_done (beacon_at old beacon) _ made.0 made.1.0 in
           record {

@@ -7,6 +7,7 @@ use Rattle.scion_topology.specs.declared.fault.TopologyFault.{TopologyFault}
 use Rattle.scion_topology.specs.Topology.{IsNetwork, owner_in}
 use Rattle.path_verifier.specs.Walk.{walk_of}
 use Rattle.path_verifier.specs.Accepted.{IsAccepted}
+use Rattle.path_verifier.proofs.Breaches.{header_kept, path_kept}
 use Rattle.forwarding.specs.Frame.{frame_of, HasFrame}
 use Rattle.forwarding.specs.Turn.{Packet, put_at}
 use Rattle.forwarding.specs.OnPath.{OnPath}
@@ -53,7 +54,7 @@ departed p old new sent accepted frame is =
     (let e : replies.Sent (length old.packets) ≡ replies.Sent p = ap (λ (d : Reply × NetValue). d.0) both in cc) in
     let new_is : made ≡ new = ap (λ (d : Reply × NetValue). d.1) both in
     let stands = starts old.network sent.way.source sent.way.destination old.moment router sent.payload
-    sent.way.pieces accepted.path frame own in
+    sent.way.pieces (path_kept accepted) frame own in
     subst (λ (net : NetValue). Carried net p sent (turns_for old.network (walk_of sent.way.pieces)) 0) new_is (record {
       packet = packet_of sent router;
       there = ap (slice_get (old.packets ++ packet_of sent router ∷ [])) (sym number) ∙ last_there old.packets
@@ -64,7 +65,7 @@ departed p old new sent accepted frame is =
         stands = subst (λ header. OnPath old.network sent.way.source sent.way.destination sent.payload
             sent.way.pieces (turns_for old.network (walk_of sent.way.pieces))
             (put_at (frame_of sent.way.source sent.way.destination header sent.payload) sent.way.source router))
-            (sym accepted.header) stands;
+            (sym (header_kept accepted)) stands;
         count = omega arith;
       });
     })
@@ -188,4 +189,4 @@ pub undisturbed : (p k : ℕ) (old new : NetValue) (sent : Shipment) (later : Li
 undisturbed p k old new sent later is frame network sound history quiet =
     let from = accepted_then p old new sent is in
     delivery p k old new sent later is frame history
-    (let_all p sent old.moment new later from.0.path history network sound quiet)
+    (let_all p sent old.moment new later (path_kept from.0) history network sound quiet)

@@ -20,10 +20,10 @@ use Rattle.combinator.specs.Fault.{ends_at}
 use Rattle.network_core.specs.declared.fault.EventFault.{EventFault}
 use Rattle.network_core.specs.declared.fault.EventFault.TheVariants as faults
 use Rattle.network_core.specs.declared.reply.Reply.{Reply}
-use Rattle.network_core.specs.declared.reply.Reply.TheVariants.{Begun, Registered}
+use Rattle.network_core.specs.declared.reply.Reply.TheVariants.{Begun, Registered, Answered}
 use Rattle.network_core.specs.Event.{EventValue, Tick, Originate, Extend, Terminate, Sweep, Ask, Send, Turn, Lose, Alter, CutLink, MendLink, RotateKey}
-use Rattle.network_core.specs.Value.{Shipment, PacketValue, NetValue}
-use Rattle.network_core.specs.Step.{Made, has_room, with_beacon, with_segment, new_beacon, passed_on, new_segment, beacon_at, with_network, flying_at, options_asked, shipment_by, packet_of, GivesAnswer, Leads, Asks, Sends, Step}
+use Rattle.network_core.specs.Value.{Shipment, PacketValue, NetValue, KeptAnswer}
+use Rattle.network_core.specs.Step.{Made, has_room, with_beacon, with_segment, new_segment, beacon_at, with_network, flying_at, options_asked, shipment_by, packet_of, Leads, Asks, Sends, Step, IsAnswerTo}
 use Rattle.network_core.specs.Delivery.{is_done}
 
 -- ---- steps of a definition
@@ -132,7 +132,10 @@ pub record IsAsk (old : NetValue) (event : EventValue) (reply : Reply) (new : Ne
   pub options : List WeighedRules
   pub limit : ℕ
   pub event_is : event ≡ Ask src dst (Ok options) limit
-  pub gives : GivesAnswer options src dst limit old reply new
+  pub one : KeptAnswer
+  pub is : IsAnswerTo old src dst options limit one
+  pub told : reply ≡ Answered (length old.answers)
+  pub kept : new ≡ record old { answers = old.answers ++ one ∷ [] }
 
 abbrev pub Answers : NetValue → EventValue → Reply → NetValue → Type 0
 Answers old event reply new = (new.answers ≡ old.answers) ⊎ IsAsk old event reply new
@@ -312,7 +315,7 @@ asked : (old new : NetValue) (reply : Reply) (src dst : ℕ) (read : Result (Lis
 asked old new reply src dst read limit (Err fault) are is = nothing old new (Ask src dst read limit) reply is.1
 asked old new reply src dst read limit (Ok options) are is =
     let event = Ask src dst read limit in
-    let kept = is.kept in
+    let kept = is.1.1.1 in
     record {
       network = inl (network_now old new event reply _ kept);
       stores = inl (beacons_now old new event reply _ kept, segments_now old new event reply _ kept);
@@ -322,7 +325,10 @@ asked old new reply src dst read limit (Ok options) are is =
         options = options;
         limit = limit;
         event_is = ap (λ r. Ask src dst r limit) (options_read old src dst read limit options are);
-        gives = is;
+        one = is.0;
+        is = is.1.0;
+        told = is.1.1.0;
+        kept = kept;
       });
       packets = inl (packets_now old new event reply _ kept);
     }
@@ -336,7 +342,7 @@ effect old new (Tick to) reply is =
     (λ _ _ done. in_moment old new (Tick to) reply to done.1) is
 effect old new (Originate ia egress beta0) reply is =
     let event = Originate ia egress beta0 in
-    then_effect old new event reply (new_beacon old ia egress beta0) (with_beacon old) (λ chain made.
+    then_effect old new event reply (refused_as faults.Beacon (originated_beacon old.network ia egress old.moment beta0)) (with_beacon old) (λ chain made.
     added old new event reply chain (λ told beacons segments. inr (inl (record {
       ia = ia;
       egress = egress;
@@ -350,7 +356,7 @@ effect old new (Originate ia egress beta0) reply is =
     })))) is
 effect old new (Extend beacon ia egress) reply is =
     let event = Extend beacon ia egress in
-    then_effect old new event reply (passed_on old beacon ia egress) (with_beacon old) (λ chain made.
+    then_effect old new event reply (beacon_at old beacon >>= λ from. refused_as faults.Beacon (extended_beacon old.network from ia egress)) (with_beacon old) (λ chain made.
     added old new event reply chain (λ told beacons segments. (
     let was = both_done (beacon_at old beacon) _ chain made in
     inr (inr (inl (record {

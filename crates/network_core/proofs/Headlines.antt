@@ -6,6 +6,7 @@ use Rattle.scion_topology.specs.Topology.{IsNetwork}
 use Rattle.path_verifier.specs.Walk.{walk_of}
 use Rattle.path_verifier.specs.Accepted.{IsAccepted}
 use Rattle.path_verifier.proofs.Expiry.{live_up_to}
+use Rattle.path_verifier.proofs.Breaches.{path_kept}
 use Rattle.forwarding.specs.Frame.{HasFrame}
 use Rattle.forwarding.specs.Journey.{turns_for}
 use Rattle.forwarding.proofs.Bounds.{turns_are_few}
@@ -90,7 +91,7 @@ module _ (start : NetValue) (history : List EventRecord) (is : IsHistory start h
       (sound_from start history is network (get_or sent.way.pieces i d) kept.begin
       (λ a b ia key other low later first second. kept.keys a b ia key other low later first second i d within)
       (λ a ia interface low cut. kept.links a ia interface low cut i d within)
-      one.0 one.1 k (accepted.path.ranges i d within) one.2.0 (omega arith) one.2.1.1).1
+      one.0 one.1 k ((path_kept accepted).ranges i d within) one.2.0 (omega arith) one.2.1.1).1
 
   -- each event behind it lets the packet go on
   lets_at : (k : ℕ) (m : EventRecord) → number < k → slice_get history k ≡ Some m
@@ -102,7 +103,7 @@ module _ (start : NetValue) (history : List EventRecord) (is : IsHistory start h
     let_through = λ event done. sound_is_let_through (net_at start history k).network
         (net_at start history k).moment sent.way.source sent.way.destination
         (net_at start history number).moment sent.way.pieces
-        (network_at start history k is network) accepted.path
+        (network_at start history k is network) (path_kept accepted)
         ((live_up_to sent.way.pieces quiet.expiry (net_at start history k).moment quiet.least).1
         (quiet.in_time k (done_at history k m (Turn p) there event done)))
         (sound k (omega arith) quiet.kept);
@@ -179,13 +180,13 @@ module _ (start : NetValue) (history : List EventRecord) (is : IsHistory start h
     in_time = λ k after quiet enough. (
         let few = turns_are_few (net_at start history number).network sent.way.pieces sent.way.source
         sent.way.destination (net_at start history number).moment
-        (accepted start history is network number p sent sends frame).path in
+        (path_kept (accepted start history is network number p sent sends frame)) in
         (forwarded k after quiet).exact.1 (omega arith));
     answerable = λ k j after order quiet delivered payload few. (
         let f = forwarded k after quiet in
         answerable (net_at start history j) p (net_at start history number).moment sent f.packet
         (delivered_stays start history p k j f.packet is order f.there delivered)
-        f.holds (f.whole delivered) (accepted start history is network number p sent sends frame).path
+        f.holds (f.whole delivered) (path_kept (accepted start history is network number p sent sends frame))
         frame payload few);
     stays = λ k j one order there delivered. delivered_stays start history p k j one is order there delivered;
   }

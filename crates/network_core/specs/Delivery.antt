@@ -1,6 +1,6 @@
 -- Conditions on the events after a packet was sent, and what they guarantee for the packet
 -- (draft-dekater-scion-dataplane).
-use Rattle.std.specs.Prelude.{◌≡◌, ◌≢◌, ◌↔◌, ℕ, ◌+◌, ◌<◌, ◌≤◌, ◌==◌, Bool, true, false, if◌then◌else◌, List, [], ◌∷◌, ◌++◌, Some, IsOk, slice_get, All}
+use Rattle.std.specs.Prelude.{◌≡◌, ◌≢◌, ◌↔◌, ℕ, ◌+◌, ◌<◌, ◌≤◌, ◌==◌, Bool, true, false, List, [], ◌∷◌, ◌++◌, Some, IsOk, slice_get, All, count_by}
 use Rattle.policy_expr.specs.declared.hop.WalkHop.{WalkHop}
 use Rattle.scion_topology.specs.Network.{Network}
 use Rattle.scion_topology.specs.Topology.{owner_in}
@@ -47,8 +47,7 @@ is_turn_of p (Turn other) = other == p
 is_turn_of p event = false
 
 abbrev pub turns_of : ℕ → List EventRecord → ℕ
-turns_of p [] = 0
-turns_of p (one ∷ later) = (if is_turn_of p one.event then 1 else 0) + turns_of p later
+turns_of p history = count_by (λ one. is_turn_of p one.event) history
 
 -- the state of a packet whose walk takes `total` turns and that has had `done` of them. No router
 -- has refused it, and the hops that it has passed are the beginning of its walk. It is delivered if

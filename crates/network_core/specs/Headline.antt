@@ -28,8 +28,7 @@ pub record IsDone (history : List EventRecord) (k : ℕ) (event : EventValue) : 
 
 -- each piece is of a segment that was issued by events of the history, from number `begin` on and
 -- before number `sent`
-abbrev pub AreIssuedFrom : (start : NetValue) (history : List EventRecord) (begin sent : ℕ)
-    (pieces : List PieceValue) → Type 0
+abbrev pub AreIssuedFrom : NetValue → List EventRecord → (begin sent : ℕ) → List PieceValue → Type 0
 AreIssuedFrom start history begin sent pieces =
     All (λ piece. (first last : ℕ) × ((begin ≤ first) × ((last < sent)
     × IssuedIn start history first last piece.segment))) pieces

@@ -60,16 +60,17 @@ with_beacon net beacon = do
 abbrev pub beacon_at : NetValue → ℕ → Result Chain EventFault
 beacon_at net beacon = ok_or (slice_get net.beacons beacon) faults.NoBeacon
 
--- the beacon that an AS begins, with the current second as its timestamp
-abbrev pub new_beacon : (net : NetValue) (ia out beta0 : ℕ) → Result Chain EventFault
-new_beacon net ia out beta0 =
-    refused_as faults.Beacon (originated_beacon net.network ia out net.moment beta0)
+-- Originate: one more beacon, which an AS begins with the current second as its timestamp
+abbrev pub originates : (net : NetValue) (ia egress beta0 : ℕ) → Made
+originates net ia egress beta0 =
+    refused_as faults.Beacon (originated_beacon net.network ia egress net.moment beta0)
+    >>= with_beacon net
 
--- the beacon after an AS has passed it on
-abbrev pub passed_on : (net : NetValue) (beacon ia egress : ℕ) → Result Chain EventFault
-passed_on net beacon ia egress = do
+-- Extend: one more beacon, the old one after an AS has passed it on
+abbrev pub extends : (net : NetValue) (beacon ia egress : ℕ) → Made
+extends net beacon ia egress = (do
   old ← beacon_at net beacon
-  refused_as faults.Beacon (extended_beacon net.network old ia egress)
+  refused_as faults.Beacon (extended_beacon net.network old ia egress)) >>= with_beacon net
 
 -- the segment that a beacon becomes if it ends in an AS
 abbrev pub new_segment : (net : NetValue) (beacon ia : ℕ) → Result Chain EventFault
@@ -83,13 +84,7 @@ with_segment net segment = do
   is_new ← refused_as faults.Store (answer_to net.segments segment net.moment)
   Ok (Registered is_new, record net { segments = with_registered net.segments segment net.moment })
 
--- Originate and Extend: one more beacon; Terminate: one more segment
-abbrev pub originates : (net : NetValue) (ia egress beta0 : ℕ) → Made
-originates net ia egress beta0 = new_beacon net ia egress beta0 >>= with_beacon net
-
-abbrev pub extends : (net : NetValue) (beacon ia egress : ℕ) → Made
-extends net beacon ia egress = passed_on net beacon ia egress >>= with_beacon net
-
+-- Terminate: one more segment
 abbrev pub terminates : (net : NetValue) (beacon ia : ℕ) → Made
 terminates net beacon ia = new_segment net beacon ia >>= with_segment net
 
@@ -109,9 +104,8 @@ with_network net changed = do
 
 -- the options of a request for at most `limit` paths: BadLimit, then the refusal of the options'
 -- texts, then SameAs, then TooMany
-abbrev pub options_asked : (net : NetValue) (src dst : ℕ)
-    (read : Result (List WeighedRules) OptionFault) (limit : ℕ)
-    → Result (List WeighedRules) EventFault
+abbrev pub options_asked : NetValue → (src dst : ℕ) → Result (List WeighedRules) OptionFault
+    → (limit : ℕ) → Result (List WeighedRules) EventFault
 options_asked net src dst read limit = do
   _ ← check (is_limit limit) faults.BadLimit
   options ← refused_as faults.Policy read
@@ -135,18 +129,13 @@ pub record IsAnswerTo (net : NetValue) (src dst : ℕ) (options : List WeighedRu
       one.answer.used one.answer.paths
   pub rules : one.rules ≡ rules_used options one.answer.used
 
--- the network with one more answer, and a reply with its number
-pub record GivesAnswer (options : List WeighedRules) (src dst limit : ℕ) (old : NetValue)
-    (reply : Reply) (new : NetValue) : Type 0 where
-  pub one : KeptAnswer
-  pub is : IsAnswerTo old src dst options limit one
-  pub told : reply ≡ Answered (length old.answers)
-  pub kept : new ≡ record old { answers = old.answers ++ one ∷ [] }
-
--- the request is answered, or refused without a change
+-- the request is answered, and the network has one more answer, of which the reply says the number;
+-- or it is refused without a change
 abbrev pub Asks : (options : Result (List WeighedRules) EventFault) (src dst limit : ℕ)
     (old : NetValue) (reply : Reply) (new : NetValue) → Type 0
-Asks (Ok options) src dst limit old reply new = GivesAnswer options src dst limit old reply new
+Asks (Ok options) src dst limit old reply new = (one : KeptAnswer)
+    × (IsAnswerTo old src dst options limit one × ((reply ≡ Answered (length old.answers))
+    × (new ≡ record old { answers = old.answers ++ one ∷ [] })))
 Asks (Err fault) src dst limit old reply new = (reply ≡ Refused fault) × (new ≡ old)
 
 -- ---- packets on their way
@@ -200,14 +189,9 @@ header_back packet places.Delivered = do
   Ok (reversed_header read.0)
 header_back packet place = Err faults.NotDelivered
 
--- the way back of a delivered packet: its source and destination, as its bytes give them,
--- exchanged; this header; the pieces of its path in reverse order and direction; and no policy
-abbrev pub way_back : PacketValue → HeaderValue → Way
-way_back one header = way_with (destination_of one.packet.bytes) (source_of one.packet.bytes)
-    (turned_pieces one.sent.way.pieces) header no_rules
-
 -- the way of a route: NoAnswer if there is no such answer or it has no such path; NoPacket,
--- NotDelivered
+-- NotDelivered. The way back of a delivered packet has its source and destination, as its bytes
+-- give them, exchanged; its header reversed; its pieces in reverse order and direction; no policy
 abbrev pub way_by : NetValue → RouteValue → Result Way EventFault
 way_by net (ByAnswer ask path) = do
   answered ← ok_or (slice_get net.answers ask) faults.NoAnswer
@@ -217,18 +201,15 @@ way_by net (ByWay way) = Ok way
 way_by net (BackOf number) = do
   one ← packet_at net number
   header ← header_back one.packet one.packet.place
-  Ok (way_back one header)
+  Ok (way_with (destination_of one.packet.bytes) (source_of one.packet.bytes)
+      (turned_pieces one.sent.way.pieces) header no_rules)
 
--- the shipment of a way and a payload: PayloadTooLong above 1,024 bytes
-abbrev pub shipment_of : Way → List ℕ → Result Shipment EventFault
-shipment_of way payload = do
-  _ ← check (nat_le (length payload) 1024) faults.PayloadTooLong
-  Ok (record { way = way; payload = payload })
-
+-- the shipment by a route with a payload: the way's refusals, PayloadTooLong above 1,024 bytes
 abbrev pub shipment_by : NetValue → RouteValue → List ℕ → Result Shipment EventFault
 shipment_by net route payload = do
   way ← way_by net route
-  shipment_of way payload
+  _ ← check (nat_le (length payload) 1024) faults.PayloadTooLong
+  Ok (record { way = way; payload = payload })
 
 -- the packet of a shipment, at this router of its source
 abbrev pub packet_of : Shipment → ℕ → PacketValue
@@ -254,8 +235,7 @@ Leads (Err fault) old reply new = (reply ≡ Refused fault) × (new ≡ old)
 
 -- if the verifier accepts the path at the current second, the event is answered as `departs` says;
 -- else it is refused by the verifier's fault
-abbrev pub Sends : (shipment : Result Shipment EventFault) (old : NetValue) (reply : Reply)
-    (new : NetValue) → Type 0
+abbrev pub Sends : Result Shipment EventFault → (old : NetValue) → Reply → (new : NetValue) → Type 0
 Sends (Ok sent) old reply new =
     (IsAccepted (asked_at old.moment sent.way) × Leads (departs old sent) old reply new)
     ⊎ ((fault : VerifyFault) × (IsRefused (asked_at old.moment sent.way) fault

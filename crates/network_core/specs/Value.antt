@@ -19,8 +19,7 @@ pub record Way : Type 0 where
   pub rules : Rules
 
 -- the way of these parts
-abbrev pub way_with : (from to : ℕ) (pieces : List PieceValue) (header : HeaderValue)
-    (rules : Rules) → Way
+abbrev pub way_with : (from to : ℕ) → List PieceValue → HeaderValue → Rules → Way
 way_with from to pieces header rules =
     record { source = from; destination = to; pieces = pieces; header = header; rules = rules }
 

@@ -7,10 +7,10 @@ ghost use Rattle.forwarding.specs.Frame.{HasFrame};
 ghost use Rattle.network_core.specs.declared.fault.EventFault.TheVariants as faults;
 ghost use Rattle.network_core.specs.inner.Doing.{BeginsAt, DoesSend, JudgesEvent, Readies, ReadiesFrom};
 ghost use Rattle.network_core.specs.SentWay.{stored_way};
-ghost use Rattle.network_core.specs.Event.{BackOf, ByAnswer};
+ghost use Rattle.network_core.specs.Event.{BackOf, ByAnswer, ByWay};
 ghost use Rattle.network_core.specs.Seen.{way_of};
 ghost use Rattle.network_core.specs.Value.{asked_at, way_on};
-ghost use Rattle.network_core.specs.Step.{header_back, packet_of, shipment_by, shipment_of};
+ghost use Rattle.network_core.specs.Step.{header_back, packet_of, shipment_by};
 
 use crate::answer::{Answer, SharedAnswer};
 use crate::event::Given;
@@ -55,7 +55,8 @@ impl Net {
         way: &Given<'_>,
         payload: &[u8],
     ) -> Result<Reply, EventError>
-        ensures { DoesSend (shipment_of (way_of way.now) payload.now) self.old self.new result }
+        ensures { DoesSend (shipment_by self.old (ByWay (way_of way.now)) payload.now)
+            self.old self.new result }
     {
         self.shrink_last_packet();
         match self.ready_given(alloc, way, payload) {
@@ -99,7 +100,7 @@ impl Net {
         payload: &[u8],
     ) -> Result<Packet, EventError>
         ensures { ReadiesFrom (λ p. p) self.now
-            (shipment_of (way_of way.now) payload.now) result }
+            (shipment_by self.now (ByWay (way_of way.now)) payload.now) result }
     {
         check_payload(payload)?;
         self.ready(alloc, way, payload)

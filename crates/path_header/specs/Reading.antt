@@ -8,7 +8,7 @@ use Rattle.path_header.specs.declared.fault.HeaderFault.TheVariants.{Short, Rese
 use Rattle.path_header.specs.declared.meta.Meta.{Meta}
 use Rattle.path_header.specs.declared.fields.InfoField.{InfoField}
 use Rattle.path_header.specs.declared.fields.HopField.{HopField}
-use Rattle.path_header.specs.Value.{HeaderValue, info_count, hop_count, len_for, header_len}
+use Rattle.path_header.specs.Value.{HeaderValue, info_count, hop_count, len_for}
 use Rattle.path_header.specs.Building.{checked_lens, first_header}
 
 -- the number in the first four bytes, big-endian
@@ -95,4 +95,4 @@ header_at bytes = do
 abbrev pub read_at : List ℕ → Result (HeaderValue × ℕ) HeaderFault
 read_at bytes = do
   v ← header_at bytes
-  Ok (v, header_len v)
+  Ok (v, len_for v.lens)

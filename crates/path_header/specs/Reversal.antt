@@ -1,16 +1,12 @@
 -- The reversed path of a reply: draft-dekater-scion-dataplane, reversal of a SCION path.
-use Rattle.std.specs.Prelude.{ℕ, ◌-◌, not, List, [], ◌∷◌, length, map, reverse, filter, nat_lt}
+use Rattle.std.specs.Prelude.{◌-◌, not, [], ◌∷◌, length, map, reverse, filter, nat_lt}
 use Rattle.path_header.specs.declared.lens.SegLens.{SegLens}
 use Rattle.path_header.specs.declared.fields.InfoField.{InfoField}
 use Rattle.path_header.specs.Value.{HeaderValue, lens_from}
 
--- the lengths that are not zero, one for each segment
-abbrev pub path_lens : SegLens → List ℕ
-path_lens l = filter (λ n. nat_lt 0 n) (l.first ∷ l.second ∷ l.third ∷ [])
-
--- the lengths with the segments in reverse order
+-- the lengths with the segments in reverse order; a length of zero is that of no segment
 abbrev pub reversed_lens : SegLens → SegLens
-reversed_lens l = lens_from (reverse (path_lens l))
+reversed_lens l = lens_from (reverse (filter (nat_lt 0) (l.first ∷ l.second ∷ l.third ∷ [])))
 
 -- the info field of the same segment, travelled the other way
 abbrev pub turned_info : InfoField → InfoField

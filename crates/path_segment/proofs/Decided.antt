@@ -1,5 +1,6 @@
 -- What the tests of chains say: liveness and sameness.
 use Rattle.std.proofs.Common.{◌≡◌, ℕ, Bool, true, ◌==◌, List, Decides, refl, ap, ◌∙◌}
+use Rattle.std.specs.Cmp.Lexicographic.{pointwise}
 use Rattle.std.specs.List.{list_all}
 use Rattle.std.proofs.lemmas.Bool.{and_parts, and_from, eqb-true, eq-eqb, leb-true, le-leb}
 use Rattle.std.proofs.lemmas.Bool.Decides.{Decides-by_and}
@@ -9,7 +10,7 @@ use Rattle.path_segment.specs.declared.entry.Entry.{Entry}
 use Rattle.path_segment.specs.declared.kind.SegKind.{SegKind}
 use Rattle.path_segment.specs.declared.kind.SegKind.TheVariants.{Core, Intra}
 use Rattle.path_segment.specs.Chain.{Chain, chain_of, IsChainLive}
-use Rattle.path_segment.specs.Tests.{is_live, is_same, same_kind, same_entry, same_entries}
+use Rattle.path_segment.specs.Tests.{is_live, is_same, same_kind, same_entry}
 use Rattle.path_segment.proofs.Same.{same_entry-Decides}
 
 pub is_live-Decides : (now : ℕ) (segment : Chain) → Decides (is_live now segment) (IsChainLive segment now)
@@ -25,7 +26,7 @@ same_kind-Decides Core Intra = (λ e. cc, λ e. cc)
 same_kind-Decides Intra Core = (λ e. cc, λ e. cc)
 same_kind-Decides Intra Intra = (λ _. refl, λ _. refl)
 
-same_entries-Decides : (a b : List Entry) → Decides (same_entries a b) (a ≡ b)
+same_entries-Decides : (a b : List Entry) → Decides (pointwise same_entry a b) (a ≡ b)
 same_entries-Decides a b = slice_eq-Decides {A = Entry} {E = same_entry} same_entry-Decides a b _ refl
 
 chain_is : (a b : Chain) → a.kind ≡ b.kind → a.timestamp ≡ b.timestamp → a.beta0 ≡ b.beta0
@@ -39,7 +40,7 @@ unfolding is_same
 equal a b e =
     let p1 = and_parts (same_kind a.kind b.kind) _ e in
     let p2 = and_parts (a.timestamp == b.timestamp) _ p1.1 in
-    let p3 = and_parts (a.beta0 == b.beta0) (same_entries a.entries b.entries) p2.1 in
+    let p3 = and_parts (a.beta0 == b.beta0) (pointwise same_entry a.entries b.entries) p2.1 in
     chain_is a b ((same_kind-Decides a.kind b.kind).0 p1.0) (eqb-true _ _ p2.0) (eqb-true _ _ p3.0)
     ((same_entries-Decides a.entries b.entries).0 p3.1)
 

@@ -1,5 +1,5 @@
 -- Tests whether chains are live and whether two of them are equal.
-use Rattle.std.specs.Prelude.{ℕ, ◌==◌, ◌&&◌, Bool, true, false, List}
+use Rattle.std.specs.Prelude.{ℕ, ◌==◌, ◌&&◌, Bool, true, false}
 use Rattle.std.specs.Cmp.Lexicographic.{pointwise}
 use Rattle.std.specs.List.{list_all}
 use Rattle.std.specs.Str.{bytes_eq}
@@ -24,11 +24,7 @@ abbrev pub same_entry : (a b : Entry) → Bool
 same_entry a b = (a.ia == b.ia) && ((a.cons_ingress == b.cons_ingress)
     && ((a.cons_egress == b.cons_egress) && ((a.exp_time == b.exp_time) && bytes_eq a.mac b.mac)))
 
--- the lists have equal entries in the same order
-abbrev pub same_entries : (one other : List Entry) → Bool
-same_entries = pointwise same_entry
-
--- the chains are equal in each part
+-- the chains are equal in each part, with equal entries in the same order
 unfoldable pub is_same : (a b : Chain) → Bool
-is_same a b = same_kind a.kind b.kind
-    && ((a.timestamp == b.timestamp) && ((a.beta0 == b.beta0) && same_entries a.entries b.entries))
+is_same a b = same_kind a.kind b.kind && ((a.timestamp == b.timestamp)
+    && ((a.beta0 == b.beta0) && pointwise same_entry a.entries b.entries))

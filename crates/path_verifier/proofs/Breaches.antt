@@ -5,7 +5,7 @@ use Rattle.std.proofs.lemmas.Bool.{cases_Bool, eqb-true, eqb-false, ltb-true, lt
 use Rattle.policy_expr.specs.declared.hop.WalkHop.{WalkHop}
 use Rattle.policy_expr.specs.declared.acl.AclEntry.{AclEntry}
 use Rattle.policy_expr.specs.declared.acl.Denied.{Denied}
-use Rattle.policy_expr.specs.Policy.{AllowsHops, DeniesHop}
+use Rattle.policy_expr.specs.Policy.{AllowsHops, DeniesHop, HasWord}
 use Rattle.policy_expr.proofs.Deciding.{denial_denies, one_denial}
 use Rattle.path_verifier.specs.declared.fault.VerifyFault.{VerifyFault}
 use Rattle.path_verifier.specs.declared.fault.VerifyFault.TheVariants.{PieceCount, Range, Kinds, CutAtCore, NotJoined, Source, Destination, TooManyHops, Loop, Expired, HeaderDiffers, AclDenied, SequenceMismatch}
@@ -139,33 +139,58 @@ pub path_of_shape : (request : Request) → KeepsBelow request 78 → NamesOnce 
 path_of_shape request shape once live =
     keeps_path request (further request Expired (further request Loop shape once) live)
 
--- a path that may be sent keeps every rule, and what keeps every rule may be sent
-accepted_keeps : (request : Request) → IsAccepted request → (fault : VerifyFault)
-    → Keeps request fault
-accepted_keeps request accepted HeaderDiffers = accepted.header
-accepted_keeps request accepted (AclDenied denied) = accepted.hops
-accepted_keeps request accepted SequenceMismatch = accepted.word
-accepted_keeps request accepted PieceCount = accepted.path.some
-accepted_keeps request accepted Range = accepted.path.ranges
-accepted_keeps request accepted Kinds = accepted.path.kinds
-accepted_keeps request accepted CutAtCore = accepted.path.cuts
-accepted_keeps request accepted NotJoined = accepted.path.meet
-accepted_keeps request accepted Source = accepted.path.source
-accepted_keeps request accepted Destination = accepted.path.destination
-accepted_keeps request accepted TooManyHops = accepted.path.few
-accepted_keeps request accepted Loop = accepted.path.once
-accepted_keeps request accepted Expired = accepted.path.live
+-- what a path that may be sent keeps: the rules on its pieces, on its header, and of the policy
+pub path_kept : {request : Request} → IsAccepted request
+    → MakesPath request.pieces request.src request.dst request.moment
+path_kept {request} accepted = keeps_path request (λ fault less. accepted.keeps fault)
 
-pub accepted_is_kept : (request : Request)
-    → IsAccepted request ↔ ((fault : VerifyFault) → Keeps request fault)
-accepted_is_kept request = (
-  accepted_keeps request,
-  λ kept. record {
-    path = keeps_path request (λ fault less. kept fault);
-    header = kept HeaderDiffers;
-    hops = kept (AclDenied (record { hop = 0; entry = 0 }));
-    word = kept SequenceMismatch;
-  },
+pub header_kept : {request : Request} → IsAccepted request
+    → request.header ≡ header_of request.pieces
+header_kept accepted = accepted.keeps HeaderDiffers
+
+pub hops_kept : {request : Request} → IsAccepted request
+    → AllowsHops request.rules.acl (walk_of request.pieces)
+hops_kept accepted = accepted.keeps (AclDenied (record { hop = 0; entry = 0 }))
+
+pub word_kept : {request : Request} → IsAccepted request
+    → HasWord request.rules.sequence (walk_of request.pieces)
+word_kept accepted = accepted.keeps SequenceMismatch
+
+-- and with all of these it may be sent
+each_kept : (request : Request) → MakesPath request.pieces request.src request.dst request.moment
+    → request.header ≡ header_of request.pieces
+    → AllowsHops request.rules.acl (walk_of request.pieces)
+    → HasWord request.rules.sequence (walk_of request.pieces)
+    → (fault : VerifyFault) → Keeps request fault
+each_kept request path header hops word HeaderDiffers = header
+each_kept request path header hops word (AclDenied denied) = hops
+each_kept request path header hops word SequenceMismatch = word
+each_kept request path header hops word PieceCount = path.some
+each_kept request path header hops word Range = path.ranges
+each_kept request path header hops word Kinds = path.kinds
+each_kept request path header hops word CutAtCore = path.cuts
+each_kept request path header hops word NotJoined = path.meet
+each_kept request path header hops word Source = path.source
+each_kept request path header hops word Destination = path.destination
+each_kept request path header hops word TooManyHops = path.few
+each_kept request path header hops word Loop = path.once
+each_kept request path header hops word Expired = path.live
+
+pub accepts : (request : Request) → MakesPath request.pieces request.src request.dst request.moment
+    → request.header ≡ header_of request.pieces
+    → AllowsHops request.rules.acl (walk_of request.pieces)
+    → HasWord request.rules.sequence (walk_of request.pieces) → IsAccepted request
+accepts request path header hops word =
+    record { keeps = each_kept request path header hops word }
+
+pub accepted_in_parts : (request : Request) → IsAccepted request
+    ↔ (MakesPath request.pieces request.src request.dst request.moment
+    × ((request.header ≡ header_of request.pieces)
+    × (AllowsHops request.rules.acl (walk_of request.pieces)
+    × HasWord request.rules.sequence (walk_of request.pieces))))
+accepted_in_parts request = (
+  λ accepted. (path_kept accepted, (header_kept accepted, (hops_kept accepted, word_kept accepted))),
+  λ parts. accepts request parts.0 parts.1.0 parts.1.1.0 parts.1.1.1,
 )
 
 denied_is_not_allowed : (acl : Option (List AclEntry)) (walk : List WalkHop) (denied : Denied)
@@ -194,7 +219,7 @@ not_both request SequenceMismatch broken kept = broken kept
 pub refused_is_not_accepted : (request : Request) (fault : VerifyFault) → IsRefused request fault
     → IsAccepted request → ⊥
 refused_is_not_accepted request fault refused accepted =
-    not_both request fault refused.broken (accepted_keeps request accepted fault)
+    not_both request fault refused.broken (accepted.keeps fault)
 
 -- there is one refusal: by its number
 one_code : (request : Request) (fault other : VerifyFault) → IsRefused request fault

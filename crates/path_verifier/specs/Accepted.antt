@@ -1,8 +1,8 @@
 -- Which paths may be sent (draft-dekater-scion-dataplane, segment combinations, without peering).
 -- Any other path is refused by the fault of the first rule that it breaks, in the order of the
 -- faults' numbers.
-use Rattle.std.specs.Prelude.{◌≡◌, ◌⊎◌, ℕ, ◌+◌, ◌<◌, ◌≤◌, List, [], ◌∷◌, length, map, All, Any, Some, slice_get}
-use Rattle.hop_mac.specs.Lifetime.{expiry_of, IsLive}
+use Rattle.std.specs.Prelude.{◌≡◌, ◌⊎◌, ℕ, ◌+◌, ◌*◌, ◌<◌, ◌≤◌, List, [], ◌∷◌, length, map, All, Any, Some, slice_get}
+use Rattle.hop_mac.specs.Lifetime.{expiry_of}
 use Rattle.path_header.specs.Value.{HeaderValue}
 use Rattle.policy_expr.specs.declared.hop.WalkHop.{WalkHop}
 use Rattle.policy_expr.specs.Policy.{Rules, AllowsHops, DeniesHop, HasWord}
@@ -62,31 +62,21 @@ abbrev pub NamesOnce : List WalkHop → Type 0
 NamesOnce walk = (j k : ℕ) (one other : WalkHop) → slice_get walk j ≡ Some one
     → slice_get walk k ≡ Some other → one.ia ≡ other.ia → j ≡ k
 
+-- no hop of the pieces expires before this half second
+abbrev pub LastTo : ℕ → List PieceValue → Type 0
+LastTo half pieces = All (λ piece. All
+    (λ entry. half ≤ expiry_of piece.segment.timestamp entry.exp_time) (entries_of piece)) pieces
+
 -- each hop of the pieces is live at this second
 abbrev pub AreLive : ℕ → List PieceValue → Type 0
-AreLive now pieces = All (λ piece. All (λ entry. IsLive piece.segment.timestamp entry.exp_time now)
-    (entries_of piece)) pieces
+AreLive now pieces = LastTo (2 * now) pieces
 
 -- `least` is the earliest expiry of the pieces' hops, in half seconds: one hop expires then, and
 -- none before
 pub record IsExpiry (pieces : List PieceValue) (least : ℕ) : Type 0 where
   pub reached : Any (λ piece. Any (λ entry. least
       ≡ expiry_of piece.segment.timestamp entry.exp_time) (entries_of piece)) pieces
-  pub lower : All (λ piece. All (λ entry. least ≤ expiry_of piece.segment.timestamp entry.exp_time)
-      (entries_of piece)) pieces
-
--- the pieces are a path from `src` to `dst` that is live at this second
-pub record MakesPath (pieces : List PieceValue) (src dst now : ℕ) : Type 0 where
-  pub some : 0 < length pieces
-  pub ranges : All HasRange pieces
-  pub kinds : DoAdjoin (map kind_of pieces)
-  pub cuts : AreCutWell pieces
-  pub meet : DoMeet pieces
-  pub source : DoBeginIn src pieces
-  pub destination : DoEndIn dst pieces
-  pub few : total_hops pieces ≤ 64
-  pub once : NamesOnce (walk_of pieces)
-  pub live : AreLive now pieces
+  pub lower : LastTo least pieces
 
 -- a request to the verifier: the pieces and the header, and the ends, the second and the policy to
 -- check them against
@@ -98,17 +88,9 @@ pub record Request : Type 0 where
   pub moment : ℕ
   pub rules : Rules
 
-abbrev pub request_of : (pieces : List PieceValue) (header : HeaderValue) (src dst now : ℕ)
-    (rules : Rules) → Request
+abbrev pub request_of : List PieceValue → HeaderValue → (src dst now : ℕ) → Rules → Request
 request_of pieces header src dst now rules =
     record { pieces = pieces; header = header; src = src; dst = dst; moment = now; rules = rules }
-
--- the path may be sent: the pieces are a path, the header is theirs, and the policy allows the walk
-pub record IsAccepted (request : Request) : Type 0 where
-  pub path : MakesPath request.pieces request.src request.dst request.moment
-  pub header : request.header ≡ header_of request.pieces
-  pub hops : AllowsHops request.rules.acl (walk_of request.pieces)
-  pub word : HasWord request.rules.sequence (walk_of request.pieces)
 
 -- the rule whose breach this fault reports
 abbrev pub Keeps : Request → VerifyFault → Type 0
@@ -126,6 +108,10 @@ Keeps request HeaderDiffers = request.header ≡ header_of request.pieces
 Keeps request (AclDenied denied) = AllowsHops request.rules.acl (walk_of request.pieces)
 Keeps request SequenceMismatch = HasWord request.rules.sequence (walk_of request.pieces)
 
+-- the path may be sent: it keeps every rule
+pub record IsAccepted (request : Request) : Type 0 where
+  pub keeps : (fault : VerifyFault) → Keeps request fault
+
 -- the path breaks the fault's rule; AclDenied also names the denied hop and the entry that denies
 -- it
 abbrev pub Breaks : Request → VerifyFault → Type 0
@@ -137,3 +123,16 @@ Breaks request fault = ¬ Keeps request fault
 pub record IsRefused (request : Request) (fault : VerifyFault) : Type 0 where
   pub broken : Breaks request fault
   pub before : (earlier : VerifyFault) → code_of earlier < code_of fault → Keeps request earlier
+
+-- the rules on the pieces alone: they are a path from `src` to `dst` that is live at this second
+pub record MakesPath (pieces : List PieceValue) (src dst now : ℕ) : Type 0 where
+  pub some : 0 < length pieces
+  pub ranges : All HasRange pieces
+  pub kinds : DoAdjoin (map kind_of pieces)
+  pub cuts : AreCutWell pieces
+  pub meet : DoMeet pieces
+  pub source : DoBeginIn src pieces
+  pub destination : DoEndIn dst pieces
+  pub few : total_hops pieces ≤ 64
+  pub once : NamesOnce (walk_of pieces)
+  pub live : AreLive now pieces

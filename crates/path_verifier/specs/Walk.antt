@@ -41,10 +41,7 @@ abbrev pub walk_with : (walk later : List WalkHop) → List WalkHop
 walk_with walk [] = walk
 walk_with walk (hop ∷ later) = with_meeting_hop walk hop ++ later
 
--- the hops of all pieces, joined where the pieces meet
-abbrev pub joined_hops : List PieceValue → List WalkHop
-joined_hops pieces = fold walk_with [] (map hops_of pieces)
-
--- the walk of these pieces; its first way in and its last way out are 0
+-- the walk of these pieces: their hops, joined where the pieces meet; its first way in and its last
+-- way out are 0
 unfoldable pub walk_of : List PieceValue → List WalkHop
-walk_of pieces = left_by 0 (entered_by 0 (joined_hops pieces))
+walk_of pieces = left_by 0 (entered_by 0 (fold walk_with [] (map hops_of pieces)))

@@ -3,20 +3,24 @@
 ghost use Rattle.std.specs.Prelude.{◌≡◌, ◌↔◌, ℕ, ◌+◌, ◌-◌, ◌*◌, ◌≤◌, List, ◌∷◌, ◌++◌, Some, length, map, reverse, slice_get, All};
 ghost use Rattle.path_segment.specs.declared.entry.Entry.{Entry};
 ghost use Rattle.path_header.specs.Value.{HeaderValue, IsHeader};
-ghost use Rattle.policy_expr.specs.Policy.{Rules};
+ghost use Rattle.policy_expr.specs.Policy.{AllowsHops, HasWord, Rules};
 ghost use Rattle.path_verifier.specs.declared.fault.VerifyFault.{VerifyFault};
 ghost use Rattle.path_verifier.specs.declared.fault.VerifyFault.TheVariants.{Expired};
 ghost use Rattle.path_verifier.specs.Piece.{PieceValue, HasRange, kind_of, travelled_entries};
 ghost use Rattle.path_verifier.specs.Header.{field_of, fields_of, len_of, header_of, total_hops};
 ghost use Rattle.path_verifier.specs.Walk.{hop_of, hops_of, walk_of};
-ghost use Rattle.path_verifier.specs.Accepted.{AreLive, IsAccepted, IsExpiry, MakesPath, MayAdjoin, Request, request_of, IsRefused, Keeps};
+ghost use Rattle.path_verifier.specs.Accepted.{AreLive, IsAccepted, IsExpiry, MakesPath, MayAdjoin, Request, request_of, IsRefused};
 ghost use Rattle.path_verifier.specs.Turned.{turned_piece, turned_pieces, turned_walk};
 
-/// A path may be sent if and only if it breaks none of the rules whose breaches are refusals. It is
-/// refused by at most one fault, and by none if it may be sent.
+/// A path may be sent if and only if its pieces are a path from one end to the other, its header is
+/// theirs, and the policy's list and sequence allow the walk. It is refused by at most one fault,
+/// and by none if it may be sent.
 pub fn refusals_are_breaches()
-    ensures kept { (request : Request)
-        → IsAccepted request ↔ ((fault : VerifyFault) → Keeps request fault) }
+    ensures parts { (request : Request) → IsAccepted request
+        ↔ (MakesPath request.pieces request.src request.dst request.moment
+        × ((request.header ≡ header_of request.pieces)
+        × (AllowsHops request.rules.acl (walk_of request.pieces)
+        × HasWord request.rules.sequence (walk_of request.pieces)))) }
     ensures one { (request : Request) (fault other : VerifyFault)
         → IsRefused request fault → IsRefused request other → fault ≡ other }
     ensures either { (request : Request) (fault : VerifyFault)

@@ -6,7 +6,7 @@ use Rattle.policy_expr.specs.declared.hop.HopPred.{HopPred}
 use Rattle.policy_expr.specs.declared.hop.WalkHop.{WalkHop}
 use Rattle.policy_expr.specs.declared.acl.AclEntry.{AclEntry}
 use Rattle.policy_expr.specs.declared.acl.Denied.{Denied}
-use Rattle.policy_expr.specs.Acl.{MatchesBy, Decides, Allowed, DeniedAt, AllowsWalk, IsDenial, is_bare, IsAcl}
+use Rattle.policy_expr.specs.Acl.{MatchesBy, Decides, Allowed, HasSignAt, AllowsWalk, IsDenial, is_bare, IsAcl}
 
 -- a bare entry stands somewhere
 get_last : (front : List AclEntry) (last : AclEntry) → slice_get (front ++ last ∷ []) (length front) ≡ Some last
@@ -40,12 +40,12 @@ one_place entries hop j k one other a b = elim (cases_order j k) [
 ]
 
 -- a hop that is denied is not allowed
-not_both : (entries : List AclEntry) (hop : WalkHop) (place : ℕ) → DeniedAt entries hop place → Allowed entries hop → ⊥
+not_both : (entries : List AclEntry) (hop : WalkHop) (place : ℕ) → HasSignAt entries false hop place → Allowed entries hop → ⊥
 not_both entries hop place denied allowed =
-    let same = one_place entries hop allowed.0 place allowed.1 denied.0 allowed.2 denied.1 in
-    let e : Some allowed.1 ≡ Some denied.0 = sym allowed.2.there ∙ ap (slice_get entries) same ∙ denied.1.there in
-    let e' : allowed.1 ≡ denied.0 = cc in
-    let f : true ≡ false = sym allowed.3 ∙ ap (λ (x : AclEntry). x.allows) e' ∙ denied.2 in
+    let same = one_place entries hop allowed.0 place allowed.1.0 denied.0 allowed.1.1 denied.1 in
+    let e : Some allowed.1.0 ≡ Some denied.0 = sym allowed.1.1.there ∙ ap (slice_get entries) same ∙ denied.1.there in
+    let e' : allowed.1.0 ≡ denied.0 = cc in
+    let f : true ≡ false = sym allowed.1.2 ∙ ap (λ (x : AclEntry). x.allows) e' ∙ denied.2 in
     absurd (let g : true ≡ false = f in cc)
 
 -- a walk with a denial is not allowed

@@ -1,11 +1,11 @@
 -- The words of a table of two parts, or of one that may begin again, by the words of the parts.
 use Rattle.std.proofs.Common.{◌≡◌, ◌⊎◌, ◌↔◌, ℕ, ◌<◌, Bool, true, false, ◌||◌, ◌&&◌, List, [], ◌∷◌, ◌++◌, length, inl, inr, sym, ◌∙◌, ap, refl, subst, arith}
-use Rattle.std.specs.List.{AllByRecursion}
+use Rattle.std.specs.List.{AllByRecursion, flat_map}
 use Rattle.policy_expr.specs.declared.hop.WalkHop.{WalkHop}
 use Rattle.policy_expr.specs.declared.ends.Ends.{Ends}
 use Rattle.policy_expr.specs.declared.table.Line.{Line}
 use Rattle.policy_expr.specs.Sets.{Has}
-use Rattle.policy_expr.specs.Language.{Tree, joined_words}
+use Rattle.policy_expr.specs.Language.{Tree}
 use Rattle.policy_expr.specs.Table.{MayFollow, MeetsAt, After, Accepts, IsNew, Adds}
 use Rattle.policy_expr.specs.inner.Table.{Links, IsThen}
 
@@ -228,7 +228,7 @@ module _ (new : List Line) (x : Ends) where
 module _ (old new : List Line) (x : Ends) (links : Links old new x.last x.first) where
   -- the rest of a word of the part, and then some words of it
   abbrev Rest : ℕ → List WalkHop → Type 0
-  Rest k w = (u : List WalkHop) × (words : List (List WalkHop)) × (w ≡ u ++ joined_words words) × After old x k u × AllByRecursion (Accepts old x) words
+  Rest k w = (u : List WalkHop) × (words : List (List WalkHop)) × (w ≡ u ++ flat_map (λ one. one) words) × After old x k u × AllByRecursion (Accepts old x) words
 
   rest_after : (w : List WalkHop) (k : ℕ) → After new x k w → Rest k w
   rest_after [] k last = ([], [], refl, last, tt)
@@ -242,7 +242,7 @@ module _ (old new : List Line) (x : Ends) (links : Links old new x.last x.first)
 
   -- a word is one of the part and then some
   abbrev Some : List WalkHop → Type 0
-  Some w = (word : List WalkHop) × (words : List (List WalkHop)) × (w ≡ word ++ joined_words words) × Accepts old x word × AllByRecursion (Accepts old x) words
+  Some w = (word : List WalkHop) × (words : List (List WalkHop)) × (w ≡ word ++ flat_map (λ one. one) words) × Accepts old x word × AllByRecursion (Accepts old x) words
 
   some_of_word : (w : List WalkHop) → Accepts new x w → Some w
   some_of_word [] word = ([], [], refl, word, tt)
@@ -265,17 +265,17 @@ module _ (old new : List Line) (x : Ends) (links : Links old new x.last x.first)
   word_again [] (h ∷ v) one more = elim more [ inl none ↦ absurd (let e : h ∷ v ≡ [] = none in cc) | inr word ↦ word ]
   word_again (h ∷ u) v one more = (one.0, one.1, (links.meets one.0 h).1 one.2, after_again u one.0 v one.3 more)
 
-  word_of_all : (words : List (List WalkHop)) → AllByRecursion (Accepts old x) words → (joined_words words ≡ []) ⊎ Accepts new x (joined_words words)
+  word_of_all : (words : List (List WalkHop)) → AllByRecursion (Accepts old x) words → (flat_map (λ one. one) words ≡ []) ⊎ Accepts new x (flat_map (λ one. one) words)
   word_of_all [] all = inl refl
-  word_of_all (word ∷ words) all = inr (word_again word (joined_words words) all.0 (word_of_all words all.1))
+  word_of_all (word ∷ words) all = inr (word_again word (flat_map (λ one. one) words) all.0 (word_of_all words all.1))
 
-  word_once : (words : List (List WalkHop)) → 0 < length words → AllByRecursion (Accepts old x) words → Accepts new x (joined_words words)
+  word_once : (words : List (List WalkHop)) → 0 < length words → AllByRecursion (Accepts old x) words → Accepts new x (flat_map (λ one. one) words)
   word_once [] some all = absurd (omega arith)
-  word_once (word ∷ words) some all = word_again word (joined_words words) all.0 (word_of_all words all.1)
+  word_once (word ∷ words) some all = word_again word (flat_map (λ one. one) words) all.0 (word_of_all words all.1)
 
   -- for `+` there is a first word
   pub once_words : (w : List WalkHop)
-      → Accepts new x w ↔ ((words : List (List WalkHop)) × (0 < length words) × (w ≡ joined_words words) × AllByRecursion (Accepts old x) words)
+      → Accepts new x w ↔ ((words : List (List WalkHop)) × (0 < length words) × (w ≡ flat_map (λ one. one) words) × AllByRecursion (Accepts old x) words)
   once_words w = (
     λ word. let s = some_of_word w word in (s.0 ∷ s.1, omega arith, s.2, (s.3, s.4)),
     λ l. subst (Accepts new x) (sym l.2) (word_once l.0 l.1 l.3),
@@ -283,7 +283,7 @@ module _ (old new : List Line) (x : Ends) (links : Links old new x.last x.first)
 
   -- for `*` there may be no word
   pub repeated_words : (w : List WalkHop)
-      → Accepts new (or_nothing x) w ↔ ((words : List (List WalkHop)) × (w ≡ joined_words words) × AllByRecursion (Accepts old x) words)
+      → Accepts new (or_nothing x) w ↔ ((words : List (List WalkHop)) × (w ≡ flat_map (λ one. one) words) × AllByRecursion (Accepts old x) words)
   repeated_words w = (
     λ word. elim ((or_nothing_words new x w).0 word) [
       | inl none ↦ ([], none, tt)

@@ -26,14 +26,13 @@ pub record Decides (acl : List AclEntry) (hop : WalkHop) (at : ℕ) (entry : Acl
   pub first : (earlier : ℕ) (other : AclEntry) → earlier < at → slice_get acl earlier ≡ Some other
       → MatchesBy other.pred hop → ⊥
 
+-- the entry at this place is the first that matches the hop, and it has this sign
+abbrev pub HasSignAt : List AclEntry → Bool → WalkHop → ℕ → Type 0
+HasSignAt acl sign hop at = (entry : AclEntry) × Decides acl hop at entry × (entry.allows ≡ sign)
+
 -- the first entry that matches the hop allows it
 abbrev pub Allowed : List AclEntry → WalkHop → Type 0
-Allowed entries hop = (place : ℕ) × (entry : AclEntry) × Decides entries hop place entry
-    × (entry.allows ≡ true)
-
--- the entry at this place is the first that matches the hop, and it denies the hop
-abbrev pub DeniedAt : List AclEntry → WalkHop → ℕ → Type 0
-DeniedAt acl hop place = (entry : AclEntry) × Decides acl hop place entry × (entry.allows ≡ false)
+Allowed entries hop = (place : ℕ) × HasSignAt entries true hop place
 
 -- each hop of the walk is allowed
 abbrev pub AllowsWalk : List AclEntry → List WalkHop → Type 0
@@ -43,7 +42,7 @@ AllowsWalk acl walk = (k : ℕ) (hop : WalkHop) → slice_get walk k ≡ Some ho
 pub record IsDenial (entries : List AclEntry) (walk : List WalkHop) (denied : Denied) : Type 0 where
   pub hop : WalkHop
   pub there : slice_get walk denied.hop ≡ Some hop
-  pub by : DeniedAt entries hop denied.entry
+  pub by : HasSignAt entries false hop denied.entry
   pub before : (k : ℕ) (other : WalkHop) → k < denied.hop → slice_get walk k ≡ Some other
       → Allowed entries other
 

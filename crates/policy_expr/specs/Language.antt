@@ -1,7 +1,7 @@
 -- The language of a sequence (path policy language): which walks it allows. A word is a list of
 -- hops.
 use Rattle.std.specs.Prelude.{◌≡◌, ◌⊎◌, ◌<◌, List, [], ◌∷◌, ◌++◌, length}
-use Rattle.std.specs.List.{AllByRecursion}
+use Rattle.std.specs.List.{AllByRecursion, flat_map}
 use Rattle.policy_expr.specs.declared.hop.HopPred.{HopPred}
 use Rattle.policy_expr.specs.declared.hop.WalkHop.{WalkHop}
 use Rattle.policy_expr.specs.declared.node.SeqNode.{SeqNode}
@@ -25,11 +25,6 @@ tree_of (Optional' p a) = optional (tree_of a)
 tree_of (Repeated' p a) = repeated (tree_of a)
 tree_of (OnceOrMore' p a) = once_or_more (tree_of a)
 
--- these words, one after another, as one word
-abbrev pub joined_words : List (List WalkHop) → List WalkHop
-joined_words [] = []
-joined_words (word ∷ words) = word ++ joined_words words
-
 -- the words of a sequence. A predicate has the words of one hop that it matches. `followed` has the
 -- words that can be cut into a word of each part. `*` and `+` have any number of words of their
 -- item in a row, `+` at least one.
@@ -39,7 +34,7 @@ Lang (followed a b) word = (front : List WalkHop) × (back : List WalkHop) × (w
     × Lang a front × Lang b back
 Lang (either a b) word = Lang a word ⊎ Lang b word
 Lang (optional a) word = (word ≡ []) ⊎ Lang a word
-Lang (repeated a) word = (words : List (List WalkHop)) × (word ≡ joined_words words)
+Lang (repeated a) word = (words : List (List WalkHop)) × (word ≡ flat_map (λ one. one) words)
     × AllByRecursion (Lang a) words
 Lang (once_or_more a) word = (words : List (List WalkHop)) × (0 < length words)
-    × (word ≡ joined_words words) × AllByRecursion (Lang a) words
+    × (word ≡ flat_map (λ one. one) words) × AllByRecursion (Lang a) words

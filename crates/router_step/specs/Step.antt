@@ -32,11 +32,10 @@ admitted_header view now arrival header = do
   Ok (header_on_arrival arrival header)
 
 -- steps 6 and 7: the first refusal, or whether the packet is at the last hop of its path
-unfoldable pub at_path_end : (view : View) (arrival : Arrival) (source destination : ℕ)
-    (header : HeaderValue) → Result Bool Refusal
-at_path_end view arrival source destination header = do
-  _ ← check (source_fits view arrival source) refusal.SourceAs  -- 6
-  _ ← check (destination_fits view destination (is_last header)) refusal.DestinationAs  -- 7
+unfoldable pub at_path_end : View → Arrival → (src dst : ℕ) → HeaderValue → Result Bool Refusal
+at_path_end view arrival src dst header = do
+  _ ← check (source_fits view arrival src) refusal.SourceAs  -- 6
+  _ ← check (destination_fits view dst (is_last header)) refusal.DestinationAs  -- 7
   Ok (is_last header)
 
 -- step 9: whether there is a switch to the next segment. Only a packet that came over a link may
@@ -58,11 +57,11 @@ chosen_outcome view arrival has_switched info hop = do
     Ok (ToLink (way_out info hop)))
 
 -- steps 2 to 13: the first refusal, or the outcome and the new header
-unfoldable pub step_of : (view : View) (now : ℕ) (arrival : Arrival) (source destination : ℕ)
-    (header : HeaderValue) → Result (Outcome × HeaderValue) Refusal
-step_of view now arrival source destination header = do
+unfoldable pub step_of : View → (now : ℕ) → Arrival → (src dst : ℕ) → HeaderValue
+    → Result (Outcome × HeaderValue) Refusal
+step_of view now arrival src dst header = do
   here ← admitted_header view now arrival header  -- 2 to 5
-  last ← at_path_end view arrival source destination here  -- 6, 7
+  last ← at_path_end view arrival src dst here  -- 6, 7
   if last then Ok (Deliver, here) else (do  -- 8
     has_switched ← switches_here view now arrival here  -- 9
     let next = moved_on has_switched here in (do

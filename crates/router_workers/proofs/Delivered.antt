@@ -8,6 +8,7 @@ use Rattle.scion_topology.specs.Topology.{owner_in}
 use Rattle.path_verifier.specs.Walk.{walk_of}
 use Rattle.path_verifier.specs.Accepted.{AreLive}
 use Rattle.path_verifier.specs.Header.{total_hops}
+use Rattle.path_verifier.proofs.Breaches.{header_kept, path_kept}
 use Rattle.forwarding.specs.Frame.{frame_of}
 use Rattle.forwarding.specs.Turn.{Packet, put_at, after}
 use Rattle.forwarding.specs.Forwardable.{MayForward}
@@ -89,7 +90,7 @@ pub delivered : (n : Network) (sent : SentPacket) (start : Packet) (moments : Li
     → IsFlightForwarded sent (turns_for n (walk_of sent.pieces)) (length moments)
     (after n start moments)
 delivered n sent start moments flight sound live =
-    let path = flight.accepted.path in
+    let path = path_kept flight.accepted in
     let from = departs n sent flight.start flight.departs in
     let first = began n start flight.start flight.moments flight.count flight.is ∙ from.is in
     let total = turns_for n (walk_of sent.pieces) in
@@ -100,7 +101,7 @@ delivered n sent start moments flight sound live =
     let stands = subst (λ header. OnPath n sent.source sent.destination sent.payload
     sent.pieces total
     (put_at (frame_of sent.source sent.destination header sent.payload) sent.source
-    from.router)) (sym flight.accepted.header)
+    from.router)) (sym (header_kept flight.accepted))
     (starts n sent.source sent.destination flight.moment from.router sent.payload
     sent.pieces path flight.frame from.owned) in
     let here = subst (λ p. OnPath n sent.source sent.destination sent.payload

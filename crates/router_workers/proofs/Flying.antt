@@ -12,6 +12,7 @@ use Rattle.path_verifier.specs.Piece.{PieceValue}
 use Rattle.path_verifier.specs.Header.{header_of, total_hops}
 use Rattle.path_verifier.specs.Walk.{walk_of}
 use Rattle.path_verifier.specs.Accepted.{IsAccepted, request_of}
+use Rattle.path_verifier.proofs.Breaches.{header_kept, path_kept}
 use Rattle.forwarding.specs.declared.location.RouterStop.{RouterStop}
 use Rattle.forwarding.specs.declared.location.PacketLocation.{PacketLocation}
 use Rattle.forwarding.specs.declared.location.PacketLocation.TheVariants.{AtRouter, Delivered, Refused, Lost}
@@ -91,7 +92,7 @@ view_there flight is stop at =
     let way = flight.sent in
     let from = departs n flight.sent is.start is.departs in
     let there = owners_are_there n way.source _ from.router is.network from.owned in
-    let header = is.accepted.header in
+    let header = header_kept is.accepted in
     stops_are_there n way.source way.destination way.source from.router way.header
     way.payload is.moments stop is.network there (rw header is.frame.is_header)
     (rw header is.frame.fits) (at_stop flight is stop at)
@@ -110,14 +111,14 @@ turns_left flight is here =
     let from = departs n flight.sent is.start is.departs in
     let there = owners_are_there n way.source _ from.router is.network from.owned in
     let stop = stop_of flight.packet.place here in
-    let header = is.accepted.header in
+    let header = header_kept is.accepted in
     let at = at_stop flight is stop.0 stop.1 in
     let fewer = fewer_before n way.source way.destination way.source from.router way.header
     way.payload is.moments stop.0 is.network there
     (rw header is.frame.is_header) (rw header is.frame.fits) at in
     let hops : length way.header.hops ≡ total_hops way.pieces = hops_of_header way.pieces way.header
     header in
-    let few = is.accepted.path.few in
+    let few = (path_kept is.accepted).few in
     let count = is.count in
     omega arith
 
@@ -130,7 +131,7 @@ hops_left flight is here =
     let from = departs n flight.sent is.start is.departs in
     let there = owners_are_there n way.source _ from.router is.network from.owned in
     let stop = stop_of flight.packet.place here in
-    let header = is.accepted.header in
+    let header = header_kept is.accepted in
     let at = at_stop flight is stop.0 stop.1 in
     let fewer = passed_before n way.source way.destination way.source from.router way.header
     way.payload is.moments stop.0 is.network there

@@ -1,5 +1,7 @@
 -- No turn loses a packet.
 use Rattle.std.proofs.Common.{ℕ, List, [], ◌∷◌, Result, Ok, Err, sym, subst}
+use Rattle.refusal.specs.Refusal.{◌>>=◌}
+use Rattle.std.specs.Result.{result_unwrap_or}
 use Rattle.scion_topology.specs.declared.fault.TopologyFault.{TopologyFault}
 use Rattle.scion_topology.specs.View.{View}
 use Rattle.scion_topology.specs.Network.{Network}
@@ -11,7 +13,7 @@ use Rattle.router_step.specs.Packet.{packet_step}
 use Rattle.forwarding.specs.declared.location.RouterStop.{RouterStop}
 use Rattle.forwarding.specs.declared.location.PacketLocation.{PacketLocation}
 use Rattle.forwarding.specs.declared.location.PacketLocation.TheVariants.{AtRouter, Delivered, Refused, Lost}
-use Rattle.forwarding.specs.Turn.{Packet, at_owner, over_link, after_outcome, after_step, by_view, by_place, turn_of, turned_packet, after}
+use Rattle.forwarding.specs.Turn.{Packet, at_owner, over_link, after_outcome, after_step, by_place, turn_of, turned_packet, after, still}
 use Rattle.router_workers.specs.Flight.{FlightValue, IsFlight}
 use Rattle.router_workers.proofs.Delivered.{departs}
 
@@ -46,7 +48,8 @@ stepped_unlost n packet stop (Err refusal) is = tt
 
 view_unlost : (n : Network) (now : ℕ) (packet : Packet) (stop : RouterStop)
     (view : Result View TopologyFault) → IsUnlost packet.place
-    → IsUnlost (by_view n now packet stop view).1.place
+    → IsUnlost (result_unwrap_or (view >>= λ (seen : View). Ok
+    (after_step n packet stop (packet_step seen now stop.arrival packet.bytes))) (still packet)).1.place
 view_unlost n now packet stop (Ok view) is =
     stepped_unlost n packet stop (packet_step view now stop.arrival packet.bytes) is
 view_unlost n now packet stop (Err fault) is = is

@@ -1,5 +1,5 @@
 -- The least of some numbers, and the moment at which pieces expire.
-use Rattle.std.proofs.Common.{◌≡◌, ◌⊎◌, ℕ, zero, suc, ◌<◌, ◌≤◌, List, [], ◌∷◌, length, map, get_or, All, Any, refl, subst, ◌∙◌, inl, inr, arith}
+use Rattle.std.proofs.Common.{◌≡◌, ◌⊎◌, ℕ, zero, suc, ◌<◌, ◌≤◌, List, [], ◌∷◌, length, map, get_or, All, Any, refl, subst, ◌∙◌, inl, inr, arith, Option, Some, None, ap}
 use Rattle.std.specs.Prelude.{min}
 use Rattle.std.proofs.lemmas.Bool.{cases_lt}
 use Rattle.hop_mac.specs.Lifetime.{expiry_of}
@@ -7,7 +7,12 @@ use Rattle.path_segment.specs.Chain.{IsLeastExpiry}
 use Rattle.path_verifier.specs.Piece.{PieceValue, HasRange, entries_of}
 use Rattle.path_verifier.proofs.Entries.{length-entries_of}
 use Rattle.path_verifier.specs.Accepted.{IsAccepted, IsExpiry, Request}
+use Rattle.path_verifier.proofs.Breaches.{path_kept}
 use Rattle.scion_ffi_paths.specs.Expiry.{least_of, piece_expiry, path_expiry}
+use Rattle.path_server.specs.Lookup.{Selection}
+use Rattle.policy_expr.specs.Options.{WeighedRules}
+use Rattle.combinator.specs.Candidate.{PathValue}
+use Rattle.combinator.specs.Answer.{AnswersWith}
 
 -- the less of two numbers is one of them
 either : (m n : ℕ) → (min m n ≡ m) ⊎ (min m n ≡ n)
@@ -62,7 +67,7 @@ pub path_expires : (request : Request) (n : ℕ) → IsAccepted request → IsEx
 unfolding path_expiry
 path_expires request n accepted is =
     let pieces = request.pieces in
-    let ranges = accepted.path.ranges in
+    let ranges = (path_kept accepted).ranges in
     let up = below_least piece_expiry pieces n (let within = is.reached.2 in omega arith) (λ k d within.
     below_least (λ entry. expiry_of (get_or pieces k d).segment.timestamp entry.exp_time)
     (entries_of (get_or pieces k d)) n (has_entry (get_or pieces k d) (ranges k d within)) (is.lower k d within)) in
@@ -104,3 +109,12 @@ expires_first pieces some ranges =
           least_below (λ e. expiry_of (get_or pieces k d).segment.timestamp e.exp_time) (entries_of (get_or pieces k d)) j e inside in
           omega arith;
     }
+
+-- each piece of an answer's paths has its range
+pub ranges_answered : (set : Selection) (src dst : ℕ) (options : List WeighedRules) (limit : ℕ) (used : Option ℕ)
+    (paths : List PathValue) → AnswersWith set src dst options limit used paths
+    → All (λ path. All HasRange path.pieces) paths
+ranges_answered set src dst options limit None paths is = λ k path within.
+    absurd (let none = ap (λ (ps : List PathValue). length ps) is.0 in omega (arith, none, within))
+ranges_answered set src dst options limit (Some used) paths is = λ k path within.
+    (path_kept (is.answer.best k path within).candidate.accepted).ranges

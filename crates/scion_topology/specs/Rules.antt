@@ -1,5 +1,5 @@
 -- The rules of a network (draft-dekater-scion-controlplane: ASes, core links, links to children).
-use Rattle.std.specs.Prelude.{◌≡◌, ◌≢◌, ◌<◌, ◌≤◌, true, false, List, [], ◌∷◌, length, All, AllPairs, Contains}
+use Rattle.std.specs.Prelude.{◌≡◌, ◌≢◌, ◌<◌, ◌≤◌, true, false, List, [], ◌∷◌, length, All, AllPairs, Contains, flat_map}
 use Rattle.isd_as.specs.Address.{isd_of}
 use Rattle.scion_topology.specs.declared.network.AsEntry.{AsEntry}
 use Rattle.scion_topology.specs.declared.network.End.{End}
@@ -41,8 +41,7 @@ pub record IsLink (ases : List AsEntry) (link : Link) : Type 0 where
 
 -- both ends of all links
 abbrev pub ends_of : List Link → List End
-ends_of [] = []
-ends_of (link ∷ links) = link.a ∷ link.b ∷ ends_of links
+ends_of links = flat_map (λ link. link.a ∷ link.b ∷ []) links
 
 -- the two ends are different interfaces
 abbrev pub AreTwo : (one other : End) → Type 0

@@ -6,7 +6,8 @@ use Rattle.std.specs.String.{string_bytes}
 use Rattle.path_header.specs.Value.{HeaderValue}
 use Rattle.policy_expr.specs.Policy.{Rules}
 use Rattle.path_verifier.specs.Piece.{PieceValue}
-use Rattle.path_verifier.specs.Accepted.{IsAccepted, IsExpiry, AreLive, request_of}
+use Rattle.path_verifier.specs.Accepted.{IsAccepted, IsExpiry, AreLive, MakesPath, request_of}
+use Rattle.path_verifier.proofs.Breaches.{accepts, header_kept, hops_kept, path_kept, word_kept}
 use Rattle.network_core.specs.Value.{Way, asked_at}
 use Rattle.scionet_view.specs.Path.{TellsPath, path_lines}
 
@@ -14,23 +15,21 @@ live_at_once : (pieces : List PieceValue) → AreLive 0 pieces
 live_at_once pieces = λ k piece within. λ j entry inside. omega arith
 
 accepted_at : (way : Way) (moment : ℕ) → IsAccepted (asked_at moment way) → IsAccepted (asked_at 0 way)
-accepted_at way moment accepted = record {
-  path = record {
-    some = accepted.path.some;
-    ranges = accepted.path.ranges;
-    kinds = accepted.path.kinds;
-    cuts = accepted.path.cuts;
-    meet = accepted.path.meet;
-    source = accepted.path.source;
-    destination = accepted.path.destination;
-    few = accepted.path.few;
-    once = accepted.path.once;
-    live = live_at_once way.pieces;
-  };
-  header = accepted.header;
-  hops = accepted.hops;
-  word = accepted.word;
-}
+accepted_at way moment accepted =
+    let was = path_kept accepted in
+    let path : MakesPath way.pieces way.source way.destination 0 = record {
+      some = was.some;
+      ranges = was.ranges;
+      kinds = was.kinds;
+      cuts = was.cuts;
+      meet = was.meet;
+      source = was.source;
+      destination = was.destination;
+      few = was.few;
+      once = was.once;
+      live = live_at_once way.pieces;
+    } in
+    accepts (asked_at 0 way) path (header_kept accepted) (hops_kept accepted) (word_kept accepted)
 
 accepted_at_once : (way : Way) → (moment : ℕ) × IsAccepted (asked_at moment way) → IsAccepted (asked_at 0 way)
 accepted_at_once way accepted = accepted_at way accepted.0 accepted.1

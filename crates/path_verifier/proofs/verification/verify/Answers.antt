@@ -3,7 +3,7 @@ use Rattle.std.proofs.lemmas.Result.{err_from_is_err_and}
 use Rattle.path_verifier.specs.Header.{header_of}
 use Rattle.path_verifier.specs.Walk.{walk_of}
 use Rattle.path_verifier.specs.Accepted.{MakesPath, request_of, IsRefused}
-use Rattle.path_verifier.proofs.Breaches.{header_keeps, refused_is_not_accepted}
+use Rattle.path_verifier.proofs.Breaches.{header_keeps, header_kept, path_kept, refused_is_not_accepted}
 use Rattle.path_verifier.proofs.verification.verify.Goals as goal
 
 pub returns-in_err-follow_pieces-clause-only : goal.returns-in_err-follow_pieces-clause-only
@@ -20,6 +20,22 @@ returns-in_err-follow_pieces-clause-exact g c =
     rw (p.1, p.2)
     (subst (λ pieces. IsRefused (request_of pieces c.args.header.now c.args.src c.args.dst c.args.now c.args.policy.now) c.in_err-follow_pieces.field-0.0)
     c.pieces.view_is (c.in_err-follow_pieces.ensures.fault c.args.header.now c.args.policy.now))
+
+pub returns-then-not-is_same-clause-only : goal.returns-then-not-is_same-clause-only
+returns-then-not-is_same-clause-only g c = λ accepted. absurd (
+    let same = c.is_same.ensures.1
+    (c.header_of-own.ensures ∙ ap header_of c.pieces.view_is ∙ sym (header_kept accepted)) in
+    let other = c.if-not-is_same.true in
+    cc)
+
+pub returns-in_err-check_policy-clause-only : goal.returns-in_err-check_policy-clause-only
+returns-in_err-check_policy-clause-only g c = λ accepted. absurd (
+    let request = request_of c.args.pieces.now c.args.header.now c.args.src c.args.dst c.args.now c.args.policy.now in
+    let walk : c.as_slice.result.now ≡ walk_of c.args.pieces.now =
+    c.as_slice.ensures.value ∙ c.in_ok-follow_pieces.ensures.walk ∙ ap walk_of c.pieces.view_is in
+    let refused = c.in_err-check_policy.ensures.exact request walk refl
+    (header_keeps request (path_kept accepted) (header_kept accepted)) in
+    refused_is_not_accepted request c.in_err-check_policy.field-0.0 refused accepted)
 
 pub returns-in_err-check_policy-clause-exact : goal.returns-in_err-check_policy-clause-exact
 returns-in_err-check_policy-clause-exact g c =

@@ -6,6 +6,7 @@ use Rattle.path_header.specs.Value.{HeaderValue}
 use Rattle.path_header.specs.Spelling.{SpellsHeader}
 use Rattle.path_verifier.specs.Piece.{PieceValue}
 use Rattle.path_verifier.specs.Header.{header_of}
+use Rattle.path_verifier.proofs.Breaches.{header_kept}
 use Rattle.combinator.specs.Candidate.{PathValue}
 use Rattle.combinator.specs.inner.Search.{ComesBefore, infos_of}
 use Rattle.combinator.proofs.Before.{before_if_fewer, before_by_bytes}
@@ -25,7 +26,7 @@ returns g c = λ yes.
     let one = c.args.self.now in
     let parts = c.self.inside.parts.value in
     let own : one.header ≡ header_of one.pieces =
-    sym c.path-path.ensures.header ∙ c.known.ensures.header ∙ ap header_of c.path-path.ensures.pieces in
+    sym c.path-path.ensures.header ∙ header_kept c.known.ensures ∙ ap header_of c.path-path.ensures.pieces in
     let equal = c.if-mine-least.false in
     let mine = c.hop_count-mine.ensures in
     let hops = c.hop_count.ensures.value in

@@ -2,6 +2,7 @@ use Rattle.std.proofs.Common.{◌≡◌, length, sym, ap, ◌∙◌, subst, arit
 use Rattle.path_header.specs.Value.{HeaderValue, IsHeader}
 use Rattle.path_header.specs.Spelling.{FitsBits}
 use Rattle.path_verifier.specs.Walk.{walk_of}
+use Rattle.path_verifier.proofs.Breaches.{header_kept}
 use Rattle.scion_topology.specs.Topology.{owner_in}
 use Rattle.forwarding.specs.Frame.{frame_of}
 use Rattle.forwarding.specs.Journey.{first_out}
@@ -31,7 +32,7 @@ invariant_of-result c =
     c.in_ok-bytes.ensures.value ∙ (λ i. frame_of (c.source-2.ensures i) (c.destination.ensures i) (c.header-2.ensures i) (c.payload.ensures.value i)) in
     let at = made.packet ∙ (λ i. put_at (bytes i) (c.source-3.ensures i) c.in_ok-router.router) in
     let frame = framed_with sent.source sent.destination sent.pieces sent.header
-    (c.known-2.ensures.1.header)
+    (header_kept c.known-2.ensures.1)
     (subst IsHeader c.header.ensures c.known-3.ensures)
     (subst FitsBits c.header-2.ensures c.in_ok-bytes.ensures.fits)
     (subst (λ k. k < 2 ^ 64) c.source-2.ensures c.in_ok-bytes.ensures.addresses.0)
