@@ -1,51 +1,19 @@
 //! Worked examples for the tests of several crates: topologies, addresses, and paths in parts.
 #![tactic(auto)]
 
+mod networks;
+
 ghost use Rattle.std.specs.Prelude.{◌≡◌, ◌+◌, option_map};
 ghost use Rattle.isd_as.specs.Address.{address_of};
 
 use isd_as::{IfId, IsdAs};
+pub use networks::{Drawing, End, line, numbered, pair, ring, row};
 use path_header::{Header, HopField, InfoField};
 use path_segment::{Entry, Segment};
 use path_verifier::{Piece, Pieces};
 use policy_expr::{AclText, OptionText, Policy, PolicyText, WalkHop};
 use std::alloc::Global;
 use std::test::Fail;
-
-/// A core AS, its child, and the child's child, each with one router.
-pub fn row() -> &'static str {
-    concat!(
-        r#"{"ases":[{"ia":"1-ff00:0:110","core":true,"exp":63,"key":"6130","routers":1},"#,
-        r#"{"ia":"1-ff00:0:111","core":false,"exp":63,"key":"6131","routers":1},"#,
-        r#"{"ia":"1-ff00:0:112","core":false,"exp":63,"key":"6132","routers":1}],"#,
-        r#""links":[{"kind":"child","a":{"ia":"1-ff00:0:110","if":1,"router":0},"#,
-        r#""b":{"ia":"1-ff00:0:111","if":1,"router":0}},"#,
-        r#"{"kind":"child","a":{"ia":"1-ff00:0:111","if":2,"router":0},"#,
-        r#""b":{"ia":"1-ff00:0:112","if":1,"router":0}}]}"#,
-    )
-}
-
-/// Two core ASes with a link between them, each with a child and a child's child.
-pub fn pair() -> &'static str {
-    concat!(
-        r#"{"ases":[{"ia":"1-ff00:0:110","core":true,"exp":63,"key":"6b","routers":2},"#,
-        r#"{"ia":"1-ff00:0:111","core":false,"exp":63,"key":"6b","routers":2},"#,
-        r#"{"ia":"1-ff00:0:112","core":false,"exp":63,"key":"6b","routers":2},"#,
-        r#"{"ia":"2-ff00:0:210","core":true,"exp":63,"key":"6b","routers":2},"#,
-        r#"{"ia":"2-ff00:0:211","core":false,"exp":63,"key":"6b","routers":2},"#,
-        r#"{"ia":"2-ff00:0:212","core":false,"exp":63,"key":"6b","routers":2}],"#,
-        r#""links":[{"kind":"child","a":{"ia":"1-ff00:0:110","if":1,"router":0},"#,
-        r#""b":{"ia":"1-ff00:0:111","if":1,"router":0}},"#,
-        r#"{"kind":"child","a":{"ia":"1-ff00:0:111","if":2,"router":1},"#,
-        r#""b":{"ia":"1-ff00:0:112","if":1,"router":0}},"#,
-        r#"{"kind":"core","a":{"ia":"1-ff00:0:110","if":2,"router":1},"#,
-        r#""b":{"ia":"2-ff00:0:210","if":1,"router":0}},"#,
-        r#"{"kind":"child","a":{"ia":"2-ff00:0:210","if":2,"router":1},"#,
-        r#""b":{"ia":"2-ff00:0:211","if":1,"router":0}},"#,
-        r#"{"kind":"child","a":{"ia":"2-ff00:0:211","if":2,"router":1},"#,
-        r#""b":{"ia":"2-ff00:0:212","if":1,"router":0}}]}"#,
-    )
-}
 
 /// The address with this ISD, and an AS number of three groups whose first is ff00 and last is
 /// `last`.
