@@ -1,20 +1,15 @@
-//! Tests of networks: topologies, beacons and routers, and the sentences of their refusals; packets
-//! as text, field by field and check by check; and pictures of networks.
+//! Tests of networks: topologies; packets as text, field by field and check by check; pictures of
+//! networks; and the sentences of refusals.
 //!
-//! They are test vectors from outside, worked examples and sentences, of which no clause speaks.
-//! Tests have crates of their own and use public calls only, since a crate with tests is proved
-//! twice.
+//! They are worked examples and sentences, of which no clause speaks. Tests have crates of their own
+//! and use public calls only, since a crate with tests is proved twice.
 #![tactic(auto)]
 
-#[cfg(test)]
-mod beacons;
 #[cfg(test)]
 mod packet_texts;
 #[cfg(test)]
 mod pictures;
 #[cfg(test)]
 mod refusals;
-#[cfg(test)]
-mod routers;
 #[cfg(test)]
 mod topologies;

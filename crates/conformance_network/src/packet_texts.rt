@@ -1,6 +1,4 @@
 use packet_view::packet_lines;
-use std::alloc::Global;
-use std::process::Abort;
 use std::test::Fail;
 use step_line::{StepArgs, StepCommand, TurnFault};
 
@@ -11,12 +9,12 @@ const RIGHT: &str =
 
 /// The same packet with a wrong authenticator.
 const WRONG: &str =
-    "0001ff00000001100001ff0000000111000020000000b39600000064003f00020000b1b2b3b4b5b6003f00000001a1\
+    "0001ff00000001100001ff0000000111000020000000b39600000064003f00020000110e4c1d3dae003f00000001a1\
     a2a3a4a5a6";
 
 /// The same packet without its last byte.
 const CUT: &str =
-    "0001ff00000001100001ff0000000111000020000000b39600000064003f00020000b1b2b3b4b5b6003f00000001a1\
+    "0001ff00000001100001ff0000000111000020000000b39600000064003f00020000110e4c1d3dad003f00000001a1\
     a2a3a4a5";
 
 /// The view of the right packet that a host gives to its router at second 100.
@@ -52,105 +50,84 @@ const SHOWN: &str = "0001ff0000000110 destination 1-ff00:0:110\n\
      link 2 0001ff00000001100001ff0000000111010020000000b39600000064003f00020000110e4c1d3dad003f000\
      00001a1a2a3a4a5a6";
 
-/// The turn of router 0 of 1-ff00:0:111 with a packet of a host, at this second and with this key
-/// before `6b`.
-fn texts<'a, 'm>(
-    now: &'a str,
-    previous: Option<&'a str>,
-    interfaces: &'m [&'a str],
-) -> StepArgs<'a, 'm> {
+/// The turn of router 0 of 1-ff00:0:111 with a packet of a host, at this second.
+fn texts<'a, 'm>(now: &'a str, interfaces: &'m [&'a str]) -> StepArgs<'a, 'm> {
     StepArgs {
         ia: "1-ff00:0:111",
         router: "0",
         key: "6b",
-        previous,
+        previous: None,
         now,
         from: "host",
         interfaces,
     }
 }
 
-/// Asserts that the view of this packet at this turn ends in this way.
-fn expect_end(
-    rt: &impl Abort,
-    alloc: Global,
-    texts: StepArgs<'_, '_>,
-    packet: &str,
-    end: &str,
-) -> Result<(), Fail> {
-    let command = StepCommand::from_texts(alloc, texts)?.ok_or("a turn")?;
-    let lines = packet_lines(alloc, &command, packet.as_bytes())?;
-    assert!(rt; lines.as_str().ends_with(end), "{}", lines.as_str());
-    Ok(())
-}
-
 /// Each field, each check up to the last, and the line of the turn.
 #[test]
-fn shown(rt: HostRuntime) -> Result<(), Fail> {
+fn a_packet_that_goes_on_is_shown_whole(rt: HostRuntime) -> Result<(), Fail> {
     let alloc = rt.alloc();
     let own = ["2,parent,0,up"];
-    let command = StepCommand::from_texts(alloc, texts("100", None, &own))?.ok_or("a turn")?;
+    let command = StepCommand::from_texts(alloc, texts("100", &own))?.ok_or("a turn")?;
     let lines = packet_lines(alloc, &command, RIGHT.as_bytes())?;
     assert_eq!(&rt; lines.as_str(), SHOWN);
     Ok(())
 }
 
-/// The check that fails is the last one shown, and after it comes the line of the turn.
-#[test]
-fn refusals(rt: HostRuntime) -> Result<(), Fail> {
-    let own = ["2,parent,0,up"];
-    let rows = [
-        (
-            "21701",
-            RIGHT,
-            "\n4 live: expires at 21700, now 21701: refused 93 Expired\nrefused 93 Expired",
-        ),
-        (
-            "21700",
-            WRONG,
-            "\n4 live: expires at 21700, now 21700: ok\n\
-             5 authenticator: packet b1b2b3b4b5b6, right under the key in use: 110e4c1d3dad: \
-             refused 94 BadMac\nrefused 94 BadMac",
-        ),
-        (
-            "100",
-            CUT,
-            "\n1 header: a packet of 51 bytes: refused 90 BadHeader 20 Short\n\
-             refused 90 BadHeader 20 Short",
-        ),
-    ];
-    for (now, packet, end) in rows {
-        expect_end(&rt, rt.alloc(), texts(now, None, &own), packet, end)?;
-    }
-    Ok(())
-}
+/// Turns, each with its second, its interface and its packet, and the ends of their views.
+const REFUSED: [(&str, &str, &str, &str); 5] = [
+    (
+        "21701",
+        "2,parent,0,up",
+        RIGHT,
+        "\n4 live: expires at 21700, now 21701: refused 93 Expired\nrefused 93 Expired",
+    ),
+    (
+        "21700",
+        "2,parent,0,up",
+        WRONG,
+        "\n4 live: expires at 21700, now 21700: ok\n\
+         5 authenticator: packet 110e4c1d3dae, right under the key in use: 110e4c1d3dad: \
+         refused 94 BadMac\nrefused 94 BadMac",
+    ),
+    (
+        "100",
+        "2,parent,0,up",
+        CUT,
+        "\n1 header: a packet of 51 bytes: refused 90 BadHeader 20 Short\n\
+         refused 90 BadHeader 20 Short",
+    ),
+    (
+        "100",
+        "2,parent,0,down",
+        RIGHT,
+        "\n13 link: down: refused 100 LinkDown\nrefused 100 LinkDown",
+    ),
+    (
+        "100",
+        "3,parent,0,up",
+        RIGHT,
+        "\n10 way out: interface 2 of no router: refused 98 UnknownEgress\n\
+         refused 98 UnknownEgress",
+    ),
+];
 
-/// A link that is down, an interface that the AS does not have, and one of another router.
 #[test]
-fn ways_out(rt: HostRuntime) -> Result<(), Fail> {
-    let rows = [
-        (
-            "2,parent,0,down",
-            "\n13 link: down: refused 100 LinkDown\nrefused 100 LinkDown",
-        ),
-        (
-            "3,parent,0,up",
-            "\n10 way out: interface 2 of no router: refused 98 UnknownEgress\n\
-             refused 98 UnknownEgress",
-        ),
-    ];
-    for (interface, end) in rows {
-        let table = [interface];
-        expect_end(&rt, rt.alloc(), texts("100", None, &table), RIGHT, end)?;
-    }
-    Ok(())
-}
-
-/// Text that is no hexadecimal is refused as `scionet step` refuses it.
-#[test]
-fn bad_text(rt: HostRuntime) -> Result<(), Fail> {
+fn the_check_that_fails_is_the_last_one_shown(rt: HostRuntime) -> Result<(), Fail> {
     let alloc = rt.alloc();
-    let command = StepCommand::from_texts(alloc, texts("100", None, &[]))?.ok_or("a turn")?;
+    for (now, interface, packet, end) in &REFUSED {
+        let own = [*interface];
+        let command = StepCommand::from_texts(alloc, texts(*now, &own))?.ok_or("a turn")?;
+        let lines = packet_lines(alloc, &command, packet.as_bytes())?;
+        assert!(&rt; lines.as_str().ends_with(*end), "{}", lines.as_str());
+    }
+    Ok(())
+}
+
+#[test]
+fn text_that_is_no_hexadecimal_is_refused(rt: HostRuntime) -> Result<(), Fail> {
+    let alloc = rt.alloc();
+    let command = StepCommand::from_texts(alloc, texts("100", &[]))?.ok_or("a turn")?;
     let refused = packet_lines(alloc, &command, b"0g");
     assert!(&rt; matches!(refused, Err(TurnFault::PacketText)));
     Ok(())

@@ -5,7 +5,7 @@ use scion_topology::Topology;
 use std::alloc::{AllocError, Global};
 use std::process::Abort;
 use std::test::Fail;
-use worked::{at, hop};
+use worked::{at, hop, ring, row};
 
 const ROW_DRAWN: &str = concat!(
     "graph network {",
@@ -85,7 +85,7 @@ fn expect_picture(
 /// A link that is cut, a link that a packet has passed, and the router that has the packet.
 #[test]
 fn a_cut_link_is_dashed_and_a_passed_one_red(rt: HostRuntime) -> Result<(), Fail> {
-    let mut topology = Topology::from_json(rt.alloc(), worked::row().as_bytes())?;
+    let mut topology = Topology::from_json(rt.alloc(), row().as_bytes())?;
     expect_picture(&rt, rt.alloc(), &topology, &[], None, ROW_DRAWN)?;
     let ia = at(1, 0x111);
     topology.cut_link(ia, IfId(1))?;
@@ -112,9 +112,8 @@ fn a_cut_link_is_dashed_and_a_passed_one_red(rt: HostRuntime) -> Result<(), Fail
     expect_picture(&rt, rt.alloc(), &topology, &passed, Some(router), &picture)
 }
 
-/// This many core ASes without a link, as a topology and as the picture without routers.
-fn core_ases(alloc: Global, count: usize) -> Result<(String, String), AllocError> {
-    let mut json = String::from_str(alloc, r#"{"ases":["#)?;
+/// The picture of this many core ASes without a link, without routers.
+fn core_ases_drawn(alloc: Global, count: usize) -> Result<String, AllocError> {
     let mut picture = String::from_str(
         alloc,
         concat!(
@@ -126,30 +125,26 @@ fn core_ases(alloc: Global, count: usize) -> Result<(String, String), AllocError
         ),
     )?;
     for one in 1..=count {
-        let comma = if one == 1 { "" } else { "," };
-        write!(
-            json,
-            r#"{comma}{{"ia":"1-{one}","core":true,"exp":0,"key":"00","routers":1}}"#
-        )?;
         picture.push_str(r#"subgraph cluster_1 { label="ISD 1"; "#)?;
         writeln!(
             picture,
             r#""1-{one}" [label="1-{one} core", style=bold]; }}"#
         )?;
     }
-    json.push_str(r#"],"links":[]}"#)?;
     picture.push_str(concat!(
         r#"labeljust=c; fontsize=11; label="thick: a link between core ASes    "#,
         r#"arrow: a link to a child    dashed: a link that is cut"; }"#,
         "\n",
     ))?;
-    Ok((json, picture))
+    Ok(picture)
 }
 
 /// One AS more than are drawn with their routers.
 #[test]
 fn many_ases_are_drawn_without_routers(rt: HostRuntime) -> Result<(), Fail> {
-    let (json, picture) = core_ases(rt.alloc(), MAX_DETAILED + 1)?;
-    let topology = Topology::from_json(rt.alloc(), json.as_bytes())?;
-    expect_picture(&rt, rt.alloc(), &topology, &[], None, &picture)
+    let alloc = rt.alloc();
+    let topology = Topology::from_json(alloc, ring(alloc, 21, 0)?.as_bytes())?;
+    assert_eq!(rt; topology.ases().len(), MAX_DETAILED + 1);
+    let picture = core_ases_drawn(alloc, 21)?;
+    expect_picture(&rt, alloc, &topology, &[], None, &picture)
 }
