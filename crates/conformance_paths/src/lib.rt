@@ -13,5 +13,3 @@ mod options;
 mod paths;
 #[cfg(test)]
 mod policies;
-#[cfg(test)]
-mod texts;

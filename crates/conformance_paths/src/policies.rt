@@ -1,9 +1,8 @@
-use crate::texts::{levels_text, long_text, nested, pluses, printed_stars, stars};
 use bumpalo::Bump;
 use isd_as::{IfId, IsdAs};
 use policy_expr::{Acl, AclText, Denied, PolicyError, PolicyFault, Seq, WalkHop};
-use refusal::NumberedFault;
-use std::alloc::{AllocError, Allocator, Global};
+use refusal::OrMemory;
+use std::alloc::{AllocError, Global};
 use std::process::Abort;
 use std::test::Fail;
 
@@ -29,82 +28,8 @@ fn in_isds(alloc: Global, isds: &[u16]) -> Result<Vec<WalkHop>, AllocError> {
     Ok(walk)
 }
 
-/// The code of a refusal, 0 if there is none, and 1 if memory ran out.
-fn code_of<T: Drop>(answer: Result<T, PolicyError>) -> u16 {
-    match answer {
-        Ok(_) => 0,
-        Err(PolicyError::Memory) => 1,
-        Err(PolicyError::Refused(fault)) => fault.code(),
-    }
-}
-
-/// Whether a sequence prints in this way, has the first walk as a word, and not the second.
-fn does<A: Allocator + Clone>(
-    alloc: Global,
-    sequence: &Seq<A>,
-    printed: &str,
-    word: &[WalkHop],
-    other: &[WalkHop],
-) -> Result<bool, AllocError> {
-    let text = sequence.print(alloc)?;
-    Ok(text.as_str() == printed && sequence.matches(word) && !sequence.matches(other))
-}
-
-/// The same for its clone in another allocator.
-fn does_its_clone<A: Allocator + Clone, B: Allocator + Clone>(
-    alloc: Global,
-    sequence: &Seq<A>,
-    place: B,
-    printed: &str,
-    word: &[WalkHop],
-    other: &[WalkHop],
-) -> Result<bool, AllocError> {
-    let clone = sequence.clone_in(place)?;
-    does(alloc, &clone, printed, word, other)
-}
-
-/// The same for its clone in an arena, and for that clone's clone.
-fn do_clones(
-    alloc: Global,
-    sequence: &Seq<Global>,
-    printed: &str,
-    word: &[WalkHop],
-    other: &[WalkHop],
-) -> Result<bool, AllocError> {
-    let bump = Bump::new(alloc);
-    let placed = sequence.clone_in(&bump)?;
-    let is_placed = does(alloc, &placed, printed, word, other)?;
-    Ok(is_placed && does_its_clone(alloc, &placed, alloc, printed, word, other)?)
-}
-
-/// The same for a text, for its clone in an arena, and for that clone's clone.
-fn does_here(
-    alloc: Global,
-    text: &str,
-    printed: &str,
-    word: &[WalkHop],
-    other: &[WalkHop],
-) -> Result<bool, PolicyError> {
-    let sequence = Seq::parse(alloc, text)?;
-    let is_read = does(alloc, &sequence, printed, word, other)?;
-    Ok(is_read && do_clones(alloc, &sequence, printed, word, other)?)
-}
-
-/// The same for a text that is read into an arena.
-fn does_there(
-    alloc: Global,
-    text: &str,
-    printed: &str,
-    word: &[WalkHop],
-    other: &[WalkHop],
-) -> Result<bool, PolicyError> {
-    let bump = Bump::new(alloc);
-    let sequence = Seq::parse(&bump, text)?;
-    Ok(does(alloc, &sequence, printed, word, other)?)
-}
-
-/// Asserts the same for a sequence's text, its clone in an arena, that clone's clone, and the text
-/// read into the arena.
+/// Asserts that a text is that of a sequence that prints in this way, has the first walk as a word,
+/// and not the second.
 fn expect_sequence(
     rt: &impl Abort,
     alloc: Global,
@@ -113,8 +38,10 @@ fn expect_sequence(
     word: &[WalkHop],
     other: &[WalkHop],
 ) -> Result<(), Fail> {
-    assert!(rt; does_here(alloc, text, printed, word, other)?);
-    assert!(rt; does_there(alloc, text, printed, word, other)?);
+    let sequence = Seq::parse(alloc, text)?;
+    assert_eq!(rt; sequence.print(alloc)?.as_str(), printed);
+    assert!(rt; sequence.matches(word), "{text}");
+    assert!(rt; !sequence.matches(other), "{text}");
     Ok(())
 }
 
@@ -123,25 +50,20 @@ fn last_hop() -> WalkHop {
     hop(0xff00_0000_0111, 2, 0)
 }
 
-/// Any hops, and then one AS.
 #[test]
-fn ends_in_one_as(rt: HostRuntime) -> Result<(), Fail> {
-    let text = "(0 *)  1-FF00:0:111#0";
-    let printed = "0* 1-ff00:0:111";
-    let one = [last_hop()];
+fn any_hops_and_then_one_as_are_a_sequence(rt: HostRuntime) -> Result<(), Fail> {
+    let (text, printed) = ("(0 *)  1-FF00:0:111#0", "0* 1-ff00:0:111");
     let two = [hop(0xff00_0000_0110, 0, 1), last_hop()];
     let elsewhere = [last_hop(), hop(0xff00_0000_0112, 1, 0)];
-    let none: [WalkHop; 0] = [];
     let mut most = [hop(0xff00_0000_0110, 3, 4); 64];
     most[63] = last_hop();
-    expect_sequence(&rt, rt.alloc(), text, printed, &one, &elsewhere)?;
-    expect_sequence(&rt, rt.alloc(), text, printed, &two, &none)?;
+    expect_sequence(&rt, rt.alloc(), text, printed, &two, &[])?;
     expect_sequence(&rt, rt.alloc(), text, printed, &most, &elsewhere)
 }
 
-/// `|` binds tighter than following, and a walk of two hops is no word of one predicate.
+/// And a walk of two hops is no word of one predicate.
 #[test]
-fn binds_either_tighter(rt: HostRuntime) -> Result<(), Fail> {
+fn either_binds_tighter_than_following(rt: HostRuntime) -> Result<(), Fail> {
     let one = [hop(0xff00_0000_0110, 0, 1)];
     let two = [hop(0xff00_0000_0110, 0, 1), hop(0xff00_0000_0112, 2, 0)];
     let swapped = [hop(0xff00_0000_0112, 0, 1), hop(0xff00_0000_0110, 2, 0)];
@@ -150,23 +72,74 @@ fn binds_either_tighter(rt: HostRuntime) -> Result<(), Fail> {
     expect_sequence(&rt, rt.alloc(), "0", "0", &one, &two)
 }
 
-/// Asserts that two repetitions, one after the other, of an item that may be absent have the first
-/// word of ISDs and not the second.
-fn expect_word(rt: &impl Abort, alloc: Global, word: &[u16], other: &[u16]) -> Result<(), Fail> {
-    let text = "(1? 2)+ 1*";
-    let word = in_isds(alloc, word)?;
-    let other = in_isds(alloc, other)?;
-    expect_sequence(rt, alloc, text, text, &word, &other)
-}
-
 /// Two repetitions, one after the other, of an item that may be absent: words by their ISDs.
 #[test]
-fn has_words(rt: HostRuntime) -> Result<(), Fail> {
+fn an_item_of_a_repetition_may_be_absent(rt: HostRuntime) -> Result<(), Fail> {
     let alloc = rt.alloc();
-    expect_word(&rt, alloc, &[2], &[])?;
-    expect_word(&rt, alloc, &[1, 2], &[1])?;
-    expect_word(&rt, alloc, &[2, 1, 2], &[1, 1, 2])?;
-    expect_word(&rt, alloc, &[2, 2, 1, 1], &[2, 1, 1, 2])
+    let text = "(1? 2)+ 1*";
+    let rows: [(&[u16], &[u16]); 4] = [
+        (&[2], &[]),
+        (&[1, 2], &[1]),
+        (&[2, 1, 2], &[1, 1, 2]),
+        (&[2, 2, 1, 1], &[2, 1, 1, 2]),
+    ];
+    for (word, other) in rows {
+        let (word, other) = (in_isds(alloc, word)?, in_isds(alloc, other)?);
+        expect_sequence(&rt, alloc, text, text, &word, &other)?;
+    }
+    Ok(())
+}
+
+/// The text, repeated `count` times.
+fn times(alloc: Global, text: &str, count: usize) -> Result<String, AllocError> {
+    let mut all = String::new(alloc);
+    for _ in 0..count {
+        all.push_str(text)?;
+    }
+    Ok(all)
+}
+
+/// `0* 1-100`, repeated and followed by `1-101`, all of that repeated and followed by `1-102`, and
+/// so on.
+fn levels_text(alloc: Global, levels: u64) -> Result<String, AllocError> {
+    let mut text = "0* 1-100".to_string(alloc)?;
+    for level in 0..levels {
+        let last = level % 1000 + 101;
+        text = format!(in alloc; "({text})* 1-{last}")?;
+    }
+    Ok(text)
+}
+
+/// The item `0` with 255 signs.
+fn pluses(alloc: Global) -> Result<String, AllocError> {
+    let signs = times(alloc, "+", 255)?;
+    format!(in alloc; "0{signs}")
+}
+
+/// The item `1-100` in 32 parentheses, each repeated.
+fn stars(alloc: Global) -> Result<String, AllocError> {
+    let open = times(alloc, "(", 32)?;
+    let closed = times(alloc, ")*", 32)?;
+    format!(in alloc; "{open}1-100{closed}")
+}
+
+/// The printed text of `stars`.
+fn printed_stars(alloc: Global) -> Result<String, AllocError> {
+    let signs = times(alloc, "*", 32)?;
+    format!(in alloc; "1-100{signs}")
+}
+
+/// The item `0` in `count` pairs of parentheses.
+fn nested(alloc: Global, depth: usize) -> Result<String, AllocError> {
+    let open = times(alloc, "(", depth)?;
+    let closed = times(alloc, ")", depth)?;
+    format!(in alloc; "{open}0{closed}")
+}
+
+/// A sequence of 254 nodes, and then this text.
+fn long_text(alloc: Global, last: &str) -> Result<String, AllocError> {
+    let pairs = times(alloc, "1|0 ", 63)?;
+    format!(in alloc; "{pairs}{last}")
 }
 
 /// A word of the 32 levels: 32 hops of one AS, and then one hop of each level's AS.
@@ -180,9 +153,9 @@ fn levels_word() -> [WalkHop; 64] {
     word
 }
 
-/// Nested repetitions: 64 hops are answered at once.
+/// Walks of 64 hops, at sequences whose words could be looked for in very many ways.
 #[test]
-fn repeats_repetitions(rt: HostRuntime) -> Result<(), Fail> {
+fn nested_repetitions_are_answered_at_once(rt: HostRuntime) -> Result<(), Fail> {
     let alloc = rt.alloc();
     let same = [hop(100, 0, 0); 64];
     let mut other = [hop(100, 0, 0); 64];
@@ -203,99 +176,62 @@ fn repeats_repetitions(rt: HostRuntime) -> Result<(), Fail> {
     )
 }
 
-/// Asserts the code of the refusal of a text that is no sequence.
-fn expect_refusal(rt: &impl Abort, alloc: Global, text: &str, code: u16) {
-    assert_eq!(rt; code_of(Seq::parse(alloc, text)), code, "{text}");
+/// The refusal of a text as a sequence.
+fn refused(fault: PolicyFault) -> Option<PolicyError> {
+    Some(OrMemory::Refused(fault))
 }
 
-/// The numbers of nodes and of open parentheses at their limits, and each refusal of a sequence.
+/// 32 open parentheses, and 256 nodes.
 #[test]
-fn refuses_sequences(rt: HostRuntime) -> Result<(), Fail> {
+fn a_sequence_has_limits(rt: HostRuntime) -> Result<(), Fail> {
     let alloc = rt.alloc();
-    expect_refusal(&rt, alloc, "", 60);
-    expect_refusal(&rt, alloc, "1 |", 60);
-    expect_refusal(&rt, alloc, "(1", 62);
-    expect_refusal(&rt, alloc, "1)", 62);
-    expect_refusal(&rt, alloc, "| 1", 61);
-    expect_refusal(&rt, alloc, "1 é", 61);
     let deep = nested(alloc, 32)?;
     expect_sequence(&rt, alloc, deep.as_str(), "0", &[last_hop()], &[])?;
-    expect_refusal(&rt, alloc, nested(alloc, 33)?.as_str(), 63);
+    let deeper = nested(alloc, 33)?;
+    assert!(rt; Seq::parse(alloc, deeper.as_str()).err() == refused(PolicyFault::TooDeep));
     let long = long_text(alloc, "0 1")?;
     let (walk, short) = ([last_hop(); 65], [last_hop(); 64]);
     expect_sequence(&rt, alloc, long.as_str(), long.as_str(), &walk, &short)?;
-    expect_refusal(&rt, alloc, long_text(alloc, "0 1 0")?.as_str(), 64);
+    let longer = long_text(alloc, "0 1 0")?;
+    assert!(rt; Seq::parse(alloc, longer.as_str()).err() == refused(PolicyFault::TooLarge));
     Ok(())
 }
 
-/// The list of these texts.
-fn acl_text(alloc: Global, texts: &[&str]) -> Result<AclText, AllocError> {
-    let mut list = AclText::new(alloc);
-    for text in texts {
-        list.push(alloc, text)?;
-    }
-    Ok(list)
-}
-
-/// Whether a list denies the second hop of the first walk by its first entry, and allows the second
-/// walk.
-fn decides<A: Allocator + Clone>(acl: &Acl<A>) -> bool {
-    let denied = [hop(0xff00_0000_0133, 1, 2), hop(0xff00_0000_0133, 2, 1)];
-    let allowed = [hop(0xff00_0000_0133, 1, 2), hop(0xff00_0000_0134, 2, 1)];
-    let entries = acl.entries().len();
-    acl.verdict(&denied) == Err(Denied { hop: 1, entry: 0 })
-        && acl.verdict(&allowed) == Ok(())
-        && entries == 2
-}
-
-/// The same for its clone in another allocator.
-fn its_clone_decides<A: Allocator + Clone, B: Allocator + Clone>(
-    acl: &Acl<A>,
-    place: B,
-) -> Result<bool, AllocError> {
-    let clone = acl.clone_in(place)?;
-    Ok(decides(&clone))
-}
-
-/// The same for its clone in an arena, and for that clone's clone.
-fn clones_decide(alloc: Global, acl: &Acl<Global>) -> Result<bool, AllocError> {
+/// A copy of a sequence that was read into an arena.
+fn sequence_copied(alloc: Global, text: &str) -> Result<Seq<Global>, PolicyError> {
     let bump = Bump::new(alloc);
-    let placed = acl.clone_in(&bump)?;
-    Ok(decides(&placed) && its_clone_decides(&placed, alloc)?)
+    let sequence = Seq::parse(&bump, text)?;
+    Ok(sequence.clone_in(alloc)?)
 }
 
-/// The same for the list of a text, and for its clones.
-fn decides_here(alloc: Global, text: &AclText) -> Result<bool, PolicyError> {
-    let acl = Acl::parse(alloc, text)?;
-    Ok(decides(&acl) && clones_decide(alloc, &acl)?)
-}
-
-/// The same for a text that is read into an arena.
-fn decides_there(alloc: Global, text: &AclText) -> Result<bool, PolicyError> {
+/// A copy of a list that was read into an arena.
+fn list_copied(alloc: Global, text: &AclText) -> Result<Acl<Global>, PolicyError> {
     let bump = Bump::new(alloc);
-    let acl = Acl::parse(&bump, text)?;
-    Ok(decides(&acl))
+    let list = Acl::parse(&bump, text)?;
+    Ok(list.clone_in(alloc)?)
 }
 
-/// A list that decides about one interface; the same for its clone in an arena, and for that
-/// clone's clone.
+/// A list that decides about one interface, and a sequence.
 #[test]
-fn decides_by_first_entry(rt: HostRuntime) -> Result<(), Fail> {
-    let text = acl_text(rt.alloc(), &["- 1-ff00:0:133#2,0", " + "])?;
-    assert!(rt; text.texts().len() == 2);
-    assert!(rt; decides_here(rt.alloc(), &text)?);
-    assert!(rt; decides_there(rt.alloc(), &text)?);
+fn copies_outlive_the_arena_of_what_was_read(rt: HostRuntime) -> Result<(), Fail> {
+    let alloc = rt.alloc();
+    let sequence = sequence_copied(alloc, "1 | 2 0")?;
+    assert_eq!(rt; sequence.print(alloc)?.as_str(), "1|2 0");
+    let mut text = AclText::new(alloc);
+    text.push(alloc, "- 1-ff00:0:133#2,0")?;
+    text.push(alloc, " + ")?;
+    assert_eq!(rt; text.texts().len(), 2);
+    let list = list_copied(alloc, &text)?;
+    let denied = [hop(0xff00_0000_0133, 1, 2), hop(0xff00_0000_0133, 2, 1)];
+    assert_eq!(rt; list.verdict(&denied), Err(Denied { hop: 1, entry: 0 }));
+    let allowed = [hop(0xff00_0000_0133, 1, 2), hop(0xff00_0000_0134, 2, 1)];
+    assert_eq!(rt; list.verdict(&allowed), Ok(()));
+    assert_eq!(rt; list.entries().len(), 2);
     Ok(())
 }
 
-/// The code of the refusal of these texts as a list, or 0 if there is none.
-fn code_of_list(alloc: Global, texts: &[&str]) -> Result<u16, AllocError> {
-    let list = acl_text(alloc, texts)?;
-    Ok(code_of(Acl::parse(alloc, &list)))
-}
-
-/// The code of the refusal of a list of 255 entries and this many defaults.
-fn code_of_long_list(alloc: Global, defaults: usize) -> Result<u16, AllocError> {
+/// The refusal of a list of 255 entries and this many defaults, if it is refused.
+fn refusal_of_long_list(alloc: Global, defaults: usize) -> Result<Option<PolicyError>, AllocError> {
     let mut list = AclText::new(alloc);
     for _ in 0..255 {
         list.push(alloc, "- 1")?;
@@ -303,77 +239,15 @@ fn code_of_long_list(alloc: Global, defaults: usize) -> Result<u16, AllocError> 
     for _ in 0..defaults {
         list.push(alloc, "+")?;
     }
-    Ok(code_of(Acl::parse(alloc, &list)))
+    Ok(Acl::parse(alloc, &list).err())
 }
 
-/// Each refusal of a list.
+/// A list with no entry has no default either, and one that is too long is refused for that.
 #[test]
-fn refuses_lists(rt: HostRuntime) -> Result<(), Fail> {
-    let alloc = rt.alloc();
-    let codes = [
-        code_of_list(alloc, &["- x", "+"])?,
-        code_of_list(alloc, &["- 1"])?,
-        code_of_list(alloc, &[])?,
-        code_of_list(alloc, &["+", "- 1", "-"])?,
-        code_of_list(alloc, &["\t-\r0-0#0,0\n"])?,
-        code_of_long_list(alloc, 1)?,
-        code_of_long_list(alloc, 2)?,
-    ];
-    assert_eq!(rt; codes, [61, 65, 65, 66, 0, 0, 64]);
-    Ok(())
-}
-
-/// Asserts the number, the name and the sentence of a refusal.
-fn expect_report(
-    rt: &impl Abort,
-    alloc: Global,
-    fault: PolicyFault,
-    code: u16,
-    name: &str,
-    sentence: &str,
-) -> Result<(), Fail> {
-    assert!(rt; fault.code() == code);
-    assert!(rt; fault.name() == name);
-    assert!(rt; fault.to_string(alloc)?.as_str() == sentence);
-    let shown = PolicyError::Refused(fault).to_string(alloc)?;
-    assert!(rt; shown.as_str() == sentence);
-    Ok(())
-}
-
-/// The reports of the refusals of sequences.
-#[test]
-fn reports_sequences(rt: HostRuntime) -> Result<(), Fail> {
-    let alloc = rt.alloc();
-    let text = "a sequence ends where an item must come";
-    let fault = PolicyFault::UnexpectedEnd;
-    expect_report(&rt, alloc, fault, 60, "UnexpectedEnd", text)?;
-    let text = "a hop predicate can't be read";
-    let fault = PolicyFault::BadPredicate;
-    expect_report(&rt, alloc, fault, 61, "BadPredicate", text)?;
-    let text = "the parentheses of a sequence don't match";
-    expect_report(&rt, alloc, PolicyFault::Unbalanced, 62, "Unbalanced", text)?;
-    let text = "a sequence has at most 32 parentheses open at once";
-    expect_report(&rt, alloc, PolicyFault::TooDeep, 63, "TooDeep", text)?;
-    let text = "a sequence has at most 256 nodes, and a list at most 256 entries";
-    expect_report(&rt, alloc, PolicyFault::TooLarge, 64, "TooLarge", text)
-}
-
-/// The reports of the refusals of lists, and of running out of memory.
-#[test]
-fn reports_lists(rt: HostRuntime) -> Result<(), Fail> {
-    let alloc = rt.alloc();
-    let text = "the last entry of a list has no predicate";
-    expect_report(&rt, alloc, PolicyFault::NoDefault, 65, "NoDefault", text)?;
-    let text = "an entry without a predicate is the last of its list";
-    expect_report(
-        &rt,
-        alloc,
-        PolicyFault::AfterDefault,
-        66,
-        "AfterDefault",
-        text,
-    )?;
-    let memory = PolicyError::Memory.to_string(alloc)?;
-    assert!(rt; memory.as_str() == "out of memory");
+fn a_list_has_at_most_256_entries(rt: HostRuntime) -> Result<(), Fail> {
+    assert!(rt; refusal_of_long_list(rt.alloc(), 1)?.is_none());
+    assert!(rt; refusal_of_long_list(rt.alloc(), 2)? == refused(PolicyFault::TooLarge));
+    let empty = AclText::new(rt.alloc());
+    assert!(rt; Acl::parse(rt.alloc(), &empty).err() == refused(PolicyFault::NoDefault));
     Ok(())
 }
