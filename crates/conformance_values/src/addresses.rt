@@ -1,5 +1,4 @@
 use isd_as::{AddrFault, AsNumber, IfId, Isd, IsdAs, MAX_TEXT_LEN};
-use refusal::NumberedFault;
 use std::alloc::{AllocError, Global};
 use std::process::Abort;
 use std::test::Fail;
@@ -53,43 +52,31 @@ fn other_spellings_print_canonically(rt: HostRuntime) -> Result<(), Fail> {
     Ok(())
 }
 
-/// Asserts the fault, the number and the name by which a text is refused.
-fn expect_refusal(rt: &impl Abort, text: &str, fault: AddrFault, code: u16, name: &str) {
-    assert_eq!(rt; IsdAs::parse(text), Err(fault), "{text}");
-    assert!(rt; fault.code() == code, "{text}");
-    assert!(rt; fault.name() == name, "{text}");
-}
-
-/// Asserts that a character of a text is no digit of its number.
-fn expect_bad_digit(rt: &impl Abort, text: &str) {
-    expect_refusal(rt, text, AddrFault::BadDigit, 2, "BadDigit");
-}
-
-/// Asserts that a text is refused for its groups.
-fn expect_bad_groups(rt: &impl Abort, text: &str) {
-    expect_refusal(rt, text, AddrFault::BadGroups, 5, "BadGroups");
-}
-
 #[test]
 fn the_first_refusal_is_given(rt: HostRuntime) {
-    expect_refusal(&rt, "1-4294967296", AddrFault::AsRange, 4, "AsRange");
-    expect_bad_groups(&rt, "1-ff00:0");
-    expect_refusal(&rt, "1", AddrFault::NoDash, 1, "NoDash");
-    expect_refusal(&rt, "65536-1", AddrFault::IsdRange, 3, "IsdRange");
-    expect_bad_digit(&rt, "1-");
-    expect_bad_digit(&rt, "1-2-3");
-    // Which of two refusals comes first.
-    expect_refusal(&rt, "x", AddrFault::NoDash, 1, "NoDash");
-    expect_refusal(&rt, "65536-", AddrFault::IsdRange, 3, "IsdRange");
-    expect_bad_digit(&rt, "x-0:0");
-    expect_bad_digit(&rt, "99999999999999999999999x-1");
-    expect_bad_digit(&rt, "1-99999999999999999999999x");
-    expect_bad_groups(&rt, "1-xyz:0:00000");
-    // A group has 1 to 4 characters, of any number of bytes.
-    expect_bad_digit(&rt, "1-ééé:0:0");
-    expect_bad_groups(&rt, "1-0::0");
-    expect_bad_groups(&rt, "1-0:0:0:0");
-    expect_bad_digit(&rt, "+1-1");
+    let rows = [
+        ("1-4294967296", AddrFault::AsRange),
+        ("1-ff00:0", AddrFault::BadGroups),
+        ("1", AddrFault::NoDash),
+        ("65536-1", AddrFault::IsdRange),
+        ("1-", AddrFault::BadDigit),
+        ("1-2-3", AddrFault::BadDigit),
+        // Which of two refusals comes first.
+        ("x", AddrFault::NoDash),
+        ("65536-", AddrFault::IsdRange),
+        ("x-0:0", AddrFault::BadDigit),
+        ("99999999999999999999999x-1", AddrFault::BadDigit),
+        ("1-99999999999999999999999x", AddrFault::BadDigit),
+        ("1-xyz:0:00000", AddrFault::BadGroups),
+        // A group has 1 to 4 characters, of any number of bytes.
+        ("1-ééé:0:0", AddrFault::BadDigit),
+        ("1-0::0", AddrFault::BadGroups),
+        ("1-0:0:0:0", AddrFault::BadGroups),
+        ("+1-1", AddrFault::BadDigit),
+    ];
+    for (text, fault) in rows {
+        assert_eq!(rt; IsdAs::parse(text), Err(fault), "{text}");
+    }
 }
 
 /// Whether an address is greater than `low` and less than `high`.

@@ -1,8 +1,8 @@
 use hop_mac::{HopInput, MacKey, expiry, hmac_sha256, hop_is_live, hop_mac, mac_input, next_beta};
 
-/// HMAC-SHA-256 by test cases 1 to 4 of RFC 4231, with the key as bytes and as a [`MacKey`].
+/// By test cases 1 to 4 of RFC 4231, with the key as bytes and as a [`MacKey`].
 #[test]
-fn rfc_4231(rt: HostRuntime) {
+fn authenticators_are_those_of_hmac_sha_256(rt: HostRuntime) {
     let counted: [u8; 25] = [
         1, 2, 3, 4, 5, 6, 7, 8, 9, 10, 11, 12, 13, 14, 15, 16, 17, 18, 19, 20, 21, 22, 23, 24, 25,
     ];
@@ -51,9 +51,8 @@ fn rfc_4231(rt: HostRuntime) {
     }
 }
 
-/// A hop's authenticator, its input, and the accumulator after it.
 #[test]
-fn hops(rt: HostRuntime) {
+fn a_hop_has_its_input_and_its_authenticator(rt: HostRuntime) {
     let input = [0, 0, 0x12, 0x34, 0, 0, 0, 0x64, 0, 0x3f, 0, 1, 0, 2, 0, 0];
     assert_eq!(rt; mac_input(0x1234, 100, 63, 1, 2), input);
     assert_eq!(rt; next_beta(0x1234, &[0xab, 0xcd, 0, 0, 0, 0]), 0xb9f9);
@@ -69,9 +68,9 @@ fn hops(rt: HostRuntime) {
     assert_eq!(rt; MacKey::new(b"k").hop_mac(&hop), mac);
 }
 
-/// Hops with timestamp 1000, at the last second at which they are live and at the one after it.
+/// With the timestamp 1000: at the last second at which a hop is live, and at the one after it.
 #[test]
-fn lifetimes(rt: HostRuntime) {
+fn a_hop_is_live_up_to_its_last_second(rt: HostRuntime) {
     for (exp_time, last) in [(0, 1337), (255, 87_400)] {
         assert!(rt; hop_is_live(1000, exp_time, 0));
         assert!(rt; hop_is_live(1000, exp_time, last));

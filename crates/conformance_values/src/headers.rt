@@ -1,6 +1,5 @@
 use isd_as::IfId;
 use path_header::{Header, HeaderFault, HeaderMut, HopField, InfoField, decode, encode};
-use refusal::NumberedFault;
 use std::process::Abort;
 use std::test::Fail;
 
@@ -45,18 +44,10 @@ const CORE_HOP: HopField = HopField {
     mac: [0xa1, 0xa2, 0xa3, 0xa4, 0xa5, 0xa6],
 };
 
-/// The code of a refusal, or 0 if there is none.
-fn code_of<T: Drop>(answer: Result<T, HeaderFault>) -> u16 {
-    match answer {
-        Ok(_) => 0,
-        Err(fault) => fault.code(),
-    }
-}
-
-/// The code of the refusal of the header with some bytes changed, and cut to a length.
-fn code_of_changed(header: &[u8], changes: &[(usize, u8)], len: usize) -> u16 {
+/// The refusal of [`WORKED`] with some bytes changed, and cut to a length; behind it are zeros.
+fn refusal_of_changed(changes: &[(usize, u8)], len: usize) -> Option<HeaderFault> {
     let mut bytes = [0; 48];
-    for (byte, value) in bytes.iter_mut().zip(header) {
+    for (byte, value) in bytes.iter_mut().zip(&WORKED) {
         *byte = *value;
     }
     for (at, value) in changes {
@@ -64,92 +55,124 @@ fn code_of_changed(header: &[u8], changes: &[(usize, u8)], len: usize) -> u16 {
             *byte = *value;
         }
     }
-    code_of(decode(&bytes[..len.min(48)]))
+    decode(&bytes[..len.min(48)]).err()
 }
 
-/// Bytes of [`WORKED`] that are changed, the length to which it is cut, and the number of the
-/// refusal.
-static CASES: [(&[(usize, u8)], usize, u16); 27] = [
-    (&[], 36, 0),
-    (&[(36, 0xff), (47, 0xff)], 48, 0),
-    (&[], 35, 20),
-    (&[], 0, 20),
+/// Bytes of [`WORKED`] that are changed, the length to which it is cut, and the refusal.
+static CASES: [(&[(usize, u8)], usize, Option<HeaderFault>); 30] = [
+    (&[], 36, None),
+    (&[(36, 0xff), (47, 0xff)], 48, None),
+    (&[], 35, Some(HeaderFault::Short)),
+    (&[], 0, Some(HeaderFault::Short)),
     // the meta field: Short, Reserved, SegLens, TooManyHops, and Short again
-    (&[(1, 0xfc), (2, 0x00)], 3, 20),
-    (&[(1, 0x04)], 36, 21),
-    (&[(1, 0x80), (2, 0x00)], 36, 21),
-    (&[(1, 0x0a), (2, 0x1f), (3, 0xff)], 36, 21),
-    (&[(0, 0xff), (1, 0x20), (4, 0x02), (12, 0x01)], 35, 21),
-    (&[(2, 0x00)], 36, 24),
-    (&[(0, 0xff), (3, 0x01), (4, 0x02), (12, 0x01)], 36, 24),
-    (&[(1, 0x00), (2, 0x0f), (3, 0xff)], 4, 24),
+    (&[(1, 0xfc), (2, 0x00)], 3, Some(HeaderFault::Short)),
+    (&[(1, 0x04)], 36, Some(HeaderFault::Reserved)),
+    (&[(1, 0x80), (2, 0x00)], 36, Some(HeaderFault::Reserved)),
+    (
+        &[(1, 0x0a), (2, 0x1f), (3, 0xff)],
+        36,
+        Some(HeaderFault::Reserved),
+    ),
+    (
+        &[(0, 0xff), (1, 0x20), (4, 0x02), (12, 0x01)],
+        35,
+        Some(HeaderFault::Reserved),
+    ),
+    (&[(2, 0x00)], 36, Some(HeaderFault::SegLens)),
+    (
+        &[(0, 0xff), (3, 0x01), (4, 0x02), (12, 0x01)],
+        36,
+        Some(HeaderFault::SegLens),
+    ),
+    (
+        &[(1, 0x00), (2, 0x0f), (3, 0xff)],
+        4,
+        Some(HeaderFault::SegLens),
+    ),
     (
         &[(0, 0xff), (1, 0x02), (2, 0x18), (4, 0x02), (6, 0x01)],
         48,
-        25,
+        Some(HeaderFault::TooManyHops),
     ),
-    (&[(1, 0x03), (2, 0xf0), (3, 0x40)], 4, 20),
-    (&[(0, 0xff), (4, 0x02), (5, 0x01), (12, 0x01)], 35, 20),
+    (
+        &[(1, 0x03), (2, 0xf0), (3, 0x40)],
+        4,
+        Some(HeaderFault::Short),
+    ),
+    (
+        &[(0, 0xff), (4, 0x02), (5, 0x01), (12, 0x01)],
+        35,
+        Some(HeaderFault::Short),
+    ),
     // the fields in order, and the indices after them
-    (&[(4, 0x02)], 36, 22),
-    (&[(4, 0x86), (5, 0x01)], 36, 22),
-    (&[(0, 0x3f), (4, 0x03), (12, 0x02)], 36, 22),
-    (&[(4, 0x04), (12, 0x01)], 36, 21),
-    (&[(0, 0xc0), (5, 0x01)], 36, 21),
-    (&[(12, 0x01)], 36, 23),
-    (&[(24, 0x02)], 36, 23),
-    (&[(0, 0x40), (24, 0x06)], 36, 23),
-    (&[(12, 0x80), (24, 0x02)], 36, 21),
-    (&[(0, 0x40), (24, 0x04)], 36, 21),
-    (&[(0, 0x40)], 36, 26),
-    (&[(0, 0x02)], 36, 26),
+    (&[(4, 0x02)], 36, Some(HeaderFault::PeerFlag)),
+    (&[(4, 0x86), (5, 0x01)], 36, Some(HeaderFault::PeerFlag)),
+    (
+        &[(0, 0x3f), (4, 0x03), (12, 0x02)],
+        36,
+        Some(HeaderFault::PeerFlag),
+    ),
+    (&[(4, 0x04), (12, 0x01)], 36, Some(HeaderFault::Reserved)),
+    (&[(0, 0xc0), (5, 0x01)], 36, Some(HeaderFault::Reserved)),
+    (&[(12, 0x01)], 36, Some(HeaderFault::AlertFlag)),
+    (&[(24, 0x02)], 36, Some(HeaderFault::AlertFlag)),
+    (&[(0, 0x40), (24, 0x06)], 36, Some(HeaderFault::AlertFlag)),
+    (&[(12, 0x80), (24, 0x02)], 36, Some(HeaderFault::Reserved)),
+    (&[(0, 0x40), (24, 0x04)], 36, Some(HeaderFault::Reserved)),
+    (&[(0, 0x40)], 36, Some(HeaderFault::BadIndex)),
+    (&[(0, 0x02)], 36, Some(HeaderFault::BadIndex)),
+    // two segments of one hop each
+    (
+        &[(2, 0x10), (3, 0x40), (5, 0x01), (12, 0x02)],
+        44,
+        Some(HeaderFault::Reserved),
+    ),
+    (
+        &[(2, 0x10), (3, 0x40), (4, 0x02), (13, 0x01)],
+        44,
+        Some(HeaderFault::PeerFlag),
+    ),
+    (
+        &[
+            (0, 0x80),
+            (2, 0x10),
+            (3, 0x40),
+            (13, 0x00),
+            (20, 0x00),
+            (32, 0x00),
+        ],
+        44,
+        Some(HeaderFault::BadIndex),
+    ),
 ];
 
 #[test]
-fn first_refusal_is_reported(rt: HostRuntime) {
-    for (changes, len, code) in &CASES {
-        assert_eq!(rt; code_of_changed(&WORKED, changes, *len), *code);
-    }
-    assert_eq!(rt; HeaderFault::BadIndex.name(), "BadIndex");
-}
-
-/// The meta field of two segments of one hop each.
-const TWO_SEGMENTS: [u8; 4] = [0x00, 0x00, 0x10, 0x40];
-
-#[test]
-fn first_refusal_of_two_segments_is_reported(rt: HostRuntime) {
-    let cases: [(&[(usize, u8)], u16); 3] = [
-        (&[(5, 0x01), (12, 0x02)], 21),
-        (&[(4, 0x02), (13, 0x01)], 22),
-        (&[(0, 0x80)], 26),
-    ];
-    for (changes, code) in cases {
-        assert_eq!(rt; code_of_changed(&TWO_SEGMENTS, changes, 44), code);
+fn the_first_refusal_is_reported(rt: HostRuntime) {
+    for (changes, len, refusal) in &CASES {
+        assert_eq!(rt; refusal_of_changed(changes, *len), *refusal);
     }
 }
 
 #[test]
-fn new_header_is_spelled(rt: HostRuntime) -> Result<(), Fail> {
+fn a_new_header_has_its_bytes(rt: HostRuntime) -> Result<(), Fail> {
     let hops = [LEAF_HOP, CORE_HOP];
     let header = Header::new([2, 0, 0], &[UP_INFO], &hops)?;
     let mut room = [0xff; 48];
     assert_eq!(rt; encode(&header, &mut room)?, 36);
     assert_eq!(rt; &room[..36], UP.as_slice());
     assert_eq!(rt; room[36], 0xff);
-    let cases: [([u8; 3], usize, u16); 7] = [
-        ([0, 2, 0], 2, 24),
-        ([0, 2, 0], 1, 24),
-        ([2, 0, 1], 2, 24),
-        ([64, 64, 0], 2, 24),
-        ([33, 32, 0], 2, 25),
-        ([2, 0, 0], 1, 20),
-        ([1, 1, 0], 2, 20),
+    let rows = [
+        ([0, 2, 0], 2, HeaderFault::SegLens),
+        ([0, 2, 0], 1, HeaderFault::SegLens),
+        ([2, 0, 1], 2, HeaderFault::SegLens),
+        ([64, 64, 0], 2, HeaderFault::SegLens),
+        ([33, 32, 0], 2, HeaderFault::TooManyHops),
+        ([2, 0, 0], 1, HeaderFault::Short),
+        ([1, 1, 0], 2, HeaderFault::Short),
     ];
-    for (lens, count, code) in cases {
-        assert_eq!(rt;
-            code_of(Header::new(lens, &[UP_INFO], &hops[..count.min(2)])),
-            code
-        );
+    for (lens, count, fault) in rows {
+        let header = Header::new(lens, &[UP_INFO], &hops[..count.min(2)]);
+        assert_eq!(rt; header.err(), Some(fault));
     }
     Ok(())
 }
@@ -164,7 +187,7 @@ fn meta_of(header: &Header) -> Result<[u8; 4], HeaderFault> {
 }
 
 #[test]
-fn meta_fields_are_spelled(rt: HostRuntime) -> Result<(), Fail> {
+fn indices_and_lengths_have_their_bits(rt: HostRuntime) -> Result<(), Fail> {
     let mut header = Header::new([3, 2, 3], &[UP_INFO; 3], &[LEAF_HOP; 8])?;
     assert_eq!(rt; meta_of(&header)?, [0x00, 0x00, 0x30, 0x83]);
     if header.info_count() > 1 && header.hop_count() > 3 {
@@ -189,7 +212,10 @@ fn expect_worked(rt: &impl Abort, header: &Header) {
 /// Asserts that a header is written as [`BACK`], and not at all if the room is too small.
 fn expect_back(rt: &impl Abort, header: &Header) -> Result<(), HeaderFault> {
     let mut room = [0xee; 36];
-    assert_eq!(rt; code_of(encode(header, &mut room[..35])), 27);
+    assert_eq!(rt;
+        encode(header, &mut room[..35]),
+        Err(HeaderFault::RoomTooSmall)
+    );
     assert!(rt; room == [0xee; 36]);
     assert_eq!(rt; encode(header, &mut room)?, header.encoded_len());
     assert_eq!(rt; room, BACK);
@@ -197,7 +223,7 @@ fn expect_back(rt: &impl Abort, header: &Header) -> Result<(), HeaderFault> {
 }
 
 #[test]
-fn header_is_read_and_reversed(rt: HostRuntime) -> Result<(), Fail> {
+fn a_header_is_read_and_reversed(rt: HostRuntime) -> Result<(), Fail> {
     let (mut header, len) = decode(&WORKED)?;
     assert_eq!(rt; len, 36);
     expect_worked(&rt, &header);
@@ -235,7 +261,7 @@ fn indices_are_set_where_they_stand(rt: HostRuntime) -> Result<(), Fail> {
 }
 
 #[test]
-fn accumulator_is_set_where_it_stands(rt: HostRuntime) -> Result<(), Fail> {
+fn an_accumulator_is_set_where_it_stands(rt: HostRuntime) -> Result<(), Fail> {
     let mut bytes = UP;
     let mut header = HeaderMut::new(&mut bytes)?;
     assert_eq!(rt; header.seg_lens().first, 2);
@@ -258,23 +284,30 @@ fn room_with(changes: &[(usize, u8)]) -> [u8; 48] {
 }
 
 /// Each refusal of a header in borrowed bytes, in rooms that end within its first field, within its
-/// last, behind it, and behind a payload: the bytes stay as they were, which no contract says.
+/// last, behind it, and behind a payload. No contract says that the bytes stay.
 #[test]
 fn refused_bytes_stay(rt: HostRuntime) {
-    let refused: [(&[(usize, u8)], [u16; 4]); 7] = [
-        (&[(1, 0x03), (2, 0xf0), (3, 0x40)], [20, 20, 20, 20]),
-        (&[(1, 0x04)], [20, 21, 21, 21]),
-        (&[(4, 0x02)], [20, 20, 22, 22]),
-        (&[(12, 0x01)], [20, 20, 23, 23]),
-        (&[(2, 0x00)], [20, 24, 24, 24]),
-        (&[(1, 0x02), (2, 0x18)], [20, 25, 25, 25]),
-        (&[(0, 0x40)], [20, 20, 26, 26]),
+    let rows: [(&[(usize, u8)], HeaderFault, HeaderFault); 7] = [
+        (
+            &[(1, 0x03), (2, 0xf0), (3, 0x40)],
+            HeaderFault::Short,
+            HeaderFault::Short,
+        ),
+        (&[(1, 0x04)], HeaderFault::Reserved, HeaderFault::Reserved),
+        (&[(4, 0x02)], HeaderFault::Short, HeaderFault::PeerFlag),
+        (&[(12, 0x01)], HeaderFault::Short, HeaderFault::AlertFlag),
+        (&[(2, 0x00)], HeaderFault::SegLens, HeaderFault::SegLens),
+        (
+            &[(1, 0x02), (2, 0x18)],
+            HeaderFault::TooManyHops,
+            HeaderFault::TooManyHops,
+        ),
+        (&[(0, 0x40)], HeaderFault::Short, HeaderFault::BadIndex),
     ];
-    for (changes, codes) in refused {
-        for (len, code) in [3, 35, 36, 48].iter().zip(&codes) {
+    for (changes, cut, whole) in rows {
+        for (len, fault) in [(3, HeaderFault::Short), (35, cut), (36, whole), (48, whole)] {
             let mut room = room_with(changes);
-            let bytes = &mut room[..(*len).min(48)];
-            assert_eq!(rt; code_of(HeaderMut::new(bytes)), *code);
+            assert_eq!(rt; HeaderMut::new(&mut room[..len.min(48)]).err(), Some(fault));
             assert_eq!(rt; room, room_with(changes));
         }
     }

@@ -12,8 +12,6 @@ mod authenticators;
 #[cfg(test)]
 mod headers;
 #[cfg(test)]
-mod long_segments;
-#[cfg(test)]
 mod segments;
 #[cfg(test)]
 mod store;

@@ -1,7 +1,8 @@
+use crate::segments::{first_entry, last_entry};
 use isd_as::{IfId, IsdAs};
 use path_segment::{Entry, SegKind, Segment};
 use path_server::{PathStore, StoreFault, StoreOp};
-use refusal::{NumberedFault, OrMemory};
+use refusal::OrMemory;
 use std::alloc::{AllocError, Global};
 use std::process::Abort;
 use std::test::Fail;
@@ -9,16 +10,6 @@ use std::test::Fail;
 /// An AS of ISD 1: `110` stands for `1-ff00:0:110`.
 fn ia(number: u64) -> IsdAs {
     IsdAs::from_number(0x0001_ff00_0000_0000 | number)
-}
-
-fn entry(ia: IsdAs, cons_ingress: u16, cons_egress: u16, mac: [u8; 6]) -> Entry {
-    Entry {
-        ia,
-        cons_ingress: IfId(cons_ingress),
-        cons_egress: IfId(cons_egress),
-        exp_time: 63,
-        mac,
-    }
 }
 
 /// A segment of two ASes, made at the second 100.
@@ -30,14 +21,20 @@ fn segment(
     last: IsdAs,
 ) -> Result<Segment, Fail> {
     let entries = vec![in alloc;
-        entry(first, 0, 1, [0xa1, 0xa2, 0xa3, 0xa4, 0xa5, 0xa6]),
-        entry(last, 2, 0, [0xb1, 0xb2, 0xb3, 0xb4, 0xb5, 0xb6]),
+        Entry {
+            ia: first,
+            ..first_entry()
+        },
+        Entry {
+            ia: last,
+            ..last_entry()
+        },
     ]?;
     Ok(Segment::new(kind, 100, beta0, entries)?)
 }
 
 /// The worked segment, from 1-ff00:0:110 down to 1-ff00:0:111, with another first accumulator.
-fn worked(alloc: Global, beta0: u16) -> Result<Segment, Fail> {
+pub(crate) fn worked(alloc: Global, beta0: u16) -> Result<Segment, Fail> {
     segment(alloc, SegKind::Intra, beta0, ia(0x110), ia(0x111))
 }
 
@@ -129,9 +126,9 @@ fn expect_swept(rt: &impl Abort, store: &mut PathStore) {
     assert!(rt; store.is_empty());
 }
 
-/// The worked segment is stored once, found from its last AS, and swept after it has expired.
+/// It is found from its ends up to its last second, and swept after that.
 #[test]
-fn one_segment(rt: HostRuntime) -> Result<(), Fail> {
+fn a_segment_is_stored_once(rt: HostRuntime) -> Result<(), Fail> {
     let alloc = rt.alloc();
     let segment = worked(alloc, 4660)?;
     let mut store = PathStore::new(alloc);
@@ -150,41 +147,48 @@ fn store_of(alloc: Global, count: u16) -> Result<PathStore, Fail> {
     Ok(store)
 }
 
-/// At most 32 segments of one kind and ends are stored, and more of others.
+/// Segments that are registered after 32 worked ones: kind, first accumulator, ends and second, and
+/// what comes of it.
+static FURTHER: [(SegKind, u16, u64, u64, u32, Result<bool, StoreFault>); 6] = [
+    (SegKind::Intra, 33, 0x110, 0x111, 100, Err(StoreFault::Full)),
+    (SegKind::Intra, 32, 0x110, 0x111, 100, Ok(false)),
+    (
+        SegKind::Intra,
+        33,
+        0x110,
+        0x111,
+        21_701,
+        Err(StoreFault::Expired),
+    ),
+    (SegKind::Core, 33, 0x110, 0x111, 100, Ok(true)),
+    (SegKind::Intra, 33, 0x110, 0x112, 100, Ok(true)),
+    (SegKind::Intra, 33, 0x112, 0x111, 100, Ok(true)),
+];
+
+/// There may be more of another kind or between other ASes.
 #[test]
-fn thirty_two_segments(rt: HostRuntime) -> Result<(), Fail> {
+fn at_most_32_segments_of_one_kind_and_ends_are_stored(rt: HostRuntime) -> Result<(), Fail> {
     let alloc = rt.alloc();
     let mut store = store_of(alloc, 32)?;
     assert_eq!(rt; store.len(), 32);
-    let rows = [
-        (SegKind::Intra, 33, 0x110, 0x111, 100, Err(StoreFault::Full)),
-        (SegKind::Intra, 32, 0x110, 0x111, 100, Ok(false)),
-        (
-            SegKind::Intra,
-            33,
-            0x110,
-            0x111,
-            21_701,
-            Err(StoreFault::Expired),
-        ),
-        (SegKind::Core, 33, 0x110, 0x111, 100, Ok(true)),
-        (SegKind::Intra, 33, 0x110, 0x112, 100, Ok(true)),
-        (SegKind::Intra, 33, 0x112, 0x111, 100, Ok(true)),
-    ];
-    for (kind, beta0, first, last, now, answer) in rows {
-        let one = segment(alloc, kind, beta0, ia(first), ia(last))?;
-        assert_eq!(rt; register_copy(alloc, &mut store, &one, now)?, answer);
+    for (kind, beta0, first, last, now, answer) in &FURTHER {
+        let one = segment(alloc, *kind, *beta0, ia(*first), ia(*last))?;
+        assert_eq!(rt; register_copy(alloc, &mut store, &one, *now)?, *answer);
     }
     Ok(())
 }
 
 /// A segment from 1-ff00:0:110 over 1-ff00:0:111 to a child of that AS, made at second 1000.
 fn half(alloc: Global, egress: u16, last: u64) -> Result<Segment, Fail> {
-    let entries = vec![in alloc;
-        entry(ia(0x110), 0, 1, [0xa1, 0xa2, 0xa3, 0xa4, 0xa5, 0xa6]),
-        entry(ia(0x111), 1, egress, [0xb1, 0xb2, 0xb3, 0xb4, 0xb5, 0xb6]),
-        entry(ia(last), 1, 0, [0xc1, 0xc2, 0xc3, 0xc4, 0xc5, 0xc6]),
-    ]?;
+    let middle = Entry {
+        cons_egress: IfId(egress),
+        ..last_entry()
+    };
+    let last = Entry {
+        ia: ia(last),
+        ..last_entry()
+    };
+    let entries = vec![in alloc; first_entry(), middle, last]?;
     Ok(Segment::new(SegKind::Intra, 1000, 7, entries)?)
 }
 
@@ -242,7 +246,7 @@ fn expect_two(
 /// A sweep that removes 32 segments leaves a shortcut's two, and lookups find them, also after
 /// further segments were stored.
 #[test]
-fn swept_beside_others(rt: HostRuntime) -> Result<(), Fail> {
+fn a_sweep_leaves_what_is_live(rt: HostRuntime) -> Result<(), Fail> {
     let alloc = rt.alloc();
     let mut store = store_of(alloc, 32)?;
     let left = half(alloc, 2, 0x112)?;
@@ -255,9 +259,10 @@ fn swept_beside_others(rt: HostRuntime) -> Result<(), Fail> {
     Ok(())
 }
 
-/// Operations one after another: a new segment, the same again, one that has expired, and a sweep.
+/// A new segment, the same again, one that has expired, and a sweep before and after its last
+/// second.
 #[test]
-fn operations(rt: HostRuntime) -> Result<(), Fail> {
+fn operations_are_applied_in_their_order(rt: HostRuntime) -> Result<(), Fail> {
     let alloc = rt.alloc();
     let mut store = PathStore::new(alloc);
     let s = worked(alloc, 4660)?;
@@ -293,10 +298,9 @@ fn core_store(alloc: Global) -> Result<PathStore, Fail> {
     Ok(store)
 }
 
-/// Core segments are found from either end: between the ASes themselves, and between those in which
-/// their up and down segments begin.
+/// Between the ASes themselves, and between those in which their up and down segments begin.
 #[test]
-fn core_segments(rt: HostRuntime) -> Result<(), Fail> {
+fn core_segments_are_found_from_either_end(rt: HostRuntime) -> Result<(), Fail> {
     let alloc = rt.alloc();
     let store = core_store(alloc)?;
     assert_eq!(rt; store.len(), 5);
@@ -317,34 +321,5 @@ fn core_segments(rt: HostRuntime) -> Result<(), Fail> {
     let none = store.segments_for(alloc, ia(0x111), ia(0x140), 100)?;
     assert!(rt; none.cores().is_empty());
     assert!(rt; none.downs().is_empty());
-    Ok(())
-}
-
-/// Each refusal has its number, its name and its sentence.
-#[test]
-fn refusals(rt: HostRuntime) -> Result<(), Fail> {
-    let alloc = rt.alloc();
-    let rows = [
-        (
-            StoreFault::Full,
-            50,
-            "Full",
-            "the store has 32 segments of this kind between these ASes",
-        ),
-        (
-            StoreFault::Expired,
-            51,
-            "Expired",
-            "the segment has expired",
-        ),
-    ];
-    for (fault, code, name, text) in rows {
-        assert!(rt; fault.code() == code);
-        assert!(rt; fault.name() == name);
-        assert_eq!(rt;
-            format!(in alloc; "{}", OrMemory::Refused(fault))?.as_str(),
-            text
-        );
-    }
     Ok(())
 }
