@@ -1,4 +1,4 @@
-//! Single flights.
+//! Single flights, and the sentences of refused runs.
 
 ghost use Rattle.std.specs.Prelude.{◌≡◌};
 
@@ -8,25 +8,11 @@ use inbox::Inbox;
 use network_core::{EventFault, Net};
 use refusal::OrMemory;
 use refusing::Shortage;
-use router_workers::Flight;
+use router_workers::{Flight, RunFault};
 use scion_topology::{Topology, TopologyFault};
 use std::alloc::{AllocError, Global};
 use std::test::Fail;
-
-/// A network of one AS that is not in the row.
-static ELSEWHERE: &str =
-    r#"{"ases":[{"ia":"1-9","core":true,"exp":63,"key":"61","routers":1}],"links":[]}"#;
-
-/// The row, with another number for the interface of the last AS.
-static RENUMBERED: &str = concat!(
-    r#"{"ases":[{"ia":"1-ff00:0:110","core":true,"exp":63,"key":"6130","routers":1},"#,
-    r#"{"ia":"1-ff00:0:111","core":false,"exp":63,"key":"6131","routers":1},"#,
-    r#"{"ia":"1-ff00:0:112","core":false,"exp":63,"key":"6132","routers":1}],"#,
-    r#""links":[{"kind":"child","a":{"ia":"1-ff00:0:110","if":1,"router":0},"#,
-    r#""b":{"ia":"1-ff00:0:111","if":1,"router":0}},"#,
-    r#"{"kind":"child","a":{"ia":"1-ff00:0:111","if":2,"router":0},"#,
-    r#""b":{"ia":"1-ff00:0:112","if":9,"router":0}}]}"#,
-);
+use worked::{line, row};
 
 /// The flight after one more turn with the view of its router; as it is if there is no view.
 pub(crate) fn after_turn<'a>(flight: Flight<'a>) -> Flight<'a>
@@ -66,19 +52,19 @@ fn three_turns_deliver(rt: HostRuntime) -> Result<(), Fail> {
     Ok(())
 }
 
+/// Over a network without that AS, and over the row with another number for the interface.
 #[test]
-fn a_flight_needs_its_first_as(rt: HostRuntime) -> Result<(), Fail> {
+fn a_flight_needs_its_first_as_and_interface(rt: HostRuntime) -> Result<(), Fail> {
     let net = network_with_packet(rt.alloc())?;
-    let refusal = refusal(rt.alloc(), &net, ELSEWHERE)?;
-    assert_eq!(rt; refusal, Some(TopologyFault::UnknownAs));
-    Ok(())
-}
-
-#[test]
-fn a_flight_needs_its_first_interface(rt: HostRuntime) -> Result<(), Fail> {
-    let net = network_with_packet(rt.alloc())?;
-    let refusal = refusal(rt.alloc(), &net, RENUMBERED)?;
-    assert_eq!(rt; refusal, Some(TopologyFault::NoLink));
+    let elsewhere = line(rt.alloc(), 1)?;
+    let renumbered = row().replace(rt.alloc(), r#"112","if":1"#, r#"112","if":9"#)?;
+    let rows = [
+        (elsewhere, TopologyFault::UnknownAs),
+        (renumbered, TopologyFault::NoLink),
+    ];
+    for (topology, fault) in &rows {
+        assert_eq!(rt; refusal(rt.alloc(), &net, topology.as_str())?, Some(*fault));
+    }
     Ok(())
 }
 
@@ -95,5 +81,16 @@ fn an_inbox_of_one_place_hands_the_second_flight_back(rt: HostRuntime) -> Result
     let out = inbox.pop(&rt, &mut receiver);
     assert_eq!(rt; out.map(|flight| flight.turns()), Some(0));
     assert!(rt; inbox.pop(&rt, &mut receiver).is_none());
+    Ok(())
+}
+
+#[test]
+fn refusals_of_runs_have_sentences(rt: HostRuntime) -> Result<(), Fail> {
+    let (workers, memory) = (RunFault::Workers, RunFault::Memory);
+    let text = format!(in rt.alloc(); "{workers}; {memory}")?;
+    assert_eq!(rt;
+        text.as_str(),
+        "a run has 1 to 8 workers; there is no memory for the run"
+    );
     Ok(())
 }

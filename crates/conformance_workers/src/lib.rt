@@ -2,8 +2,6 @@
 #![tactic(auto)]
 
 #[cfg(test)]
-mod crowd;
-#[cfg(test)]
 mod flights;
 #[cfg(test)]
 mod gate;
@@ -11,7 +9,3 @@ mod gate;
 mod network;
 #[cfg(test)]
 mod runs;
-#[cfg(test)]
-mod sentences;
-#[cfg(test)]
-mod sizes;

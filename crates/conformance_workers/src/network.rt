@@ -1,4 +1,5 @@
-//! Packets that were sent in the row of three ASes at second 1000, over the segment issued there.
+//! Packets that were sent at second 1000: in the row of three ASes, over the segment issued there,
+//! and over a line of eight ASes.
 
 use event_lines::{AcceptedLines, RunFault, listen};
 use isd_as::IsdAs;
@@ -6,7 +7,7 @@ use network_core::Net;
 use refusing::Shortage;
 use std::alloc::Global;
 use streams::{Reader, Writer};
-use worked::{at, row};
+use worked::{at, line, row};
 
 /// The last AS of the row, the child of the middle one.
 pub(crate) fn last() -> IsdAs {
@@ -49,6 +50,11 @@ fn network_once(alloc: Global, ways: &[(IsdAs, IsdAs)]) -> Result<Net, RunFault>
         )?;
         ask = ask.saturating_add(1);
     }
+    network_of(alloc, text.as_str())
+}
+
+/// The network that these lines lead to.
+fn network_of(alloc: Global, text: &str) -> Result<Net, RunFault> {
     let mut source = Reader::new(text.as_bytes());
     let mut sink = Writer::new(Vec::new(alloc));
     listen(alloc, AcceptedLines::All, &mut source, &mut sink)
@@ -64,4 +70,29 @@ pub(crate) fn network(alloc: Global, ways: &[(IsdAs, IsdAs)], shortage: &Shortag
         }
         Err(_) => None,
     }
+}
+
+/// Eight ASes in a line, with a packet from the last to the first over the segment between them.
+pub(crate) fn long_network(alloc: Global) -> Result<Net, RunFault> {
+    let mut text = line(alloc, 8)?;
+    text.push_str(
+        r#"
+{"do":"tick","now":1000}
+{"do":"originate","ia":"1-1","egress":2,"beta0":7}
+"#,
+    )?;
+    for beacon in 0..6u32 {
+        writeln!(
+            text,
+            r#"{{"do":"extend","beacon":{beacon},"ia":"1-{}","egress":2}}"#,
+            beacon + 2
+        )?;
+    }
+    text.push_str(
+        r#"{"do":"terminate","beacon":6,"ia":"1-8"}
+{"do":"ask","src":"1-8","dst":"1-1","limit":1}
+{"do":"send","ask":0,"path":0,"payload":""}
+"#,
+    )?;
+    network_of(alloc, text.as_str())
 }

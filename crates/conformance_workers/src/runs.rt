@@ -6,34 +6,20 @@
 ghost use Rattle.std.specs.Prelude.{◌≡◌, ◌<◌, ◌≤◌, All, IfOk, IfSome};
 
 use crate::flights::after_turn;
+use crate::gate::Turns;
 use crate::network::{first, last, network};
 use isd_as::IsdAs;
 use network_core::Net;
 use refusal::OrMemory;
 use refusing::Shortage;
-use router_workers::{End, Flight, Gate, Report, RunFault, run_workers};
+use router_workers::{End, Flight, Report, RunFault, run_workers};
 use scion_topology::TopologyFault;
 use std::alloc::{AllocError, Global};
 use std::io::Print;
 use std::process::Abort;
 use std::sync::Wait;
-use std::sync::atomic::{AtomicUsize, Ordering};
 use std::test::Fail;
 use std::thread::Threads;
-
-/// Counts the turns of a run.
-#[derive(Drop)]
-struct Turns {
-    count: AtomicUsize,
-}
-
-impl Gate for Turns {
-    fn enter(&self, _worker: usize) {
-        self.count.fetch_add(1, Ordering::SeqCst);
-    }
-
-    fn leave(&self, _worker: usize) {}
-}
 
 /// A run over the row's network, with a flight between each of these pairs of ASes, on this many
 /// workers with this many places in an inbox. The first flights have had no turn, and the others
@@ -109,15 +95,13 @@ fn report_of<R: Threads + Wait + Sync>(
     let net = network(alloc, case.ways, shortage)?;
     let flights = flights_of(alloc, &net, case.departing, shortage)?;
     let (workers, slots) = (case.workers, case.slots);
-    let turns = Turns {
-        count: AtomicUsize::new(0),
-    };
+    let turns = Turns::new();
     let run = net.topology();
     let first = run_workers(rt, alloc, run, 1000, workers, slots, &flights, &turns);
     let Err(RunFault::Memory) = first else {
         return Some(first);
     };
-    if turns.count.load(Ordering::SeqCst) != 0 || !shortage.may_want() {
+    if turns.of_workers() != [0; 8] || !shortage.may_want() {
         return None;
     }
     Some(run_workers(rt, alloc, run, 1000, workers, slots, &flights, &turns))
@@ -140,36 +124,34 @@ fn expect_ends<R: Threads + Wait + Sync + Abort + Print>(
     Ok(())
 }
 
-/// Two flights from the row's last AS to its first.
-fn two() -> [(IsdAs, IsdAs); 2] {
-    [(last(), first()); 2]
+/// A run of two flights from the row's last AS to its first.
+fn case_of_two(ways: &[(IsdAs, IsdAs)], workers: usize, slots: usize) -> Case<'_>
+    ensures { result.slots ≡ slots }
+{
+    Case {
+        ways,
+        departing: 2,
+        workers,
+        slots,
+    }
 }
 
 #[test]
 fn the_second_of_two_flights_finds_no_place(rt: HostRuntime) -> Result<(), Fail> {
+    let two = [(last(), first()); 2];
     for workers in [1, 2, 3, 8] {
-        let case = Case {
-            ways: &two(),
-            departing: 2,
-            workers,
-            slots: 1,
-        };
         let ends = [End::Delivered(3), End::Dropped(0)];
-        expect_ends(&rt, rt.alloc(), case, &ends)?;
+        expect_ends(&rt, rt.alloc(), case_of_two(&two, workers, 1), &ends)?;
     }
     Ok(())
 }
 
 #[test]
 fn a_run_has_one_to_eight_workers(rt: HostRuntime) -> Result<(), Fail> {
+    let two = [(last(), first()); 2];
     for workers in [0, 9] {
         let shortage = Shortage::new();
-        let case = Case {
-            ways: &two(),
-            departing: 2,
-            workers,
-            slots: 2,
-        };
+        let case = case_of_two(&two, workers, 2);
         let report = report_of(&rt, rt.alloc(), case, &shortage).ok_or(AllocError)?;
         shortage.tell(&rt);
         assert_eq!(rt; report.err(), Some(RunFault::Workers));
