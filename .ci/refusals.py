@@ -73,7 +73,7 @@ TYPES = {
     "policy_expr": [
         (
             "PolicyFault",
-            "PolicyOption::parse_all OptionText::check_all LawfulOptions::check Daemon::ask"
+            "PolicyOption::parse_all LawfulOptions::check Daemon::ask"
             " scion_paths scion_verify",
             "`ask`",
         ),

@@ -59,18 +59,6 @@ impl<'a, T: Drop> Sender<'a, T> {
             pass: self.inbox.split(&mut self.pass),
         }
     }
-
-    /// The pass, after its thread has ended.
-    pub fn end(self) -> SenderPass<T>
-        ensures inbox { result.inbox ≡ self.entry.of.inbox }
-        ensures account { result.account ≡ self.entry.account }
-    {
-        let Sender {
-            inbox: _inbox,
-            pass,
-        } = self;
-        pass
-    }
 }
 
 /// The way out of an inbox. In contracts it is the inbox and the account of the pass.
@@ -109,17 +97,5 @@ impl<'a, T: Drop> Receiver<'a, T> {
         ensures empty { IfNone result (Held 0 (AddsUp self.old.account)) }
     {
         self.inbox.pop(rt, &mut self.pass)
-    }
-
-    /// The pass, after its thread has ended.
-    pub fn end(self) -> ReceiverPass<T>
-        ensures inbox { result.inbox ≡ self.entry.of.inbox }
-        ensures account { result.account ≡ self.entry.account }
-    {
-        let Receiver {
-            inbox: _inbox,
-            pass,
-        } = self;
-        pass
     }
 }

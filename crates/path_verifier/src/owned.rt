@@ -29,7 +29,7 @@ impl Model for OwnedPiece {
 
 impl OwnedPiece {
     /// A copy of a piece that owns its segment, unless memory runs out.
-    pub fn of(alloc: Global, piece: &Piece<'_>) -> Result<OwnedPiece, AllocError>
+    pub(crate) fn of(alloc: Global, piece: &Piece<'_>) -> Result<OwnedPiece, AllocError>
         ensures { IfOk result (λ own. own ≡ piece.now) }
     {
         Ok(OwnedPiece {
@@ -41,7 +41,7 @@ impl OwnedPiece {
     }
 
     /// The piece, which borrows the segment.
-    pub fn lend(&self) -> Piece<'_>
+    pub(crate) fn lend(&self) -> Piece<'_>
         ensures { result ≡ self.now }
     {
         Piece {

@@ -24,7 +24,7 @@ pub enum SeqNode<A: Allocator> {
 
 impl<A: Allocator + Clone> SeqNode<A> {
     /// A copy of this tree in another allocator, unless memory runs out.
-    pub fn clone_in<B: Allocator + Clone>(&self, alloc: &B) -> Result<SeqNode<B>, AllocError>
+    pub(crate) fn clone_in<B: Allocator + Clone>(&self, alloc: &B) -> Result<SeqNode<B>, AllocError>
         ensures { IfOk result (λ node. tree_of node ≡ tree_of self.now) }
     {
         match self {

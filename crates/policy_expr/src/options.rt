@@ -37,7 +37,7 @@ impl<'a> Model for OptionText<'a> {
 impl<'a> OptionText<'a> {
     /// The first refusal of these texts, in the order of [`PolicyOption::parse_all`]. Takes no
     /// memory.
-    pub fn check_all(texts: &[OptionText<'_>]) -> Result<(), OptionFault>
+    pub(crate) fn check_all(texts: &[OptionText<'_>]) -> Result<(), OptionFault>
         ensures { Judges result (options_at texts.now) }
     {
         if texts.is_empty() || texts.len() > MAX_OPTIONS {

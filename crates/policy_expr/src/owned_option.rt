@@ -53,7 +53,7 @@ impl OwnedOptionText {
     }
 
     /// The option as a request borrows it.
-    pub fn lend(&self) -> OptionText<'_>
+    pub(crate) fn lend(&self) -> OptionText<'_>
         ensures { result ≡ self.now }
     {
         let acl = match &self.acl {

@@ -124,22 +124,6 @@ impl<A: Allocator + Clone> Seq<A> {
         Ok(Seq { table, root })
     }
 
-    /// Does nothing; its contract tells the caller that printing and parsing gives the sequence
-    /// back.
-    pub fn known(&self)
-        ensures kept { IsSequence self.now }
-        ensures again { sequence_at (sequence_text self.now) ≡ Ok self.now }
-    {
-        let _ = &self.root;
-    }
-
-    /// The node at the top of its tree. Takes no memory.
-    pub fn root(&self) -> &SeqNode<A>
-        ensures { tree_of result.now ≡ self.now }
-    {
-        &self.root
-    }
-
     /// Its text, with no parentheses that the tree can do without. There is one space for following
     /// and no space around `|`. Addresses are in their canonical text; the ISD stands alone if the
     /// AS and the interfaces are wildcards. [`AllocError`] if memory runs out.

@@ -45,7 +45,7 @@ pub fn is_over_link(arrival: &Arrival) -> bool
 }
 
 /// Whether the interface belongs to the view's router.
-pub fn is_owned(view: &RouterView<'_>, interface: IfId) -> bool
+pub(crate) fn is_owned(view: &RouterView<'_>, interface: IfId) -> bool
     ensures { result ≡ is_owned view.now interface }
 {
     match view.entry(interface) {
@@ -132,7 +132,7 @@ pub fn destination_fits(view: &RouterView<'_>, destination: IsdAs, last: bool) -
 
 /// Whether a path may come in by a link of one kind and leave by one of the other, with or without
 /// a switch to another segment in between.
-pub fn are_joined(switched: bool, from: LinkKind, to: LinkKind) -> bool
+pub(crate) fn are_joined(switched: bool, from: LinkKind, to: LinkKind) -> bool
     ensures { result ≡ may_follow switched from to }
 {
     match (switched, from, to) {

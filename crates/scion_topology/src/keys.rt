@@ -55,7 +55,7 @@ impl Key {
     }
 
     /// Its bytes.
-    pub fn bytes(&self) -> &[u8]
+    pub(crate) fn bytes(&self) -> &[u8]
         ensures { result.now ≡ self.now }
     {
         &self.bytes
@@ -140,7 +140,7 @@ impl Keys {
     /// tried only if the key in use does not fit.
     // Inlined, as `RouterView::authenticates`.
     #[inline(always)]
-    pub fn authenticate(&self, mac: &[u8; 6], hop: &HopInput) -> bool
+    pub(crate) fn authenticate(&self, mac: &[u8; 6], hop: &HopInput) -> bool
         ensures { result ≡ list_any (λ key. bytes_eq mac.now
             (authenticator key hop.now.beta hop.now.timestamp hop.now.exp_time
             hop.now.cons_ingress hop.now.cons_egress)) self.now }
