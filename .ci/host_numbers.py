@@ -3,7 +3,10 @@
 
 The tables are the definitions of `specs/`: refusals, outcomes, kinds of links, ways in, and what
 happened to an answer. `include/scion.h` and the files of `bindings/` have to name each of these
-numbers, and no others. Run it at the top of the repository; the status is 1 where one differs."""
+numbers, and no others. Run it at the top of the repository; the status is 1 where one differs.
+
+`host_numbers.py --write` adds the codes of answers that a file lacks, each behind the one before it,
+and puts wrong numbers right. What a code means, and the variants of Rust, are written by hand."""
 import re
 import sys
 from pathlib import Path
@@ -104,6 +107,34 @@ def in_javascript(name):
     return {it: int(number) for it, number in re.findall(r"^  (\w+): (\d+),$", body, re.M)}
 
 
+# The row of a code in each file that lists them.
+ROWS = {
+    "include/scion.h": "    SCION_{name} = {number},",
+    "bindings/rust/src/raw.rs": "pub const SCION_{name}: u16 = {number};",
+    "bindings/python/scion/__init__.py": "    {name} = {number}",
+    "bindings/js/scion.mjs": "  {name}: {number},",
+}
+
+
+def with_codes(text, form):
+    """A file with a row for each code: those that it lacks stand behind the code before them."""
+    lines, place = text.split("\n"), None
+    for name, number in sorted(codes().items(), key=lambda row: row[1]):
+        row = form.format(name=name, number=number)
+        stem = row[: row.rindex(str(number))]
+        places = [at for at, line in enumerate(lines) if line.startswith(stem)]
+        if places:
+            place = places[0]
+            lines[place] = re.sub(r"\d+", str(number), lines[place][len(stem) :], count=1)
+            lines[place] = stem + lines[place]
+        elif place is None:
+            sys.exit(f"numbers: no row for {name} to stand behind")
+        else:
+            place += 1
+            lines.insert(place, row)
+    return "\n".join(lines)
+
+
 # Where the version of the calls stands.
 VERSIONS = {
     "include/scion.h": r'^#define SCION_VERSION "(.*)"$',
@@ -159,4 +190,7 @@ def check():
 
 
 if __name__ == "__main__":
+    if sys.argv[1:] == ["--write"]:
+        for file in ROWS:
+            Path(file).write_text(with_codes(Path(file).read_text(), ROWS[file]))
     sys.exit(0 if check() else 1)

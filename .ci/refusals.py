@@ -196,4 +196,5 @@ def document():
     return FRONT + "\n".join(parts) + "\n" + BEHIND
 
 
-settle(document(), "docs/refusals.md")
+if __name__ == "__main__":
+    settle(document(), "docs/refusals.md")

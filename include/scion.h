@@ -62,7 +62,7 @@ enum {
     SCION_SWITCH_INSIDE = 97,
     SCION_UNKNOWN_EGRESS = 98,
     SCION_LINK_KINDS = 99,
-    SCION_LINK_DOWN = 100
+    SCION_LINK_DOWN = 100,
 };
 
 /* What the AS at the far end of a link is: another core AS, a parent, or a child. */
