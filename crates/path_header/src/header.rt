@@ -85,7 +85,26 @@ impl Header {
         )
     }
 
-    /// The header of these lengths and fields, with the packet at the first info and hop field.
+    /// The header of these lengths and as many fields, with the packet at the first info and hop
+    /// field.
+    fn at_start(
+        lens: SegLens,
+        infos: ArrayVec<InfoField, 3>,
+        hops: ArrayVec<HopField, MAX_HOPS>,
+    ) -> Header
+        requires { IsHeader (first_header lens infos.items hops.items) }
+        ensures { result ≡ first_header lens infos.items hops.items }
+    {
+        Header {
+            curr_inf: 0,
+            curr_hf: 0,
+            lens,
+            infos,
+            hops,
+        }
+    }
+
+    /// The header of these lengths and fields, or why there is none.
     fn build(lens: SegLens, infos: &[InfoField], hops: &[HopField]) -> Result<Header, HeaderFault>
         ensures { result ≡ new_header lens infos.now hops.now }
     {
@@ -96,13 +115,7 @@ impl Header {
         let (Ok(infos), Ok(hops)) = (ArrayVec::try_from(infos), ArrayVec::try_from(hops)) else {
             unreachable!();
         };
-        Ok(Header {
-            curr_inf: 0,
-            curr_hf: 0,
-            lens,
-            infos,
-            hops,
-        })
+        Ok(Header::at_start(lens, infos, hops))
     }
 
     /// [`Header::new`] for lists that have the room of a header: they are moved, and not copied.
@@ -124,13 +137,7 @@ impl Header {
         if infos.len() != lens.info_count() || hops.len() != lens.hop_count() {
             return Err(HeaderFault::Short);
         }
-        Ok(Header {
-            curr_inf: 0,
-            curr_hf: 0,
-            lens,
-            infos,
-            hops,
-        })
+        Ok(Header::at_start(lens, infos, hops))
     }
 
     /// The index of the current info field.

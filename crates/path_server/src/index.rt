@@ -22,7 +22,7 @@ pub(crate) fn range<'a>(
     ensures ordered { IsNonDecreasingBy (order_at segments.now) result.now }
 {
     let (_, rest) = index.split_at(start_of(segments, index, low));
-    &rest[..end_near(segments, rest, high)]
+    &rest[..end_of(segments, rest, high)]
 }
 
 /// The number of places whose segments have ends below these.
@@ -37,20 +37,9 @@ fn start_of(segments: &[Segment], index: &[usize], ends: Ends) -> usize
     index.partition_point(|place| is_below(segments, *place, ends))
 }
 
-/// The number of places whose segments have these ends or ends below them.
+/// The number of places whose segments have these ends or ends below them. There is no search if
+/// the first place is already above these ends.
 pub(crate) fn end_of(segments: &[Segment], index: &[usize], ends: Ends) -> usize
-    requires { IsNonDecreasingBy (order_at segments.now) index.now }
-    ensures within { result ≤ length index.now }
-    ensures below { AllWithin (λ place. rank_at segments.now place ≤ ends_number ends)
-        index.now 0 result }
-    ensures rest { AllWithin (λ place. ends_number ends < rank_at segments.now place)
-        index.now result (length index.now) }
-{
-    index.partition_point(|place| !is_above(segments, *place, ends))
-}
-
-/// The same as `end_of`, without a search if the first place is already above these ends.
-fn end_near(segments: &[Segment], index: &[usize], ends: Ends) -> usize
     requires { IsNonDecreasingBy (order_at segments.now) index.now }
     ensures within { result ≤ length index.now }
     ensures below { AllWithin (λ place. rank_at segments.now place ≤ ends_number ends)
@@ -60,7 +49,7 @@ fn end_near(segments: &[Segment], index: &[usize], ends: Ends) -> usize
 {
     match index.first() {
         Some(place) if is_above(segments, *place, ends) => 0,
-        _ => end_of(segments, index, ends),
+        _ => index.partition_point(|place| !is_above(segments, *place, ends)),
     }
 }
 

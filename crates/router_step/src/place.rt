@@ -28,26 +28,30 @@ pub(crate) struct Here {
     pub(crate) hop: HopField,
 }
 
+/// The interfaces by which a packet on this segment enters the hop's AS and leaves it.
+fn ways(info: &InfoField, hop: &HopField) -> (IfId, IfId)
+    ensures enters { result.0 ≡ way_in info.now hop.now }
+    ensures leaves { result.1 ≡ way_out info.now hop.now }
+{
+    if info.construction {
+        (hop.cons_ingress, hop.cons_egress)
+    } else {
+        (hop.cons_egress, hop.cons_ingress)
+    }
+}
+
 /// The interface by which a packet on this segment enters the hop's AS.
 pub fn way_in(info: &InfoField, hop: &HopField) -> IfId
     ensures { result ≡ way_in info.now hop.now }
 {
-    if info.construction {
-        hop.cons_ingress
-    } else {
-        hop.cons_egress
-    }
+    ways(info, hop).0
 }
 
 /// The interface by which it leaves the AS.
 pub fn way_out(info: &InfoField, hop: &HopField) -> IfId
     ensures { result ≡ way_out info.now hop.now }
 {
-    if info.construction {
-        hop.cons_egress
-    } else {
-        hop.cons_ingress
-    }
+    ways(info, hop).1
 }
 
 /// The accumulator on arrival. Over a link against construction direction, this hop's authenticator

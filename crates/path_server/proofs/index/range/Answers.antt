@@ -9,8 +9,8 @@ use Rattle.path_server.specs.inner.Index.{ends_number, lies_between}
 use Rattle.path_server.proofs.Ranks.{part_is_kept, part_behind}
 use Rattle.path_server.proofs.index.range.Goals as goal
 
-pub end_near-requires : goal.end_near-requires
-end_near-requires c =
+pub end_of-requires : goal.end_of-requires
+end_of-requires c =
     subst (IsNonDecreasingBy (order_at c.args.segments.now)) (sym c.split_at.ensures.back)
     (IsNonDecreasingBy-drop (order_at c.args.segments.now) c.start_of.result c.args.index.now c.requires)
 
@@ -20,16 +20,16 @@ returns-clause-part c =
     let from = c.start_of.result in
     let ranks = rank_at c.args.segments.now in
     let start = c.start_of.ensures in
-    let end = c.end_near.ensures in
+    let end = c.end_of.ensures in
     let back = c.split_at.ensures.back in
     let long = length-drop from index in
     let short = ap length back in
     let below =
-    part_behind (λ place. ranks place ≤ ends_number c.args.high) index from 0 c.end_near.result (subst (λ rest. AllWithin (λ place. ranks place ≤ ends_number c.args.high) rest 0 c.end_near.result) back end.below) in
+    part_behind (λ place. ranks place ≤ ends_number c.args.high) index from 0 c.end_of.result (subst (λ rest. AllWithin (λ place. ranks place ≤ ends_number c.args.high) rest 0 c.end_of.result) back end.below) in
     let above =
-    part_behind (λ place. ends_number c.args.high < ranks place) index from c.end_near.result (length (drop from index)) (subst (λ rest. AllWithin (λ place. ends_number c.args.high < ranks place) rest c.end_near.result (length rest)) back end.rest) in
-    ap (take c.end_near.result) back ∙ part_is_kept
-    (lies_between c.args.segments.now (ends_number c.args.low) (ends_number c.args.high)) index from c.end_near.result
+    part_behind (λ place. ends_number c.args.high < ranks place) index from c.end_of.result (length (drop from index)) (subst (λ rest. AllWithin (λ place. ends_number c.args.high < ranks place) rest c.end_of.result (length rest)) back end.rest) in
+    ap (take c.end_of.result) back ∙ part_is_kept
+    (lies_between c.args.segments.now (ends_number c.args.low) (ends_number c.args.high)) index from c.end_of.result
     (omega (arith, end.within, start.within))
     (λ k d low high. and_left _ _ (lt-leb _ _ (start.below k d low high)))
     (λ k d low high. and_from _ _ (le-leb _ _ (start.rest k d low (omega (arith, end.within, start.within)))) (le-leb _ _ (below k d (omega arith) high)))
@@ -39,5 +39,5 @@ pub returns-clause-ordered : goal.returns-clause-ordered
 returns-clause-ordered c =
     let order = order_at c.args.segments.now in
     let rest = IsNonDecreasingBy-drop order c.start_of.result c.args.index.now c.requires in
-    IsNonDecreasingBy-take order c.end_near.result _
+    IsNonDecreasingBy-take order c.end_of.result _
     (subst (IsNonDecreasingBy order) (sym c.split_at.ensures.back) rest)
