@@ -80,8 +80,14 @@ impl<A: Allocator + Clone> Policy<A> {
             policy_at (option_map (λ t. t.now) text.now.acl)
             (option_map (λ t. t.now) text.now.sequence) ≡ Ok p) }
     {
-        let acl = read_acl(alloc.clone()?, text.acl)?;
-        let sequence = read_sequence(alloc, unblank(text.sequence))?;
+        let acl = match text.acl {
+            None => None,
+            Some(text) => Some(Acl::read_lawful(alloc.clone()?, text)?),
+        };
+        let sequence = match unblank(text.sequence) {
+            None => None,
+            Some(text) => Some(Seq::read_lawful(alloc, text)?),
+        };
         Ok(Policy { acl, sequence })
     }
 
@@ -165,36 +171,6 @@ fn check_sequence(text: Option<&str>) -> Result<(), PolicyFault>
     match text {
         None => Ok(()),
         Some(text) => check_tokens(Tokens::of(text)),
-    }
-}
-
-/// Reads the access control list, if there is one.
-fn read_acl<A: Allocator + Clone>(
-    alloc: A,
-    text: Option<&AclText>,
-) -> Result<Option<Acl<A>>, AllocError>
-    requires { IsOk (if_there acl_at (option_map (λ t. t.now) text)) }
-    ensures { IfOk result
-        (λ acl. if_there acl_at (option_map (λ t. t.now) text.entry) ≡ Ok acl) }
-{
-    match text {
-        None => Ok(None),
-        Some(text) => Ok(Some(Acl::read_lawful(alloc, text)?)),
-    }
-}
-
-/// Reads the sequence, if there is one.
-fn read_sequence<A: Allocator + Clone>(
-    alloc: A,
-    text: Option<&str>,
-) -> Result<Option<Seq<A>>, AllocError>
-    requires { IsOk (if_there sequence_at (option_map (λ t. t.now) text)) }
-    ensures { IfOk result
-        (λ sequence. if_there sequence_at (option_map (λ t. t.now) text.entry) ≡ Ok sequence) }
-{
-    match text {
-        None => Ok(None),
-        Some(text) => Ok(Some(Seq::read_lawful(alloc, text)?)),
     }
 }
 
