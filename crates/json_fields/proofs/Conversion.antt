@@ -1,10 +1,7 @@
 -- What `of_json` makes of a value: its data, if each number can be read.
-use Rattle.std.proofs.Common.{◌≡◌, suc, List, [], ◌∷◌, length, Bool, true, false, cond, ◌&&◌, Option, Some, None, option_map, option_and_then, is_some, unwrap_or, refl, ap, ◌∙◌}
+use Rattle.std.proofs.Common.{◌≡◌, Bool, true, false, cond, ◌&&◌, Option, Some, None, option_map, option_and_then, is_some, unwrap_or, refl, ap, ◌∙◌}
 use Rattle.json.specs.Json as json
-use Rattle.json.specs.Value.{items_view}
-use Rattle.json.specs.declared.value.Value.{Value}
 use Rattle.serde_json.specs.Data.{Num, Data, null, number, array, object, Items, item, Members, no_members, put}
-use Rattle.serde_json.specs.Events.{items_len}
 use Rattle.serde_json.specs.Read.{number_of, of_json, of_items, of_members}
 use Rattle.json_fields.specs.Data.{data_of, items_of, members_of}
 use Rattle.json_fields.specs.inner.Numbers.{readable, items_readable, members_readable}
@@ -47,8 +44,3 @@ mutual
   of_members_is json.no_members found = refl
   of_members_is (json.member k j ms) found =
       rw (of_json_is j) (both_members (readable j) (members_readable ms) (data_of j) (λ d. of_members ms (put k d found)) (members_of ms (put k (data_of j) found)) (of_members_is ms (put k (data_of j) found)))
-
--- a list has as many values as its data
-pub items_len-items_of : {A : Type 0} → (vs : List (Value A)) → items_len (items_of (items_view vs)) ≡ length vs
-items_len-items_of [] = refl
-items_len-items_of (v ∷ vs) = ap suc (items_len-items_of vs)

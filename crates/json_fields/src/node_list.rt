@@ -1,7 +1,6 @@
-ghost use Rattle.std.specs.Prelude.{◌≡◌, ◌==◌, MatchOption};
+ghost use Rattle.std.specs.Prelude.{◌≡◌, MatchOption};
 ghost use Rattle.json.specs.Value.{items_view};
 ghost use Rattle.serde_json.specs.Data.{no_items, item};
-ghost use Rattle.serde_json.specs.Events.{items_len};
 ghost use Rattle.json_fields.specs.Data.{items_of};
 ghost use Rattle.json_fields.specs.Documents.{node_data, list_items};
 
@@ -28,19 +27,5 @@ impl<'v, 'a> NodeList<'v, 'a> {
     {
         let (first, later) = self.values.split_first()?;
         Some((Node::new(first), NodeList::new(later)))
-    }
-
-    /// The number of values.
-    pub fn len(&self) -> usize
-        ensures { result ≡ items_len (list_items self.now) }
-    {
-        self.values.len()
-    }
-
-    /// Whether the list has no values.
-    pub fn is_empty(&self) -> bool
-        ensures { result ≡ (items_len (list_items self.now) == 0) }
-    {
-        self.values.is_empty()
     }
 }
