@@ -5,7 +5,6 @@
 #![tactic(auto)]
 
 mod address;
-pub mod comparison;
 mod fault;
 pub mod laws;
 mod numbers;
