@@ -29,6 +29,18 @@ struct Arrival {
     entries: usize,
 }
 
+impl WayOut {
+    /// The arrival of a beacon that goes by this way.
+    fn arrival(self, before: Option<usize>, beacon: u32, entries: usize) -> Arrival {
+        Arrival {
+            place: self.to,
+            before,
+            beacon,
+            entries,
+        }
+    }
+}
+
 /// The beacons of one origin.
 #[derive(Drop)]
 struct OriginBeacons<'a> {
@@ -116,17 +128,9 @@ impl<'a> OriginBeacons<'a> {
         }
         let beta0 = (run.events().len() % 65_536) as u16;
         let egress = way.egress;
-        match run.attempt(alloc, &BeaconEvent::Originate { ia, egress, beta0 })? {
-            Some(Effect::Begun(beacon)) => self.end(
-                alloc,
-                run,
-                Arrival {
-                    place: way.to,
-                    before: None,
-                    beacon,
-                    entries: 2,
-                },
-            ),
+        let event = BeaconEvent::Originate { ia, egress, beta0 };
+        match run.attempt(alloc, &event)? {
+            Some(Effect::Begun(beacon)) => self.end(alloc, run, way.arrival(None, beacon, 2)),
             _ => Ok(()),
         }
     }
@@ -151,17 +155,12 @@ impl<'a> OriginBeacons<'a> {
             return Ok(());
         }
         let (beacon, egress) = (old.beacon, way.egress);
-        match run.attempt(alloc, &BeaconEvent::Extend { beacon, ia, egress })? {
-            Some(Effect::Begun(beacon)) => self.end(
-                alloc,
-                run,
-                Arrival {
-                    place: way.to,
-                    before: Some(number),
-                    beacon,
-                    entries: old.entries + 1,
-                },
-            ),
+        let event = BeaconEvent::Extend { beacon, ia, egress };
+        match run.attempt(alloc, &event)? {
+            Some(Effect::Begun(beacon)) => {
+                let entries = old.entries + 1;
+                self.end(alloc, run, way.arrival(Some(number), beacon, entries))
+            }
             _ => Ok(()),
         }
     }

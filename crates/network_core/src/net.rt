@@ -11,7 +11,7 @@ use crate::fault::EventFault;
 use crate::packet::{Packet, Sent};
 use crate::reply::Reply;
 use combinator::PathList;
-use path_segment::{Beacon, Segment};
+use path_segment::Beacon;
 use path_server::PathStore;
 use refusal::OrMemory;
 use scion_topology::Topology;
@@ -93,13 +93,6 @@ impl Net {
         ensures { result.now ≡ self.now.segments }
     {
         &self.store
-    }
-
-    /// The segments of the path store, in the order of registration.
-    pub fn segments(&self) -> &[Segment]
-        ensures { result.now ≡ self.now.segments }
-    {
-        self.store.segments()
     }
 
     /// The answer of this number, if there is one: its paths, and the option that was used.
