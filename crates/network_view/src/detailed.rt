@@ -45,18 +45,14 @@ fn marked_text(marked: bool) -> &'static str
 }
 
 /// Adds a router, with its number.
-fn add_router(
-    text: &mut String,
-    at: &Option<Router>,
-    ia: IsdAs,
-    router: u8,
-) -> Result<(), AllocError>
-    ensures { OnOk result
-        (string_bytes text.new ≡ string_bytes text.old ++ router_text at.now ia router) }
+fn add_router(text: &mut String, at: &Option<Router>, router: Router) -> Result<(), AllocError>
+    ensures { OnOk result (string_bytes text.new
+        ≡ string_bytes text.old ++ router_text at.now router.ia router.number) }
 {
-    let look = marked_text(is_at(*at, ia, router));
-    add_router_name(text, ia, router)?;
-    write!(text, " [label=r{router}{look}")
+    let Router { ia, number } = router;
+    let look = marked_text(is_at(*at, ia, number));
+    add_router_name(text, ia, number)?;
+    write!(text, " [label=r{number}{look}")
 }
 
 /// Adds the routers of an AS, in the order of their numbers.
@@ -70,30 +66,27 @@ fn add_routers(
         (string_bytes text.new ≡ string_bytes text.old ++ routers_text at.now ia routers) }
 {
     for router in 0..routers {
-        add_router(text, at, ia, router)?;
+        add_router(text, at, Router { ia, number: router })?;
     }
     Ok(())
 }
 
-/// The look of the box of an AS.
-fn box_look(core: bool) -> &'static str
-    ensures { result.now ≡ box_look core }
+/// The looks of an AS: of its box, and of its name, which is a node of its own, so that no line is
+/// drawn over it.
+fn as_looks(core: bool) -> (&'static str, &'static str)
+    ensures boxed { result.0.now ≡ box_look core }
+    ensures named { result.1.now ≡ name_look core }
 {
     if core {
-        "label=\"\"; style=bold; "
+        (
+            "label=\"\"; style=bold; ",
+            " core\", shape=plain, fixedsize=false, fontsize=13]; ",
+        )
     } else {
-        "label=\"\"; style=rounded; "
-    }
-}
-
-/// The look of the name of an AS. It is a node of its own, so that no line is drawn over it.
-fn name_look(core: bool) -> &'static str
-    ensures { result.now ≡ name_look core }
-{
-    if core {
-        " core\", shape=plain, fixedsize=false, fontsize=13]; "
-    } else {
-        "\", shape=plain, fixedsize=false, fontsize=13]; "
+        (
+            "label=\"\"; style=rounded; ",
+            "\", shape=plain, fixedsize=false, fontsize=13]; ",
+        )
     }
 }
 
@@ -101,7 +94,7 @@ fn name_look(core: bool) -> &'static str
 fn add_name(text: &mut String, one: &AsEntry) -> Result<(), AllocError>
     ensures { OnOk result (string_bytes text.new ≡ string_bytes text.old ++ name_text one.now) }
 {
-    let (ia, look) = (one.ia, name_look(one.core));
+    let (ia, look) = (one.ia, as_looks(one.core).1);
     add_as_name(text, ia)?;
     write!(text, " [label=\"{ia}{look}")
 }
@@ -118,7 +111,7 @@ pub(crate) fn add_as(
     let ia = one.ia;
     add_isd(text, ia.isd())?;
     add_box(text, ia)?;
-    text.push_str(box_look(one.core))?;
+    text.push_str(as_looks(one.core).0)?;
     add_name(text, one)?;
     add_routers(text, at, ia, one.routers)?;
     text.push_str("} }\n")
