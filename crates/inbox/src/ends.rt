@@ -5,38 +5,46 @@ ghost use Rattle.crossbeam_queue.specs.Fifo.{Held};
 ghost use Rattle.inbox.specs.Account.{AddsUp, given, kept, with_put, with_taken};
 
 use crate::inbox::Inbox;
-use crate::pass::{ReceiverPass, SenderPass};
+use crate::pass::{InboxPass, Receives, Right, Sends};
 use std::marker::Model;
 use std::sync::Wait;
 
-/// The way into an inbox. In contracts it is the inbox and the account of the pass.
+/// A way into an inbox or out of it. In contracts it is the inbox and the account of the pass.
 #[derive(Drop)]
-pub struct Sender<'a, T: Drop> {
+pub struct InboxEnd<'a, T: Drop, R: Right> {
     inbox: &'a Inbox<T>,
-    pass: SenderPass<T>,
+    pass: InboxPass<T, R>,
 }
 
-impl<'a, T: Drop> Model for Sender<'a, T> {
+/// A way into an inbox.
+pub type Sender<'a, T> = InboxEnd<'a, T, Sends>;
+
+/// The way out of an inbox.
+pub type Receiver<'a, T> = InboxEnd<'a, T, Receives>;
+
+impl<'a, T: Drop, R: Right> Model for InboxEnd<'a, T, R> {
     ghost use Rattle.std.specs.Prelude.{◌≡◌};
     ghost use Rattle.inbox.specs.Inbox.{WayThrough};
 
     ghost Value = { WayThrough T };
 
-    ghost view = { λ o. record { of = o.inbox.now; account = o.pass.account } };
+    ghost view = { λ e. record { of = e.inbox.now; account = e.pass.account } };
 
-    ghost invariant = { λ o. o.pass.inbox ≡ o.inbox.now.inbox };
+    ghost invariant = { λ e. e.pass.inbox ≡ e.inbox.now.inbox };
 }
 
-impl<'a, T: Drop> Sender<'a, T> {
-    /// The way into an inbox by a pass of it.
-    pub fn new(inbox: &'a Inbox<T>, pass: SenderPass<T>) -> Sender<'a, T>
+impl<'a, T: Drop, R: Right> InboxEnd<'a, T, R> {
+    /// The way of this inbox by a pass of it.
+    pub fn new(inbox: &'a Inbox<T>, pass: InboxPass<T, R>) -> InboxEnd<'a, T, R>
         requires { pass.inbox ≡ inbox.now.inbox }
         ensures of { result.of ≡ inbox.now }
         ensures account { result.account ≡ pass.account }
     {
-        Sender { inbox, pass }
+        InboxEnd { inbox, pass }
     }
+}
 
+impl<'a, T: Drop> InboxEnd<'a, T, Sends> {
     /// Puts a value at the back. It is returned only if the inbox is full at that step.
     pub fn push<R: Wait>(&mut self, rt: &R, x: T) -> Result<(), T>
         ensures of { self.new.of ≡ self.old.of }
@@ -54,41 +62,14 @@ impl<'a, T: Drop> Sender<'a, T> {
         ensures kept { self.new.account ≡ kept self.old.account }
         ensures given { result.account ≡ given self.old.account }
     {
-        Sender {
+        InboxEnd {
             inbox: self.inbox,
             pass: self.inbox.split(&mut self.pass),
         }
     }
 }
 
-/// The way out of an inbox. In contracts it is the inbox and the account of the pass.
-#[derive(Drop)]
-pub struct Receiver<'a, T: Drop> {
-    inbox: &'a Inbox<T>,
-    pass: ReceiverPass<T>,
-}
-
-impl<'a, T: Drop> Model for Receiver<'a, T> {
-    ghost use Rattle.std.specs.Prelude.{◌≡◌};
-    ghost use Rattle.inbox.specs.Inbox.{WayThrough};
-
-    ghost Value = { WayThrough T };
-
-    ghost view = { λ i. record { of = i.inbox.now; account = i.pass.account } };
-
-    ghost invariant = { λ i. i.pass.inbox ≡ i.inbox.now.inbox };
-}
-
-impl<'a, T: Drop> Receiver<'a, T> {
-    /// The way out of an inbox by a pass of it.
-    pub fn new(inbox: &'a Inbox<T>, pass: ReceiverPass<T>) -> Receiver<'a, T>
-        requires { pass.inbox ≡ inbox.now.inbox }
-        ensures of { result.of ≡ inbox.now }
-        ensures account { result.account ≡ pass.account }
-    {
-        Receiver { inbox, pass }
-    }
-
+impl<'a, T: Drop> InboxEnd<'a, T, Receives> {
     /// Takes the value at the front. There is none only if the inbox is empty at that step.
     pub fn pop<R: Wait>(&mut self, rt: &R) -> Option<T>
         ensures of { self.new.of ≡ self.old.of }

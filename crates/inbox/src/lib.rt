@@ -16,7 +16,7 @@ mod inbox;
 mod pass;
 mod rule;
 
-pub use ends::{Receiver, Sender};
+pub use ends::{InboxEnd, Receiver, Sender};
 pub use inbox::Inbox;
 pub use pass::{InboxPass, ReceiverPass, Receives, Right, SenderPass, Sends};
 
