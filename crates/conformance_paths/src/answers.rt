@@ -63,6 +63,9 @@ fn digits_of(alloc: Global, path: &Path) -> Result<String, Fail> {
 /// path.
 fn header_of_one(alloc: Global, list: &PathList) -> Result<String, Fail> {
     let copy = list.try_clone(alloc)?;
+    if copy.is_empty() {
+        return Err(Fail::new("no path"));
+    }
     if copy.len() != 1 {
         return Err(Fail::new("another number of paths"));
     }
