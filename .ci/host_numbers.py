@@ -6,9 +6,12 @@ happened to an answer. `include/scion.h` and the files of `bindings/` have to na
 numbers, and no others. Run it at the top of the repository; the status is 1 where one differs.
 
 `host_numbers.py --write` adds the codes of answers that a file lacks, each behind the one before it,
-and puts wrong numbers right. What a code means, and the variants of Rust, are written by hand."""
+and puts wrong numbers right. It also prints the refusals of a router as Rust has them, with what
+`router_step` says of each, and their row in the table of `bindings/README.md`. What the other codes
+mean is written by hand."""
 import re
 import sys
+import textwrap
 from pathlib import Path
 
 import refusals
@@ -135,6 +138,59 @@ def with_codes(text, form):
     return "\n".join(lines)
 
 
+# The variants of Rust for the refusals of a router.
+VARIANTS = "bindings/rust/src/refusal.rs"
+
+# A variant that holds a value: as it is declared, as a pattern, and as it is made of an answer.
+HOLDING = {"BadHeader": ("(HeaderFault)", "(_)", "(HeaderFault::from_code(answer.number))")}
+
+# The codes in a table, and their row there.
+PAGE = "bindings/README.md"
+PAGE_ROW = re.compile(r"^\| \d+ to \d+ \| IndexMismatch,.*\|$", re.M)
+
+
+def with_rows(text, head, rows):
+    """A file whose block behind this line ends with these rows, from the first of them on. A last
+    row for all other numbers stays."""
+    start = text.index(f"{head}\n") + len(head) + 1
+    indent = re.match(" *", head[head.rindex("\n") + 1 :])[0]
+    end = text.index(f"\n{indent}}}\n", start) + 1
+    body = text[start:end]
+    others = re.search(r"^ *\w+ => unreachable!.*\n\Z", body, re.M)
+    own = body[: body.index(rows[0].partition("\n")[0])]
+    return text[:start] + own + "".join(rows) + (others[0] if others else "") + text[end:]
+
+
+def with_variants(text):
+    """The file of Rust with the refusals of a router, and their comments."""
+    _, meanings = refusals.meanings_of("router_step", "Refusal")
+    declared, numbered, made = [], [], []
+    for name, meaning in meanings.items():
+        held, pattern, value = HOLDING.get(name, ("", "", ""))
+        sign = "    /// "
+        told = textwrap.fill(meaning, 100, initial_indent=sign, subsequent_indent=sign)
+        declared.append(f"{told}\n    {name}{held},\n")
+        one = f"raw::SCION_{constant(name)}"
+        numbered.append(f"            Self::{name}{pattern} => {one},\n")
+        made.append(f"            {one} => Self::{name}{value},\n")
+    text = with_rows(text, "\npub enum Refusal {", declared)
+    text = with_rows(text, "impl Refusal {\n    /// Its number.\n    pub fn code(self) -> u16 {"
+                     "\n        match self {", numbered)
+    return with_rows(text, "-> Self {\n        match answer.code {", made)
+
+
+def with_names(page):
+    """The page with the row of the refusals of a router, but for the first of them."""
+    _, *rows = refusals.numbers_of("router_step", "Refusal").values()
+    names = ", ".join(name for _, name in rows)
+    told = f"| {rows[0][0]} to {rows[-1][0]} | {names} | the router refuses the packet |"
+    return PAGE_ROW.sub(told, page)
+
+
+# What is printed into files whose other parts are written by hand.
+PRINTED = {VARIANTS: with_variants, PAGE: with_names}
+
+
 # Where the version of the calls stands.
 VERSIONS = {
     "include/scion.h": r'^#define SCION_VERSION "(.*)"$',
@@ -185,6 +241,11 @@ def check():
                 wrong += 1
                 print(f"numbers: {what}: {name} is {given.get(name)}, not {wanted.get(name)}")
     print(f"numbers: {sum(len(given) for _, given, _ in pairs)} compared, {wrong} wrong")
+    for file, printed in PRINTED.items():
+        text = Path(file).read_text()
+        if printed(text) != text:
+            wrong += 1
+            print(f"numbers: {file} has not what {sys.argv[0]} --write prints")
     is_same = is_one("versions", VERSIONS)
     return is_one("lengths of requests", MOST) and is_same and not wrong
 
@@ -193,4 +254,6 @@ if __name__ == "__main__":
     if sys.argv[1:] == ["--write"]:
         for file in ROWS:
             Path(file).write_text(with_codes(Path(file).read_text(), ROWS[file]))
+        for file, printed in PRINTED.items():
+            Path(file).write_text(printed(Path(file).read_text()))
     sys.exit(0 if check() else 1)

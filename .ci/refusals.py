@@ -127,6 +127,17 @@ def numbers_of(crate, type_name):
     sys.exit(f"{crate} has no table of {type_name}")
 
 
+def meanings_of(crate, type_name):
+    """What the comments of the code say of a type of refusals, and of each of its variants."""
+    pattern = re.compile(ENUM.replace("NAME", type_name), re.M)
+    texts = [path.read_text() for path in Path("crates", crate, "src").glob("*.rt")]
+    found = [it for text in texts for it in pattern.findall(text)]
+    if len(found) != 1:
+        sys.exit(f"{crate} has {len(found)} types {type_name}")
+    meaning, body = found[0]
+    return meaning, {name: comment(text) for text, _, name in VARIANT.findall(body)}
+
+
 def libraries():
     """The surfaces of the crates that are libraries, lowest first."""
     names = re.findall(r"^(\w+)[^:#\n]*:", Path("crates.txt").read_text(), re.M)
@@ -161,16 +172,10 @@ def section(crate, type_name, calls, lines):
     """The part on one type of refusals, with the calls and the lines that give them."""
     told = ", ".join(f"`{it}`" for it in dict.fromkeys(calls))
     numbers = numbers_of(crate, type_name)
-    pattern = re.compile(ENUM.replace("NAME", type_name), re.M)
-    texts = [path.read_text() for path in Path("crates", crate, "src").glob("*.rt")]
-    found = [it for text in texts for it in pattern.findall(text)]
-    if len(found) != 1:
-        sys.exit(f"{crate} has {len(found)} types {type_name}")
-    meaning, body = found[0]
+    meaning, variants = meanings_of(crate, type_name)
     yield f"\n## `{crate}`: `{type_name}`\n{filled(comment(meaning))}\n"
     yield filled(f"Calls: {told}." + (f" Lines: {lines}." if lines else "")) + "\n"
     yield "| number | name | meaning |\n|---|---|---|"
-    variants = {name: comment(text) for text, _, name in VARIANT.findall(body)}
     for variant, (number, name) in numbers.items():
         if variant not in variants:
             sys.exit(f"{crate}: {type_name} has no {variant}")

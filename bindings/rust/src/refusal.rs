@@ -73,8 +73,8 @@ pub enum Refusal {
     DuplicateIf,
     /// The packet has fewer bytes than its addresses need, or no path header after them.
     BadHeader(HeaderFault),
-    /// The current hop field is not in the segment of the current info field, a segment has a
-    /// single hop field, or a packet from a host is not at the first hop field.
+    /// The current hop field is not in the current info field's segment, a segment has a single hop
+    /// field, or a packet from a host is not at the first hop field.
     IndexMismatch,
     /// The packet came over a link that this router does not own, or that is not the hop's way in.
     WrongIngress,

@@ -28,31 +28,13 @@ pub const ADDRESSES_LEN: usize = 16;
 ///
 /// A packet is 8 bytes of destination address, 8 bytes of source address, a path header, and a
 /// payload. After a refusal every byte is as before; else only bytes of the header change, and its
-/// length stays. The checks come in this order, each with its refusal:
+/// length stays. [`Refusal`] has the checks in their order; the definition `step_of` has them with
+/// the changes, each by its number.
 ///
-/// 1. The packet has both addresses and a path header after them: [`Refusal::BadHeader`], with the
-///    refusal of the header.
-/// 2. The current hop field is in the segment of the current info field, no segment has a single
-///    hop field, and a packet from a host is at the first hop field: [`Refusal::IndexMismatch`].
-/// 3. A packet that came over a link came by an interface of this router, and that is the hop's way
-///    in: [`Refusal::WrongIngress`].
-/// 4. The hop is live: [`Refusal::Expired`].
-/// 5. Over a link against construction direction, this hop's authenticator is taken out of the
-///    accumulator. Then the hop's authenticator is right under the accumulator:
-///    [`Refusal::BadMac`].
-/// 6. A packet from a host has this AS as its source, and one that came over a link has another:
-///    [`Refusal::SourceAs`].
-/// 7. The packet is for this AS if and only if it is at the last hop of its path:
-///    [`Refusal::DestinationAs`].
-/// 8. At the last hop of its path, the packet is delivered.
-/// 9. At the last hop of a segment, the packet must have come over a link:
-///    [`Refusal::SwitchInside`]. Both indices go on by one, and the new hop passes checks 4 and 5
-///    with the accumulator as it is.
-/// 10. The AS has the interface of the way out: [`Refusal::UnknownEgress`].
-/// 11. The links by which the packet comes in and leaves may be joined: [`Refusal::LinkKinds`].
-/// 12. If another router owns the way out, the packet goes to it, with no further change.
-/// 13. The link is up: [`Refusal::LinkDown`]. In construction direction, this hop's authenticator
-///     is put into the accumulator. The packet goes over the link, at the next hop field.
+/// If the packet came over a link against construction direction, this hop's authenticator is taken
+/// out of the accumulator, before it is checked. At a switch to another segment both indices go on
+/// by one. If the packet leaves over a link, its hop field is the next one, and in construction
+/// direction this hop's authenticator is put into the accumulator.
 pub fn step(
     view: &RouterView<'_>,
     now: u32,
