@@ -1,6 +1,8 @@
--- Reading a sequence step by step, as what its tokens give in one go.
-use Rattle.std.proofs.Common.{◌≡◌, ℕ, Bool, true, false, cond, List, [], ◌∷◌, length, Option, Some, None, refl}
+-- Reading a sequence step by step, as what its tokens give in one go, and as their first fault.
+use Rattle.std.proofs.Common.{◌≡◌, ◌≢◌, ℕ, ◌+◌, ◌-◌, Bool, true, false, cond, List, [], ◌∷◌, length, Option, Some, None, is_some, refl, arith, add-one}
 use Rattle.std.specs.Prelude.{nat_lt, if◌then◌else◌, Result, Ok, Err}
+use Rattle.std.specs.Result.{result_err}
+use Rattle.std.proofs.lemmas.Bool.{ne_eqb}
 use Rattle.policy_expr.specs.declared.fault.PolicyFault.{PolicyFault}
 use Rattle.policy_expr.specs.declared.fault.PolicyFault.TheVariants as faults
 use Rattle.policy_expr.specs.declared.token.Token.{Token}
@@ -8,7 +10,7 @@ use Rattle.policy_expr.specs.declared.token.Token.TheVariants as signs
 use Rattle.refusal.specs.Refusal.{◌>>=◌}
 use Rattle.policy_expr.specs.Tokens.{tokens}
 use Rattle.policy_expr.specs.Language.{Tree, hop, followed, either, optional, repeated, once_or_more}
-use Rattle.policy_expr.specs.Reading.{Level, new_level, item_behind, whole, node_count, read_rest, tree_at}
+use Rattle.policy_expr.specs.Reading.{Level, new_level, item_behind, whole, next_level, next_choice, node_count, read_rest, tree_at, fault_at}
 
 abbrev pub with_choices : Option Tree → Tree → Tree
 with_choices = item_behind either
@@ -138,3 +140,66 @@ tree_is_read text = all_same (tokens text) [] new_level None
 -- a tree of at most 256 nodes
 abbrev pub within_size : Tree → Result Tree PolicyFault
 within_size tree = if nat_lt 256 (node_count tree) then Err faults.TooLarge else Ok tree
+
+-- ---- the first fault of the tokens
+
+-- what these tokens give at any point of a reading
+abbrev Agrees : List Token → Type 0
+Agrees ts = (levels : List Level) (level : Level) (item : Option Tree)
+    → fault_at (length levels) (is_some item) ts ≡ result_err (read_rest levels level item ts)
+
+end_agrees : Agrees []
+end_agrees levels level None = refl
+end_agrees [] level (Some item) = refl
+end_agrees (outer ∷ levels) level (Some item) =
+    let some : length (outer ∷ levels) ≢ 0 = omega arith in
+    rw (ne_eqb (length (outer ∷ levels)) 0 some) refl
+
+module _ (ts : List Token) (rest : Agrees ts) where
+  open_agrees : (levels : List Level) (level : Level) (room : Bool)
+      → cond room (fault_at (length levels + 1) false ts) (Some faults.TooDeep)
+      ≡ result_err (cond room (read_rest (level ∷ levels) new_level None ts) (Err faults.TooDeep))
+  open_agrees levels level true = rw add-one (rest (level ∷ levels) new_level None)
+  open_agrees levels level false = refl
+
+  begun_agrees : (token : Token) (levels : List Level) (level : Level)
+      → fault_at (length levels) false (token ∷ ts) ≡ result_err (read_rest levels level None (token ∷ ts))
+  begun_agrees (signs.Hop pred) levels level = rest levels level (Some (hop pred))
+  begun_agrees signs.Open levels level = open_agrees levels level (nat_lt (length levels) 32)
+  begun_agrees signs.Optional levels level = refl
+  begun_agrees signs.OnceOrMore levels level = refl
+  begun_agrees signs.Repeated levels level = refl
+  begun_agrees signs.Or levels level = refl
+  begun_agrees signs.Close levels level = refl
+  begun_agrees signs.Other levels level = refl
+
+  closed_agrees : (levels : List Level) (level : Level) (item : Tree)
+      → fault_at (length levels) true (signs.Close ∷ ts) ≡ result_err (read_rest levels level (Some item) (signs.Close ∷ ts))
+  closed_agrees [] level item = refl
+  closed_agrees (outer ∷ levels) level item =
+      let some : length (outer ∷ levels) ≢ 0 = omega arith in
+      let less : length (outer ∷ levels) - 1 ≡ length levels = omega arith in
+      rw (ne_eqb (length (outer ∷ levels)) 0 some, less) (rest levels outer (Some (whole level item)))
+
+  followed_agrees : (token : Token) (levels : List Level) (level : Level) (item : Tree)
+      → fault_at (length levels) true (token ∷ ts) ≡ result_err (read_rest levels level (Some item) (token ∷ ts))
+  followed_agrees (signs.Hop pred) levels level item = rest levels (next_level level (Some item)) (Some (hop pred))
+  followed_agrees signs.Open levels level item = open_agrees levels (next_level level (Some item)) (nat_lt (length levels) 32)
+  followed_agrees signs.Optional levels level item = rest levels level (Some (optional item))
+  followed_agrees signs.OnceOrMore levels level item = rest levels level (Some (once_or_more item))
+  followed_agrees signs.Repeated levels level item = rest levels level (Some (repeated item))
+  followed_agrees signs.Or levels level item = rest levels (next_choice level item) None
+  followed_agrees signs.Close levels level item = closed_agrees levels level item
+  followed_agrees signs.Other levels level item = refl
+
+  one_agrees : (token : Token) → Agrees (token ∷ ts)
+  one_agrees token levels level None = begun_agrees token levels level
+  one_agrees token levels level (Some item) = followed_agrees token levels level item
+
+agrees : (ts : List Token) → Agrees ts
+agrees [] = end_agrees
+agrees (token ∷ ts) = one_agrees ts (agrees ts) token
+
+-- the first fault of a text is what reading it is refused by
+pub fault_is_read : (text : List ℕ) → fault_at 0 false (tokens text) ≡ result_err (tree_at text)
+fault_is_read text = agrees (tokens text) [] new_level None

@@ -7,12 +7,12 @@ use Rattle.policy_expr.specs.declared.hop.WalkHop.{WalkHop}
 use Rattle.policy_expr.specs.declared.ends.Ends.{Ends}
 use Rattle.policy_expr.specs.declared.table.Line.{Line}
 use Rattle.policy_expr.specs.Hop.{Matches}
-use Rattle.policy_expr.specs.Language.{Lang, Tree, hop, followed, either, optional, repeated, once_or_more}
+use Rattle.policy_expr.specs.Language.{Lang, Tree, hop, followed, either}
 use Rattle.policy_expr.specs.Reading.{node_count}
 use Rattle.policy_expr.specs.Sets.{Has}
 use Rattle.policy_expr.specs.Table.{MayFollow, MeetsAt, Accepts, IsNew, Adds}
 use Rattle.policy_expr.specs.inner.Table.{Links, IsThen}
-use Rattle.policy_expr.proofs.Runs.{IsEither, or_nothing, followed_words, either_words, or_nothing_words, repeated_words, once_words}
+use Rattle.policy_expr.proofs.Runs.{IsEither, followed_words, either_words}
 
 -- ---- one line more
 
@@ -107,7 +107,7 @@ module _ (pred : HopPred) (old new : List Line) (only next : ℕ) (line : Line)
 
 -- ---- parts
 
-iff_trans : {A B C : Type 0} → A ↔ B → B ↔ C → A ↔ C
+pub iff_trans : {A B C : Type 0} → A ↔ B → B ↔ C → A ↔ C
 iff_trans f g = (λ a. g.0 (f.0 a), λ c. f.1 (g.1 c))
 
 all_map : (P Q : List WalkHop → Type 0) → ((w : List WalkHop) → P w → Q w) → (words : List (List WalkHop)) → AllByRecursion P words → AllByRecursion Q words
@@ -201,22 +201,6 @@ module _ (a b : Tree) (old mid new : List Line) (x y z : Ends) (one : Adds a old
     words = alternative_words;
   }
 
--- a part or nothing
-pub adds_optional : (a : Tree) (old new : List Line) (x z : Ends) → Adds a old new x → z ≡ record x { has_empty = true } → Adds (optional a) old new z
-adds_optional a old new x z item is = rw is (record {
-  more = item.more;
-  few = omega (arith, item.few);
-  meets = item.meets;
-  next = item.next;
-  among = item.among;
-  first = item.first;
-  last = item.last;
-  words = λ w. iff_trans (or_nothing_words new x w) (
-    λ e. elim e [ inl none ↦ inl none | inr word ↦ inr ((item.words w).0 word) ],
-    λ e. elim e [ inl none ↦ inl none | inr word ↦ inr ((item.words w).1 word) ],
-  );
-})
-
 -- a part that may begin again behind its end
 module _ (a : Tree) (old mid new : List Line) (x : Ends) (item : Adds a old mid x) (links : Links mid new x.last x.first) where
   in_again : (k : ℕ) → IsNew old mid k → IsNew old new k
@@ -238,14 +222,14 @@ module _ (a : Tree) (old mid new : List Line) (x : Ends) (item : Adds a old mid 
   ]
 
   -- the words of the part are the item's
-  all_item : (words : List (List WalkHop)) → AllByRecursion (Accepts mid x) words ↔ AllByRecursion (Lang a) words
+  pub all_item : (words : List (List WalkHop)) → AllByRecursion (Accepts mid x) words ↔ AllByRecursion (Lang a) words
   all_item words = (
     all_map (Accepts mid x) (Lang a) (λ w. (item.words w).0) words,
     all_map (Lang a) (Accepts mid x) (λ w. (item.words w).1) words,
   )
 
   -- whichever words its ends give it
-  adds_again : (t : Tree) (z : Ends) → node_count t ≡ node_count a + 1 → ((k : ℕ) → Has z.first k → Has x.first k) → ((k : ℕ) → Has z.last k → Has x.last k)
+  pub adds_again : (t : Tree) (z : Ends) → node_count t ≡ node_count a + 1 → ((k : ℕ) → Has z.first k → Has x.first k) → ((k : ℕ) → Has z.last k → Has x.last k)
       → ((w : List WalkHop) → Accepts new z w ↔ Lang t w) → Adds t old new z
   adds_again t z size first last words = record {
     more = omega (arith, item.more, links.count);
@@ -257,17 +241,3 @@ module _ (a : Tree) (old mid new : List Line) (x : Ends) (item : Adds a old mid 
     last = λ k has. in_again k (item.last k (last k has));
     words = words;
   }
-
-  pub adds_repeated : (z : Ends) → z ≡ record x { has_empty = true } → Adds (repeated a) old new z
-  adds_repeated z is = rw is (adds_again (repeated a) (or_nothing x) refl (λ k has. has) (λ k has. has)
-      (λ w. iff_trans (repeated_words mid new x links w) (
-        λ p. (p.0, p.1, (all_item p.0).0 p.2),
-        λ p. (p.0, p.1, (all_item p.0).1 p.2),
-      )))
-
-  pub adds_once_or_more : Adds (once_or_more a) old new x
-  adds_once_or_more = adds_again (once_or_more a) x refl (λ k has. has) (λ k has. has)
-      (λ w. iff_trans (once_words mid new x links w) (
-        λ p. (p.0, p.1, p.2, (all_item p.0).0 p.3),
-        λ p. (p.0, p.1, p.2, (all_item p.0).1 p.3),
-      ))

@@ -1,10 +1,9 @@
 -- Judging a sequence's text by how many parentheses are open, whether an item stands before the
 -- rest, and what its tokens weigh.
-use Rattle.std.proofs.Common.{Less, Equal, Greater, ◌≡◌, ◌⊎◌, inl, inr, ℕ, ◌+◌, ◌<◌, ◌≤◌, min, Bool, true, false, List, [], ◌∷◌, ◌++◌, Some, None, Result, Ok, Err, IsOk, refl, sym, ◌∙◌, ap, arith}
-use Rattle.std.specs.Prelude.{◌==◌, nat_lt, if◌then◌else◌}
-use Rattle.std.specs.Ordering.{is_lt, nat_cmp, ord_min}
+use Rattle.std.proofs.Common.{◌≡◌, ℕ, ◌+◌, ◌<◌, ◌≤◌, min, Bool, true, false, List, [], ◌∷◌, ◌++◌, Some, None, Result, Ok, Err, IsOk, refl, sym, ◌∙◌, ap, arith}
+use Rattle.std.specs.Prelude.{nat_lt}
 use Rattle.std.specs.Result.{result_err}
-use Rattle.std.proofs.lemmas.Bool.{lt-ltb, le-ltb, ltb-false, ltb-true}
+use Rattle.std.proofs.lemmas.Bool.{lt-ltb, le-ltb}
 use Rattle.refusal.specs.Refusal.{◌>>=◌}
 use Rattle.policy_expr.specs.declared.fault.PolicyFault.{PolicyFault}
 use Rattle.policy_expr.specs.declared.fault.PolicyFault.TheVariants as faults
@@ -14,34 +13,9 @@ use Rattle.policy_expr.specs.Tokens.{tokens}
 use Rattle.policy_expr.specs.Language.{Tree}
 use Rattle.policy_expr.specs.Grammar.{Part, following, SpellsPart, predicate, in_parentheses, with_optional, with_repeated, with_once_or_more, one_alternative, one_more, one_part, behind}
 use Rattle.policy_expr.specs.Reading.{tree_at, sequence_at, node_count, fault_at}
-use Rattle.policy_expr.proofs.Steps.{within_size}
+use Rattle.policy_expr.specs.inner.Views.{weight_of}
+use Rattle.policy_expr.proofs.Steps.{within_size, fault_is_read}
 use Rattle.policy_expr.proofs.Found.{tree_is_spelled}
-use Rattle.policy_expr.proofs.Refusing.{fault_is_read}
-
--- what a token adds to a sequence: a predicate counts twice, and each sign behind an item once, so
--- that they are one more than the nodes
-abbrev pub weight_of : Token → ℕ
-weight_of (signs.Hop p) = 2
-weight_of signs.Optional = 1
-weight_of signs.Repeated = 1
-weight_of signs.OnceOrMore = 1
-weight_of token = 0
-
-pub sign_weighs : (token : Token) → (token ≡ signs.Optional) ⊎ ((token ≡ signs.OnceOrMore) ⊎ (token ≡ signs.Repeated)) → 1 ≡ weight_of token
-sign_weighs token is = elim is [
-  | inl one ↦ rw one refl
-  | inr other ↦ elim other [ inl one ↦ rw one refl | inr one ↦ rw one refl ]
-]
-
-pub other_weighs : (token : Token)
-    → (token ≡ signs.Or) ⊎ ((token ≡ signs.Open) ⊎ ((token ≡ signs.Close) ⊎ (token ≡ signs.Other))) → 0 ≡ weight_of token
-other_weighs token is = elim is [
-  | inl one ↦ rw one refl
-  | inr other ↦ elim other [
-    | inl one ↦ rw one refl
-    | inr more ↦ elim more [ inl one ↦ rw one refl | inr one ↦ rw one refl ]
-  ]
-]
 
 -- what tokens weigh together
 abbrev pub weights : List Token → ℕ
@@ -66,28 +40,19 @@ weights_of_tree _ _ _ _ (one_part depth ts t s) = weights_of_tree _ _ _ _ s
 weights_of_tree _ _ _ _ (behind depth ts us a b s r) =
     let one = weights_of_tree _ _ _ _ s in let other = weights_of_tree _ _ _ _ r in let all = weights-append ts us in omega arith
 
--- a weight is told up to 258
-capped_by : (n : ℕ) (less same : Bool) → nat_lt 258 n ≡ less → (258 == n) ≡ same
-    → (if is_lt (if less then Less else if same then Equal else Greater) then 258 else n) ≡ min 258 n
-capped_by n true same is_less is_same = let more : 258 < n = ltb-true 258 n is_less in omega arith
-capped_by n false true is_less is_same = let most : n ≤ 258 = ltb-false 258 n is_less in omega arith
-capped_by n false false is_less is_same = let most : n ≤ 258 = ltb-false 258 n is_less in omega arith
-
-pub capped : (n : ℕ) → ord_min nat_cmp n 258 ≡ min 258 n
-capped n = capped_by n (nat_lt 258 n) (258 == n) refl refl
-
 -- judging stands where the rest of the text begins
 pub record StandsAt (text : List ℕ) (rest : List Token) (depth : ℕ) (item : Bool) (weight : ℕ) : Type 0 where
   pub same : fault_at 0 false (tokens text) ≡ fault_at depth item rest
   pub taken : ℕ
   pub all : taken + weights rest ≡ weights (tokens text)
-  pub weighed : weight ≡ min 258 taken
+  -- a weight is told up to 258
+  pub weighed : weight ≡ min taken 258
 
 -- one token more
 pub stands_next : (text : List ℕ) (rest later : List Token) (depth next_depth : ℕ) (item next_item : Bool) (weight : ℕ) (token : Token)
     → StandsAt text rest depth item weight → rest ≡ token ∷ later
     → ((ts : List Token) → fault_at depth item (token ∷ ts) ≡ fault_at next_depth next_item ts)
-    → StandsAt text later next_depth next_item (min 258 (weight + weight_of token))
+    → StandsAt text later next_depth next_item (min (weight + weight_of token) 258)
 stands_next text rest later depth next_depth item next_item weight token s begins goes_on =
     let rest_weighs : weights rest ≡ weight_of token + weights later = ap weights begins in
     let all = s.all in
@@ -132,7 +97,7 @@ tree_there text none = by (tree_at text) refl (sym (fault_is_read text) ∙ none
 -- so it is at the end, where the weight of all tokens is known
 end_tree : (text : List ℕ) (rest : List Token) (depth : ℕ) (item : Bool) (weight : ℕ)
     → StandsAt text rest depth item weight → rest ≡ [] → fault_at depth item [] ≡ None
-    → (tree : Tree) × (tree_at text ≡ Ok tree) × (weight ≡ min 258 (node_count tree + 1))
+    → (tree : Tree) × (tree_at text ≡ Ok tree) × (weight ≡ min (node_count tree + 1) 258)
 end_tree text rest depth item weight s none found =
     let t = tree_there text (s.same ∙ ap (fault_at depth item) none ∙ found) in
     let rest_weighs : weights rest ≡ 0 = ap weights none in

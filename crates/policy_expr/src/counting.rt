@@ -4,7 +4,7 @@ ghost use Rattle.refusal.specs.Refusal.{Judges};
 ghost use Rattle.policy_expr.specs.declared.token.Token.{Token};
 ghost use Rattle.policy_expr.specs.Tokens.{tokens};
 ghost use Rattle.policy_expr.specs.Reading.{fault_at, sequence_at};
-ghost use Rattle.policy_expr.specs.inner.Views.{remaining};
+ghost use Rattle.policy_expr.specs.inner.Views.{remaining, weight_of};
 
 use crate::fault::PolicyFault;
 use crate::room::Tokens;
@@ -33,12 +33,7 @@ pub(crate) fn check_tokens(all: Tokens<'_>) -> Result<(), PolicyFault>
     let mut rest = all;
     while let Some((token, behind)) = rest.next() {
         place = place.behind(&token)?;
-        let more = match token {
-            Token::Hop(_) => 2,
-            Token::Optional | Token::OnceOrMore | Token::Repeated => 1,
-            Token::Or | Token::Open | Token::Close | Token::Other => 0,
-        };
-        weight = (weight + more).min(MAX_WEIGHT + 1);
+        weight = (weight + weight_of(&token)).min(MAX_WEIGHT + 1);
         rest = behind;
     }
     check_end(place.depth, place.has_item)?;
@@ -46,6 +41,18 @@ pub(crate) fn check_tokens(all: Tokens<'_>) -> Result<(), PolicyFault>
         return Err(PolicyFault::TooLarge);
     }
     Ok(())
+}
+
+/// What a token adds to the weight of a sequence.
+fn weight_of(token: &Token) -> usize
+    ensures { result ≡ weight_of token.now }
+{
+    match token {
+        Token::Hop(_) => 2,
+        Token::Or | Token::Open | Token::Close | Token::Other => 0,
+        // A sign after an item.
+        _ => 1,
+    }
 }
 
 /// A state while the text of a sequence is checked.
@@ -78,7 +85,6 @@ impl Place {
             }),
             Token::Open => Err(PolicyFault::TooDeep),
             _ if !has_item => Err(PolicyFault::BadPredicate),
-            Token::Optional | Token::OnceOrMore | Token::Repeated => Ok(self),
             Token::Or => Ok(Place {
                 depth,
                 has_item: false,
@@ -89,6 +95,8 @@ impl Place {
                 has_item: true,
             }),
             Token::Other => Err(PolicyFault::BadPredicate),
+            // A sign after an item.
+            _ => Ok(self),
         }
     }
 }

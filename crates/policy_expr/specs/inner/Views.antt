@@ -1,10 +1,11 @@
--- The values of a reader's data while it reads.
-use Rattle.std.specs.Prelude.{◌≡◌, List, ◌++◌, map, reverse, Option, option_map, Result, IsOk}
+-- The values of a reader's data while it reads, and the weights of tokens while they are judged.
+use Rattle.std.specs.Prelude.{◌≡◌, ℕ, List, ◌++◌, map, reverse, Option, option_map, Result, IsOk}
 use Rattle.policy_expr.specs.declared.fault.PolicyFault.{PolicyFault}
 use Rattle.policy_expr.specs.declared.room.Tokens.{Tokens}
 use Rattle.policy_expr.specs.declared.reader.Level.{Level}
 use Rattle.policy_expr.specs.declared.reader.Reader.{Reader}
 use Rattle.policy_expr.specs.declared.token.Token.{Token}
+use Rattle.policy_expr.specs.declared.token.Token.TheVariants as signs
 use Rattle.policy_expr.specs.Tokens.{tokens}
 use Rattle.policy_expr.specs.Language.{Tree, tree_of}
 use Rattle.policy_expr.specs.Reading as reading
@@ -39,3 +40,13 @@ CanGoOn given = (rest : List Token) × IsOk (given rest)
 -- same before and after it
 abbrev pub GoesOn : {A : _} → (List Token → Result Tree PolicyFault) → Reader A → Type 0
 GoesOn given next = (rest : List Token) → given rest ≡ gives next rest
+
+-- what a token adds to the weight of a sequence: a predicate counts twice, and each sign behind an
+-- item once, so that the weight is one more than the number of nodes
+abbrev pub weight_of : Token → ℕ
+weight_of (signs.Hop p) = 2
+weight_of signs.Or = 0
+weight_of signs.Open = 0
+weight_of signs.Close = 0
+weight_of signs.Other = 0
+weight_of sign = 1

@@ -1,8 +1,7 @@
-use Rattle.std.proofs.Common.{◌≡◌, ◌∙◌, ◌+◌, arith, refl, sym}
+use Rattle.std.proofs.Common.{arith, sym}
 use Rattle.std.proofs.lemmas.Result.{err_from_is_err_and}
-use Rattle.policy_expr.proofs.Weights.{weight_of, capped, sign_weighs, other_weighs, stands_next, stands_refused, end_refused, end_large, end_small}
+use Rattle.policy_expr.proofs.Weights.{stands_next, stands_refused, end_refused, end_large, end_small}
 use Rattle.policy_expr.proofs.counting.check_tokens.Goals as goal
-use Rattle.policy_expr.proofs.counting.check_tokens.Goals.{in-Hop, in-Optional, in-Or}
 
 pub returns-in_err-place : goal.returns-in_err-place
 returns-in_err-place c = λ text same.
@@ -11,12 +10,7 @@ returns-in_err-place c = λ text same.
 
 pub loop-token-preserved : goal.loop-token-preserved
 loop-token-preserved c =
-    let more_is : c.match-token.more ≡ weight_of c.in-Some.token = elim c.match-token.branch [
-      | in-Hop w ↦ rw (w.more-is, w.in-Hop.is) refl
-      | in-Optional w ↦ w.more-is ∙ sign_weighs c.in-Some.token w.in-Optional.is
-      | in-Or w ↦ w.more-is ∙ other_weighs c.in-Some.token w.in-Or.is
-    ] in
-    rw (c.min-weight.ensures, more_is, capped (c.loop-token.weight + weight_of c.in-Some.token)) record {
+    rw (c.min-weight.ensures, c.weight_of.ensures) record {
       small = omega arith;
       stands = λ text same. stands_next _ _ _ _ _ _ _ _ _ (c.loop-token.invariant.stands text same) c.in-Some.ensures c.in_ok-place.ensures.goes_on;
     }

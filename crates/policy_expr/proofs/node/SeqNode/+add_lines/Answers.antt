@@ -1,6 +1,48 @@
-use Rattle.std.proofs.Common.{◌≡◌, length, sym, ◌∙◌, arith, refl}
-use Rattle.policy_expr.proofs.Tables.{adds_hop, adds_followed, adds_either, adds_optional, adds_repeated, adds_once_or_more}
+use Rattle.std.proofs.Common.{◌≡◌, true, List, inl, inr, length, sym, ◌∙◌, arith, refl}
+use Rattle.policy_expr.specs.declared.ends.Ends.{Ends}
+use Rattle.policy_expr.specs.declared.table.Line.{Line}
+use Rattle.policy_expr.specs.Language.{Tree, optional, repeated, once_or_more}
+use Rattle.policy_expr.specs.Table.{Adds}
+use Rattle.policy_expr.specs.inner.Table.{Links}
+use Rattle.policy_expr.proofs.Runs.{or_nothing, or_nothing_words, repeated_words, once_words}
+use Rattle.policy_expr.proofs.Tables.{iff_trans, adds_hop, adds_followed, adds_either, adds_again, all_item}
 use Rattle.policy_expr.proofs.node.SeqNode.+add_lines.Goals as goal
+
+-- ---- the operators of one item
+
+-- a part or nothing
+adds_optional : (a : Tree) (old new : List Line) (x z : Ends) → Adds a old new x → z ≡ record x { has_empty = true } → Adds (optional a) old new z
+adds_optional a old new x z item is = rw is (record {
+  more = item.more;
+  few = omega (arith, item.few);
+  meets = item.meets;
+  next = item.next;
+  among = item.among;
+  first = item.first;
+  last = item.last;
+  words = λ w. iff_trans (or_nothing_words new x w) (
+    λ e. elim e [ inl none ↦ inl none | inr word ↦ inr ((item.words w).0 word) ],
+    λ e. elim e [ inl none ↦ inl none | inr word ↦ inr ((item.words w).1 word) ],
+  );
+})
+
+-- an item that may begin again behind its end: any number of times, or at least once
+module _ (a : Tree) (old mid new : List Line) (x : Ends) (item : Adds a old mid x) (links : Links mid new x.last x.first) where
+  adds_repeated : (z : Ends) → z ≡ record x { has_empty = true } → Adds (repeated a) old new z
+  adds_repeated z is = rw is (adds_again a old mid new x item links (repeated a) (or_nothing x) refl (λ k has. has) (λ k has. has)
+      (λ w. iff_trans (repeated_words mid new x links w) (
+        λ p. (p.0, p.1, (all_item a old mid new x item links p.0).0 p.2),
+        λ p. (p.0, p.1, (all_item a old mid new x item links p.0).1 p.2),
+      )))
+
+  adds_once_or_more : Adds (once_or_more a) old new x
+  adds_once_or_more = adds_again a old mid new x item links (once_or_more a) x refl (λ k has. has) (λ k has. has)
+      (λ w. iff_trans (once_words mid new x links w) (
+        λ p. (p.0, p.1, p.2, (all_item a old mid new x item links p.0).0 p.3),
+        λ p. (p.0, p.1, p.2, (all_item a old mid new x item links p.0).1 p.3),
+      ))
+
+-- ---- the goals
 
 pub followed-requires : goal.followed-requires
 followed-requires g t c = λ k has.
