@@ -1,9 +1,9 @@
 ghost use Rattle.std.specs.Prelude.{◌≡◌, [], ◌∷◌, List, None, Some, Ok, IfOk, IsOk, OnOk, option_map};
 ghost use Rattle.policy_expr.specs.declared.token.Token.{Token};
 ghost use Rattle.policy_expr.specs.declared.token.Token.TheVariants as signs;
-ghost use Rattle.policy_expr.specs.Language.{either, followed, tree_of};
+ghost use Rattle.policy_expr.specs.Language.{tree_of};
 ghost use Rattle.policy_expr.specs.Reading.{item_behind, new_level, read_rest, whole};
-ghost use Rattle.policy_expr.specs.inner.Views.{GoesOn, CanGoOn, gives, gives_behind, level_of, remaining};
+ghost use Rattle.policy_expr.specs.inner.Views.{GoesOn, CanGoOn, gives, gives_behind, joined_by, level_of, remaining};
 
 use crate::node::{SeqNode, box_both, box_node};
 use crate::room::Tokens;
@@ -39,44 +39,37 @@ impl<A: Allocator + Clone> Level<A> {
             ≡ whole (level_of self.old) (tree_of item)) }
         ensures left { OnOk result (level_of self.new ≡ new_level) }
     {
-        let item = join_choices(alloc, self.choices.take(), item)?;
-        join_before(alloc, self.before.take(), item)
+        let item = join(alloc, Joint::Alternative, self.choices.take(), item)?;
+        join(alloc, Joint::Following, self.before.take(), item)
     }
 }
 
-/// The item as one more alternative.
-fn join_choices<A: Allocator + Clone>(
-    alloc: &A,
-    choices: Option<SeqNode<A>>,
-    item: SeqNode<A>,
-) -> Result<SeqNode<A>, AllocError>
-    ensures { IfOk result
-        (λ node. tree_of node ≡ item_behind either (option_map tree_of choices) (tree_of item)) }
-{
-    match choices {
-        None => Ok(item),
-        Some(choices) => {
-            let (choices, item) = box_both(alloc, choices, item)?;
-            Ok(SeqNode::Or(choices, item))
-        }
-    }
+/// How an item is joined with what was read before it.
+#[derive(Clone, Copy)]
+pub(crate) enum Joint {
+    /// As one more alternative.
+    Alternative,
+    /// As the part that follows.
+    Following,
 }
 
-/// The item after the part that it follows.
-fn join_before<A: Allocator + Clone>(
+/// The item, joined with what was read before it, if there is something.
+fn join<A: Allocator + Clone>(
     alloc: &A,
+    joint: Joint,
     before: Option<SeqNode<A>>,
     item: SeqNode<A>,
 ) -> Result<SeqNode<A>, AllocError>
-    ensures { IfOk result
-        (λ node. tree_of node ≡ item_behind followed (option_map tree_of before) (tree_of item)) }
+    ensures { IfOk result (λ node. tree_of node
+        ≡ item_behind (joined_by joint) (option_map tree_of before) (tree_of item)) }
 {
-    match before {
-        None => Ok(item),
-        Some(before) => {
-            let (before, item) = box_both(alloc, before, item)?;
-            Ok(SeqNode::Then(before, item))
-        }
+    let Some(before) = before else {
+        return Ok(item);
+    };
+    let (before, item) = box_both(alloc, before, item)?;
+    match joint {
+        Joint::Alternative => Ok(SeqNode::Or(before, item)),
+        Joint::Following => Ok(SeqNode::Then(before, item)),
     }
 }
 
@@ -178,7 +171,8 @@ impl<A: Allocator + Clone> Reader<A> {
                 Ok(())
             }
             Token::Or => {
-                let choices = join_choices(&self.alloc, self.level.choices.take(), item)?;
+                let before = self.level.choices.take();
+                let choices = join(&self.alloc, Joint::Alternative, before, item)?;
                 self.level.choices = Some(choices);
                 Ok(())
             }

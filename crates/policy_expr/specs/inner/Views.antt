@@ -2,12 +2,14 @@
 use Rattle.std.specs.Prelude.{◌≡◌, ℕ, List, ◌++◌, map, reverse, Option, option_map, Result, IsOk}
 use Rattle.policy_expr.specs.declared.fault.PolicyFault.{PolicyFault}
 use Rattle.policy_expr.specs.declared.room.Tokens.{Tokens}
+use Rattle.policy_expr.specs.declared.reader.Joint.{Joint}
+use Rattle.policy_expr.specs.declared.reader.Joint.TheVariants.{Alternative, Following}
 use Rattle.policy_expr.specs.declared.reader.Level.{Level}
 use Rattle.policy_expr.specs.declared.reader.Reader.{Reader}
 use Rattle.policy_expr.specs.declared.token.Token.{Token}
 use Rattle.policy_expr.specs.declared.token.Token.TheVariants as signs
 use Rattle.policy_expr.specs.Tokens.{tokens}
-use Rattle.policy_expr.specs.Language.{Tree, tree_of}
+use Rattle.policy_expr.specs.Language.{Tree, followed, either, tree_of}
 use Rattle.policy_expr.specs.Reading as reading
 use Rattle.policy_expr.specs.Reading.{read_rest}
 
@@ -18,6 +20,11 @@ remaining later = later.known.now ++ tokens later.rest.now
 abbrev pub level_of : {A : _} → Level A → reading.Level
 level_of level =
     record { before = option_map tree_of level.before; choices = option_map tree_of level.choices }
+
+-- the tree of what was read before and of an item, joined in this way
+abbrev pub joined_by : Joint → Tree → Tree → Tree
+joined_by Alternative = either
+joined_by Following = followed
 
 -- the levels that a reader keeps with the innermost last, as values with the innermost first
 abbrev pub levels_of : {A : _} → List (Level A) → List reading.Level
