@@ -1,5 +1,6 @@
 //! Texts that are refused: running out of memory never hides a refusal.
 
+use crate::rows::repeated;
 use policy_expr::{Acl, AclText, PolicyError, PolicyFault, Seq};
 use refusing::{Allocations, Refusing};
 use std::alloc::{AllocError, Global};
@@ -22,22 +23,13 @@ fn nested(alloc: Global, depth: usize) -> Result<String, AllocError> {
     Ok(text)
 }
 
-/// `0`, repeated.
-fn zeros(alloc: Global, count: usize) -> Result<String, AllocError> {
-    let mut text = String::new(alloc);
-    for _ in 0..count {
-        text.push_str("0 ")?;
-    }
-    Ok(text)
-}
-
 /// Each refusal of a sequence when all allocations are refused.
 #[test]
 fn sequences_without_memory(rt: HostRuntime) -> Result<(), Fail> {
     let alloc = rt.alloc();
     let none = Refusing::new(alloc);
     none.refuse(Allocations::AllFrom(1));
-    let (deep, long) = (nested(alloc, 33)?, zeros(alloc, 129)?);
+    let (deep, long) = (nested(alloc, 33)?, repeated(alloc, "0", 129)?);
     for (text, fault) in [
         ("", PolicyFault::UnexpectedEnd),
         ("1 |", PolicyFault::UnexpectedEnd),

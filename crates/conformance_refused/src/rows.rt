@@ -16,11 +16,11 @@ fn within(as_number: u64) -> WalkHop {
     }
 }
 
-/// `1|0`, repeated.
-fn pairs(alloc: Global, count: usize) -> Result<String, AllocError> {
-    let mut text = String::from_str(alloc, "1|0")?;
-    for _ in 1..count {
-        text.push_str(" 1|0")?;
+/// This part of a sequence so many times, at least once.
+pub(crate) fn repeated(alloc: Global, part: &str, times: usize) -> Result<String, AllocError> {
+    let mut text = String::from_str(alloc, part)?;
+    for _ in 1..times {
+        write!(text, " {part}")?;
     }
     Ok(text)
 }
@@ -30,7 +30,7 @@ fn pairs(alloc: Global, count: usize) -> Result<String, AllocError> {
 #[test]
 fn sequences(rt: HostRuntime) -> Result<(), Fail> {
     let alloc = rt.alloc();
-    let long = pairs(alloc, 16)?;
+    let long = repeated(alloc, "1|0", 16)?;
     let any_then_one = [within(0x110), within(0x111)];
     let either_then_any = [within(0x110), within(0x112)];
     let sixteen = [within(0x110); 16];
