@@ -21,25 +21,16 @@ fn are_few(ases: &[AsEntry]) -> bool
     ases.len() <= MAX_DETAILED
 }
 
-/// The layout, in either form.
-fn layout(detailed: bool) -> &'static str
-    ensures { result.now ≡ layout detailed }
+/// What stands before the ASes and behind the links, in either form: the layout, and what lines and
+/// signs mean.
+fn frame(detailed: bool) -> (&'static str, &'static str)
+    ensures front { result.0.now ≡ layout detailed }
+    ensures back { result.1.now ≡ legend detailed }
 {
     if detailed {
-        detailed::layout()
+        (detailed::layout(), detailed::legend())
     } else {
-        overview::layout()
-    }
-}
-
-/// What lines and signs mean, in either form.
-fn legend(detailed: bool) -> &'static str
-    ensures { result.now ≡ legend detailed }
-{
-    if detailed {
-        detailed::legend()
-    } else {
-        overview::legend()
+        (overview::layout(), overview::legend())
     }
 }
 
@@ -60,7 +51,8 @@ pub fn network_dot(
         ≡ dot_of (record { ases = ases.now; links = links.now }) passed.now at) }
 {
     let detailed = are_few(ases);
-    let mut text = String::from_str(alloc, layout(detailed))?;
+    let (layout, legend) = frame(detailed);
+    let mut text = String::from_str(alloc, layout)?;
     for one in ases {
         if detailed {
             detailed::add_as(&mut text, &at, one)?;
@@ -75,6 +67,6 @@ pub fn network_dot(
             overview::add_link(&mut text, passed, link)?;
         }
     }
-    text.push_str(legend(detailed))?;
+    text.push_str(legend)?;
     Ok(text)
 }
