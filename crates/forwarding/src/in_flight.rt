@@ -1,8 +1,11 @@
 #![tactic(auto, unfolding(crate::specs::Turn::turn_of, crate::specs::Turn::turn_under))]
 
 ghost use Rattle.std.specs.Prelude.{◌≡◌, ℕ, ◌<◌, ◌≤◌, List, length, vec_capacity, IfOk, IfErr};
+ghost use Rattle.std.specs.Option.{option_map_or};
 ghost use Rattle.scion_topology.specs.Topology.{far_end_in};
-ghost use Rattle.forwarding.specs.Turn.{packet_with, altered_packet, hop_by, lost_packet, put_at, over_link, after_outcome, turn_under, turn_of};
+ghost use Rattle.forwarding.specs.declared.location.RouterStop.{RouterStop};
+ghost use Rattle.forwarding.specs.declared.location.PacketLocation.TheVariants.{AtRouter};
+ghost use Rattle.forwarding.specs.Turn.{Packet, packet_with, with_passed_hop, altered_packet, hop_by, lost_packet, put_at, over_link, after_outcome, turn_under, turn_of};
 
 use crate::location::{PacketLocation, RouterStop};
 use crate::reply::TurnReply;
@@ -242,7 +245,12 @@ fn put(
     ensures room { vec_capacity passed.new ≡ vec_capacity passed.old }
 {
     match outcome {
-        Outcome::ToLink(out) => cross(topology, stop, out, place, passed),
+        Outcome::ToLink(out) => {
+            if let Some(next) = stop_behind(topology, stop.ia, out) {
+                note(passed, hop_by(stop, out));
+                *place = PacketLocation::AtRouter(next);
+            }
+        }
         Outcome::ToRouter(router) => {
             *place = PacketLocation::AtRouter(RouterStop {
                 router,
@@ -257,32 +265,27 @@ fn put(
     }
 }
 
-/// Puts a packet at the router that owns the far end of a link.
-fn cross(
-    topology: &Topology,
-    stop: RouterStop,
-    out: IfId,
-    place: &mut PacketLocation,
-    passed: &mut Vec<WalkHop>,
-)
-    requires { length passed.old.items < 64 → length passed.old.items < vec_capacity passed.old }
-    ensures put { (bytes : List ℕ) → packet_with bytes place.new passed.new.items
-        ≡ over_link topology.now (packet_with bytes place.old passed.old.items) stop out
-        (far_end_in topology.now stop.ia out) }
-    ensures few { length passed.old.items ≤ 64 → length passed.new.items ≤ 64 }
-    ensures room { vec_capacity passed.new ≡ vec_capacity passed.old }
+/// The stop at the router that owns the far end of a link, if there is one.
+fn stop_behind(topology: &Topology, ia: IsdAs, out: IfId) -> Option<RouterStop>
+    ensures { (packet : Packet) (stop : RouterStop)
+        → over_link topology.now packet stop out (far_end_in topology.now ia out)
+        ≡ option_map_or (λ next. record packet {
+            place = AtRouter next;
+            passed = with_passed_hop packet.passed (hop_by stop out);
+        }) result packet }
 {
-    if let Ok((ia, number)) = topology.far_end(stop.ia, out) {
-        if let Ok(router) = topology.owner(ia, number) {
-            note(passed, hop_by(stop, out));
-            *place = PacketLocation::AtRouter(RouterStop {
-                ia,
-                router,
-                arrival: Arrival::Link(number),
-                came_in_by: number,
-            });
-        }
-    }
+    let Ok((far, number)) = topology.far_end(ia, out) else {
+        return None;
+    };
+    let Ok(router) = topology.owner(far, number) else {
+        return None;
+    };
+    Some(RouterStop {
+        ia: far,
+        router,
+        arrival: Arrival::Link(number),
+        came_in_by: number,
+    })
 }
 
 /// The hop of the AS in which the packet is, left by this interface.
