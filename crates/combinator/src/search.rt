@@ -12,7 +12,7 @@ ghost use Rattle.combinator.specs.Candidate.{AreSpelled, IsOf, IsCandidate, path
 ghost use Rattle.combinator.specs.Order.{path_cmp};
 ghost use Rattle.combinator.specs.Answer.{IsBest};
 ghost use Rattle.combinator.specs.inner.Placed.{InOrder};
-ghost use Rattle.combinator.specs.inner.Search.{AreBefore, AreKept, HaveAll, IsMetBy, IsNoBetter, MayReplace, OfEachBehind, StillMeet, ways_out, ways_out_of};
+ghost use Rattle.combinator.specs.inner.Search.{AreBefore, AreKept, HaveAll, IsMetBy, IsNoBetter, MayReplace, MaySearch, OfEachBehind, StillMeet, ways_out, ways_out_of};
 
 use crate::front::Front;
 use crate::kept::KeptPaths;
@@ -72,9 +72,7 @@ impl<'a, 's, 'p, A: Allocator + Clone> Search<'a, 's, 'p, A> {
         at: IsdAs,
         depth: usize,
     ) -> Result<(), AllocError>
-        requires own { All (IsOf self.now.ask.now.set) self.now.usable_pieces.now }
-        requires whole { HaveAll self.now.ask.now self.now.usable_pieces.now }
-        requires spelled { AreSpelled self.now.ask.now }
+        requires search { MaySearch self.now.ask.now self.now.usable_pieces.now }
         requires kept { AreKept self.now.ask.now self.now.limit kept.old.first.items
             kept.old.behind.items }
         requires front { All (IsOf self.now.ask.now.set) front.now }
@@ -114,9 +112,7 @@ impl<'a, 's, 'p, A: Allocator + Clone> Search<'a, 's, 'p, A> {
         pieces: &Pieces<'s>,
         end: IsdAs,
     ) -> Result<(), AllocError>
-        requires own { All (IsOf self.now.ask.now.set) self.now.usable_pieces.now }
-        requires whole { HaveAll self.now.ask.now self.now.usable_pieces.now }
-        requires spelled { AreSpelled self.now.ask.now }
+        requires search { MaySearch self.now.ask.now self.now.usable_pieces.now }
         requires kept { AreKept self.now.ask.now self.now.limit kept.old.first.items
             kept.old.behind.items }
         requires front { All (IsOf self.now.ask.now.set) pieces.now }

@@ -8,7 +8,7 @@ use Rattle.policy_expr.specs.declared.hop.WalkHop.{WalkHop}
 use Rattle.path_verifier.specs.Piece.{PieceValue, HasRange, begins_in, ends_in}
 use Rattle.path_verifier.specs.Walk.{hops_of}
 use Rattle.path_verifier.specs.Header.{field_of, header_of, info_of}
-use Rattle.combinator.specs.Candidate.{Question, PathValue, path_with, IsCandidate}
+use Rattle.combinator.specs.Candidate.{Question, PathValue, path_with, IsCandidate, IsOf, AreSpelled}
 use Rattle.combinator.specs.Order.{bytes_cmp, path_cmp, LastAsLong, HaveOneWalk}
 use Rattle.combinator.specs.Answer.{IsBest}
 use Rattle.combinator.specs.inner.Placed.{InOrder, Met}
@@ -64,6 +64,13 @@ pub record MayReplace (question : Question) (path other : PathValue) : Type 0 wh
 abbrev pub HaveAll : Question → List PieceValue → Type 0
 HaveAll question usable_pieces = (path : PathValue) → IsCandidate question path
     → All (Contains usable_pieces) path.pieces
+
+-- what a search begins with: usable pieces of the request's segments, of which each candidate is
+-- made, and candidates whose headers are spelled
+pub record MaySearch (question : Question) (usable_pieces : List PieceValue) : Type 0 where
+  pub own : All (IsOf question.set) usable_pieces
+  pub whole : HaveAll question usable_pieces
+  pub spelled : AreSpelled question
 
 -- the path comes before each path that begins with these pieces and has at least so many more
 unfoldable pub ComesBefore : PathValue → List PieceValue → ℕ → Type 0

@@ -12,7 +12,7 @@ consider-requires-clause-front g t c =
     let a = c.args in
     let is = c.pieces.ensures.value ∙ c.with_piece-longer.ensures in
     own_more a.self.now.ask.now.set a.front.now c.pieces.result.now c.piece-item.result is c.requires.front
-    (subst (IsOf a.self.now.ask.now.set) (sym c.piece-item.is) (part_own (IsOf a.self.now.ask.now.set) a.self.now.usable_pieces.now c.pieces_from-next_pieces.result.now a.at c.pieces_from-next_pieces.ensures c.requires.own c.loop-piece.piece-index c.piece-item.result c.loop-piece-test.true))
+    (subst (IsOf a.self.now.ask.now.set) (sym c.piece-item.is) (part_own (IsOf a.self.now.ask.now.set) a.self.now.usable_pieces.now c.pieces_from-next_pieces.result.now a.at c.pieces_from-next_pieces.ensures c.requires.search.own c.loop-piece.piece-index c.piece-item.result c.loop-piece-test.true))
 
 pub consider-requires-clause-end : goal.consider-requires-clause-end
 consider-requires-clause-end g t c =
@@ -95,19 +95,13 @@ try_behind-requires g t c κs within =
       (
         within,
         (
-          c.requires.own,
+          c.requires.search,
           (
-            c.requires.whole,
+            c.in_ok-consider.ensures.kept,
             (
-              c.requires.spelled,
-              (
-                c.in_ok-consider.ensures.kept,
-                (
-                  own_more a.self.now.ask.now.set a.front.now c.with_piece-longer.result c.piece-item.result is c.requires.front
-                      (subst (IsOf a.self.now.ask.now.set) (sym c.piece-item.is) (part_own (IsOf a.self.now.ask.now.set) a.self.now.usable_pieces.now c.pieces_from-next_pieces.result.now a.at c.pieces_from-next_pieces.ensures c.requires.own c.loop-piece.piece-index c.piece-item.result c.loop-piece-test.true)),
-                  (omega (arith, more), omega (arith, more, long, few)),
-                ),
-              ),
+              own_more a.self.now.ask.now.set a.front.now c.with_piece-longer.result c.piece-item.result is c.requires.front
+                  (subst (IsOf a.self.now.ask.now.set) (sym c.piece-item.is) (part_own (IsOf a.self.now.ask.now.set) a.self.now.usable_pieces.now c.pieces_from-next_pieces.result.now a.at c.pieces_from-next_pieces.ensures c.requires.search.own c.loop-piece.piece-index c.piece-item.result c.loop-piece-test.true)),
+              (omega (arith, more), omega (arith, more, long, few)),
             ),
           ),
         ),

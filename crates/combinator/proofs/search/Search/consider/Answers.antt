@@ -19,7 +19,7 @@ returns-then-has_walk_of-clause-met g c =
     let a = c.args in
     let question = a.self.now.ask.now in
     subst (IsMetBy question a.self.now.limit a.kept.now.first.items) c.in-Some.ensures.pieces
-    (met_by_kept question c.requires.spelled a.self.now.limit a.kept.now.first.items a.kept.now.behind.items c.in-Some.path.pieces c.requires.kept
+    (met_by_kept question c.requires.search.spelled a.self.now.limit a.kept.now.first.items a.kept.now.behind.items c.in-Some.path.pieces c.requires.kept
     (c.has_walk_of.ensures c.if-has_walk_of.true))
 
 pub returns-then-is_met-clause-met : goal.returns-then-is_met-clause-met
@@ -45,7 +45,7 @@ returns-clause-kept g c =
     let tried : OfEachBehind fact all 3 [] question.src =
     subst (OfEachBehind fact all 3 []) src (subst (λ (ps : List PieceValue). OfEachBehind fact all 3 ps c.ask.inside.src) c.new-2.ensures c.in_ok-best.ensures.none) in
     c.in_ok-keep.ensures.kept question c.requires.kept
-    (found_best question all c.in_ok-best.best c.requires.whole c.in_ok-best.ensures.better.candidate tried)
+    (found_best question all c.in_ok-best.best c.requires.search.whole c.in_ok-best.ensures.better.candidate tried)
 
 pub returns-clause-met : goal.returns-clause-met
 returns-clause-met g c =
@@ -56,9 +56,9 @@ returns-clause-met g c =
     let src : c.ask.inside.src ≡ question.src = ap (λ (q : Question). q.src) c.ask.view_is in
     let tried : OfEachBehind fact all 3 [] question.src =
     subst (OfEachBehind fact all 3 []) src (subst (λ (ps : List PieceValue). OfEachBehind fact all 3 ps c.ask.inside.src) c.new-2.ensures c.in_ok-best.ensures.none) in
-    let best = found_best question all c.in_ok-best.best c.requires.whole c.in_ok-best.ensures.better.candidate tried in
+    let best = found_best question all c.in_ok-best.best c.requires.search.whole c.in_ok-best.ensures.better.candidate tried in
     let pieces : c.in_ok-found.found.pieces ≡ a.pieces.now =
     ap (λ (path : PathValue). path.pieces) c.in_ok-found.ensures.value ∙ c.in-Some.ensures.pieces in
     let walk : walk_of a.pieces.now ≡ walk_of c.in_ok-best.best.pieces =
     sym (c.in_ok-best.ensures.better.same ∙ ap walk_of pieces) in
-    met_by_best question c.requires.spelled a.self.now.limit c.keep.new.self.first.items c.in_ok-best.best a.pieces.now best c.in_ok-keep.ensures.met walk
+    met_by_best question c.requires.search.spelled a.self.now.limit c.keep.new.self.first.items c.in_ok-best.best a.pieces.now best c.in_ok-keep.ensures.met walk
