@@ -13,7 +13,7 @@ use Rattle.scion_topology.specs.Causes.{stands, joins_twice}
 use Rattle.scion_topology.specs.Topology.{IsNetwork, known_as, set_up, with_up}
 use Rattle.scion_topology.specs.inner.Table.{marked_table}
 use Rattle.scion_topology.specs.Index.{IndexValue, index_at, index_from, places_of}
-use Rattle.scion_topology.specs.inner.Index.{place_in, marked, set_from}
+use Rattle.scion_topology.specs.inner.Index.{place_in, with_state, set_from}
 use Rattle.refusal.proofs.Steps.{bind_ok, ok_or_ok}
 use Rattle.scion_topology.proofs.Judging.{IsFree-IsNetwork, judged, rules_from}
 use Rattle.scion_topology.proofs.Places.{network_apart, are_apart, known_link-place_in, known_link-place_in_err}
@@ -102,9 +102,9 @@ table_at_end n place x m up link network found ends =
     let same : with_up up x m n.links ≡ set_from 0 place up n.links = rw zero_place at (with_up-set_from 0 x m place up n.links first) in
     rw (← same) (table_of-with_up x m up n.links (network_apart n network))
 
-pub index_at_end : (n : Network) (place x m : ℕ) (up : Bool) (link : Link) → IsNetwork n → slice_get n.links place ≡ Some link → has_end link x m ≡ true → index_from 0 n.ases (set_from 0 place up n.links) x ≡ option_map (marked m up) (index_from 0 n.ases n.links x)
+pub index_at_end : (n : Network) (place x m : ℕ) (up : Bool) (link : Link) → IsNetwork n → slice_get n.links place ≡ Some link → has_end link x m ≡ true → index_from 0 n.ases (set_from 0 place up n.links) x ≡ option_map (with_state m up) (index_from 0 n.ases n.links x)
 index_at_end n place x m up link network found ends =
-    index_from-same 0 x (marked m up) n.ases n.links (set_from 0 place up n.links)
+    index_from-same 0 x (with_state m up) n.ases n.links (set_from 0 place up n.links)
     (λ position. index_at-table position x place up n.links (marked_table m up (table_of x n.links)) (table_at_end n place x m up link network found ends))
 
 as_it_is : (o : Option IndexValue) → option_map (λ (index : IndexValue). index) o ≡ o
@@ -140,8 +140,8 @@ misses_others place x links link found not_a not_b k other at same =
 pub marked_twice : (place : ℕ) (up : Bool) (n : Network) (link : Link) (first second third : ℕ → Option IndexValue)
     → IsNetwork n → slice_get n.links place ≡ Some link
     → ((x : ℕ) → first x ≡ index_from 0 n.ases n.links x)
-    → ((x : ℕ) → second x ≡ cond (eqb x link.a.ia) (option_map (marked link.a.number up) (first x)) (first x))
-    → ((x : ℕ) → third x ≡ cond (eqb x link.b.ia) (option_map (marked link.b.number up) (second x)) (second x))
+    → ((x : ℕ) → second x ≡ cond (eqb x link.a.ia) (option_map (with_state link.a.number up) (first x)) (first x))
+    → ((x : ℕ) → third x ≡ cond (eqb x link.b.ia) (option_map (with_state link.b.number up) (second x)) (second x))
     → (x : ℕ) → third x ≡ index_from 0 n.ases (set_from 0 place up n.links) x
 marked_twice place up n link first second third network found at_first at_second at_third x =
     let apart = apart_at n.links place link (network_apart n network) found in

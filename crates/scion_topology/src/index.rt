@@ -2,7 +2,7 @@ ghost use Rattle.std.specs.Prelude.{◌≡◌, ◌<◌, [], OnOk, vec_len};
 ghost use Rattle.scion_topology.specs.Network.{end_as_interface, kind_at_a, kind_at_b};
 ghost use Rattle.scion_topology.specs.inner.Placed.{IsChanged};
 ghost use Rattle.scion_topology.specs.Index.{value_of_index};
-ghost use Rattle.scion_topology.specs.inner.Index.{added, marked, place_beside};
+ghost use Rattle.scion_topology.specs.inner.Index.{with_interface, with_state, place_beside};
 
 use crate::entry::{IfEntry, LinkKind};
 use crate::network::{End, Link, LinkClass};
@@ -39,7 +39,7 @@ impl AsIndex {
     pub(crate) fn add(&mut self, entry: IfEntry, place: usize) -> Result<(), AllocError>
         ensures ia { self.new.ia ≡ self.old.ia }
         ensures value { OnOk result (value_of_index self.new
-            ≡ added entry place (value_of_index self.old)) }
+            ≡ with_interface entry place (value_of_index self.old)) }
     {
         self.table.push(entry)?;
         self.places.push(place)?;
@@ -57,7 +57,7 @@ impl AsIndex {
     /// Sets the interface of this number up or down, if there is one.
     pub(crate) fn mark(&mut self, number: IfId, up: bool)
         ensures ia { self.new.ia ≡ self.old.ia }
-        ensures value { value_of_index self.new ≡ marked number up (value_of_index self.old) }
+        ensures value { value_of_index self.new ≡ with_state number up (value_of_index self.old) }
     {
         self.table.mark(number, up);
     }
@@ -118,7 +118,7 @@ pub(crate) fn add_at(
 ) -> Result<(), AllocError>
     requires { at < vec_len list.old }
     ensures { IsChanged (λ old new. OnOk result (value_of_index new
-        ≡ added entry place (value_of_index old)))
+        ≡ with_interface entry place (value_of_index old)))
         at list.old.items list.new.items }
 {
     list[at].add(entry, place)
@@ -127,7 +127,7 @@ pub(crate) fn add_at(
 /// Sets the interface of this number up or down in the index at a place.
 pub(crate) fn mark_at(list: &mut Vec<AsIndex>, at: usize, number: IfId, up: bool)
     requires { at < vec_len list.old }
-    ensures { IsChanged (λ old new. value_of_index new ≡ marked number up (value_of_index old))
+    ensures { IsChanged (λ old new. value_of_index new ≡ with_state number up (value_of_index old))
         at list.old.items list.new.items }
 {
     list[at].mark(number, up);

@@ -14,7 +14,7 @@ use Rattle.segment_board.specs.declared.board_state.BoardOp.TheVariants.{Apply, 
 use Rattle.segment_board.specs.History.{KnownHistory, newest, opening}
 use Rattle.segment_board.specs.inner.History.{head_of}
 use Rattle.segment_board.specs.BoardState.{BoardValue}
-use Rattle.segment_board.specs.inner.BoardState.{taken, IsTied, IsReady}
+use Rattle.segment_board.specs.inner.BoardState.{board_after, IsTied, IsReady}
 use Rattle.segment_board.specs.Board.{Written}
 use Rattle.segment_board.specs.WriterState.{shown_of, queue_of, edition_of, awaited, operations_of}
 use Rattle.segment_board.specs.Writing.{IsInOrder}
@@ -154,7 +154,7 @@ module _ {P A S : Type 0} {g : _} (w v : Writer BoardValue BoardOp (Option Known
 
     module _ (u : Writer BoardValue BoardOp (Option KnownHistory) P A S g) where
       abbrev pub Showed : Type 0
-      Showed = (shown_of u ≡ fold taken (shown_of v) (queue_of v)) × (queue_of u ≡ []) ×
+      Showed = (shown_of u ≡ fold board_after (shown_of v) (queue_of v)) × (queue_of u ≡ []) ×
           (view u.desk.place ≡ Some (shown_of u).front)
 
       abbrev pub Kept : Type 0
@@ -162,7 +162,7 @@ module _ {P A S : Type 0} {g : _} (w v : Writer BoardValue BoardOp (Option Known
 
       shown_next : queue_of v ≡ queue_of w ++ Mark next ∷ [] → Showed
           → shown_of u ≡ record { store = fold after_operation (shown_of v).store (operations_of (queue_of w)); front = next }
-      shown_next queue s = s.0 ∙ (ap (λ q. fold taken (shown_of v) q) queue ∙ fold_mark (shown_of v) (queue_of w) next)
+      shown_next queue s = s.0 ∙ (ap (λ q. fold board_after (shown_of v) q) queue ∙ fold_mark (shown_of v) (queue_of w) next)
 
       -- once it was shown
       pub showed : IsInOrder v head root next → queue_of v ≡ queue_of w ++ Mark next ∷ []

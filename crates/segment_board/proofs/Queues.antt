@@ -9,7 +9,7 @@ use Rattle.segment_board.specs.declared.edition.Edition.{Edition}
 use Rattle.segment_board.specs.History.{KnownHistory, newest, edition_after}
 use Rattle.segment_board.specs.inner.History.{ContinuesFrom}
 use Rattle.segment_board.specs.BoardState.{BoardValue}
-use Rattle.segment_board.specs.inner.BoardState.{taken, IsTied, IsReady}
+use Rattle.segment_board.specs.inner.BoardState.{board_after, IsTied, IsReady}
 use Rattle.segment_board.specs.WriterState.{operations_of}
 use Rattle.segment_board.proofs.Growing.{newest_last}
 use Rattle.segment_board.proofs.Following.{goes_self, goes_after}
@@ -21,15 +21,15 @@ operations-append (Mark f ∷ xs) ys = operations-append xs ys
 
 -- the store after a queue is the one after its operations
 store_after : (x : BoardValue) (q : List BoardOp)
-    → (fold taken x q).store ≡ fold after_operation x.store (operations_of q)
+    → (fold board_after x q).store ≡ fold after_operation x.store (operations_of q)
 store_after x [] = refl
 store_after x (Apply op ∷ q) = store_after (record x { store = after_operation x.store op }) q
 store_after x (Mark f ∷ q) = store_after (record x { front = f }) q
 
 -- a queue that ends with a mark leaves its front
 pub fold_mark : (x : BoardValue) (q : List BoardOp) (f : KnownHistory)
-    → fold taken x (q ++ Mark f ∷ []) ≡ record { store = fold after_operation x.store (operations_of q); front = f }
-fold_mark x q f = fold_push taken x q (Mark f) ∙ ap (λ s. record { store = s; front = f }) (store_after x q)
+    → fold board_after x (q ++ Mark f ∷ []) ≡ record { store = fold after_operation x.store (operations_of q); front = f }
+fold_mark x q f = fold_push board_after x q (Mark f) ∙ ap (λ s. record { store = s; front = f }) (store_after x q)
 
 -- a queue may be published that ends with the front of all that is awaited
 pub ready_mark : (x : BoardValue) (q : List BoardOp) (f : KnownHistory) (old : List Edition) → IsTied x

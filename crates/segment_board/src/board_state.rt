@@ -40,11 +40,11 @@ pub(crate) enum BoardOp {
 impl Absorb<BoardOp> for BoardState {
     type State = BoardState;
 
-    ghost use Rattle.segment_board.specs.inner.BoardState.{taken};
+    ghost use Rattle.segment_board.specs.inner.BoardState.{board_after};
 
     ghost state = { λ s. s };
 
-    ghost applied = { taken };
+    ghost applied = { board_after };
 
     fn absorb_first(&mut self, operation: &BoardOp, _other: &BoardState) -> Result<(), AllocError> {
         match operation {

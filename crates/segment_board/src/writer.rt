@@ -5,7 +5,7 @@ ghost use Rattle.left_right.specs.Sides.{view as view_of};
 ghost use Rattle.path_server.specs.declared.op.StoreOp.TheVariants.{Register, Sweep};
 ghost use Rattle.segment_board.specs.declared.fault.BoardFault.TheVariants.{NoPlace};
 ghost use Rattle.segment_board.specs.declared.board_state.BoardOp.TheVariants.{Apply, Mark};
-ghost use Rattle.segment_board.specs.inner.BoardState.{taken, IsReady};
+ghost use Rattle.segment_board.specs.inner.BoardState.{board_after, IsReady};
 ghost use Rattle.segment_board.specs.WriterState.{shown_of, queue_of};
 
 use crate::board_state::{BoardOp, BoardState, Learns, Publishes, StoreWriter, Tells};
@@ -50,7 +50,7 @@ impl Model for BoardWriter {
 fn show<R: Wait>(writer: StoreWriter, rt: &R) -> (StoreWriter, Result<(), AllocError>)
     requires { IsReady (shown_of writer) (queue_of writer) }
     ensures { MatchResult result.1
-        (λ _. (shown_of result.0 ≡ fold taken (shown_of writer) (queue_of writer))
+        (λ _. (shown_of result.0 ≡ fold board_after (shown_of writer) (queue_of writer))
         × (queue_of result.0 ≡ []) × (view_of result.0.desk.place ≡ Some (shown_of result.0).front))
         (λ _. (shown_of result.0 ≡ shown_of writer) × (queue_of result.0 ≡ queue_of writer)
         × (view_of result.0.desk.place ≡ view_of writer.desk.place)) }

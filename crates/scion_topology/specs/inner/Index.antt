@@ -36,17 +36,18 @@ place_in n ia number =
     known_as n ia >>= λ _. ok_or (position (λ link. has_end link ia number) n.links) faults.NoLink
 
 -- the index with one more interface, and with the place of its link
-abbrev pub added : IfEntry → ℕ → IndexValue → IndexValue
-added entry place index =
+abbrev pub with_interface : IfEntry → ℕ → IndexValue → IndexValue
+with_interface entry place index =
     record {
       position = index.position;
       table = index.table ++ entry ∷ [];
       places = index.places ++ place ∷ [];
     }
 
--- `added` if this is the interface's AS, and else the index as it was
+-- `with_interface` if this is the interface's AS, and else the index as it was
 abbrev pub added_where : Bool → IfEntry → ℕ → Option IndexValue → Option IndexValue
-added_where here entry place index = if here then option_map (added entry place) index else index
+added_where here entry place index =
+    if here then option_map (with_interface entry place) index else index
 
 -- the index of an AS with these links added, whose places begin at `base`
 abbrev pub with_links : (base ia : ℕ) (links : List Link) (index : IndexValue) → IndexValue
@@ -61,13 +62,13 @@ abbrev pub with_link : (place ia : ℕ) (link : Link) (index : IndexValue) → I
 with_link place ia link index = with_links place ia (link ∷ []) index
 
 -- the index with the link of this interface up or down
-abbrev pub marked : ℕ → Bool → IndexValue → IndexValue
-marked number up index = record index { table = marked_table number up index.table }
+abbrev pub with_state : ℕ → Bool → IndexValue → IndexValue
+with_state number up index = record index { table = marked_table number up index.table }
 
--- `marked` if this is the interface's AS, and else the index as it was
+-- `with_state` if this is the interface's AS, and else the index as it was
 abbrev pub marked_where : (here : Bool) (number : ℕ) (up : Bool) (index : Option IndexValue)
     → Option IndexValue
-marked_where here number up index = if here then option_map (marked number up) index else index
+marked_where here number up index = if here then option_map (with_state number up) index else index
 
 -- the links with the link at this place up or down; places are counted from `base`
 abbrev pub set_from : ℕ → ℕ → Bool → List Link → List Link

@@ -3,7 +3,7 @@ use Rattle.std.proofs.Common.{sym, arith}
 use Rattle.std.specs.Prelude.{slice_get}
 use Rattle.std.specs.Ordering.{nat_cmp}
 use Rattle.std.specs.BTreeMap.{get}
-use Rattle.scion_topology.specs.inner.Index.{marked}
+use Rattle.scion_topology.specs.inner.Index.{with_state}
 use Rattle.scion_topology.proofs.Indexes.{slice_get-bound}
 use Rattle.scion_topology.proofs.Placing.{stands_there, own_changed, value_changed}
 use Rattle.scion_topology.proofs.lookup.Indexes.mark.Goals as goal
@@ -27,4 +27,4 @@ returns-in-Some c = λ x.
     let old = c.args.self.now in
     let there = stands_there (slice_get old.list.items c.in-Some.at) c.args.ia (old.own.found c.args.ia c.in-Some.at (sym c.in-Some.ensures)) in
     let changed = c.mark_at.ensures there.0 there.1 in
-    rw changed.1 (value_changed (marked c.args.number c.args.up) old.list.items (get nat_cmp old.places) c.in-Some.at c.args.ia there.0 changed.0 old.own (sym c.in-Some.ensures) there.1 changed.3 x)
+    rw changed.1 (value_changed (with_state c.args.number c.args.up) old.list.items (get nat_cmp old.places) c.in-Some.at c.args.ia there.0 changed.0 old.own (sym c.in-Some.ensures) there.1 changed.3 x)
