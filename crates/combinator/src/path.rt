@@ -34,6 +34,25 @@ impl Model for Path {
 }
 
 impl Path {
+    /// A path of copies of these pieces, of this header and of the pieces' walk, unless memory runs
+    /// out.
+    pub fn new(
+        alloc: Global,
+        pieces: &Pieces<'_>,
+        header: &Header,
+        walk: &[WalkHop],
+    ) -> Result<Path, AllocError>
+        requires sent { MaySend (path_with pieces.now header.now) }
+        requires walk { walk.now ≡ walk_of pieces.now }
+        ensures { IfOk result (λ own. own ≡ path_with pieces.now header.now) }
+    {
+        Ok(Path {
+            pieces: to_owned_pieces(alloc, pieces)?,
+            header: header.clone()?,
+            walk: Vec::from_slice(alloc, walk)?,
+        })
+    }
+
     /// The pieces, in order of travel.
     pub fn pieces(&self) -> &[OwnedPiece]
         ensures value { result.now ≡ self.now.pieces }
@@ -68,26 +87,8 @@ impl Path {
     pub fn try_clone(&self, alloc: Global) -> Result<Path, AllocError>
         ensures { IfOk result (λ own. own ≡ self.now) }
     {
-        owned_path(alloc, &lend_all(&self.pieces), &self.header, &self.walk)
+        Path::new(alloc, &lend_all(&self.pieces), &self.header, &self.walk)
     }
-}
-
-/// A path that owns copies of these parts, unless memory runs out.
-fn owned_path(
-    alloc: Global,
-    pieces: &Pieces<'_>,
-    header: &Header,
-    walk: &[WalkHop],
-) -> Result<Path, AllocError>
-    requires sent { MaySend (path_with pieces.now header.now) }
-    requires walk { walk.now ≡ walk_of pieces.now }
-    ensures { IfOk result (λ own. own ≡ path_with pieces.now header.now) }
-{
-    Ok(Path {
-        pieces: to_owned_pieces(alloc, pieces)?,
-        header: header.clone()?,
-        walk: Vec::from_slice(alloc, walk)?,
-    })
 }
 
 /// The answer to a request: the paths in their order, and which policy option was used.
@@ -106,6 +107,13 @@ impl Model for PathList {
 }
 
 impl PathList {
+    /// An answer of these paths, in this order, and of the place of the used policy option.
+    pub fn new(option: Option<usize>, paths: Vec<Path>) -> PathList
+        ensures { result ≡ record { used = option; paths = paths.items } }
+    {
+        PathList { option, paths }
+    }
+
     /// Copies of the chosen paths, unless memory runs out.
     pub(crate) fn of<A: Allocator + Clone>(
         alloc: Global,
@@ -114,10 +122,8 @@ impl PathList {
         ensures used { IfOk result (λ list. list.used ≡ choice.now.used) }
         ensures paths { IfOk result (λ list. list.paths ≡ choice.now.paths) }
     {
-        Ok(PathList {
-            option: choice.option(),
-            paths: own_found(alloc, &choice.paths().found)?,
-        })
+        let paths = own_found(alloc, &choice.paths().found)?;
+        Ok(PathList::new(choice.option(), paths))
     }
 
     /// The number of paths.
@@ -165,10 +171,7 @@ impl PathList {
         for path in &self.paths {
             paths.push(path.try_clone(alloc)?)?;
         }
-        Ok(PathList {
-            option: self.option,
-            paths,
-        })
+        Ok(PathList::new(self.option, paths))
     }
 }
 
@@ -195,5 +198,5 @@ fn own_path<A: Allocator + Clone>(
 {
     let path = found.path();
     path.known();
-    owned_path(alloc, path.pieces(), path.header(), path.walk())
+    Path::new(alloc, path.pieces(), path.header(), path.walk())
 }

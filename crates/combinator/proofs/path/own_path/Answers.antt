@@ -4,8 +4,8 @@ use Rattle.path_verifier.specs.Piece.{PieceValue}
 use Rattle.combinator.specs.Candidate.{MaySend, path_with}
 use Rattle.combinator.proofs.path.own_path.Goals as goal
 
-pub owned_path-requires-clause-sent : goal.owned_path-requires-clause-sent
-owned_path-requires-clause-sent g c =
+pub new-requires-clause-sent : goal.new-requires-clause-sent
+new-requires-clause-sent g c =
     let request = c.path-path.result.now in
     let whole : MaySend (path_with request.pieces request.header) = record {
       src = request.src;
