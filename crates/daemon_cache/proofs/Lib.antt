@@ -1,1 +1,2 @@
+pub mod KeptPaths
 pub mod Lookups

@@ -127,7 +127,7 @@ impl Daemon {
             None => {}
         }
         let paths = make_answer(alloc, &set, request)?;
-        if let Ok(entry) = Entry::of(alloc, set, request, &paths) {
+        if let Some(entry) = Entry::of(alloc, set, request, &paths) {
             self.keep(rt, alloc, request.key(), entry);
         }
         Ok((paths, false))

@@ -1,37 +1,49 @@
 //! Entries of the cache.
 
-ghost use Rattle.std.specs.Prelude.{◌≡◌, ◌↔◌, IfOk, IfSome, IsSome, IsTrue};
+ghost use Rattle.std.specs.Prelude.{◌≡◌, ◌↔◌, IfOk, IfSome, IsSome, IsTrue, All, map};
 ghost use Rattle.combinator.specs.Lasting.{AreAllLive};
 ghost use Rattle.daemon_cache.specs.Request.{IsAnswerToRequest};
 ghost use Rattle.daemon_cache.specs.inner.Entry.{HasSegmentsOf, IsFor};
+ghost use Rattle.daemon_cache.specs.inner.Kept.{HasItsWalk, path_in};
 
+use crate::kept::KeptPath;
 use crate::request::Request;
 use crate::texts::KeptRequest;
-use combinator::PathList;
+use combinator::{Path, PathList};
 use path_segment::Segment;
 use path_server::SegmentSet;
 use std::alloc::{AllocError, Global};
 use std::marker::Model;
 
 /// An answer, with the request and the segments of which it was made. An invariant of the type says
-/// that it answers that request, at a second at which all these segments are live. It has no
-/// policy, so that threads may share it: for types that reach a policy's tree it is not proved that
-/// they may go to another thread.
+/// that it answers that request, at a second at which all these segments are live. Its paths name
+/// these segments, and have none of their own: another thread than the one that made an entry
+/// mostly gives its memory back, and waits for each block that it gives back. It has no policy, so
+/// that threads may share it: for types that reach a policy's tree it is not proved that they may
+/// go to another thread.
 #[derive(Drop)]
 pub(crate) struct Entry {
     request: KeptRequest,
     set: SegmentSet,
-    paths: PathList,
+    option: Option<usize>,
+    paths: Vec<KeptPath>,
 }
 
 impl Model for Entry {
+    ghost use Rattle.std.specs.Prelude.{All};
     ghost use Rattle.daemon_cache.specs.inner.Entry.{CachedAnswer, IsOwn};
+    ghost use Rattle.daemon_cache.specs.inner.Kept.{answer_in, HasItsWalk};
 
     ghost Value = { CachedAnswer };
 
-    ghost view = { λ e. record { request = e.request; set = e.set; answer = e.paths } };
+    ghost view = { λ e. record {
+      request = e.request;
+      set = e.set;
+      answer = answer_in e.set e.option e.paths.items;
+    } };
 
-    ghost invariant = { λ e. IsOwn e.request e.set e.paths };
+    ghost invariant = { λ e. IsOwn e.request e.set (answer_in e.set e.option e.paths.items)
+        × All (HasItsWalk e.set) e.paths.items };
 }
 
 /// Whether both are the same segments, in the same order.
@@ -58,24 +70,52 @@ fn are_of_one(own: &SegmentSet, set: &SegmentSet) -> bool
         && are_same(own.downs(), set.downs())
 }
 
+/// The paths of an answer by the places of their segments, if the set has them and memory does not
+/// run out.
+fn kept_paths(alloc: Global, set: &SegmentSet, paths: &[Path]) -> Option<Vec<KeptPath>>
+    ensures same { IfSome result (λ kept. map (path_in set.now) kept.items ≡ paths.now) }
+    ensures walks { IfSome result (λ kept. All (HasItsWalk set.now) kept.items) }
+{
+    let mut kept = Vec::with_capacity(alloc, paths.len()).ok()?;
+    for path in paths {
+        let Ok(()) = kept.push(KeptPath::of(alloc, set, path)?) else {
+            return None;
+        };
+    }
+    Some(kept)
+}
+
 impl Entry {
-    /// The entry of an answer to a request, made of this set.
+    /// The entry of an answer to a request, made of this set, if memory does not run out.
     pub(crate) fn of(
         alloc: Global,
         set: SegmentSet,
         request: &Request<'_, '_>,
-        paths: &PathList,
-    ) -> Result<Entry, AllocError>
+        answer: &PathList,
+    ) -> Option<Entry>
         requires live { AreAllLive set set.moment }
-        requires answers { IsAnswerToRequest request.now set paths.now }
-        ensures { IfOk result (λ entry.
-            entry ≡ record { request = request.now; set = set; answer = paths.now }) }
+        requires answers { IsAnswerToRequest request.now set answer.now }
+        ensures { IfSome result (λ entry.
+            entry ≡ record { request = request.now; set = set; answer = answer.now }) }
     {
-        Ok(Entry {
-            request: KeptRequest::of(alloc, request)?,
+        let paths = kept_paths(alloc, &set, answer.paths())?;
+        Some(Entry {
+            request: KeptRequest::of(alloc, request).ok()?,
             set,
-            paths: paths.try_clone(alloc)?,
+            option: answer.option(),
+            paths,
         })
+    }
+
+    /// The answer, with segments of its own, unless memory runs out.
+    fn answer(&self, alloc: Global) -> Result<PathList, AllocError>
+        ensures { IfOk result (λ answer. answer ≡ self.now.answer) }
+    {
+        let mut paths = Vec::with_capacity(alloc, self.paths.len())?;
+        for kept in &self.paths {
+            paths.push(kept.path_in(alloc, &self.set)?)?;
+        }
+        Ok(PathList::new(self.option, paths))
     }
 
     /// A copy of the answer if it was made for this request and of this set's segments, whatever
@@ -95,6 +135,6 @@ impl Entry {
         if !self.request.is_of(request) || !are_of_one(&self.set, set) {
             return None;
         }
-        Some(self.paths.try_clone(alloc))
+        Some(self.answer(alloc))
     }
 }

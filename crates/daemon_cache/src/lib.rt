@@ -8,6 +8,7 @@
 mod daemon;
 mod entry;
 mod fault;
+mod kept;
 mod request;
 mod texts;
 
