@@ -1,14 +1,15 @@
 //! Single flights, and the sentences of refused runs.
 
-ghost use Rattle.std.specs.Prelude.{◌≡◌};
+ghost use Rattle.std.specs.Prelude.{◌≡◌, ◌<◌};
 
-use crate::network::{first, last, network};
+use crate::network::{first, last, middle, network};
 use forwarding::PacketLocation;
 use inbox::Inbox;
+use isd_as::IsdAs;
 use network_core::{EventFault, Net};
 use refusal::OrMemory;
 use refusing::Shortage;
-use router_workers::{Flight, RunFault};
+use router_workers::{Flight, RunFault, worker_of};
 use scion_topology::{Topology, TopologyFault};
 use std::alloc::{AllocError, Global};
 use std::test::Fail;
@@ -81,6 +82,33 @@ fn an_inbox_of_one_place_hands_the_second_flight_back(rt: HostRuntime) -> Result
     let out = inbox.pop(&rt, &mut receiver);
     assert_eq!(rt; out.map(|flight| flight.turns()), Some(0));
     assert!(rt; inbox.pop(&rt, &mut receiver).is_none());
+    Ok(())
+}
+
+/// The number of the worker for a router, if the topology lists its AS.
+fn worker_number(topology: &Topology, ia: IsdAs, router: u8, workers: usize) -> Option<usize>
+    requires { 0 < workers }
+{
+    match topology.as_info(ia) {
+        Ok(_) => Some(worker_of(topology, ia, router, workers)),
+        Err(_) => None,
+    }
+}
+
+/// The place of the AS in the list, plus the router, modulo the workers.
+#[test]
+fn routers_of_an_as_have_workers_in_a_row(rt: HostRuntime) -> Result<(), Fail> {
+    let topology = Topology::from_json(rt.alloc(), row().as_bytes())?;
+    let rows = [
+        (first(), 0, 0),
+        (middle(), 0, 1),
+        (middle(), 1, 2),
+        (last(), 0, 2),
+        (last(), 1, 0),
+    ];
+    for (ia, router, worker) in rows {
+        assert_eq!(rt; worker_number(&topology, ia, router, 3), Some(worker));
+    }
     Ok(())
 }
 
