@@ -37,7 +37,7 @@ const CUT: &str =
     a2a3a4a5";
 
 /// The words of a turn at this second.
-fn words<'a>(now: &'a str, from: &'a str, interface: &'a str) -> [&'a str; 12] {
+pub(crate) fn words<'a>(now: &'a str, from: &'a str, interface: &'a str) -> [&'a str; 12] {
     let [step, ia, address, router, number, key, hex] = FRONT;
     [
         step, ia, address, router, number, key, hex, "--now", now, "--from", from, interface,

@@ -1,3 +1,4 @@
+use crate::step::words;
 use commands::{CommandFault, Status, WordsFault, end, run};
 use std::alloc::Global;
 use std::io;
@@ -8,21 +9,8 @@ use std::thread::Threads;
 use streams::{Reader, Writer};
 
 /// The words of a router's turn with a packet of a host, at this second.
-fn words<'a>(now: &'a str) -> [&'a str; 12] {
-    [
-        "step",
-        "--ia",
-        "1-ff00:0:111",
-        "--router",
-        "0",
-        "--key",
-        "6b",
-        "--now",
-        now,
-        "--from",
-        "host",
-        "2,parent,0,up",
-    ]
+fn host_words<'a>(now: &'a str) -> [&'a str; 12] {
+    words(now, "host", "2,parent,0,up")
 }
 
 /// A packet of two hops that expired at second 21700, in hexadecimal.
@@ -133,7 +121,7 @@ fn ran_into<T: Threads + Wait + Sync, W: Write + Drop>(rt: &T, alloc: Global, ou
     let status = run(
         rt,
         alloc,
-        &words("21701"),
+        &host_words("21701"),
         &mut source,
         &mut sink,
         &mut errors,
@@ -151,11 +139,16 @@ fn bad_words(rt: HostRuntime) -> Result<(), Fail> {
     let no_number = ran(
         &rt,
         rt.alloc(),
-        &words("soon"),
+        &host_words("soon"),
         Broken(io::ErrorKind::Other),
     );
     assert!(rt; no_number.is_refused_with("invalid value 'soon' for '--now <T>'"));
-    let signed = ran(&rt, rt.alloc(), &words("+1"), Broken(io::ErrorKind::Other));
+    let signed = ran(
+        &rt,
+        rt.alloc(),
+        &host_words("+1"),
+        Broken(io::ErrorKind::Other),
+    );
     assert!(rt; signed.is(2, "", "scionet: usage\n"));
     let nothing = ran(&rt, rt.alloc(), &["--"], Broken(io::ErrorKind::Other));
     assert!(rt; nothing.is(2, "", "scionet: usage\n"));
@@ -191,16 +184,16 @@ fn bad_streams(rt: HostRuntime) -> Result<(), Fail> {
     let broken = ran(
         &rt,
         rt.alloc(),
-        &words("21701"),
+        &host_words("21701"),
         Broken(io::ErrorKind::Other),
     );
     assert!(rt; broken.is(1, "", read_failed));
     let breaking = late_packet().chain(Broken(io::ErrorKind::Other));
-    assert!(rt; ran(&rt, rt.alloc(), &words("21701"), breaking).is(1, "", read_failed));
+    assert!(rt; ran(&rt, rt.alloc(), &host_words("21701"), breaking).is(1, "", read_failed));
     let no_memory = ran(
         &rt,
         rt.alloc(),
-        &words("21701"),
+        &host_words("21701"),
         Broken(io::ErrorKind::OutOfMemory),
     );
     assert!(rt; no_memory.is(1, "", read_failed));
@@ -216,18 +209,18 @@ fn long_input(rt: HostRuntime) -> Result<(), Fail> {
     let longest = ran(
         &rt,
         rt.alloc(),
-        &words("21701"),
+        &host_words("21701"),
         io::repeat(b' ').take(67_108_864),
     );
     assert!(rt; longest.is(0, "refused 90 BadHeader 20 Short\n", ""));
     let too_long = ran(
         &rt,
         rt.alloc(),
-        &words("21701"),
+        &host_words("21701"),
         io::repeat(b' ').take(67_108_865),
     );
     assert!(rt; too_long.is(1, "", "scionet: input too long\n"));
-    let endless = ran(&rt, rt.alloc(), &words("21701"), io::repeat(b'0'));
+    let endless = ran(&rt, rt.alloc(), &host_words("21701"), io::repeat(b'0'));
     assert!(rt; endless.is(1, "", "scionet: input too long\n"));
     Ok(())
 }
@@ -239,7 +232,9 @@ fn tried_again(rt: HostRuntime) -> Result<(), Fail> {
         bytes: late_packet(),
         is_over: false,
     };
-    assert!(rt; ran(&rt, rt.alloc(), &words("21701"), input).is(0, "refused 93 Expired\n", ""));
+    assert!(rt;
+        ran(&rt, rt.alloc(), &host_words("21701"), input).is(0, "refused 93 Expired\n", "")
+    );
     Ok(())
 }
 
