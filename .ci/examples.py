@@ -1,7 +1,8 @@
 #!/usr/bin/env python3
-"""Writes the topologies of `examples/` wherever else they stand: the inputs of stored runs and of
-`bench`, the texts of `worked`, and the program `tour`. So a change of what a topology has is made
-by hand in `examples/` alone, and in what makes networks (`Drawing` of `worked`, and `bench`).
+"""Writes the topologies of `examples/` wherever else they stand: the inputs of stored runs, the
+texts of `worked`, and those of the programs' help, which have the first ASes of `row`. So a change
+of what a topology has is made by hand in `examples/` alone, and in what makes networks (`Drawing`
+of `worked`). The inputs are files of their own, since `rt ci` refuses links.
 
 With --check it compares, and ends with 1 where another text stands."""
 import json
@@ -10,18 +11,19 @@ import sys
 from pathlib import Path
 
 NAMES = "row", "pair", "fork"
+WORKED = "crates/worked/src/networks.rt"
 
-# Files with a line that is a topology, perhaps behind a word, and which one it is.
-LINES = {
-    "crates/scionet/stdin": "row",
-    "crates/scionet_view/stdin": "row",
-    "crates/bench/inputs/row.txt": "row",
-    "crates/bench/inputs/pair.txt": "pair",
+# The inputs whose first line is the topology of `row`.
+INPUTS = ["crates/scionet/stdin", "crates/scionet_view/stdin"]
+
+# The texts of help, and how many of the first ASes of `row` each topology in them has.
+HELP = {
+    "crates/commands/src/words.rt": [1, 2, 2],
+    "crates/scionet_view/src/words.rt": [1, 2, 1, 1],
 }
-WORKED, TOUR = "crates/worked/src/networks.rt", "crates/tour/src/main.rt"
 
-LINE = re.compile(r'^((?:topology )?)\{"ases":.*$', re.M)
-LITERAL = re.compile(r'(?<=r#")\{"ases":.*?(?="#;)', re.S)
+FUNCTION = re.compile(r"(?<=pub fn )(\w+)(\(\) -> &'static str \{\n).*?(?=\}\n)", re.S)
+HELPED = re.compile(r"(?<=')\{\\\"ases\\\":.*?\}(?=')", re.S)
 BREAK = re.compile(r'(?<=\},)(?=\{)|(?<=\},)(?="b")|(?<=\],)(?="links")')
 
 
@@ -30,43 +32,47 @@ def topology(name):
     return Path(f"examples/{name}.txt").read_text(encoding="utf-8").partition("\n")[0]
 
 
+def first_of_row(count):
+    """The network of the first ASes of `row`, and of the links between them."""
+    row = json.loads(topology("row"))
+    first = {"ases": row["ases"][:count], "links": row["links"][: count - 1]}
+    return json.dumps(first, separators=(",", ":"))
+
+
 def as_function(name):
     """A function's body in Rust that is this topology, broken between ASes and ends of links."""
     parts = "".join(f'        r#"{part}"#,\n' for part in BREAK.split(topology(name)))
     return f"    concat!(\n{parts}    )\n"
 
 
-def as_lines(name):
-    """The topology with a line for each AS and each end of a link."""
-    text = re.sub(r"\[(?=\{)", "[\n", "\n".join(BREAK.split(topology(name))))
-    return text.replace('\n"b"', '\n "b"')
+def as_help(count):
+    """The first ASes of `row` within a text of help, broken at the same places."""
+    return "\\\n".join(BREAK.split(first_of_row(count))).replace('"', '\\"')
 
 
 def written(path):
     """The text of a file with the topologies of `examples/` in it."""
     text = Path(path).read_text(encoding="utf-8")
-    if path == TOUR:
-        return LITERAL.sub(lambda _: as_lines("row"), text)
     if path == WORKED:
-        for name in "row", "pair":
-            body = re.compile(rf"(?<=pub fn {name}\(\) -> &'static str \{{\n).*?(?=\}}\n)", re.S)
-            text = body.sub(lambda _, name=name: as_function(name), text)
-        return text
-    return LINE.sub(lambda found: found[1] + topology(LINES[path]), text)
+        return FUNCTION.sub(lambda found: found[1] + found[2] + as_function(found[1]), text)
+    if path in INPUTS:
+        return topology("row") + "\n" + text.partition("\n")[2]
+    counts = iter(HELP[path])
+    return HELPED.sub(lambda _: as_help(next(counts)), text)
 
 
 def main():
     for name in NAMES:
         json.loads(topology(name))
-    others = [it for it in (*LINES, WORKED, TOUR)
-              if written(it) != Path(it).read_text(encoding="utf-8")]
+    files = [*INPUTS, WORKED, *HELP]
+    others = [it for it in files if written(it) != Path(it).read_text(encoding="utf-8")]
     for it in others:
         if "--check" in sys.argv:
             print(f"{it} has another topology than examples/: run .ci/examples.py")
         else:
             Path(it).write_text(written(it), encoding="utf-8")
             print(f"{it} written")
-    print(f"{len(LINES) + 2} files with topologies of examples/, {len(others)} others")
+    print(f"{len(files)} files with topologies of examples/, {len(others)} others")
     sys.exit(1 if others and "--check" in sys.argv else 0)
 
 

@@ -6,6 +6,7 @@ use path_segment::Segment;
 use router_step::Arrival;
 use std::alloc::Global;
 use std::io;
+use worked::{pair, row};
 
 /// A piece of a path: from one entry of a segment to another, in construction direction or against
 /// it.
@@ -56,7 +57,7 @@ impl Input {
     fn take(&mut self, alloc: Global, line: &str) -> Result<()> {
         let (tag, text) = line.split_once(' ').context("a line has a tag and a text")?;
         match tag {
-            "topology" => self.topology = text.to_string(alloc)?,
+            "topology" => self.topology = topology_of(text).to_string(alloc)?,
             "packet" => self.packet = hex::decode(alloc, text)?,
             "stop" => self.take_stop(text)?,
             "src" => self.source = IsdAs::parse(text)?,
@@ -78,6 +79,15 @@ impl Input {
         self.stops
             .push((IsdAs::parse(ia)?, router, arrival_of(way)?))?;
         Ok(())
+    }
+}
+
+/// The topology of this name among the examples, or the one that the text is.
+fn topology_of(text: &str) -> &str {
+    match text {
+        "row" => row(),
+        "pair" => pair(),
+        _ => text,
     }
 }
 

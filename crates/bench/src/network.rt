@@ -4,6 +4,7 @@
 ghost use Rattle.std.specs.Prelude.{◌<◌, ◌≤◌, ◌^◌};
 
 use std::alloc::{AllocError, Global};
+use worked::{Drawing, numbered, ring};
 
 /// The number of ASes of a network; they are numbered from 1.
 pub(crate) const ASES: u32 = 1024;
@@ -30,11 +31,6 @@ pub(crate) fn from(link: u32) -> u32
     link % ASES + 1
 }
 
-/// The AS at the second end of a link of the ring.
-fn to(link: u32) -> u32 {
-    from(link) % ASES + 1
-}
-
 /// The interface at the first end of a link.
 pub(crate) fn port(link: u32) -> u16 {
     (link % LINKS + 1) as u16
@@ -42,72 +38,36 @@ pub(crate) fn port(link: u32) -> u16 {
 
 /// The ring as JSON.
 pub(crate) fn text(alloc: Global) -> Result<String, AllocError> {
-    let mut text = String::from_str(alloc, r#"{"ases":["#)?;
-    for one in 1..=ASES {
-        push_as(&mut text, one, "true")?;
-    }
-    text.push_str(r#"],"links":["#)?;
-    for link in 0..LINKS {
-        push_link(&mut text, "core", link, from(link), to(link))?;
-    }
-    text.push_str("]}")?;
-    Ok(text)
+    ring(alloc, ASES, LINKS)
 }
 
 /// Two lines of children of AS 1, and a ring of the other ASes, as JSON. The links of the lines
 /// come first; a link's interface at the parent has a number one larger than its own.
 pub(crate) fn lines(alloc: Global) -> Result<String, AllocError> {
-    let mut text = String::from_str(alloc, r#"{"ases":["#)?;
-    for one in 1..=ASES {
-        let core = if one == 1 || one >= RING {
-            "true"
-        } else {
-            "false"
-        };
-        push_as(&mut text, one, core)?;
+    let mut drawing = Drawing::new(alloc);
+    for number in 1..=ASES {
+        drawing.add_as(numbered(number), number == 1 || number >= RING, "6b")?;
     }
-    text.push_str(r#"],"links":["#)?;
     for link in 0..SECOND_END - 1 {
         let child = link + 2;
         let parent = if child == FIRST_END + 1 { 1 } else { child - 1 };
-        push_link(&mut text, "child", link, parent, child)?;
+        add_link(&mut drawing, "child", link, parent, child)?;
     }
     for link in SECOND_END - 1..LINKS {
         let (one, other) = (link % (ASES - RING), (link + 1) % (ASES - RING));
-        push_link(&mut text, "core", link, RING + one, RING + other)?;
+        add_link(&mut drawing, "core", link, RING + one, RING + other)?;
     }
-    text.push_str("]}")?;
-    Ok(text)
-}
-
-/// Adds an AS, which is core or not.
-fn push_as(text: &mut String, one: u32, core: &str) -> Result<(), AllocError> {
-    let comma = if one == 1 { "" } else { "," };
-    write!(
-        text,
-        r#"{comma}{{"ia":"1-{one}","core":{core},"exp":63,"key":"6b","routers":1}}"#
-    )
+    drawing.to_json(alloc)
 }
 
 /// Adds a link of a kind, from one AS to another.
-fn push_link(
-    text: &mut String,
+fn add_link(
+    drawing: &mut Drawing,
     kind: &str,
     link: u32,
     from: u32,
     to: u32,
 ) -> Result<(), AllocError> {
-    let comma = if link == 0 { "" } else { "," };
-    write!(text, r#"{comma}{{"kind":"{kind}""#)?;
-    push_end(text, 'a', from, u32::from(port(link)))?;
-    push_end(text, 'b', to, 10_000 + link % LINKS)?;
-    text.push_str("}")
-}
-
-/// Adds an end of a link.
-fn push_end(text: &mut String, name: char, one: u32, number: u32) -> Result<(), AllocError> {
-    write!(
-        text,
-        r#","{name}":{{"ia":"1-{one}","if":{number},"router":0}}"#
-    )
+    let first = (numbered(from), u32::from(port(link)));
+    drawing.add_link(kind, first, (numbered(to), 10_000 + link % LINKS))
 }

@@ -22,7 +22,7 @@ any other fault. The message about a fault goes to standard error.
 
 Example: a network of one AS, whose clock is set to second 1000; answered by 'topology ok' and 'ok'
   printf '%s\\n' \\
-    '{\"ases\":[{\"ia\":\"1-ff00:0:110\",\"core\":true,\"exp\":63,\"key\":\"6b\",\"routers\":1}],\
+    '{\"ases\":[{\"ia\":\"1-ff00:0:110\",\"core\":true,\"exp\":63,\"key\":\"6130\",\"routers\":1}],\
 \"links\":[]}' \\
     '{\"do\":\"tick\",\"now\":1000}' | scionet
 
@@ -65,10 +65,10 @@ a list of texts, and 'sequence', a text; or 'options', a list of objects with th
 
 Example: a packet from an AS to its parent, delivered in two turns
   printf '%s\\n' \\
-    '{\"ases\":[{\"ia\":\"1-ff00:0:110\",\"core\":true,\"exp\":63,\"key\":\"6b\",\"routers\":1},\
-{\"ia\":\"1-ff00:0:111\",\"core\":false,\"exp\":63,\"key\":\"6c\",\"routers\":1}],\
+    '{\"ases\":[{\"ia\":\"1-ff00:0:110\",\"core\":true,\"exp\":63,\"key\":\"6130\",\"routers\":1},\
+{\"ia\":\"1-ff00:0:111\",\"core\":false,\"exp\":63,\"key\":\"6131\",\"routers\":1}],\
 \"links\":[{\"kind\":\"child\",\"a\":{\"ia\":\"1-ff00:0:110\",\"if\":1,\"router\":0},\
-\"b\":{\"ia\":\"1-ff00:0:111\",\"if\":2,\"router\":0}}]}' \\
+\"b\":{\"ia\":\"1-ff00:0:111\",\"if\":1,\"router\":0}}]}' \\
     '{\"do\":\"tick\",\"now\":1000}' \\
     '{\"do\":\"originate\",\"ia\":\"1-ff00:0:110\",\"egress\":1,\"beta0\":4660}' \\
     '{\"do\":\"terminate\",\"beacon\":0,\"ia\":\"1-ff00:0:111\"}' \\
@@ -80,9 +80,9 @@ which is answered by
   ok
   beacon 0
   segment new
-  ask 0 1; 1-ff00:0:111#0,2 1-ff00:0:110#1,0
+  ask 0 1; 1-ff00:0:111#0,1 1-ff00:0:110#1,0
   packet 0
-  link 2
+  link 1
   delivered";
 
 /// The end of the long help of `work`.
@@ -98,10 +98,10 @@ dropped if an inbox has a place for each packet.
 
 Example: two packets from an AS to its parent, each delivered in two turns
   printf '%s\\n' \\
-    '{\"ases\":[{\"ia\":\"1-ff00:0:110\",\"core\":true,\"exp\":63,\"key\":\"6b\",\"routers\":1},\
-{\"ia\":\"1-ff00:0:111\",\"core\":false,\"exp\":63,\"key\":\"6c\",\"routers\":1}],\
+    '{\"ases\":[{\"ia\":\"1-ff00:0:110\",\"core\":true,\"exp\":63,\"key\":\"6130\",\"routers\":1},\
+{\"ia\":\"1-ff00:0:111\",\"core\":false,\"exp\":63,\"key\":\"6131\",\"routers\":1}],\
 \"links\":[{\"kind\":\"child\",\"a\":{\"ia\":\"1-ff00:0:110\",\"if\":1,\"router\":0},\
-\"b\":{\"ia\":\"1-ff00:0:111\",\"if\":2,\"router\":0}}]}' \\
+\"b\":{\"ia\":\"1-ff00:0:111\",\"if\":1,\"router\":0}}]}' \\
     '{\"do\":\"tick\",\"now\":1000}' \\
     '{\"do\":\"originate\",\"ia\":\"1-ff00:0:110\",\"egress\":1,\"beta0\":4660}' \\
     '{\"do\":\"terminate\",\"beacon\":0,\"ia\":\"1-ff00:0:111\"}' \\
@@ -114,7 +114,7 @@ which is answered by
   ok
   beacon 0
   segment new
-  ask 0 1; 1-ff00:0:111#0,2 1-ff00:0:110#1,0
+  ask 0 1; 1-ff00:0:111#0,1 1-ff00:0:110#1,0
   packet 0
   packet 1
   flight 0 delivered 2

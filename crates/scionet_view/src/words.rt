@@ -31,7 +31,7 @@ there is no such packet or path.
 
 Example: a network of one AS
   printf '%s\\n' \\
-    '{\"ases\":[{\"ia\":\"1-ff00:0:110\",\"core\":true,\"exp\":63,\"key\":\"6b\",\"routers\":1}],\
+    '{\"ases\":[{\"ia\":\"1-ff00:0:110\",\"core\":true,\"exp\":63,\"key\":\"6130\",\"routers\":1}],\
 \"links\":[]}' | scionet_view network | dot -Tsvg > network.svg";
 
 /// The end of the long help of `path`.
@@ -49,10 +49,10 @@ breaks it. 'no 133 NoAnswer' is printed if there is no such path.
 
 Example: a packet from an AS to its parent
   printf '%s\\n' \\
-    '{\"ases\":[{\"ia\":\"1-ff00:0:110\",\"core\":true,\"exp\":63,\"key\":\"6b\",\"routers\":1},\
-{\"ia\":\"1-ff00:0:111\",\"core\":false,\"exp\":63,\"key\":\"6c\",\"routers\":1}],\
+    '{\"ases\":[{\"ia\":\"1-ff00:0:110\",\"core\":true,\"exp\":63,\"key\":\"6130\",\"routers\":1},\
+{\"ia\":\"1-ff00:0:111\",\"core\":false,\"exp\":63,\"key\":\"6131\",\"routers\":1}],\
 \"links\":[{\"kind\":\"child\",\"a\":{\"ia\":\"1-ff00:0:110\",\"if\":1,\"router\":0},\
-\"b\":{\"ia\":\"1-ff00:0:111\",\"if\":2,\"router\":0}}]}' \\
+\"b\":{\"ia\":\"1-ff00:0:111\",\"if\":1,\"router\":0}}]}' \\
     '{\"do\":\"tick\",\"now\":1000}' \\
     '{\"do\":\"originate\",\"ia\":\"1-ff00:0:110\",\"egress\":1,\"beta0\":4660}' \\
     '{\"do\":\"terminate\",\"beacon\":0,\"ia\":\"1-ff00:0:111\"}' \\
@@ -62,7 +62,7 @@ Example: a packet from an AS to its parent
 which begins with
   piece 0 up from 1-ff00:0:111 to 1-ff00:0:110
   kind U
-  walk 1-ff00:0:111#0,2 1-ff00:0:110#1,0
+  walk 1-ff00:0:111#0,1 1-ff00:0:110#1,0
   live up to second 22600";
 
 /// The end of the long help of `beacons`.
@@ -75,7 +75,7 @@ interfaces. So each AS below a core AS gets segments from it, and so does each o
 
 Example: the segments of a network of one AS, of which there are none
   printf '%s\\n' \\
-    '{\"ases\":[{\"ia\":\"1-ff00:0:110\",\"core\":true,\"exp\":63,\"key\":\"6b\",\"routers\":1}],\
+    '{\"ases\":[{\"ia\":\"1-ff00:0:110\",\"core\":true,\"exp\":63,\"key\":\"6130\",\"routers\":1}],\
 \"links\":[]}' | scionet_view beacons | scionet run";
 
 /// The end of the long help of `explain`.
@@ -87,11 +87,11 @@ has. Nothing is said of lines that are right.
 
 Example: a key with an odd number of digits
   printf '%s\\n' \\
-    '{\"ases\":[{\"ia\":\"1-ff00:0:110\",\"core\":true,\"exp\":63,\"key\":\"6\",\"routers\":1}],\
-\"links\":[]}' | scionet_view explain
+    '{\"ases\":[{\"ia\":\"1-ff00:0:110\",\"core\":true,\"exp\":63,\"key\":\"6130\",\"routers\":1}],\
+\"links\":[]}' | sed s/6130/613/ | scionet_view explain
 which prints
-  line 1: topology no 11 BadField: ases[0].key: found \"6\", wanted an even number of hexadecimal \
-digits for 1 to 64 bytes";
+  line 1: topology no 11 BadField: ases[0].key: found \"613\", wanted an even number of \
+hexadecimal digits for 1 to 64 bytes";
 
 /// What a view of a network is about. Its numbers are those of `scionet run`, from 0.
 #[derive(Clone, Copy)]
