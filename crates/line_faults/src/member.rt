@@ -19,12 +19,17 @@ const LONG: Form = Form::Whole(0, 4_294_967_295);
 /// The members of a topology.
 pub(crate) static TOPOLOGY: [Member; 2] = [Member("ases", Form::List), Member("links", Form::List)];
 
-/// The members of an AS.
+/// The members of an AS; docs/lines.md has what is said of each.
 pub(crate) static AS: [Member; 5] = [
+    // its address; neither the ISD nor the AS number is 0
     Member("ia", Form::AsAddress),
+    // `true` for a core AS, `false` for any other
     Member("core", Form::Truth),
+    // 0 to 255: its hops live for (`exp` + 1) times 337.5 seconds
     Member("exp", BYTE),
+    // its key for authenticators, 1 to 64 bytes
     Member("key", Form::Key),
+    // the number of its routers, 1 to 64; they are numbered from 0
     Member("routers", Form::Whole(1, 64)),
 ];
 
