@@ -3,14 +3,10 @@
 use crate::form::Form;
 use crate::found::{Place, push_misfit, push_wanted};
 use crate::history::text_of;
-use crate::member::members_of;
+use crate::member::{LineWords, members_of};
 use crate::policy::push_bad_form;
 use serde_json::Value;
 use std::alloc::AllocError;
-
-/// The words of lines.
-static WORDS: &str = "one of tick, originate, extend, terminate, sweep, ask, send, back, turn, \
-lose, alter, cut, mend, rotate and show";
 
 /// Adds why a line has none of the forms of lines: the first of its members, in the order in which
 /// they are read, that is missing or has not its form.
@@ -21,11 +17,11 @@ pub(crate) fn push_bad_line(why: &mut String, line: &Value) -> Result<(), AllocE
     }
     let Some(word) = text_of(line, "do") else {
         why.push_str("do")?;
-        return push_wanted(why, line.get("do"), &WORDS);
+        return push_wanted(why, line.get("do"), &LineWords);
     };
     let Some(members) = members_of(word) else {
         why.push_str("do")?;
-        return push_wanted(why, line.get("do"), &WORDS);
+        return push_wanted(why, line.get("do"), &LineWords);
     };
     if word == "ask" && push_bad_form(why, line)? {
         return Ok(());

@@ -2,6 +2,7 @@
 
 use crate::form::Form;
 use serde_json::Value;
+use std::fmt;
 
 /// A member that an object is to have: its name and its form.
 #[derive(Clone, Copy)]
@@ -48,50 +49,50 @@ pub(crate) static END: [Member; 3] = [
 ];
 
 /// The members of an event that is about a packet alone.
-static PACKET: [Member; 1] = [Member("packet", LONG)];
+const PACKET: [Member; 1] = [Member("packet", LONG)];
 
 /// The members of `cut` and `mend`.
-static LINK_AT: [Member; 2] = [Member("ia", Form::Address), Member("if", SHORT)];
+const LINK_AT: [Member; 2] = [Member("ia", Form::Address), Member("if", SHORT)];
 
-static TICK: [Member; 1] = [Member("now", LONG)];
+const TICK: [Member; 1] = [Member("now", LONG)];
 
-static ORIGINATE: [Member; 3] = [
+const ORIGINATE: [Member; 3] = [
     Member("ia", Form::Address),
     Member("egress", SHORT),
     Member("beta0", SHORT),
 ];
 
-static EXTEND: [Member; 3] = [
+const EXTEND: [Member; 3] = [
     Member("beacon", LONG),
     Member("ia", Form::Address),
     Member("egress", SHORT),
 ];
 
-static TERMINATE: [Member; 2] = [Member("beacon", LONG), Member("ia", Form::Address)];
+const TERMINATE: [Member; 2] = [Member("beacon", LONG), Member("ia", Form::Address)];
 
-static SWEEP: [Member; 0] = [];
+const SWEEP: [Member; 0] = [];
 
-static ASK: [Member; 3] = [
+const ASK: [Member; 3] = [
     Member("src", Form::Address),
     Member("dst", Form::Address),
     Member("limit", LONG),
 ];
 
-static SEND: [Member; 3] = [
+const SEND: [Member; 3] = [
     Member("payload", Form::Bytes),
     Member("ask", LONG),
     Member("path", LONG),
 ];
 
-static BACK: [Member; 2] = [Member("payload", Form::Bytes), Member("packet", LONG)];
+const BACK: [Member; 2] = [Member("payload", Form::Bytes), Member("packet", LONG)];
 
-static ALTER: [Member; 3] = [
+const ALTER: [Member; 3] = [
     Member("packet", LONG),
     Member("at", LONG),
     Member("xor", BYTE),
 ];
 
-static ROTATE: [Member; 2] = [Member("key", Form::Bytes), Member("ia", Form::Address)];
+const ROTATE: [Member; 2] = [Member("key", Form::Bytes), Member("ia", Form::Address)];
 
 /// The member with the word of an event.
 pub(crate) static EVENT: [Member; 1] = [Member("do", Form::Text)];
@@ -111,24 +112,47 @@ pub(crate) static OPTION: [Member; 3] = [
     Member("sequence", Form::Text),
 ];
 
-/// The members of the line with this word, in the order in which they are read; `None` if there is
-/// no such word. The policy of a request is not among them.
+/// The words of lines, and the members that a line with the word has, in the order in which they are
+/// read. The policy of a request is not among them.
+static LINES: [(&str, &[Member]); 15] = [
+    ("tick", &TICK),
+    ("originate", &ORIGINATE),
+    ("extend", &EXTEND),
+    ("terminate", &TERMINATE),
+    ("sweep", &SWEEP),
+    ("ask", &ASK),
+    ("send", &SEND),
+    ("back", &BACK),
+    ("turn", &PACKET),
+    ("lose", &PACKET),
+    ("alter", &ALTER),
+    ("cut", &LINK_AT),
+    ("mend", &LINK_AT),
+    ("rotate", &ROTATE),
+    ("show", &PACKET),
+];
+
+/// The members of the line with this word; `None` if there is no such word.
 pub(crate) fn members_of(word: &str) -> Option<&'static [Member]> {
-    Some(match word {
-        "tick" => &TICK,
-        "originate" => &ORIGINATE,
-        "extend" => &EXTEND,
-        "terminate" => &TERMINATE,
-        "sweep" => &SWEEP,
-        "ask" => &ASK,
-        "send" => &SEND,
-        "back" => &BACK,
-        "turn" | "lose" | "show" => &PACKET,
-        "alter" => &ALTER,
-        "cut" | "mend" => &LINK_AT,
-        "rotate" => &ROTATE,
-        _ => return None,
-    })
+    LINES.iter().find(|line| line.0 == word).map(|line| line.1)
+}
+
+/// Any of the words of lines.
+pub(crate) struct LineWords;
+
+impl fmt::Display for LineWords {
+    fn fmt<W: fmt::Write>(&self, f: &mut fmt::Formatter<W>) -> fmt::Result {
+        f.write_str("one of ")?;
+        for (place, (word, _)) in LINES.iter().enumerate() {
+            if place + 1 == LINES.len() {
+                f.write_str(" and ")?;
+            } else if place > 0 {
+                f.write_str(", ")?;
+            }
+            f.write_str(word)?;
+        }
+        Ok(())
+    }
 }
 
 /// The first of these members that the object does not have in its form.
