@@ -2,7 +2,7 @@
 
 use beaconing::BeaconFault;
 use combinator::CombineFault;
-use network_core::EventFault;
+use network_core::OWN_FAULTS;
 use path_server::StoreFault;
 use path_verifier::VerifyFault;
 use policy_expr::{Denied, OptionFault, PolicyFault};
@@ -72,20 +72,6 @@ static PATH: [VerifyFault; 13] = [
     VerifyFault::SequenceMismatch,
 ];
 
-/// The refusals of an event that are its own.
-static EVENT: [EventFault; 10] = [
-    EventFault::NoPacket,
-    EventFault::NotInFlight,
-    EventFault::NoBeacon,
-    EventFault::NoAnswer,
-    EventFault::TimeBack,
-    EventFault::PayloadTooLong,
-    EventFault::BadOffset,
-    EventFault::BadLimit,
-    EventFault::TooMany,
-    EventFault::NotDelivered,
-];
-
 /// Adds the sentence of the fault of this number, if it is among them.
 fn push_among<F: NumberedFault>(
     why: &mut String,
@@ -110,6 +96,6 @@ pub(crate) fn push_sentence(why: &mut String, code: u16) -> Result<(), AllocErro
         67 => push_among(why, &OPTION, code),
         70..=82 => push_among(why, &PATH, code),
         85 => push_among(why, &COMBINATION, code),
-        _ => push_among(why, &EVENT, code),
+        _ => push_among(why, &OWN_FAULTS, code),
     }
 }

@@ -62,6 +62,20 @@ pub enum EventFault {
     NotDelivered,
 }
 
+/// The refusals that are an event's own, and not passed on from a crate below.
+pub static OWN_FAULTS: [EventFault; 10] = [
+    EventFault::NoPacket,
+    EventFault::NotInFlight,
+    EventFault::NoBeacon,
+    EventFault::NoAnswer,
+    EventFault::TimeBack,
+    EventFault::PayloadTooLong,
+    EventFault::BadOffset,
+    EventFault::BadLimit,
+    EventFault::TooMany,
+    EventFault::NotDelivered,
+];
+
 impl NumberedFault for EventFault {
     ghost code_and_name = { faults.code_and_name };
 

@@ -20,7 +20,7 @@ mod sending;
 mod way;
 
 pub use event::{Event, Given};
-pub use fault::EventFault;
+pub use fault::{EventFault, OWN_FAULTS};
 pub use limits::{MAX_OBJECTS, MAX_PAYLOAD_LEN};
 pub use net::Net;
 pub use packet::{Packet, Sent};
