@@ -1,6 +1,6 @@
 ghost use Rattle.std.specs.Prelude.{◌≡◌, is_some, option_map, Some};
 ghost use Rattle.network_core.specs.Delivery.{is_done};
-ghost use Rattle.network_core.specs.Seen as events;
+ghost use Rattle.network_core.specs.Event as events;
 ghost use Rattle.beacon_lines.specs.Beaconing.{network_event};
 
 use isd_as::{IfId, IsdAs};

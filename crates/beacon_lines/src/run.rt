@@ -2,7 +2,7 @@
 
 ghost use Rattle.std.specs.Prelude.{◌≡◌, IfOk, is_some, map, OnErr};
 ghost use Rattle.network_core.specs.declared.reply.Reply as replies;
-ghost use Rattle.network_core.specs.Seen.{event_value};
+ghost use Rattle.network_core.specs.Event.{event_value};
 ghost use Rattle.network_core.specs.Value.{new_net};
 ghost use Rattle.network_core.specs.Step.{Step};
 ghost use Rattle.network_core.specs.Delivery.{IsFramed, is_done};

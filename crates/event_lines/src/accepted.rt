@@ -1,7 +1,7 @@
 //! Which lines a run accepts.
 
 ghost use Rattle.std.specs.Prelude.{◌≡◌};
-ghost use Rattle.network_core.specs.Seen as events;
+ghost use Rattle.network_core.specs.Event as events;
 ghost use Rattle.event_lines.specs.AcceptedLines.{accepts, prepares};
 ghost use Rattle.event_lines.specs.inner.Seen.{line_value};
 

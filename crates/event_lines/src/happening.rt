@@ -7,7 +7,7 @@
 ghost use Rattle.std.specs.Prelude.{◌≡◌, [], OnOk, Some, option_map};
 ghost use Rattle.std.specs.String.{string_bytes};
 ghost use Rattle.json_fields.specs.Documents.{node_data};
-ghost use Rattle.network_core.specs.Seen as events;
+ghost use Rattle.network_core.specs.Event as events;
 ghost use Rattle.event_lines.specs.AcceptedLines.{accepted_as};
 ghost use Rattle.event_lines.specs.Line.{Happens, ask_in, back_in, line_in, line_with_word, plain_event, rotate_in, said_by, send_in, show_in};
 ghost use Rattle.event_lines.specs.inner.Seen.{line_value};

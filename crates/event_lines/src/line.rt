@@ -3,7 +3,7 @@
 
 ghost use Rattle.std.specs.Prelude.{◌≡◌, None, Some, codes, option_map};
 ghost use Rattle.json_fields.specs.Documents.{node_data};
-ghost use Rattle.network_core.specs.Seen as events;
+ghost use Rattle.network_core.specs.Event as events;
 ghost use Rattle.event_lines.specs.Line.{ask_in, back_in, bytes_at, options_in, plain_event, rotate_in, send_in, show_in, traffic_event};
 ghost use Rattle.event_lines.specs.inner.Seen.{line_value};
 

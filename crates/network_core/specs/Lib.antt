@@ -1,6 +1,5 @@
 pub mod Fault
 pub mod Event
-pub mod Seen
 pub mod Value
 pub mod AnsweredWay
 pub mod SentWay

@@ -1,7 +1,7 @@
 ghost use Rattle.std.specs.Prelude.{◌≡◌, IfOk, OnErr, option_map, slice_get};
 ghost use Rattle.network_core.specs.Delivery.{IsFramed};
 ghost use Rattle.network_core.specs.inner.Doing.{DoesEvent, KeepsPacket};
-ghost use Rattle.network_core.specs.Seen.{event_value};
+ghost use Rattle.network_core.specs.Event.{event_value};
 ghost use Rattle.network_core.specs.Step.{Step, TakesMemory};
 ghost use Rattle.network_core.specs.Value.{new_net};
 

@@ -1,7 +1,6 @@
 ghost use Rattle.std.specs.Prelude.{◌≡◌, IfErr, IfOk, Some, map, slice_get, take};
-ghost use Rattle.network_core.specs.Event.{EventValue};
+ghost use Rattle.network_core.specs.Event.{EventValue, event_value};
 ghost use Rattle.network_core.specs.Ran.{Ran};
-ghost use Rattle.network_core.specs.Seen.{event_value};
 ghost use Rattle.network_core.specs.Step.{TakesMemory};
 
 use crate::event::Event;

@@ -7,8 +7,7 @@ ghost use Rattle.forwarding.specs.Frame.{HasFrame};
 ghost use Rattle.network_core.specs.declared.fault.EventFault.TheVariants as faults;
 ghost use Rattle.network_core.specs.inner.Doing.{BeginsAt, DoesSend, JudgesEvent, Readies, ReadiesFrom};
 ghost use Rattle.network_core.specs.SentWay.{stored_way};
-ghost use Rattle.network_core.specs.Event.{BackOf, ByAnswer, ByWay};
-ghost use Rattle.network_core.specs.Seen.{way_of};
+ghost use Rattle.network_core.specs.Event.{BackOf, ByAnswer, ByWay, way_of};
 ghost use Rattle.network_core.specs.Value.{asked_at, way_on};
 ghost use Rattle.network_core.specs.Step.{header_back, packet_of, shipment_by};
 

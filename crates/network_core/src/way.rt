@@ -1,7 +1,7 @@
 //! Ways of shipments.
 
 ghost use Rattle.std.specs.Prelude.{◌≡◌, IfOk, IsSome, slice_get};
-ghost use Rattle.network_core.specs.Seen.{way_of};
+ghost use Rattle.network_core.specs.Event.{way_of};
 ghost use Rattle.network_core.specs.AnsweredWay.{way_numbered};
 ghost use Rattle.network_core.specs.SentWay.{stored_way};
 

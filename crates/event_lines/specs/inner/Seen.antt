@@ -1,5 +1,5 @@
 -- The values of lines (a word of private calls).
-use Rattle.network_core.specs.Seen as events
+use Rattle.network_core.specs.Event as events
 use Rattle.event_lines.specs.declared.line.Line.{Line}
 use Rattle.event_lines.specs.declared.line.Line.TheVariants as lines
 use Rattle.event_lines.specs.Line.{LineValue, Happens, Shows}

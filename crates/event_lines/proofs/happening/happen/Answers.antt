@@ -1,6 +1,6 @@
 use Rattle.std.proofs.Common.{◌≡◌}
 use Rattle.std.specs.String.{string_bytes}
-use Rattle.network_core.specs.Seen as events
+use Rattle.network_core.specs.Event as events
 use Rattle.event_lines.proofs.Telling.{event_answered}
 use Rattle.event_lines.proofs.happening.happen.Goals as goal
 use Rattle.event_lines.proofs.happening.happen.Goals.{in-Turned+in-Refused-1, in-Done-1}

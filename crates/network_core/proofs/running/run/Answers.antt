@@ -3,7 +3,7 @@ use Rattle.std.specs.Prelude.{option_map}
 use Rattle.std.proofs.lemmas.List.{map_more, take-map, take_all}
 use Rattle.std.proofs.lemmas.Option.{slice_get-map, slice_get_read}
 use Rattle.network_core.specs.Ran.{Ran}
-use Rattle.network_core.specs.Seen.{event_value}
+use Rattle.network_core.specs.Event.{event_value}
 use Rattle.network_core.specs.Step.{TakesMemory}
 use Rattle.network_core.proofs.Runs.{Goes, goes_none, goes_more, ran}
 use Rattle.network_core.proofs.running.run.Goals as goal

@@ -1,5 +1,5 @@
 use Rattle.std.proofs.Common.{map, take}
-use Rattle.network_core.specs.Seen.{event_value}
+use Rattle.network_core.specs.Event.{event_value}
 use Rattle.network_core.proofs.Runs.{Goes}
 use Rattle.network_core.proofs.running.run.Given as goal
 

@@ -2,7 +2,7 @@ use Rattle.std.proofs.Common.{◌≡◌, true, [], ◌∷◌, ◌++◌, cond, ma
 use Rattle.std.specs.Prelude.{is_ok, option_map}
 use Rattle.std.proofs.lemmas.Grind.{common_steps}
 use Rattle.std.proofs.lemmas.List.{map-append}
-use Rattle.network_core.specs.Seen.{event_value}
+use Rattle.network_core.specs.Event.{event_value}
 use Rattle.network_core.specs.Step.{Step}
 use Rattle.network_core.specs.Delivery.{IsFramed, is_done}
 use Rattle.beacon_lines.specs.Beaconing.{IsBeaconing, network_event}

@@ -1,5 +1,4 @@
-use Rattle.network_core.specs.Seen.{way_of}
-use Rattle.network_core.specs.Event.{ByWay}
+use Rattle.network_core.specs.Event.{ByWay, way_of}
 use Rattle.network_core.specs.Step.{shipment_by}
 use Rattle.network_core.proofs.Readied.{not_ready, ready_kept}
 use Rattle.network_core.proofs.net.Net.send_over.Goals as goal
