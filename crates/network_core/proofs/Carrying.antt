@@ -23,7 +23,7 @@ use Rattle.network_core.specs.declared.reply.Reply.{Reply}
 use Rattle.network_core.specs.declared.reply.Reply.TheVariants as replies
 use Rattle.network_core.specs.Event.{EventValue, Turn, Lose, Alter}
 use Rattle.network_core.specs.Value.{Shipment, PacketValue, NetValue}
-use Rattle.network_core.specs.Step.{Made, is_in_flight, flying_at, with_packet, turns, loses, alters, Leads, Step}
+use Rattle.network_core.specs.Step.{Made, is_in_flight, flying_at, with_packet, alter_check, turns, loses, alters, Leads, Step}
 use Rattle.network_core.specs.History.{EventRecord, IsHistory, net_after}
 use Rattle.network_core.specs.Delivery.{is_done, LetsGoOn, AllLetGoOn, is_turn_of, turns_of}
 use Rattle.network_core.proofs.Effects.{effect}
@@ -243,7 +243,7 @@ carried_on p sent total done old new (Alter q at change) reply is lets c =
       | inl same ↦ subst (λ (net : NetValue). Carried net p sent total done)
           (sym (not_done (alters old q at change) old new reply is
           (then_done (flying_at old q) _ (λ one.
-          then_done (check (ltb at (length one.packet.bytes)) faults.BadOffset) _ (λ _. refl)))
+          then_done (alter_check one.packet at) _ (λ _. refl)))
           (lets.unaltered at change (ap (λ k. Alter k at change) same)))) c
       | inr other ↦ carried_kept p sent total done old new (Alter q at change) reply is
           (kept p old new (Alter q at change) reply (slice_get_within old.packets p c.packet c.there) other is) c

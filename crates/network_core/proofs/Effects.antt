@@ -23,7 +23,7 @@ use Rattle.network_core.specs.declared.reply.Reply.{Reply}
 use Rattle.network_core.specs.declared.reply.Reply.TheVariants.{Begun, Registered, Answered}
 use Rattle.network_core.specs.Event.{EventValue, Tick, Originate, Extend, Terminate, Sweep, Ask, Send, Turn, Lose, Alter, CutLink, MendLink, RotateKey}
 use Rattle.network_core.specs.Value.{Shipment, PacketValue, NetValue, KeptAnswer}
-use Rattle.network_core.specs.Step.{Made, has_room, with_beacon, with_segment, new_segment, beacon_at, with_network, flying_at, options_asked, shipment_by, packet_of, Leads, Asks, Sends, Step, IsAnswerTo}
+use Rattle.network_core.specs.Step.{Made, has_room, tick_check, with_beacon, with_segment, new_segment, beacon_at, with_network, flying_at, alter_check, options_asked, shipment_by, packet_of, Leads, Asks, Sends, Step, IsAnswerTo}
 use Rattle.network_core.specs.Delivery.{is_done}
 
 -- ---- steps of a definition
@@ -338,7 +338,7 @@ asked old new reply src dst read limit (Ok options) are is =
 pub effect : (old new : NetValue) (event : EventValue) (reply : Reply) → Step old event reply new
     → Effect old event reply new
 effect old new (Tick to) reply is =
-    then_effect old new (Tick to) reply (check (leb old.moment to) faults.TimeBack) _
+    then_effect old new (Tick to) reply (tick_check old to) _
     (λ _ _ done. in_moment old new (Tick to) reply to done.1) is
 effect old new (Originate ia egress beta0) reply is =
     let event = Originate ia egress beta0 in
@@ -407,7 +407,7 @@ effect old new (Lose number) reply is =
 effect old new (Alter number at change) reply is =
     let event = Alter number at change in
     then_effect old new event reply (flying_at old number) _ (λ one flying.
-    then_effect old new event reply (check (ltb at (length one.packet.bytes)) faults.BadOffset) _ (λ _ _ done.
+    then_effect old new event reply (alter_check one.packet at) _ (λ _ _ done.
     moved old new event reply number one _ flying
     (inr (inr (record { at = at; change = change; event_is = refl; is = refl }))) done.1)) is
 effect old new (CutLink ia number) reply is =

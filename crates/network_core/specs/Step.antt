@@ -44,10 +44,14 @@ has_room objects = nat_lt (length objects) 1_000_000
 abbrev pub Made : Type 0
 Made = Result (Reply × NetValue) EventFault
 
--- the network's time goes on to `to`: TimeBack if that is earlier
+-- what is checked of a new time: TimeBack if it is earlier
+abbrev pub tick_check : NetValue → (to : ℕ) → Result (Unit {0}) EventFault
+tick_check net to = check (nat_le net.moment to) faults.TimeBack
+
+-- the network's time goes on to `to`
 abbrev pub ticks : NetValue → ℕ → Made
 ticks net to = do
-  _ ← check (nat_le net.moment to) faults.TimeBack
+  _ ← tick_check net to
   Ok (Done, record net { moment = to })
 
 -- the network with one more beacon: TooMany if it has a million already
@@ -173,11 +177,15 @@ loses net number = do
   one ← flying_at net number
   Ok (Done, with_packet net number one (lost_packet one.packet))
 
--- the network after a byte of a packet was changed by exclusive or: BadOffset
+-- what is checked of a change of a packet: BadOffset if it has no byte at this place
+abbrev pub alter_check : Packet → (at : ℕ) → Result (Unit {0}) EventFault
+alter_check packet at = check (nat_lt at (length packet.bytes)) faults.BadOffset
+
+-- the network after a byte of a packet was changed by exclusive or
 abbrev pub alters : (net : NetValue) (number at change : ℕ) → Made
 alters net number at change = do
   one ← flying_at net number
-  _ ← check (nat_lt at (length one.packet.bytes)) faults.BadOffset
+  _ ← alter_check one.packet at
   Ok (Done, with_packet net number one (altered_packet one.packet at change))
 
 -- ---- sending
