@@ -1,6 +1,6 @@
 -- What an event of a beaconing does: beacons and segments stay, and a segment that it ends is stored.
 use Rattle.std.proofs.Common.{◌≡◌, ℕ, zero, suc, Bool, true, false, List, [], ◌∷◌, ◌++◌, Contains, Option, Some, Result, Ok, Err, refl, sym, ap, ◌∙◌, subst, arith}
-use Rattle.std.specs.Prelude.{slice_get, nat_le, ok_or}
+use Rattle.std.specs.Prelude.{slice_get, ok_or}
 use Rattle.std.proofs.lemmas.List.Elements.{Contains-append_right}
 use Rattle.refusal.specs.Refusal.{◌>>=◌, check, refused_as}
 use Rattle.refusal.proofs.Steps.{ok_is, ok_or_ok}
@@ -12,9 +12,9 @@ use Rattle.path_server.specs.Store.{answer_to, with_registered, with_new, IsRegi
 use Rattle.path_server.proofs.Plain.{answer_is_plain, Contains-registered_kept}
 use Rattle.network_core.specs.declared.fault.EventFault.TheVariants as faults
 use Rattle.network_core.specs.declared.reply.Reply.{Reply}
-use Rattle.network_core.specs.Event.{EventValue, Tick, Originate, Extend, Terminate, Sweep, Ask, Send, Turn, Lose, Alter, CutLink, MendLink, RotateKey}
+use Rattle.network_core.specs.Event.{EventValue, Tick, Originate, Extend, Terminate}
 use Rattle.network_core.specs.Value.{NetValue}
-use Rattle.network_core.specs.Step.{Made, has_room, with_beacon, with_segment, beacon_at, new_segment, originates, extends, terminates, ticks, Leads, Step}
+use Rattle.network_core.specs.Step.{Made, has_room, tick_check, with_beacon, with_segment, beacon_at, new_segment, originates, extends, terminates, ticks, Leads, Step}
 use Rattle.network_core.specs.Delivery.{is_done}
 use Rattle.network_core.proofs.Effects.{both_done, done_below}
 use Rattle.beacon_lines.specs.Beaconing.{IsOfBeaconing, StaysStored}
@@ -86,18 +86,7 @@ ended_same old new beacon ia segment grows is =
 pub stays : (old new : NetValue) → Grows old new → (event : EventValue) → StaysStored old event → StaysStored new event
 stays old new grows (Terminate beacon ia) (segment, (is, there)) =
     (segment, (ended_same old new beacon ia segment grows is, grows.segments segment there))
-stays old new grows (Tick to) stored = tt
-stays old new grows (Originate ia egress beta) stored = tt
-stays old new grows (Extend beacon ia egress) stored = tt
-stays old new grows Sweep stored = tt
-stays old new grows (Ask src dst options limit) stored = tt
-stays old new grows (Send route payload) stored = tt
-stays old new grows (Turn packet) stored = tt
-stays old new grows (Lose packet) stored = tt
-stays old new grows (Alter packet at change) stored = tt
-stays old new grows (CutLink ia interface) stored = tt
-stays old new grows (MendLink ia interface) stored = tt
-stays old new grows (RotateKey ia key) stored = tt
+stays old new grows event stored = tt
 
 -- an end of a beacon
 ends : (old new : NetValue) (beacon ia : ℕ) (x : Reply × NetValue) → terminates old beacon ia ≡ Ok x → new ≡ x.1
@@ -131,7 +120,7 @@ pub grows : (old new : NetValue) (event : EventValue) (reply : Reply) → IsOfBe
     → Grows old new × StaysStored new event
 grows old new (Tick to) reply own is done =
     let made = led (ticks old to) old reply new is done in
-    let inner = both_done (check (nat_le old.moment to) faults.TimeBack) _ made.0 made.1.0 in
+    let inner = both_done (tick_check old to) _ made.0 made.1.0 in
     (after_tick old new to (made.1.1 ∙ ap (λ (p : Reply × NetValue). p.1) (sym (ok_is _ made.0 inner.1.1))), tt)
 grows old new (Originate ia egress beta) reply own is done =
     let made = led (originates old ia egress beta) old reply new is done in
@@ -144,15 +133,7 @@ grows old new (Extend beacon ia egress) reply own is done =
 grows old new (Terminate beacon ia) reply own is done =
     let made = led (terminates old beacon ia) old reply new is done in
     ends old new beacon ia made.0 made.1.0 made.1.1
-grows old new Sweep reply own is done = absurd own
-grows old new (Ask src dst options limit) reply own is done = absurd own
-grows old new (Send route payload) reply own is done = absurd own
-grows old new (Turn packet) reply own is done = absurd own
-grows old new (Lose packet) reply own is done = absurd own
-grows old new (Alter packet at change) reply own is done = absurd own
-grows old new (CutLink ia interface) reply own is done = absurd own
-grows old new (MendLink ia interface) reply own is done = absurd own
-grows old new (RotateKey ia key) reply own is done = absurd own
+grows old new event reply own is done = absurd own
 
 -- an event of a beaconing that is not done changes nothing
 unled : (made : Made) (old : NetValue) (reply : Reply) (new : NetValue) → Leads made old reply new
@@ -171,7 +152,7 @@ pub unchanged : (old new : NetValue) (event : EventValue) (reply : Reply) → Is
     → new ≡ old
 unchanged old new (Tick to) reply own is undone =
     unled (ticks old to) old reply new is undone (λ x made.
-    (let inner = both_done (check (nat_le old.moment to) faults.TimeBack) _ x made in
+    (let inner = both_done (tick_check old to) _ x made in
     ap (λ (p : Reply × NetValue). is_done p.0) (sym (ok_is _ x inner.1.1))))
 unchanged old new (Originate ia egress beta) reply own is undone =
     unled (originates old ia egress beta) old reply new is undone (λ x made.
@@ -184,12 +165,4 @@ unchanged old new (Terminate beacon ia) reply own is undone =
     (let outer = both_done (new_segment old beacon ia) (with_segment old) x made in
     let inner = both_done (refused_as faults.Store (answer_to old.segments outer.0 old.moment)) _ x outer.1.1 in
     ap (λ (p : Reply × NetValue). is_done p.0) (sym (ok_is _ x inner.1.1))))
-unchanged old new Sweep reply own is undone = absurd own
-unchanged old new (Ask src dst options limit) reply own is undone = absurd own
-unchanged old new (Send route payload) reply own is undone = absurd own
-unchanged old new (Turn packet) reply own is undone = absurd own
-unchanged old new (Lose packet) reply own is undone = absurd own
-unchanged old new (Alter packet at change) reply own is undone = absurd own
-unchanged old new (CutLink ia interface) reply own is undone = absurd own
-unchanged old new (MendLink ia interface) reply own is undone = absurd own
-unchanged old new (RotateKey ia key) reply own is undone = absurd own
+unchanged old new event reply own is undone = absurd own

@@ -1,27 +1,17 @@
 -- Which lines a run accepts.
 use Rattle.std.specs.Prelude.{Bool, true, false, if◌then◌else◌, Option, Some, None}
-use Rattle.network_core.specs.Event.{EventValue, Tick, Originate, Extend, Terminate, Sweep, Ask, ByAnswer, ByWay, BackOf, Send, Turn, Lose, Alter, CutLink, MendLink, RotateKey}
+use Rattle.network_core.specs.Event.{EventValue, BackOf, Send, Turn, Lose, Alter}
 use Rattle.event_lines.specs.declared.accepted.AcceptedLines.{AcceptedLines}
 use Rattle.event_lines.specs.declared.accepted.AcceptedLines.TheVariants.{All, Preparing}
 use Rattle.event_lines.specs.Line.{LineValue, Happens, Shows}
 
 -- whether an event prepares a network: it does not turn, lose, alter or answer a packet
 abbrev pub prepares : EventValue → Bool
-prepares (Tick to) = true
-prepares (Originate ia egress beta0) = true
-prepares (Extend beacon ia egress) = true
-prepares (Terminate beacon ia) = true
-prepares Sweep = true
-prepares (Ask src dst read limit) = true
-prepares (Send (ByAnswer ask path) payload) = true
-prepares (Send (ByWay way) payload) = true
-prepares (Send (BackOf packet) payload) = false
 prepares (Turn packet) = false
 prepares (Lose packet) = false
 prepares (Alter packet at change) = false
-prepares (CutLink ia interface) = true
-prepares (MendLink ia interface) = true
-prepares (RotateKey ia key) = true
+prepares (Send (BackOf packet) payload) = false
+prepares event = true
 
 -- whether a run accepts a line: every line, or only an event that prepares a network
 abbrev pub accepts : AcceptedLines → LineValue → Bool
