@@ -84,10 +84,14 @@ class Refusals:
                 if below := self.below(it, fault):
                     yield from self.of(it, below, route)
 
-    def of_event(self, event, route):
+    def passed_by(self, event, route):
+        """The refusals of an event in their order."""
         step = equations_of(self.specs.named("network_core/Step.Step"), event)
-        found = [*self.of(step, EVENT_FAULT, route)]
-        told = []
+        return [*self.of(step, EVENT_FAULT, route)]
+
+    def of_event(self, event, route):
+        """The same as text, with a refusal's number and name, or a type of which all may come."""
+        found, told = self.passed_by(event, route), []
         for kind, variant in found:
             if variant:
                 told.append("{} {}".format(*self.numbers[kind][variant]))
@@ -109,6 +113,15 @@ def events(specs):
             words[made[1], made[2]] = word
     order = specs.named("network_core/Event.EventValue").variants
     return sorted(words.items(), key=lambda it: order.index(it[0][0]))
+
+
+def words_by_type():
+    """The words of the events that are refused with faults of each type."""
+    found, words = Refusals(), {}
+    for (event, route), word in events(found.specs):
+        for kind in {it for it, _ in found.passed_by(event, route)}:
+            words.setdefault(kind, []).append(word)
+    return words
 
 
 def refusals():
@@ -141,4 +154,5 @@ def main():
         sys.exit(f"{PAGE} has another table than the source: run .ci/lines.py")
 
 
-main()
+if __name__ == "__main__":
+    main()

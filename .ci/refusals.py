@@ -49,7 +49,7 @@ Calls: `scion_step`, `scion_step_all`.
 """
 
 # The types of refusals by crate; the calls that pass them on by their numbers, and the lines that
-# are answered by them, which no signature says.
+# are answered by them, which no signature says: those that no definition of an event names.
 TYPES = {
     "isd_as": [("AddrFault", "", "")],
     "path_header": [
@@ -59,16 +59,10 @@ TYPES = {
             "`turn`, and `scionet step`, behind 90",
         )
     ],
-    "scion_topology": [
-        (
-            "TopologyFault",
-            "",
-            "the first, behind `topology`; `send`, `back`, `cut`, `mend`, `rotate`",
-        )
-    ],
+    "scion_topology": [("TopologyFault", "", "the first, behind `topology`; ")],
     "router_step": [("Refusal", "scion_step", "`turn`, `show`, `scionet step`, `work`")],
     "path_segment": [("SegmentFault", "scion_paths scion_verify", "")],
-    "path_server": [("StoreFault", "", "`terminate`")],
+    "path_server": [("StoreFault", "", "")],
     "segment_board": [("BoardFault", "", "")],
     "policy_expr": [
         (
@@ -77,12 +71,12 @@ TYPES = {
             " scion_paths scion_verify",
             "`ask`",
         ),
-        ("OptionFault", "Daemon::ask scion_paths", "`ask`"),
+        ("OptionFault", "Daemon::ask scion_paths", ""),
     ],
-    "path_verifier": [("VerifyFault", "scion_verify", "`send`, `back`")],
-    "combinator": [("CombineFault", "scion_paths", "`ask`")],
+    "path_verifier": [("VerifyFault", "scion_verify", "")],
+    "combinator": [("CombineFault", "scion_paths", "")],
     "daemon_cache": [("AskFault", "", "")],
-    "beaconing": [("BeaconFault", "", "`originate`, `extend`, `terminate`")],
+    "beaconing": [("BeaconFault", "", "")],
     "network_core": [("EventFault", "Net::step", "each of the events")],
     "router_workers": [("RunFault", "", "")],
     "scion_ffi_paths": [("RequestFault", "scion_paths scion_verify", "")],
@@ -184,6 +178,9 @@ def section(crate, type_name, calls, lines):
 
 def document():
     """The whole text."""
+    # It reads the numbers of refusals from here.
+    from lines import words_by_type
+
     specs = list(Path("crates").glob("*/specs/*.antt"))
     table = re.compile(r"^abbrev pub code_and_name : ", re.M)
     tables = {it.parts[1] for it in specs if table.search(it.read_text())}
@@ -194,10 +191,11 @@ def document():
     for number, name in (it for table in rows for it in table.values()):
         if names.setdefault(number, name) != name:
             sys.exit(f"{number} is {name} and {names[number]}")
-    calls, parts = calls_by_type(libraries()), []
+    calls, words, parts = calls_by_type(libraries()), words_by_type(), []
     for crate, types in TYPES.items():
         for name, _, lines in types:
-            parts += section(crate, name, calls[name], lines)
+            own = [] if name == "EventFault" else words.get(name, [])
+            parts += section(crate, name, calls[name], lines + ", ".join(f"`{it}`" for it in own))
     return FRONT + "\n".join(parts) + "\n" + BEHIND
 
 
