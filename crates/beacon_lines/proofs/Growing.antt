@@ -12,9 +12,10 @@ use Rattle.path_server.specs.Store.{answer_to, with_registered, with_new, IsRegi
 use Rattle.path_server.proofs.Plain.{answer_is_plain, Contains-registered_kept}
 use Rattle.network_core.specs.declared.fault.EventFault.TheVariants as faults
 use Rattle.network_core.specs.declared.reply.Reply.{Reply}
+use Rattle.network_core.specs.declared.reply.Reply.TheVariants.{Done}
 use Rattle.network_core.specs.Event.{EventValue, Tick, Originate, Extend, Terminate}
 use Rattle.network_core.specs.Value.{NetValue}
-use Rattle.network_core.specs.Step.{Made, has_room, tick_check, with_beacon, with_segment, beacon_at, new_segment, originates, extends, terminates, ticks, Leads, Step}
+use Rattle.network_core.specs.Step.{Made, has_room, with_beacon, with_segment, beacon_at, new_segment, originates, extends, terminates, ticks, Leads, Step}
 use Rattle.network_core.specs.Delivery.{is_done}
 use Rattle.network_core.proofs.Effects.{both_done, done_below}
 use Rattle.beacon_lines.specs.Beaconing.{IsOfBeaconing, StaysStored}
@@ -120,7 +121,7 @@ pub grows : (old new : NetValue) (event : EventValue) (reply : Reply) → IsOfBe
     → Grows old new × StaysStored new event
 grows old new (Tick to) reply own is done =
     let made = led (ticks old to) old reply new is done in
-    let inner = both_done (tick_check old to) _ made.0 made.1.0 in
+    let inner = both_done _ (λ _. Ok (Done, record old { moment = to })) made.0 made.1.0 in
     (after_tick old new to (made.1.1 ∙ ap (λ (p : Reply × NetValue). p.1) (sym (ok_is _ made.0 inner.1.1))), tt)
 grows old new (Originate ia egress beta) reply own is done =
     let made = led (originates old ia egress beta) old reply new is done in
@@ -152,7 +153,7 @@ pub unchanged : (old new : NetValue) (event : EventValue) (reply : Reply) → Is
     → new ≡ old
 unchanged old new (Tick to) reply own is undone =
     unled (ticks old to) old reply new is undone (λ x made.
-    (let inner = both_done (tick_check old to) _ x made in
+    (let inner = both_done _ (λ _. Ok (Done, record old { moment = to })) x made in
     ap (λ (p : Reply × NetValue). is_done p.0) (sym (ok_is _ x inner.1.1))))
 unchanged old new (Originate ia egress beta) reply own is undone =
     unled (originates old ia egress beta) old reply new is undone (λ x made.

@@ -1,5 +1,5 @@
 -- A packet on a path that is let through, event by event.
-use Rattle.std.proofs.Common.{◌≡◌, ℕ, zero, suc, ◌+◌, ◌<◌, ◌≤◌, ◌⊎◌, Bool, true, ltb, if◌then◌else◌, List, [], ◌∷◌, length, set, Some, Ok, Err, Result, refl, sym, ap, ◌∙◌, subst, arith, inl, inr}
+use Rattle.std.proofs.Common.{◌≡◌, ℕ, zero, suc, ◌+◌, ◌<◌, ◌≤◌, ◌⊎◌, Bool, true, if◌then◌else◌, List, [], ◌∷◌, length, set, Some, Ok, Err, Result, refl, sym, ap, ◌∙◌, subst, arith, inl, inr}
 use Rattle.std.proofs.lemmas.List.Sums.{sum_by-cons}
 use Rattle.std.specs.Prelude.{slice_get}
 use Rattle.std.specs.Option.{ok_or}
@@ -10,7 +10,7 @@ use Rattle.scion_topology.specs.Network.{Network}
 use Rattle.policy_expr.specs.declared.hop.WalkHop.{WalkHop}
 use Rattle.router_step.specs.declared.arrival.Arrival.{Arrival}
 use Rattle.router_step.specs.declared.arrival.Arrival.TheVariants.{FromHost, Inside, Link}
-use Rattle.forwarding.specs.Turn.{Packet, turn_of}
+use Rattle.forwarding.specs.Turn.{Packet, turn_of, altered_packet}
 use Rattle.forwarding.specs.Forwardable.{MayForward}
 use Rattle.forwarding.specs.OnPath.{OnPath, arrived_with}
 use Rattle.forwarding.specs.Journey.{to_come, turns_over, turns_left}
@@ -23,7 +23,7 @@ use Rattle.network_core.specs.declared.reply.Reply.{Reply}
 use Rattle.network_core.specs.declared.reply.Reply.TheVariants as replies
 use Rattle.network_core.specs.Event.{EventValue, Turn, Lose, Alter}
 use Rattle.network_core.specs.Value.{Shipment, PacketValue, NetValue}
-use Rattle.network_core.specs.Step.{Made, is_in_flight, flying_at, with_packet, alter_check, turns, loses, alters, Leads, Step}
+use Rattle.network_core.specs.Step.{Made, is_in_flight, flying_at, with_packet, turns, loses, alters, Leads, Step}
 use Rattle.network_core.specs.History.{EventRecord, IsHistory, net_after}
 use Rattle.network_core.specs.Delivery.{is_done, LetsGoOn, AllLetGoOn, is_turn_of, turns_of}
 use Rattle.network_core.proofs.Effects.{effect}
@@ -243,7 +243,7 @@ carried_on p sent total done old new (Alter q at change) reply is lets c =
       | inl same ↦ subst (λ (net : NetValue). Carried net p sent total done)
           (sym (not_done (alters old q at change) old new reply is
           (then_done (flying_at old q) _ (λ one.
-          then_done (alter_check one.packet at) _ (λ _. refl)))
+          then_done _ (λ _. Ok (replies.Done, with_packet old q one (altered_packet one.packet at change))) (λ _. refl)))
           (lets.unaltered at change (ap (λ k. Alter k at change) same)))) c
       | inr other ↦ carried_kept p sent total done old new (Alter q at change) reply is
           (kept p old new (Alter q at change) reply (slice_get_within old.packets p c.packet c.there) other is) c

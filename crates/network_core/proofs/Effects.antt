@@ -1,6 +1,6 @@
 -- What one event does to a network, part by part: to its topology, to its beacons and its store, to
 -- its answers, and to its packets. What goes over all events cites this.
-use Rattle.std.proofs.Common.{◌≡◌, ℕ, Bool, true, false, ltb, leb, ◌⊎◌, List, [], ◌∷◌, ◌++◌, length, Some, Result, Ok, Err, refl, sym, ap, ◌∙◌, inl, inr}
+use Rattle.std.proofs.Common.{◌≡◌, ℕ, Bool, true, false, ◌⊎◌, List, [], ◌∷◌, ◌++◌, length, Some, Result, Ok, Err, refl, sym, ap, ◌∙◌, inl, inr}
 use Rattle.std.specs.Prelude.{slice_get, slice_set}
 use Rattle.refusal.specs.Refusal.{◌>>=◌, check, refused_as}
 use Rattle.refusal.proofs.Steps.{ok_is, ok_or_ok}
@@ -20,10 +20,10 @@ use Rattle.combinator.specs.Fault.{ends_at}
 use Rattle.network_core.specs.declared.fault.EventFault.{EventFault}
 use Rattle.network_core.specs.declared.fault.EventFault.TheVariants as faults
 use Rattle.network_core.specs.declared.reply.Reply.{Reply}
-use Rattle.network_core.specs.declared.reply.Reply.TheVariants.{Begun, Registered, Answered}
+use Rattle.network_core.specs.declared.reply.Reply.TheVariants.{Done, Begun, Registered, Answered}
 use Rattle.network_core.specs.Event.{EventValue, Tick, Originate, Extend, Terminate, Sweep, Ask, Send, Turn, Lose, Alter, CutLink, MendLink, RotateKey}
 use Rattle.network_core.specs.Value.{Shipment, PacketValue, NetValue, KeptAnswer}
-use Rattle.network_core.specs.Step.{Made, has_room, tick_check, with_beacon, with_segment, new_segment, beacon_at, with_network, flying_at, alter_check, options_asked, shipment_by, packet_of, Leads, Asks, Sends, Step, IsAnswerTo}
+use Rattle.network_core.specs.Step.{Made, has_room, with_beacon, with_segment, new_segment, beacon_at, with_network, with_packet, flying_at, options_asked, shipment_by, packet_of, Leads, Asks, Sends, Step, IsAnswerTo}
 use Rattle.network_core.specs.Delivery.{is_done}
 
 -- ---- steps of a definition
@@ -338,7 +338,7 @@ asked old new reply src dst read limit (Ok options) are is =
 pub effect : (old new : NetValue) (event : EventValue) (reply : Reply) → Step old event reply new
     → Effect old event reply new
 effect old new (Tick to) reply is =
-    then_effect old new (Tick to) reply (tick_check old to) _
+    then_effect old new (Tick to) reply _ (λ _. Ok (Done, record old { moment = to }))
     (λ _ _ done. in_moment old new (Tick to) reply to done.1) is
 effect old new (Originate ia egress beta0) reply is =
     let event = Originate ia egress beta0 in
@@ -406,10 +406,10 @@ effect old new (Lose number) reply is =
     moved old new (Lose number) reply number one _ flying (inr (inl (refl, refl))) done.1) is
 effect old new (Alter number at change) reply is =
     let event = Alter number at change in
-    then_effect old new event reply (flying_at old number) _ (λ one flying.
-    then_effect old new event reply (alter_check one.packet at) _ (λ _ _ done.
-    moved old new event reply number one _ flying
-    (inr (inr (record { at = at; change = change; event_is = refl; is = refl }))) done.1)) is
+    then_effect old new event reply (flying_at old number) _ (λ one flying checked.
+    then_effect old new event reply _ (λ _. Ok (Done, with_packet old number one (altered_packet one.packet at change)))
+    (λ _ _ done. moved old new event reply number one (altered_packet one.packet at change) flying
+    (inr (inr (record { at = at; change = change; event_is = refl; is = refl }))) done.1) checked) is
 effect old new (CutLink ia number) reply is =
     in_network old new (CutLink ia number) reply (set_up false ia number old.network) is (λ done change.
     inr (inl (record { up = false; ia = ia; number = number; event_is = refl; done = done; change = change })))

@@ -44,14 +44,10 @@ has_room objects = nat_lt (length objects) 1_000_000
 abbrev pub Made : Type 0
 Made = Result (Reply × NetValue) EventFault
 
--- what is checked of a new time: TimeBack if it is earlier
-abbrev pub tick_check : NetValue → (to : ℕ) → Result (Unit {0}) EventFault
-tick_check net to = check (nat_le net.moment to) faults.TimeBack
-
--- the network's time goes on to `to`
+-- the network's time goes on to `to`: TimeBack if that is earlier
 abbrev pub ticks : NetValue → ℕ → Made
 ticks net to = do
-  _ ← tick_check net to
+  _ ← check (nat_le net.moment to) faults.TimeBack
   Ok (Done, record net { moment = to })
 
 -- the network with one more beacon: TooMany if it has a million already
@@ -177,15 +173,11 @@ loses net number = do
   one ← flying_at net number
   Ok (Done, with_packet net number one (lost_packet one.packet))
 
--- what is checked of a change of a packet: BadOffset if it has no byte at this place
-abbrev pub alter_check : Packet → (at : ℕ) → Result (Unit {0}) EventFault
-alter_check packet at = check (nat_lt at (length packet.bytes)) faults.BadOffset
-
--- the network after a byte of a packet was changed by exclusive or
+-- the network after a byte of a packet was changed by exclusive or: BadOffset
 abbrev pub alters : (net : NetValue) (number at change : ℕ) → Made
 alters net number at change = do
   one ← flying_at net number
-  _ ← alter_check one.packet at
+  _ ← check (nat_lt at (length one.packet.bytes)) faults.BadOffset
   Ok (Done, with_packet net number one (altered_packet one.packet at change))
 
 -- ---- sending
