@@ -26,7 +26,7 @@ use Rattle.refusal.specs.Refusal.{check, or_else}
 use Rattle.refusal.proofs.Steps.{bind_ok, check_ok, ok_or_ok, ok_is}
 use Rattle.scion_topology.specs.Keys.{key_in_use}
 use Rattle.beaconing.specs.Entry.{entry_by, added_by, kind_over, goes_on}
-use Rattle.beaconing.specs.Calls.{originated_beacon, last_of, come_to, is_new, entrance, extended_beacon, terminated_beacon}
+use Rattle.beaconing.specs.Calls.{originated_beacon, last_of, come_to, is_new, extended_beacon, terminated_beacon}
 use Rattle.beaconing.specs.Issued.{IsEntryOf, LeadsOn, IsMade, IsUnderWay, IsIssued}
 use Rattle.beaconing.proofs.Reaching.{ia_of_named, leads_on, core_goes_on}
 
@@ -226,32 +226,19 @@ rules_of_last : (es : List Entry) (e : Entry) → e.cons_ingress ≢ 0 → e.con
 unfolding last_fault
 rules_of_last es e some_in no_out new = rw (ne_eqb e.cons_ingress 0 some_in, no_out, new) refl
 
--- where a beacon arrives in an AS of which it has no entry
-pub record Arrives (n : Network) (b : Chain) (ia ingress : ℕ) : Type 0 where
-  pub comes : come_to n b ia ≡ Ok ingress
-  pub new : is_new b ia ≡ true
-
-pub arrives : (n : Network) (b : Chain) (ia ingress : ℕ) → entrance n b ia ≡ Ok ingress → Arrives n b ia ingress
-unfolding entrance
-arrives n b ia ingress found =
-    let s1 = bind_ok (come_to n b ia) _ ingress found in
-    let s2 = bind_ok (check (is_new b ia) Loop) _ ingress s1.2 in
-    record { comes = s1.1 ∙ s2.2; new = check_ok (is_new b ia) Loop s2.0 s2.1 }
-
 pub passed_on : (n : Network) (keys : List (List ℕ)) (b : Chain) (ia egress : ℕ) (one : AsEntry) (c : Chain)
     → IsNetwork n → IsUnderWay n keys b → as_named n.ases ia ≡ Some one → extended_beacon n b ia egress ≡ Ok c
     → IsUnderWay n (keys ++ (key_in_use one.keys ∷ [])) c
 unfolding extended_beacon
 passed_on n keys b ia egress one c network under named found =
     let s1 = bind_ok (ok_or (as_named n.ases ia) NotHere) _ c found in
-    let named_here = ok_or_ok (as_named n.ases ia) NotHere s1.0 s1.1 in
-    let same : s1.0 ≡ one = same_Some s1.0 one (sym named_here ∙ named) in
-    let s3 = bind_ok (entrance n b s1.0.ia) _ c s1.2 in
-    let ingress = s3.0 in
-    let arrival = arrives n b s1.0.ia ingress s3.1 in
-    let comes = Comes-come_to n b ia ingress network (ap (come_to n b) (sym (ia_of_named n.ases ia s1.0 named_here)) ∙ arrival.comes) in
+    let same : s1.0 ≡ one = same_Some s1.0 one (sym (ok_or_ok (as_named n.ases ia) NotHere s1.0 s1.1) ∙ named) in
+    let s2 = bind_ok (come_to n b ia) _ c s1.2 in
+    let ingress = s2.0 in
+    let comes = Comes-come_to n b ia ingress network s2.1 in
+    let s3 = bind_ok (check (is_new b s1.0.ia) Loop) _ c s2.2 in
     let new : list_any (λ entry. eqb entry.ia one.ia) b.entries ≡ false =
-    ap (λ (o : AsEntry). list_any (λ entry. eqb entry.ia o.ia) b.entries) (sym same) ∙ new_of b s1.0.ia arrival.new in
+    ap (λ (o : AsEntry). list_any (λ entry. eqb entry.ia o.ia) b.entries) (sym same) ∙ new_of b s1.0.ia (check_ok (is_new b s1.0.ia) Loop s3.0 s3.1) in
     let s4 = bind_ok (check (nat_lt (length b.entries) 62) TooLong) _ c s3.2 in
     let few = check_ok (nat_lt (length b.entries) 62) TooLong s4.0 s4.1 in
     let s5 = bind_ok (or_else NoInterface (interface_at n ia egress)) _ c s4.2 in
@@ -280,14 +267,13 @@ pub ended : (n : Network) (keys : List (List ℕ)) (b : Chain) (ia : ℕ) (one :
 unfolding terminated_beacon
 ended n keys b ia one s network under named found =
     let s1 = bind_ok (ok_or (as_named n.ases ia) NotHere) _ s found in
-    let named_here = ok_or_ok (as_named n.ases ia) NotHere s1.0 s1.1 in
-    let same : s1.0 ≡ one = same_Some s1.0 one (sym named_here ∙ named) in
-    let s3 = bind_ok (entrance n b s1.0.ia) _ s s1.2 in
-    let ingress = s3.0 in
-    let arrival = arrives n b s1.0.ia ingress s3.1 in
-    let comes = Comes-come_to n b ia ingress network (ap (come_to n b) (sym (ia_of_named n.ases ia s1.0 named_here)) ∙ arrival.comes) in
+    let same : s1.0 ≡ one = same_Some s1.0 one (sym (ok_or_ok (as_named n.ases ia) NotHere s1.0 s1.1) ∙ named) in
+    let s2 = bind_ok (come_to n b ia) _ s s1.2 in
+    let ingress = s2.0 in
+    let comes = Comes-come_to n b ia ingress network s2.1 in
+    let s3 = bind_ok (check (is_new b s1.0.ia) Loop) _ s s2.2 in
     let new : list_any (λ entry. eqb entry.ia one.ia) b.entries ≡ false =
-    ap (λ (o : AsEntry). list_any (λ entry. eqb entry.ia o.ia) b.entries) (sym same) ∙ new_of b s1.0.ia arrival.new in
+    ap (λ (o : AsEntry). list_any (λ entry. eqb entry.ia o.ia) b.entries) (sym same) ∙ new_of b s1.0.ia (check_ok (is_new b s1.0.ia) Loop s3.0 s3.1) in
     let e = added_by one b ingress 0 in
     let is : with_last b e ≡ s =
     ap (λ (o : AsEntry). with_last b (added_by o b ingress 0)) (sym same) ∙ ok_is _ s s3.2 in

@@ -11,13 +11,13 @@ use Rattle.scion_topology.specs.Network.{Network, as_named}
 use Rattle.scion_topology.specs.Topology.{IsNetwork, interface_at}
 use Rattle.path_segment.specs.declared.entry.Entry.{Entry}
 use Rattle.path_segment.specs.Chain.{Chain, chain_of, with_last}
-use Rattle.beaconing.specs.declared.fault.BeaconFault.TheVariants.{TooLong, NotCore, NoInterface, LinkDown, WrongKind, NotHere}
+use Rattle.beaconing.specs.declared.fault.BeaconFault.TheVariants.{TooLong, Loop, NotCore, NoInterface, LinkDown, WrongKind, NotHere}
 use Rattle.scion_topology.specs.Keys.{key_in_use}
 use Rattle.beaconing.specs.Entry.{key_in, entry_by, added_by, kind_over, goes_on}
-use Rattle.beaconing.specs.Calls.{originated_beacon, come_to, entrance, extended_beacon, terminated_beacon}
+use Rattle.beaconing.specs.Calls.{originated_beacon, come_to, is_new, extended_beacon, terminated_beacon}
 use Rattle.beaconing.specs.Issued.{IsUnderWay, IsIssued, keys_in_use, passed_through, Grows}
 use Rattle.beaconing.proofs.Reaching.{ia_of_named}
-use Rattle.beaconing.proofs.Issuing.{begun, ended, arrives}
+use Rattle.beaconing.proofs.Issuing.{begun, ended}
 use Rattle.beaconing.proofs.Issuing as calls
 
 -- ---- what a call adds
@@ -59,7 +59,8 @@ unfolding extended_beacon
 adds_next n b ia egress c found =
     let s1 = bind_ok (ok_or (as_named n.ases ia) NotHere) _ c found in
     let named = ok_or_ok (as_named n.ases ia) NotHere s1.0 s1.1 in
-    let s3 = bind_ok (entrance n b s1.0.ia) _ c s1.2 in
+    let s2 = bind_ok (come_to n b ia) _ c s1.2 in
+    let s3 = bind_ok (check (is_new b s1.0.ia) Loop) _ c s2.2 in
     let s4 = bind_ok (check (nat_lt (length b.entries) 62) TooLong) _ c s3.2 in
     let s5 = bind_ok (or_else NoInterface (interface_at n ia egress)) _ c s4.2 in
     let s6 = bind_ok (check (goes_on b.kind s5.0.kind) WrongKind) _ c s5.2 in
@@ -68,10 +69,10 @@ adds_next n b ia egress c found =
       one = s1.0;
       named = named;
       grows = record {
-        entry = added_by s1.0 b s3.0 egress;
+        entry = added_by s1.0 b s2.0 egress;
         of = ia_of_named n.ases ia s1.0 named;
-        came = ap (come_to n b) (sym (ia_of_named n.ases ia s1.0 named)) ∙ (arrives n b s1.0.ia s3.0 s3.1).comes;
-        is = sym (ok_is (with_last b (added_by s1.0 b s3.0 egress)) c s7.2);
+        came = s2.1;
+        is = sym (ok_is (with_last b (added_by s1.0 b s2.0 egress)) c s7.2);
       };
     }
 
@@ -80,15 +81,16 @@ unfolding terminated_beacon
 adds_last n b ia c found =
     let s1 = bind_ok (ok_or (as_named n.ases ia) NotHere) _ c found in
     let named = ok_or_ok (as_named n.ases ia) NotHere s1.0 s1.1 in
-    let s3 = bind_ok (entrance n b s1.0.ia) _ c s1.2 in
+    let s2 = bind_ok (come_to n b ia) _ c s1.2 in
+    let s3 = bind_ok (check (is_new b s1.0.ia) Loop) _ c s2.2 in
     record {
       one = s1.0;
       named = named;
       grows = record {
-        entry = added_by s1.0 b s3.0 0;
+        entry = added_by s1.0 b s2.0 0;
         of = ia_of_named n.ases ia s1.0 named;
-        came = ap (come_to n b) (sym (ia_of_named n.ases ia s1.0 named)) ∙ (arrives n b s1.0.ia s3.0 s3.1).comes;
-        is = sym (ok_is (with_last b (added_by s1.0 b s3.0 0)) c s3.2);
+        came = s2.1;
+        is = sym (ok_is (with_last b (added_by s1.0 b s2.0 0)) c s3.2);
       };
     }
 

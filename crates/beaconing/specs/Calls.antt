@@ -41,20 +41,13 @@ come_to n beacon ia = do
 unfoldable pub is_new : Chain → ℕ → Bool
 is_new beacon ia = not (list_any (λ entry. entry.ia == ia) beacon.entries)
 
--- the interface by which the beacon arrives in this AS, of which it has no entry yet: NotHere,
--- LinkDown, Loop
-unfoldable pub entrance : Network → Chain → ℕ → Result ℕ BeaconFault
-entrance n beacon ia = do
-  ingress ← come_to n beacon ia
-  _ ← check (is_new beacon ia) Loop
-  Ok ingress
-
 -- the beacon after an AS has passed it on over one of its links: NotHere, LinkDown for the way in,
 -- Loop, TooLong, NoInterface, WrongKind, LinkDown for the way out
 unfoldable pub extended_beacon : Network → Chain → (ia egress : ℕ) → Result Chain BeaconFault
 extended_beacon n beacon ia egress = do
   one ← ok_or (as_named n.ases ia) NotHere
-  ingress ← entrance n beacon one.ia
+  ingress ← come_to n beacon ia
+  _ ← check (is_new beacon one.ia) Loop
   _ ← check (nat_lt (length beacon.entries) 62) TooLong
   out ← or_else NoInterface (interface_at n ia egress)
   _ ← check (goes_on beacon.kind out.kind) WrongKind
@@ -65,5 +58,6 @@ extended_beacon n beacon ia egress = do
 unfoldable pub terminated_beacon : Network → Chain → ℕ → Result Chain BeaconFault
 terminated_beacon n beacon ia = do
   one ← ok_or (as_named n.ases ia) NotHere
-  ingress ← entrance n beacon one.ia
+  ingress ← come_to n beacon ia
+  _ ← check (is_new beacon one.ia) Loop
   Ok (with_last beacon (added_by one beacon ingress 0))

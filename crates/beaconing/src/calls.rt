@@ -1,10 +1,9 @@
-#![tactic(auto, unfolding(crate::specs::Calls::extended_beacon, crate::specs::Calls::entrance, crate::specs::Calls::originated_beacon, crate::specs::Calls::terminated_beacon, path_segment::specs::Rules::first_fault, path_segment::specs::Rules::last_fault, path_segment::specs::Rules::next_fault,))]
+#![tactic(auto, unfolding(crate::specs::Calls::extended_beacon, crate::specs::Calls::originated_beacon, crate::specs::Calls::terminated_beacon, path_segment::specs::Rules::first_fault, path_segment::specs::Rules::last_fault, path_segment::specs::Rules::next_fault,))]
 
-ghost use Rattle.std.specs.Prelude.{◌≡◌, ◌≢◌, ◌==◌, ◌∷◌, [], false, None, IfOk, OnOk};
-ghost use Rattle.std.specs.List.{list_any};
+ghost use Rattle.std.specs.Prelude.{◌≡◌, ◌∷◌, [], None, IfOk};
 ghost use Rattle.path_segment.specs.Chain.{Chain, with_last};
 ghost use Rattle.path_segment.specs.Rules.{first_fault, next_fault, last_fault};
-ghost use Rattle.beaconing.specs.Calls.{entrance, originated_beacon, extended_beacon, terminated_beacon};
+ghost use Rattle.beaconing.specs.Calls.{originated_beacon, extended_beacon, terminated_beacon};
 ghost use Rattle.refusal.specs.Refusal.{Answers, Gives};
 
 use crate::fault::{BeaconError, BeaconFault};
@@ -12,7 +11,7 @@ use crate::here::{added_by, come_to, entry_by, goes_on, is_new, kind_over, way_o
 use isd_as::{IfId, IsdAs};
 use path_segment::{Beacon, Entry, SegKind, Segment};
 use refusal::OrMemory;
-use scion_topology::{AsEntry, Topology};
+use scion_topology::Topology;
 use std::alloc::Global;
 
 /// The beacon that a core AS begins over one of its links, whose kind gives the beacon's.
@@ -120,20 +119,6 @@ fn first_entry(
     Ok((kind_over(out.kind), entry))
 }
 
-/// The interface by which a beacon arrives in an AS, of which it has no entry yet.
-fn entrance(topology: &Topology, beacon: &Beacon, one: &AsEntry) -> Result<IfId, BeaconFault>
-    ensures value { result ≡ entrance topology.now beacon.now one.now.ia }
-    ensures above { IfOk result (λ ingress. ingress ≢ 0) }
-    ensures clear { OnOk result
-        (list_any (λ entry. entry.ia == one.now.ia) beacon.now.entries ≡ false) }
-{
-    let ingress = come_to(topology, beacon, one.ia)?;
-    if !is_new(beacon, one.ia) {
-        return Err(BeaconFault::Loop);
-    }
-    Ok(ingress)
-}
-
 /// The entry by which an AS passes a beacon on.
 fn next_entry(
     topology: &Topology,
@@ -148,7 +133,10 @@ fn next_entry(
     let Ok(one) = topology.as_entry(ia) else {
         return Err(BeaconFault::NotHere);
     };
-    let ingress = entrance(topology, beacon, one)?;
+    let ingress = come_to(topology, beacon, ia)?;
+    if !is_new(beacon, one.ia) {
+        return Err(BeaconFault::Loop);
+    }
     if beacon.is_full() {
         return Err(BeaconFault::TooLong);
     }
@@ -171,6 +159,9 @@ fn last_entry(topology: &Topology, beacon: &Beacon, ia: IsdAs) -> Result<Entry, 
     let Ok(one) = topology.as_entry(ia) else {
         return Err(BeaconFault::NotHere);
     };
-    let ingress = entrance(topology, beacon, one)?;
+    let ingress = come_to(topology, beacon, ia)?;
+    if !is_new(beacon, one.ia) {
+        return Err(BeaconFault::Loop);
+    }
     Ok(added_by(one, beacon, ingress, IfId::NONE))
 }
