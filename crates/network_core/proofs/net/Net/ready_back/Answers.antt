@@ -1,4 +1,4 @@
-use Rattle.std.proofs.Common.{◌≤◌, List, length, ap, arith}
+use Rattle.std.proofs.Common.{List, length, ap, arith}
 use Rattle.path_verifier.specs.Piece.{PieceValue}
 use Rattle.path_verifier.proofs.Breaches.{path_kept}
 use Rattle.path_verifier.proofs.Lengths.{path_is_short}
