@@ -171,7 +171,7 @@ fn bad_words(rt: HostRuntime) -> Result<(), Fail> {
     );
     assert!(rt; help.is_refused_with("Usage: scionet run"));
     assert!(rt; help.is_refused_with("ask src dst limit"));
-    assert!(rt; help.is_refused_with("ask 0 1; 1-ff00:0:111#0,2 1-ff00:0:110#1,0"));
+    assert!(rt; help.is_refused_with("ask 0 1; 1-ff00:0:111#0,1 1-ff00:0:110#1,0"));
     let help = ran(&rt, rt.alloc(), &["--help"], Broken(io::ErrorKind::Other));
     assert!(rt; help.is_refused_with("'{\"do\":\"tick\",\"now\":1000}' | scionet"));
     Ok(())
