@@ -270,8 +270,8 @@ fn stop_behind(topology: &Topology, ia: IsdAs, out: IfId) -> Option<RouterStop>
     ensures { (packet : Packet) (stop : RouterStop)
         → over_link topology.now packet stop out (far_end_in topology.now ia out)
         ≡ option_map_or (λ next. record packet {
-            place = AtRouter next;
-            passed = with_passed_hop packet.passed (hop_by stop out);
+          place = AtRouter next;
+          passed = with_passed_hop packet.passed (hop_by stop out);
         }) result packet }
 {
     let Ok((far, number)) = topology.far_end(ia, out) else {
