@@ -17,10 +17,10 @@ use std::marker::Model;
 
 /// An answer, with the request and the segments of which it was made. An invariant of the type says
 /// that it answers that request, at a second at which all these segments are live. Its paths name
-/// these segments, and have none of their own: another thread than the one that made an entry
-/// mostly gives its memory back, and waits for each block that it gives back. It has no policy, so
-/// that threads may share it: for types that reach a policy's tree it is not proved that they may
-/// go to another thread.
+/// these segments and have no copies, so that an entry has few blocks of memory: mostly another
+/// thread took them than the one that gives them back, and then each may cost a wait. It has no
+/// policy, so that threads may share it: for types that reach a policy's tree it is not proved that
+/// they may go to another thread.
 #[derive(Drop)]
 pub(crate) struct Entry {
     request: KeptRequest,

@@ -112,8 +112,8 @@ pub(crate) static OPTION: [Member; 3] = [
     Member("sequence", Form::Text),
 ];
 
-/// The words of lines, and the members that a line with the word has, in the order in which they are
-/// read. The policy of a request is not among them.
+/// The words of lines, and the members that a line with the word has, in the order in which they
+/// are read. The policy of a request is not among them.
 static LINES: [(&str, &[Member]); 15] = [
     ("tick", &TICK),
     ("originate", &ORIGINATE),

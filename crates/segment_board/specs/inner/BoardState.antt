@@ -18,4 +18,5 @@ IsTied x = x.store ≡ store_of (newest x.front.log).operations
 
 -- after these operations the state is tied to its history, which continues the history before
 abbrev pub IsReady : BoardValue → List BoardOp → Type 0
-IsReady x ops = IsTied (fold board_after x ops) × ContinuesFrom x.front (fold board_after x ops).front
+IsReady x ops =
+    IsTied (fold board_after x ops) × ContinuesFrom x.front (fold board_after x ops).front
