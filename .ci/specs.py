@@ -5,7 +5,7 @@ import re
 
 START = re.compile(
     r"(?=abbrev |unfoldable |pub |record |data |\S+ : )"
-    r"(?:abbrev |unfoldable )?(?:pub )?(?:(?:record|data) )?([^\s:(]+)"
+    r"(?:abbrev |unfoldable )?(?:pub )?(?:(?:record|data|ruleset) )?([^\s:(]+)"
 )
 ITEM = (
     r"((?:^///.*\n)*)(?:^#\[.*\n)*"

@@ -26,13 +26,12 @@ pub(crate) struct BeaconRun {
 
 impl Model for BeaconRun {
     ghost use Rattle.std.specs.Prelude.{map};
-    ghost use Rattle.std.specs.Coded.{codes};
-    ghost use Rattle.policy_expr.specs.Code.{coded_tree};
+    ghost use Rattle.policy_expr.specs.Code.{policy_codes};
     ghost use Rattle.beacon_lines.specs.Beaconing.{BeaconRunValue, IsBeaconing, network_event};
 
     ghost Value = { BeaconRunValue };
 
-    ghost coded = { Prim.hlevel (codes, coded_tree) };
+    ghost coded = { Prim.hlevel policy_codes };
 
     ghost view = { λ r. record { net = r.net; events = map network_event r.events.items } };
 

@@ -17,13 +17,12 @@ pub(crate) struct PathRequest<'s, 'p, A: Allocator + Clone> {
 }
 
 impl<'s, 'p, A: Allocator + Clone> Model for PathRequest<'s, 'p, A> {
-    ghost use Rattle.std.specs.Coded.{codes};
-    ghost use Rattle.policy_expr.specs.Code.{coded_tree};
+    ghost use Rattle.policy_expr.specs.Code.{policy_codes};
     ghost use Rattle.combinator.specs.Candidate.{Question, question_of};
 
     ghost Value = { Question };
 
-    ghost coded = { Prim.hlevel (codes, coded_tree) };
+    ghost coded = { Prim.hlevel policy_codes };
 
     ghost view = { λ a. question_of a.set.now a.src a.dst a.policy.now };
 }

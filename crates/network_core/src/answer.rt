@@ -23,13 +23,12 @@ pub(crate) struct Answer {
 }
 
 impl Model for Answer {
-    ghost use Rattle.std.specs.Coded.{codes};
-    ghost use Rattle.policy_expr.specs.Code.{coded_tree};
+    ghost use Rattle.policy_expr.specs.Code.{policy_codes};
     ghost use Rattle.network_core.specs.Value.{KeptAnswer};
 
     ghost Value = { KeptAnswer };
 
-    ghost coded = { Prim.hlevel (codes, coded_tree) };
+    ghost coded = { Prim.hlevel policy_codes };
 
     ghost view = { λ a. record {
       source = a.source;
@@ -60,14 +59,13 @@ pub(crate) struct SharedAnswer {
 }
 
 impl Model for SharedAnswer {
-    ghost use Rattle.std.specs.Coded.{codes};
     ghost use Rattle.std.specs.Arc.{arc_value};
-    ghost use Rattle.policy_expr.specs.Code.{coded_tree};
+    ghost use Rattle.policy_expr.specs.Code.{policy_codes};
     ghost use Rattle.network_core.specs.Value.{KeptAnswer};
 
     ghost Value = { KeptAnswer };
 
-    ghost coded = { Prim.hlevel (codes, coded_tree) };
+    ghost coded = { Prim.hlevel policy_codes };
 
     ghost view = { λ s. arc_value s.answer };
 }

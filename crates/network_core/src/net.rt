@@ -31,13 +31,12 @@ pub struct Net {
 }
 
 impl Model for Net {
-    ghost use Rattle.std.specs.Coded.{codes};
-    ghost use Rattle.policy_expr.specs.Code.{coded_tree};
+    ghost use Rattle.policy_expr.specs.Code.{policy_codes};
     ghost use Rattle.network_core.specs.Value.{NetValue};
 
     ghost Value = { NetValue };
 
-    ghost coded = { Prim.hlevel (codes, coded_tree) };
+    ghost coded = { Prim.hlevel policy_codes };
 
     ghost view = { λ n. record {
       network = n.topology;

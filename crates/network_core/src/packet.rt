@@ -24,15 +24,14 @@ pub struct Sent {
 
 impl Model for Sent {
     ghost use Rattle.std.specs.Prelude.{ℕ, ◌≤◌, length};
-    ghost use Rattle.std.specs.Coded.{codes};
-    ghost use Rattle.policy_expr.specs.Code.{coded_tree};
+    ghost use Rattle.policy_expr.specs.Code.{policy_codes};
     ghost use Rattle.path_verifier.specs.Accepted.{IsAccepted};
     ghost use Rattle.network_core.specs.Value.{Shipment, asked_at};
     ghost use Rattle.network_core.specs.SentWay.{stored_way};
 
     ghost Value = { Shipment };
 
-    ghost coded = { Prim.hlevel (codes, coded_tree) };
+    ghost coded = { Prim.hlevel policy_codes };
 
     ghost view = { λ s. record { way = stored_way s.way; payload = s.payload.items } };
 
@@ -114,13 +113,12 @@ pub struct Packet {
 }
 
 impl Model for Packet {
-    ghost use Rattle.std.specs.Coded.{codes};
-    ghost use Rattle.policy_expr.specs.Code.{coded_tree};
+    ghost use Rattle.policy_expr.specs.Code.{policy_codes};
     ghost use Rattle.network_core.specs.Value.{PacketValue};
 
     ghost Value = { PacketValue };
 
-    ghost coded = { Prim.hlevel (codes, coded_tree) };
+    ghost coded = { Prim.hlevel policy_codes };
 
     ghost view = { λ p. record { sent = p.sent; packet = p.transit } };
 }

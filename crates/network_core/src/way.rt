@@ -25,13 +25,12 @@ pub(crate) struct LentWay<'a> {
 }
 
 impl<'a> Model for LentWay<'a> {
-    ghost use Rattle.std.specs.Coded.{codes};
-    ghost use Rattle.policy_expr.specs.Code.{coded_tree};
+    ghost use Rattle.policy_expr.specs.Code.{policy_codes};
     ghost use Rattle.network_core.specs.Value.{Way, way_with};
 
     ghost Value = { Way };
 
-    ghost coded = { Prim.hlevel (codes, coded_tree) };
+    ghost coded = { Prim.hlevel policy_codes };
 
     ghost view = { λ w.
         way_with w.source w.destination w.pieces.now w.header.now w.policy.now };
@@ -47,14 +46,13 @@ pub(crate) struct AnsweredWay {
 
 impl Model for AnsweredWay {
     ghost use Rattle.std.specs.Prelude.{IsSome, slice_get};
-    ghost use Rattle.std.specs.Coded.{codes};
-    ghost use Rattle.policy_expr.specs.Code.{coded_tree};
+    ghost use Rattle.policy_expr.specs.Code.{policy_codes};
     ghost use Rattle.network_core.specs.Value.{Way};
     ghost use Rattle.network_core.specs.AnsweredWay.{way_numbered};
 
     ghost Value = { Way };
 
-    ghost coded = { Prim.hlevel (codes, coded_tree) };
+    ghost coded = { Prim.hlevel policy_codes };
 
     ghost view = { λ w. way_numbered w.answer w.path };
 
@@ -102,13 +100,12 @@ pub(crate) struct OwnWay {
 }
 
 impl Model for OwnWay {
-    ghost use Rattle.std.specs.Coded.{codes};
-    ghost use Rattle.policy_expr.specs.Code.{coded_tree};
+    ghost use Rattle.policy_expr.specs.Code.{policy_codes};
     ghost use Rattle.network_core.specs.Value.{Way, way_with};
 
     ghost Value = { Way };
 
-    ghost coded = { Prim.hlevel (codes, coded_tree) };
+    ghost coded = { Prim.hlevel policy_codes };
 
     ghost view = { λ w.
         way_with w.source w.destination w.pieces.items w.header w.policy };

@@ -30,13 +30,12 @@ pub struct ReportOptions<'a> {
 }
 
 impl<'a> Model for ReportOptions<'a> {
-    ghost use Rattle.std.specs.Coded.{codes};
-    ghost use Rattle.policy_expr.specs.Code.{coded_tree};
+    ghost use Rattle.policy_expr.specs.Code.{policy_codes};
     ghost use Rattle.path_report.specs.Report.{ReportOptionsValue};
 
     ghost Value = { ReportOptionsValue };
 
-    ghost coded = { Prim.hlevel (codes, coded_tree) };
+    ghost coded = { Prim.hlevel policy_codes };
 
     ghost view = { λ w. record {
       from = w.from;

@@ -22,14 +22,13 @@ pub struct VerifiedPath<'s, 'p, A: Allocator + Clone> {
 
 impl<'s, 'p, A: Allocator + Clone> Model for VerifiedPath<'s, 'p, A> {
     ghost use Rattle.std.specs.Prelude.{◌≡◌};
-    ghost use Rattle.std.specs.Coded.{codes};
-    ghost use Rattle.policy_expr.specs.Code.{coded_tree};
+    ghost use Rattle.policy_expr.specs.Code.{policy_codes};
     ghost use Rattle.path_verifier.specs.Walk.{walk_of};
     ghost use Rattle.path_verifier.specs.Accepted.{Request, request_of, IsAccepted};
 
     ghost Value = { Request };
 
-    ghost coded = { Prim.hlevel (codes, coded_tree) };
+    ghost coded = { Prim.hlevel policy_codes };
 
     ghost view = { λ v. request_of v.pieces v.header v.src v.dst v.now v.policy.now };
 

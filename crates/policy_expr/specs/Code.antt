@@ -2,6 +2,7 @@
 use Rattle.std.specs.Prelude.{◌≡◌, ℕ, ◌==◌, if◌then◌else◌, refl}
 use Rattle.std.proofs.Common.{sym, ◌∙◌, ap}
 use base.Stored.{Coded, Gv, gnil, gnum, gcons}
+use Rattle.std.specs.Coded.{codes}
 use Rattle.policy_expr.specs.declared.hop.Interfaces.{Interfaces}
 use Rattle.policy_expr.specs.declared.hop.Interfaces.TheVariants.{Any, Either, Both}
 use Rattle.policy_expr.specs.Language.{Tree, hop, followed, either, optional, repeated, once_or_more}
@@ -69,3 +70,6 @@ tree_back (once_or_more a) = ap (λ (x : Tree). once_or_more x) (tree_back a)
 abbrev pub coded_tree : Coded Tree
 coded_tree =
     record { code = tree_code; inj = λ x y e. sym (tree_back x) ∙ ap tree_from e ∙ tree_back y }
+
+-- the codes by which `hlevel` finds that of a value with a policy in it
+pub ruleset policy_codes = (coded_tree, codes)

@@ -108,12 +108,11 @@ pub struct PolicyOption<A: Allocator + Clone> {
 
 impl<A: Allocator + Clone> Model for PolicyOption<A> {
     ghost use Rattle.policy_expr.specs.Options.{WeighedRules};
-    ghost use Rattle.policy_expr.specs.Code.{coded_tree};
-    ghost use Rattle.std.specs.Coded.{codes};
+    ghost use Rattle.policy_expr.specs.Code.{policy_codes};
 
     ghost Value = { WeighedRules };
 
-    ghost coded = { Prim.hlevel (codes, coded_tree) };
+    ghost coded = { Prim.hlevel policy_codes };
 
     ghost view = { λ o. record { rules = o.policy; weight = o.weight } };
 }

@@ -37,12 +37,11 @@ pub struct Policy<A: Allocator + Clone> {
 
 impl<A: Allocator + Clone> Model for Policy<A> {
     ghost use Rattle.policy_expr.specs.Policy.{Rules};
-    ghost use Rattle.policy_expr.specs.Code.{coded_tree};
-    ghost use Rattle.std.specs.Coded.{codes};
+    ghost use Rattle.policy_expr.specs.Code.{policy_codes};
 
     ghost Value = { Rules };
 
-    ghost coded = { Prim.hlevel (codes, coded_tree) };
+    ghost coded = { Prim.hlevel policy_codes };
 
     ghost view = { λ p. record { acl = p.acl; sequence = p.sequence } };
 }
