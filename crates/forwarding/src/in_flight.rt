@@ -59,12 +59,7 @@ impl PacketInFlight {
         let passed = Vec::with_capacity(alloc, MAX_HOPS)?;
         Ok(PacketInFlight {
             bytes,
-            place: PacketLocation::AtRouter(RouterStop {
-                ia,
-                router,
-                arrival: Arrival::FromHost,
-                came_in_by: IfId::NONE,
-            }),
+            place: PacketLocation::AtRouter(RouterStop::of_host(ia, router)),
             passed,
         })
     }

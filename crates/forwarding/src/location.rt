@@ -1,3 +1,6 @@
+ghost use Rattle.std.specs.Prelude.{◌≡◌};
+ghost use Rattle.forwarding.specs.Turn.{stop_at};
+
 use isd_as::{IfId, IsdAs};
 use router_step::{Arrival, Refusal};
 
@@ -12,6 +15,20 @@ pub struct RouterStop {
     pub arrival: Arrival,
     /// The interface by which the packet came into the AS, or 0 in the AS where it was sent.
     pub came_in_by: IfId,
+}
+
+impl RouterStop {
+    /// The stop of a packet that a host of this AS sends, at this router of the AS.
+    pub fn of_host(ia: IsdAs, router: u8) -> RouterStop
+        ensures { result ≡ stop_at ia router Arrival.FromHost 0 }
+    {
+        RouterStop {
+            ia,
+            router,
+            arrival: Arrival::FromHost,
+            came_in_by: IfId::NONE,
+        }
+    }
 }
 
 /// Where a packet is.

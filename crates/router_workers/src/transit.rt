@@ -4,9 +4,8 @@ ghost use Rattle.std.specs.Prelude.{◌≡◌, ◌<◌, ◌≤◌, IfOk, length,
 ghost use Rattle.forwarding.specs.Turn.{packet_with, put_at, turn_under};
 
 use forwarding::{PacketLocation, RouterStop, turn_in_place};
-use isd_as::{IfId, IsdAs};
+use isd_as::IsdAs;
 use policy_expr::WalkHop;
-use router_step::Arrival;
 use scion_topology::{RouterView, Topology};
 use std::alloc::{AllocError, Global};
 
@@ -37,12 +36,7 @@ impl Transit {
         let passed = Vec::with_capacity(alloc, hops)?;
         Ok(Transit {
             bytes,
-            place: PacketLocation::AtRouter(RouterStop {
-                ia,
-                router,
-                arrival: Arrival::FromHost,
-                came_in_by: IfId::NONE,
-            }),
+            place: PacketLocation::AtRouter(RouterStop::of_host(ia, router)),
             passed,
         })
     }
