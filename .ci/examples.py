@@ -1,8 +1,8 @@
 #!/usr/bin/env python3
-"""Writes the topologies of `examples/` wherever else they stand: the inputs of stored runs, the
-texts of `worked`, and those of the programs' help, which have the first ASes of `row`. So a change
-of what a topology has is made by hand in `examples/` alone, and in what makes networks (`Drawing`
-of `worked`). The inputs are files of their own, since `rt ci` refuses links.
+"""Writes the topologies of `examples/` wherever else they stand: the texts of `worked`, those of
+the programs' help and the inputs of stored runs; these two have the first ASes of `row`. So a
+change of what a topology has is made by hand in `examples/` alone, and in what makes networks
+(`Drawing` of `worked`).
 
 With --check it compares, and ends with 1 where another text stands."""
 import json
@@ -13,13 +13,14 @@ from pathlib import Path
 NAMES = "row", "pair", "fork"
 WORKED = "crates/worked/src/networks.rt"
 
-# The inputs whose first line is the topology of `row`.
+# The inputs whose first line has the first two ASes of `row`.
 INPUTS = ["crates/scionet/stdin", "crates/scionet_view/stdin"]
 
 # The texts of help, and how many of the first ASes of `row` each topology in them has.
 HELP = {
-    "crates/commands/src/words.rt": [1, 2, 2],
-    "crates/scionet_view/src/words.rt": [1, 2, 1, 1],
+    "crates/commands/src/example.rt": [2],
+    "crates/commands/src/words.rt": [1],
+    "crates/scionet_view/src/words.rt": [1, 1, 1],
 }
 
 FUNCTION = re.compile(r"(?<=pub fn )(\w+)(\(\) -> &'static str \{\n).*?(?=\}\n)", re.S)
@@ -56,7 +57,7 @@ def written(path):
     if path == WORKED:
         return FUNCTION.sub(lambda found: found[1] + found[2] + as_function(found[1]), text)
     if path in INPUTS:
-        return topology("row") + "\n" + text.partition("\n")[2]
+        return first_of_row(2) + "\n" + text.partition("\n")[2]
     counts = iter(HELP[path])
     return HELPED.sub(lambda _: as_help(next(counts)), text)
 

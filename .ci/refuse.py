@@ -42,8 +42,8 @@ ASKED, MADE = "daemon::an_answer_is_asked_for", "daemon::an_answer_is_made"
 # An answer that the daemon's cache gives later, unless it could not be kept.
 SERVED = "daemon::an_answer_is_served_while_its_segments_stay"
 
-# The case whose lines have policies.
-POLICIES = "access lists, sequences and options"
+# The case in which a packet is delivered, and the one whose lines have policies.
+ROW, POLICIES = "three ASes in a row", "access lists, sequences and options"
 
 # More allocations than any of these runs makes; how many runs are begun together; the seconds of
 # each.
@@ -61,11 +61,6 @@ def executable(crate, name):
     if not os.access(path, os.X_OK):
         stop(f"{path} is not there: rt ci builds it")
     return path
-
-
-def contents(*names):
-    with open(os.path.join(CRATES, *names), "rb") as it:
-        return it.read()
 
 
 def built(room):
@@ -174,9 +169,9 @@ class Test:
 
 
 def programs():
-    """The stored run, a run with policies, and packets that are sent twice by the path of the
-    stored run and carried by workers."""
-    given, answer = contents("scionet", "stdin"), contents("scionet", "stdout")
+    """A run over a row of ASes, a run with policies, and packets that are sent twice by the path
+    of the first and carried by workers."""
+    given, answer = case(ROW)
     yield Lines(["run"], given, answer)
     yield Lines(["run"], *case(POLICIES))
     lines, replies = given.splitlines(True), answer.splitlines(True)

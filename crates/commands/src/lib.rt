@@ -6,8 +6,10 @@
 #![tactic(auto)]
 
 mod command;
+mod example;
 mod fault;
 mod matched;
+mod process;
 mod program;
 mod status;
 mod step_fault;
@@ -16,6 +18,7 @@ mod words;
 pub use command::{Command, explain_refusal, step_line};
 pub use fault::{CommandFault, WordsFault};
 pub use matched::turn;
+pub use process::words_behind;
 pub use program::{end, execute, run};
 pub use status::Status;
 pub use step_fault::StepFault;

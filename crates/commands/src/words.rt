@@ -4,6 +4,7 @@ ghost use Rattle.std.specs.Prelude.{◌≡◌, IfOk, false};
 ghost use Rattle.clap.specs.Words.{app_of, rule_of};
 ghost use Rattle.commands.specs.Words.{IsLocal, interface_rule, number_rule, option_rule, optional_rule, program_app, range_rule, run_app, with_router, with_turn, work_app};
 
+use crate::with_example;
 use clap::builder::ValueParser;
 use clap::{Arg, ArgAction, Command};
 use std::alloc::{AllocError, Global};
@@ -44,7 +45,8 @@ Example: at second 100, a packet of a host leaves 1-ff00:0:111 over interface 2,
   scionet step --ia 1-ff00:0:111 --router 0 --key 6b --now 100 --from host 2,parent,0,up";
 
 /// The end of the long help of `run`.
-static RUN_HELP: &str = "\
+static RUN_HELP: &str = with_example!(
+    "\
 Standard input has a topology on its first line, and on each line after it an event of its network \
 or the question 'show', each a JSON object; at most 67,108,864 bytes in all. A line is answered by \
 a line before more is read: the topology by 'topology ok', an event by its result, or by 'no CODE \
@@ -65,15 +67,8 @@ a list of texts, and 'sequence', a text; or 'options', a list of objects with th
 
 Example: a packet from an AS to its parent, delivered in two turns
   printf '%s\\n' \\
-    '{\"ases\":[{\"ia\":\"1-ff00:0:110\",\"core\":true,\"exp\":63,\"key\":\"6130\",\"routers\":1},\
-{\"ia\":\"1-ff00:0:111\",\"core\":false,\"exp\":63,\"key\":\"6131\",\"routers\":1}],\
-\"links\":[{\"kind\":\"child\",\"a\":{\"ia\":\"1-ff00:0:110\",\"if\":1,\"router\":0},\
-\"b\":{\"ia\":\"1-ff00:0:111\",\"if\":1,\"router\":0}}]}' \\
-    '{\"do\":\"tick\",\"now\":1000}' \\
-    '{\"do\":\"originate\",\"ia\":\"1-ff00:0:110\",\"egress\":1,\"beta0\":4660}' \\
-    '{\"do\":\"terminate\",\"beacon\":0,\"ia\":\"1-ff00:0:111\"}' \\
-    '{\"do\":\"ask\",\"src\":\"1-ff00:0:111\",\"dst\":\"1-ff00:0:110\",\"limit\":1}' \\
-    '{\"do\":\"send\",\"ask\":0,\"path\":0,\"payload\":\"6869\"}' \\
+",
+    " \\
     '{\"do\":\"turn\",\"packet\":0}' '{\"do\":\"turn\",\"packet\":0}' | scionet run
 which is answered by
   topology ok
@@ -83,10 +78,12 @@ which is answered by
   ask 0 1; 1-ff00:0:111#0,1 1-ff00:0:110#1,0
   packet 0
   link 1
-  delivered";
+  delivered"
+);
 
 /// The end of the long help of `work`.
-static WORK_HELP: &str = "\
+static WORK_HELP: &str = with_example!(
+    "\
 Standard input has the lines of 'run' that prepare a network: all but 'turn', 'lose', 'alter', \
 'back' and 'show', which are answered by 'no 140 BadLine'. They are answered as 'run' answers \
 them. Then worker threads carry the packets that were sent through this network, at its current \
@@ -98,39 +95,14 @@ dropped if an inbox has a place for each packet.
 
 Example: two packets from an AS to its parent, each delivered in two turns
   printf '%s\\n' \\
-    '{\"ases\":[{\"ia\":\"1-ff00:0:110\",\"core\":true,\"exp\":63,\"key\":\"6130\",\"routers\":1},\
-{\"ia\":\"1-ff00:0:111\",\"core\":false,\"exp\":63,\"key\":\"6131\",\"routers\":1}],\
-\"links\":[{\"kind\":\"child\",\"a\":{\"ia\":\"1-ff00:0:110\",\"if\":1,\"router\":0},\
-\"b\":{\"ia\":\"1-ff00:0:111\",\"if\":1,\"router\":0}}]}' \\
-    '{\"do\":\"tick\",\"now\":1000}' \\
-    '{\"do\":\"originate\",\"ia\":\"1-ff00:0:110\",\"egress\":1,\"beta0\":4660}' \\
-    '{\"do\":\"terminate\",\"beacon\":0,\"ia\":\"1-ff00:0:111\"}' \\
-    '{\"do\":\"ask\",\"src\":\"1-ff00:0:111\",\"dst\":\"1-ff00:0:110\",\"limit\":1}' \\
-    '{\"do\":\"send\",\"ask\":0,\"path\":0,\"payload\":\"6869\"}' \\
+",
+    " \\
     '{\"do\":\"send\",\"ask\":0,\"path\":0,\"payload\":\"\"}' |
   scionet work --workers 2 --slots 2
-which is answered by
-  topology ok
-  ok
-  beacon 0
-  segment new
-  ask 0 1; 1-ff00:0:111#0,1 1-ff00:0:110#1,0
-  packet 0
-  packet 1
+whose last answers are
   flight 0 delivered 2
-  flight 1 delivered 2";
-
-/// A required option that has a value.
-fn option<'a>(alloc: Global, name: &'a str, value: &'a str, help: &'a str) -> Arg<'a>
-    ensures rule { rule_of result ≡ option_rule name.entry.now }
-    ensures local { result.global ≡ false }
-{
-    Arg::new(alloc, name)
-        .long(name)
-        .value_name(value)
-        .required(true)
-        .help(help)
-}
+  flight 1 delivered 2"
+);
 
 /// An option that has a value and is not required.
 fn optional<'a>(alloc: Global, name: &'a str, value: &'a str, help: &'a str) -> Arg<'a>
@@ -141,6 +113,14 @@ fn optional<'a>(alloc: Global, name: &'a str, value: &'a str, help: &'a str) -> 
         .long(name)
         .value_name(value)
         .help(help)
+}
+
+/// A required option that has a value.
+fn option<'a>(alloc: Global, name: &'a str, value: &'a str, help: &'a str) -> Arg<'a>
+    ensures rule { rule_of result ≡ option_rule name.entry.now }
+    ensures local { result.global ≡ false }
+{
+    optional(alloc, name, value, help).required(true)
 }
 
 /// A required option whose value is a number from `low` to `most`.

@@ -4,25 +4,11 @@
 //! and 1 after any other fault. The message about a fault goes to standard error.
 #![tactic(auto)]
 
-use commands::{CommandFault, Status, WordsFault, end, run};
-use std::env;
+use commands::{CommandFault, Status, end, run, words_behind};
 use std::process::ExitCode;
 use std::sync::Wait;
 use std::thread::Threads;
 use streams::{Reader, Writer};
-
-/// The words after the program's name.
-fn words_behind(rt: &HostRuntime) -> Result<Vec<String>, CommandFault> {
-    let args = match env::args(rt) {
-        Ok(args) => args,
-        Err(error) => {
-            let fault = WordsFault::unreadable(rt.alloc(), &error);
-            return Err(CommandFault::from(fault));
-        }
-    };
-    let words = args.skip(1).collect(rt.alloc())?;
-    Ok(words)
-}
 
 /// Runs the program's command with its words and its streams; `T` lets it start threads and wait
 /// for them.

@@ -19,31 +19,17 @@ mod words;
 
 use answer::answer_path;
 use beacons::beacons;
-use commands::{CommandFault, Status, WordsFault, end};
+use commands::{CommandFault, Status, end, words_behind};
 use explain::explanation;
 use network::network_picture;
 use packet_view::packet_lines;
 use path::packet_path;
 use report::network_report;
 use std::alloc::Global;
-use std::env;
 use std::process::ExitCode;
 use step_line::StepCommand;
 use streams::{MAX_INPUT_LEN, Reader, Sink, Source, Writer, read_all, write_all};
 use words::{Subject, View, read_view};
-
-/// The words after the program's name.
-fn words_behind(rt: &HostRuntime) -> Result<Vec<String>, CommandFault> {
-    let args = match env::args(rt) {
-        Ok(args) => args,
-        Err(error) => {
-            let fault = WordsFault::unreadable(rt.alloc(), &error);
-            return Err(CommandFault::from(fault));
-        }
-    };
-    let words = args.skip(1).collect(rt.alloc())?;
-    Ok(words)
-}
 
 /// The lines about the packet that the source gives in hexadecimal.
 fn packet_text<S: Source>(

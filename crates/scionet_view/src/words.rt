@@ -4,7 +4,7 @@ use crate::report_words::{ReportWords, report_command, report_in};
 use beacon_lines::{BeaconingOptions, MAX_PER_PAIR};
 use clap::builder::ValueParser;
 use clap::{Arg, ArgGroup, ArgMatches, Command};
-use commands::{VERSION, WordsFault, explain_refusal, turn, with_turn};
+use commands::{VERSION, WordsFault, explain_refusal, turn, with_example, with_turn};
 use path_segment::MAX_SEGMENT_LEN;
 use std::alloc::{AllocError, Global};
 use step_line::{StepCommand, number};
@@ -35,7 +35,8 @@ Example: a network of one AS
 \"links\":[]}' | scionet_view network | dot -Tsvg > network.svg";
 
 /// The end of the long help of `path`.
-static PATH_HELP: &str = "\
+static PATH_HELP: &str = with_example!(
+    "\
 Standard input has the lines of 'scionet run'. Of the packet, as it is after the last of them, \
 each piece of its path is on a line, 'piece N up|core|down from IA to IA'; then its kind, a letter \
 for each piece, as UCD; its walk, hop by hop, each as 'IA#IN,OUT'; the last second at which all of \
@@ -49,21 +50,15 @@ breaks it. 'no 133 NoAnswer' is printed if there is no such path.
 
 Example: a packet from an AS to its parent
   printf '%s\\n' \\
-    '{\"ases\":[{\"ia\":\"1-ff00:0:110\",\"core\":true,\"exp\":63,\"key\":\"6130\",\"routers\":1},\
-{\"ia\":\"1-ff00:0:111\",\"core\":false,\"exp\":63,\"key\":\"6131\",\"routers\":1}],\
-\"links\":[{\"kind\":\"child\",\"a\":{\"ia\":\"1-ff00:0:110\",\"if\":1,\"router\":0},\
-\"b\":{\"ia\":\"1-ff00:0:111\",\"if\":1,\"router\":0}}]}' \\
-    '{\"do\":\"tick\",\"now\":1000}' \\
-    '{\"do\":\"originate\",\"ia\":\"1-ff00:0:110\",\"egress\":1,\"beta0\":4660}' \\
-    '{\"do\":\"terminate\",\"beacon\":0,\"ia\":\"1-ff00:0:111\"}' \\
-    '{\"do\":\"ask\",\"src\":\"1-ff00:0:111\",\"dst\":\"1-ff00:0:110\",\"limit\":1}' \\
-    '{\"do\":\"send\",\"ask\":0,\"path\":0,\"payload\":\"6869\"}' |
+",
+    " |
   scionet_view path --packet 0
 which begins with
   piece 0 up from 1-ff00:0:111 to 1-ff00:0:110
   kind U
   walk 1-ff00:0:111#0,1 1-ff00:0:110#1,0
-  live up to second 22600";
+  live up to second 22600"
+);
 
 /// The end of the long help of `beacons`.
 static BEACONS_HELP: &str = "\
