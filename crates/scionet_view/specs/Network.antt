@@ -1,15 +1,17 @@
 -- The output of `scionet_view network`: the picture of the network after some lines.
-use Rattle.std.specs.Prelude.{ℕ, codes, List, [], ◌++◌, Option, Some, None, slice_get}
+use Rattle.std.specs.Prelude.{ℕ, codes, List, [], ◌++◌, Option, Some, None, option_map, slice_get, Result, Ok, Err}
+use Rattle.std.specs.Option.{ok_or}
 use Rattle.std.specs.Fmt.{decimal}
 use Rattle.scion_topology.specs.Network.{Network}
 use Rattle.forwarding.specs.declared.location.PacketLocation.{PacketLocation}
 use Rattle.forwarding.specs.declared.location.PacketLocation.TheVariants.{AtRouter, Refused}
+use Rattle.policy_expr.specs.declared.hop.WalkHop.{WalkHop}
 use Rattle.path_verifier.specs.Walk.{walk_of}
 use Rattle.combinator.specs.Candidate.{PathValue}
 use Rattle.network_core.specs.declared.fault.EventFault.{EventFault}
 use Rattle.network_core.specs.declared.fault.EventFault.TheVariants.{NoPacket, NoAnswer}
 use Rattle.network_core.specs.Fault.{code_and_name}
-use Rattle.network_core.specs.Value.{NetValue, PacketValue}
+use Rattle.network_core.specs.Value.{NetValue}
 use Rattle.network_view.specs.declared.marks.Router.{Router}
 use Rattle.network_view.specs.Dot.{dot_of}
 use Rattle.refusal.specs.Optional.{◌>>=◌}
@@ -34,21 +36,21 @@ router_at (AtRouter stop) = Some (record { ia = stop.ia; number = stop.router })
 router_at (Refused ia number cause) = Some (record { ia = ia; number = number })
 router_at place = None
 
--- the picture of a network with this packet marked, or the line that there is no such packet
-abbrev pub picture_with_packet : Network → Option PacketValue → List ℕ
-picture_with_packet network None = fault_line NoPacket
-picture_with_packet network (Some packet) =
-    dot_of network packet.packet.passed (router_at packet.packet.place)
+-- the hops whose links a picture marks, and the router that it marks: those of the packet or of the
+-- path that is named, if one is
+abbrev pub marks_in : NetValue → Option Subject → Result (List WalkHop × Option Router) EventFault
+marks_in net None = Ok ([], None)
+marks_in net (Some (Packet number)) = ok_or (option_map
+    (λ packet. (packet.packet.passed, router_at packet.packet.place))
+    (slice_get net.packets number)) NoPacket
+marks_in net (Some (Answer answer path)) =
+    ok_or (option_map (λ path. (walk_of path.pieces, None)) (path_at net answer path)) NoAnswer
 
--- the picture of a network with the links of this path marked, or the line that there is none
-abbrev pub picture_with_path : Network → Option PathValue → List ℕ
-picture_with_path network None = fault_line NoAnswer
-picture_with_path network (Some path) = dot_of network (walk_of path.pieces) None
+-- the picture of a network with these marks, or the line of a refusal
+abbrev pub picture_with : Network → Result (List WalkHop × Option Router) EventFault → List ℕ
+picture_with network (Ok marks) = dot_of network marks.0 marks.1
+picture_with network (Err fault) = fault_line fault
 
 -- the picture of a network, with the packet or the path marked that is named, if one is
 abbrev pub picture_of : NetValue → Option Subject → List ℕ
-picture_of net None = dot_of net.network [] None
-picture_of net (Some (Packet number)) =
-    picture_with_packet net.network (slice_get net.packets number)
-picture_of net (Some (Answer answer path)) =
-    picture_with_path net.network (path_at net answer path)
+picture_of net subject = picture_with net.network (marks_in net subject)

@@ -1,22 +1,25 @@
 //! The network after some lines, as a picture.
 
-ghost use Rattle.std.specs.Prelude.{◌≡◌, ◌||◌, IfOk, option_map};
+ghost use Rattle.std.specs.Prelude.{◌≡◌, ◌||◌, IfOk, MatchResult, Ok, Err, option_map};
 ghost use Rattle.std.specs.String.{string_bytes};
 ghost use Rattle.event_lines.specs.Run.{is_read_fault};
 ghost use Rattle.scionet_view.specs.Reached.{Shows};
-ghost use Rattle.scionet_view.specs.Network.{path_at, picture_of, picture_with_packet, picture_with_path, fault_line, router_at};
+ghost use Rattle.scionet_view.specs.Network.{path_at, picture_of, marks_in, fault_line, router_at};
 
 use crate::network_after::network_after;
 use crate::words::Subject;
 use combinator::Path;
 use event_lines::RunFault;
 use forwarding::PacketLocation;
-use network_core::{EventFault, Net, Packet};
+use network_core::{EventFault, Net};
 use network_view::{Router, network_dot};
+use policy_expr::WalkHop;
 use refusal::NumberedFault;
-use scion_topology::Topology;
 use std::alloc::{AllocError, Global};
 use streams::Source;
+
+/// The hops whose links a picture marks, and the router that it marks, if any.
+type Marks<'n> = (&'n [WalkHop], Option<Router>);
 
 /// The line with which a run answers an event that is refused for this reason.
 pub(crate) fn fault_line(alloc: Global, fault: EventFault) -> Result<String, AllocError>
@@ -49,43 +52,22 @@ fn router_at(place: &PacketLocation) -> Option<Router>
     }
 }
 
-/// The picture of a network with this packet marked, or the line that there is no such packet.
-fn picture_with_packet(
-    alloc: Global,
-    topology: &Topology,
-    packet: Option<&Packet>,
-) -> Result<String, AllocError>
-    ensures { IfOk result (λ text. string_bytes text
-        ≡ picture_with_packet topology.now (option_map (λ p. p.now) packet.entry)) }
+/// The hops whose links a picture marks, and the router that it marks: those of the packet or of
+/// the path that is named, if one is.
+fn marks_in(net: &Net, subject: Option<Subject>) -> Result<Marks<'_>, EventFault>
+    ensures { MatchResult result (λ marks. marks_in net.now subject ≡ Ok (marks.0.now, marks.1))
+        (λ fault. marks_in net.now subject ≡ Err fault) }
 {
-    match packet {
-        None => fault_line(alloc, EventFault::NoPacket),
-        Some(packet) => {
-            let at = router_at(&packet.place());
-            network_dot(
-                alloc,
-                topology.ases(),
-                topology.links(),
-                packet.passed(),
-                at,
-            )
-        }
-    }
-}
-
-/// The picture of a network with the links of this path marked, or the line that there is no such
-/// path.
-fn picture_with_path(
-    alloc: Global,
-    topology: &Topology,
-    path: Option<&Path>,
-) -> Result<String, AllocError>
-    ensures { IfOk result (λ text. string_bytes text
-        ≡ picture_with_path topology.now (option_map (λ p. p.now) path.entry)) }
-{
-    match path {
-        None => fault_line(alloc, EventFault::NoAnswer),
-        Some(path) => network_dot(alloc, topology.ases(), topology.links(), path.walk(), None),
+    match subject {
+        None => Ok((&[], None)),
+        Some(Subject::Packet(number)) => match net.packet(number as usize) {
+            Some(packet) => Ok((packet.passed(), router_at(&packet.place()))),
+            None => Err(EventFault::NoPacket),
+        },
+        Some(Subject::Answer { answer, path }) => match path_at(net, answer, path) {
+            Some(path) => Ok((path.walk(), None)),
+            None => Err(EventFault::NoAnswer),
+        },
     }
 }
 
@@ -94,16 +76,9 @@ fn picture(alloc: Global, net: &Net, subject: Option<Subject>) -> Result<String,
     ensures { IfOk result (λ text. string_bytes text ≡ picture_of net.now subject) }
 {
     let topology = net.topology();
-    match subject {
-        None => network_dot(alloc, topology.ases(), topology.links(), &[], None),
-        Some(Subject::Packet(number)) => picture_with_packet(
-            alloc,
-            topology,
-            net.packet(number as usize),
-        ),
-        Some(Subject::Answer { answer, path }) => {
-            picture_with_path(alloc, topology, path_at(net, answer, path))
-        }
+    match marks_in(net, subject) {
+        Ok((hops, at)) => network_dot(alloc, topology.ases(), topology.links(), hops, at),
+        Err(fault) => fault_line(alloc, fault),
     }
 }
 
