@@ -8,9 +8,9 @@
 #![tactic(auto)]
 
 #[cfg(test)]
-mod again;
-#[cfg(test)]
 mod board;
+#[cfg(test)]
+mod calls;
 #[cfg(test)]
 mod daemon;
 #[cfg(test)]

@@ -1,6 +1,6 @@
 //! Many operations at once, full caches, and requests with options, texts and the largest limit.
 
-use crate::again::{boarded, daemon, found, publishes, registers, seated, sweeps};
+use crate::calls::{Calls, on_board, seated};
 use crate::daemon::published;
 use crate::segments::{AFTER_EARLY, Answer, EARLY, Finding, LATE, answer_of, ia};
 use daemon_cache::{AskFault, Daemon};
@@ -8,7 +8,6 @@ use policy_expr::{AclText, OptionText};
 use refusal::OrMemory;
 use refusing::Shortage;
 use segment_board::{BoardReader, BoardWriter};
-use std::alloc::{AllocError, Global};
 use std::sync::Wait;
 use std::test::Fail;
 use std::thread;
@@ -16,26 +15,22 @@ use worked::option_text;
 
 /// What is found after 64 operations were published at once, each second one of which sweeps what
 /// the one before it has registered, except the last.
-fn after_many<R: Wait>(rt: &R, alloc: Global, board: &mut BoardWriter) -> Option<Finding> {
-    let shortage = Shortage::none();
+fn after_many<R: Wait>(calls: &Calls<'_, R>, board: &mut BoardWriter) -> Option<Finding> {
     for _ in 0..31 {
-        registers(alloc, board, EARLY, &shortage)?;
-        sweeps(board, AFTER_EARLY, &shortage)?;
+        calls.register(board, EARLY)?;
+        calls.sweep(board, AFTER_EARLY)?;
     }
-    registers(alloc, board, LATE, &shortage)?;
-    sweeps(board, AFTER_EARLY, &shortage)?;
-    publishes(rt, board, &shortage)?;
+    calls.register(board, LATE)?;
+    calls.sweep(board, AFTER_EARLY)?;
+    calls.publish(board)?;
     let mut reader = seated(board)?;
     reader.learn(board.tell());
-    found(&mut reader, alloc, 100, &shortage)
+    calls.find(&mut reader, 100)
 }
 
 #[test]
 fn sixty_four_operations_are_published_at_once(rt: HostRuntime) -> Result<(), Fail> {
-    let shortage = Shortage::none();
-    let mut board = boarded(&rt, rt.alloc(), 2, &shortage).ok_or(AllocError)?;
-    let finding = after_many(&rt, rt.alloc(), &mut board);
-    board.close(&rt);
+    let finding = on_board(&rt, Shortage::none(), after_many)?;
     assert_eq!(rt; finding, Some(Finding::Worked(LATE)));
     Ok(())
 }
@@ -43,8 +38,7 @@ fn sixty_four_operations_are_published_at_once(rt: HostRuntime) -> Result<(), Fa
 /// The answer up the worked segment to a request with these options and this limit, and whether the
 /// cache gave it.
 fn asked<R: Wait>(
-    rt: &R,
-    alloc: Global,
+    calls: &Calls<'_, R>,
     daemon: &Daemon,
     reader: &mut BoardReader,
     options: &[OptionText<'_>],
@@ -52,7 +46,7 @@ fn asked<R: Wait>(
 ) -> Option<(Answer, bool)> {
     let (src, dst) = (ia(0x111), ia(0x110));
     for _ in 0..1_000 {
-        match daemon.ask(rt, alloc, reader, src, dst, options, 100, limit) {
+        match daemon.ask(calls.rt, calls.alloc, reader, src, dst, options, 100, limit) {
             Ok((paths, is_served)) => return Some((answer_of(&paths), is_served)),
             Err(OrMemory::Refused(AskFault::NoEntry)) => thread::yield_now(),
             Err(_) => return None,
@@ -64,16 +58,15 @@ fn asked<R: Wait>(
 /// Whether a daemon with room for four answers each of these requests, which differ in their
 /// limits, and from its cache if it says so beside it. The fifth leaves no room for the answer that
 /// was used least recently.
-fn is_in_order<R: Wait>(rt: &R, alloc: Global, board: &mut BoardWriter) -> Option<bool> {
-    let shortage = Shortage::none();
-    let daemon = daemon(alloc, 4, &shortage)?;
-    let mut reader = published(rt, alloc, board, &shortage)?;
+fn is_in_order<R: Wait>(calls: &Calls<'_, R>, board: &mut BoardWriter) -> Option<bool> {
+    let daemon = calls.daemon(4)?;
+    let mut reader = published(calls, board)?;
     let made = [(1, false), (2, false), (3, false), (4, false), (1, true)];
     let kept = [(5, false), (1, true), (3, true), (4, true), (5, true)];
     let gone = [(2, false), (2, true), (1, false)];
     let plain = [option_text(None, None, 0)];
     for (limit, is_served) in made.iter().chain(&kept).chain(&gone) {
-        let given = asked(rt, alloc, &daemon, &mut reader, &plain, *limit);
+        let given = asked(calls, &daemon, &mut reader, &plain, *limit);
         if given != Some((Answer::Up, *is_served)) {
             return Some(false);
         }
@@ -83,15 +76,14 @@ fn is_in_order<R: Wait>(rt: &R, alloc: Global, board: &mut BoardWriter) -> Optio
 
 /// Whether a daemon with room for 1,024 answers as many requests, which differ in a limit or in a
 /// weight, and from its cache when they come again.
-fn are_all_kept<R: Wait>(rt: &R, alloc: Global, board: &mut BoardWriter) -> Option<bool> {
-    let shortage = Shortage::none();
-    let daemon = daemon(alloc, 1024, &shortage)?;
-    let mut reader = published(rt, alloc, board, &shortage)?;
+fn are_all_kept<R: Wait>(calls: &Calls<'_, R>, board: &mut BoardWriter) -> Option<bool> {
+    let daemon = calls.daemon(1024)?;
+    let mut reader = published(calls, board)?;
     for is_served in [false, true] {
         for number in 0..1024u32 {
             let options = [option_text(None, None, number / 64)];
             let limit = (number % 64) as usize + 1;
-            let given = asked(rt, alloc, &daemon, &mut reader, &options, limit);
+            let given = asked(calls, &daemon, &mut reader, &options, limit);
             if given != Some((Answer::Up, is_served)) {
                 return Some(false);
             }
@@ -102,33 +94,30 @@ fn are_all_kept<R: Wait>(rt: &R, alloc: Global, board: &mut BoardWriter) -> Opti
 
 #[test]
 fn caches_are_filled(rt: HostRuntime) -> Result<(), Fail> {
-    let shortage = Shortage::none();
-    let mut board = boarded(&rt, rt.alloc(), 2, &shortage).ok_or(AllocError)?;
-    let four = is_in_order(&rt, rt.alloc(), &mut board);
-    let many = are_all_kept(&rt, rt.alloc(), &mut board);
-    board.close(&rt);
-    assert_eq!(rt; (four, many), (Some(true), Some(true)));
+    let are_right = on_board(&rt, Shortage::none(), |calls, board| {
+        let four = is_in_order(calls, board);
+        Some((four, are_all_kept(calls, board)))
+    })?;
+    assert_eq!(rt; are_right, Some((Some(true), Some(true))));
     Ok(())
 }
 
 /// The answers to a request with two options, of which the heavier denies the path, and to one with
 /// sixteen, of which the last alone allows it; each is asked twice.
 fn by_options<R: Wait>(
-    rt: &R,
-    alloc: Global,
+    calls: &Calls<'_, R>,
     board: &mut BoardWriter,
 ) -> Option<[(Answer, bool); 4]> {
-    let shortage = Shortage::none();
-    let daemon = daemon(alloc, 4, &shortage)?;
-    let mut reader = published(rt, alloc, board, &shortage)?;
-    let mut acl = AclText::new(alloc);
-    acl.push(alloc, "- 1-ff00:0:110").ok()?;
-    acl.push(alloc, "+").ok()?;
+    let daemon = calls.daemon(4)?;
+    let mut reader = published(calls, board)?;
+    let mut acl = AclText::new(calls.alloc);
+    acl.push(calls.alloc, "- 1-ff00:0:110").ok()?;
+    acl.push(calls.alloc, "+").ok()?;
     let two = [
         option_text(None, None, 1),
         option_text(Some(&acl), Some("0*"), 5),
     ];
-    let mut sixteen = Vec::new(alloc);
+    let mut sixteen = Vec::new(calls.alloc);
     for _ in 0..15 {
         sixteen
             .push(option_text(None, Some("1-ff00:0:111 2"), 7))
@@ -139,18 +128,15 @@ fn by_options<R: Wait>(
         .ok()?;
     let mut answers = [(Answer::Other, false); 4];
     for round in [0, 1] {
-        answers[round] = asked(rt, alloc, &daemon, &mut reader, &two, 64)?;
-        answers[round + 2] = asked(rt, alloc, &daemon, &mut reader, &sixteen, 64)?;
+        answers[round] = asked(calls, &daemon, &mut reader, &two, 64)?;
+        answers[round + 2] = asked(calls, &daemon, &mut reader, &sixteen, 64)?;
     }
     Some(answers)
 }
 
 #[test]
 fn options_are_answered_and_served(rt: HostRuntime) -> Result<(), Fail> {
-    let shortage = Shortage::none();
-    let mut board = boarded(&rt, rt.alloc(), 2, &shortage).ok_or(AllocError)?;
-    let answers = by_options(&rt, rt.alloc(), &mut board);
-    board.close(&rt);
+    let answers = on_board(&rt, Shortage::none(), by_options)?;
     let (made, served) = ((Answer::Up, false), (Answer::Up, true));
     assert_eq!(rt; answers, Some([made, served, made, served]));
     Ok(())

@@ -1,5 +1,5 @@
 use Rattle.std.proofs.Common.{◌≡◌}
-use Rattle.conformance_threads.proofs.again.asked.Given as goal
+use Rattle.conformance_threads.proofs.calls.Calls.ask.Given as goal
 
 abbrev pub invariant-loop : goal.invariant-loop
 invariant-loop g l = l.reader.board ≡ l.fn.reader.board
