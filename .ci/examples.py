@@ -1,8 +1,9 @@
 #!/usr/bin/env python3
-"""Writes the topologies of `examples/` wherever else they stand: the texts of `worked`, those of
-the programs' help and the inputs of stored runs; these two have the first ASes of `row`. So a
-change of what a topology has is made by hand in `examples/` alone, and in what makes networks
-(`Drawing` of `worked`).
+"""Writes the topologies of `examples/` wherever else they stand: the texts of `worked`, and those
+of the programs' help, which have the first ASes of `row`. So a change of what a topology has is
+made by hand in `examples/` alone, and in what makes networks (`Drawing` of `worked`). The stored
+runs are the example of the help and, of `scionet`, the answers that the help gives, so that `rt ci`
+runs it.
 
 With --check it compares, and ends with 1 where another text stands."""
 import json
@@ -13,13 +14,18 @@ from pathlib import Path
 NAMES = "row", "pair", "fork"
 WORKED = "crates/worked/src/networks.rt"
 
-# The inputs whose first line has the first two ASes of `row`.
-INPUTS = ["crates/scionet/stdin", "crates/scionet_view/stdin"]
+# The lines of the help's example, and the help that gives their answers.
+EXAMPLE, HELP_OF_RUN = "crates/commands/src/example.rt", "crates/commands/src/words.rt"
+
+# The inputs of stored runs, with the turns behind the example's lines; and the output of one.
+INPUTS = {"crates/scionet/stdin": 2, "crates/scionet_view/stdin": 1}
+ANSWERS = "crates/scionet/stdout"
+TURN = '{"do":"turn","packet":0}'
 
 # The texts of help, and how many of the first ASes of `row` each topology in them has.
 HELP = {
-    "crates/commands/src/example.rt": [2],
-    "crates/commands/src/words.rt": [1],
+    EXAMPLE: [2],
+    HELP_OF_RUN: [1],
     "crates/scionet_view/src/words.rt": [1, 1, 1],
 }
 
@@ -51,13 +57,27 @@ def as_help(count):
     return "\\\n".join(BREAK.split(first_of_row(count))).replace('"', '\\"')
 
 
+def example():
+    """The lines of the help's example: words of `printf` in a text of Rust."""
+    text = Path(EXAMPLE).read_text(encoding="utf-8").replace("\\\n", "")
+    return [it.replace('\\"', '"') for it in re.findall(r"'(\{[^']*\})'", text)]
+
+
+def answers():
+    """The answers that the help of `run` gives, each with an indent there."""
+    text = Path(HELP_OF_RUN).read_text(encoding="utf-8")
+    return re.search(r'which is answered by\n(.*?)"', text, re.S)[1].split("\n  ")
+
+
 def written(path):
-    """The text of a file with the topologies of `examples/` in it."""
+    """The text of a file with the topologies or the example in it."""
+    if path in INPUTS:
+        return "\n".join([*example(), *[TURN] * INPUTS[path]]) + "\n"
+    if path == ANSWERS:
+        return "\n".join(answers()).strip() + "\n"
     text = Path(path).read_text(encoding="utf-8")
     if path == WORKED:
         return FUNCTION.sub(lambda found: found[1] + found[2] + as_function(found[1]), text)
-    if path in INPUTS:
-        return first_of_row(2) + "\n" + text.partition("\n")[2]
     counts = iter(HELP[path])
     return HELPED.sub(lambda _: as_help(next(counts)), text)
 
@@ -65,15 +85,15 @@ def written(path):
 def main():
     for name in NAMES:
         json.loads(topology(name))
-    files = [*INPUTS, WORKED, *HELP]
+    files = [WORKED, *HELP, *INPUTS, ANSWERS]
     others = [it for it in files if written(it) != Path(it).read_text(encoding="utf-8")]
     for it in others:
         if "--check" in sys.argv:
-            print(f"{it} has another topology than examples/: run .ci/examples.py")
+            print(f"{it} is not what it would be by examples/: run .ci/examples.py")
         else:
             Path(it).write_text(written(it), encoding="utf-8")
             print(f"{it} written")
-    print(f"{len(files)} files with topologies of examples/, {len(others)} others")
+    print(f"{len(files)} files with networks of examples/, {len(others)} others")
     sys.exit(1 if others and "--check" in sys.argv else 0)
 
 
