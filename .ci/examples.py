@@ -30,7 +30,7 @@ HELP = {
 }
 
 FUNCTION = re.compile(r"(?<=pub fn )(\w+)(\(\) -> &'static str \{\n).*?(?=\}\n)", re.S)
-HELPED = re.compile(r"(?<=')\{\\\"ases\\\":.*?\}(?=')", re.S)
+HELPED = re.compile(r"(?:(?<=')|(?<='\\\n))\{\\\"ases\\\":.*?\}(?=')", re.S)
 BREAK = re.compile(r'(?<=\},)(?=\{)|(?<=\},)(?="b")|(?<=\],)(?="links")')
 
 

@@ -33,8 +33,9 @@ pub(crate) struct Calls<'t, R> {
     pub(crate) shortage: &'t Shortage,
 }
 
-/// What `act` finds on a board with room for `readers` readers, which is closed after that; what ran
-/// out of memory is printed. It may start no threads: what a call needs for that, no bound says.
+/// What `act` finds on a board with room for `readers` readers. The board is closed after that, and
+/// what ran out of memory is printed. `act` may not start threads: no bound of a closure says what
+/// that needs of the runtime.
 pub(crate) fn on_board_of<R, T, F>(
     rt: &R,
     readers: usize,

@@ -37,7 +37,7 @@ router_at (Refused ia number cause) = Some (record { ia = ia; number = number })
 router_at place = None
 
 -- the hops whose links a picture marks, and the router that it marks: those of the packet or of the
--- path that is named, if one is
+-- path that is named, if one is; refused if there is no such packet or path
 abbrev pub marks_in : NetValue → Option Subject → Result (List WalkHop × Option Router) EventFault
 marks_in net None = Ok ([], None)
 marks_in net (Some (Packet number)) = ok_or (option_map

@@ -53,7 +53,8 @@ fn router_at(place: &PacketLocation) -> Option<Router>
 }
 
 /// The hops whose links a picture marks, and the router that it marks: those of the packet or of
-/// the path that is named, if one is.
+/// the path that is named, if one is. [`EventFault::NoPacket`] or [`EventFault::NoAnswer`] if there
+/// is no such packet or path.
 fn marks_in(net: &Net, subject: Option<Subject>) -> Result<Marks<'_>, EventFault>
     ensures { MatchResult result (λ marks. marks_in net.now subject ≡ Ok (marks.0.now, marks.1))
         (λ fault. marks_in net.now subject ≡ Err fault) }
