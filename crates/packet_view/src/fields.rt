@@ -1,5 +1,4 @@
 //! The fields of a packet, each on a line: its bytes in hexadecimal, and their meaning.
-#![tactic(auto, unfolding(crate::specs::Fields::address_text, crate::specs::Fields::addresses_text, crate::specs::Fields::behind_text, crate::specs::Fields::each_below, crate::specs::Fields::field_text, crate::specs::Fields::fields_text, crate::specs::Fields::hop_fields_text, crate::specs::Fields::info_fields_text, crate::specs::Fields::mac_text, crate::specs::Fields::meta_text, crate::specs::Fields::number_text, crate::specs::Fields::payload_text,))]
 
 ghost use Rattle.std.specs.Prelude.{◌≡◌, ◌+◌, ◌<◌, ◌≤◌, ◌++◌, length, codes, IfOk, OnOk};
 ghost use Rattle.std.specs.String.{string_bytes};
@@ -19,6 +18,7 @@ use std::alloc::{AllocError, Global};
 const FIELDS_START: usize = ADDRESSES_LEN + META_LEN;
 
 /// Adds the line of `len` bytes of the packet from this place on, with their meaning.
+#[tactic(auto, unfolding(crate::specs::Fields::field_text))]
 fn add_field(
     alloc: Global,
     text: &mut String,
@@ -40,6 +40,7 @@ fn add_field(
 }
 
 /// Adds the line of an address.
+#[tactic(auto, unfolding(crate::specs::Fields::address_text))]
 fn add_address(
     alloc: Global,
     text: &mut String,
@@ -57,6 +58,7 @@ fn add_address(
 }
 
 /// Adds the lines of the meta field.
+#[tactic(auto, unfolding(crate::specs::Fields::meta_text))]
 fn add_meta(
     alloc: Global,
     text: &mut String,
@@ -98,6 +100,7 @@ struct Field<'a> {
 
 impl<'a> Field<'a> {
     /// Adds the line of a number in the field, from this place on.
+    #[tactic(auto, unfolding(crate::specs::Fields::number_text))]
     fn add_number(
         &self,
         text: &mut String,
@@ -143,6 +146,7 @@ impl<'a> Field<'a> {
     }
 
     /// Adds the line of the authenticator of a hop field.
+    #[tactic(auto, unfolding(crate::specs::Fields::mac_text))]
     fn add_mac(&self, text: &mut String) -> Result<(), AllocError>
         requires { self.now.start + 12 ≤ length self.now.packet.now }
         ensures { OnOk result (string_bytes text.new ≡ string_bytes text.old
@@ -206,6 +210,7 @@ fn add_info_at(
 }
 
 /// The info fields.
+#[tactic(auto, unfolding(crate::specs::Fields::each_below, crate::specs::Fields::info_fields_text))]
 fn info_fields_text(alloc: Global, packet: &[u8], header: &Header) -> Result<String, AllocError>
     requires { 16 + header_len header.now ≤ length packet.now }
     ensures { IfOk result (λ text. string_bytes text
@@ -244,6 +249,7 @@ fn add_hop_at(
 }
 
 /// The hop fields.
+#[tactic(auto, unfolding(crate::specs::Fields::each_below, crate::specs::Fields::hop_fields_text))]
 fn hop_fields_text(alloc: Global, packet: &[u8], header: &Header) -> Result<String, AllocError>
     requires { 16 + header_len header.now ≤ length packet.now }
     ensures { IfOk result (λ text. string_bytes text
@@ -257,6 +263,7 @@ fn hop_fields_text(alloc: Global, packet: &[u8], header: &Header) -> Result<Stri
 }
 
 /// Adds the line of the payload, if there is one.
+#[tactic(auto, unfolding(crate::specs::Fields::payload_text))]
 fn add_payload(
     alloc: Global,
     text: &mut String,
@@ -292,6 +299,7 @@ fn add_header(
 }
 
 /// Adds the lines after the addresses: of a path header and a payload.
+#[tactic(auto, unfolding(crate::specs::Fields::behind_text))]
 fn add_behind(alloc: Global, text: &mut String, packet: &[u8]) -> Result<(), AllocError>
     requires { 16 ≤ length packet.now }
     ensures { OnOk result (string_bytes text.new
@@ -309,6 +317,7 @@ fn add_behind(alloc: Global, text: &mut String, packet: &[u8]) -> Result<(), All
 /// The fields of a packet, each on a line with its bytes in hexadecimal: addresses, meta field,
 /// info fields, hop fields and payload. If the packet has no addresses or no path header, the lines
 /// say so. `AllocError` if memory runs out.
+#[tactic(auto, unfolding(crate::specs::Fields::addresses_text, crate::specs::Fields::fields_text))]
 pub fn fields_text(alloc: Global, packet: &[u8]) -> Result<String, AllocError>
     ensures { IfOk result (λ text. string_bytes text ≡ fields_text packet.now) }
 {
