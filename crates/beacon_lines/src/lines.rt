@@ -11,12 +11,9 @@ use crate::event::BeaconEvent;
 use crate::line::push_line;
 use crate::options::BeaconingOptions;
 use crate::run::BeaconRun;
-use crate::search::{Limits, spread};
-use crate::ways::WaysOut;
-use isd_as::IsdAs;
-use path_segment::MAX_SEGMENT_LEN;
+use crate::search::SearchGraph;
 use refusal::OrMemory;
-use scion_topology::{LinkClass, Topology, TopologyFault};
+use scion_topology::{Topology, TopologyFault};
 use std::alloc::{AllocError, Global};
 use std::str;
 
@@ -35,20 +32,6 @@ fn to_one_line(alloc: Global, bytes: &[u8]) -> Result<Vec<u8>, AllocError>
     Ok(line)
 }
 
-/// The addresses of the ASes of a topology, in its order.
-fn addresses(alloc: Global, topology: &Topology) -> Result<Vec<IsdAs>, AllocError> {
-    let mut ases = Vec::new(alloc);
-    for one in topology.ases() {
-        ases.push(one.ia)?;
-    }
-    Ok(ases)
-}
-
-/// Whether the AS at this place is a core AS.
-fn is_core(topology: &Topology, place: usize) -> bool {
-    topology.ases().get(place).is_some_and(|one| one.core)
-}
-
 /// The beaconing of a topology.
 fn beaconing_of(
     alloc: Global,
@@ -57,23 +40,10 @@ fn beaconing_of(
 ) -> Result<BeaconRun, AllocError>
     ensures { IfOk result (λ run. run.net.network ≡ topology) }
 {
-    let ases = addresses(alloc, &topology)?;
-    let down = WaysOut::of(alloc, &topology, LinkClass::Child)?;
-    let core = WaysOut::of(alloc, &topology, LinkClass::Core)?;
+    let graph = SearchGraph::of(alloc, &topology)?;
     let mut run = BeaconRun::new(alloc, topology);
     run.attempt(alloc, &BeaconEvent::Tick { now: options.now })?;
-    let (per_pair, entries) = (options.per_pair, options.core_len.min(MAX_SEGMENT_LEN));
-    let long = Limits {
-        per_pair,
-        entries: MAX_SEGMENT_LEN,
-    };
-    let short = Limits { per_pair, entries };
-    for origin in 0..ases.len() {
-        if is_core(run.topology(), origin) {
-            spread(alloc, &mut run, &ases, &down, origin, long)?;
-            spread(alloc, &mut run, &ases, &core, origin, short)?;
-        }
-    }
+    graph.spread(alloc, &mut run, options)?;
     Ok(run)
 }
 
@@ -87,6 +57,29 @@ fn push_lines(text: &mut String, events: &[BeaconEvent]) -> Result<(), AllocErro
         push_line(text, *event)?;
     }
     Ok(())
+}
+
+/// A line, with its end, and the lines of events behind it.
+fn text_of(alloc: Global, line: &str, events: &[BeaconEvent]) -> Result<String, AllocError>
+    ensures { IfOk result (λ text. string_bytes text ≡ (line.now ++ codes "\n")
+        ++ flat_map (λ event. event_line (network_event event)) events.now) }
+{
+    let mut text = String::from_str(alloc, line)?;
+    text.push_str("\n")?;
+    push_lines(&mut text, events)?;
+    Ok(text)
+}
+
+/// The lines of a complete beaconing of the topology in this line, which is the first of them.
+fn lines_from(alloc: Global, line: &str, options: &BeaconingOptions) -> Result<String, ReadError>
+    ensures lines { IfOk result (λ text. AreBeaconLines line.now (string_bytes text)) }
+    ensures refused { IfErr result (λ error. (fault : TopologyFault)
+        → error ≡ OrMemory.Refused fault → network_in line.now ≡ Err fault) }
+{
+    let network = Topology::from_json(alloc, line.as_bytes())?;
+    network.known();
+    let run = beaconing_of(alloc, network, options)?;
+    Ok(text_of(alloc, line, run.events())?)
 }
 
 /// The lines of a complete beaconing of a topology, as `scionet run` takes them: the topology, the
@@ -111,14 +104,8 @@ pub fn beacon_lines(
         → error ≡ OrMemory.Refused fault → network_in (one_line topology.now) ≡ Err fault) }
 {
     let line = to_one_line(alloc, topology)?;
-    let Ok(line) = str::from_utf8(&line) else {
-        return Err(OrMemory::Refused(TopologyFault::NotJson));
-    };
-    let network = Topology::from_json(alloc, line.as_bytes())?;
-    network.known();
-    let run = beaconing_of(alloc, network, options)?;
-    let mut text = String::from_str(alloc, line)?;
-    text.push_str("\n")?;
-    push_lines(&mut text, run.events())?;
-    Ok(text)
+    match str::from_utf8(&line) {
+        Ok(line) => lines_from(alloc, line, options),
+        Err(_) => Err(OrMemory::Refused(TopologyFault::NotJson)),
+    }
 }

@@ -3,17 +3,19 @@
 ghost use Rattle.std.specs.Prelude.{◌≡◌};
 
 use crate::event::{BeaconEvent, Effect};
+use crate::options::BeaconingOptions;
 use crate::run::BeaconRun;
 use crate::ways::{WayOut, WaysOut};
 use isd_as::IsdAs;
 use path_segment::MAX_SEGMENT_LEN;
+use scion_topology::{LinkClass, Topology};
 use std::alloc::{AllocError, Global};
 
 /// The largest number of segments to each AS, and of the entries of each.
 #[derive(Clone, Copy)]
-pub(crate) struct Limits {
-    pub(crate) per_pair: usize,
-    pub(crate) entries: usize,
+struct Limits {
+    per_pair: usize,
+    entries: usize,
 }
 
 /// A beacon that has reached an AS and was ended there.
@@ -170,7 +172,7 @@ impl<'a> OriginBeacons<'a> {
 ///
 /// A beacon reaches an AS before another if it has fewer entries, or as many and comes first by its
 /// interfaces. No beacon passes an AS twice.
-pub(crate) fn spread(
+fn spread_from(
     alloc: Global,
     run: &mut BeaconRun,
     ases: &[IsdAs],
@@ -193,4 +195,66 @@ pub(crate) fn spread(
         }
     }
     Ok(())
+}
+
+/// The addresses of the ASes of a topology, in its order.
+fn addresses(alloc: Global, topology: &Topology) -> Result<Vec<IsdAs>, AllocError> {
+    let mut ases = Vec::new(alloc);
+    for one in topology.ases() {
+        ases.push(one.ia)?;
+    }
+    Ok(ases)
+}
+
+/// Whether the AS at this place is a core AS.
+fn is_core(topology: &Topology, place: usize) -> bool {
+    topology.ases().get(place).is_some_and(|one| one.core)
+}
+
+/// The ASes of a topology, in its order, and the ways out of each.
+#[derive(Drop)]
+pub(crate) struct SearchGraph {
+    ases: Vec<IsdAs>,
+    /// The ways by child links.
+    down: WaysOut,
+    /// The ways by core links.
+    core: WaysOut,
+}
+
+impl SearchGraph {
+    /// The graph of a topology.
+    pub(crate) fn of(alloc: Global, topology: &Topology) -> Result<SearchGraph, AllocError> {
+        Ok(SearchGraph {
+            ases: addresses(alloc, topology)?,
+            down: WaysOut::of(alloc, topology, LinkClass::Child)?,
+            core: WaysOut::of(alloc, topology, LinkClass::Core)?,
+        })
+    }
+
+    /// Has each core AS begin beacons over its links: down child links, and over core links.
+    pub(crate) fn spread(
+        &self,
+        alloc: Global,
+        run: &mut BeaconRun,
+        options: &BeaconingOptions,
+    ) -> Result<(), AllocError>
+        ensures { run.new.net.network ≡ run.old.net.network }
+    {
+        let per_pair = options.per_pair;
+        let long = Limits {
+            per_pair,
+            entries: MAX_SEGMENT_LEN,
+        };
+        let short = Limits {
+            per_pair,
+            entries: options.core_len.min(MAX_SEGMENT_LEN),
+        };
+        for origin in 0..self.ases.len() {
+            if is_core(run.topology(), origin) {
+                spread_from(alloc, run, &self.ases, &self.down, origin, long)?;
+                spread_from(alloc, run, &self.ases, &self.core, origin, short)?;
+            }
+        }
+        Ok(())
+    }
 }

@@ -1,6 +1,6 @@
 -- The topology stays.
 use Rattle.std.proofs.Common.{◌≡◌}
-use Rattle.beacon_lines.proofs.search.spread.Given as goal
+use Rattle.beacon_lines.proofs.search.spread_from.Given as goal
 
 abbrev pub invariant-loop-way : goal.invariant-loop-way
 invariant-loop-way l = l.run.net.network ≡ l.fn.run.net.network

@@ -1,6 +1,0 @@
--- The topology stays.
-use Rattle.std.proofs.Common.{◌≡◌}
-use Rattle.beacon_lines.proofs.lines.beaconing_of.Given as goal
-
-abbrev pub invariant-loop-origin : goal.invariant-loop-origin
-invariant-loop-origin l = l.run.net.network ≡ l.fn.topology

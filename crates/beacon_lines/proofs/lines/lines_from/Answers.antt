@@ -1,0 +1,20 @@
+use Rattle.std.proofs.Common.{◌≡◌, Ok, sym, ap, ◌∙◌, subst}
+use Rattle.std.specs.String.{string_bytes}
+use Rattle.scion_topology.specs.Topology.{network_in}
+use Rattle.beacon_lines.specs.Beaconing.{IsBeaconing}
+use Rattle.beacon_lines.proofs.Saying.{are_lines}
+use Rattle.beacon_lines.proofs.lines.lines_from.Goals as goal
+
+pub returns-clause-lines : goal.returns-clause-lines
+returns-clause-lines c =
+    let line = c.args.line.now in
+    let topology : network_in line ≡ Ok c.in_ok-network.network =
+    subst (λ b. network_in b ≡ Ok c.in_ok-network.network) c.as_bytes.ensures.value c.in_ok-network.ensures.value in
+    let events = c.events.result.now in
+    let same : c.run.inside.net.network ≡ c.in_ok-network.network =
+    ap (λ v. v.net.network) c.run.view_is ∙ c.in_ok-run.ensures in
+    let shown = ap (λ v. v.events) c.run.view_is ∙ sym c.events.ensures in
+    are_lines line (string_bytes c.in_ok-text_of.field-0) c.in_ok-network.network events c.run.inside.net topology
+    c.known.ensures same
+    (subst (λ es. IsBeaconing c.run.inside.net.network es c.run.inside.net) shown c.run.invariant)
+    c.in_ok-text_of.ensures
