@@ -102,8 +102,24 @@ fn push_refusal(
     push_reason(text, line, &why)
 }
 
-/// Adds what there is to say of a line, and notes what it has made.
+/// Adds why a line is refused, if it is, and the warnings about it.
 #[tactic(auto, using(crate::proofs::Telling::told))]
+fn push_comments(
+    alloc: Global,
+    text: &mut String,
+    context: &Context<'_>,
+    line: &Line<'_>,
+    value: Option<&Value>,
+) -> Result<(), AllocError>
+    ensures { OnOk result (Adds (IsTold line.now.number line.now.reply.now)
+        (string_bytes text.old) (string_bytes text.new)) }
+{
+    push_refusal(alloc, text, context, line, value)?;
+    let warnings = warnings_of(alloc, context, line, value)?;
+    push_warnings(text, line.number, &warnings)
+}
+
+/// Adds what there is to say of a line, and notes what it has made.
 fn push_told(
     alloc: Global,
     text: &mut String,
@@ -114,9 +130,7 @@ fn push_told(
         (string_bytes text.old) (string_bytes text.new)) }
 {
     let value = read(alloc, line.bytes)?;
-    push_refusal(alloc, text, context, line, value.as_ref())?;
-    let warnings = warnings_of(alloc, context, line, value.as_ref())?;
-    push_warnings(text, line.number, &warnings)?;
+    push_comments(alloc, text, context, line, value.as_ref())?;
     context.history.add(value.as_ref(), line.reply);
     Ok(())
 }

@@ -24,23 +24,24 @@ pub(crate) struct Context<'a> {
 
 /// The name of the member of an event that the refusal of this number is about.
 fn subject_of(context: &Context<'_>, code: u16, event: &Value) -> &'static str {
-    match (word_of(event), code) {
-        ("send", 14 | 17 | 70..=82) => "path",
-        ("originate", 42) => "egress",
-        (_, 14 | 33 | 40 | 44) => "ia",
-        (_, 41 | 43) => "egress",
-        (_, 31 | 42 | 50 | 51 | 132) => "beacon",
-        (_, 17) => "if",
-        (_, 67) => "options",
-        (_, 85) => "dst",
-        (_, 133) if whole_of(event, "ask") < Some(context.history.answers) => "path",
-        (_, 133) => "ask",
-        (_, 70..=82 | 130 | 131 | 139) => "packet",
-        (_, 11) => "key",
-        (_, 134) => "now",
-        (_, 135) => "payload",
-        (_, 136) => "at",
-        (_, 137) => "limit",
+    let word = word_of(event);
+    match code {
+        14 | 17 | 70..=82 if word == "send" => "path",
+        42 if word == "originate" => "egress",
+        14 | 33 | 40 | 44 => "ia",
+        41 | 43 => "egress",
+        31 | 42 | 50 | 51 | 132 => "beacon",
+        17 => "if",
+        67 => "options",
+        85 => "dst",
+        133 if whole_of(event, "ask") < Some(context.history.answers) => "path",
+        133 => "ask",
+        70..=82 | 130 | 131 | 139 => "packet",
+        11 => "key",
+        134 => "now",
+        135 => "payload",
+        136 => "at",
+        137 => "limit",
         _ => "do",
     }
 }
