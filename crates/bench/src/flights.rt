@@ -6,7 +6,7 @@ ghost use Rattle.std.specs.Prelude.{◌≡◌, ◌<◌, ◌≤◌, All, IfOk};
 use crate::carried;
 use anyhow::{Context, Result};
 use event_lines::{AcceptedLines, listen};
-use network_core::{Net, Packet};
+use network_core::Net;
 use router_workers::{End, Flight, OpenGate, Report, run_workers};
 use scion_topology::Topology;
 use std::alloc::Global;
@@ -43,16 +43,13 @@ fn network(alloc: Global) -> Result<Net> {
     Ok(listen(alloc, AcceptedLines::Preparing, &mut source, &mut sink)?)
 }
 
-/// The flights of both packets in turn.
-fn flights_of<'n>(
-    alloc: Global,
-    net: &'n Net,
-    there: &'n Packet,
-    back: &'n Packet,
-) -> Result<Vec<Flight<'n>>>
+/// The flights of the packets of these numbers in turn.
+fn flights_of(alloc: Global, net: &Net, there: usize, back: usize) -> Result<Vec<Flight<'_>>>
     ensures { IfOk result (λ flights.
         All (λ flight. flight.fabric ≡ net.now.network) flights.items) }
 {
+    let there = net.packet(there).context("the packet was not sent")?;
+    let back = net.packet(back).context("no packet was sent back")?;
     let mut flights = Vec::new(alloc);
     for number in 0..FLIGHTS {
         let packet = if number % 2 == 0 { there } else { back };
@@ -106,9 +103,7 @@ pub(crate) fn flights<R: Threads + Wait + Sync>(
     count: u32,
 ) -> Result<u64> {
     let net = network(alloc)?;
-    let there = net.packet(0).context("the packet was not sent")?;
-    let back = net.packet(1).context("no packet was sent back")?;
-    let flights = flights_of(alloc, &net, there, back)?;
+    let flights = flights_of(alloc, &net, 0, 1)?;
     turns_of(rt, alloc, net.topology(), &flights, workers, count)
 }
 
@@ -121,7 +116,6 @@ pub(crate) fn even_flights<R: Threads + Wait + Sync>(
     count: u32,
 ) -> Result<u64> {
     let net = carried::network_with_packet(alloc)?;
-    let packet = net.packet(0).context("the packet was not sent")?;
-    let flights = flights_of(alloc, &net, packet, packet)?;
+    let flights = flights_of(alloc, &net, 0, 0)?;
     turns_of(rt, alloc, net.topology(), &flights, workers, count)
 }

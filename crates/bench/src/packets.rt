@@ -90,14 +90,25 @@ fn worth<T: Drop>(answer: &Result<Outcome, T>) -> u64 {
     }
 }
 
+/// The views of the first few routers on the way of the packet, and how it comes to them.
+fn first_views<'t>(
+    alloc: Global,
+    topology: &'t Topology,
+    input: &Input,
+    most: usize,
+) -> Result<Vec<(RouterView<'t>, Arrival)>> {
+    let mut views = Vec::new(alloc);
+    for (ia, router, arrival) in input.stops.iter().take(most) {
+        views.push((topology.view(*ia, *router)?, *arrival))?;
+    }
+    Ok(views)
+}
+
 /// Lets a packet pass the first few routers on its way, `count` times and each time from its start,
 /// and sums their answers.
 pub(crate) fn ways(alloc: Global, input: &Input, most: usize, count: u32) -> Result<u64> {
     let topology = Topology::from_json(alloc, input.topology.as_bytes())?;
-    let mut views: Vec<(RouterView<'_>, Arrival)> = Vec::new(alloc);
-    for (ia, router, arrival) in input.stops.iter().take(most) {
-        views.push((topology.view(*ia, *router)?, *arrival))?;
-    }
+    let views = first_views(alloc, &topology, input, most)?;
     let mut packet = input.packet.clone()?;
     let mut sum = 0u64;
     for _ in 0..count {
