@@ -4,11 +4,14 @@ proved and built.
 
 The replies to the networks of `examples/` have to be those that `scionet run` gives without the
 server, and so have the views. A page loaded anew, a second page, and a process that has ended must
-make no difference. Requests that are not those of the page have to be refused. Where node is there,
-the buttons of the page are pressed too.
+make no difference. Requests that are not those of the page have to be refused. The buttons of the
+page itself are pressed where node is there, without a window, and where `chromium` is there, in its
+tabs.
 
-The word is, if there is one, the folder with the built programs. The last line has the number of
-checks and of what was wrong; the status is 1 where something was."""
+The word is, if there is one, the folder with the built programs; with `--pictures FOLDER` pictures
+of the page in the browser are written. The last line has the number of checks and of what was
+wrong; the status is 1 where something was."""
+import argparse
 import http.client
 import json
 import re
@@ -20,8 +23,14 @@ import time
 from pathlib import Path
 from urllib.parse import parse_qs, urlsplit
 
+import browser
+
 ROOT = Path(__file__).resolve().parent.parent
-PROGRAMS = Path(sys.argv[1] if sys.argv[1:] else ROOT / "crates")
+WORDS = argparse.ArgumentParser()
+WORDS.add_argument("programs", nargs="?", type=Path, default=ROOT / "crates")
+WORDS.add_argument("--pictures", type=Path)
+GIVEN = WORDS.parse_args()
+PROGRAMS = GIVEN.programs
 SECONDS = 30
 
 # The most turns of a packet, and the bounds of the server that are tried.
@@ -316,14 +325,203 @@ def check_strangers(checks, server, networks):
         checks.same(f"{method} {path.partition('=')[0]} {changed}", found, status)
 
 
-def check_page(checks, server):
-    """The page itself, where node is there: its buttons are pressed without a browser."""
-    script, page = ROOT / ".ci" / "playground.js", ROOT / "tools" / "playground.html"
-    words = ["node", str(script), str(page), server.address.geturl()]
-    done = subprocess.run(words, capture_output=True, text=True, timeout=SECONDS, check=False)
-    checks.same("the page in node", (done.returncode, done.stderr), (0, ""))
-    for it in json.loads(done.stdout or "[]"):
-        checks.same(*it)
+class NodeWindow:
+    """The page in node, without a window."""
+
+    kind = "node"
+
+    def __init__(self, server):
+        script, page = ROOT / ".ci" / "playground.js", ROOT / "tools" / "playground.html"
+        words = ["node", str(script), str(page), server.address.geturl()]
+        self.process = subprocess.Popen(
+            words, stdin=subprocess.PIPE, stdout=subprocess.PIPE, text=True)
+        self.load()
+
+    def ask(self, *command):
+        print(json.dumps(command), file=self.process.stdin, flush=True)
+        answer = self.process.stdout.readline()
+        if not answer:
+            sys.exit(f"playground: node has ended at {command}")
+        return json.loads(answer)
+
+    def load(self):
+        self.ask("load")
+
+    def press(self, name):
+        self.ask("press", name)
+
+    def text(self, name):
+        return self.ask("text", name)
+
+    def value(self, name):
+        return self.ask("value", name)
+
+    def set(self, name, value):
+        self.ask("set", name, value)
+
+    def changed(self):
+        return self.ask("changed")
+
+    def close(self):
+        self.process.stdin.close()
+        self.process.wait(SECONDS)
+
+
+class BrowserWindow:
+    """The page in a tab of a browser."""
+
+    kind = "a tab"
+    # A page that does something has no button to press; one that is not loaded has no notice.
+    REST = """new Promise(done => {
+        const notice = () => document.getElementById("notice")?.textContent;
+        const isBusy = () => !notice() || document.getElementById("load").disabled;
+        const wait = () => isBusy() ? setTimeout(wait, 5) : done();
+        wait();
+    })"""
+
+    def __init__(self, tab):
+        self.tab = tab
+        self.tab.value(self.REST)
+
+    def element(self, name, rest):
+        return self.tab.value(f"document.getElementById({json.dumps(name)}){rest}")
+
+    def load(self):
+        self.tab.reload()
+        self.tab.value(self.REST)
+
+    def press(self, name):
+        self.element(name, ".click()")
+        self.tab.value(self.REST)
+
+    def text(self, name):
+        return self.element(name, ".textContent")
+
+    def value(self, name):
+        return self.element(name, ".value")
+
+    def set(self, name, value):
+        self.element(name, f".value = {json.dumps(value)}")
+
+    def changed(self):
+        return self.tab.value(
+            'Array.from(document.querySelectorAll("#fields .changed"), it => it.textContent)')
+
+
+class Hand:
+    """What presses the buttons of a page, and checks what it says."""
+
+    def __init__(self, checks, window):
+        self.checks, self.window = checks, window
+
+    def has(self, what, found, wanted):
+        self.checks.same(f"the page in {self.window.kind}, {what}", found, wanted)
+
+    def says(self, what, wanted):
+        found = self.window.text("notice")
+        self.has(what, wanted if found.startswith(wanted) else found, wanted)
+
+    def press(self, names, wanted, **values):
+        """Fills fields in, presses buttons, and checks what the page says after the last."""
+        for name, value in values.items():
+            self.window.set(name, value)
+        for name in names.split():
+            self.window.press(name)
+        self.says(f"after {names}", wanted)
+
+    def checked(self):
+        """The first and the last line of what a router checked."""
+        lines = self.window.text("checks").split("\n")
+        return [lines[0], lines[-1]]
+
+
+def check_tutorial(hand):
+    """The steps of docs/tutorial.md."""
+    window = hand.window
+    hand.says("when it is loaded", "topology ok")
+    hand.press("next next next", "beacon 1")
+    hand.press("next", "segment new")
+    ends = {"from": "1-ff00:0:112", "to": "1-ff00:0:110"}
+    hand.press("ask", "ask 0 0", acl="- 1-ff00:0:111\n+", **ends)
+    walk = "1-ff00:0:112#0,1 1-ff00:0:111#2,1 1-ff00:0:110#1,0"
+    hand.press("ask", f"ask 1 1; {walk}", acl="", sequence="0* 1-ff00:0:110")
+    hand.press("send", "packet 0")
+    hand.has("the place of a packet", window.text("place"), "at 1-ff00:0:112 0")
+    hand.has("its kind", window.text("about").split("\n")[1], "kind U")
+    hand.press("turn", "link 1")
+    hand.has("what a turn changed", window.changed(), ["01at info field 0, hop field 1"])
+    for router in ("1-ff00:0:112", "1-ff00:0:111"):
+        checked = [f"router 0 of {router} checked:", "link 1"]
+        hand.has(f"what {router} checked", hand.checked(), checked)
+        hand.press(*(("turn", "link 1") if router.endswith("2") else ("turns", "delivered")))
+
+
+def check_page_refusals(hand):
+    """Refusals of a policy, an event, the verifier and routers, on the page of the tutorial."""
+    hand.press("back turns", "delivered")
+    hand.press("send turn cut turn", "refused 100 LinkDown: The link at the hop's way out",
+               link="1-ff00:0:110#1")
+    hand.press("mend send alter turn", "refused 94 BadMac: The hop's authenticator", at=34, xor=1)
+    hand.press("send tick turn", "refused 93 Expired: The hop is past its expiry.", seconds=21601)
+    hand.press("send", "no 79 Expired: A hop of the path is not live.")
+    hand.press("ask", "no 65 NoDefault", acl="- 1-ff00:0:111")
+    originate = written("originate", ia="1-ff00:0:111", egress=1, beta0=0)
+    hand.press("give", "no 40 NotCore", acl="", own=originate)
+
+
+def check_reload(hand):
+    """The page of the tutorial, loaded anew."""
+    window = hand.window
+    before = [window.value("lines"), window.text("log")]
+    window.load()
+    count = len(before[0].splitlines())
+    wanted = f"{count} lines of before the reload were given to a new process."
+    hand.has("when it is loaded anew", window.text("notice"), wanted)
+    hand.has("its lines and replies", [window.value("lines"), window.text("log")], before)
+
+
+def check_other_networks(hand):
+    """The other examples, a topology that is pasted, and one that is refused."""
+    for example in ("pair", "fork"):
+        hand.press("load plan all ask send turns", "delivered", example=example)
+    topology = hand.window.value("lines").splitlines()[0]
+    pasted = json.dumps(json.loads(topology), indent=2)
+    hand.press("load-pasted", "topology ok", pasted=pasted)
+    hand.press("load-pasted", "topology no 11 BadField: A field is missing", pasted='{"ases":3}')
+    hand.press("sweep", "Load a network first.")
+
+
+def check_page(checks, server, window):
+    """The page itself: its buttons are pressed."""
+    hand = Hand(checks, window)
+    check_tutorial(hand)
+    check_page_refusals(hand)
+    for pid in server.children():
+        subprocess.run(["kill", "-9", str(pid)], check=True)
+    hand.press("give", "no 140 BadLine", own="{}")
+    check_reload(hand)
+    check_other_networks(hand)
+
+
+def check_tabs(checks, server):
+    """The page in a browser, with a second tab beside it."""
+    shown = browser.Browser()
+    try:
+        tabs = [shown.tab(server.address.geturl()) for _ in range(2)]
+        one, other = (BrowserWindow(tab) for tab in tabs)
+        hand = Hand(checks, other)
+        hand.press("load plan all ask send turns", "delivered", example="pair")
+        lines = other.value("lines")
+        tabs[0].show()
+        check_page(checks, server, one)
+        hand.has("after another tab", other.value("lines"), lines)
+        tabs[1].show()
+        hand.press("send turns", "delivered")
+        for number, tab in enumerate(tabs if GIVEN.pictures else []):
+            tab.show()
+            tab.picture(GIVEN.pictures / f"{number}.png")
+    finally:
+        shown.stop()
 
 
 def check_rate(checks, server):
@@ -348,7 +546,11 @@ def main():
         check_strangers(checks, server, networks)
         checks.same("processes of strangers", server.children(), before)
         if shutil.which("node"):
-            check_page(checks, server)
+            window = NodeWindow(server)
+            check_page(checks, server, window)
+            window.close()
+        if browser.is_there():
+            check_tabs(checks, server)
         check_rate(checks, server)
     finally:
         children, status = server.children(), server.stop()
