@@ -8,11 +8,11 @@ use Rattle.network_core.specs.Event.{EventValue}
 use Rattle.network_core.specs.Value.{NetValue, new_net}
 use Rattle.network_core.specs.Step.{Step}
 use Rattle.network_core.specs.History.{EventRecord, IsHistory, net_after}
-use Rattle.network_core.specs.Delivery.{IsFramed, is_done}
+use Rattle.network_core.specs.Delivery.{IsFramed}
 use Rattle.beacon_lines.specs.declared.event.BeaconEvent.{BeaconEvent}
 use Rattle.beacon_lines.specs.declared.event.BeaconEvent.TheVariants as events
-use Rattle.beacon_lines.specs.Beaconing.{IsBeaconing, IsOfBeaconing, StaysStored, network_event}
-use Rattle.beacon_lines.proofs.Growing.{grows, stays}
+use Rattle.beacon_lines.specs.Beaconing.{IsBeaconing, IsOfBeaconing, StaysStored, brings_new, network_event}
+use Rattle.beacon_lines.proofs.Growing.{done_of, grows, stays}
 
 pub begins : (network : Network) → IsBeaconing network [] (new_net network)
 begins network = record {
@@ -21,7 +21,7 @@ begins network = record {
   framed = All-nil (λ (m : EventRecord). IsFramed m.event m.reply m.net);
   of = refl;
   ends = refl;
-  done = All-nil (λ (m : EventRecord). is_done m.reply ≡ true);
+  done = All-nil (λ (m : EventRecord). brings_new m.reply ≡ true);
   own = All-nil IsOfBeaconing;
   stored = All-nil (StaysStored (new_net network));
 }
@@ -37,12 +37,12 @@ net_more start [] m = refl
 net_more start (x ∷ history) m = net_more x.net history m
 
 pub goes_on : (network : Network) (events : List EventValue) (net new : NetValue) (event : EventValue) (reply : Reply)
-    → IsBeaconing network events net → Step net event reply new → IsFramed event reply new → is_done reply ≡ true
+    → IsBeaconing network events net → Step net event reply new → IsFramed event reply new → brings_new reply ≡ true
     → IsOfBeaconing event → IsBeaconing network (events ++ event ∷ []) new
 goes_on network events net new event reply b step framed done own =
     let m : EventRecord = record { event = event; reply = reply; net = new } in
     let start = new_net network in
-    let facts = grows net new event reply own step done in
+    let facts = grows net new event reply own step (done_of reply done) in
     let still : All (StaysStored new) events = λ k d within. stays net new facts.0 _ (b.stored k d within) in
     record {
       history = b.history ++ m ∷ [];
@@ -50,19 +50,19 @@ goes_on network events net new event reply b step framed done own =
       framed = All-push (λ (x : EventRecord). IsFramed x.event x.reply x.net) b.history m b.framed framed;
       of = map-append (λ (x : EventRecord). x.event) b.history (m ∷ []) ∙ ap (λ es. es ++ event ∷ []) b.of;
       ends = net_more start b.history m;
-      done = All-push (λ (x : EventRecord). is_done x.reply ≡ true) b.history m b.done done;
+      done = All-push (λ (x : EventRecord). brings_new x.reply ≡ true) b.history m b.done done;
       own = All-push IsOfBeaconing events event b.own own;
       stored = All-push (StaysStored new) events event still facts.1;
     }
 
 pub same_network : (net new : NetValue) (event : EventValue) (reply : Reply) → IsOfBeaconing event
     → Step net event reply new
-    → is_done reply ≡ true → new.network ≡ net.network
-same_network net new event reply own step done = (grows net new event reply own step done).0.network
+    → brings_new reply ≡ true → new.network ≡ net.network
+same_network net new event reply own step done = (grows net new event reply own step (done_of reply done)).0.network
 
 -- the same, from the topology that the network has
 pub next : (net new : NetValue) (events : List EventValue) (event : EventValue) (reply : Reply)
-    → IsBeaconing net.network events net → Step net event reply new → IsFramed event reply new → is_done reply ≡ true
+    → IsBeaconing net.network events net → Step net event reply new → IsFramed event reply new → brings_new reply ≡ true
     → IsOfBeaconing event → IsBeaconing new.network (events ++ event ∷ []) new
 next net new events event reply b step framed done own =
     subst (λ n. IsBeaconing n (events ++ event ∷ []) new) (sym (same_network net new event reply own step done))

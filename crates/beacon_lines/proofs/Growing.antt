@@ -18,7 +18,8 @@ use Rattle.network_core.specs.Value.{NetValue}
 use Rattle.network_core.specs.Step.{Made, has_room, with_beacon, with_segment, beacon_at, new_segment, originates, extends, terminates, ticks, Leads, Step}
 use Rattle.network_core.specs.Delivery.{is_done}
 use Rattle.network_core.proofs.Effects.{both_done, done_below}
-use Rattle.beacon_lines.specs.Beaconing.{IsOfBeaconing, StaysStored}
+use Rattle.network_core.specs.declared.reply.Reply.TheVariants as replies
+use Rattle.beacon_lines.specs.Beaconing.{IsOfBeaconing, StaysStored, brings_new}
 
 -- the topology stays, and so do beacons by their numbers and stored segments
 pub record Grows (old new : NetValue) : Type 0 where
@@ -136,34 +137,61 @@ grows old new (Terminate beacon ia) reply own is done =
     ends old new beacon ia made.0 made.1.0 made.1.1
 grows old new event reply own is done = absurd own
 
--- an event of a beaconing that is not done changes nothing
-unled : (made : Made) (old : NetValue) (reply : Reply) (new : NetValue) → Leads made old reply new
-    → is_done reply ≡ false
-    → ((x : Reply × NetValue) → made ≡ Ok x → is_done x.0 ≡ true) → new ≡ old
-unled (Ok x) old reply new is undone made = absurd (let done = ap is_done is.0 ∙ made x refl in cc)
-unled (Err fault) old reply new is undone made = is.1
+-- what brings something new was done
+pub done_of : (reply : Reply) → brings_new reply ≡ true → is_done reply ≡ true
+done_of (replies.Registered is_new) new = refl
+done_of reply new = new
 
-begun_done : (net : NetValue) (chain : Chain) (x : Reply × NetValue) → with_beacon net chain ≡ Ok x → is_done x.0 ≡ true
-begun_done net chain x made =
+-- an event of a beaconing that brings nothing new changes nothing
+unled : (made : Made) (old : NetValue) (reply : Reply) (new : NetValue) → Leads made old reply new
+    → brings_new reply ≡ false
+    → ((x : Reply × NetValue) → made ≡ Ok x → brings_new x.0 ≡ true) → new ≡ old
+unled (Ok x) old reply new is none made = absurd (let done = ap brings_new is.0 ∙ made x refl in cc)
+unled (Err fault) old reply new is none made = is.1
+
+begun_new : (net : NetValue) (chain : Chain) (x : Reply × NetValue) → with_beacon net chain ≡ Ok x → brings_new x.0 ≡ true
+begun_new net chain x made =
     let inner = both_done (check (has_room net.beacons) faults.TooMany) _ x made in
-    ap (λ (p : Reply × NetValue). is_done p.0) (sym (ok_is _ x inner.1.1))
+    ap (λ (p : Reply × NetValue). brings_new p.0) (sym (ok_is _ x inner.1.1))
+
+known_same : (segments : List Chain) (segment : Chain) (now : ℕ) → answer_to segments segment now ≡ Ok false
+    → with_registered segments segment now ≡ segments
+unfolding with_registered
+known_same segments segment now is = ap (λ (a : Result Bool StoreFault). with_new a segments segment) is
+
+-- the end of a beacon whose segment is stored already
+ends_same : (old new : NetValue) (beacon ia : ℕ) (x : Reply × NetValue) → terminates old beacon ia ≡ Ok x → new ≡ x.1
+    → brings_new x.0 ≡ false → new ≡ old
+ends_same old new beacon ia x made is none =
+    let outer = both_done (new_segment old beacon ia) (with_segment old) x made in
+    let segment = outer.0 in
+    let inner = both_done (refused_as faults.Store (answer_to old.segments segment old.moment)) _ x outer.1.1 in
+    let pair = ok_is _ x inner.1.1 in
+    let known : inner.0 ≡ false = ap (λ (p : Reply × NetValue). brings_new p.0) pair ∙ none in
+    let answer : answer_to old.segments segment old.moment ≡ Ok false =
+    done_below faults.Store (answer_to old.segments segment old.moment) inner.0 inner.1.0 ∙ ap (λ (b : Bool). Ok b) known in
+    is ∙ ap (λ (p : Reply × NetValue). p.1) (sym pair)
+    ∙ ap (λ (s : List Chain). record old { segments = s }) (known_same old.segments segment old.moment answer)
+
+ends_none : (made : Made) (old : NetValue) (reply : Reply) (new : NetValue) → Leads made old reply new
+    → brings_new reply ≡ false
+    → ((x : Reply × NetValue) → made ≡ Ok x → new ≡ x.1 → brings_new x.0 ≡ false → new ≡ old) → new ≡ old
+ends_none (Ok x) old reply new is none made = made x refl is.1 (sym (ap brings_new is.0) ∙ none)
+ends_none (Err fault) old reply new is none made = is.1
 
 pub unchanged : (old new : NetValue) (event : EventValue) (reply : Reply) → IsOfBeaconing event
-    → Step old event reply new → is_done reply ≡ false
+    → Step old event reply new → brings_new reply ≡ false
     → new ≡ old
-unchanged old new (Tick to) reply own is undone =
-    unled (ticks old to) old reply new is undone (λ x made.
+unchanged old new (Tick to) reply own is none =
+    unled (ticks old to) old reply new is none (λ x made.
     (let inner = both_done _ (λ _. Ok (Done, record old { moment = to })) x made in
-    ap (λ (p : Reply × NetValue). is_done p.0) (sym (ok_is _ x inner.1.1))))
-unchanged old new (Originate ia egress beta) reply own is undone =
-    unled (originates old ia egress beta) old reply new is undone (λ x made.
-    (let inner = both_done (refused_as faults.Beacon (originated_beacon old.network ia egress old.moment beta)) (with_beacon old) x made in begun_done old inner.0 x inner.1.1))
-unchanged old new (Extend beacon ia egress) reply own is undone =
-    unled (extends old beacon ia egress) old reply new is undone (λ x made.
-    (let inner = both_done (beacon_at old beacon >>= λ from. refused_as faults.Beacon (extended_beacon old.network from ia egress)) (with_beacon old) x made in begun_done old inner.0 x inner.1.1))
-unchanged old new (Terminate beacon ia) reply own is undone =
-    unled (terminates old beacon ia) old reply new is undone (λ x made.
-    (let outer = both_done (new_segment old beacon ia) (with_segment old) x made in
-    let inner = both_done (refused_as faults.Store (answer_to old.segments outer.0 old.moment)) _ x outer.1.1 in
-    ap (λ (p : Reply × NetValue). is_done p.0) (sym (ok_is _ x inner.1.1))))
-unchanged old new event reply own is undone = absurd own
+    ap (λ (p : Reply × NetValue). brings_new p.0) (sym (ok_is _ x inner.1.1))))
+unchanged old new (Originate ia egress beta) reply own is none =
+    unled (originates old ia egress beta) old reply new is none (λ x made.
+    (let inner = both_done (refused_as faults.Beacon (originated_beacon old.network ia egress old.moment beta)) (with_beacon old) x made in begun_new old inner.0 x inner.1.1))
+unchanged old new (Extend beacon ia egress) reply own is none =
+    unled (extends old beacon ia egress) old reply new is none (λ x made.
+    (let inner = both_done (beacon_at old beacon >>= λ from. refused_as faults.Beacon (extended_beacon old.network from ia egress)) (with_beacon old) x made in begun_new old inner.0 x inner.1.1))
+unchanged old new (Terminate beacon ia) reply own is none =
+    ends_none (terminates old beacon ia) old reply new is none (λ x made at known. ends_same old new beacon ia x made at known)
+unchanged old new event reply own is none = absurd own

@@ -1,12 +1,14 @@
 -- A beaconing: ASes begin, pass on and end beacons (draft-dekater-scion-controlplane, path
 -- construction).
-use Rattle.std.specs.Prelude.{◌≡◌, true, List, map, All, Contains, Ok}
+use Rattle.std.specs.Prelude.{◌≡◌, Bool, true, List, map, All, Contains, Ok}
 use Rattle.scion_topology.specs.Network.{Network}
 use Rattle.path_segment.specs.Chain.{Chain}
 use Rattle.network_core.specs.Event.{EventValue, Tick, Originate, Extend, Terminate}
 use Rattle.network_core.specs.Value.{NetValue, new_net}
 use Rattle.network_core.specs.Step.{new_segment}
 use Rattle.network_core.specs.History.{EventRecord, IsHistory, net_after}
+use Rattle.network_core.specs.declared.reply.Reply.{Reply}
+use Rattle.network_core.specs.declared.reply.Reply.TheVariants as replies
 use Rattle.network_core.specs.Delivery.{AllFramed, is_done}
 use Rattle.beacon_lines.specs.declared.event.BeaconEvent.{BeaconEvent}
 use Rattle.beacon_lines.specs.declared.event.BeaconEvent.TheVariants as events
@@ -32,15 +34,20 @@ StaysStored net (Terminate beacon ia) =
     (segment : Chain) × ((new_segment net beacon ia ≡ Ok segment) × Contains net.segments segment)
 StaysStored net event = Unit {0}
 
+-- whether an event was done; if a segment was registered by it, whether that was a new one
+abbrev pub brings_new : Reply → Bool
+brings_new (replies.Registered is_new) = is_new
+brings_new reply = is_done reply
+
 -- these events, all of a beaconing, lead from a new network of this topology to this network; none
--- of them is refused, and the segments that they end are stored in it
+-- of them is refused, and the segments that they end are stored in it, each of them once
 pub record IsBeaconing (network : Network) (events : List EventValue) (net : NetValue) : Type 0 where
   pub history : List EventRecord
   pub is : IsHistory (new_net network) history
   pub framed : AllFramed history
   pub of : map (λ one. one.event) history ≡ events
   pub ends : net_after (new_net network) history ≡ net
-  pub done : All (λ one. is_done one.reply ≡ true) history
+  pub done : All (λ one. brings_new one.reply ≡ true) history
   pub own : All IsOfBeaconing events
   pub stored : All (StaysStored net) events
 

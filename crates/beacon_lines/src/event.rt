@@ -1,7 +1,6 @@
 ghost use Rattle.std.specs.Prelude.{◌≡◌, is_some, option_map, Some};
-ghost use Rattle.network_core.specs.Delivery.{is_done};
 ghost use Rattle.network_core.specs.Event as events;
-ghost use Rattle.beacon_lines.specs.Beaconing.{network_event};
+ghost use Rattle.beacon_lines.specs.Beaconing.{brings_new, network_event};
 
 use isd_as::{IfId, IsdAs};
 use network_core::{Event, Reply};
@@ -41,12 +40,13 @@ pub(crate) enum Effect {
     Done,
 }
 
-/// What an event made, by its reply; `None` if it was refused.
+/// What an event made, by its reply; `None` if it was refused, or has registered a segment that was
+/// stored before.
 pub(crate) fn effect_of(reply: Reply) -> Option<Effect>
-    ensures { is_some result ≡ is_done reply }
+    ensures { is_some result ≡ brings_new reply }
 {
     match reply {
-        Reply::Refused(_) => None,
+        Reply::Refused(_) | Reply::Registered(false) => None,
         Reply::Begun(beacon) => match u32::try_from(beacon) {
             Ok(beacon) => Some(Effect::Begun(beacon)),
             Err(_) => Some(Effect::Done),

@@ -5,8 +5,8 @@ ghost use Rattle.network_core.specs.declared.reply.Reply as replies;
 ghost use Rattle.network_core.specs.Event.{event_value};
 ghost use Rattle.network_core.specs.Value.{new_net};
 ghost use Rattle.network_core.specs.Step.{Step};
-ghost use Rattle.network_core.specs.Delivery.{IsFramed, is_done};
-ghost use Rattle.beacon_lines.specs.Beaconing.{network_event};
+ghost use Rattle.network_core.specs.Delivery.{IsFramed};
+ghost use Rattle.beacon_lines.specs.Beaconing.{brings_new, network_event};
 
 use crate::event::{BeaconEvent, Effect, effect_of};
 use forwarding::TurnReply;
@@ -17,7 +17,7 @@ use std::marker::Model;
 
 /// A network and the events that have made it from its topology. An invariant says that these
 /// events lead to the network, that none was refused, and that the segments which they end are
-/// stored.
+/// stored, each once.
 #[derive(Drop)]
 pub(crate) struct BeaconRun {
     net: Net,
@@ -44,11 +44,11 @@ struct DueEvent<'a> {
     event: Event<'a>,
 }
 
-/// Does an event in a network, and returns what it made. If it is refused, nothing changes, and
-/// `None` is returned.
+/// Does an event in a network, and returns what it made. If it is refused, or registers a segment
+/// that is stored already, nothing changes, and `None` is returned.
 fn happen(alloc: Global, net: &mut Net, due: &DueEvent<'_>) -> Result<Option<Effect>, AllocError>
     ensures done { IfOk result (λ effect. (reply : replies.Reply)
-        × ((is_some effect ≡ is_done reply)
+        × ((is_some effect ≡ brings_new reply)
         × (Step net.old (event_value due.now.event) reply net.new
         × IsFramed (event_value due.now.event) reply net.new))) }
     ensures kept { OnErr result (net.new ≡ net.old) }
@@ -86,8 +86,8 @@ impl BeaconRun {
         &self.events
     }
 
-    /// Tries an event, and returns what it made. If it is refused, nothing changes, and `None` is
-    /// returned.
+    /// Tries an event, and returns what it made. If it is refused, or registers a segment that is
+    /// stored already, nothing changes, and `None` is returned.
     pub(crate) fn attempt(
         &mut self,
         alloc: Global,
