@@ -24,7 +24,8 @@ class Browser:
         taken, self.input = os.pipe()
         self.output, given = os.pipe()
         words = ["chromium", "--headless=new", "--remote-debugging-pipe", "--no-sandbox",
-                 "--disable-gpu", "--no-first-run", f"--user-data-dir={self.folder.name}",
+                 "--disable-gpu", "--disable-dev-shm-usage", "--no-first-run",
+                 f"--user-data-dir={self.folder.name}",
                  f"--window-size={WIDTH},{HEIGHT}", "about:blank"]
         # The browser reads commands from its descriptor 3, and writes answers to 4.
         self.process = subprocess.Popen(
