@@ -1,5 +1,6 @@
 #!/usr/bin/env python3
-"""Complete beaconings of random topologies, over the programs that `rt ci` has proved and built.
+"""Complete beaconings of the examples and of random topologies, over the programs that `rt ci` has
+proved and built.
 
 `scionet_view beacons` prints the lines of a beaconing; `scionet run` has to do each of them. The
 segments have to be those of a plain search here, in which each AS passes on the first beacons of an
@@ -21,7 +22,8 @@ from pathlib import Path
 
 CRATES = Path(__file__).resolve().parent.parent / "crates"
 VIEW, RUN = (str(CRATES / name / "out" / name) for name in ("scionet_view", "scionet"))
-SEED, TOPOLOGIES, REQUESTS = 1, 200, 12
+EXAMPLES = [CRATES.parent / "examples" / f"{name}.txt" for name in ("row", "pair", "fork")]
+SEED, TOPOLOGIES, REQUESTS, PER_PAIR = 1, 200, 12, 4
 
 # Shapes of topologies: ISDs, core ASes and other ASes in each, and links.
 SHAPES = ((1, 1, 3, 4), (1, 3, 8, 20), (2, 2, 6, 24), (3, 3, 10, 60), (1, 8, 0, 14))
@@ -34,9 +36,29 @@ ENTRIES, FIELDS, SECONDS, MEMORY = 63, 64, 10, 500_000_000
 class Topology:
     """ASes and links, each with free interfaces of its ends, and the text of them."""
 
-    def __init__(self, chance, isds, cores, others, links):
+    def __init__(self):
         self.ases, self.links, self.ways = [], [], collections.defaultdict(list)
         self.free = collections.Counter()
+
+    @classmethod
+    def of(cls, text):
+        """The ASes of a text, and the ways between them."""
+        topology, given = cls(), json.loads(text)
+        topology.ases = [(address(it["ia"]), it["core"]) for it in given["ases"]]
+        for kind, a, b in ((it["kind"], it["a"], it["b"]) for it in given["links"]):
+            topology.ways[kind, address(a["ia"])].append((a["if"], address(b["ia"])))
+            if kind == "core":
+                topology.ways[kind, address(b["ia"])].append((b["if"], address(a["ia"])))
+        return topology
+
+    @classmethod
+    def drawn(cls, chance, isds, cores, others, links):
+        """Random ones, of which each can be reached."""
+        topology = cls()
+        topology.draw(chance, isds, cores, others, links)
+        return topology
+
+    def draw(self, chance, isds, cores, others, links):
         for isd in range(1, isds + 1):
             own = [self.add(isd, True) for _ in range(cores)]
             for _ in range(others):
@@ -83,6 +105,10 @@ class Topology:
 
 def name(ia):
     return f"{ia[0]}-{ia[1]}"
+
+
+def address(text):
+    return tuple(text.split("-"))
 
 
 def end(ia, number):
@@ -145,13 +171,10 @@ def ran(words, given):
     return subprocess.run(words, input=given, capture_output=True, check=True).stdout
 
 
-def tried(seed, number):
-    """The lines and the requests of a topology, and what was wrong with it."""
-    chance = random.Random(f"{seed} {number}")
-    topology = Topology(chance, *chance.choice(SHAPES))
-    per_pair, core_length = chance.choice((1, 2, 4, 32)), chance.choice((2, 3, 63))
+def compared(chance, topology, text, per_pair, core_length):
+    """The lines and the requests of a topology with this text, and what was wrong with it."""
     words = [VIEW, "beacons", "--per-pair", str(per_pair), "--core-length", str(core_length)]
-    lines = ran([*words, "--now", "1000"], topology.text(number % 2).encode())
+    lines = ran([*words, "--now", "1000"], text.encode())
     segments = list(wanted(topology, per_pair, core_length))
     asks = list(requests(chance, segments, REQUESTS))
     requested = "".join(json.dumps(it) + "\n" for it in asks).encode()
@@ -168,12 +191,29 @@ def tried(seed, number):
     answers = [reply for reply in replies if reply.startswith(b"ask ")]
     if len(answers) != len(asks) or any(b";" not in it for it in answers):
         wrong.append(f"no path: {answers}")
-    return len(events), len(asks), [f"topology {number} of seed {seed}: {it}" for it in wrong]
+    return len(events), len(asks), wrong
+
+
+def tried(seed, number):
+    """What was compared of a random topology."""
+    chance = random.Random(f"{seed} {number}")
+    topology = Topology.drawn(chance, *chance.choice(SHAPES))
+    options = chance.choice((1, 2, 4, 32)), chance.choice((2, 3, 63))
+    lines, asks, wrong = compared(chance, topology, topology.text(number % 2), *options)
+    return lines, asks, [f"topology {number} of seed {seed}: {it}" for it in wrong]
+
+
+def example(seed, file):
+    """What was compared of the topology of an example."""
+    text = file.read_text().partition("\n")[0]
+    topology = Topology.of(text)
+    lines, asks, wrong = compared(random.Random(seed), topology, text, PER_PAIR, ENTRIES)
+    return lines, asks, [f"{file.name}: {it}" for it in wrong]
 
 
 def largest(seed):
     """1,024 ASes with 4,096 links: all lines are done, within the seconds and the memory."""
-    topology = Topology(random.Random(seed), 4, 4, 252, 4096)
+    topology = Topology.drawn(random.Random(seed), 4, 4, 252, 4096)
     begun = time.monotonic()
     lines = ran([VIEW, "beacons", "--core-length", "5"], topology.text(True).encode())
     seconds = time.monotonic() - begun
@@ -190,7 +230,7 @@ def largest(seed):
 def main():
     seed = int(sys.argv[1]) if sys.argv[1:] else SEED
     count = int(sys.argv[2]) if sys.argv[2:] else TOPOLOGIES
-    rows = [largest(seed)]
+    rows = [largest(seed), *(example(seed, it) for it in EXAMPLES)]
     with concurrent.futures.ThreadPoolExecutor(os.cpu_count()) as pool:
         rows += pool.map(lambda number: tried(seed, number), range(count))
     wrong = [it for row in rows for it in row[2]]
