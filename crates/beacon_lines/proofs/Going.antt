@@ -1,5 +1,6 @@
 -- A beaconing: none of any event, one event more, and the run that it is.
-use Rattle.std.proofs.Common.{◌≡◌, true, List, [], ◌∷◌, ◌++◌, All, refl, sym, ap, ◌∙◌, subst}
+use Rattle.std.proofs.Common.{◌≡◌, true, List, [], ◌∷◌, ◌++◌, All, Option, Some, refl, sym, ap, ◌∙◌, subst}
+use Rattle.std.specs.Prelude.{option_map}
 use Rattle.std.proofs.lemmas.List.{map-append}
 use Rattle.std.proofs.lemmas.List.Elements.{All-nil, All-push}
 use Rattle.scion_topology.specs.Network.{Network}
@@ -73,3 +74,8 @@ is_own (events.Tick now) = tt
 is_own (events.Originate ia egress beta0) = tt
 is_own (events.Extend beacon ia egress) = tt
 is_own (events.Terminate beacon ia) = tt
+
+-- what is mapped to something
+pub image_is : {A B : Type 0} (f : A → B) (found : Option A) (one : A) (image : B) → found ≡ Some one
+    → option_map f found ≡ Some image → f one ≡ image
+image_is f found one image is mapped = (let same = sym (ap (option_map f) is) ∙ mapped in cc)

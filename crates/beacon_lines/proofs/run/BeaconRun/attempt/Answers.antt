@@ -1,5 +1,5 @@
 use Rattle.std.proofs.Common.{◌≡◌, false, true, [], ◌∷◌, ◌++◌, cond, map, sym, ap, ◌∙◌, subst, arith, rules}
-use Rattle.std.specs.Prelude.{is_ok, option_map}
+use Rattle.std.specs.Prelude.{is_ok}
 use Rattle.std.proofs.lemmas.Grind.{common_steps}
 use Rattle.std.proofs.lemmas.List.{map-append}
 use Rattle.network_core.specs.Event.{event_value}
@@ -8,7 +8,7 @@ use Rattle.network_core.specs.Step.{Step}
 use Rattle.network_core.specs.Delivery.{IsFramed}
 use Rattle.beacon_lines.specs.Beaconing.{IsBeaconing, brings_new, network_event}
 use Rattle.beacon_lines.proofs.Growing.{unchanged}
-use Rattle.beacon_lines.proofs.Going.{is_own, next, same_network}
+use Rattle.beacon_lines.proofs.Going.{image_is, is_own, next, same_network}
 use Rattle.beacon_lines.proofs.run.BeaconRun.attempt.Goals as goal
 
 pub invariant_of-self-2 : goal.invariant_of-self-2
@@ -16,8 +16,7 @@ invariant_of-self-2 c =
     let old = c.self.inside in
     let done = c.in_ok-effect.ensures.done in
     let event = network_event c.args.event.now in
-    let same : event_value c.in-Some.due ≡ event =
-    (let found = sym (ap (option_map event_value) c.in-Some.is) ∙ c.of_network.ensures in cc) in
+    let same = image_is event_value c.of_network.result c.in-Some.due event c.in-Some.is c.of_network.ensures in
     let is : brings_new done.0 ≡ true = search in
     let ok : is_ok c.push.result ≡ true = grind (arith, common_steps) in
     let pushed = c.push.ensures.items
@@ -33,8 +32,7 @@ pub returns : goal.returns
 returns c =
     let done = c.in_ok-effect.ensures.done in
     let event = network_event c.args.event.now in
-    let same : event_value c.in-Some.due ≡ event =
-    (let found = sym (ap (option_map event_value) c.in-Some.is) ∙ c.of_network.ensures in cc) in
+    let same = image_is event_value c.of_network.result c.in-Some.due event c.in-Some.is c.of_network.ensures in
     let is : brings_new done.0 ≡ true = search in
     let kept : c.happen.new.net.network ≡ c.self.inside.net.network =
     same_network c.self.inside.net c.happen.new.net event done.0 (is_own c.args.event.now)
@@ -46,8 +44,7 @@ invariant_of-self-in_default-2 c =
     let old = c.self.inside in
     let done = c.in_ok-effect.ensures.done in
     let event = network_event c.args.event.now in
-    let same : event_value c.in-Some.due ≡ event =
-    (let found = sym (ap (option_map event_value) c.in-Some.is) ∙ c.of_network.ensures in cc) in
+    let same = image_is event_value c.of_network.result c.in-Some.due event c.in-Some.is c.of_network.ensures in
     let none : brings_new done.0 ≡ false = search in
     let kept : c.happen.new.net ≡ old.net =
     unchanged old.net c.happen.new.net event done.0 (is_own c.args.event.now)
