@@ -1,7 +1,8 @@
 //! Flights that are carried in a run, and their ends.
 
-ghost use Rattle.std.specs.Prelude.{◌≡◌, ◌<◌, ◌≤◌, Some, IfOk, IfErr, length, slice_get};
+ghost use Rattle.std.specs.Prelude.{◌≡◌, ◌+◌, ◌<◌, ◌≤◌, Some, IfOk, IfErr, length, slice_get};
 ghost use Rattle.network_core.specs.Delivery.{IsAtRouter};
+ghost use Rattle.router_workers.specs.Flight.{advanced_flight};
 ghost use Rattle.router_workers.specs.inner.Run.{IsEndOfFlight};
 
 use crate::end::End;
@@ -43,17 +44,24 @@ impl RunFacts for Brand {
     ghost slots = { 0 };
 }
 
-/// A carried flight: its number among the given flights, its turns in the run so far, and a copy of
-/// the flight after them. Invariants of the type say this, and that the flight was at a router
-/// before each turn.
+/// What moves from inbox to inbox: a copy of a given flight, with the number of the flight, that of
+/// its turns in the run so far, and that of the worker in whose inbox it is, if it is in one.
+#[derive(Drop)]
+pub(crate) struct Job<'f> {
+    pub(crate) number: usize,
+    pub(crate) turns: u32,
+    pub(crate) worker: usize,
+    pub(crate) flight: Flight<'f>,
+}
+
+/// A carried flight: a copy of the given flight of its number, after its turns in the run so far.
+/// Invariants of the type say this, and that the flight was at a router before each turn.
 ///
-/// The copy stays in its memory, so that only a few words move from inbox to inbox.
+/// The job stays in its memory, so that only one word moves from inbox to inbox.
 #[derive(Drop)]
 pub(crate) struct CarriedFlight<'f, J: RunFacts> {
-    number: usize,
-    turns: u32,
-    flight: Box<Flight<'f>>,
-    of: PhantomData<J>,
+    pub(crate) job: Box<Job<'f>>,
+    pub(crate) of: PhantomData<J>,
 }
 
 impl<'f, J: RunFacts> Model for CarriedFlight<'f, J> {
@@ -63,10 +71,10 @@ impl<'f, J: RunFacts> Model for CarriedFlight<'f, J> {
 
     ghost Value = { FlightValue };
 
-    ghost view = { λ j. j.flight.value };
+    ghost view = { λ c. c.job.value.flight };
 
-    ghost invariant = { λ j. (j.turns ≤ j.flight.value.turns)
-        × IsCarried J.flights J.now j.number j.turns j.flight.value };
+    ghost invariant = { λ c. (c.job.value.turns ≤ c.job.value.flight.turns)
+        × IsCarried J.flights J.now c.job.value.number c.job.value.turns c.job.value.flight };
 }
 
 /// The end of a flight of a run, with the flight's number. An invariant of the type says that the
@@ -90,6 +98,22 @@ impl<J: RunFacts> Model for FlightEnd<J> {
     ghost invariant = { λ d. IsEndOfFlight J.flights J.now J.slots d.number d.end };
 }
 
+impl<'f> Job<'f> {
+    /// One turn of the router that has the flight.
+    fn turn(&mut self, now: u32)
+        requires under_way { IsAtRouter self.old.flight.packet.place }
+        requires counted { self.old.turns ≤ self.old.flight.turns }
+        ensures { self.new ≡ record self.old {
+          turns = self.old.turns + 1;
+          flight = advanced_flight now self.old.flight;
+        } }
+    {
+        self.flight.known();
+        self.flight.turn(now);
+        self.turns += 1;
+    }
+}
+
 impl<'f, J: RunFacts> CarriedFlight<'f, J> {
     /// A copy of a given flight, without any turn in the run, unless memory runs out.
     pub(crate) fn new(
@@ -100,10 +124,14 @@ impl<'f, J: RunFacts> CarriedFlight<'f, J> {
         requires { slice_get J.flights number ≡ Some flight.now }
     {
         let copy = flight.try_clone(alloc)?;
-        Ok(CarriedFlight {
+        let job = Job {
             number,
             turns: 0,
-            flight: Box::new(alloc, copy)?,
+            worker: 0,
+            flight: copy,
+        };
+        Ok(CarriedFlight {
+            job: Box::new(alloc, job)?,
             of: PhantomData,
         })
     }
@@ -112,16 +140,16 @@ impl<'f, J: RunFacts> CarriedFlight<'f, J> {
     pub(crate) fn into_end(self) -> Result<FlightEnd<J>, CarriedFlight<'f, J>>
         ensures { IfErr result (λ carried. IsAtRouter carried.packet.place) }
     {
-        let flight: &Flight<'f> = &self.flight;
-        flight.known();
-        let end = match flight.place() {
+        let job: &Job<'f> = &self.job;
+        job.flight.known();
+        let end = match job.flight.place() {
             PacketLocation::AtRouter(_) => return Err(self),
-            PacketLocation::Delivered => End::Delivered(self.turns),
-            PacketLocation::Refused(_, _, refusal) => End::Refused(refusal, self.turns),
+            PacketLocation::Delivered => End::Delivered(job.turns),
+            PacketLocation::Refused(_, _, refusal) => End::Refused(refusal, job.turns),
             PacketLocation::Lost => unreachable!(),
         };
         Ok(FlightEnd {
-            number: self.number,
+            number: job.number,
             end,
             of: PhantomData,
         })
@@ -133,8 +161,8 @@ impl<'f, J: RunFacts> CarriedFlight<'f, J> {
         requires crowded { J.slots < length J.flights }
     {
         FlightEnd {
-            number: self.number,
-            end: End::Dropped(self.turns),
+            number: self.job.number,
+            end: End::Dropped(self.job.turns),
             of: PhantomData,
         }
     }
@@ -144,27 +172,16 @@ impl<'f, J: RunFacts> CarriedFlight<'f, J> {
         requires now { now ≡ J.now }
         requires under_way { IsAtRouter self.packet.place }
     {
-        let CarriedFlight {
-            number,
-            turns,
-            mut flight,
-            of,
-        } = self;
-        flight.known();
-        flight.turn(now);
-        CarriedFlight {
-            number,
-            turns: turns + 1,
-            flight,
-            of,
-        }
+        let CarriedFlight { mut job, of } = self;
+        job.turn(now);
+        CarriedFlight { job, of }
     }
 
     /// The place of the flight.
     pub(crate) fn place(&self) -> PacketLocation
         ensures { result ≡ self.now.packet.place }
     {
-        self.flight.place()
+        self.job.flight.place()
     }
 }
 

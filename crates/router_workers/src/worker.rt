@@ -38,6 +38,10 @@ impl Gate for OpenGate {
     fn leave(&self, _worker: usize) {}
 }
 
+/// The largest number of times that a worker whose inbox is empty lets other threads go on before
+/// it asks again.
+const LONGEST_PAUSE: usize = 64;
+
 /// What the workers of a run share.
 #[derive(Drop)]
 pub(crate) struct RunState<'d, J: RunFacts, G> {
@@ -223,14 +227,14 @@ pub(crate) fn work<'f, J: RunFacts, R: Wait, G: Gate>(
         if state.left.load(Ordering::SeqCst) == 0 {
             return ends;
         }
-        empty_inbox(rt, state, number, &mut receiver, &mut senders, &mut ends);
-        thread::yield_now();
+        let taken = empty_inbox(rt, state, number, &mut receiver, &mut senders, &mut ends);
+        pause(taken);
     }
     unreachable!()
 }
 
-/// Takes flights until the inbox is empty. It does not read the number of flights left: each end of
-/// a flight changes it, and each read would wait for that.
+/// Takes flights until the inbox is empty, and returns how many it took. It does not read the
+/// number of flights left: each end of a flight changes it, and each read would wait for that.
 fn empty_inbox<'f, J: RunFacts, R: Wait, G: Gate>(
     rt: &R,
     state: &RunState<'_, J, G>,
@@ -238,15 +242,27 @@ fn empty_inbox<'f, J: RunFacts, R: Wait, G: Gate>(
     receiver: &mut Receiver<'_, PostedFlight<'f, J>>,
     senders: &mut [Sender<'_, PostedFlight<'f, J>>],
     ends: &mut Vec<FlightEnd<J>>,
-)
+) -> usize
     requires { AreInboxes J.workers J.slots (inboxes_of senders.old) }
     ensures { inboxes_of senders.new ≡ inboxes_of senders.old }
 {
+    let mut taken = 0usize;
     for _ in rt.forever() {
         match receiver.pop(rt) {
             Some(posted) => carry(rt, state, number, senders, ends, posted),
-            None => return,
+            None => return taken,
         }
+        taken = taken.saturating_add(1);
+    }
+    unreachable!()
+}
+
+/// Lets other threads go on, the longer the more flights the inbox just had. More of them are in it
+/// then when the worker asks again, and while it takes these, it shares no memory with the worker
+/// that puts others in behind them.
+fn pause(taken: usize) {
+    for _ in 0..taken.clamp(1, LONGEST_PAUSE) {
+        thread::yield_now();
     }
 }
 

@@ -11,6 +11,6 @@ invariant_of-result g c =
     c.requires.under_way in
     rw (c.turn.ensures, c.deref_mut.ensures.value, c.requires.now) (
       (let fewer = kept.0 in omega arith),
-      went_on g.J.RunFacts.flights g.J.RunFacts.now c.self.inside.number c.self.inside.turns
-          c.self.inside.flight.value kept.1 here,
+      went_on g.J.RunFacts.flights g.J.RunFacts.now c.self.inside.job.value.number
+          c.self.inside.job.value.turns c.self.inside.job.value.flight kept.1 here,
     )
