@@ -257,9 +257,9 @@ fn empty_inbox<'f, J: RunFacts, R: Wait, G: Gate>(
     unreachable!()
 }
 
-/// Lets other threads go on, the longer the more flights the inbox just had. More of them are in it
-/// then when the worker asks again, and while it takes these, it shares no memory with the worker
-/// that puts others in behind them.
+/// Lets other threads go on, the longer the more flights the inbox just had. So several are in it
+/// when the worker asks again. While it takes these out, others are put into places that it does
+/// not touch.
 fn pause(taken: usize) {
     for _ in 0..taken.clamp(1, LONGEST_PAUSE) {
         thread::yield_now();
