@@ -18,7 +18,7 @@ use Rattle.forwarding.specs.declared.location.PacketLocation.{PacketLocation}
 use Rattle.forwarding.specs.declared.location.PacketLocation.TheVariants.{AtRouter, Delivered, Refused, Lost}
 use Rattle.forwarding.specs.Frame.{frame_of, HasFrame}
 use Rattle.forwarding.specs.Journey.{first_out}
-use Rattle.forwarding.specs.Turn.{Packet, IsAtNoRouter, put_at, turn_under, turn_of, turned_packet, after}
+use Rattle.forwarding.specs.Turn.{Packet, put_at, turn_under, turn_of, turned_packet, after}
 use Rattle.forwarding.proofs.Ended.{turn_by_view}
 use Rattle.forwarding.proofs.Reading.{length_fields}
 use Rattle.forwarding.proofs.Bounded.{fewer_before, passed_before, stops_are_there, owners_are_there}
@@ -33,9 +33,6 @@ stop_of (AtRouter stop) is = (stop, refl)
 stop_of Delivered is = absurd is
 stop_of (Refused ia router refusal) is = absurd is
 stop_of Lost is = absurd is
-
-pub at_no_router : (packet : Packet) → IsAtRouter packet.place → IsAtNoRouter packet → ⊥
-at_no_router packet here none = (let stop = stop_of packet.place here in none stop.0 stop.1)
 
 -- ---- a flight without any turns
 

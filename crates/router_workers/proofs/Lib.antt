@@ -4,6 +4,7 @@ pub mod Numbered
 pub mod Pairs
 pub mod Inboxes
 pub mod Flying
+pub mod WithoutHops
 pub mod TurnByTurn
 pub mod Reported
 pub mod Reports

@@ -1,13 +1,15 @@
 //! Flights that are carried in a run, and their ends.
 
-ghost use Rattle.std.specs.Prelude.{◌≡◌, ◌+◌, ◌<◌, ◌≤◌, Some, IfOk, IfErr, length, slice_get};
+ghost use Rattle.std.specs.Prelude.{◌≡◌, ◌+◌, ◌<◌, Some, IfErr, length, slice_get};
+ghost use Rattle.forwarding.specs.Turn.{turned_packet};
 ghost use Rattle.network_core.specs.Delivery.{IsAtRouter};
-ghost use Rattle.router_workers.specs.Flight.{advanced_flight};
-ghost use Rattle.router_workers.specs.inner.Run.{IsEndOfFlight};
+ghost use Rattle.router_workers.specs.inner.Run.{without_hops, carried_packet, IsEndOfFlight};
 
 use crate::end::End;
 use crate::flight::Flight;
+use crate::turn_maker::TurnMaker;
 use forwarding::PacketLocation;
+use scion_topology::Topology;
 use std::alloc::{AllocError, Global};
 use std::marker::{Brand, Model, PhantomData};
 
@@ -44,37 +46,40 @@ impl RunFacts for Brand {
     ghost slots = { 0 };
 }
 
-/// What moves from inbox to inbox: a copy of a given flight, with the number of the flight, that of
-/// its turns in the run so far, and that of the worker in whose inbox it is, if it is in one.
+/// What moves from inbox to inbox: the number of a flight, that of its turns in the run so far, that
+/// of the worker in whose inbox it is, if it is in one, and a copy of the bytes of its packet, with
+/// the packet's place.
 #[derive(Drop)]
-pub(crate) struct Job<'f> {
+pub(crate) struct Job {
     pub(crate) number: usize,
     pub(crate) turns: u32,
     pub(crate) worker: usize,
-    pub(crate) flight: Flight<'f>,
+    pub(crate) bytes: Vec<u8>,
+    pub(crate) place: PacketLocation,
 }
 
-/// A carried flight: a copy of the given flight of its number, after its turns in the run so far.
-/// Invariants of the type say this, and that the flight was at a router before each turn.
+/// A carried flight: the given flight of its number after its turns in the run so far. Invariants
+/// of the type say this of its packet, and that the flight was at a router before each turn. The
+/// hops that the packet passes are not kept, since a run tells none; so in contracts it is the
+/// packet without them.
 ///
 /// The job stays in its memory, so that only one word moves from inbox to inbox.
 #[derive(Drop)]
-pub(crate) struct CarriedFlight<'f, J: RunFacts> {
-    pub(crate) job: Box<Job<'f>>,
+pub(crate) struct CarriedFlight<J: RunFacts> {
+    pub(crate) job: Box<Job>,
     pub(crate) of: PhantomData<J>,
 }
 
-impl<'f, J: RunFacts> Model for CarriedFlight<'f, J> {
-    ghost use Rattle.std.specs.Prelude.{ℕ, ◌≤◌};
-    ghost use Rattle.router_workers.specs.Flight.{FlightValue};
-    ghost use Rattle.router_workers.specs.inner.Run.{IsCarried};
+impl<J: RunFacts> Model for CarriedFlight<J> {
+    ghost use Rattle.forwarding.specs.Turn.{Packet};
+    ghost use Rattle.router_workers.specs.inner.Run.{carried_packet, IsCarried};
 
-    ghost Value = { FlightValue };
+    ghost Value = { Packet };
 
-    ghost view = { λ c. c.job.value.flight };
+    ghost view = { λ c. carried_packet c.job.value };
 
-    ghost invariant = { λ c. (c.job.value.turns ≤ c.job.value.flight.turns)
-        × IsCarried J.flights J.now c.job.value.number c.job.value.turns c.job.value.flight };
+    ghost invariant = { λ c. IsCarried J.flights J.network J.now c.job.value.number
+        c.job.value.turns (carried_packet c.job.value) };
 }
 
 /// The end of a flight of a run, with the flight's number. An invariant of the type says that the
@@ -98,37 +103,41 @@ impl<J: RunFacts> Model for FlightEnd<J> {
     ghost invariant = { λ d. IsEndOfFlight J.flights J.now J.slots d.number d.end };
 }
 
-impl<'f> Job<'f> {
-    /// One turn of the router that has the flight.
-    fn turn(&mut self, now: u32)
-        requires under_way { IsAtRouter self.old.flight.packet.place }
-        requires counted { self.old.turns ≤ self.old.flight.turns }
-        ensures { self.new ≡ record self.old {
-          turns = self.old.turns + 1;
-          flight = advanced_flight now self.old.flight;
-        } }
+impl Job {
+    /// One turn of the router that has the packet.
+    fn turn(&mut self, topology: &Topology, now: u32, maker: &mut TurnMaker)
+        requires { self.old.turns < 128 }
+        ensures number { self.new.number ≡ self.old.number }
+        ensures turns { self.new.turns ≡ self.old.turns + 1 }
+        ensures packet { carried_packet self.new
+            ≡ without_hops (turned_packet topology.now now (carried_packet self.old)) }
     {
-        self.flight.known();
-        self.flight.turn(now);
+        maker.turn(topology, now, &mut self.bytes, &mut self.place);
         self.turns += 1;
     }
 }
 
-impl<'f, J: RunFacts> CarriedFlight<'f, J> {
-    /// A copy of a given flight, without any turn in the run, unless memory runs out.
+impl<J: RunFacts> CarriedFlight<J> {
+    /// A given flight, without any turn in the run, unless memory runs out for a copy of its
+    /// packet's bytes.
     pub(crate) fn new(
         alloc: Global,
         number: usize,
-        flight: &Flight<'f>,
-    ) -> Result<CarriedFlight<'f, J>, AllocError>
-        requires { slice_get J.flights number ≡ Some flight.now }
+        flight: &Flight<'_>,
+    ) -> Result<CarriedFlight<J>, AllocError>
+        requires there { slice_get J.flights number ≡ Some flight.now }
+        requires network { flight.now.fabric ≡ J.network }
     {
-        let copy = flight.try_clone(alloc)?;
+        flight.known();
+        let given = flight.bytes();
+        let mut bytes = Vec::with_capacity(alloc, given.len())?;
+        bytes.extend_from_slice(given)?;
         let job = Job {
             number,
             turns: 0,
             worker: 0,
-            flight: copy,
+            bytes,
+            place: flight.place(),
         };
         Ok(CarriedFlight {
             job: Box::new(alloc, job)?,
@@ -137,12 +146,11 @@ impl<'f, J: RunFacts> CarriedFlight<'f, J> {
     }
 
     /// Its end if the flight is at no router, else the flight itself.
-    pub(crate) fn into_end(self) -> Result<FlightEnd<J>, CarriedFlight<'f, J>>
-        ensures { IfErr result (λ carried. IsAtRouter carried.packet.place) }
+    pub(crate) fn into_end(self) -> Result<FlightEnd<J>, CarriedFlight<J>>
+        ensures { IfErr result (λ carried. IsAtRouter carried.place) }
     {
-        let job: &Job<'f> = &self.job;
-        job.flight.known();
-        let end = match job.flight.place() {
+        let job: &Job = &self.job;
+        let end = match job.place {
             PacketLocation::AtRouter(_) => return Err(self),
             PacketLocation::Delivered => End::Delivered(job.turns),
             PacketLocation::Refused(_, _, refusal) => End::Refused(refusal, job.turns),
@@ -157,7 +165,7 @@ impl<'f, J: RunFacts> CarriedFlight<'f, J> {
 
     /// The end of a flight for which there was no room.
     pub(crate) fn into_dropped(self) -> FlightEnd<J>
-        requires under_way { IsAtRouter self.packet.place }
+        requires under_way { IsAtRouter self.place }
         requires crowded { J.slots < length J.flights }
     {
         FlightEnd {
@@ -168,20 +176,26 @@ impl<'f, J: RunFacts> CarriedFlight<'f, J> {
     }
 
     /// One turn of the router that has the flight.
-    pub(crate) fn advance(self, now: u32) -> CarriedFlight<'f, J>
+    pub(crate) fn advance(
+        self,
+        topology: &Topology,
+        now: u32,
+        maker: &mut TurnMaker,
+    ) -> CarriedFlight<J>
+        requires network { topology.now ≡ J.network }
         requires now { now ≡ J.now }
-        requires under_way { IsAtRouter self.packet.place }
+        requires under_way { IsAtRouter self.place }
     {
         let CarriedFlight { mut job, of } = self;
-        job.turn(now);
+        job.turn(topology, now, maker);
         CarriedFlight { job, of }
     }
 
     /// The place of the flight.
     pub(crate) fn place(&self) -> PacketLocation
-        ensures { result ≡ self.now.packet.place }
+        ensures { result ≡ self.now.place }
     {
-        self.job.flight.place()
+        self.job.place
     }
 }
 

@@ -1,7 +1,6 @@
 ghost use Rattle.std.specs.Prelude.{◌≡◌, ◌≤◌, ◌<◌, None, IfOk, IfSome, length};
 ghost use Rattle.refusal.specs.Refusal.{Answers};
 ghost use Rattle.forwarding.specs.Turn.{IsAtNoRouter};
-ghost use Rattle.network_core.specs.Delivery.{IsAtRouter};
 ghost use Rattle.router_workers.specs.Flight.{FlightValue, packet_at_source, sent_packet_of, flight_at_start, advanced_flight, IsViewAt, IsFlight};
 
 use crate::transit::Transit;
@@ -123,17 +122,6 @@ impl<'a> Flight<'a> {
         flight
     }
 
-    /// One turn in place, with the network's view of the router that has the flight.
-    pub(crate) fn turn(&mut self, now: u32)
-        requires { IsAtRouter self.old.packet.place }
-        ensures { self.new ≡ advanced_flight now self.old }
-    {
-        match self.view() {
-            Some(view) => self.turn_by(&view, now),
-            None => unreachable!(),
-        }
-    }
-
     /// One turn in place, with this view of the router that has the flight.
     fn turn_by(&mut self, view: &RouterView<'_>, now: u32)
         requires { IsViewAt self.old.fabric self.old.packet.place view.now }
@@ -164,6 +152,13 @@ impl<'a> Flight<'a> {
         ensures { result.now ≡ self.now.fabric }
     {
         self.fabric
+    }
+
+    /// The bytes of its packet.
+    pub(crate) fn bytes(&self) -> &[u8]
+        ensures { result.now ≡ self.now.packet.bytes }
+    {
+        &self.transit.bytes
     }
 
     /// Where it is.

@@ -17,6 +17,7 @@ mod posted;
 mod report;
 mod run;
 mod transit;
+mod turn_maker;
 mod worker;
 
 pub use end::End;

@@ -6,6 +6,7 @@ ghost use Rattle.router_workers.specs.inner.PassPairs.{AreInboxes, ArePassPairs,
 
 use crate::carried::RunFacts;
 use crate::posted::PostedFlight;
+use crate::turn_maker::TurnMaker;
 use crate::worker::Worker;
 use inbox::{Inbox, Receiver, ReceiverPass, Sender, SenderPass};
 use std::alloc::{AllocError, Global};
@@ -65,25 +66,26 @@ pub(crate) fn ends_of<'a, T: Drop>(
 /// The workers, by their numbers, unless memory runs out: each has its own inbox, a way into every
 /// inbox, and room for the ends of this many flights. Their ways are split off those by which the
 /// inboxes were filled.
-pub(crate) fn workers_of<'a, 'f, J: RunFacts>(
+pub(crate) fn workers_of<'a, J: RunFacts>(
     alloc: Global,
-    first_senders: Vec<Sender<'a, PostedFlight<'f, J>>>,
-    receivers: Vec<Receiver<'a, PostedFlight<'f, J>>>,
+    first_senders: Vec<Sender<'a, PostedFlight<J>>>,
+    receivers: Vec<Receiver<'a, PostedFlight<J>>>,
     flights: usize,
-) -> Result<Vec<Worker<'a, 'f, J>>, AllocError>
+) -> Result<Vec<Worker<'a, J>>, AllocError>
     requires inboxes { AreInboxes J.workers J.slots (inboxes_of first_senders.items) }
     requires own { inboxes_of receivers.items ≡ inboxes_of first_senders.items }
     ensures { IfOk result (λ worker_list.
-        map (λ worker. worker.number) worker_list.items ≡ range_with_len 0 J.workers) }
+        map (λ worker. worker.maker.number) worker_list.items ≡ range_with_len 0 J.workers) }
 {
     let mut first_senders = first_senders;
     let mut worker_list = Vec::with_capacity(alloc, receivers.len())?;
     for receiver in receivers {
         let number = worker_list.len();
+        let maker = TurnMaker::new(alloc, number)?;
         let senders = split_all(alloc, &mut first_senders)?;
         let ends = Vec::with_capacity(alloc, flights)?;
         worker_list.push(Worker {
-            number,
+            maker,
             receiver,
             senders,
             ends,

@@ -9,29 +9,30 @@ use std::marker::{Model, PhantomData};
 /// A carried flight at a router, and the number of the worker for that router, in whose inbox it
 /// is. An invariant of the type says this.
 #[derive(Drop)]
-pub(crate) struct PostedFlight<'f, J: RunFacts> {
-    job: Box<Job<'f>>,
+pub(crate) struct PostedFlight<J: RunFacts> {
+    job: Box<Job>,
     of: PhantomData<J>,
 }
 
-impl<'f, J: RunFacts> Model for PostedFlight<'f, J> {
-    ghost use Rattle.std.specs.Prelude.{ℕ, ◌≤◌};
-    ghost use Rattle.router_workers.specs.Flight.{FlightValue};
+impl<J: RunFacts> Model for PostedFlight<J> {
+    ghost use Rattle.std.specs.Prelude.{ℕ};
+    ghost use Rattle.forwarding.specs.Turn.{Packet};
     ghost use Rattle.router_workers.specs.inner.PassPairs.{IsPosted};
-    ghost use Rattle.router_workers.specs.inner.Run.{IsCarried};
+    ghost use Rattle.router_workers.specs.inner.Run.{carried_packet, IsCarried};
 
-    ghost Value = { ℕ × FlightValue };
+    ghost Value = { ℕ × Packet };
 
-    ghost view = { λ p. (p.job.value.worker, p.job.value.flight) };
+    ghost view = { λ p. (p.job.value.worker, carried_packet p.job.value) };
 
-    ghost invariant = { λ p. IsPosted J.network J.workers p.job.value.worker p.job.value.flight
-        × (p.job.value.turns ≤ p.job.value.flight.turns)
-        × IsCarried J.flights J.now p.job.value.number p.job.value.turns p.job.value.flight };
+    ghost invariant = { λ p. IsPosted J.network J.workers p.job.value.worker
+        (carried_packet p.job.value)
+        × IsCarried J.flights J.network J.now p.job.value.number p.job.value.turns
+        (carried_packet p.job.value) };
 }
 
-impl<'f, J: RunFacts> PostedFlight<'f, J> {
+impl<J: RunFacts> PostedFlight<J> {
     /// A flight for the inbox of this worker.
-    pub(crate) fn new(carried: CarriedFlight<'f, J>, worker: usize) -> PostedFlight<'f, J>
+    pub(crate) fn new(carried: CarriedFlight<J>, worker: usize) -> PostedFlight<J>
         requires { IsPosted J.network J.workers worker carried }
     {
         let CarriedFlight { mut job, of } = carried;
@@ -48,8 +49,8 @@ impl<'f, J: RunFacts> PostedFlight<'f, J> {
     }
 
     /// The flight.
-    pub(crate) fn into_carried(self) -> CarriedFlight<'f, J>
-        ensures { IsPosted J.network J.workers self.entry.0 result }
+    pub(crate) fn into_carried(self) -> CarriedFlight<J>
+        ensures { IsPosted J.network J.workers self.0 result }
     {
         let PostedFlight { job, of } = self;
         CarriedFlight { job, of }

@@ -54,14 +54,14 @@ struct RunSetup<'t> {
 /// [`RunFault::Workers`] if there are not 1 to 8 workers; [`RunFault::Memory`] if memory runs out
 /// or a thread can't be started. No worker has taken a flight then: everything that may fail comes
 /// before.
-pub fn run_workers<'f, R: Threads + Wait + Sync, G: Gate>(
+pub fn run_workers<R: Threads + Wait + Sync, G: Gate>(
     rt: &R,
     alloc: Global,
     topology: &Topology,
     now: u32,
     workers: usize,
     slots: usize,
-    flights: &[Flight<'f>],
+    flights: &[Flight<'_>],
     gate: &G,
 ) -> Result<Report, RunFault>
     requires fabric { All (λ flight. flight.fabric ≡ topology.now) flights.now }
@@ -88,17 +88,18 @@ pub fn run_workers<'f, R: Threads + Wait + Sync, G: Gate>(
 }
 
 /// The run of these facts, or nothing if memory runs out or a thread can't be started.
-fn run_with<'f, J: RunFacts + Send + Sync, R: Threads + Wait + Sync, G: Gate>(
+fn run_with<J: RunFacts + Send + Sync, R: Threads + Wait + Sync, G: Gate>(
     rt: &R,
     alloc: Global,
     setup: &RunSetup<'_>,
-    flights: &[Flight<'f>],
+    flights: &[Flight<'_>],
     gate: &G,
 ) -> Result<Report, AllocError>
     requires some_workers { 0 < setup.now.workers }
     requires some { 0 < setup.now.slots }
     requires few { setup.now.slots ≤ 4096 }
     requires flights { flights.now ≡ J.flights }
+    requires fabric { All (λ flight. flight.fabric ≡ J.network) flights.now }
     requires network { setup.now.topology.now ≡ J.network }
     requires now { setup.now.moment ≡ J.now }
     requires workers { setup.now.workers ≡ J.workers }
@@ -107,7 +108,7 @@ fn run_with<'f, J: RunFacts + Send + Sync, R: Threads + Wait + Sync, G: Gate>(
 {
     let left = AtomicUsize::new(flights.len());
     let begun = AtomicBool::new(false);
-    let (inboxes, pairs) = inboxes_of::<PostedFlight<'f, J>>(alloc, setup.workers, setup.slots)?;
+    let (inboxes, pairs) = inboxes_of::<PostedFlight<J>>(alloc, setup.workers, setup.slots)?;
     let state = RunState {
         left: &left,
         begun: &begun,
@@ -151,16 +152,17 @@ fn arrange<J: RunFacts>(row: &mut [Option<FlightEnd<J>>], ends: Vec<FlightEnd<J>
 
 /// Records the ends of flights that have ended, and of those for which there is no room, and puts
 /// the others into the inboxes of their workers, in their order, unless memory runs out.
-fn fill<'f, J: RunFacts, R: Wait, G: Gate>(
+fn fill<J: RunFacts, R: Wait, G: Gate>(
     rt: &R,
     alloc: Global,
     state: &RunState<'_, J, G>,
-    first_senders: &mut Vec<Sender<'_, PostedFlight<'f, J>>>,
-    flights: &[Flight<'f>],
+    first_senders: &mut Vec<Sender<'_, PostedFlight<J>>>,
+    flights: &[Flight<'_>],
     row: &mut [Option<FlightEnd<J>>],
 ) -> Result<(), AllocError>
     requires inboxes { AreInboxes J.workers J.slots (inboxes_of first_senders.old.items) }
     requires flights { flights.now ≡ J.flights }
+    requires fabric { All (λ flight. flight.fabric ≡ J.network) flights.now }
     ensures { inboxes_of first_senders.new.items ≡ inboxes_of first_senders.old.items }
 {
     let mut ends = Vec::with_capacity(alloc, flights.len())?;
@@ -175,14 +177,14 @@ fn fill<'f, J: RunFacts, R: Wait, G: Gate>(
 /// Starts a thread for each worker, and waits until all of them have ended. The ends that they
 /// return are in the places of their flights then. The workers begin when all threads have started;
 /// if one can't be started, none begins.
-fn start<'f, J: RunFacts + Send + Sync, R: Threads + Wait + Sync, G: Gate>(
+fn start<J: RunFacts + Send + Sync, R: Threads + Wait + Sync, G: Gate>(
     rt: &R,
     alloc: Global,
     state: &RunState<'_, J, G>,
-    worker_list: Vec<Worker<'_, 'f, J>>,
+    worker_list: Vec<Worker<'_, J>>,
     row: Vec<Option<FlightEnd<J>>>,
 ) -> Result<Vec<Option<FlightEnd<J>>>, AllocError>
-    requires { map (λ worker. worker.number) worker_list.items ≡ range_with_len 0 J.workers }
+    requires { map (λ worker. worker.maker.number) worker_list.items ≡ range_with_len 0 J.workers }
 {
     let handles = Vec::with_capacity(alloc, worker_list.len())?;
     thread::scope(

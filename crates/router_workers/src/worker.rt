@@ -10,6 +10,7 @@ ghost use Rattle.router_workers.specs.inner.PassPairs.{IsNext, put_in, IsPutIn, 
 
 use crate::carried::{CarriedFlight, FlightEnd, RunFacts};
 use crate::posted::PostedFlight;
+use crate::turn_maker::TurnMaker;
 use forwarding::PacketLocation;
 use inbox::{Receiver, Sender};
 use isd_as::IsdAs;
@@ -61,17 +62,17 @@ pub(crate) struct RunState<'d, J: RunFacts, G> {
     ghost crowd: { crowded ≡ true ↔ (J.slots < length J.flights) },
 }
 
-/// A worker: its number, its inbox, the ways into all inboxes, by the numbers of their workers, and
-/// the ends that it has found, with room for those of all flights. There are as many inboxes as the
-/// run has workers, with as many places as it was asked for.
+/// A worker: what it makes turns with, its inbox, the ways into all inboxes, by the numbers of their
+/// workers, and the ends that it has found, with room for those of all flights. There are as many
+/// inboxes as the run has workers, with as many places as it was asked for.
 #[derive(Drop)]
-pub(crate) struct Worker<'a, 'f, J: RunFacts> {
-    pub(crate) number: usize,
-    pub(crate) receiver: Receiver<'a, PostedFlight<'f, J>>,
-    pub(crate) senders: Vec<Sender<'a, PostedFlight<'f, J>>>,
+pub(crate) struct Worker<'a, J: RunFacts> {
+    pub(crate) maker: TurnMaker,
+    pub(crate) receiver: Receiver<'a, PostedFlight<J>>,
+    pub(crate) senders: Vec<Sender<'a, PostedFlight<J>>>,
     pub(crate) ends: Vec<FlightEnd<J>>,
     ghost inboxes: { AreInboxes J.workers J.slots (inboxes_of senders.items) },
-    ghost own: { slice_get (inboxes_of senders.items) number ≡ Some receiver.of },
+    ghost own: { slice_get (inboxes_of senders.items) maker.number ≡ Some receiver.of },
 }
 
 /// The worker for flights at this router: the place of its AS in the topology plus the router's
@@ -120,15 +121,15 @@ pub(crate) fn settle<J: RunFacts, G: Gate>(
 
 /// Passes a flight on to the inbox of its worker. If more flights were given than an inbox has
 /// places, and that inbox is full, the flight is dropped. No other inbox is used.
-fn pass_on<'f, J: RunFacts, R: Wait, G: Gate>(
+fn pass_on<J: RunFacts, R: Wait, G: Gate>(
     rt: &R,
     state: &RunState<'_, J, G>,
-    senders: &mut [Sender<'_, PostedFlight<'f, J>>],
+    senders: &mut [Sender<'_, PostedFlight<J>>],
     ends: &mut Vec<FlightEnd<J>>,
-    posted: PostedFlight<'f, J>,
+    posted: PostedFlight<J>,
 )
     requires { AreInboxes J.workers J.slots (inboxes_of senders.old) }
-    ensures passed { IsPassedTo state.entry.now.crowded posted.entry posted.entry.0
+    ensures passed { IsPassedTo state.entry.now.crowded posted posted.0
         senders.old senders.new }
     ensures inboxes { inboxes_of senders.new ≡ inboxes_of senders.old }
 {
@@ -138,15 +139,15 @@ fn pass_on<'f, J: RunFacts, R: Wait, G: Gate>(
 
 /// Puts a flight into an inbox by this way. If more flights were given than an inbox has places,
 /// and the inbox is full, the flight is dropped.
-fn push_or_drop<'f, J: RunFacts, R: Wait, G: Gate>(
+fn push_or_drop<J: RunFacts, R: Wait, G: Gate>(
     rt: &R,
     state: &RunState<'_, J, G>,
-    sender: &mut Sender<'_, PostedFlight<'f, J>>,
+    sender: &mut Sender<'_, PostedFlight<J>>,
     ends: &mut Vec<FlightEnd<J>>,
-    posted: PostedFlight<'f, J>,
+    posted: PostedFlight<J>,
 )
     requires { sender.old.of.slots ≡ J.slots }
-    ensures { IsPutIn state.entry.now.crowded posted.entry sender.old sender.new }
+    ensures { IsPutIn state.entry.now.crowded posted sender.old sender.new }
 {
     if !state.crowded {
         push(rt, sender, posted);
@@ -157,13 +158,13 @@ fn push_or_drop<'f, J: RunFacts, R: Wait, G: Gate>(
 
 /// Puts a flight into an inbox that has a place for every flight of the run. While the inbox seems
 /// full, another thread is about to take a flight out, so it tries again.
-fn push<'f, J: RunFacts, R: Wait>(
+fn push<J: RunFacts, R: Wait>(
     rt: &R,
-    sender: &mut Sender<'_, PostedFlight<'f, J>>,
-    posted: PostedFlight<'f, J>,
+    sender: &mut Sender<'_, PostedFlight<J>>,
+    posted: PostedFlight<J>,
 )
     requires { length J.flights ≤ sender.old.of.slots }
-    ensures { sender.new ≡ put_in posted.entry sender.old }
+    ensures { sender.new ≡ put_in posted sender.old }
 {
     let mut posted = posted;
     for _ in rt.forever() {
@@ -191,12 +192,12 @@ fn next_worker(topology: &Topology, place: PacketLocation, workers: usize) -> us
 }
 
 /// Records the end of a flight that has ended, and passes any other flight on.
-pub(crate) fn send_on<'f, J: RunFacts, R: Wait, G: Gate>(
+pub(crate) fn send_on<J: RunFacts, R: Wait, G: Gate>(
     rt: &R,
     state: &RunState<'_, J, G>,
-    senders: &mut [Sender<'_, PostedFlight<'f, J>>],
+    senders: &mut [Sender<'_, PostedFlight<J>>],
     ends: &mut Vec<FlightEnd<J>>,
-    carried: CarriedFlight<'f, J>,
+    carried: CarriedFlight<J>,
 )
     requires { AreInboxes J.workers J.slots (inboxes_of senders.old) }
     ensures { inboxes_of senders.new ≡ inboxes_of senders.old }
@@ -211,13 +212,13 @@ pub(crate) fn send_on<'f, J: RunFacts, R: Wait, G: Gate>(
 }
 
 /// Takes flights until all flights have ended, and returns the ends that it has found.
-pub(crate) fn work<'f, J: RunFacts, R: Wait, G: Gate>(
+pub(crate) fn work<J: RunFacts, R: Wait, G: Gate>(
     rt: &R,
     state: &RunState<'_, J, G>,
-    worker: Worker<'_, 'f, J>,
+    worker: Worker<'_, J>,
 ) -> Vec<FlightEnd<J>> {
     let Worker {
-        number,
+        mut maker,
         mut receiver,
         mut senders,
         mut ends,
@@ -227,7 +228,14 @@ pub(crate) fn work<'f, J: RunFacts, R: Wait, G: Gate>(
         if state.left.load(Ordering::SeqCst) == 0 {
             return ends;
         }
-        let taken = empty_inbox(rt, state, number, &mut receiver, &mut senders, &mut ends);
+        let taken = empty_inbox(
+            rt,
+            state,
+            &mut maker,
+            &mut receiver,
+            &mut senders,
+            &mut ends,
+        );
         pause(taken);
     }
     unreachable!()
@@ -235,12 +243,12 @@ pub(crate) fn work<'f, J: RunFacts, R: Wait, G: Gate>(
 
 /// Takes flights until the inbox is empty, and returns how many it took. It does not read the
 /// number of flights left: each end of a flight changes it, and each read would wait for that.
-fn empty_inbox<'f, J: RunFacts, R: Wait, G: Gate>(
+fn empty_inbox<J: RunFacts, R: Wait, G: Gate>(
     rt: &R,
     state: &RunState<'_, J, G>,
-    number: usize,
-    receiver: &mut Receiver<'_, PostedFlight<'f, J>>,
-    senders: &mut [Sender<'_, PostedFlight<'f, J>>],
+    maker: &mut TurnMaker,
+    receiver: &mut Receiver<'_, PostedFlight<J>>,
+    senders: &mut [Sender<'_, PostedFlight<J>>],
     ends: &mut Vec<FlightEnd<J>>,
 ) -> usize
     requires { AreInboxes J.workers J.slots (inboxes_of senders.old) }
@@ -249,7 +257,7 @@ fn empty_inbox<'f, J: RunFacts, R: Wait, G: Gate>(
     let mut taken = 0usize;
     for _ in rt.forever() {
         match receiver.pop(rt) {
-            Some(posted) => carry(rt, state, number, senders, ends, posted),
+            Some(posted) => carry(rt, state, maker, senders, ends, posted),
             None => return taken,
         }
         taken = taken.saturating_add(1);
@@ -276,40 +284,39 @@ fn wait_for_beginning<R: Wait>(rt: &R, begun: &AtomicBool) {
     }
 }
 
-/// Carries a flight that the worker of this number took from its inbox: it has one turn, and is
+/// Carries a flight that a worker took from its inbox: it has one turn, and is
 /// then recorded or passed on, possibly to this worker's own inbox. A flight of another worker,
 /// which no inbox but that worker's is given, is passed on at once.
-fn carry<'f, J: RunFacts, R: Wait, G: Gate>(
+fn carry<J: RunFacts, R: Wait, G: Gate>(
     rt: &R,
     state: &RunState<'_, J, G>,
-    number: usize,
-    senders: &mut [Sender<'_, PostedFlight<'f, J>>],
+    maker: &mut TurnMaker,
+    senders: &mut [Sender<'_, PostedFlight<J>>],
     ends: &mut Vec<FlightEnd<J>>,
-    posted: PostedFlight<'f, J>,
+    posted: PostedFlight<J>,
 )
     requires { AreInboxes J.workers J.slots (inboxes_of senders.old) }
     ensures { inboxes_of senders.new ≡ inboxes_of senders.old }
 {
-    if posted.worker() != number {
+    if posted.worker() != maker.number {
         pass_on(rt, state, senders, ends, posted);
     } else {
-        let turned = turn(state, number, posted.into_carried());
+        let turned = turn(state, maker, posted.into_carried());
         send_on(rt, state, senders, ends, turned);
     }
 }
 
-/// One turn of a flight, through the gate, by the worker of this number, which is the one for the
-/// flight's router.
-fn turn<'f, J: RunFacts, G: Gate>(
+/// One turn of a flight, through the gate, by the worker for the flight's router.
+fn turn<J: RunFacts, G: Gate>(
     state: &RunState<'_, J, G>,
-    number: usize,
-    carried: CarriedFlight<'f, J>,
-) -> CarriedFlight<'f, J>
-    requires under_way { IsAtRouter carried.packet.place }
-    requires own { IsNext J.network J.workers carried.packet.place number }
+    maker: &mut TurnMaker,
+    carried: CarriedFlight<J>,
+) -> CarriedFlight<J>
+    requires under_way { IsAtRouter carried.place }
+    requires own { IsNext J.network J.workers carried.place maker.old.number }
 {
-    state.gate.enter(number);
-    let turned = carried.advance(state.now);
-    state.gate.leave(number);
+    state.gate.enter(maker.number);
+    let turned = carried.advance(state.topology, state.now, maker);
+    state.gate.leave(maker.number);
     turned
 }

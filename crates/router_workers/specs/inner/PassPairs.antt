@@ -5,10 +5,10 @@ use Rattle.scion_topology.specs.Network.{Network}
 use Rattle.scion_topology.specs.Topology.{info_in}
 use Rattle.forwarding.specs.declared.location.PacketLocation.{PacketLocation}
 use Rattle.forwarding.specs.declared.location.PacketLocation.TheVariants as places
+use Rattle.forwarding.specs.Turn.{Packet}
 use Rattle.inbox.specs.Account.{with_put}
 use Rattle.inbox.specs.Inbox.{Opened, WayThrough}
 use Rattle.network_core.specs.Delivery.{IsAtRouter}
-use Rattle.router_workers.specs.Flight.{FlightValue}
 use Rattle.router_workers.specs.declared.pass_pairs.PassPair.{PassPair}
 
 -- the passes belong to the inboxes, in their order
@@ -35,11 +35,10 @@ IsNext n workers (places.AtRouter stop) next =
     IfOk (info_in n stop.ia) (λ info. next ≡ (info.position + stop.router) % workers)
 IsNext n workers place next = Unit {0}
 
--- the packet of this flight is at a router, whose worker is this one
-abbrev pub IsPosted : (n : Network) (workers worker : ℕ) (flight : FlightValue) → Type 0
-IsPosted n workers worker flight =
-    (worker < workers) × IsAtRouter flight.packet.place
-    × IsNext n workers flight.packet.place worker
+-- the packet is at a router, whose worker is this one
+abbrev pub IsPosted : (n : Network) (workers worker : ℕ) (packet : Packet) → Type 0
+IsPosted n workers worker packet =
+    (worker < workers) × IsAtRouter packet.place × IsNext n workers packet.place worker
 
 -- a way into an inbox after this flight was put in
 abbrev pub put_in : {T : Type 0} → T → WayThrough T → WayThrough T
