@@ -42,10 +42,17 @@ pub(crate) fn text(alloc: Global) -> Result<String, AllocError> {
 }
 
 /// Two lines of children of AS 1, and a ring of the other ASes, as JSON. The links of the lines
-/// come first; a link's interface at the parent has a number one larger than its own.
+/// come first; a link's interface at the parent has a number one larger than its own. The ASes of
+/// the first line are listed from its end on, so that a path over both lines passes the ASes in
+/// the order of the list.
 pub(crate) fn lines(alloc: Global) -> Result<String, AllocError> {
     let mut drawing = Drawing::new(alloc);
-    for number in 1..=ASES {
+    for place in 1..=ASES {
+        let number = if place <= LINE {
+            LINE + 1 - place
+        } else {
+            place
+        };
         drawing.add_as(numbered(number), number == 1 || number >= RING, "6b")?;
     }
     for link in 0..SECOND_END - 1 {
