@@ -109,9 +109,8 @@ pub(crate) fn flights<R: Threads + Wait + Sync>(
 
 /// The same with a thousand flights of 63 turns, each at the next AS of the network's list, so that
 /// up to eight workers have the same number of turns each, or one more. A turn makes one
-/// authenticator, and the one in which the path goes over to its second segment makes two. That
-/// one is a turn of the worker that has one less, so each of 2, 4 or 8 workers makes as many
-/// authenticators.
+/// authenticator, and two where the path goes over to its second segment. Of 2, 4 or 8 workers this
+/// falls to the one with a turn less than the others, so that all make the same number.
 pub(crate) fn even_flights<R: Threads + Wait + Sync>(
     rt: &R,
     alloc: Global,

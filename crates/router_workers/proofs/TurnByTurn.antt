@@ -69,7 +69,8 @@ went_on flights n now number turns packet left c here turned =
           ∙ ap (λ (p : Packet). without_hops (turned_packet c.given.fabric now p)) c.is
           ∙ turned_without_hops c.given.fabric now
           (packet_after_turns c.given.fabric now c.given.packet turns)
-          ∙ ap (λ k. without_hops (packet_after_turns c.given.fabric now c.given.packet k)) (sym more);
+          ∙ ap (λ k. without_hops (packet_after_turns c.given.fabric now c.given.packet k))
+          (sym more);
       flew = λ k early. elim (cases_lt k turns) [
         | inl before ↦ c.flew k before
         | inr not ↦ (let last : turns ≡ k = omega arith in

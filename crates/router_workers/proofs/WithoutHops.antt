@@ -17,13 +17,15 @@ use Rattle.forwarding.specs.Turn.{Packet, at_owner, over_link, after_outcome, af
 use Rattle.router_workers.specs.inner.Run.{without_hops}
 
 by_owner : (packet : Packet) (stop : RouterStop) (out ia number : ℕ)
-    (owner : Result ℕ TopologyFault) → without_hops (at_owner (without_hops packet) stop out ia number owner)
+    (owner : Result ℕ TopologyFault)
+    → without_hops (at_owner (without_hops packet) stop out ia number owner)
     ≡ without_hops (at_owner packet stop out ia number owner)
 by_owner packet stop out ia number (Ok router) = refl
 by_owner packet stop out ia number (Err fault) = refl
 
 by_link : (n : Network) (packet : Packet) (stop : RouterStop) (out : ℕ)
-    (far : Result (ℕ × ℕ) TopologyFault) → without_hops (over_link n (without_hops packet) stop out far)
+    (far : Result (ℕ × ℕ) TopologyFault)
+    → without_hops (over_link n (without_hops packet) stop out far)
     ≡ without_hops (over_link n packet stop out far)
 by_link n packet stop out (Ok end) =
     by_owner packet stop out end.0 end.1 (owner_in n end.0 end.1)

@@ -46,9 +46,9 @@ impl RunFacts for Brand {
     ghost slots = { 0 };
 }
 
-/// What moves from inbox to inbox: the number of a flight, that of its turns in the run so far, that
-/// of the worker in whose inbox it is, if it is in one, and a copy of the bytes of its packet, with
-/// the packet's place.
+/// What moves from inbox to inbox: the number of a flight, that of its turns in the run so far,
+/// that of the worker in whose inbox it is, if it is in one, and a copy of the bytes of its packet,
+/// with the packet's place.
 #[derive(Drop)]
 pub(crate) struct Job {
     pub(crate) number: usize,
@@ -109,6 +109,7 @@ impl Job {
         requires { self.old.turns < 128 }
         ensures number { self.new.number ≡ self.old.number }
         ensures turns { self.new.turns ≡ self.old.turns + 1 }
+        ensures worker { self.new.worker ≡ self.old.worker }
         ensures packet { carried_packet self.new
             ≡ without_hops (turned_packet topology.now now (carried_packet self.old)) }
     {

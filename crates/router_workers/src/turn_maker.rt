@@ -1,4 +1,5 @@
 //! Turns of packets whose passed hops no one reads.
+#![tactic(auto, unfolding(forwarding::specs::Turn::turn_of, forwarding::specs::Turn::turn_under))]
 
 ghost use Rattle.std.specs.Prelude.{◌≡◌, ◌<◌, [], IfOk, vec_capacity};
 ghost use Rattle.forwarding.specs.Turn.{packet_with, turned_packet};
@@ -30,7 +31,6 @@ impl TurnMaker {
 
     /// One turn of the router that has the packet of these bytes. A packet that is at no router of
     /// the network stays as it is.
-    #[tactic(auto, unfolding(forwarding::specs::Turn::turn_of, forwarding::specs::Turn::turn_under))]
     pub(crate) fn turn(
         &mut self,
         topology: &Topology,

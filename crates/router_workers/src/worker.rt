@@ -62,9 +62,9 @@ pub(crate) struct RunState<'d, J: RunFacts, G> {
     ghost crowd: { crowded ≡ true ↔ (J.slots < length J.flights) },
 }
 
-/// A worker: what it makes turns with, its inbox, the ways into all inboxes, by the numbers of their
-/// workers, and the ends that it has found, with room for those of all flights. There are as many
-/// inboxes as the run has workers, with as many places as it was asked for.
+/// A worker: what it makes turns with, its inbox, the ways into all inboxes, by the numbers of
+/// their workers, and the ends that it has found, with room for those of all flights. There are as
+/// many inboxes as the run has workers, with as many places as it was asked for.
 #[derive(Drop)]
 pub(crate) struct Worker<'a, J: RunFacts> {
     pub(crate) maker: TurnMaker,
@@ -284,9 +284,9 @@ fn wait_for_beginning<R: Wait>(rt: &R, begun: &AtomicBool) {
     }
 }
 
-/// Carries a flight that a worker took from its inbox: it has one turn, and is
-/// then recorded or passed on, possibly to this worker's own inbox. A flight of another worker,
-/// which no inbox but that worker's is given, is passed on at once.
+/// Carries a flight that a worker took from its inbox: it has one turn, and is then recorded or
+/// passed on, possibly to this worker's own inbox. A flight of another worker, which no inbox but
+/// that worker's is given, is passed on at once.
 fn carry<J: RunFacts, R: Wait, G: Gate>(
     rt: &R,
     state: &RunState<'_, J, G>,

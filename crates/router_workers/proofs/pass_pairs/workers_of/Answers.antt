@@ -22,11 +22,12 @@ invariant_of-push g c =
     (slice_get-get_or c.args.receivers.items (length c.loop-receiver.yielded) c.in-Some.receiver turn.0
     ∙ ap (λ w. Some w) (sym turn.1)) in
     let same = c.in_ok-senders.ensures.further ∙ kept.0 in
-    let number : length c.loop-receiver.yielded ≡ c.in_ok-maker.maker.number =
+    let own = c.in_ok-maker.maker.number in
+    let number : length c.loop-receiver.yielded ≡ own =
     omega (arith, c.len-number.ensures, kept.1.0, c.in_ok-maker.ensures) in
     record {
       inboxes = subst (AreInboxes g.J.RunFacts.workers g.J.RunFacts.slots) (sym same) c.requires.inboxes;
-      own = subst (λ (inboxes : List Opened). slice_get inboxes c.in_ok-maker.maker.number ≡ Some c.in-Some.receiver.of)
+      own = subst (λ (inboxes : List Opened). slice_get inboxes own ≡ Some c.in-Some.receiver.of)
           (c.requires.own ∙ sym same)
           (subst (λ (k : ℕ). slice_get (inboxes_of c.args.receivers.items) k ≡ Some c.in-Some.receiver.of) number there);
     }

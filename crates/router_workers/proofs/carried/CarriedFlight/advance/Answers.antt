@@ -16,10 +16,11 @@ pub invariant_of-result : goal.invariant_of-result
 invariant_of-result g c =
     let here = subst (λ (p : Packet). IsAtRouter p.place) (sym c.self.view_is)
     c.requires.under_way in
+    let n = c.args.topology.now in
     let old = c.self.inside.job.value in
     let turned =
     c.turn.ensures.packet
-    ∙ ap (λ (job : Job). without_hops (turned_packet c.args.topology.now c.args.now (carried_packet job)))
+    ∙ ap (λ (job : Job). without_hops (turned_packet n c.args.now (carried_packet job)))
     c.deref_mut.ensures.value
     ∙ ap (λ n. without_hops (turned_packet n c.args.now (carried_packet old))) c.requires.network
     ∙ ap (λ now. without_hops (turned_packet g.J.RunFacts.network now (carried_packet old)))
