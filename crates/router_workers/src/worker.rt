@@ -18,7 +18,7 @@ use scion_topology::Topology;
 use std::marker::PhantomData;
 use std::sync::Wait;
 use std::sync::atomic::{AtomicBool, AtomicUsize, Ordering};
-use std::thread;
+use std::{hint, thread};
 
 /// Called before and after each turn of a run, with the number of the worker, from 0.
 pub trait Gate: Sync {
@@ -39,9 +39,11 @@ impl Gate for OpenGate {
     fn leave(&self, _worker: usize) {}
 }
 
-/// The largest number of times that a worker whose inbox is empty lets other threads go on before
-/// it asks again.
-const LONGEST_PAUSE: usize = 64;
+/// How often a worker whose inbox is empty spins for each flight that was in it.
+const SPINS_PER_FLIGHT: usize = 8;
+
+/// The largest number of these spins.
+const MOST_SPINS: usize = 512;
 
 /// What the workers of a run share.
 #[derive(Drop)]
@@ -265,13 +267,17 @@ fn empty_inbox<J: RunFacts, R: Wait, G: Gate>(
     unreachable!()
 }
 
-/// Lets other threads go on, the longer the more flights the inbox just had. So several are in it
-/// when the worker asks again. While it takes these out, others are put into places that it does
-/// not touch.
+/// Waits, the longer the more flights the inbox just had, and lets other threads go on. So several
+/// flights are in it when the worker asks again. While it takes these out, others are put into
+/// places that it does not touch.
+///
+/// It yields only once: on a machine with other work, each time may cost a whole slice of that
+/// work's time.
 fn pause(taken: usize) {
-    for _ in 0..taken.clamp(1, LONGEST_PAUSE) {
-        thread::yield_now();
+    for _ in 0..taken.saturating_mul(SPINS_PER_FLIGHT).min(MOST_SPINS) {
+        hint::spin_loop();
     }
+    thread::yield_now();
 }
 
 /// Waits until the workers may begin.
