@@ -45,7 +45,7 @@ fn set_of(
 ) -> Result<SegmentSet, Fail> {
     let mut store = PathStore::new(alloc);
     for segment in segments {
-        if store.register(segment.try_clone(alloc)?, now).is_err() {
+        if store.register(segment.try_clone()?, now).is_err() {
             return Err(Fail::new("the segment is not taken in"));
         }
     }

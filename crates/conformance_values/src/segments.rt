@@ -129,7 +129,8 @@ fn a_segment_has_2_to_63_entries(rt: HostRuntime) -> Result<(), Fail> {
     ];
     for (count, fault) in rows {
         let entries = entries_of(rt.alloc(), count)?;
-        assert_eq!(rt; Segment::new(SegKind::Core, 0, 0, entries).err(), fault);
+        let answer = Segment::new(SegKind::Core, 0, 0, entries);
+        assert_eq!(rt; refusal(answer)?, fault);
     }
     Ok(())
 }
@@ -285,7 +286,7 @@ fn expect_kept(
     dst: IsdAs,
 ) -> Result<(), Fail> {
     let mut store = PathStore::new(alloc);
-    assert_eq!(rt; register_copy(alloc, &mut store, segment, 100)?, Ok(true));
+    assert_eq!(rt; register_copy(&mut store, segment, 100)?, Ok(true));
     let set = store.segments_for(alloc, src, dst, 100)?;
     assert!(rt; are_same(set.ups(), &[segment]));
     assert!(rt; are_same(set.try_clone(alloc)?.ups(), &[segment]));
@@ -297,7 +298,7 @@ fn expect_kept(
 fn a_segment_of_63_entries_is_one_like_any_other(rt: HostRuntime) -> Result<(), Fail> {
     let alloc = rt.alloc();
     let segment = Segment::new(SegKind::Intra, 100, 7, entries_of(alloc, 63)?)?;
-    assert!(rt; segment.try_clone(alloc)?.is_same(&segment));
+    assert!(rt; segment.try_clone()?.is_same(&segment));
     let text = segment.to_json(alloc)?;
     assert!(rt; is_text_of(alloc, &segment, text.as_str())?);
     let (first, last) = (IsdAs::from_number(0), IsdAs::from_number(62));

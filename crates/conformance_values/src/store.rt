@@ -41,12 +41,11 @@ pub(crate) fn worked(alloc: Global, beta0: u16) -> Result<Segment, Fail> {
 /// What comes of registering a copy of a segment: whether it is new, or the refusal, with which the
 /// copy has to be handed back.
 pub(crate) fn register_copy(
-    alloc: Global,
     store: &mut PathStore,
     segment: &Segment,
     now: u32,
 ) -> Result<Result<bool, StoreFault>, Fail> {
-    match store.register(segment.try_clone(alloc)?, now) {
+    match store.register(segment.try_clone()?, now) {
         Ok(is_new) => Ok(Ok(is_new)),
         Err((_, OrMemory::Memory)) => Err(Fail::from(AllocError)),
         Err((back, OrMemory::Refused(fault))) if back.is_same(segment) => Ok(Err(fault)),
@@ -93,10 +92,10 @@ fn expect_stored(
     segment: &Segment,
 ) -> Result<(), Fail> {
     assert!(rt; store.is_empty());
-    assert_eq!(rt; register_copy(alloc, store, segment, 100)?, Ok(true));
-    assert_eq!(rt; register_copy(alloc, store, segment, 100)?, Ok(false));
+    assert_eq!(rt; register_copy(store, segment, 100)?, Ok(true));
+    assert_eq!(rt; register_copy(store, segment, 100)?, Ok(false));
     assert_eq!(rt;
-        register_copy(alloc, store, segment, 21_701)?,
+        register_copy(store, segment, 21_701)?,
         Err(StoreFault::Expired)
     );
     assert!(rt; store.len() == 1);
@@ -142,7 +141,7 @@ fn a_segment_is_stored_once(rt: HostRuntime) -> Result<(), Fail> {
 fn store_of(alloc: Global, count: u16) -> Result<PathStore, Fail> {
     let mut store = PathStore::new(alloc);
     for beta0 in 1..=count {
-        register_copy(alloc, &mut store, &worked(alloc, beta0)?, 100)??;
+        register_copy(&mut store, &worked(alloc, beta0)?, 100)??;
     }
     Ok(store)
 }
@@ -173,7 +172,7 @@ fn at_most_32_segments_of_one_kind_and_ends_are_stored(rt: HostRuntime) -> Resul
     assert_eq!(rt; store.len(), 32);
     for (kind, beta0, first, last, now, answer) in &FURTHER {
         let one = segment(alloc, *kind, *beta0, ia(*first), ia(*last))?;
-        assert_eq!(rt; register_copy(alloc, &mut store, &one, *now)?, *answer);
+        assert_eq!(rt; register_copy(&mut store, &one, *now)?, *answer);
     }
     Ok(())
 }
@@ -207,13 +206,10 @@ fn finds(
 fn expect_full(rt: &impl Abort, alloc: Global, store: &mut PathStore) -> Result<(), Fail> {
     for beta0 in 1..=32 {
         let one = worked(alloc, beta0)?;
-        assert_eq!(rt; register_copy(alloc, store, &one, 100)?, Ok(true));
+        assert_eq!(rt; register_copy(store, &one, 100)?, Ok(true));
     }
     let one = worked(alloc, 33)?;
-    assert_eq!(rt;
-        register_copy(alloc, store, &one, 100)?,
-        Err(StoreFault::Full)
-    );
+    assert_eq!(rt; register_copy(store, &one, 100)?, Err(StoreFault::Full));
     Ok(())
 }
 
@@ -234,8 +230,8 @@ fn expect_two(
     left: &Segment,
     right: &Segment,
 ) -> Result<(), Fail> {
-    assert_eq!(rt; register_copy(alloc, store, left, 1000)?, Ok(true));
-    assert_eq!(rt; register_copy(alloc, store, right, 1000)?, Ok(true));
+    assert_eq!(rt; register_copy(store, left, 1000)?, Ok(true));
+    assert_eq!(rt; register_copy(store, right, 1000)?, Ok(true));
     assert!(rt; finds(alloc, store, left, right)?);
     assert_eq!(rt; store.sweep(21_701), 32);
     assert!(rt; are_same(store.segments(), &[left, right]));
@@ -274,7 +270,7 @@ fn operations_are_applied_in_their_order(rt: HostRuntime) -> Result<(), Fail> {
         (StoreOp::Sweep(21_701), 0),
     ];
     for (operation, len) in &rows {
-        store.apply(alloc, operation)?;
+        store.apply(operation)?;
         assert!(rt; store.len() == *len);
         assert!(rt; store.segments().iter().all(|one| one.is_same(&s)));
     }
@@ -293,7 +289,7 @@ fn core_store(alloc: Global) -> Result<PathStore, Fail> {
     let mut store = PathStore::new(alloc);
     for (kind, first, last) in rows {
         let one = segment(alloc, kind, 0, ia(first), ia(last))?;
-        register_copy(alloc, &mut store, &one, 100)??;
+        register_copy(&mut store, &one, 100)??;
     }
     Ok(store)
 }

@@ -8,7 +8,7 @@ use crate::entry::Entry;
 use crate::fault::SegmentError;
 use crate::kind::SegKind;
 use crate::rules::{MAX_BEACON_LEN, fault_of_first, fault_of_last, fault_of_next};
-use crate::segment::Segment;
+use crate::segment::{Parts, Segment};
 use refusal::OrMemory;
 use std::alloc::{AllocError, Global};
 use std::marker::Model;
@@ -108,12 +108,12 @@ impl Beacon {
             return Err(OrMemory::Refused(fault));
         }
         let entries = with_one_more(alloc, &self.entries, &entry)?;
-        Ok(Segment {
+        Ok(Segment::of(Parts {
             kind: self.kind,
             timestamp: self.timestamp,
             beta0: self.beta0,
             entries,
-        })
+        })?)
     }
 
     /// Whether it has 62 entries, so that it can only be ended and not be passed on.

@@ -9,6 +9,8 @@ ghost use Rattle.path_segment.specs.Chain.{Chain, with_last, beta_of, IsLeastExp
 ghost use Rattle.path_segment.specs.Tests.{is_live, is_same, same_kind};
 ghost use Rattle.path_segment.specs.Rules.{AreOfBeacon, AreOfSegment, beacon_fault, next_fault, last_fault, segment_fault};
 
+use crate::segment::Segment;
+
 /// The first accumulator of a chain is `beta0`; each further one comes from the one before and the
 /// authenticator of its entry. A further entry at the end changes none of them.
 pub fn accumulators_are_chained()
@@ -58,3 +60,11 @@ pub fn accumulators_are_small()
         → All (λ entry. (k : ℕ) → slice_index entry.mac k < 256) chain.entries
         → beta_of chain i < 2 ^ 16 }
 {}
+
+/// A segment may go to another thread, and several threads may read one.
+pub fn segments_cross_threads(segment: &Segment) {
+    crosses_threads(segment)
+}
+
+/// The type of the value may cross threads.
+fn crosses_threads<T: Send + Sync>(_value: &T) {}

@@ -54,7 +54,7 @@ impl Segment {
             .ok_or(SegmentFault::NotJson)?;
         let values = object.list("entries").ok_or(SegmentFault::NotJson)?;
         let entries = items(alloc, values, entry_of)?.ok_or(SegmentFault::NotJson)?;
-        Ok(Segment::new(kind, timestamp as u32, beta0 as u16, entries)?)
+        Segment::new(kind, timestamp as u32, beta0 as u16, entries)
     }
 }
 

@@ -1,25 +1,35 @@
 #![tactic(auto, unfolding(crate::specs::Chain::first_as, crate::specs::Chain::last_as))]
 
-ghost use Rattle.std.specs.Prelude.{◌≡◌, ◌<◌, ◌≤◌, ◌↔◌, length, Ok, IfOk, OnOk, IsTrue};
+ghost use Rattle.std.specs.Prelude.{◌≡◌, ◌<◌, ◌≤◌, ◌↔◌, length, IfOk, OnOk, IsTrue, MatchResult};
+ghost use Rattle.refusal.specs.Refusal.{Answers};
+ghost use Rattle.refusal.specs.declared.fault.OrMemory.TheVariants.{Memory};
 ghost use Rattle.path_segment.specs.Chain.{chain_of, beta_of, between, first_as, last_as, IsLeastExpiry, IsChainLive};
 ghost use Rattle.path_segment.specs.Rules.{AreOfSegment, IsSegment, segment_of};
 ghost use Rattle.path_segment.specs.Tests.{is_live, is_same};
 
 use crate::chain::{are_live, are_same, beta_after_all, clone_entries, least_expiry_of};
 use crate::entry::Entry;
-use crate::fault::SegmentFault;
+use crate::fault::{SegmentError, SegmentFault};
 use crate::kind::SegKind;
 use crate::rules::fault_of_segment;
 use isd_as::IsdAs;
+use refusal::OrMemory;
 use std::alloc::{AllocError, Global};
 use std::marker::Model;
+use std::sync::Arc;
 
 /// A path segment: 2 to 63 entries, in the direction in which it was made.
 ///
 /// Its type keeps the rules: only the first entry has no way in, only the last has no way out, and
-/// no two entries are of one AS.
+/// no two entries are of one AS. Copies by [`Segment::try_clone`] share its parts.
 #[derive(Debug, Drop)]
 pub struct Segment {
+    parts: Arc<Parts>,
+}
+
+/// The parts of a segment.
+#[derive(Debug, Drop)]
+pub(crate) struct Parts {
     pub(crate) kind: SegKind,
     pub(crate) timestamp: u32,
     pub(crate) beta0: u16,
@@ -27,14 +37,17 @@ pub struct Segment {
 }
 
 impl Model for Segment {
+    ghost use Rattle.std.specs.Arc.{arc_value};
     ghost use Rattle.path_segment.specs.Chain.{Chain, chain_of};
     ghost use Rattle.path_segment.specs.Rules.{IsSegment};
 
     ghost Value = { Chain };
 
-    ghost view = { λ s. chain_of s.kind s.timestamp s.beta0 s.entries.items };
+    ghost view = { λ s. let parts = arc_value s.parts in
+        chain_of parts.kind parts.timestamp parts.beta0 parts.entries.items };
 
-    ghost invariant = { λ s. IsSegment (chain_of s.kind s.timestamp s.beta0 s.entries.items) };
+    ghost invariant = { λ s. let parts = arc_value s.parts in
+        IsSegment (chain_of parts.kind parts.timestamp parts.beta0 parts.entries.items) };
 }
 
 impl Segment {
@@ -44,42 +57,65 @@ impl Segment {
     /// The first of these refusals is returned: [`SegmentFault::TooShort`] for fewer than 2
     /// entries; [`SegmentFault::TooLong`] for more than 63; [`SegmentFault::BadEnds`] if the first
     /// entry has a way in or a later one has none, or if the last has a way out or an earlier one
-    /// has none; [`SegmentFault::Loop`] if two entries are of one AS.
+    /// has none; [`SegmentFault::Loop`] if two entries are of one AS. Memory can run out only if
+    /// none of them is due; it is taken where the entries took theirs.
     pub fn new(
         kind: SegKind,
         timestamp: u32,
         beta0: u16,
         entries: Vec<Entry>,
-    ) -> Result<Segment, SegmentFault>
+    ) -> Result<Segment, SegmentError>
         // The entries of a segment that is returned keep the rules.
         ensures found { OnOk result (AreOfSegment entries.items) }
-        // If the entries keep the rules, the segment is returned.
-        ensures only { AreOfSegment entries.items
-            → result ≡ Ok (chain_of kind timestamp beta0 entries.items) }
-        // The exact result, with its refusal.
-        ensures exact { result ≡ segment_of (chain_of kind timestamp beta0 entries.items) }
+        // If the entries keep the rules, the segment is returned, unless memory runs out.
+        ensures only { AreOfSegment entries.items → MatchResult result
+            (λ s. s ≡ chain_of kind timestamp beta0 entries.items) (λ e. e ≡ Memory) }
+        // The segment, or the first rule that the entries break.
+        ensures whole { Answers (λ s. s) result
+            (segment_of (chain_of kind timestamp beta0 entries.items)) }
     {
-        match fault_of_segment(&entries) {
-            Some(fault) => Err(fault),
-            None => Ok(Segment {
-                kind,
-                timestamp,
-                beta0,
-                entries,
-            }),
+        if let Some(fault) = fault_of_segment(&entries) {
+            return Err(OrMemory::Refused(fault));
         }
+        Ok(Segment::of(Parts {
+            kind,
+            timestamp,
+            beta0,
+            entries,
+        })?)
     }
 
-    /// A copy of this segment, unless memory runs out.
-    pub fn try_clone(&self, alloc: Global) -> Result<Segment, AllocError>
+    /// The segment of these parts, unless memory runs out.
+    pub(crate) fn of(parts: Parts) -> Result<Segment, AllocError>
+        requires { IsSegment
+            (chain_of parts.kind parts.timestamp parts.beta0 parts.entries.items) }
+        ensures { IfOk result (λ s.
+            s ≡ chain_of parts.kind parts.timestamp parts.beta0 parts.entries.items) }
+    {
+        let alloc = *parts.entries.allocator();
+        let parts = Arc::new(alloc, parts)?;
+        Ok(Segment { parts })
+    }
+
+    /// A copy of this segment that shares its parts. It takes no memory; [`AllocError`] comes only
+    /// if as many copies share them as can be counted.
+    pub fn try_clone(&self) -> Result<Segment, AllocError>
         ensures { IfOk result (λ s. s ≡ self.now) }
     {
-        let entries = clone_entries(alloc, &self.entries)?;
-        Ok(Segment {
-            kind: self.kind,
-            timestamp: self.timestamp,
-            beta0: self.beta0,
-            entries,
+        let parts = Arc::try_clone(&self.parts)?;
+        Ok(Segment { parts })
+    }
+
+    /// A copy of this segment with parts of its own, unless memory runs out. Threads that use it
+    /// do not wait for those that use this segment.
+    pub fn unshared_copy(&self, alloc: Global) -> Result<Segment, AllocError>
+        ensures { IfOk result (λ s. s ≡ self.now) }
+    {
+        Segment::of(Parts {
+            kind: self.parts.kind,
+            timestamp: self.parts.timestamp,
+            beta0: self.parts.beta0,
+            entries: clone_entries(alloc, &self.parts.entries)?,
         })
     }
 
@@ -95,31 +131,31 @@ impl Segment {
     fn has_parts_of(&self, other: &Segment) -> bool
         ensures { IsTrue result ↔ (self.now ≡ other.now) }
     {
-        self.kind == other.kind
-            && self.timestamp == other.timestamp
-            && self.beta0 == other.beta0
-            && are_same(&self.entries, &other.entries)
+        self.parts.kind == other.parts.kind
+            && self.parts.timestamp == other.parts.timestamp
+            && self.parts.beta0 == other.parts.beta0
+            && are_same(&self.parts.entries, &other.parts.entries)
     }
 
     /// The kind of links that it follows.
     pub fn kind(&self) -> SegKind
         ensures { result ≡ self.now.kind }
     {
-        self.kind
+        self.parts.kind
     }
 
     /// When its beacon was begun, in seconds.
     pub fn timestamp(&self) -> u32
         ensures { result ≡ self.now.timestamp }
     {
-        self.timestamp
+        self.parts.timestamp
     }
 
     /// The accumulator under which its first hop is authenticated.
     pub fn beta0(&self) -> u16
         ensures { result ≡ self.now.beta0 }
     {
-        self.beta0
+        self.parts.beta0
     }
 
     /// Its entries, in construction order, which keep the rules of segments.
@@ -128,7 +164,7 @@ impl Segment {
         ensures kept { IsSegment self.now }
         ensures rules { AreOfSegment self.now.entries }
     {
-        &self.entries
+        &self.parts.entries
     }
 
     /// The AS in which it begins.
@@ -157,7 +193,7 @@ impl Segment {
         requires { i ≤ length self.now.entries }
         ensures { result ≡ beta_of self.now i }
     {
-        beta_after_all(self.beta0, &self.entries[..i])
+        beta_after_all(self.parts.beta0, &self.parts.entries[..i])
     }
 
     /// The earliest expiry, in half seconds, of the hops from place `a` to place `b`, both
@@ -167,7 +203,7 @@ impl Segment {
         requires within { b < length self.now.entries }
         ensures { IsLeastExpiry self.now.timestamp (between a b self.now.entries) result }
     {
-        least_expiry_of(self.timestamp, &self.entries[a..b + 1])
+        least_expiry_of(self.parts.timestamp, &self.parts.entries[a..b + 1])
     }
 
     /// Whether every hop is live at the second `now`.
@@ -182,6 +218,6 @@ impl Segment {
     fn is_each_hop_live(&self, now: u32) -> bool
         ensures { IsTrue result ↔ IsChainLive self.now now }
     {
-        are_live(self.timestamp, &self.entries, now)
+        are_live(self.parts.timestamp, &self.parts.entries, now)
     }
 }

@@ -13,7 +13,10 @@ use Rattle.std.proofs.lemmas.List.Sums.{fold_push, sum_by-insert}
 use Rattle.path_segment.specs.Chain.{Chain}
 use Rattle.path_server.specs.Index.{HasEachPlace, HasAddresses, IsIndex, rank, rank_at, order_at}
 use Rattle.path_server.specs.inner.Index.{is_in}
+use Rattle.std.specs.List.Sorted.{IsNonDecreasingBy}
+use Rattle.std.proofs.lemmas.List.Elements.{All-weaker}
 use Rattle.path_server.proofs.Places.{any_alike}
+use Rattle.path_server.proofs.Ranks.{ranks_rise}
 
 -- ---- each place
 
@@ -32,7 +35,7 @@ each_with segments segment index at each test =
     ∙ ap (count_by test) (sym (one_more (length segments)) ∙ ap (range_with_len 0) (sym more))
 
 -- every element of an index is a place
-places_are_within : (segments : List Chain) (index : List ℕ) → HasEachPlace segments index
+pub places_are_within : (segments : List Chain) (index : List ℕ) → HasEachPlace segments index
     → All (λ place. place < length segments) index
 places_are_within segments index each k d within =
     let place = get_or index k d in
@@ -78,3 +81,11 @@ grown_is_index segments segment index at is fits short within below above =
           (λ k d low high. (let rise = above k d low high in let one = kept (get_or index k d) (inside k d high) in omega arith));
       addresses = All-push HasAddresses segments segment is.addresses fits;
     }
+
+-- an index has its ends in order
+pub index_rises : (segments : List Chain) (index : List ℕ) → IsIndex segments index → length segments < 2 ^ 64
+    → IsNonDecreasingBy (rank_at segments) index
+index_rises segments index is short =
+    ranks_rise segments index
+    (All-weaker (λ place. place < length segments) (λ place. place < 2 ^ 64) (λ place within. omega arith) _ (places_are_within segments index is.each))
+    is.ordered

@@ -213,3 +213,9 @@ pub reached_is : (ia : ℕ) (segments : List Chain) (other : ℕ)
     → is_in (ia ∷ map first_as segments) other ≡ is_reached ia segments other
 unfolding is_reached
 reached_is ia segments other = ap (λ rest. nat_eq other ia || rest) (begins_in segments other)
+
+-- among no places none is found
+pub none_among : (segments : List Chain) (now last : ℕ) (firsts : List ℕ)
+    → flat_map (core_places segments [] now last) firsts ≡ []
+none_among segments now last [] = refl
+none_among segments now last (first ∷ firsts) = none_among segments now last firsts

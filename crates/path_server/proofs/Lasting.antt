@@ -1,34 +1,44 @@
--- Segments that are live up to a half second.
-use Rattle.std.proofs.Common.{◌≡◌, ℕ, suc, ◌+◌, ◌<◌, ◌≤◌, Bool, true, List, [], ◌∷◌, length, get_or, filter, All, refl, subst, ap, sym, ◌∙◌, inl, inr, arith}
-use Rattle.std.specs.List.{AllWithin}
-use Rattle.std.proofs.lemmas.Bool.{cases_order}
-use Rattle.std.proofs.lemmas.List.{get_or_default}
-use Rattle.path_segment.specs.Chain.{Chain, IsChainLive}
+-- The earliest expiry of segments, and what it says of a sweep.
+use Rattle.std.proofs.Common.{◌≡◌, ℕ, suc, ◌≤◌, min, Bool, true, List, [], ◌∷◌, ◌++◌, length, get_or, filter, All, refl, subst, ap, sym, arith}
+use Rattle.std.proofs.lemmas.List.{length_push, get_or_append_left, get_or_push}
+use Rattle.std.proofs.lemmas.List.Elements.{All-push}
+use Rattle.hop_mac.specs.Lifetime.{expiry_of}
+use Rattle.path_segment.specs.Chain.{Chain, IsChainLive, IsLeastExpiry}
 use Rattle.path_segment.specs.Tests.{is_live}
 use Rattle.path_segment.proofs.Decided.{is_live-Decides}
-use Rattle.path_server.specs.Expiry.{IsLiveUpTo}
+use Rattle.path_server.specs.Expiry.{LastsUntil, IsEarliestExpiry}
 use Rattle.path_server.specs.Store.{live_segments, expired_count}
 use Rattle.path_server.proofs.Counts.{left_out}
 
--- what is live up to a half second is live up to an earlier one
-pub all_sooner : (later sooner : ℕ) (segments : List Chain) → sooner ≤ later → All (IsLiveUpTo later) segments
-    → All (IsLiveUpTo sooner) segments
-all_sooner later sooner segments early live k d within now soon = live k d within now (omega arith)
+-- what lasts until a half second lasts until an earlier one
+all_sooner : (later sooner : ℕ) (segments : List Chain) → sooner ≤ later → All (LastsUntil later) segments
+    → All (LastsUntil sooner) segments
+all_sooner later sooner segments early lasting k d within i e inside =
+    let hop = lasting k d within i e inside in omega arith
 
--- the front with one more segment is live up to what is no later than its expiry and theirs
-pub one_further : (before expiry least : ℕ) (segments : List Chain) (i : ℕ) (segment : Chain) → least ≤ before
-    → least ≤ expiry → i < length segments → segment ≡ get_or segments i segment
-    → AllWithin (IsLiveUpTo before) segments 0 i → IsLiveUpTo expiry segment
-    → AllWithin (IsLiveUpTo least) segments 0 (i + 1)
-one_further before expiry least segments i segment low lower inside there front live k d start within now soon =
-    elim (cases_order k i) [
-      | inl same ↦ (
-          let here : segment ≡ get_or segments k d =
-          there ∙ get_or_default segments i segment d inside ∙ sym (ap (λ j. get_or segments j d) same) in
-          subst (λ one. IsChainLive one now) here (live now (omega arith)))
-      | inr (inl less) ↦ front k d (omega arith) less now (omega arith)
-      | inr (inr more) ↦ absurd (omega arith)
-    ]
+-- a segment lasts no longer than until its earliest expiry
+no_longer : (segment : Chain) (expiry later : ℕ) → IsLeastExpiry segment.timestamp segment.entries expiry
+    → LastsUntil later segment → later ≤ expiry
+no_longer segment expiry later expires lasting =
+    let first = expires.reached in
+    let hop = subst (λ entry. later ≤ expiry_of segment.timestamp entry.exp_time) first.3 (lasting first.0 first.1 first.2) in
+    omega (arith, hop, first.4)
+
+-- the earliest expiry with one more segment
+pub earliest_with : (segments : List Chain) (segment : Chain) (before expiry least : ℕ)
+    → IsEarliestExpiry segments before → IsLeastExpiry segment.timestamp segment.entries expiry
+    → least ≡ min before expiry → IsEarliestExpiry (segments ++ segment ∷ []) least
+earliest_with segments segment before expiry least earliest expires is = record {
+  lasting = All-push (LastsUntil least) segments segment (all_sooner before least segments (omega arith) earliest.lasting)
+      (λ i e inside. (let hop = expires.lower i e inside in omega arith));
+  reached = λ later fits lasting. (
+      let long = length_push segments segment in
+      let old = earliest.reached later fits (λ k d within. subst (LastsUntil later)
+      (get_or_append_left segments (segment ∷ []) d k within) (lasting k d (omega arith))) in
+      let new = no_longer segment expiry later expires (subst (LastsUntil later)
+      (get_or_push segments segment segment (length segments) refl) (lasting (length segments) segment (omega arith))) in
+      omega arith);
+}
 
 all_pass : {X : Type 0} (p : X → Bool) (xs : List X) → All (λ x. p x ≡ true) xs → filter p xs ≡ xs
 all_pass p [] passes = refl

@@ -10,3 +10,8 @@ pub mod Places
 pub mod Lying
 pub mod Growing
 pub mod Joining
+pub mod Joined
+pub mod Found
+pub mod Cut
+pub mod Swept
+pub mod Moved

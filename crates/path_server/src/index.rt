@@ -1,12 +1,12 @@
 //! The index of a list of segments: their places, ordered by ends and then by registration.
 
 ghost use Rattle.std.specs.Prelude.{◌≡◌, ◌≤◌, ◌<◌, ℕ, length, filter, vec_len, vec_capacity};
-ghost use Rattle.std.specs.List.{AllWithin, insert, range_with_len};
+ghost use Rattle.std.specs.List.{AllWithin, insert};
 ghost use Rattle.std.specs.List.Sorted.{IsNonDecreasingBy};
-ghost use Rattle.path_server.specs.Index.{HasEachPlace, rank_at, order_at};
+ghost use Rattle.path_server.specs.Index.{rank_at};
 ghost use Rattle.path_server.specs.inner.Index.{ends_number, lies_between};
 
-use crate::ends::{Ends, in_order, is_above, is_below};
+use crate::ends::{Ends, is_above, is_below};
 use path_segment::Segment;
 
 /// The places of the segments whose ends lie from `low` to `high`, both included.
@@ -16,10 +16,10 @@ pub(crate) fn range<'a>(
     low: Ends,
     high: Ends,
 ) -> &'a [usize]
-    requires { IsNonDecreasingBy (order_at segments.now) index.now }
+    requires { IsNonDecreasingBy (rank_at segments.now) index.now }
     ensures part { result.now
         ≡ filter (lies_between segments.now (ends_number low) (ends_number high)) index.now }
-    ensures ordered { IsNonDecreasingBy (order_at segments.now) result.now }
+    ensures ordered { IsNonDecreasingBy (rank_at segments.now) result.now }
 {
     let (_, rest) = index.split_at(start_of(segments, index, low));
     &rest[..end_of(segments, rest, high)]
@@ -27,7 +27,7 @@ pub(crate) fn range<'a>(
 
 /// The number of places whose segments have ends below these.
 fn start_of(segments: &[Segment], index: &[usize], ends: Ends) -> usize
-    requires { IsNonDecreasingBy (order_at segments.now) index.now }
+    requires { IsNonDecreasingBy (rank_at segments.now) index.now }
     ensures within { result ≤ length index.now }
     ensures below { AllWithin (λ place. rank_at segments.now place < ends_number ends)
         index.now 0 result }
@@ -40,7 +40,7 @@ fn start_of(segments: &[Segment], index: &[usize], ends: Ends) -> usize
 /// The number of places whose segments have these ends or ends below them. There is no search if
 /// the first place is already above these ends.
 pub(crate) fn end_of(segments: &[Segment], index: &[usize], ends: Ends) -> usize
-    requires { IsNonDecreasingBy (order_at segments.now) index.now }
+    requires { IsNonDecreasingBy (rank_at segments.now) index.now }
     ensures within { result ≤ length index.now }
     ensures below { AllWithin (λ place. rank_at segments.now place ≤ ends_number ends)
         index.now 0 result }
@@ -64,24 +64,4 @@ pub(crate) fn insert_place(index: &mut Vec<usize>, at: usize, place: usize)
 {
     let _ = index.push(place);
     index[at..].rotate_right(1);
-}
-
-/// Rebuilds `index` for these segments. It needs an entry for each segment, and may have more.
-pub(crate) fn rebuild(segments: &[Segment], index: &mut Vec<usize>)
-    requires { length segments.now ≤ vec_len index.old }
-    ensures each { HasEachPlace segments.now index.new.items }
-    ensures ordered { IsNonDecreasingBy (order_at segments.now) index.new.items }
-{
-    index.truncate(segments.len());
-    number_places(index);
-    index.sort_unstable_by(|place, other| in_order(segments, *place, *other));
-}
-
-/// Writes each element's own place into it.
-fn number_places(index: &mut [usize])
-    ensures { index.new ≡ range_with_len 0 (length index.old) }
-{
-    for place in 0..index.len() {
-        index[place] = place;
-    }
 }

@@ -5,6 +5,7 @@
 //! which paths between two ASes can be made. An index of the segments' ends finds them.
 #![tactic(auto)]
 
+mod blocks;
 mod ends;
 mod expiry;
 mod fault;
@@ -15,6 +16,7 @@ mod op;
 mod same_ends;
 mod set;
 mod store;
+mod sweeps;
 
 pub use fault::{StoreError, StoreFault};
 pub use op::StoreOp;

@@ -47,8 +47,8 @@ fn store_of(alloc: Global, segments: &[Segment], moment: u32) -> Result<PathStor
 {
     let mut store = PathStore::new(alloc);
     for segment in segments {
-        let own = segment.try_clone(alloc)?;
-        store.apply(alloc, &StoreOp::Register(own, moment))?;
+        let own = segment.try_clone()?;
+        store.apply(&StoreOp::Register(own, moment))?;
     }
     Ok(store)
 }

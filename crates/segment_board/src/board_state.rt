@@ -9,13 +9,12 @@ use left_right::Absorb;
 use left_right::reader::Reader;
 use left_right::writer::Writer;
 use path_server::{PathStore, StoreOp};
-use std::alloc::{AllocError, Global};
+use std::alloc::AllocError;
 use std::marker::Model;
 
 /// A store, and the part of the board's history to which it belongs.
 #[derive(Drop)]
 pub(crate) struct BoardState {
-    pub(crate) alloc: Global,
     pub(crate) store: PathStore,
     pub(crate) front: HistoryPrefix,
 }
@@ -48,7 +47,7 @@ impl Absorb<BoardOp> for BoardState {
 
     fn absorb_first(&mut self, operation: &BoardOp, _other: &BoardState) -> Result<(), AllocError> {
         match operation {
-            BoardOp::Apply(op) => self.store.apply(self.alloc, op),
+            BoardOp::Apply(op) => self.store.apply(op),
             BoardOp::Mark(front) => {
                 self.front = front.again();
                 Ok(())

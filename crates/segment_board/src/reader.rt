@@ -73,7 +73,7 @@ fn look(
             let shown = reading.get();
             let set = shown
                 .store
-                .segments_for(asked.alloc, asked.src, asked.dst, asked.now);
+                .unshared_segments_for(asked.alloc, asked.src, asked.dst, asked.now);
             let front = shown.front.again();
             (reading.leave(), Some((front, set)))
         }

@@ -94,12 +94,10 @@ pub fn new_board<R: Wait>(rt: &R, alloc: Global, readers: usize) -> Result<Board
     let (head, root) = HistoryPrefix::start();
     let latest = root.again();
     let first = BoardState {
-        alloc,
         store: PathStore::new(alloc),
         front: root.again(),
     };
     let second = BoardState {
-        alloc,
         store: PathStore::new(alloc),
         front: root.again(),
     };

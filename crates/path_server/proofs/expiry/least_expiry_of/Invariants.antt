@@ -1,7 +1,7 @@
--- The segments of the front are live up to the least so far.
-use Rattle.std.specs.List.{AllWithin}
-use Rattle.path_server.specs.Expiry.{IsLiveUpTo}
+-- The least so far is the earliest expiry of the front.
+use Rattle.std.proofs.Common.{take}
+use Rattle.path_server.specs.Expiry.{IsEarliestExpiry}
 use Rattle.path_server.proofs.expiry.least_expiry_of.Given as goal
 
 abbrev pub invariant-loop-segment : goal.invariant-loop-segment
-invariant-loop-segment l = AllWithin (IsLiveUpTo l.least) l.segments 0 l.segment-index
+invariant-loop-segment l = IsEarliestExpiry (take l.segment-index l.segments) l.least

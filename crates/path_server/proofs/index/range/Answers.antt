@@ -4,15 +4,15 @@ use Rattle.std.specs.List.Sorted.{IsNonDecreasingBy}
 use Rattle.std.proofs.lemmas.Bool.{and_from, and_left, and_right, le-leb, lt-leb}
 use Rattle.std.proofs.lemmas.List.{length-drop}
 use Rattle.std.proofs.lemmas.List.Sorted.{IsNonDecreasingBy-drop, IsNonDecreasingBy-take}
-use Rattle.path_server.specs.Index.{rank_at, order_at}
+use Rattle.path_server.specs.Index.{rank_at}
 use Rattle.path_server.specs.inner.Index.{ends_number, lies_between}
 use Rattle.path_server.proofs.Ranks.{part_is_kept, part_behind}
 use Rattle.path_server.proofs.index.range.Goals as goal
 
 pub end_of-requires : goal.end_of-requires
 end_of-requires c =
-    subst (IsNonDecreasingBy (order_at c.args.segments.now)) (sym c.split_at.ensures.back)
-    (IsNonDecreasingBy-drop (order_at c.args.segments.now) c.start_of.result c.args.index.now c.requires)
+    subst (IsNonDecreasingBy (rank_at c.args.segments.now)) (sym c.split_at.ensures.back)
+    (IsNonDecreasingBy-drop (rank_at c.args.segments.now) c.start_of.result c.args.index.now c.requires)
 
 pub returns-clause-part : goal.returns-clause-part
 returns-clause-part c =
@@ -37,7 +37,7 @@ returns-clause-part c =
 
 pub returns-clause-ordered : goal.returns-clause-ordered
 returns-clause-ordered c =
-    let order = order_at c.args.segments.now in
+    let order = rank_at c.args.segments.now in
     let rest = IsNonDecreasingBy-drop order c.start_of.result c.args.index.now c.requires in
     IsNonDecreasingBy-take order c.end_of.result _
     (subst (IsNonDecreasingBy order) (sym c.split_at.ensures.back) rest)

@@ -1,16 +1,13 @@
-use Rattle.std.proofs.Common.{rules, arith, ltb, ◌<◌, ◌^◌}
+use Rattle.std.proofs.Common.{rules, ltb}
 use Rattle.std.proofs.lemmas.Bool.{ltb-true, ltb-false}
-use Rattle.std.proofs.lemmas.List.Elements.{All-from_get_or}
 use Rattle.std.proofs.lemmas.List.Sorted.{IsPartitionPoint-from_clause, IsPartitionedBy-ltb}
 use Rattle.path_server.specs.Index.{rank_at}
 use Rattle.path_server.specs.inner.Index.{ends_number}
-use Rattle.path_server.proofs.Ranks.{ranks_rise}
 use Rattle.path_server.proofs.index.start_of.Goals as goal
 
 pub returns-clause-below : goal.returns-clause-below
 returns-clause-below c =
-    let rises =
-    ranks_rise c.args.segments.now c.args.index.now (All-from_get_or (λ place. place < 2 ^ 64) _ 0 (λ i within. omega (arith, c.type_inv.index i))) c.requires in
+    let rises = c.requires in
     let parted = IsPartitionedBy-ltb (rank_at c.args.segments.now) _ (ends_number c.args.ends) rises in
     let point =
     IsPartitionPoint-from_clause (λ place. ltb (rank_at c.args.segments.now place) (ends_number c.args.ends)) _ _ c.partition_point.ensures.partitioned parted (λ a r q k. search rules) in
@@ -18,8 +15,7 @@ returns-clause-below c =
 
 pub returns-clause-rest : goal.returns-clause-rest
 returns-clause-rest c =
-    let rises =
-    ranks_rise c.args.segments.now c.args.index.now (All-from_get_or (λ place. place < 2 ^ 64) _ 0 (λ i within. omega (arith, c.type_inv.index i))) c.requires in
+    let rises = c.requires in
     let parted = IsPartitionedBy-ltb (rank_at c.args.segments.now) _ (ends_number c.args.ends) rises in
     let point =
     IsPartitionPoint-from_clause (λ place. ltb (rank_at c.args.segments.now place) (ends_number c.args.ends)) _ _ c.partition_point.ensures.partitioned parted (λ a r q k. search rules) in

@@ -1,0 +1,10 @@
+-- What was added so far is what the front has.
+use Rattle.std.proofs.Common.{◌≡◌, ◌++◌, take}
+use Rattle.std.specs.List.{flat_map}
+use Rattle.path_server.specs.inner.Index.{core_places}
+use Rattle.path_server.proofs.lookup.add_among.Given as goal
+
+abbrev pub invariant-loop-first : goal.invariant-loop-first
+invariant-loop-first l =
+    l.places.items ≡ l.fn.places.items ++ flat_map (core_places l.segments l.some l.now l.last)
+    (take l.first-index l.firsts)
