@@ -26,3 +26,4 @@ pub use path::VerifiedPath;
 pub use piece::Piece;
 pub use pieces::Pieces;
 pub use verification::{accept, verify};
+pub use walk::Walk;

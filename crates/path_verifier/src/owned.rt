@@ -28,12 +28,13 @@ impl Model for OwnedPiece {
 }
 
 impl OwnedPiece {
-    /// A copy of a piece that owns its segment, unless memory runs out.
-    pub(crate) fn of(alloc: Global, piece: &Piece<'_>) -> Result<OwnedPiece, AllocError>
+    /// A copy of a piece that owns its segment, which shares the parts of the piece's segment.
+    /// [`AllocError`] as [`Segment::try_clone`] has it.
+    pub(crate) fn of(piece: &Piece<'_>) -> Result<OwnedPiece, AllocError>
         ensures { IfOk result (λ own. own ≡ piece.now) }
     {
         Ok(OwnedPiece {
-            segment: piece.segment.try_clone(alloc)?,
+            segment: piece.segment.try_clone()?,
             from: piece.from,
             to: piece.to,
             along: piece.along,
@@ -53,21 +54,22 @@ impl OwnedPiece {
     }
 }
 
-/// Copies of the pieces of a path that own their segments, unless memory runs out.
+/// Copies of the pieces of a path that own their segments, unless memory runs out. The segments
+/// share the parts of those of the path.
 pub fn to_owned_pieces(alloc: Global, pieces: &Pieces<'_>) -> Result<Vec<OwnedPiece>, AllocError>
     ensures { IfOk result (λ own. own.items ≡ pieces.now) }
 {
     match &pieces.held {
         PieceSlots::Zero => Ok(Vec::new(alloc)),
-        PieceSlots::One(first) => Ok(vec![in alloc; OwnedPiece::of(alloc, first)?]?),
+        PieceSlots::One(first) => Ok(vec![in alloc; OwnedPiece::of(first)?]?),
         PieceSlots::Two(first, second) => Ok(vec![in alloc;
-            OwnedPiece::of(alloc, first)?,
-            OwnedPiece::of(alloc, second)?,
+            OwnedPiece::of(first)?,
+            OwnedPiece::of(second)?,
         ]?),
         PieceSlots::Three(first, second, third) => Ok(vec![in alloc;
-            OwnedPiece::of(alloc, first)?,
-            OwnedPiece::of(alloc, second)?,
-            OwnedPiece::of(alloc, third)?,
+            OwnedPiece::of(first)?,
+            OwnedPiece::of(second)?,
+            OwnedPiece::of(third)?,
         ]?),
     }
 }

@@ -45,6 +45,33 @@ impl<'s> Pieces<'s> {
         }
     }
 
+    /// One piece.
+    pub fn one(first: Piece<'s>) -> Pieces<'s>
+        ensures { result ≡ first.entry ∷ [] }
+    {
+        Pieces {
+            held: PieceSlots::One(first),
+        }
+    }
+
+    /// Two pieces.
+    pub fn two(first: Piece<'s>, second: Piece<'s>) -> Pieces<'s>
+        ensures { result ≡ first.entry ∷ second.entry ∷ [] }
+    {
+        Pieces {
+            held: PieceSlots::Two(first, second),
+        }
+    }
+
+    /// Three pieces.
+    pub fn three(first: Piece<'s>, second: Piece<'s>, third: Piece<'s>) -> Pieces<'s>
+        ensures { result ≡ first.entry ∷ second.entry ∷ third.entry ∷ [] }
+    {
+        Pieces {
+            held: PieceSlots::Three(first, second, third),
+        }
+    }
+
     /// Adds a piece at the end. If there are three already, that is [`VerifyFault::PieceCount`],
     /// and the pieces stay as they are.
     pub fn push(&mut self, piece: Piece<'s>) -> Result<(), VerifyFault>

@@ -111,6 +111,29 @@ pub fn accept<'s, 'p, A: Allocator + Clone>(
     })
 }
 
+impl Walk {
+    /// Makes it the walk of these pieces, if they are a path from `src` to `dst` that is live at the
+    /// second `now`; what it was before is gone in any case.
+    ///
+    /// The refusals are those of [`verify`] up to [`VerifyFault::Expired`], in their order.
+    pub fn follow_path(
+        &mut self,
+        pieces: &Pieces<'_>,
+        src: IsdAs,
+        dst: IsdAs,
+        now: u32,
+    ) -> Result<(), VerifyFault>
+        ensures walk { OnOk result (self.new ≡ walk_of pieces.now) }
+        ensures path { OnOk result (MakesPath pieces.now src dst now) }
+        // The exact refusal: it is that of the verifier, for each header and policy.
+        ensures fault { IfErr result (λ fault. (header : HeaderValue) (rules : Rules)
+            → IsRefused (request_of pieces.now header src dst now rules) fault) }
+    {
+        self.clear();
+        follow_pieces(self, &pieces.held, src, dst, now)
+    }
+}
+
 /// Makes a walk of no hops the walk of the pieces if they are a path; else returns the fault of the
 /// first rule that they break. The walk is filled where it lies, since it is large.
 fn follow_pieces(

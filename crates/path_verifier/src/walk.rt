@@ -9,7 +9,7 @@ ghost use Rattle.path_verifier.specs.Header.{len_of, total_hops};
 ghost use Rattle.path_verifier.specs.Accepted.{NamesOnce};
 
 use crate::piece::Piece;
-use crate::pieces::PieceSlots;
+use crate::pieces::{PieceSlots, Pieces};
 use arrayvec::ArrayVec;
 use doubles::has_double;
 use isd_as::{IfId, IsdAs};
@@ -18,9 +18,9 @@ use path_segment::Entry;
 use policy_expr::WalkHop;
 use std::marker::Model;
 
-/// A walk of at most 64 hops.
+/// The walk of a path: its ASes in order of travel, at most 64.
 #[derive(Debug, Drop)]
-pub(crate) struct Walk {
+pub struct Walk {
     hops: [WalkHop; MAX_HOPS],
     len: usize,
 }
@@ -38,7 +38,7 @@ impl Model for Walk {
 
 impl Walk {
     /// A walk of no hops.
-    pub(crate) fn new() -> Walk
+    pub fn new() -> Walk
         ensures { result ≡ [] }
     {
         let nowhere = WalkHop {
@@ -52,8 +52,26 @@ impl Walk {
         }
     }
 
+    /// The walk of these pieces.
+    pub fn of(pieces: &Pieces<'_>) -> Walk
+        requires ranges { AllByRecursion HasRange pieces.now }
+        requires few { total_hops pieces.now ≤ 64 }
+        ensures { result ≡ walk_of pieces.now }
+    {
+        let mut walk = Walk::new();
+        walk.follow(&pieces.held);
+        walk
+    }
+
+    /// Takes all hops out.
+    pub(crate) fn clear(&mut self)
+        ensures { self.new ≡ [] }
+    {
+        self.len = 0;
+    }
+
     /// The hops, in order.
-    pub(crate) fn as_slice(&self) -> &[WalkHop]
+    pub fn as_slice(&self) -> &[WalkHop]
         ensures value { result.now ≡ self.now }
         ensures few { length self.now ≤ 64 }
     {
@@ -116,14 +134,17 @@ fn hop_of(along: bool, entry: &Entry) -> WalkHop
     }
 }
 
-/// The hop of the entry at this place of a piece, in order of travel.
-#[tactic(auto, using(crate::proofs::Hops::hop_there))]
-fn hop_at(piece: &Piece<'_>, place: usize) -> WalkHop
-    requires range { HasRange piece.now }
-    requires within { place < len_of piece.now }
-    ensures { slice_get (hops_of piece.now) place ≡ Some result }
-{
-    hop_of(piece.along, piece.entry(place))
+impl<'s> Piece<'s> {
+    /// The hop of the entry at this place in order of travel, from 0: its AS, and the interfaces by
+    /// which the piece enters and leaves it.
+    #[tactic(auto, using(crate::proofs::Hops::hop_there))]
+    pub fn hop(&self, place: usize) -> WalkHop
+        requires range { HasRange self.now }
+        requires within { place < len_of self.now }
+        ensures { slice_get (hops_of self.now) place ≡ Some result }
+    {
+        hop_of(self.along, self.entry(place))
+    }
 }
 
 impl Walk {
@@ -134,7 +155,7 @@ impl Walk {
         ensures { self.new ≡ self.old ++ drop 1 (hops_of piece.now) }
     {
         for place in 1..piece.len() {
-            self.push(hop_at(piece, place));
+            self.push(piece.hop(place));
         }
     }
 
@@ -159,7 +180,7 @@ impl Walk {
         ensures walk { self.new ≡ walk_with self.old (hops_of piece.now) }
         ensures few { length self.new ≤ length self.old + len_of piece.now }
     {
-        self.meet(hop_at(piece, 0));
+        self.meet(piece.hop(0));
         self.push_later(piece);
     }
 

@@ -8,10 +8,10 @@ pub loop-place-preserved : goal.loop-place-preserved
 loop-place-preserved c =
     let hops = hops_of c.args.piece.now in
     let longer : length c.push.new.self ≡ length c.loop-place.self + 1 =
-    rw c.push.ensures (length_push c.loop-place.self c.hop_at.result) in
+    rw c.push.ensures (length_push c.loop-place.self c.hop.result) in
     record {
       told = rw c.push.ensures
-          (one_more c.loop-place.self hops c.loop-place.place c.hop_at.result c.hop_at.ensures ∙ c.loop-place.invariant.told);
+          (one_more c.loop-place.self hops c.loop-place.place c.hop.result c.hop.ensures ∙ c.loop-place.invariant.told);
       room = omega (arith, c.loop-place.invariant.room, longer);
     }
 
