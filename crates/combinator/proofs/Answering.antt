@@ -1,16 +1,18 @@
 -- What was found, settled and put in order is the answer.
-use Rattle.std.proofs.Common.{◌≡◌, ℕ, suc, ◌+◌, ◌<◌, ◌≤◌, Bool, true, false, cond, List, [], ◌∷◌, length, get_or, All, Any, AllPairs, Contains, refl, sym, ap, subst, ◌∙◌, inl, inr, arith}
+use Rattle.std.proofs.Common.{◌≡◌, ℕ, suc, ◌+◌, ◌*◌, ◌<◌, ◌≤◌, Bool, true, false, cond, List, [], ◌∷◌, length, get_or, All, Any, AllPairs, Contains, refl, sym, ap, subst, ◌∙◌, inl, inr, arith}
 use Rattle.std.specs.Prelude.{◌⊎◌}
 use Rattle.std.specs.declared.cmp.Ordering.TheVariants.{Less}
-use Rattle.std.proofs.lemmas.List.Elements.{All-from_recursion}
+use Rattle.std.proofs.lemmas.List.Elements.{All-from_recursion, All-cons, All-nil}
 use Rattle.std.proofs.lemmas.List.Kept.{AllPairs-cons}
+use Rattle.hop_mac.specs.Lifetime.{expiry_of}
+use Rattle.path_segment.specs.declared.entry.Entry.{Entry}
 use Rattle.path_segment.specs.declared.kind.SegKind.{SegKind}
 use Rattle.path_segment.specs.declared.kind.SegKind.TheVariants as segs
 use Rattle.policy_expr.specs.declared.hop.WalkHop.{WalkHop}
 use Rattle.path_verifier.specs.declared.kind.PieceKind.{PieceKind}
 use Rattle.path_verifier.specs.declared.kind.PieceKind.TheVariants.{Up, Core, Down}
-use Rattle.path_verifier.specs.Piece.{PieceValue, HasRange, kind_in, kind_of, begins_in, ends_in}
-use Rattle.path_verifier.specs.Accepted.{IsCore, MayAdjoin}
+use Rattle.path_verifier.specs.Piece.{PieceValue, HasRange, kind_in, kind_of, entries_of, begins_in, ends_in}
+use Rattle.path_verifier.specs.Accepted.{IsCore, MayAdjoin, AreLive}
 use Rattle.path_verifier.proofs.Lengths.{path_is_short, pieces_adjoin}
 use Rattle.path_verifier.proofs.Breaches.{header_kept, path_kept}
 use Rattle.path_header.specs.Value.{HeaderValue}
@@ -49,14 +51,18 @@ outer_down : (piece : PieceValue) (at : ℕ) → piece.along ≡ true → ends_i
 outer_down piece at e ends = ap (λ (b : Bool). cond b (ends_in piece) (begins_in piece)) e ∙ ends
 
 module _ (question : Question) (usable_pieces : List PieceValue)
-    (ups : (piece : PieceValue) → IsCut question.set.ups false question.src piece → Contains usable_pieces piece)
-    (cores : (piece : PieceValue) → IsWhole question.set.cores piece → Contains usable_pieces piece)
-    (downs : (piece : PieceValue) → IsCut question.set.downs true question.dst piece → Contains usable_pieces piece) where
+    (ups : (piece : PieceValue) → IsCut question.set.ups false question.src piece
+    → AreLive question.set.moment (piece ∷ []) → Contains usable_pieces piece)
+    (cores : (piece : PieceValue) → IsWhole question.set.cores piece
+    → AreLive question.set.moment (piece ∷ []) → Contains usable_pieces piece)
+    (downs : (piece : PieceValue) → IsCut question.set.downs true question.dst piece
+    → AreLive question.set.moment (piece ∷ []) → Contains usable_pieces piece) where
   listed : (kind : PieceKind) (piece : PieceValue) → kind_of piece ≡ kind → IsOf question.set piece → HasRange piece
       → (IsCore piece → (piece.from ≡ 0) × (piece.to + 1 ≡ length piece.segment.entries))
+      → AreLive question.set.moment (piece ∷ [])
       → (kind ≡ Up → begins_in piece ≡ question.src) → (kind ≡ Down → ends_in piece ≡ question.dst)
       → Contains usable_pieces piece
-  listed Up piece is own range whole up down =
+  listed Up piece is own range whole live up down =
       let parts = up_parts piece.segment.kind piece.along is in
       ups piece (record {
         there = subst (λ (kind : PieceKind). Contains (segments_of question.set kind) piece.segment) is own;
@@ -64,16 +70,16 @@ module _ (question : Question) (usable_pieces : List PieceValue)
         kind = parts.0;
         direction = parts.1;
         end = outer_up piece question.src parts.1 (up refl);
-      })
-  listed Core piece is own range whole up down =
+      }) live
+  listed Core piece is own range whole live up down =
       let cut = whole is in
       cores piece (record {
         there = subst (λ (kind : PieceKind). Contains (segments_of question.set kind) piece.segment) is own;
         kind = core_part piece.segment.kind piece.along is;
         first = cut.0;
         last = cut.1;
-      })
-  listed Down piece is own range whole up down =
+      }) live
+  listed Down piece is own range whole live up down =
       let parts = down_parts piece.segment.kind piece.along is in
       downs piece (record {
         there = subst (λ (kind : PieceKind). Contains (segments_of question.set kind) piece.segment) is own;
@@ -81,7 +87,7 @@ module _ (question : Question) (usable_pieces : List PieceValue)
         kind = parts.0;
         direction = parts.1;
         end = outer_down piece question.dst parts.1 (down refl);
-      })
+      }) live
 
   -- a piece at a place of a candidate
   at_place : (path : PathValue) (is : IsCandidate question path) (k : ℕ) (piece : PieceValue)
@@ -95,7 +101,11 @@ module _ (question : Question) (usable_pieces : List PieceValue)
       let cut =
       subst (λ (p : PieceValue). (p.from ≡ 0) × (IsCore p → p.to + 1 ≡ length p.segment.entries)) at ((path_kept is.accepted).cuts.with_core (k, piece, within, at, core) k piece within) in
       (cut.0, cut.1 core)) in
-      listed (kind_of piece) piece refl own range whole up down
+      let live : AreLive question.set.moment (piece ∷ []) =
+      All-cons (λ (p : PieceValue). All (λ (entry : Entry). 2 * question.set.moment ≤ expiry_of p.segment.timestamp entry.exp_time) (entries_of p))
+      piece [] (subst (λ (p : PieceValue). All (λ (entry : Entry). 2 * question.set.moment ≤ expiry_of p.segment.timestamp entry.exp_time) (entries_of p))
+      at ((path_kept is.accepted).live k piece within)) (All-nil _) in
+      listed (kind_of piece) piece refl own range whole live up down
 
   no_up : (kind : PieceKind) → MayAdjoin kind Up → ⊥
   no_up Up h = h

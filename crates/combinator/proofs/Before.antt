@@ -1,5 +1,5 @@
 -- A path that comes before all paths that begin with some pieces.
-use Rattle.std.proofs.Common.{◌≡◌, ℕ, zero, suc, ◌+◌, ◌-◌, ◌*◌, ◌<◌, ◌≤◌, List, Some, None, [], ◌∷◌, ◌++◌, length, map, take, drop, replicate, All, refl, sym, ap, subst, ◌∙◌, inl, inr, arith, append_assoc, append-nil, length-append, length-take, length-drop, zero-add, suc-add}
+use Rattle.std.proofs.Common.{◌≡◌, ℕ, suc, ◌+◌, ◌-◌, ◌*◌, ◌<◌, ◌≤◌, List, Some, [], ◌∷◌, ◌++◌, length, map, take, drop, replicate, All, refl, sym, ap, subst, ◌∙◌, inl, inr, arith, append_assoc, length-take}
 use Rattle.std.specs.List.{AllByRecursion, flat_map}
 use Rattle.std.specs.Ordering.{nat_cmp, ordering_then}
 use Rattle.std.specs.Cmp.Lexicographic.{slice_cmp}
@@ -9,12 +9,12 @@ use Rattle.std.specs.declared.cmp.Ordering.TheVariants.{Less, Equal, Greater}
 use Rattle.std.proofs.lemmas.Bool.{cases_lt}
 use Rattle.std.proofs.lemmas.Cmp.{nat_cmp_total, tied_itself}
 use Rattle.std.proofs.lemmas.Grind.{flat_map-append}
-use Rattle.std.proofs.lemmas.List.{map-append, take-append-drop}
-use Rattle.std.proofs.lemmas.Map.Lookups.{exact_bytes}
+use Rattle.std.specs.Cmp.{nat_cmp_is}
+use Rattle.std.proofs.lemmas.List.{length-map, map-append, take-append-drop, take-map}
 use Rattle.std.proofs.lemmas.List.Sums.{sum_by-cons}
 use Rattle.path_header.specs.declared.lens.SegLens.{SegLens}
 use Rattle.path_header.specs.Value.{HeaderValue, lens_from}
-use Rattle.path_header.specs.Spelling.{meta_of, meta_word, info_spelling, hop_spelling, spelling, SpellsHeader}
+use Rattle.path_header.specs.Spelling.{meta_of, meta_word, info_spelling, hop_spelling, spelling}
 use Rattle.path_verifier.specs.Piece.{PieceValue, HasRange}
 use Rattle.path_verifier.specs.Header.{fields_of, info_of, header_of, len_of, total_hops}
 use Rattle.path_verifier.proofs.TurnedCounts.{long_of}
@@ -23,11 +23,17 @@ use Rattle.std.specs.Prelude.{slice_get}
 use Rattle.std.proofs.lemmas.Option.{same_Some}
 use Rattle.combinator.specs.Candidate.{Question, PathValue, path_with}
 use Rattle.combinator.specs.Order.{bytes_cmp, path_cmp, shown_cmp}
-use Rattle.combinator.specs.inner.Search.{AreBefore, ComesBefore, infos_of, IsMetBy, OfEachBehind}
+use Rattle.combinator.specs.inner.Search.{AreBefore, ComesBefore, infos_of, IsMetBy}
 use Rattle.combinator.specs.inner.Placed.{InOrder}
-use Rattle.combinator.proofs.Collected.{take_past}
+use Rattle.combinator.specs.inner.Group.{GroupValue, IsGroup, AreOf, HaveInfosFrom, heads_of}
+use Rattle.combinator.specs.inner.Over.{OfChoices}
+use Rattle.combinator.specs.inner.UsablePieces.{info_number}
+use Rattle.combinator.proofs.Alike.{lens_alike, total_alike}
+use Rattle.combinator.proofs.Fields.{infos_len}
+use Rattle.combinator.proofs.Numbers.{infos_as_numbers}
+use Rattle.combinator.proofs.Choices.{heads_alike}
 use Rattle.combinator.proofs.Ranks.{path_total}
-use Rattle.combinator.proofs.Tried.{all_behind, count_fields, fewer_hops, total_both}
+use Rattle.combinator.proofs.Tried.{count_fields, fewer_hops, total_both}
 
 -- ---- the order of lists of numbers
 
@@ -52,15 +58,6 @@ cmp_front (x ∷ xs) [] later more same is = absurd (omega (arith, same))
 cmp_front (x ∷ xs) (y ∷ ys) later more same is =
     head_less (nat_cmp x y) (slice_cmp nat_cmp xs ys) (slice_cmp nat_cmp (xs ++ later) (ys ++ more)) is
     (cmp_front xs ys later more (omega (arith, same)))
-
-take_empty : (m : ℕ) → ◌≡◌ {A = List ℕ} [] (take m [])
-take_empty zero = refl
-take_empty (suc m) = refl
-
-take_both : (n m : ℕ) (xs : List ℕ) → take (n + m) xs ≡ take n xs ++ take m (drop n xs)
-take_both zero m xs = rw zero-add refl
-take_both (suc n) m [] = rw suc-add (take_empty m)
-take_both (suc n) m (x ∷ xs) = rw suc-add (ap (λ ys. x ∷ ys) (take_both n m xs))
 
 -- ---- pieces with as few hop fields as can be
 
@@ -149,8 +146,8 @@ module _ (one : PathValue) (front : List PieceValue) (further : ℕ) where
   module _ (own : one.header ≡ header_of one.pieces)
       (same : length one.header.hops ≡ total_hops front + 2 * further)
       (lens : one.header.lens ≡ lens_from (map len_of front ++ replicate further 2))
-      (bytes : List ℕ) (spelled : SpellsHeader bytes one.header) (room : 4 + length (infos_of front) ≤ length bytes)
-      (less : slice_cmp nat_cmp (take (length (infos_of front)) (drop 4 bytes)) (infos_of front) ≡ Less) where
+      (within : length front ≤ length one.pieces)
+      (less : slice_cmp nat_cmp (take (length front) (map info_number one.pieces)) (map info_number front) ≡ Less) where
     module _ (later : List PieceValue) (ranges : All HasRange (front ++ later))
         (upto : further ≤ length later)
         (no_more : total_hops (front ++ later) ≤ total_hops front + 2 * further) where
@@ -175,20 +172,29 @@ module _ (one : PathValue) (front : List PieceValue) (further : ℕ) where
           (ap (λ (h : HeaderValue). h.curr_inf) own ∙ (at_first one.pieces).0 ∙ sym (at_first (front ++ later)).0)
           (ap (λ (h : HeaderValue). h.curr_hf) own ∙ (at_first one.pieces).1 ∙ sym (at_first (front ++ later)).1) same_lens
 
-      behind : drop 4 bytes ≡ behind_meta one.header
-      unfolding behind_meta
-      behind = ap (drop 4) spelled.spelled
+      -- its first pieces, as many as those of the front
+      abbrev first : List PieceValue
+      first = take (length front) one.pieces
+
+      as_many : length first ≡ length front
+      as_many = simp length-take (omega (arith, within))
+
+      first_less : slice_cmp nat_cmp (infos_of first) (infos_of front) ≡ Less
+      first_less =
+          infos_as_numbers first front as_many
+          ∙ ap (λ ns. slice_cmp nat_cmp ns (map info_number front)) (sym (take-map info_number (length front) one.pieces)) ∙ less
 
       fewer : slice_cmp nat_cmp (behind_meta one.header) (behind_meta (header_of (front ++ later))) ≡ Less
       fewer =
-          let n = length (infos_of front) in
-          let rest = behind_front front later in
-          let split : behind_meta one.header ≡ take n (drop 4 bytes) ++ drop n (drop 4 bytes) =
-          sym behind ∙ sym (take-append-drop n (drop 4 bytes)) in
-          let taken : length (take n (drop 4 bytes)) ≡ n = simp (length-take, length-drop) (omega (arith, room)) in
-          ap (λ bs. slice_cmp nat_cmp bs (behind_meta (header_of (front ++ later)))) split ∙ ap
-          (slice_cmp nat_cmp (take n (drop 4 bytes) ++ drop n (drop 4 bytes))) rest.1
-          ∙ cmp_front (take n (drop 4 bytes)) (infos_of front) (drop n (drop 4 bytes)) rest.0 taken less
+          let mine = behind_front first (drop (length front) one.pieces) in
+          let theirs = behind_front front later in
+          let is : behind_meta one.header ≡ infos_of first ++ mine.0 =
+          ap behind_meta (own ∙ ap header_of (sym (take-append-drop (length front) one.pieces))) ∙ mine.1 in
+          let long = infos_len first in
+          let short = infos_len front in
+          ap (λ bs. slice_cmp nat_cmp bs (behind_meta (header_of (front ++ later)))) is
+          ∙ ap (slice_cmp nat_cmp (infos_of first ++ mine.0)) theirs.1
+          ∙ cmp_front (infos_of first) (infos_of front) mine.0 theirs.0 (omega (arith, as_many, long, short)) first_less
 
       decided : path_cmp one (path_with (front ++ later) (header_of (front ++ later))) ≡ Less
       decided =
@@ -248,169 +254,99 @@ each_before (one ∷ paths) front later further header all ranges upto is = (
 
 module _ (question : Question) (limit : ℕ) (paths : List PathValue) (front : List PieceValue) (further : ℕ)
     (before : AreBefore limit paths front further) where
-  met_later : (later : List PieceValue) → further ≤ length later → IsMetBy question limit paths (front ++ later)
+  pub met_later : (later : List PieceValue) → further ≤ length later → IsMetBy question limit paths (front ++ later)
   unfolding IsMetBy AreBefore
   met_later later upto = λ header best.
       inr (before.0, each_before paths front later further header before.1 (path_kept best.candidate.accepted).ranges upto (header_kept best.candidate.accepted))
 
-  -- the lists that go on from these pieces
-  pub met_further : further ≤ 1 → (usable_pieces : List PieceValue) (depth at : ℕ)
-      → OfEachBehind (IsMetBy question limit paths) usable_pieces depth front at
-  met_further few usable_pieces depth at =
-      all_behind (IsMetBy question limit paths) usable_pieces depth front at
-      (λ piece later. met_later (piece ∷ later) (omega (arith, few)))
+-- ---- groups
 
-  -- these pieces themselves
-  pub met_here : further ≡ 0 → IsMetBy question limit paths front
-  met_here none = subst (IsMetBy question limit paths) (append-nil front) (met_later [] (omega (arith, none)))
+-- each number is no less than the lower bound at its place
+abbrev AreUpTo : (least numbers : List ℕ) → Type 0
+AreUpTo [] [] = Unit {0}
+AreUpTo [] (n ∷ ns) = ⊥
+AreUpTo (l ∷ least) [] = ⊥
+AreUpTo (l ∷ least) (n ∷ ns) = (l ≤ n) × AreUpTo least ns
 
-pub range_at : (pieces : List PieceValue) (k : ℕ) (piece : PieceValue) → AllByRecursion HasRange pieces
-    → slice_get pieces k ≡ Some piece → HasRange piece
-range_at [] k piece ranges is = absurd cc
-range_at (first ∷ pieces) zero piece ranges is = subst HasRange (same_Some first piece is) ranges.0
-range_at (first ∷ pieces) (suc k) piece ranges is = range_at pieces k piece ranges.1 is
+first_upto : (x l y : ℕ) (rest more : Ordering) → ordering_then (nat_cmp x l) rest ≡ Less → l ≤ y
+    → (rest ≡ Less → more ≡ Less) → ordering_then (nat_cmp x y) more ≡ Less
+first_upto x l y rest more is upto on = elim (cases_lt x y) [
+  | inl less ↦ ap (λ c. ordering_then c more) (sym (nat_cmp_is x y Less less))
+  | inr ge ↦
+      (let over : l ≤ x = omega (arith, upto, ge) in
+      elim (cases_lt l x) [
+        | inl more_than ↦ absurd (let clash : Greater ≡ Less = ap (λ c. ordering_then c rest) (nat_cmp_is x l Greater more_than) ∙ is in cc)
+        | inr at ↦
+            (let equal : x ≡ l = omega (arith, over, at) in
+            let same : x ≡ y = omega (arith, upto, ge, equal) in
+            ap (λ c. ordering_then c more) (sym (nat_cmp_is x y Equal same))
+            ∙ on (ap (λ c. ordering_then c rest) (nat_cmp_is x l Equal equal) ∙ is))
+      ])
+]
 
--- ---- as the code sees it
+infos_upto : (least : List ℕ) (groups : List GroupValue) (pieces : List PieceValue) → HaveInfosFrom least groups
+    → AreOf groups pieces → AreUpTo least (map info_number pieces)
+infos_upto [] [] [] from of = tt
+infos_upto [] [] (piece ∷ pieces) from of = absurd of
+infos_upto [] (group ∷ groups) pieces from of = absurd from
+infos_upto (l ∷ least) [] pieces from of = absurd from
+infos_upto (l ∷ least) (group ∷ groups) [] from of = absurd of
+infos_upto (l ∷ least) (group ∷ groups) (piece ∷ pieces) from of =
+    (from.0 piece of.0, infos_upto least groups pieces from.1 of.1)
 
-module _ (bytes infos info fields first later : List ℕ)
-    (all : fields ≡ take (length bytes - 4) (drop 4 bytes)) (front : first ≡ take (length infos) fields)
-    (back : later ≡ drop (length infos) fields)
-    (room : 4 + (length infos + length info) ≤ length bytes) where
-  fields_are : fields ≡ drop 4 bytes
-  fields_are = all ∙ take_past (drop 4 bytes) (length bytes - 4) (simp length-drop (omega arith))
+upto_many : (least : List ℕ) (groups : List GroupValue) (pieces : List PieceValue) → HaveInfosFrom least groups
+    → AreOf groups pieces → length least ≡ length pieces
+upto_many [] [] [] from of = refl
+upto_many [] [] (piece ∷ pieces) from of = absurd of
+upto_many [] (group ∷ groups) pieces from of = absurd from
+upto_many (l ∷ least) [] pieces from of = absurd from
+upto_many (l ∷ least) (group ∷ groups) [] from of = absurd of
+upto_many (l ∷ least) (group ∷ groups) (piece ∷ pieces) from of =
+    (let more = upto_many least groups pieces from.1 of.1 in omega (arith, more))
 
-  first_is : first ≡ take (length infos) (drop 4 bytes)
-  first_is = front ∙ ap (take (length infos)) fields_are
+-- numbers that come before lower bounds come before what these bound
+less_upto : (xs least ys : List ℕ) → slice_cmp nat_cmp xs least ≡ Less → AreUpTo least ys → slice_cmp nat_cmp xs ys ≡ Less
+less_upto [] [] ys is upto = absurd cc
+less_upto (x ∷ xs) [] ys is upto = absurd cc
+less_upto [] (l ∷ least) [] is upto = absurd upto
+less_upto [] (l ∷ least) (y ∷ ys) is upto = refl
+less_upto (x ∷ xs) (l ∷ least) [] is upto = absurd upto
+less_upto (x ∷ xs) (l ∷ least) (y ∷ ys) is upto =
+    first_upto x l y (slice_cmp nat_cmp xs least) (slice_cmp nat_cmp xs ys) is upto.0
+    (λ less. less_upto xs least ys less upto.1)
 
-  first_len : length first ≡ length infos
-  first_len = ap length first_is ∙ simp (length-take, length-drop) (omega (arith, room))
+-- one piece more of each list of groups
+pub total_with : (groups : List GroupValue) (group : GroupValue)
+    → total_hops (heads_of (groups ++ group ∷ [])) ≡ total_hops (heads_of groups) + len_of group.head
+total_with groups group =
+    let both = total_both (heads_of groups) (group.head ∷ []) in
+    let one = sum_by-cons len_of group.head [] in
+    let parts = ap total_hops (map-append (λ (g : GroupValue). g.head) groups (group ∷ [])) in
+    omega (arith, both, one, parts)
 
-  both_are : take (length infos + length info) (drop 4 bytes) ≡ first ++ take (length info) later
-  both_are =
-      take_both (length infos) (length info) (drop 4 bytes)
-      ∙ ap (λ xs. xs ++ take (length info) (drop (length infos) (drop 4 bytes))) (sym first_is)
-      ∙ ap (λ xs. first ++ take (length info) xs) (sym (back ∙ ap (drop (length infos)) fields_are))
+module _ (one : PathValue) (groups : List GroupValue) (further : ℕ) (are : AllByRecursion IsGroup groups) where
+  pub before_longer_choices : length one.header.hops < total_hops (heads_of groups) + 2 * further
+      → OfChoices (λ pieces. ComesBefore one pieces further) groups
+  before_longer_choices less = λ pieces of.
+      let hops = total_alike (heads_of groups) pieces (heads_alike groups pieces are of) in
+      before_longer one pieces further (omega (arith, less, hops))
 
-  pub less_at_first : slice_cmp nat_cmp first infos ≡ Less
-      → slice_cmp nat_cmp (take (length infos + length info) (drop 4 bytes)) (infos ++ info) ≡ Less
-  less_at_first less = ap (λ xs. slice_cmp nat_cmp xs (infos ++ info)) both_are ∙ cmp_front first infos
-      (take (length info) later) info first_len less
+  pub before_equal_choices : (least : List ℕ) → one.header ≡ header_of one.pieces
+      → length one.header.hops ≡ total_hops (heads_of groups) + 2 * further
+      → one.header.lens ≡ lens_from (map len_of (heads_of groups) ++ replicate further 2)
+      → HaveInfosFrom least groups → length least ≤ length (map info_number one.pieces)
+      → slice_cmp nat_cmp (take (length least) (map info_number one.pieces)) least ≡ Less
+      → OfChoices (λ pieces. ComesBefore one pieces further) groups
+  before_equal_choices least own same lens from within less = λ pieces of.
+      let hops = total_alike (heads_of groups) pieces (heads_alike groups pieces are of) in
+      let long = length-map one.pieces info_number in
+      let many = upto_many least groups pieces from of in
+      before_equal one pieces further own (omega (arith, same, hops))
+      (lens ∙ ap (λ ns. lens_from (ns ++ replicate further 2)) (lens_alike (heads_of groups) pieces (heads_alike groups pieces are of)))
+      (omega (arith, long, many, within))
+      (ap (λ n. slice_cmp nat_cmp (take n (map info_number one.pieces)) (map info_number pieces)) (sym many)
+      ∙ less_upto (take (length least) (map info_number one.pieces)) least (map info_number pieces) less (infos_upto least groups pieces from of))
 
-  pub less_at_last : slice_cmp nat_cmp first infos ≡ Equal
-      → slice_cmp nat_cmp (take (length info) later) info ≡ Less
-      → slice_cmp nat_cmp (take (length infos + length info) (drop 4 bytes)) (infos ++ info) ≡ Less
-  less_at_last same less =
-      ap (λ xs. slice_cmp nat_cmp xs (infos ++ info))
-      (both_are ∙ ap (λ xs. xs ++ take (length info) later) (exact_bytes first infos same))
-      ∙ cmp_same infos (take (length info) later) info ∙ less
-
-pub room_in : (bytes infos info : List ℕ) → 4 ≤ length bytes
-    → length infos ≤ length (take (length bytes - 4) (drop 4 bytes))
-    → length info ≤ length (take (length bytes - 4) (drop 4 bytes)) - length infos
-    → 4 + (length infos + length info) ≤ length bytes
-room_in bytes infos info four first second =
-    let count : length (take (length bytes - 4) (drop 4 bytes)) ≡ length bytes - 4 =
-    simp (length-take, length-drop) (omega arith) in
-    omega (arith, four, first, second, count)
-
-abbrev lens_of : ℕ → ℕ → ℕ → SegLens
-lens_of first second third = record { first = first; second = second; third = third }
-
-same_lens_of : (a b c d e f : ℕ) → a ≡ d → b ≡ e → c ≡ f → lens_of a b c ≡ lens_of d e f
-same_lens_of a b c d e f first second third =
-    ap (λ n. lens_of n b c) first ∙ ap (λ n. lens_of d n c) second ∙ ap (lens_of d e) third
-
-pub lens_of_two : (pieces : List PieceValue) (piece one two : PieceValue) (further a b c : ℕ)
-    → length pieces + further ≤ 2 → Some one ≡ slice_get pieces 0 → Some two ≡ slice_get pieces 1
-    → a ≡ len_of one → b ≡ len_of two → c ≡ len_of piece
-    → lens_of a b c ≡ lens_from (map len_of (pieces ++ piece ∷ []) ++ replicate further 2)
-lens_of_two [] piece one two further a b c few first second ia ib ic = absurd cc
-lens_of_two (x ∷ []) piece one two further a b c few first second ia ib ic = absurd cc
-lens_of_two (x ∷ y ∷ []) piece one two zero a b c few first second ia ib ic =
-    same_lens_of a b c (len_of x) (len_of y) (len_of piece) (ia ∙ ap len_of (same_Some one x first))
-    (ib ∙ ap len_of (same_Some two y second)) ic
-lens_of_two (x ∷ y ∷ []) piece one two (suc further) a b c few first second ia ib ic = absurd (omega (arith, few))
-lens_of_two (x ∷ y ∷ z ∷ pieces) piece one two further a b c few first second ia ib ic = absurd (omega (arith, few))
-
-pub lens_of_one : (pieces : List PieceValue) (piece one : PieceValue) (further a b : ℕ) → further ≤ 1
-    → Some one ≡ slice_get pieces 0 → None ≡ slice_get pieces 1
-    → a ≡ len_of one → b ≡ len_of piece
-    → lens_of a b (2 * further) ≡ lens_from (map len_of (pieces ++ piece ∷ []) ++ replicate further 2)
-lens_of_one [] piece one further a b few first second ia ib = absurd cc
-lens_of_one (x ∷ []) piece one zero a b few first second ia ib =
-    same_lens_of a b (2 * zero) (len_of x) (len_of piece) 0 (ia ∙ ap len_of (same_Some one x first)) ib refl
-lens_of_one (x ∷ []) piece one (suc zero) a b few first second ia ib =
-    same_lens_of a b (2 * suc zero) (len_of x) (len_of piece) 2 (ia ∙ ap len_of (same_Some one x first)) ib refl
-lens_of_one (x ∷ []) piece one (suc (suc further)) a b few first second ia ib = absurd (omega (arith, few))
-lens_of_one (x ∷ y ∷ pieces) piece one further a b few first second ia ib = absurd cc
-
-pub lens_of_none : (pieces : List PieceValue) (piece : PieceValue) (further a : ℕ) → further ≤ 1
-    → None ≡ slice_get pieces 0 → a ≡ len_of piece
-    → lens_of a (2 * further) 0 ≡ lens_from (map len_of (pieces ++ piece ∷ []) ++ replicate further 2)
-lens_of_none [] piece zero a few none ia = same_lens_of a (2 * zero) 0 (len_of piece) 0 0 ia refl refl
-lens_of_none [] piece (suc zero) a few none ia = same_lens_of a (2 * suc zero) 0 (len_of piece) 2 0 ia refl refl
-lens_of_none [] piece (suc (suc further)) a few none ia = absurd (omega (arith, few))
-lens_of_none (x ∷ pieces) piece further a few none ia = absurd cc
-
-total_push : (pieces : List PieceValue) (piece : PieceValue)
-    → total_hops (pieces ++ piece ∷ []) ≡ total_hops pieces + len_of piece
-total_push pieces piece =
-    let both = total_both pieces (piece ∷ []) in
-    let one = sum_by-cons len_of piece [] in
-    omega (arith, both, one)
-
-pub before_if_fewer : (one : PathValue) (pieces : List PieceValue) (piece : PieceValue) (further : ℕ)
-    → length one.header.hops < total_hops pieces + len_of piece + 2 * further
-    → ComesBefore one (pieces ++ piece ∷ []) further
-before_if_fewer one pieces piece further less =
-    before_longer one (pieces ++ piece ∷ []) further (let total = total_push pieces piece in omega (arith, less, total))
-
-module _ (one : PathValue) (pieces : List PieceValue) (piece : PieceValue) (further : ℕ)
-    (infos info bytes : List ℕ) (infos_are : infos ≡ infos_of pieces)
-    (info_is : info ≡ info_spelling (info_of piece)) where
-  joined_infos : infos_of (pieces ++ piece ∷ []) ≡ infos ++ info
-  joined_infos =
-      flat_map-append (λ (p : PieceValue). info_spelling (info_of p)) pieces (piece ∷ []) ∙ ap
-      (λ xs. infos_of pieces ++ xs) (append-nil (info_spelling (info_of piece)))
-      ∙ ap (λ xs. xs ++ info_spelling (info_of piece)) (sym infos_are) ∙ ap (λ xs. infos ++ xs) (sym info_is)
-
-  joined_len : length (infos_of (pieces ++ piece ∷ [])) ≡ length infos + length info
-  joined_len = ap length joined_infos ∙ length-append infos info
-
-  pub before_by_bytes : one.header ≡ header_of one.pieces
-      → length one.header.hops ≡ total_hops pieces + len_of piece + 2 * further
-      → one.header.lens ≡ lens_from (map len_of (pieces ++ piece ∷ []) ++ replicate further 2)
-      → SpellsHeader bytes one.header
-      → 4 + (length infos + length info) ≤ length bytes
-      → slice_cmp nat_cmp (take (length infos + length info) (drop 4 bytes)) (infos ++ info) ≡ Less
-      → ComesBefore one (pieces ++ piece ∷ []) further
-  before_by_bytes own same lens spelled room less =
-      let total = total_push pieces piece in
-      let count = joined_len in
-      before_equal one (pieces ++ piece ∷ []) further own (omega (arith, same, total)) lens bytes spelled
-      (omega (arith, room, count))
-      (ap (λ n. slice_cmp nat_cmp (take n (drop 4 bytes)) (infos_of (pieces ++ piece ∷ []))) joined_len ∙ ap (slice_cmp nat_cmp (take (length infos + length info) (drop 4 bytes))) joined_infos ∙ less)
-
-pub infos_longer : (pieces longer : List PieceValue) (piece : PieceValue) (infos info more : List ℕ)
-    → longer ≡ pieces ++ piece ∷ [] → infos ≡ infos_of pieces → info ≡ info_spelling (info_of piece)
-    → more ≡ infos ++ info → more ≡ infos_of longer
-infos_longer pieces longer piece infos info more is infos_are info_is more_is =
-    more_is ∙ sym
-    (joined_infos (path_with [] (header_of [])) pieces piece 0 infos info [] infos_are info_is) ∙ ap infos_of
-    (sym is)
-
-infos_len : (pieces : List PieceValue) → length (infos_of pieces) ≡ 8 * length pieces
-infos_len [] = refl
-infos_len (piece ∷ pieces) =
-    let both = length-append (info_spelling (info_of piece)) (infos_of pieces) in
-    let more = infos_len pieces in
-    let one : length (info_spelling (info_of piece)) ≡ 8 = refl in
-    omega (arith, both, more, one)
-
-pub infos_fit : (pieces : List PieceValue) (piece : PieceValue) (infos info : List ℕ)
-    → infos ≡ infos_of pieces → info ≡ info_spelling (info_of piece) → length pieces ≤ 2
-    → length infos + length info ≤ 24
-infos_fit pieces piece infos info infos_are info_is few =
-    let first : length infos ≡ 8 * length pieces = ap length infos_are ∙ infos_len pieces in
-    let second : length info ≡ 8 = ap length info_is in
-    omega (arith, first, second, few)
+pub lens_there : (pieces : List PieceValue) → (header_of pieces).lens ≡ lens_from (map len_of pieces)
+unfolding header_of
+lens_there pieces = refl

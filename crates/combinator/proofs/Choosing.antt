@@ -1,13 +1,35 @@
--- Choosing the option that is used, one after another.
-use Rattle.std.proofs.Common.{◌≡◌, ℕ, ◌+◌, ◌<◌, ◌≤◌, List, [], ◌∷◌, length, get_or, true, false, is_some, Option, Some, None, refl, sym, ap, subst, ◌∙◌, inl, inr, arith}
-use Rattle.std.specs.Prelude.{◌⊎◌, slice_get, IfSome}
-use Rattle.std.proofs.lemmas.Bool.{cases_lt}
+-- The choice of the option that is used.
+use Rattle.std.proofs.Common.{◌≡◌, ℕ, ◌<◌, List, [], ◌∷◌, length, get_or, All, Option, Some, None, refl, sym, ap, subst, ◌∙◌, inl, inr, arith}
+use Rattle.std.specs.Prelude.{◌⊎◌, slice_get, IfOk, IfSome, Result, Ok, Err}
 use Rattle.std.proofs.lemmas.Option.{same_Some, slice_get_within, slice_get-get_or}
 use Rattle.path_server.specs.Lookup.{Selection}
 use Rattle.policy_expr.specs.Options.{WeighedRules}
-use Rattle.combinator.specs.Candidate.{Question, PathValue, HasNone}
+use Rattle.path_verifier.specs.Piece.{PieceValue}
+use Rattle.path_verifier.specs.Accepted.{AreLive}
+use Rattle.policy_expr.specs.Policy.{Rules}
+use Rattle.combinator.specs.Candidate.{Question, PathValue, HasNone, IsCandidate, IsOf, question_of}
+use Rattle.combinator.specs.Choice.{ChosenValue}
 use Rattle.combinator.specs.Answer.{IsAnswer, question_under, GoesBefore, AnswersWith}
-use Rattle.combinator.specs.inner.Choice.{IsUsedBefore, LeaveNone, IsChosen}
+use Rattle.combinator.specs.inner.Choice.{HaveNone, IsChoiceOf, LeavesPath, MayChoose}
+use Rattle.combinator.specs.inner.Group.{GroupValue}
+use Rattle.combinator.specs.inner.Over.{AreGroupsOf}
+use Rattle.combinator.specs.inner.Search.{HasFields, HaveAll}
+use Rattle.combinator.proofs.Spelled.{all_spelled}
+use Rattle.combinator.proofs.Wanted.{any_rules}
+
+-- the groups of all usable pieces serve each policy
+pub may_choose : (set : Selection) (src dst : ℕ) (groups : List GroupValue) (usable_pieces : List PieceValue)
+    → All (IsOf set) usable_pieces → All (λ (piece : PieceValue). AreLive set.moment (piece ∷ [])) usable_pieces
+    → ((rules : Rules) → HaveAll (question_of set src dst rules) usable_pieces) → All HasFields usable_pieces
+    → AreGroupsOf groups usable_pieces → MayChoose set src dst groups
+may_choose set src dst groups usable_pieces own live whole fields are rules = record {
+  usable_pieces = usable_pieces;
+  are = are;
+  own = own;
+  live = live;
+  whole = whole rules;
+  spelled = all_spelled (question_of set src dst rules) usable_pieces (whole rules) fields;
+}
 
 -- an answer without a path, where it may have some, says that there is none
 pub none_there : (question : Question) (limit : ℕ) (paths : List PathValue) → 0 < limit → paths ≡ []
@@ -15,160 +37,68 @@ pub none_there : (question : Question) (limit : ℕ) (paths : List PathValue) �
 none_there question limit paths some empty is path candidate =
     let count : length paths ≡ 0 = ap (λ (xs : List PathValue). length xs) empty in
     elim (is.whole path candidate) [
-      | inl one ↦ (let within = one.2 in absurd (omega arith))
-      | inr out ↦ (let full = out.full in absurd (omega arith))
+      | inl one ↦ (let within = one.2 in absurd (omega (arith, within, count)))
+      | inr out ↦ (let full = out.full in absurd (omega (arith, full, count, some)))
     ]
-
-module _ (set : Selection) (src dst : ℕ) (options : List WeighedRules) (limit place : ℕ)
-    (option : WeighedRules) (here : slice_get options place ≡ Some option) where
-  earlier_or_here : (j : ℕ) (other : WeighedRules) → j < place + 1 → slice_get options j ≡ Some other
-      → (j < place) ⊎ ((j ≡ place) × (option ≡ other))
-  earlier_or_here j other within at = elim (cases_lt j place) [
-    | inl less ↦ inl less
-    | inr upto ↦
-        (let same : j ≡ place = omega arith in inr (same, same_Some option other (sym here ∙ ap (slice_get options) (sym same) ∙ at)))
-  ]
-
-  none_more : HasNone (question_under set src dst option) → LeaveNone set src dst options place
-      → LeaveNone set src dst options (place + 1)
-  none_more none before j other within at = elim (earlier_or_here j other within at) [
-    | inl less ↦ before j other less at
-    | inr same ↦ subst (λ (o : WeighedRules). HasNone (question_under set src dst o)) same.1 none
-  ]
-
-  used_still : (used weight : ℕ) (paths : List PathValue) (is : IsUsedBefore set src dst options limit place used weight paths)
-      → (GoesBefore place option used is.option → HasNone (question_under set src dst option))
-      → IsUsedBefore set src dst options limit (place + 1) used weight paths
-  used_still used weight paths is none = record {
-    option = is.option;
-    there = is.there;
-    before = (let was = is.before in omega arith);
-    weighs = is.weighs;
-    some = is.some;
-    answer = is.answer;
-    first = λ j other within at goes. elim (earlier_or_here j other within at) [
-      | inl less ↦ is.first j other less at goes
-      | inr same ↦ subst (λ (o : WeighedRules). HasNone (question_under set src dst o)) same.1
-          (none (subst (λ (o : WeighedRules). GoesBefore place o used is.option) (sym same.1) (subst (λ (i : ℕ). GoesBefore i other used is.option) same.0 goes)))
-    ];
-  }
-
-  -- an option that is no heavier is passed over
-  pub passed_over : (used weight : ℕ) (paths : List PathValue) → option.weight ≤ weight
-      → IsChosen set src dst options limit place (Some used) weight paths
-      → IsChosen set src dst options limit (place + 1) (Some used) weight paths
-  passed_over used weight paths light is = used_still used weight paths is (λ goes. absurd (
-      let weighs = is.weighs in
-      let was = is.before in
-      elim goes [ inl heavier ↦ (omega arith) | inr behind ↦ (let late = behind.1 in omega arith) ]))
-
-  -- an option that leaves no path changes nothing
-  pub left_none : (used : Option ℕ) (weight : ℕ) (paths : List PathValue)
-      → HasNone (question_under set src dst option)
-      → IsChosen set src dst options limit place used weight paths
-      → IsChosen set src dst options limit (place + 1) used weight paths
-  left_none None weight paths none is = (is.0, none_more none is.1)
-  left_none (Some used) weight paths none is = used_still used weight paths is (λ _. none)
-
-  -- a heavier option that leaves a path is used
-  pub now_used : (used : Option ℕ) (weight : ℕ) (paths found : List PathValue)
-      → ((u : ℕ) → used ≡ Some u → weight < option.weight) → 0 < length found
-      → IsAnswer (question_under set src dst option) limit found
-      → IsChosen set src dst options limit place used weight paths
-      → IsChosen set src dst options limit (place + 1) (Some place) option.weight found
-  now_used None weight paths found heavier some answer is = record {
-    option = option;
-    there = here;
-    before = omega arith;
-    weighs = refl;
-    some = some;
-    answer = answer;
-    first = λ j other within at goes. elim (earlier_or_here j other within at) [
-      | inl less ↦ is.1 j other less at
-      | inr same ↦ absurd (
-          let weight' : option.weight ≡ other.weight = ap (λ (o : WeighedRules). o.weight) same.1 in
-          let at_place = same.0 in
-          elim goes [ inl more ↦ (omega arith) | inr behind ↦ (let late = behind.1 in omega arith) ])
-    ];
-  }
-  now_used (Some used) weight paths found heavier some answer is = record {
-    option = option;
-    there = here;
-    before = omega arith;
-    weighs = refl;
-    some = some;
-    answer = answer;
-    first = λ j other within at goes. elim (earlier_or_here j other within at) [
-      | inl less ↦ (
-          let more = heavier used refl in
-          let weighs = is.weighs in
-          is.first j other less at
-          (elim goes [ inl above ↦ inl (omega arith) | inr equal ↦ (let level = equal.0 in inl (omega arith)) ]))
-      | inr same ↦ absurd (
-          let weight' : option.weight ≡ other.weight = ap (λ (o : WeighedRules). o.weight) same.1 in
-          let at_place = same.0 in
-          elim goes [ inl more ↦ (omega arith) | inr behind ↦ (let late = behind.1 in omega arith) ])
-    ];
-  }
-
-module _ (set : Selection) (src dst : ℕ) (options : List WeighedRules) (limit place : ℕ)
-    (past : length options ≤ place) where
-  pub chosen_of_all : (used : Option ℕ) (weight : ℕ) (paths : List PathValue)
-      → IsChosen set src dst options limit place used weight paths
-      → AnswersWith set src dst options limit used paths
-  chosen_of_all None weight paths is =
-      (is.0, λ k d within. is.1 k (get_or options k d) (omega arith) (slice_get-get_or options k d within))
-  chosen_of_all (Some used) weight paths is = record {
-    option = is.option;
-    there = is.there;
-    some = is.some;
-    answer = is.answer;
-    first = λ j other at goes. is.first j other (let within = slice_get_within options j other at in omega arith) at goes;
-  }
-
--- a choice has the weight of the used option
-pub has_weight : (set : Selection) (src dst : ℕ) (options : List WeighedRules) (limit place : ℕ) (used : Option ℕ) (weight : ℕ) (paths : List PathValue)
-    → IsChosen set src dst options limit place used weight paths
-    → IfSome used (λ u. IfSome (slice_get options u) (λ option. weight ≡ option.weight))
-has_weight set src dst options limit place None weight paths is = tt
-has_weight set src dst options limit place (Some used) weight paths is =
-    subst (λ (found : Option WeighedRules). IfSome found (λ option. weight ≡ option.weight)) (sym is.there) is.weighs
-
--- ---- as the code sees it
 
 pub not_empty : (paths : List PathValue) → (paths ≡ [] → ⊥) → 0 < length paths
 not_empty [] some = absurd (some refl)
 not_empty (path ∷ paths) some = omega arith
 
-module _ (set : Selection) (src dst : ℕ) (options : List WeighedRules) (limit place : ℕ)
-    (option seen : WeighedRules) (here : slice_get options place ≡ Some option) (same : seen ≡ option) where
-  lighter : (w : ℕ) (weight : ℕ) → w ≡ weight → seen.weight ≤ w → option.weight ≤ weight
-  lighter w weight is light =
-      (let as_seen : seen.weight ≡ option.weight = ap (λ (o : WeighedRules). o.weight) same in omega arith)
+-- what a result has, if it is one
+pub on_ok : {X E : Type 0} (P Q : X → Type 0) (result : Result X E) → ((x : X) → P x → Q x) → IfOk result P → IfOk result Q
+on_ok P Q (Ok x) goes has = goes x has
+on_ok P Q (Err e) goes has = tt
 
-  pub passed : (used kept : Option ℕ) (weight w : ℕ) (paths : List PathValue) → kept ≡ used
-      → is_some kept ≡ true → w ≡ weight → seen.weight ≤ w
-      → IsChosen set src dst options limit place used weight paths
-      → IsChosen set src dst options limit (place + 1) used weight paths
-  passed None kept weight w paths is some at light chosen = absurd
-      (let none : is_some kept ≡ false = ap is_some is in let both = sym some ∙ none in cc)
-  passed (Some used) kept weight w paths is some at light chosen = passed_over set src dst options limit place option here used weight paths
-      (lighter w weight at light) chosen
+module _ (set : Selection) (src dst : ℕ) (options : List WeighedRules) (limit : ℕ) where
+  pub answers_none : (used : Option ℕ) (paths : List PathValue) → used ≡ None → paths ≡ []
+      → HaveNone (question_under set src dst) options None → AnswersWith set src dst options limit used paths
+  answers_none used paths is empty none =
+      subst (λ (u : Option ℕ). AnswersWith set src dst options limit u paths) (sym is)
+      (empty, λ k d within. none k (get_or options k d) (slice_get-get_or options k d within) tt)
 
-  pub left : (used : Option ℕ) (weight : ℕ) (paths found : List PathValue) → 0 < limit → found ≡ []
-      → IsAnswer (question_under set src dst option) limit found
-      → IsChosen set src dst options limit place used weight paths
-      → IsChosen set src dst options limit (place + 1) used weight paths
-  left used weight paths found some empty answer chosen =
-      left_none set src dst options limit place option here used weight paths
-      (none_there (question_under set src dst option) limit found some empty answer) chosen
+  -- the choice is that of the option at a place
+  abbrev pub IsChoiceAt : ℕ → ChosenValue → Type 0
+  IsChoiceAt place choice = (option : WeighedRules) → slice_get options place ≡ Some option
+      → IsChoiceOf (question_under set src dst option) limit place option.weight choice
 
-  pub taken_up : (used : Option ℕ) (weight : ℕ) (paths found : List PathValue)
-      → ((u : ℕ) → used ≡ Some u → weight < seen.weight) → (found ≡ [] → ⊥)
-      → IsAnswer (question_under set src dst option) limit found
-      → IsChosen set src dst options limit place used weight paths
-      → IsChosen set src dst options limit (place + 1) (Some place) seen.weight found
-  taken_up used weight paths found heavier some answer chosen =
-      let as_seen : seen.weight ≡ option.weight = ap (λ (o : WeighedRules). o.weight) same in
-      subst (λ (w : ℕ). IsChosen set src dst options limit (place + 1) (Some place) w found) (sym as_seen)
-      (now_used set src dst options limit place option here used weight paths found (λ u is. (let more = heavier u is in omega arith)) (not_empty found some) answer chosen)
+  module _ (place : ℕ) (within : place < length options) (choice : ChosenValue) (chosen : IsChoiceAt place choice) where
+    abbrev option : WeighedRules
+    option = get_or options place (record { rules = any_rules; weight = 0 })
+
+    there : slice_get options place ≡ Some option
+    there = slice_get-get_or options place (record { rules = any_rules; weight = 0 }) within
+
+    is : IsChoiceOf (question_under set src dst option) limit place option.weight choice
+    is = chosen option there
+
+    pub answers_under : (length options ≡ 1) ⊎ LeavesPath (question_under set src dst) options place
+        → HaveNone (question_under set src dst) options (Some place)
+        → AnswersWith set src dst options limit choice.used choice.paths
+    answers_under leaves none = elim is [
+      | inl under ↦ subst (λ (u : Option ℕ). AnswersWith set src dst options limit u choice.paths) (sym under.used) (record {
+        option = option;
+        there = there;
+        some = under.some;
+        answer = under.answer;
+        first = λ j other at goes. none j other at
+            (λ second also. subst (λ (o : WeighedRules). GoesBefore j other place o) (same_Some option second (sym there ∙ also)) goes);
+      })
+      | inr nothing ↦ elim leaves [
+        | inl one ↦ answers_none choice.used choice.paths nothing.0 nothing.1 (λ j other at wanted.
+            let also = slice_get_within options j other at in
+            let same : place ≡ j = omega (arith, within, also, one) in
+            subst (λ (o : WeighedRules). HasNone (question_under set src dst o))
+            (same_Some option other (sym there ∙ ap (slice_get options) same ∙ at)) nothing.2)
+        | inr left ↦ absurd (nothing.2 left.path
+            (subst (λ (o : WeighedRules). IsCandidate (question_under set src dst o) left.path)
+            (same_Some left.option option (sym left.there ∙ there)) left.candidate))
+      ]
+    ]
+
+    pub has_weight : IfSome choice.used (λ used. IfSome (slice_get options used) (λ o. choice.weight ≡ o.weight))
+    has_weight = elim is [
+      | inl under ↦ subst (λ (u : Option ℕ). IfSome u (λ used. IfSome (slice_get options used) (λ o. choice.weight ≡ o.weight))) (sym under.used)
+          (subst (λ (found : Option WeighedRules). IfSome found (λ o. choice.weight ≡ o.weight)) (sym there) under.weighs)
+      | inr nothing ↦ subst (λ (u : Option ℕ). IfSome u (λ used. IfSome (slice_get options used) (λ o. choice.weight ≡ o.weight))) (sym nothing.0) tt
+    ]

@@ -1,9 +1,6 @@
 -- What loops collect.
 use Rattle.std.proofs.Common.{◌≡◌, ℕ, zero, suc, ◌+◌, ◌<◌, ◌≤◌, Bool, List, [], ◌∷◌, ◌++◌, length, get_or, take, All, Contains, refl, sym, ap, subst, ◌∙◌, inl, inr, arith, add-one}
 use Rattle.std.specs.Prelude.{◌⊎◌}
-use Rattle.std.specs.Prelude.{slice_get}
-use Rattle.std.proofs.lemmas.Bool.{cases_lt}
-use Rattle.std.proofs.lemmas.Option.{same_Some}
 use Rattle.std.proofs.lemmas.List.Elements.{All-push, Contains-push, Contains-push_cases, Contains-append_left}
 use Rattle.path_segment.specs.declared.kind.SegKind.TheVariants as kinds
 use Rattle.path_segment.specs.Chain.{Chain}
@@ -59,26 +56,6 @@ all_more {X} P xs i x within is so_far here =
 
 pub all_taken : {X : Type 0} (P : X → Type 0) (xs : List X) (i : ℕ) → length xs ≤ i → All P (take i xs) → All P xs
 all_taken P xs i past all = subst (All P) (take_past xs i past) all
-
--- lists that are the same up to a place, and at it
-pub same_upto : {X : Type 0} (xs ys : List X) (i : ℕ) → ((k : ℕ) → k < i → slice_get xs k ≡ slice_get ys k)
-    → slice_get xs i ≡ slice_get ys i
-    → (k : ℕ) → k < i + 1 → slice_get xs k ≡ slice_get ys k
-same_upto xs ys i so_far here k less = elim (cases_lt k i) [
-  | inl before ↦ so_far k before
-  | inr upto ↦
-      (let same : i ≡ k = omega (arith, less, upto) in subst (λ (n : ℕ). slice_get xs n ≡ slice_get ys n) same here)
-]
-
-pub same_lists : {X : Type 0} (xs ys : List X) → length xs ≡ length ys
-    → ((k : ℕ) → k < length xs → slice_get xs k ≡ slice_get ys k) → xs ≡ ys
-same_lists [] [] count all = refl
-same_lists [] (y ∷ ys) count all = absurd (omega (arith, count))
-same_lists (x ∷ xs) [] count all = absurd (omega (arith, count))
-same_lists (x ∷ xs) (y ∷ ys) count all =
-    let first = same_Some x y (all 0 (omega arith)) in
-    let later = same_lists xs ys (omega (arith, count)) (λ k within. all (suc k) (omega (arith, within))) in
-    ap (λ z. z ∷ xs) first ∙ ap (λ zs. y ∷ zs) later
 
 -- what was collected, and one more
 pub pushed_more : (old new : List PieceValue) (piece : PieceValue) → new ≡ old ++ piece ∷ [] → AreIn old new

@@ -4,11 +4,9 @@ use Rattle.std.proofs.Common.{◌≡◌, ℕ, ◌<◌, ◌≤◌, false, List, A
 use Rattle.std.specs.Prelude.{◌≢◌}
 use Rattle.std.specs.declared.cmp.Ordering.{Ordering}
 use Rattle.std.specs.declared.cmp.Ordering.TheVariants.{Less, Equal, Greater}
-use Rattle.std.specs.Ordering.{nat_cmp, ordering_reverse, is_gt}
-use Rattle.std.specs.Cmp.Lexicographic.{slice_cmp}
+use Rattle.std.specs.Ordering.{ordering_reverse, is_gt}
 use Rattle.hop_mac.specs.Lifetime.{expiry_of}
 use Rattle.path_header.specs.Value.{HeaderValue}
-use Rattle.path_header.specs.Spelling.{SpellsHeader, spelling}
 use Rattle.path_verifier.specs.Piece.{PieceValue, entries_of}
 use Rattle.path_verifier.specs.Accepted.{IsExpiry, LastTo}
 use Rattle.std.proofs.lemmas.Cmp.{upto, tied_itself}
@@ -69,24 +67,16 @@ never_worse_later one other e f is also later no_worse =
     let up = up_to one.pieces e f is lasts in
     omega (arith, later, up)
 
-pub never_worse_bytes : (one other : PathValue) (e f : ℕ) (bytes text : List ℕ) → IsExpiry one.pieces e
-    → IsExpiry other.pieces f → e ≡ f
-    → SpellsHeader bytes one.header → SpellsHeader text other.header → slice_cmp nat_cmp text bytes ≡ Less
-    → ¬ (IsNoWorse one other)
-unfolding bytes_cmp
-never_worse_bytes one other e f bytes text is also same first second less no_worse =
-    no_worse.least (as_long other one f e also is (omega (arith, same)))
-    (ap (λ (b : List ℕ). slice_cmp nat_cmp b (spelling one.header)) (sym second.spelled) ∙ ap (slice_cmp nat_cmp text) (sym first.spelled) ∙ less)
+pub never_worse_header : (one other : PathValue) (e f : ℕ) → IsExpiry one.pieces e → IsExpiry other.pieces f
+    → e ≡ f → bytes_cmp other.header one.header ≡ Less → ¬ (IsNoWorse one other)
+never_worse_header one other e f is also same less no_worse =
+    no_worse.least (as_long other one f e also is (omega (arith, same))) less
 
-pub no_fewer_bytes : (one other : PathValue) (e f : ℕ) (bytes text : List ℕ) → IsExpiry one.pieces e
-    → IsExpiry other.pieces f → e ≡ f
-    → SpellsHeader bytes one.header → SpellsHeader text other.header → slice_cmp nat_cmp text bytes ≢ Less
-    → IsNoWorse one other
-unfolding bytes_cmp
-no_fewer_bytes one other e f bytes text is also same first second upto = record {
+pub no_worse_header : (one other : PathValue) (e f : ℕ) → IsExpiry one.pieces e → IsExpiry other.pieces f
+    → e ≡ f → bytes_cmp other.header one.header ≢ Less → IsNoWorse one other
+no_worse_header one other e f is also same upto = record {
   latest = as_long one other e f is also (omega (arith, same));
-  least = λ as_late less. upto
-      (ap (λ (b : List ℕ). slice_cmp nat_cmp b bytes) second.spelled ∙ ap (slice_cmp nat_cmp (spelling other.header)) first.spelled ∙ less);
+  least = λ as_late. upto;
 }
 
 -- ---- no worse, one after another

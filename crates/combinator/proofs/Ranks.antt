@@ -64,6 +64,9 @@ same_walk (hop ∷ one) (next ∷ other) e =
     cc
 
 -- headers of the grammar with the same bytes are one
+pub walk_itself : (one other : List WalkHop) → one ≡ other → walk_cmp one other ≡ Equal
+walk_itself one other same = ap (walk_cmp one) (sym same) ∙ tied_itself (lists_total hop_total) one
+
 pub same_header : (one other : HeaderValue) → SpellsHeader (spelling one) one
     → SpellsHeader (spelling other) other → bytes_cmp one other ≡ Equal → one ≡ other
 unfolding bytes_cmp

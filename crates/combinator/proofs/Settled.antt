@@ -1,9 +1,7 @@
--- The best paths that the search has found, and what they meet.
-use Rattle.std.proofs.Common.{◌≡◌, ℕ, List, [], ◌∷◌, ◌++◌, All, Any, refl, sym, subst, inl, inr}
-use Rattle.std.specs.Prelude.{◌⊎◌}
+-- A walk is met where the best path for it is.
+use Rattle.std.proofs.Common.{◌≡◌, ℕ, List, [], ◌∷◌, sym, subst, inl, inr}
 use Rattle.std.specs.List.{AllByRecursion}
 use Rattle.std.specs.declared.cmp.Ordering.TheVariants.{Less, Equal}
-use Rattle.std.proofs.lemmas.List.Elements.{All-push}
 use Rattle.path_header.specs.Value.{HeaderValue}
 use Rattle.policy_expr.specs.declared.hop.WalkHop.{WalkHop}
 use Rattle.path_verifier.specs.Piece.{PieceValue}
@@ -12,9 +10,8 @@ use Rattle.combinator.specs.Candidate.{Question, PathValue, AreSpelled, path_wit
 use Rattle.combinator.specs.Order.{header_and_walk, shown_cmp, path_cmp}
 use Rattle.combinator.specs.Answer.{IsBest}
 use Rattle.combinator.specs.inner.Placed.{Tied, Met}
-use Rattle.combinator.specs.inner.Search.{AreKept, IsMetBy, StillMeet}
-use Rattle.combinator.proofs.Agreeing.{best_is_one, tied_at}
-use Rattle.combinator.proofs.Ranks.{tied_shown}
+use Rattle.combinator.specs.inner.Search.{IsMetBy}
+use Rattle.combinator.proofs.Agreeing.{best_is_one}
 
 -- ---- paths that show the same are met alike
 
@@ -50,32 +47,3 @@ module _ (question : Question) (spelled : AreSpelled question) (limit : ℕ) whe
   met_by_best paths best pieces is met walk = λ header also.
       met_alike limit paths best (path_with pieces header)
       (best_is_one question spelled best (path_with pieces header) is also (sym walk)) met
-
-  pub met_by_kept : (first behind : List PathValue) (pieces : List PieceValue) → AreKept question limit first behind
-      → Any (λ (one : PathValue). walk_of pieces ≡ walk_of one.pieces) first ⊎ Any (λ (one : PathValue). walk_of pieces ≡ walk_of one.pieces) behind
-      → IsMetBy question limit first pieces
-  met_by_kept first behind pieces kept (inl some) =
-      met_by_best first some.1 pieces (subst (IsBest question) some.3 (kept.best some.0 some.1 some.2))
-      (inl (tied_at some.1 first some.0 some.1 some.2 some.3 (tied_shown some.1 some.1 refl))) some.4
-  met_by_kept first behind pieces kept (inr some) =
-      let other =
-      subst (λ (path : PathValue). IsBest question path × Met path_cmp limit first path) some.3 (kept.others some.0 some.1 some.2) in
-      met_by_best first some.1 pieces other.0 other.1 some.4
-
--- ---- one more path that is kept
-
-module _ (question : Question) (limit : ℕ) (first behind : List PathValue) (best : PathValue)
-    (kept : AreKept question limit first behind) (is : IsBest question best) where
-  pub kept_behind : (more : List PathValue) → more ≡ behind ++ best ∷ [] → Met path_cmp limit first best
-      → AreKept question limit first more
-  kept_behind more at met = record {
-    order = kept.order;
-    few = kept.few;
-    best = kept.best;
-    others = subst (All (λ path. IsBest question path × Met path_cmp limit first path)) (sym at)
-        (All-push (λ path. IsBest question path × Met path_cmp limit first path) behind best kept.others (is, met));
-  }
-
-  pub others_still : (new : List PathValue) → StillMeet limit first new
-      → All (λ path. IsBest question path × Met path_cmp limit new path) behind
-  others_still new still = λ k d within. (let other = kept.others k d within in (other.0, still _ other.1))

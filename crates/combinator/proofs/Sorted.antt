@@ -1,4 +1,4 @@
--- The order of usable pieces: what is sorted by it is sorted by the ASes in which pieces begin.
+-- The order of groups: what is sorted by it is sorted by the ASes in which groups begin.
 use Rattle.std.proofs.Common.{◌≡◌, ℕ, ◌<◌, true, false, List, get_or, is_lt, refl, sym, ◌∙◌, inl, inr}
 use Rattle.std.specs.Cmp.{IsTotalOrder, IsStrictWeakOrder}
 use Rattle.std.specs.List.Sorted.{IsSortedBy, IsNonDecreasingBy}
@@ -8,6 +8,7 @@ use Rattle.std.proofs.lemmas.Bool.{cases_lt, lt-ltb}
 use Rattle.std.proofs.lemmas.Cmp.{nat_cmp_total, on_total, then_total}
 use Rattle.std.proofs.lemmas.List.Sorted.{ranks_by, sorted_far}
 use Rattle.path_verifier.specs.Piece.{PieceValue, begins_in}
+use Rattle.combinator.specs.inner.Group.{GroupValue, group_begins}
 use Rattle.combinator.specs.inner.UsablePieces.{rank_of, info_number, piece_cmp}
 
 piece_total : IsTotalOrder piece_cmp
@@ -16,8 +17,8 @@ piece_total =
     then_total (on_total (λ (piece : PieceValue). begins_in piece) nat_cmp_total)
     (then_total (on_total (λ (piece : PieceValue). rank_of piece) nat_cmp_total) (on_total (λ (piece : PieceValue). info_number piece) nat_cmp_total))
 
-pub piece_ranks : IsStrictWeakOrder (λ (one other : PieceValue). is_lt (piece_cmp one other))
-piece_ranks = ranks_by piece_total (λ (piece : PieceValue). piece)
+pub group_ranks : IsStrictWeakOrder (λ (one other : GroupValue). is_lt (piece_cmp one.head other.head))
+group_ranks = ranks_by piece_total (λ (group : GroupValue). group.head)
 
 less_first : (n m : ℕ) (later : Ordering) → n < m → is_lt (ordering_then (nat_cmp n m) later) ≡ true
 less_first n m later less = rw (lt-ltb n m less) refl
@@ -26,13 +27,14 @@ begins_earlier : (one other : PieceValue) → begins_in one < begins_in other �
 unfolding piece_cmp
 begins_earlier one other = less_first (begins_in one) (begins_in other) _
 
-pub begins_rise : (pieces : List PieceValue) → IsSortedBy (λ one other. is_lt (piece_cmp one other)) pieces
-    → IsNonDecreasingBy begins_in pieces
-begins_rise pieces sorted i j d upward within =
-    let one = get_or pieces i d in
-    let other = get_or pieces j d in
-    elim (cases_lt (begins_in other) (begins_in one)) [
+pub begins_rise : (groups : List GroupValue) → IsSortedBy (λ one other. is_lt (piece_cmp one.head other.head)) groups
+    → IsNonDecreasingBy group_begins groups
+begins_rise groups sorted i j d upward within =
+    let one = get_or groups i d in
+    let other = get_or groups j d in
+    elim (cases_lt (group_begins other) (group_begins one)) [
       | inl less ↦ absurd
-          (let both : true ≡ false = sym (begins_earlier other one less) ∙ sorted_far (λ (a b : PieceValue). is_lt (piece_cmp a b)) piece_ranks pieces sorted i j d upward within in cc)
+          (let both : true ≡ false = sym (begins_earlier other.head one.head less)
+          ∙ sorted_far (λ (a b : GroupValue). is_lt (piece_cmp a.head b.head)) group_ranks groups sorted i j d upward within in cc)
       | inr upto ↦ upto
     ]

@@ -139,7 +139,7 @@ one_end [] one other is also = absurd is
 one_end (piece ∷ []) one other is also = sym is ∙ also
 one_end (piece ∷ next ∷ later) one other is also = one_end (next ∷ later) one other is also
 
-ends_with : (front : List PieceValue) (piece : PieceValue) → DoEndIn (ends_in piece) (front ++ piece ∷ [])
+pub ends_with : (front : List PieceValue) (piece : PieceValue) → DoEndIn (ends_in piece) (front ++ piece ∷ [])
 ends_with [] piece = refl
 ends_with (first ∷ []) piece = refl
 ends_with (first ∷ next ∷ front) piece = ends_with (next ∷ front) piece

@@ -3,3 +3,8 @@ pub mod Choice
 pub mod Placed
 pub mod Search
 pub mod UsablePieces
+pub mod Alike
+pub mod Group
+pub mod Words
+pub mod Front
+pub mod Over

@@ -1,8 +1,11 @@
-ghost use Rattle.std.specs.Prelude.{◌≡◌, ◌↔◌, [], length, option_map, slice_get, IfOk, IsTrue, OnOk};
-ghost use Rattle.combinator.specs.Candidate.{AreSpelled, question_of};
+ghost use Rattle.std.specs.Prelude.{◌≡◌, ◌↔◌, [], length, map, All, option_map, slice_get, IfOk, IsTrue, OnOk};
+ghost use Rattle.path_verifier.specs.Accepted.{Request};
+ghost use Rattle.combinator.specs.Candidate.{AreSpelled, IsCandidate, path_with, question_of};
 ghost use Rattle.combinator.specs.Answer.{IsAnswer};
+ghost use Rattle.combinator.specs.inner.Over.{MaySearch};
 
-use crate::ranked::RankedPath;
+use crate::found::Found;
+use crate::groups::Groups;
 use crate::request::PathRequest;
 use crate::search::first_paths;
 use crate::usable_pieces::usable_pieces_of;
@@ -17,16 +20,17 @@ use std::marker::Model;
 /// made.
 #[derive(Drop)]
 pub struct Paths<'s, 'p, A: Allocator + Clone> {
-    pub(crate) found: Vec<RankedPath<'s, 'p, A>>,
+    pub(crate) found: Vec<VerifiedPath<'s, 'p, A>>,
 }
 
 impl<'s, 'p, A: Allocator + Clone> Model for Paths<'s, 'p, A> {
-    ghost use Rattle.std.specs.Prelude.{List};
-    ghost use Rattle.combinator.specs.Candidate.{PathValue};
+    ghost use Rattle.std.specs.Prelude.{List, map};
+    ghost use Rattle.path_verifier.specs.Accepted.{Request};
+    ghost use Rattle.combinator.specs.Candidate.{PathValue, path_with};
 
     ghost Value = { List PathValue };
 
-    ghost view = { λ p. p.found.items };
+    ghost view = { λ p. map (λ (path : Request). path_with path.pieces path.header) p.found.items };
 }
 
 impl<'s, 'p, A: Allocator + Clone> Paths<'s, 'p, A> {
@@ -60,10 +64,7 @@ impl<'s, 'p, A: Allocator + Clone> Paths<'s, 'p, A> {
           header = path.now.header;
         }) result ≡ slice_get self.now place }
     {
-        match self.found.get(place) {
-            None => None,
-            Some(found) => Some(found.path()),
-        }
+        self.found.get(place)
     }
 }
 
@@ -73,14 +74,15 @@ impl<'s, 'p, A: Allocator + Clone> Paths<'s, 'p, A> {
 /// fields, header bytes and walk, and the first `limit` of them are returned.
 ///
 /// What it costs: a segment to `src` or `dst` gives at most 62 usable pieces, those with that AS at
-/// their end, and a core segment gives two. With n usable pieces there are at most n + n² + n³ lists
-/// of them; those that meet are tried, but for those that surely come behind `limit` known paths.
-/// The pieces are sorted once, and those that meet a list are found by binary searches. Each tried
-/// list that ends in `dst` is verified, in a time that grows with its hops, at most 64, and again
-/// when the best path of its walk is sought. That is done once for a walk, or twice if others push
-/// its path out of the first `limit`, as long as no more than 1,024 paths are found behind these.
-/// The memory is that of n pieces of 64 bytes, and of `limit` and up to 1,024 paths of some 2,300
-/// bytes each.
+/// their end, and a core segment gives two. Pieces that put the same hops into a walk are one group.
+/// With P pieces of h hops, which are at most 63, making and sorting pieces and groups takes about
+/// P (h + log P) steps. With g groups there are at most g + g² + g³ lists of groups; those that meet
+/// are tried, up, core and down in this order, but for those that surely come behind `limit` known
+/// paths. Each of them takes a look at the pieces of its groups; one whose best path may be among the
+/// first also h steps of the verifier and what the policy takes; and one that is allowed also h steps
+/// for each group that begins where a hop of its walk does and leaves it by the walk's way. Paths are
+/// made for the answer alone. The memory is that of P pieces of 80 bytes, g groups of 40, and `limit`
+/// paths of some 2,300 bytes each.
 ///
 /// [`AllocError`] if memory runs out.
 pub fn paths_between<'s, 'p, A: Allocator + Clone>(
@@ -103,19 +105,41 @@ pub fn paths_between<'s, 'p, A: Allocator + Clone>(
         dst,
         policy,
     };
-    answer(alloc, &ask, limit)
+    let pieces = usable_pieces_of(alloc, set, src, dst)?;
+    let groups = Groups::of(alloc, &pieces)?;
+    answer(alloc, &ask, &groups, limit)
 }
 
-/// The answer to a question.
-pub(crate) fn answer<'s, 'p, A: Allocator + Clone>(
+/// The answer to a question, of these groups.
+pub(crate) fn answer<'a, 's, 'p, A: Allocator + Clone>(
     alloc: Global,
     ask: &PathRequest<'s, 'p, A>,
+    groups: &Groups<'a, 's>,
     limit: usize,
 ) -> Result<Paths<'s, 'p, A>, AllocError>
+    requires search { MaySearch ask.now groups.now }
     ensures answer { IfOk result (IsAnswer ask.now limit) }
     ensures spelled { OnOk result (AreSpelled ask.now) }
 {
-    let usable_pieces = usable_pieces_of(alloc, ask)?;
-    let found = first_paths(alloc, ask, &usable_pieces, limit)?;
-    Ok(Paths { found })
+    let first = first_paths(alloc, &*ask, groups, limit)?;
+    Ok(Paths {
+        found: verified_paths(alloc, ask, &first)?,
+    })
+}
+
+/// The paths that were found, each of which may be sent.
+fn verified_paths<'s, 'p, A: Allocator + Clone>(
+    alloc: Global,
+    ask: &PathRequest<'s, 'p, A>,
+    found: &[Found<'_, 's>],
+) -> Result<Vec<VerifiedPath<'s, 'p, A>>, AllocError>
+    requires { All (IsCandidate ask.now) found.now }
+    ensures { IfOk result (λ paths. map (λ (path : Request). path_with path.pieces path.header)
+        paths.items ≡ found.now) }
+{
+    let mut paths = Vec::with_capacity(alloc, found.len())?;
+    for path in found {
+        paths.push(ask.verified(path))?;
+    }
+    Ok(paths)
 }

@@ -1,10 +1,13 @@
-ghost use Rattle.std.specs.Prelude.{◌≡◌, ◌+◌, ◌<◌, List, Some, slice_get, IfOk, IfSome};
+ghost use Rattle.std.specs.Prelude.{◌≡◌, ◌⊎◌, ◌<◌, [], length, None, Some, slice_get, IfOk, IfSome};
 ghost use Rattle.policy_expr.specs.Options.{WeighedRules};
-ghost use Rattle.combinator.specs.Answer.{AnswersWith};
-ghost use Rattle.combinator.specs.inner.Choice.{IsChosen};
+ghost use Rattle.combinator.specs.Answer.{AnswersWith, question_under};
+ghost use Rattle.combinator.specs.inner.Choice.{HaveNone, IsChoiceOf, LeavesPath, MayChoose};
 
 use crate::answer::{Paths, answer};
+use crate::groups::Groups;
+use crate::options::used_option;
 use crate::request::ChoiceRequest;
+use crate::usable_pieces::usable_pieces_of;
 use isd_as::IsdAs;
 use path_server::SegmentSet;
 use policy_expr::PolicyOption;
@@ -28,6 +31,18 @@ impl<'s, 'p, A: Allocator + Clone> Model for Choice<'s, 'p, A> {
 }
 
 impl<'s, 'p, A: Allocator + Clone> Choice<'s, 'p, A> {
+    /// The choice where no option leaves a path.
+    fn none(alloc: Global) -> Choice<'s, 'p, A>
+        ensures used { result.used ≡ None }
+        ensures paths { result.paths ≡ [] }
+    {
+        Choice {
+            option: None,
+            weight: 0,
+            paths: Paths::none(alloc),
+        }
+    }
+
     /// The place in the list of the option that is used, or `None` if no option leaves a path.
     pub fn option(&self) -> Option<usize>
         ensures { result ≡ self.now.used }
@@ -44,8 +59,12 @@ impl<'s, 'p, A: Allocator + Clone> Choice<'s, 'p, A> {
 }
 
 /// Chooses the option with the largest weight among those that leave a path, and of equal weights
-/// the first; returns it with its paths of [`crate::paths_between`]. An option is not tried if one
-/// of at least its weight was found to leave a path.
+/// the first; returns it with its paths of [`crate::paths_between`].
+///
+/// What it costs: where there are several options, one pass over the lists of usable pieces that
+/// meet finds the option. It asks the options about each walk, until the first of them is found to
+/// leave a path. Then one search finds the paths of that option, as that of
+/// [`crate::paths_between`].
 ///
 /// [`AllocError`] if memory runs out.
 pub fn paths_with<'s, 'p, A: Allocator + Clone>(
@@ -74,7 +93,6 @@ pub fn paths_with<'s, 'p, A: Allocator + Clone>(
 }
 
 /// The choice that answers a request.
-#[tactic(auto, using(crate::proofs::Choosing::chosen_of_all, crate::proofs::Choosing::has_weight))]
 fn choice_of<'s, 'p, A: Allocator + Clone>(
     alloc: Global,
     request: &ChoiceRequest<'s, 'p, A>,
@@ -86,40 +104,54 @@ fn choice_of<'s, 'p, A: Allocator + Clone>(
         IfSome (slice_get request.now.options.now used)
         (λ option. choice.weight ≡ option.weight))) }
 {
-    let mut choice = Choice {
-        option: None,
-        weight: 0,
-        paths: Paths::none(alloc),
-    };
-    let options = request.options;
-    for (place, option) in options.iter().enumerate() {
-        choice = choose(alloc, request, choice, place, option)?;
+    let pieces = usable_pieces_of(alloc, request.set, request.src, request.dst)?;
+    let groups = Groups::of(alloc, &pieces)?;
+    match option_to_try(&*request, &groups) {
+        Some(place) => choice_under(alloc, request, &groups, place),
+        None => Ok(Choice::none(alloc)),
     }
-    Ok(choice)
 }
 
-/// The choice after one more option.
-fn choose<'s, 'p, A: Allocator + Clone>(
+/// The place of the option that is used if it leaves a path. It leaves one if there are others.
+fn option_to_try<'g, 'a, 's, 'p, A: Allocator + Clone>(
+    request: &'g ChoiceRequest<'s, 'p, A>,
+    groups: &'g Groups<'a, 's>,
+) -> Option<usize>
+    requires { MayChoose request.now.set.now request.now.src request.now.dst groups.now }
+    ensures within { IfSome result (λ place. place < length request.entry.now.options.now) }
+    ensures leaves { let ask = request.entry.now in IfSome result (λ place.
+        (length ask.options.now ≡ 1)
+        ⊎ LeavesPath (question_under ask.set.now ask.src ask.dst) ask.options.now place) }
+    ensures none { let ask = request.entry.now in
+        HaveNone (question_under ask.set.now ask.src ask.dst) ask.options.now result }
+{
+    match request.options.len() {
+        0 => None,
+        1 => Some(0),
+        _ => used_option(request, groups),
+    }
+}
+
+/// The choice of the option at this place, if it leaves a path; else of none.
+fn choice_under<'a, 's, 'p, A: Allocator + Clone>(
     alloc: Global,
     request: &ChoiceRequest<'s, 'p, A>,
-    choice: Choice<'s, 'p, A>,
+    groups: &Groups<'a, 's>,
     place: usize,
-    option: &'p PolicyOption<A>,
 ) -> Result<Choice<'s, 'p, A>, AllocError>
-    requires { 0 < request.now.limit }
-    ensures { IfOk result (λ next. let last = choice.entry in let ask = request.now in
-        (options : List WeighedRules) → slice_get options place ≡ Some option.entry.now
-        → IsChosen ask.set.now ask.src ask.dst options ask.limit place last.used last.weight
-        last.paths
-        → IsChosen ask.set.now ask.src ask.dst options ask.limit (place + 1) next.used next.weight
-        next.paths) }
+    requires some { 0 < request.now.limit }
+    requires search { MayChoose request.now.set.now request.now.src request.now.dst groups.now }
+    requires within { place < length request.now.options.now }
+    ensures { let ask = request.now in IfOk result (λ choice. (option : WeighedRules)
+        → slice_get ask.options.now place ≡ Some option
+        → IsChoiceOf (question_under ask.set.now ask.src ask.dst option) ask.limit place
+        option.weight choice) }
 {
-    if choice.option.is_some() && option.weight <= choice.weight {
-        return Ok(choice);
-    }
-    let paths = answer(alloc, &request.under(option), request.limit)?;
+    let options = request.options;
+    let option = &options[place];
+    let paths = answer(alloc, &request.under(option), groups, request.limit)?;
     if paths.is_empty() {
-        return Ok(choice);
+        return Ok(Choice::none(alloc));
     }
     Ok(Choice {
         option: Some(place),

@@ -15,8 +15,8 @@ use std::alloc::{Allocator, Global};
 /// The result of [`paths_with`] as a list that owns its paths. If both ends are the same AS, it is
 /// [`CombineFault::SameAs`]. Memory can run out only if they are not.
 ///
-/// It takes the time of [`crate::paths_between`] for each option that is tried, and time and memory
-/// for the segments of the paths that are returned.
+/// It takes the time of [`paths_with`], and time and memory for the segments of the paths that are
+/// returned.
 pub fn combine<A: Allocator + Clone>(
     alloc: Global,
     set: &SegmentSet,

@@ -1,23 +1,28 @@
 //! The path combinator: it finds the paths between two ASes that known segments give. For each walk
 //! it answers the path that expires last, in a fixed order and up to a limit.
 //!
-//! It lists the usable pieces once, each with the ASes at its ends, and joins pieces that meet. The
-//! verifier decides about each list of pieces that ends in the destination. For each walk that may
-//! be among the first of the answer, its best path is sought once. Lists are passed over if their
-//! hop fields and info fields tell that they are not among the first.
+//! It lists the usable pieces once and divides them into groups of pieces that put the same hops
+//! into a walk. Of a list of groups that meet, one path is the best, and it is found place by place;
+//! only that one is looked at, and only if its hop fields and info fields don't tell that it is not
+//! among the first of the answer. The verifier's rules decide whether it may be sent. It is kept if
+//! no list of groups with the same walk gives a better one.
 #![tactic(auto)]
 
 mod answer;
+mod better;
 mod choice;
+mod chosen;
 mod combination;
 mod fault;
+mod found;
 mod front;
-mod kept;
+mod group;
+mod groups;
 pub mod laws;
 mod limit;
+mod options;
 mod ordered;
 mod path;
-mod ranked;
 mod request;
 mod search;
 mod usable_piece;

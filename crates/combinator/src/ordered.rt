@@ -1,22 +1,22 @@
 //! Keeps paths in the order of an answer, up to its limit.
 
-ghost use Rattle.std.specs.Prelude.{◌≡◌, ◌≤◌, length, All, IfOk, IfSome, IfNone, IsTrue, OnOk};
+ghost use Rattle.std.specs.Prelude.{◌≡◌, ◌≤◌, length, All, IfSome, IfNone, IsTrue, OnOk};
 ghost use Rattle.combinator.specs.Candidate.{Question, PathValue};
 ghost use Rattle.combinator.specs.Order.{path_cmp};
 ghost use Rattle.combinator.specs.Answer.{IsBest};
 ghost use Rattle.combinator.specs.inner.Placed.{Tied, InOrder, IsGap, Met};
 
-use crate::ranked::RankedPath;
-use std::alloc::{AllocError, Allocator};
+use crate::found::Found;
+use std::alloc::AllocError;
 use std::cmp::Ordering;
 
 /// Adds a path to those in order; at most `limit` are kept. A path that comes behind these, or is
-/// among them, is given back.
-pub(crate) fn take_in<'s, 'p, A: Allocator + Clone>(
-    ordered: &mut Vec<RankedPath<'s, 'p, A>>,
-    found: RankedPath<'s, 'p, A>,
+/// among them, is not added.
+pub(crate) fn take_in<'a, 's>(
+    ordered: &mut Vec<Found<'a, 's>>,
+    found: Found<'a, 's>,
     limit: usize,
-) -> Result<Option<RankedPath<'s, 'p, A>>, AllocError>
+) -> Result<(), AllocError>
     requires order { InOrder path_cmp ordered.old.items }
     requires few { length ordered.old.items ≤ limit }
     ensures order { OnOk result (InOrder path_cmp ordered.new.items) }
@@ -24,27 +24,22 @@ pub(crate) fn take_in<'s, 'p, A: Allocator + Clone>(
     ensures met { OnOk result (Met path_cmp limit ordered.new.items found.entry) }
     ensures others { OnOk result ((path : PathValue) → Met path_cmp limit ordered.old.items path
         → Met path_cmp limit ordered.new.items path) }
-    ensures back { IfOk result (λ back. IfSome back (λ path. path ≡ found.entry)) }
     ensures best { OnOk result ((question : Question) → All (IsBest question) ordered.old.items
         → IsBest question found.entry → All (IsBest question) ordered.new.items) }
 {
     let Some(place) = place_in(ordered, &found) else {
-        return Ok(Some(found));
+        return Ok(());
     };
     if place >= limit {
-        return Ok(Some(found));
+        return Ok(());
     }
     ordered.insert(place, found)?;
     ordered.truncate(limit);
-    Ok(None)
+    Ok(())
 }
 
 /// Whether a path is among those in order, or these are `limit` paths that come before it.
-pub(crate) fn is_met<'s, 'p, A: Allocator + Clone>(
-    ordered: &[RankedPath<'s, 'p, A>],
-    found: &RankedPath<'s, 'p, A>,
-    limit: usize,
-) -> bool
+pub(crate) fn is_met(ordered: &[Found<'_, '_>], found: &Found<'_, '_>, limit: usize) -> bool
     requires order { InOrder path_cmp ordered.now }
     requires few { length ordered.now ≤ limit }
     ensures { IsTrue result → Met path_cmp limit ordered.now found.now }
@@ -56,10 +51,7 @@ pub(crate) fn is_met<'s, 'p, A: Allocator + Clone>(
 }
 
 /// The place where a path belongs, or nothing if a path with the same header and walk is there.
-fn place_in<'s, 'p, A: Allocator + Clone>(
-    ordered: &[RankedPath<'s, 'p, A>],
-    found: &RankedPath<'s, 'p, A>,
-) -> Option<usize>
+fn place_in(ordered: &[Found<'_, '_>], found: &Found<'_, '_>) -> Option<usize>
     requires { InOrder path_cmp ordered.now }
     ensures tied { IfNone result (Tied path_cmp found.now ordered.now) }
     ensures within { IfSome result (λ place. place ≤ length ordered.now) }

@@ -1,11 +1,11 @@
-ghost use Rattle.std.specs.Prelude.{◌≡◌, ◌↔◌, ◌≤◌, [], length, option_map, slice_get, IfOk, IsOk, IsTrue};
+ghost use Rattle.std.specs.Prelude.{◌≡◌, ◌↔◌, ◌≤◌, [], length, map, option_map, slice_get, IfOk, IsOk, IsTrue};
 ghost use Rattle.path_verifier.specs.Walk.{walk_of};
+ghost use Rattle.path_verifier.specs.Accepted.{Request};
 ghost use Rattle.combinator.specs.Candidate.{MaySend, path_with};
 
 use crate::choice::Choice;
-use crate::ranked::RankedPath;
 use path_header::Header;
-use path_verifier::{OwnedPiece, Pieces, lend_all, to_owned_pieces};
+use path_verifier::{OwnedPiece, Pieces, VerifiedPath, lend_all, to_owned_pieces};
 use policy_expr::WalkHop;
 use std::alloc::{AllocError, Allocator, Global};
 use std::marker::Model;
@@ -122,7 +122,7 @@ impl PathList {
         ensures used { IfOk result (λ list. list.used ≡ choice.now.used) }
         ensures paths { IfOk result (λ list. list.paths ≡ choice.now.paths) }
     {
-        let paths = own_found(alloc, &choice.paths().found)?;
+        let paths = own_paths(alloc, &choice.paths().found)?;
         Ok(PathList::new(choice.option(), paths))
     }
 
@@ -175,28 +175,28 @@ impl PathList {
     }
 }
 
-/// Copies of the paths that were found, unless memory runs out.
-fn own_found<A: Allocator + Clone>(
+/// Copies of these paths, unless memory runs out.
+fn own_paths<A: Allocator + Clone>(
     alloc: Global,
-    found: &[RankedPath<'_, '_, A>],
+    paths: &[VerifiedPath<'_, '_, A>],
 ) -> Result<Vec<Path>, AllocError>
-    ensures { IfOk result (λ paths. paths.items ≡ found.now) }
+    ensures { IfOk result (λ own. own.items
+        ≡ map (λ (path : Request). path_with path.pieces path.header) paths.now) }
 {
-    let mut paths = Vec::with_capacity(alloc, found.len())?;
-    for one in found {
-        paths.push(own_path(alloc, one)?)?;
+    let mut own = Vec::with_capacity(alloc, paths.len())?;
+    for path in paths {
+        own.push(own_path(alloc, path)?)?;
     }
-    Ok(paths)
+    Ok(own)
 }
 
-/// A copy of a path that was found, unless memory runs out.
+/// A copy of a path, unless memory runs out.
 fn own_path<A: Allocator + Clone>(
     alloc: Global,
-    found: &RankedPath<'_, '_, A>,
+    path: &VerifiedPath<'_, '_, A>,
 ) -> Result<Path, AllocError>
-    ensures { IfOk result (λ own. own ≡ found.now) }
+    ensures { IfOk result (λ own. own ≡ path_with path.entry.now.pieces path.entry.now.header) }
 {
-    let path = found.path();
     path.known();
     Path::new(alloc, path.pieces(), path.header(), path.walk())
 }

@@ -1,9 +1,15 @@
-ghost use Rattle.std.specs.Prelude.{◌≡◌};
+ghost use Rattle.std.specs.Prelude.{◌≡◌, ◌↔◌, All, IsTrue};
+ghost use Rattle.path_verifier.specs.Walk.{walk_of};
+ghost use Rattle.path_verifier.specs.Accepted.{MakesPath};
 ghost use Rattle.combinator.specs.Answer.{question_under};
+ghost use Rattle.combinator.specs.Candidate.{IsCandidate, IsOf, path_with};
+ghost use Rattle.combinator.specs.inner.Choice.{Allows};
 
+use crate::found::Found;
 use isd_as::IsdAs;
 use path_server::SegmentSet;
-use policy_expr::{Policy, PolicyOption};
+use path_verifier::{VerifiedPath, Walk, accept};
+use policy_expr::{Policy, PolicyOption, WalkHop};
 use std::alloc::Allocator;
 use std::marker::Model;
 
@@ -25,6 +31,62 @@ impl<'s, 'p, A: Allocator + Clone> Model for PathRequest<'s, 'p, A> {
     ghost coded = { Prim.hlevel policy_codes };
 
     ghost view = { λ a. question_of a.set.now a.src a.dst a.policy.now };
+}
+
+impl<'s, 'p, A: Allocator + Clone> PathRequest<'s, 'p, A> {
+    /// Whether the pieces of a path are a path between the ends that is live at the set's second;
+    /// then makes a walk theirs.
+    pub(crate) fn makes_path(&self, walk: &mut Walk, found: &Found<'_, '_>) -> bool
+        ensures walk { IsTrue result → walk.new ≡ walk_of found.now.pieces }
+        ensures path { IsTrue result ↔ MakesPath found.now.pieces self.now.src self.now.dst
+            self.now.set.moment }
+    {
+        match walk.follow_path(&found.pieces(), self.src, self.dst, self.set.now()) {
+            Ok(()) => true,
+            Err(_) => false,
+        }
+    }
+
+    /// Whether a path of pieces of the set may be sent; then makes a walk its walk.
+    pub(crate) fn may_send(&self, walk: &mut Walk, found: &Found<'_, '_>) -> bool
+        requires own { All (IsOf self.now.set) found.now.pieces }
+        ensures walk { IsTrue result → walk.new ≡ walk_of found.now.pieces }
+        ensures candidate { IsTrue result ↔ IsCandidate self.now found.now }
+    {
+        found.known();
+        if !self.makes_path(walk, found) {
+            return false;
+        }
+        allows(self.policy, walk.as_slice())
+    }
+
+    /// The path that was found, if it may be sent.
+    pub(crate) fn verified(&self, found: &Found<'_, 's>) -> VerifiedPath<'s, 'p, A>
+        requires { IsCandidate self.now found.now }
+        ensures { path_with result.pieces result.header ≡ found.now }
+    {
+        match accept(
+            &found.pieces(),
+            self.src,
+            self.dst,
+            self.set.now(),
+            self.policy,
+        ) {
+            Ok(path) => path,
+            // It is a candidate, so the verifier accepts it.
+            Err(_) => unreachable!(),
+        }
+    }
+}
+
+/// Whether a policy allows a walk.
+pub(crate) fn allows<A: Allocator + Clone>(policy: &Policy<A>, walk: &[WalkHop]) -> bool
+    ensures { IsTrue result ↔ Allows policy.now walk.now }
+{
+    match policy.verdict(walk) {
+        Ok(()) => policy.matches(walk),
+        Err(_) => false,
+    }
 }
 
 /// A request for at most `limit` paths from one AS to another, of these segments and under one of

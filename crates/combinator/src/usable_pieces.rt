@@ -1,126 +1,68 @@
 //! The pieces that may occur in paths.
 
-ghost use Rattle.std.specs.Prelude.{◌≡◌, ◌<◌, ◌≤◌, ◌+◌, ℕ, Bool, true, false, length, filter, All, Contains, OnOk, IfOk};
-ghost use Rattle.std.specs.List.{AllWithin};
-ghost use Rattle.std.specs.List.Sorted.{IsPermutation, IsNonDecreasingBy};
+ghost use Rattle.std.specs.Prelude.{◌≡◌, ◌<◌, ◌+◌, ◌∷◌, [], ℕ, Bool, true, false, length, All, Contains, OnOk, IfOk};
+ghost use Rattle.std.specs.List.Sorted.{IsPermutation};
 ghost use Rattle.path_segment.specs.declared.kind.SegKind.TheVariants.{Intra, Core};
 ghost use Rattle.path_server.specs.Lookup.{Selection};
 ghost use Rattle.path_header.specs.Spelling.{HopFits};
-ghost use Rattle.path_verifier.specs.Piece.{PieceValue, kind_in, begins_in};
+ghost use Rattle.path_verifier.specs.Piece.{PieceValue, kind_in};
+ghost use Rattle.path_verifier.specs.Accepted.{AreLive};
 ghost use Rattle.path_verifier.specs.Header.{field_of};
-ghost use Rattle.combinator.specs.Candidate.{IsOf, segments_of};
-ghost use Rattle.combinator.specs.inner.UsablePieces.{piece_of, outer_of, IsCut, IsWhole, AreIn, begins_at};
-ghost use Rattle.combinator.specs.inner.Search.{HasFields};
+ghost use Rattle.policy_expr.specs.Policy.{Rules};
+ghost use Rattle.combinator.specs.Candidate.{IsOf, question_of, segments_of};
+ghost use Rattle.combinator.specs.inner.UsablePieces.{piece_of, outer_of, IsCut, IsWhole, AreIn};
+ghost use Rattle.combinator.specs.inner.Search.{HasFields, HaveAll};
 
-use crate::request::PathRequest;
-use crate::usable_piece::{UsablePiece, know_hops};
+use crate::usable_piece::{UsablePiece, know_all, know_hops};
 use isd_as::IsdAs;
 use path_segment::{SegKind, Segment};
-use std::alloc::{AllocError, Allocator, Global};
-use std::marker::Model;
+use path_server::SegmentSet;
+use std::alloc::{AllocError, Global};
 
-/// The usable pieces of a request, sorted by the ASes in which they begin.
-#[derive(Drop)]
-pub(crate) struct UsablePieces<'s> {
-    sorted: Vec<UsablePiece<'s>>,
-}
-
-impl<'s> Model for UsablePieces<'s> {
-    ghost use Rattle.std.specs.Prelude.{List};
-    ghost use Rattle.std.specs.List.Sorted.{IsNonDecreasingBy};
-    ghost use Rattle.path_verifier.specs.Piece.{PieceValue, begins_in};
-
-    ghost Value = { List PieceValue };
-
-    ghost view = { λ p. p.sorted.items };
-
-    ghost invariant = { λ p. IsNonDecreasingBy begins_in p.sorted.items };
-}
-
-impl<'s> UsablePieces<'s> {
-    /// The pieces that begin in this AS, in the order in which the search takes them.
-    pub(crate) fn pieces_from(&self, at: IsdAs) -> &[UsablePiece<'s>]
-        ensures { result.now ≡ filter (begins_at at) self.now }
-    {
-        part_from(&self.sorted, at)
-    }
-}
-
-/// The part of sorted pieces that begin in this AS.
-fn part_from<'a, 's>(pieces: &'a [UsablePiece<'s>], at: IsdAs) -> &'a [UsablePiece<'s>]
-    requires { IsNonDecreasingBy begins_in pieces.now }
-    ensures { result.now ≡ filter (begins_at at) pieces.now }
-{
-    let (_, rest) = pieces.split_at(count_below(pieces, at));
-    &rest[..count_to(rest, at)]
-}
-
-/// The number of pieces that begin in ASes below this one.
-fn count_below(pieces: &[UsablePiece<'_>], at: IsdAs) -> usize
-    requires { IsNonDecreasingBy begins_in pieces.now }
-    ensures within { result ≤ length pieces.now }
-    ensures below { AllWithin (λ piece. begins_in piece < at) pieces.now 0 result }
-    ensures rest { AllWithin (λ piece. at ≤ begins_in piece) pieces.now result
-        (length pieces.now) }
-{
-    pieces.partition_point(|piece| piece.begins().number() < at.number())
-}
-
-/// The number of pieces that begin in this AS or in ASes below it.
-fn count_to(pieces: &[UsablePiece<'_>], at: IsdAs) -> usize
-    requires { IsNonDecreasingBy begins_in pieces.now }
-    ensures within { result ≤ length pieces.now }
-    ensures below { AllWithin (λ piece. begins_in piece ≤ at) pieces.now 0 result }
-    ensures rest { AllWithin (λ piece. at < begins_in piece) pieces.now result
-        (length pieces.now) }
-{
-    pieces.partition_point(|piece| piece.begins().number() <= at.number())
-}
-
-/// The usable pieces of the set: pieces of up segments that begin in the source, pieces of down
-/// segments that end in the destination, and whole core segments in both directions.
-pub(crate) fn usable_pieces_of<'s, 'p, A: Allocator + Clone>(
+/// The usable pieces of a set of segments, of which paths from `src` to `dst` are made: pieces of up
+/// segments that begin in `src`, pieces of down segments that end in `dst`, and whole core segments
+/// in both directions. None has expired. Those that put the same hops into a walk stand side by side, but for pieces that happen
+/// to have the same number as they do.
+pub(crate) fn usable_pieces_of<'s>(
     alloc: Global,
-    ask: &PathRequest<'s, 'p, A>,
-) -> Result<UsablePieces<'s>, AllocError>
-    ensures own { IfOk result (λ usable_pieces. All (IsOf ask.now.set) usable_pieces) }
-    ensures ups { IfOk result (λ usable_pieces. (piece : PieceValue)
-        → IsCut ask.now.set.ups false ask.now.src piece → Contains usable_pieces piece) }
-    ensures cores { IfOk result (λ usable_pieces. (piece : PieceValue)
-        → IsWhole ask.now.set.cores piece → Contains usable_pieces piece) }
-    ensures downs { IfOk result (λ usable_pieces. (piece : PieceValue)
-        → IsCut ask.now.set.downs true ask.now.dst piece → Contains usable_pieces piece) }
-    ensures fields { IfOk result (λ usable_pieces. All HasFields usable_pieces) }
+    set: &'s SegmentSet,
+    src: IsdAs,
+    dst: IsdAs,
+) -> Result<Vec<UsablePiece<'s>>, AllocError>
+    ensures own { IfOk result (λ pieces. All (IsOf set.entry.now) pieces.items) }
+    ensures live { IfOk result
+        (λ pieces. All (λ piece. AreLive set.entry.now.moment (piece ∷ [])) pieces.items) }
+    // They serve each policy.
+    ensures whole { IfOk result (λ pieces. (rules : Rules)
+        → HaveAll (question_of set.entry.now src dst rules) pieces.items) }
+    ensures fields { IfOk result (λ pieces. All HasFields pieces.items) }
 {
-    let set = ask.set;
-    let mut usable_pieces = Vec::new(alloc);
-    add_cuts(&mut usable_pieces, set.downs(), true, ask.dst)?;
-    add_cuts(&mut usable_pieces, set.ups(), false, ask.src)?;
-    add_cores(&mut usable_pieces, set.cores())?;
-    know_all(&usable_pieces);
-    put_in_order(&mut usable_pieces);
-    Ok(UsablePieces {
-        sorted: usable_pieces,
-    })
+    let mut pieces = Vec::new(alloc);
+    add_cuts(&mut pieces, set.downs(), true, dst)?;
+    add_cuts(&mut pieces, set.ups(), false, src)?;
+    add_cores(&mut pieces, set.cores())?;
+    drop_expired(&mut pieces, set.now());
+    put_side_by_side(&mut pieces);
+    know_all(&pieces);
+    Ok(pieces)
 }
 
-/// Puts the pieces in the order in which the search takes them: by the ASes in which they begin,
-/// and of one AS those first with which paths are short. The search ends early if it meets the
-/// first paths early.
-fn put_in_order(usable_pieces: &mut Vec<UsablePiece<'_>>)
-    ensures same { IsPermutation usable_pieces.old.items usable_pieces.new.items }
-    ensures sorted { IsNonDecreasingBy begins_in usable_pieces.new.items }
+/// Drops the pieces of which a hop has expired at the second `now`.
+fn drop_expired(pieces: &mut Vec<UsablePiece<'_>>, now: u32)
+    ensures live { All (λ piece. AreLive now (piece ∷ [])) pieces.new.items }
+    ensures own { AreIn pieces.new.items pieces.old.items }
+    ensures kept { (piece : PieceValue) → Contains pieces.old.items piece
+        → AreLive now (piece ∷ []) → Contains pieces.new.items piece }
 {
-    usable_pieces.sort_unstable_by(|one, other| one.compare(other));
+    let half = 2 * u64::from(now);
+    pieces.retain(|piece| piece.lasts_to(half));
 }
 
-/// Tells the caller that the numbers of the fields of these pieces fit into their bits.
-fn know_all(usable_pieces: &[UsablePiece<'_>])
-    ensures { All HasFields usable_pieces.now }
+/// Puts pieces with the same hops side by side.
+fn put_side_by_side(pieces: &mut Vec<UsablePiece<'_>>)
+    ensures { IsPermutation pieces.old.items pieces.new.items }
 {
-    for piece in usable_pieces {
-        piece.known();
-    }
+    pieces.sort_unstable_by(|one, other| one.compare_hops(other));
 }
 
 /// Adds the pieces of these intra segments in a direction that have an AS at their outer end.
@@ -170,15 +112,16 @@ fn add_cuts_of<'s>(
     Ok(())
 }
 
-/// Adds the pieces of a segment in a direction that have an AS at their outer end, which is that of
-/// their last entry.
+/// Adds the pieces of an intra segment in a direction that have an AS at their outer end, which is
+/// that of their last entry.
 fn add_pieces_of<'s>(
     usable_pieces: &mut Vec<UsablePiece<'s>>,
     segment: &'s Segment,
     along: bool,
     outer: IsdAs,
 ) -> Result<(), AllocError>
-    requires { All (λ entry. HopFits (field_of entry)) segment.now.entries }
+    requires intra { segment.now.kind ≡ Intra }
+    requires fits { All (λ entry. HopFits (field_of entry)) segment.now.entries }
     ensures more { OnOk result (AreIn usable_pieces.old.items usable_pieces.new.items) }
     ensures own { OnOk result ((set : Selection)
         → Contains (segments_of set (kind_in segment.entry.now.kind along)) segment.entry.now
@@ -196,13 +139,14 @@ fn add_pieces_of<'s>(
     Ok(())
 }
 
-/// Adds the pieces of a segment in a direction that have their last entry at this place.
+/// Adds the pieces of an intra segment in a direction that have their last entry at this place.
 fn add_cuts_to<'s>(
     usable_pieces: &mut Vec<UsablePiece<'s>>,
     segment: &'s Segment,
     to: usize,
     along: bool,
 ) -> Result<(), AllocError>
+    requires intra { segment.now.kind ≡ Intra }
     requires within { to < length segment.now.entries }
     requires fits { All (λ entry. HopFits (field_of entry)) segment.now.entries }
     ensures more { OnOk result (AreIn usable_pieces.old.items usable_pieces.new.items) }

@@ -139,10 +139,9 @@ impl Daemon {
     /// speaks of the Boolean that says whether they come from the cache.
     ///
     /// What it costs: an answer from the cache costs a look-up of the segments and a copy of the
-    /// answer, at most 64 paths of 64 hops. Any other one also costs a search under each option that
-    /// is tried, which [`combinator::paths_between`] bounds: n usable pieces, at most 62 for each
-    /// segment to an end and two for each core segment, give at most n + n² + n³ lists, and each of
-    /// them is verified at most three times. Lists that surely come behind the answer are passed over.
+    /// answer, at most 64 paths of 64 hops. Any other one also costs a search, and with several
+    /// options a pass that finds the one that is used: what these take [`combinator::paths_between`]
+    /// and [`combinator::paths_with`] say.
     ///
     /// The first of these refusals is returned: [`AskFault::BadLimit`] if the limit is not 1 to 64;
     /// those of [`policy_expr::PolicyOption::parse_all`]; [`AskFault::SameAs`] if both ends are the

@@ -1,14 +1,12 @@
 -- How the paths of an answer are found (words of private functions' contracts).
-use Rattle.std.specs.Prelude.{◌≡◌, ◌≢◌, ℕ, ◌≤◌, zero, suc, List, [], ◌∷◌, ◌++◌, length, slice_get, All, Contains, Some}
+use Rattle.std.specs.Prelude.{◌≡◌, ◌≢◌, ℕ, ◌≤◌, zero, suc, List, [], ◌∷◌, ◌++◌, length, All, Contains}
 use Rattle.std.specs.List.{AllByRecursion, flat_map}
 use Rattle.std.specs.declared.cmp.Ordering.TheVariants.{Less}
 use Rattle.path_header.specs.Value.{HeaderValue}
 use Rattle.path_header.specs.Spelling.{info_spelling, InfoFits, HopFits}
-use Rattle.policy_expr.specs.declared.hop.WalkHop.{WalkHop}
 use Rattle.path_verifier.specs.Piece.{PieceValue, HasRange, begins_in, ends_in}
-use Rattle.path_verifier.specs.Walk.{hops_of}
 use Rattle.path_verifier.specs.Header.{field_of, header_of, info_of}
-use Rattle.combinator.specs.Candidate.{Question, PathValue, path_with, IsCandidate, IsOf, AreSpelled}
+use Rattle.combinator.specs.Candidate.{Question, PathValue, path_with, IsCandidate}
 use Rattle.combinator.specs.Order.{bytes_cmp, path_cmp, LastAsLong, HaveOneWalk}
 use Rattle.combinator.specs.Answer.{IsBest}
 use Rattle.combinator.specs.inner.Placed.{InOrder, Met}
@@ -40,13 +38,11 @@ abbrev pub StillMeet : (limit : ℕ) (old new : List PathValue) → Type 0
 StillMeet limit old new = (path : PathValue) → Met path_cmp limit old path
     → Met path_cmp limit new path
 
--- paths that are kept, each the best for its walk: the first ones in their order, at most `limit`,
--- and others that come behind these
-pub record AreKept (question : Question) (limit : ℕ) (first behind : List PathValue) : Type 0 where
-  pub order : InOrder path_cmp first
-  pub few : length first ≤ limit
-  pub best : All (IsBest question) first
-  pub others : All (λ path. IsBest question path × Met path_cmp limit first path) behind
+-- paths that are kept: in order, at most `limit`, and each the best for its walk
+pub record AreKept (question : Question) (limit : ℕ) (paths : List PathValue) : Type 0 where
+  pub order : InOrder path_cmp paths
+  pub few : length paths ≤ limit
+  pub best : All (IsBest question) paths
 
 -- no candidate of these pieces is better than this path of the same walk
 unfoldable pub IsNoBetter : Question → PathValue → List PieceValue → Type 0
@@ -54,23 +50,10 @@ IsNoBetter question path pieces = (header : HeaderValue)
     → IsCandidate question (path_with pieces header) → HaveOneWalk (path_with pieces header) path
     → IsNoWorse path (path_with pieces header)
 
--- the other path may stand in the place of the path: it is a candidate of the same walk, and no worse
-pub record MayReplace (question : Question) (path other : PathValue) : Type 0 where
-  pub candidate : IsCandidate question other
-  pub same : HaveOneWalk other path
-  pub no_worse : IsNoWorse other path
-
 -- the pieces of each candidate are usable pieces
 abbrev pub HaveAll : Question → List PieceValue → Type 0
 HaveAll question usable_pieces = (path : PathValue) → IsCandidate question path
     → All (Contains usable_pieces) path.pieces
-
--- what a search begins with: usable pieces of the request's segments, of which each candidate is
--- made, and candidates whose headers are spelled
-pub record MaySearch (question : Question) (usable_pieces : List PieceValue) : Type 0 where
-  pub own : All (IsOf question.set) usable_pieces
-  pub whole : HaveAll question usable_pieces
-  pub spelled : AreSpelled question
 
 -- the path comes before each path that begins with these pieces and has at least so many more
 unfoldable pub ComesBefore : PathValue → List PieceValue → ℕ → Type 0
@@ -88,20 +71,6 @@ AreBefore limit paths front further = (length paths ≡ limit)
 -- the bytes of the info fields of pieces
 abbrev pub infos_of : List PieceValue → List ℕ
 infos_of pieces = flat_map (λ piece. info_spelling (info_of piece)) pieces
-
--- the ways out of all hops but the last
-abbrev pub ways_out : List WalkHop → List ℕ
-ways_out [] = []
-ways_out (hop ∷ []) = []
-ways_out (hop ∷ next ∷ later) = hop.egress ∷ ways_out (next ∷ later)
-
--- the ways out of pieces, one after another
-abbrev pub ways_out_of : List PieceValue → List ℕ
-ways_out_of pieces = flat_map (λ piece. ways_out (hops_of piece)) pieces
-
--- the piece leaves the AS in which it begins by this interface
-unfoldable pub LeavesBy : PieceValue → ℕ → Type 0
-LeavesBy piece way = slice_get (ways_out (hops_of piece)) 0 ≡ Some way
 
 -- the numbers of the piece's fields fit into their bits, and its segment has at most 63 entries
 unfoldable pub HasFields : PieceValue → Type 0

@@ -1,9 +1,48 @@
-use Rattle.std.proofs.Common.{length, refl}
-use Rattle.std.proofs.lemmas.Option.{slice_get_read}
+use Rattle.std.proofs.Common.{◌≡◌, subst}
+use Rattle.std.specs.Prelude.{IfSome, slice_get}
+use Rattle.combinator.specs.Answer.{AnswersWith}
+use Rattle.combinator.specs.Choice.{ChosenValue}
+use Rattle.combinator.specs.inner.Over.{AreGroupsOf}
+use Rattle.combinator.proofs.Choosing.{IsChoiceAt, answers_none, answers_under, has_weight, may_choose, on_ok}
 use Rattle.combinator.proofs.choice.choice_of.Goals as goal
 
-pub loop-place-preserved : goal.loop-place-preserved
-loop-place-preserved g c =
-    c.in_ok-choice.ensures c.args.request.now.options.now
-    (slice_get_read c.args.request.now.options.now (length c.args.request.now.options.now) c.loop-place.place c.index-options-place.result refl c.loop-place-test.true c.index-options-place.is)
-    c.loop-place.invariant
+pub option_to_try-requires : goal.option_to_try-requires
+option_to_try-requires g c =
+    let ask = c.args.request.now in
+    let pieces = c.in_ok-pieces.ensures in
+    may_choose ask.set.now ask.src ask.dst c.in_ok-groups.groups c.in_ok-pieces.pieces.items pieces.own pieces.live pieces.whole pieces.fields
+    (subst (AreGroupsOf c.in_ok-groups.groups) c.deref.ensures.value c.in_ok-groups.ensures)
+
+pub choice_under-requires-clause-search : goal.choice_under-requires-clause-search
+choice_under-requires-clause-search g c =
+    let ask = c.args.request.now in
+    let pieces = c.in_ok-pieces.ensures in
+    may_choose ask.set.now ask.src ask.dst c.in_ok-groups.groups c.in_ok-pieces.pieces.items pieces.own pieces.live pieces.whole pieces.fields
+    (subst (AreGroupsOf c.in_ok-groups.groups) c.deref.ensures.value c.in_ok-groups.ensures)
+
+pub returns-in-Some-clause-answers : goal.returns-in-Some-clause-answers
+returns-in-Some-clause-answers g c =
+    let ask = c.args.request.now in
+    let options = ask.options.now in
+    on_ok (IsChoiceAt ask.set.now ask.src ask.dst options ask.limit c.in-Some.place)
+    (λ (choice : ChosenValue). AnswersWith ask.set.now ask.src ask.dst options ask.limit choice.used choice.paths)
+    c.choice_under.result
+    (λ choice is. answers_under ask.set.now ask.src ask.dst options ask.limit c.in-Some.place c.in-Some.ensures.within choice is
+    c.in-Some.ensures.leaves c.in-Some.ensures.none)
+    c.choice_under.ensures
+
+pub returns-in-Some-clause-weight : goal.returns-in-Some-clause-weight
+returns-in-Some-clause-weight g c =
+    let ask = c.args.request.now in
+    let options = ask.options.now in
+    on_ok (IsChoiceAt ask.set.now ask.src ask.dst options ask.limit c.in-Some.place)
+    (λ (choice : ChosenValue). IfSome choice.used (λ used. IfSome (slice_get options used) (λ option. choice.weight ≡ option.weight)))
+    c.choice_under.result
+    (λ choice is. has_weight ask.set.now ask.src ask.dst options ask.limit c.in-Some.place c.in-Some.ensures.within choice is)
+    c.choice_under.ensures
+
+pub returns-clause-answers : goal.returns-clause-answers
+returns-clause-answers g c =
+    let ask = c.args.request.now in
+    answers_none ask.set.now ask.src ask.dst ask.options.now ask.limit c.none.result.used c.none.result.paths
+    c.none.ensures.used c.none.ensures.paths c.in-None.ensures.none

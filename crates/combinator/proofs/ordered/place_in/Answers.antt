@@ -7,7 +7,7 @@ use Rattle.combinator.proofs.Searched.{less_upto, greater_from}
 use Rattle.combinator.proofs.ordered.place_in.Goals as goal
 
 pub loop-low-preserved-in-Less : goal.loop-low-preserved-in-Less
-loop-low-preserved-in-Less g c = record {
+loop-low-preserved-in-Less c = record {
   range = omega (arith, c.loop-low-test.true);
   within = c.loop-low.invariant.within;
   before = less_upto path_cmp path_total c.args.ordered.now c.args.found.now _ c.index-ordered-middle.result c.requires
@@ -17,7 +17,7 @@ loop-low-preserved-in-Less g c = record {
 }
 
 pub loop-low-preserved : goal.loop-low-preserved
-loop-low-preserved g c = record {
+loop-low-preserved c = record {
   range = omega (arith, c.loop-low-test.true);
   within = (let upto = c.loop-low.invariant.within in omega (arith, c.loop-low-test.true));
   before = c.loop-low.invariant.before;
@@ -27,7 +27,7 @@ loop-low-preserved g c = record {
 }
 
 pub returns-in-Equal-clause-tied : goal.returns-in-Equal-clause-tied
-returns-in-Equal-clause-tied g c =
+returns-in-Equal-clause-tied c =
     tied_at c.args.found.now c.args.ordered.now _ c.index-ordered-middle.result
     (let upto = c.loop-low.invariant.within in omega (arith, c.loop-low-test.true))
     (sym c.index-ordered-middle.is)

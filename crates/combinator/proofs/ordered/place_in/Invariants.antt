@@ -6,7 +6,7 @@ use Rattle.combinator.specs.Order.{path_cmp}
 use Rattle.combinator.proofs.ordered.place_in.Given as goal
 
 abbrev pub invariant-loop-low : goal.invariant-loop-low
-invariant-loop-low g l = record {
+invariant-loop-low l = record {
   range : l.low ≤ l.high;
   within : l.high ≤ length l.ordered;
   before : AllWithin (λ one. path_cmp one l.found ≡ Less) l.ordered 0 l.low;
@@ -14,4 +14,4 @@ invariant-loop-low g l = record {
 }
 
 abbrev pub decreases-loop-low : goal.decreases-loop-low
-decreases-loop-low g l = l.high - l.low
+decreases-loop-low l = l.high - l.low

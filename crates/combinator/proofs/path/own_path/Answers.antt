@@ -6,7 +6,7 @@ use Rattle.combinator.proofs.path.own_path.Goals as goal
 
 pub new-requires-clause-sent : goal.new-requires-clause-sent
 new-requires-clause-sent g c =
-    let request = c.path-path.result.now in
+    let request = c.args.path.now in
     let whole : MaySend (path_with request.pieces request.header) = record {
       src = request.src;
       dst = request.dst;

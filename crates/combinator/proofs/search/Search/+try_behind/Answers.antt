@@ -1,140 +1,205 @@
-use Rattle.std.proofs.Common.{◌∙◌, ◌-◌, ◌<◌, List, [], ◌∷◌, ◌++◌, refl, sym, subst, arith}
-use Rattle.path_verifier.specs.Piece.{PieceValue, ends_in}
-use Rattle.combinator.specs.Candidate.{IsOf, PathValue}
-use Rattle.combinator.specs.inner.Search.{AreBefore, IsMetBy, OfEachBehind, StillMeet}
-use Rattle.combinator.proofs.Before.{met_here, met_further}
-use Rattle.combinator.proofs.Collected.{at_end}
-use Rattle.combinator.proofs.Tried.{WasTried, none_tried, all_tried, tried_here, tried_more, one_more, own_more, part_own, ends_more, met_on}
+use Rattle.std.proofs.Common.{◌≡◌, ◌-◌, [], ◌∷◌, ◌++◌, List, length, true, false, refl, sym, ap, subst, eq-eqb, eqb-true, ◌∙◌, arith, length-append}
+use Rattle.path_verifier.specs.Piece.{ends_in, kind_of}
+use Rattle.path_verifier.specs.Accepted.{MayAdjoin}
+use Rattle.combinator.specs.Candidate.{Question, PathValue}
+use Rattle.combinator.specs.inner.Front.{groups_in}
+use Rattle.combinator.specs.inner.Group.{GroupValue, IsGroup}
+use Rattle.combinator.specs.inner.Over.{OfChoices, OfEachOver}
+use Rattle.combinator.specs.inner.Search.{AreBefore, IsMetBy}
+use Rattle.combinator.proofs.Over.{group_there}
+use Rattle.combinator.proofs.Passing.{choices_met_on, barred, met_behind_end, met_elsewhere, all_behind, longer_behind}
+use Rattle.combinator.proofs.Trying.{WasTriedOver, tried_more, none_tried, all_tried, of_part, for_more}
 use Rattle.combinator.proofs.search.Search.+try_behind.Goals as goal
+
+pub loop-group-preserved-then-not-may_go_on : goal.loop-group-preserved-then-not-may_go_on
+loop-group-preserved-then-not-may_go_on g t c =
+    let a = c.args in
+    let question = a.self.now.ask.now in
+    let groups = a.self.now.groups.now in
+    let kept = c.loop-group.state.kept.items in
+    let fact = OfChoices (IsMetBy question a.self.now.limit kept) in
+    let front = groups_in a.front.now in
+    let group = c.group-item.result in
+    let there = of_part groups c.groups_from-next_groups.result.now a.at c.loop-group.group-index group c.groups_from-next_groups.ensures
+    c.loop-group-test.true c.group-item.is in
+    let is = group_there IsGroup groups group c.requires.search.are.each there in
+    let bars = c.may_go_on.ensures c.if-not-may_go_on.true in record {
+      kept = c.loop-group.invariant.kept;
+      still = c.loop-group.invariant.still;
+      met = tried_more fact fact groups c.groups_from-next_groups.result.now (a.depth - 1) front a.at c.loop-group.group-index group
+          c.loop-group-test.true c.group-item.is (λ list fine. fine) c.loop-group.invariant.met
+          (barred question a.self.now.limit kept groups c.requires.search.are.each front group c.requires.front.are is bars.0 bars.1 bars.2
+          (λ may. bars.3 (subst (MayAdjoin (kind_of bars.1.head)) (sym c.kind.ensures) may)) (a.depth - 1) a.at);
+    }
+
+pub loop-group-preserved-then-is_behind : goal.loop-group-preserved-then-is_behind
+loop-group-preserved-then-is_behind g t c =
+    let a = c.args in
+    let question = a.self.now.ask.now in
+    let limit = a.self.now.limit in
+    let groups = a.self.now.groups.now in
+    let kept = c.loop-group.state.kept.items in
+    let fact = OfChoices (IsMetBy question limit kept) in
+    let front = groups_in a.front.now in
+    let group = c.group-item.result in
+    let there = of_part groups c.groups_from-next_groups.result.now a.at c.loop-group.group-index group c.groups_from-next_groups.ensures
+    c.loop-group-test.true c.group-item.is in
+    let is = group_there IsGroup groups group c.requires.search.are.each there in record {
+      kept = c.loop-group.invariant.kept;
+      still = c.loop-group.invariant.still;
+      met = tried_more fact fact groups c.groups_from-next_groups.result.now (a.depth - 1) front a.at c.loop-group.group-index group
+          c.loop-group-test.true c.group-item.is (λ list fine. fine) c.loop-group.invariant.met
+          (all_behind question limit kept groups c.requires.search.are.each front group c.requires.front.are is 0
+          (subst (λ (paths : List PathValue). OfChoices (λ pieces. AreBefore limit paths pieces 0) (front ++ group ∷ [])) c.deref.ensures.value
+          (c.is_behind.ensures c.if-is_behind.true)) refl (a.depth - 1) a.at);
+    }
 
 pub consider-requires-clause-front : goal.consider-requires-clause-front
 consider-requires-clause-front g t c =
     let a = c.args in
-    let is = c.pieces.ensures.value ∙ c.with_piece-longer.ensures in
-    own_more a.self.now.ask.now.set a.front.now c.pieces.result.now c.piece-item.result is c.requires.front
-    (subst (IsOf a.self.now.ask.now.set) (sym c.piece-item.is) (part_own (IsOf a.self.now.ask.now.set) a.self.now.usable_pieces.now c.pieces_from-next_pieces.result.now a.at c.pieces_from-next_pieces.ensures c.requires.search.own c.loop-piece.piece-index c.piece-item.result c.loop-piece-test.true))
+    let groups = a.self.now.groups.now in
+    let there = of_part groups c.groups_from-next_groups.result.now a.at c.loop-group.group-index c.group-item.result c.groups_from-next_groups.ensures
+    c.loop-group-test.true c.group-item.is in
+    for_more a.self.now.ask.now groups c.requires.search (groups_in a.front.now) (groups_in c.with-longer.result) c.group-item.result there
+    c.with-longer.ensures c.requires.front
 
-pub consider-requires-clause-end : goal.consider-requires-clause-end
-consider-requires-clause-end g t c =
+pub loop-group-preserved-then-eq : goal.loop-group-preserved-then-eq
+loop-group-preserved-then-eq g t c =
     let a = c.args in
-    let is = c.pieces.ensures.value ∙ c.with_piece-longer.ensures in
-    ends_more a.front.now c.pieces.result.now c.piece-item.result c.ends-end.result is c.ends-end.ensures
-
-pub loop-piece-preserved-then-is_behind : goal.loop-piece-preserved-then-is_behind
-loop-piece-preserved-then-is_behind g t c =
-    let a = c.args in
-    let before = c.loop-piece.kept.first.items in
-    let fact = IsMetBy a.self.now.ask.now a.self.now.limit before in
-    let front = a.front.now ++ c.piece-item.result ∷ [] in
-    let full =
-    subst (λ (paths : List PathValue). AreBefore a.self.now.limit paths front 0) c.deref.ensures.value (c.is_behind.ensures c.if-is_behind.true) in
-    let here : WasTried fact a.self.now.usable_pieces.now (a.depth - 1) a.front.now a.at c.piece-item.result =
-    λ begins. (met_here a.self.now.ask.now a.self.now.limit before front 0 full refl, met_further a.self.now.ask.now a.self.now.limit before front 0 full (omega arith) a.self.now.usable_pieces.now (a.depth - 1) (ends_in c.piece-item.result)) in record {
-      kept = c.loop-piece.invariant.kept;
-      still = c.loop-piece.invariant.still;
-      met = tried_more fact fact a.self.now.usable_pieces.now c.pieces_from-next_pieces.result.now
-          (a.depth - 1) a.front.now a.at c.loop-piece.piece-index c.piece-item.result c.loop-piece-test.true c.piece-item.is
-          (λ list fine. fine)
-          c.loop-piece.invariant.met here;
+    let question = a.self.now.ask.now in
+    let limit = a.self.now.limit in
+    let groups = a.self.now.groups.now in
+    let before = c.loop-group.state.kept.items in
+    let after = c.consider.new.state.kept.items in
+    let fact = OfChoices (IsMetBy question limit after) in
+    let front = groups_in a.front.now in
+    let group = c.group-item.result in
+    let there = of_part groups c.groups_from-next_groups.result.now a.at c.loop-group.group-index group c.groups_from-next_groups.ensures
+    c.loop-group-test.true c.group-item.is in
+    let is = group_there IsGroup groups group c.requires.search.are.each there in
+    let dst : c.ask.inside.dst ≡ question.dst = ap (λ (q : Question). q.dst) c.ask.view_is in
+    let ends : ends_in group.head ≡ question.dst =
+    sym c.ends-end.ensures ∙ eqb-true c.ends-end.result c.ask.inside.dst (sym c.eq.ensures ∙ c.if-eq.true) ∙ dst in
+    let here : WasTriedOver fact groups (a.depth - 1) front a.at group = λ begins. (
+      subst fact c.with-longer.ensures c.in_ok-consider.ensures.met,
+      met_behind_end question limit after groups c.requires.search.are.each front group c.requires.front.are is ends (a.depth - 1) (ends_in group.head),
+    ) in record {
+      kept = c.in_ok-consider.ensures.kept;
+      still = λ path met. c.in_ok-consider.ensures.still path (c.loop-group.invariant.still path met);
+      met = tried_more (OfChoices (IsMetBy question limit before)) fact groups c.groups_from-next_groups.result.now (a.depth - 1) front a.at
+          c.loop-group.group-index group c.loop-group-test.true c.group-item.is
+          (choices_met_on question limit before after c.in_ok-consider.ensures.still) c.loop-group.invariant.met here;
     }
 
-pub loop-piece-preserved-then-depth-eq1 : goal.loop-piece-preserved-then-depth-eq1
-loop-piece-preserved-then-depth-eq1 g t c =
+pub loop-group-preserved-then-depth-eq1 : goal.loop-group-preserved-then-depth-eq1
+loop-group-preserved-then-depth-eq1 g t c =
     let a = c.args in
-    let before = c.loop-piece.kept.first.items in
-    let after = c.consider.new.kept.first.items in
-    let fact = IsMetBy a.self.now.ask.now a.self.now.limit after in
-    let is = c.with_piece-longer.ensures in
-    let none =
-    none_tried fact a.self.now.usable_pieces.now (a.depth - 1) c.with_piece-longer.result (ends_in c.piece-item.result) (omega (arith, c.if-depth-eq1.true)) in
-    let here =
-    tried_here fact a.self.now.usable_pieces.now (a.depth - 1) a.front.now c.with_piece-longer.result c.piece-item.result (ends_in c.piece-item.result) a.at is refl (subst fact c.pieces.ensures.value c.in_ok-consider.ensures.met) none in record {
-      kept = c.in_ok-consider.ensures.kept;
-      still = λ path met. c.in_ok-consider.ensures.still path (c.loop-piece.invariant.still path met);
-      met = tried_more
-          (IsMetBy a.self.now.ask.now a.self.now.limit before) fact a.self.now.usable_pieces.now c.pieces_from-next_pieces.result.now
-          (a.depth - 1) a.front.now a.at c.loop-piece.piece-index c.piece-item.result
-          c.loop-piece-test.true c.piece-item.is
-          (met_on a.self.now.ask.now a.self.now.limit before after c.in_ok-consider.ensures.still) c.loop-piece.invariant.met here;
+    let question = a.self.now.ask.now in
+    let limit = a.self.now.limit in
+    let groups = a.self.now.groups.now in
+    let kept = c.loop-group.state.kept.items in
+    let fact = OfChoices (IsMetBy question limit kept) in
+    let front = groups_in a.front.now in
+    let group = c.group-item.result in
+    let there = of_part groups c.groups_from-next_groups.result.now a.at c.loop-group.group-index group c.groups_from-next_groups.ensures
+    c.loop-group-test.true c.group-item.is in
+    let is = group_there IsGroup groups group c.requires.search.are.each there in
+    let dst : c.ask.inside.dst ≡ question.dst = ap (λ (q : Question). q.dst) c.ask.view_is in
+    let apart : ¬ (ends_in group.head ≡ question.dst) = λ same. (
+    let clash : false ≡ true = sym c.if-eq.false ∙ c.eq.ensures ∙ eq-eqb c.ends-end.result c.ask.inside.dst (c.ends-end.ensures ∙ same ∙ sym dst) in
+    cc) in
+    let here : WasTriedOver fact groups (a.depth - 1) front a.at group = λ begins. (
+      met_elsewhere question limit kept groups c.requires.search.are.each front group c.requires.front.are is apart,
+      none_tried fact groups (a.depth - 1) (front ++ group ∷ []) (ends_in group.head) (let one = c.if-depth-eq1.true in omega (arith, one)),
+    ) in record {
+      kept = c.loop-group.invariant.kept;
+      still = c.loop-group.invariant.still;
+      met = tried_more fact fact groups c.groups_from-next_groups.result.now (a.depth - 1) front a.at c.loop-group.group-index group
+          c.loop-group-test.true c.group-item.is (λ list fine. fine) c.loop-group.invariant.met here;
     }
 
-pub loop-piece-preserved-then-is_behind-2 : goal.loop-piece-preserved-then-is_behind-2
-loop-piece-preserved-then-is_behind-2 g t c =
+pub loop-group-preserved-then-is_behind-2 : goal.loop-group-preserved-then-is_behind-2
+loop-group-preserved-then-is_behind-2 g t c =
     let a = c.args in
-    let before = c.loop-piece.kept.first.items in
-    let after = c.consider.new.kept.first.items in
-    let fact = IsMetBy a.self.now.ask.now a.self.now.limit after in
-    let front = a.front.now ++ c.piece-item.result ∷ [] in
-    let is = c.with_piece-longer.ensures in
-    let full =
-    subst (λ (paths : List PathValue). AreBefore a.self.now.limit paths front 1) c.deref-in-loop-piece.ensures.value (c.is_behind-in-loop-piece.ensures c.if-is_behind-2.true) in
-    let behind =
-    subst (λ (ps : List PieceValue). OfEachBehind fact a.self.now.usable_pieces.now (a.depth - 1) ps (ends_in c.piece-item.result))
-    (sym is)
-    (met_further a.self.now.ask.now a.self.now.limit after front 1 full (omega arith) a.self.now.usable_pieces.now (a.depth - 1) (ends_in c.piece-item.result)) in
-    let here =
-    tried_here fact a.self.now.usable_pieces.now (a.depth - 1) a.front.now c.with_piece-longer.result c.piece-item.result (ends_in c.piece-item.result) a.at is refl (subst fact c.pieces.ensures.value c.in_ok-consider.ensures.met) behind in record {
-      kept = c.in_ok-consider.ensures.kept;
-      still = λ path met. c.in_ok-consider.ensures.still path (c.loop-piece.invariant.still path met);
-      met = tried_more
-          (IsMetBy a.self.now.ask.now a.self.now.limit before) fact a.self.now.usable_pieces.now c.pieces_from-next_pieces.result.now
-          (a.depth - 1) a.front.now a.at c.loop-piece.piece-index c.piece-item.result
-          c.loop-piece-test.true c.piece-item.is
-          (met_on a.self.now.ask.now a.self.now.limit before after c.in_ok-consider.ensures.still) c.loop-piece.invariant.met here;
+    let question = a.self.now.ask.now in
+    let limit = a.self.now.limit in
+    let groups = a.self.now.groups.now in
+    let kept = c.loop-group.state.kept.items in
+    let fact = OfChoices (IsMetBy question limit kept) in
+    let front = groups_in a.front.now in
+    let group = c.group-item.result in
+    let there = of_part groups c.groups_from-next_groups.result.now a.at c.loop-group.group-index group c.groups_from-next_groups.ensures
+    c.loop-group-test.true c.group-item.is in
+    let is = group_there IsGroup groups group c.requires.search.are.each there in
+    let dst : c.ask.inside.dst ≡ question.dst = ap (λ (q : Question). q.dst) c.ask.view_is in
+    let apart : ¬ (ends_in group.head ≡ question.dst) = λ same. (
+    let clash : false ≡ true = sym c.if-eq.false ∙ c.eq.ensures ∙ eq-eqb c.ends-end.result c.ask.inside.dst (c.ends-end.ensures ∙ same ∙ sym dst) in
+    cc) in
+    let here : WasTriedOver fact groups (a.depth - 1) front a.at group = λ begins. (
+      met_elsewhere question limit kept groups c.requires.search.are.each front group c.requires.front.are is apart,
+      longer_behind question limit kept groups c.requires.search.are.each front group c.requires.front.are is 1
+          (subst (λ (paths : List PathValue). OfChoices (λ pieces. AreBefore limit paths pieces 1) (front ++ group ∷ [])) c.deref-in-loop-group.ensures.value
+          (c.is_behind-in-loop-group.ensures c.if-is_behind-2.true)) (omega arith) (a.depth - 1) (ends_in group.head),
+    ) in record {
+      kept = c.loop-group.invariant.kept;
+      still = c.loop-group.invariant.still;
+      met = tried_more fact fact groups c.groups_from-next_groups.result.now (a.depth - 1) front a.at c.loop-group.group-index group
+          c.loop-group-test.true c.group-item.is (λ list fine. fine) c.loop-group.invariant.met here;
     }
 
 pub try_behind-requires : goal.try_behind-requires
 try_behind-requires g t c κs within =
     let a = c.args in
-    let is = c.with_piece-longer.ensures in
+    let groups = a.self.now.groups.now in
+    let there = of_part groups c.groups_from-next_groups.result.now a.at c.loop-group.group-index c.group-item.result c.groups_from-next_groups.ensures
+    c.loop-group-test.true c.group-item.is in
+    let more = for_more a.self.now.ask.now groups c.requires.search (groups_in a.front.now) (groups_in c.with-longer.result) c.group-item.result there
+    c.with-longer.ensures c.requires.front in
+    let long = ap (λ (gs : List GroupValue). length gs) c.with-longer.ensures in
+    let both = length-append (groups_in a.front.now) (c.group-item.result ∷ []) in
     let some = c.requires.some in
     let few = c.requires.few in
-    let more : 1 < a.depth = omega (arith, some, c.if-depth-eq1.false) in
-    let long = one_more a.front.now c.with_piece-longer.result c.piece-item.result is in (
-      (let nearer = c.decreases in omega (arith, more, nearer)),
-      (
-        within,
-        (
-          c.requires.search,
-          (
-            c.in_ok-consider.ensures.kept,
-            (
-              own_more a.self.now.ask.now.set a.front.now c.with_piece-longer.result c.piece-item.result is c.requires.front
-                  (subst (IsOf a.self.now.ask.now.set) (sym c.piece-item.is) (part_own (IsOf a.self.now.ask.now.set) a.self.now.usable_pieces.now c.pieces_from-next_pieces.result.now a.at c.pieces_from-next_pieces.ensures c.requires.search.own c.loop-piece.piece-index c.piece-item.result c.loop-piece-test.true)),
-              (omega (arith, more), omega (arith, more, long, few)),
-            ),
-          ),
-        ),
-      ),
+    let apart = c.if-depth-eq1.false in
+    let nearer = c.decreases in (
+      omega (arith, nearer, some),
+      (within, (c.requires.search, (c.loop-group.invariant.kept, (more, (omega (arith, some, apart), omega (arith, long, both, few, some)))))),
     )
 
-pub loop-piece-preserved : goal.loop-piece-preserved
-loop-piece-preserved g t c =
+pub loop-group-preserved : goal.loop-group-preserved
+loop-group-preserved g t c =
     let a = c.args in
-    let before = c.loop-piece.kept.first.items in
-    let mid = c.consider.new.kept.first.items in
-    let after = c.try_behind.new.kept.first.items in
-    let fact = IsMetBy a.self.now.ask.now a.self.now.limit after in
-    let is = c.with_piece-longer.ensures in
-    let still : StillMeet a.self.now.limit before after = λ path met. c.in_ok-try_behind.ensures.still path (c.in_ok-consider.ensures.still path met) in
-    let here =
-    tried_here fact a.self.now.usable_pieces.now
-    (a.depth - 1) a.front.now c.with_piece-longer.result c.piece-item.result c.ends-end.result a.at is c.ends-end.ensures
-    (met_on a.self.now.ask.now a.self.now.limit mid after c.in_ok-try_behind.ensures.still c.with_piece-longer.result (subst (IsMetBy a.self.now.ask.now a.self.now.limit mid) c.pieces.ensures.value c.in_ok-consider.ensures.met)) c.in_ok-try_behind.ensures.met in record {
+    let question = a.self.now.ask.now in
+    let limit = a.self.now.limit in
+    let groups = a.self.now.groups.now in
+    let kept = c.loop-group.state.kept.items in
+    let fact = OfChoices (IsMetBy question limit kept) in
+    let front = groups_in a.front.now in
+    let group = c.group-item.result in
+    let there = of_part groups c.groups_from-next_groups.result.now a.at c.loop-group.group-index group c.groups_from-next_groups.ensures
+    c.loop-group-test.true c.group-item.is in
+    let is = group_there IsGroup groups group c.requires.search.are.each there in
+    let dst : c.ask.inside.dst ≡ question.dst = ap (λ (q : Question). q.dst) c.ask.view_is in
+    let apart : ¬ (ends_in group.head ≡ question.dst) = λ same. (
+    let clash : false ≡ true = sym c.if-eq.false ∙ c.eq.ensures ∙ eq-eqb c.ends-end.result c.ask.inside.dst (c.ends-end.ensures ∙ same ∙ sym dst) in
+    cc) in
+    let after = c.try_behind.new.state.kept.items in
+    let now = OfChoices (IsMetBy question limit after) in
+    let here : WasTriedOver now groups (a.depth - 1) front a.at group = λ begins. (
+      met_elsewhere question limit after groups c.requires.search.are.each front group c.requires.front.are is apart,
+      subst (λ (gs : List GroupValue). OfEachOver now groups (a.depth - 1) gs (ends_in group.head)) c.with-longer.ensures
+          (subst (OfEachOver now groups (a.depth - 1) (groups_in c.with-longer.result)) c.ends-end.ensures c.in_ok-try_behind.ensures.met),
+    ) in record {
       kept = c.in_ok-try_behind.ensures.kept;
-      still = λ path met. still path (c.loop-piece.invariant.still path met);
-      met = tried_more
-          (IsMetBy a.self.now.ask.now a.self.now.limit before) fact a.self.now.usable_pieces.now c.pieces_from-next_pieces.result.now
-          (a.depth - 1) a.front.now a.at c.loop-piece.piece-index c.piece-item.result
-          c.loop-piece-test.true c.piece-item.is
-          (met_on a.self.now.ask.now a.self.now.limit before after still) c.loop-piece.invariant.met here;
+      still = λ path met. c.in_ok-try_behind.ensures.still path (c.loop-group.invariant.still path met);
+      met = tried_more fact now groups c.groups_from-next_groups.result.now (a.depth - 1) front a.at c.loop-group.group-index group
+          c.loop-group-test.true c.group-item.is (choices_met_on question limit kept after c.in_ok-try_behind.ensures.still)
+          c.loop-group.invariant.met here;
     }
 
 pub returns-clause-met : goal.returns-clause-met
 returns-clause-met g t c =
     let a = c.args in
-    let fact = IsMetBy a.self.now.ask.now a.self.now.limit c.loop-piece.kept.first.items in
     let some = c.requires.some in
-    all_tried fact a.self.now.usable_pieces.now c.pieces_from-next_pieces.result.now a.depth
-    (a.depth - 1) a.front.now a.at (omega (arith, some)) c.pieces_from-next_pieces.ensures
-    (at_end (WasTried fact a.self.now.usable_pieces.now (a.depth - 1) a.front.now a.at) c.pieces_from-next_pieces.result.now c.loop-piece.piece-index c.loop-piece-test.false c.loop-piece.invariant.met)
+    all_tried (OfChoices (IsMetBy a.self.now.ask.now a.self.now.limit c.loop-group.state.kept.items)) a.self.now.groups.now c.groups_from-next_groups.result.now
+    a.depth (a.depth - 1) (groups_in a.front.now) a.at c.loop-group.group-index (omega (arith, some)) c.groups_from-next_groups.ensures
+    c.loop-group-test.false c.loop-group.invariant.met

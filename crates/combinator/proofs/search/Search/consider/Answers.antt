@@ -1,64 +1,96 @@
-use Rattle.std.proofs.Common.{◌≡◌, List, [], sym, ap, subst, ◌∙◌}
-use Rattle.path_verifier.specs.Piece.{PieceValue}
-use Rattle.path_verifier.specs.Walk.{walk_of}
-use Rattle.combinator.specs.Candidate.{Question, PathValue, IsCandidate}
+use Rattle.std.proofs.Common.{◌≡◌, [], ℕ, true, false, List, All, refl, sym, ap, subst, ◌∙◌, arith}
+use Rattle.combinator.specs.Candidate.{Question, PathValue, IsCandidate, IsOf}
 use Rattle.combinator.specs.Order.{path_cmp}
+use Rattle.combinator.specs.Answer.{IsBest}
+use Rattle.combinator.specs.inner.Front.{groups_in, pieces_in}
+use Rattle.combinator.specs.inner.Group.{GroupValue}
+use Rattle.combinator.specs.inner.Over.{MaySearch, OfChoices, OfEachOver}
 use Rattle.combinator.specs.inner.Placed.{Met}
-use Rattle.combinator.specs.inner.Search.{IsMetBy, IsNoBetter, OfEachBehind}
-use Rattle.combinator.proofs.Rivals.{found_best}
-use Rattle.combinator.proofs.Settled.{met_by_best, met_by_kept}
-use Rattle.combinator.proofs.Tried.{met_none, met_taken, path_is}
+use Rattle.combinator.specs.inner.Search.{IsNoBetter}
+use Rattle.combinator.proofs.Facts.{met_where_none, too_long}
+use Rattle.combinator.proofs.Over.{best_count, best_own, best_over, met_no_candidate, met_not_best, met_best}
 use Rattle.combinator.proofs.search.Search.consider.Goals as goal
 
-pub returns-in_default-clause-met : goal.returns-in_default-clause-met
-returns-in_default-clause-met g c =
-    met_none c.args.self.now.ask.now c.args.self.now.limit c.args.kept.now.first.items c.args.pieces.now c.in_default.ensures.none
+pub returns-then-hop_count-gt-MAX_HOPS-clause-met : goal.returns-then-hop_count-gt-MAX_HOPS-clause-met
+returns-then-hop_count-gt-MAX_HOPS-clause-met g c =
+    let groups = groups_in c.args.front.now in
+    let long = c.if-hop_count-gt-MAX_HOPS.true in
+    let count = c.hop_count.ensures.value in
+    met_where_none c.args.self.now.ask.now c.args.self.now.limit c.args.state.now.kept.items groups
+    (too_long c.args.self.now.ask.now groups c.requires.front.are (omega (arith, long, count)))
 
-pub returns-then-has_walk_of-clause-met : goal.returns-then-has_walk_of-clause-met
-returns-then-has_walk_of-clause-met g c =
-    let a = c.args in
-    let question = a.self.now.ask.now in
-    subst (IsMetBy question a.self.now.limit a.kept.now.first.items) c.in-Some.ensures.pieces
-    (met_by_kept question c.requires.search.spelled a.self.now.limit a.kept.now.first.items a.kept.now.behind.items c.in-Some.path.pieces c.requires.kept
-    (c.has_walk_of.ensures c.if-has_walk_of.true))
+pub of-found-requires : goal.of-found-requires
+of-found-requires g c =
+    let front = c.requires.front in
+    let few = c.if-hop_count-gt-MAX_HOPS.false in
+    let count = c.hop_count.ensures.value in
+    let same = best_count c.args.self.now.ask.now (groups_in c.args.front.now) front.are front.live front.own
+    (pieces_in c.best.result) c.best.ensures in
+    omega (arith, few, count, same)
 
 pub returns-then-is_met-clause-met : goal.returns-then-is_met-clause-met
 returns-then-is_met-clause-met g c =
-    let a = c.args in
-    let limit = a.self.now.limit in
-    let is =
-    path_is a.pieces.now c.in-Some.path.pieces c.in-Some.path.header c.in_ok-found.found c.in_ok-found.ensures.value c.in-Some.ensures.pieces c.in-Some.ensures.header in
-    met_taken a.self.now.ask.now limit a.kept.now.first.items a.pieces.now c.in_ok-found.found is
-    (subst (λ (paths : List PathValue). Met path_cmp limit paths c.in_ok-found.found) c.deref.ensures.value (c.is_met.ensures c.if-is_met.true))
+    let front = c.requires.front in
+    let limit = c.args.self.now.limit in
+    let kept = c.args.state.now.kept.items in
+    met_best c.args.self.now.ask.now (groups_in c.args.front.now) front.are front.live front.own
+    (pieces_in c.best.result) c.best.ensures limit kept c.requires.search.spelled
+    (subst (Met path_cmp limit kept) c.of-found.ensures
+    (subst (λ (paths : List PathValue). Met path_cmp limit paths c.of-found.result) c.deref.ensures.value (c.is_met.ensures c.if-is_met.true)))
 
-pub best_behind-requires-clause-candidate : goal.best_behind-requires-clause-candidate
-best_behind-requires-clause-candidate g c =
-    subst (IsCandidate c.args.self.now.ask.now) (sym c.in_ok-found.ensures.value) c.in-Some.ensures.candidate
+pub may_send-requires : goal.may_send-requires
+may_send-requires g c =
+    let front = c.requires.front in
+    let question = c.args.self.now.ask.now in
+    record {
+      own = subst (λ (path : PathValue). All (IsOf question.set) path.pieces) (sym c.of-found.ensures)
+          (best_own question (groups_in c.args.front.now) front.are front.live front.own (pieces_in c.best.result) c.best.ensures);
+    }
+
+pub returns-then-not-may_send-clause-met : goal.returns-then-not-may_send-clause-met
+returns-then-not-may_send-clause-met g c =
+    let front = c.requires.front in
+    let question = c.args.self.now.ask.now in
+    met_no_candidate question (groups_in c.args.front.now) front.are front.live front.own
+    (pieces_in c.best.result) c.best.ensures c.args.self.now.limit c.args.state.now.kept.items
+    (λ candidate. (
+    let yes = c.may_send.ensures.candidate.1 (subst (IsCandidate question) (sym c.of-found.ensures) candidate) in
+    let clash : true ≡ false = sym yes ∙ c.if-not-may_send.true in
+    cc))
+
+pub returns-then-has_better-clause-met : goal.returns-then-has_better-clause-met
+returns-then-has_better-clause-met g c =
+    let front = c.requires.front in
+    let question = c.args.self.now.ask.now in
+    met_not_best question (groups_in c.args.front.now) front.are front.live front.own
+    (pieces_in c.best.result) c.best.ensures c.args.self.now.limit c.args.state.now.kept.items
+    (subst (λ (path : PathValue). ¬ (IsBest question path)) c.of-found.ensures (c.has_better.ensures.better c.if-has_better.true))
+
+-- no list of groups is better, so the path found is the best for its walk
+found_is_best : (question : Question) (groups : List GroupValue) (search : MaySearch question groups) (found : PathValue)
+    (front : List GroupValue) (src : ℕ) → IsCandidate question found → front ≡ [] → src ≡ question.src
+    → OfEachOver (OfChoices (IsNoBetter question found)) groups 3 front src → IsBest question found
+found_is_best question groups search found front src candidate none is tried =
+    best_over question groups search.usable_pieces found search.are.each search.are.grouped search.whole candidate
+    (subst (OfEachOver (OfChoices (IsNoBetter question found)) groups 3 []) is
+    (subst (λ (gs : List GroupValue). OfEachOver (OfChoices (IsNoBetter question found)) groups 3 gs src) none tried))
 
 pub returns-clause-kept : goal.returns-clause-kept
 returns-clause-kept g c =
-    let a = c.args in
-    let question = a.self.now.ask.now in
-    let fact = IsNoBetter question c.in_ok-best.best in
-    let all = a.self.now.usable_pieces.now in
+    let question = c.args.self.now.ask.now in
     let src : c.ask.inside.src ≡ question.src = ap (λ (q : Question). q.src) c.ask.view_is in
-    let tried : OfEachBehind fact all 3 [] question.src =
-    subst (OfEachBehind fact all 3 []) src (subst (λ (ps : List PieceValue). OfEachBehind fact all 3 ps c.ask.inside.src) c.new-2.ensures c.in_ok-best.ensures.none) in
-    c.in_ok-keep.ensures.kept question c.requires.kept
-    (found_best question all c.in_ok-best.best c.requires.search.whole c.in_ok-best.ensures.better.candidate tried)
+    let best = found_is_best question c.args.self.now.groups.now c.requires.search c.of-found.result [] c.ask.inside.src
+    (c.may_send.ensures.candidate.0 c.if-not-may_send.false) refl src (c.has_better.ensures.none c.if-has_better.false) in
+    record {
+      order = c.in_ok-take_in.ensures.order;
+      few = c.in_ok-take_in.ensures.few;
+      best = c.in_ok-take_in.ensures.best question c.requires.kept.best best;
+    }
 
 pub returns-clause-met : goal.returns-clause-met
 returns-clause-met g c =
-    let a = c.args in
-    let question = a.self.now.ask.now in
-    let fact = IsNoBetter question c.in_ok-best.best in
-    let all = a.self.now.usable_pieces.now in
-    let src : c.ask.inside.src ≡ question.src = ap (λ (q : Question). q.src) c.ask.view_is in
-    let tried : OfEachBehind fact all 3 [] question.src =
-    subst (OfEachBehind fact all 3 []) src (subst (λ (ps : List PieceValue). OfEachBehind fact all 3 ps c.ask.inside.src) c.new-2.ensures c.in_ok-best.ensures.none) in
-    let best = found_best question all c.in_ok-best.best c.requires.search.whole c.in_ok-best.ensures.better.candidate tried in
-    let pieces : c.in_ok-found.found.pieces ≡ a.pieces.now =
-    ap (λ (path : PathValue). path.pieces) c.in_ok-found.ensures.value ∙ c.in-Some.ensures.pieces in
-    let walk : walk_of a.pieces.now ≡ walk_of c.in_ok-best.best.pieces =
-    sym (c.in_ok-best.ensures.better.same ∙ ap walk_of pieces) in
-    met_by_best question c.requires.search.spelled a.self.now.limit c.keep.new.self.first.items c.in_ok-best.best a.pieces.now best c.in_ok-keep.ensures.met walk
+    let front = c.requires.front in
+    let limit = c.args.self.now.limit in
+    met_best c.args.self.now.ask.now (groups_in c.args.front.now) front.are front.live front.own
+    (pieces_in c.best.result) c.best.ensures limit c.take_in.new.ordered.items c.requires.search.spelled
+    (subst (Met path_cmp limit c.take_in.new.ordered.items) c.of-found.ensures c.in_ok-take_in.ensures.met)

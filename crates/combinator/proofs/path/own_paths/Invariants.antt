@@ -1,0 +1,8 @@
+-- The copies so far are those of the front.
+use Rattle.std.proofs.Common.{◌≡◌, map, take}
+use Rattle.path_verifier.specs.Accepted.{Request}
+use Rattle.combinator.specs.Candidate.{path_with}
+use Rattle.combinator.proofs.path.own_paths.Given as goal
+
+abbrev pub invariant-loop-path : goal.invariant-loop-path
+invariant-loop-path g l = l.own.items ≡ map (λ (path : Request). path_with path.pieces path.header) (take l.path-index l.paths)
