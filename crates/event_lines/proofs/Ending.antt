@@ -3,8 +3,7 @@ use Rattle.std.proofs.Common.{arith, rules, ◌≡◌, ℕ, ◌+◌, ◌-◌, �
 use Rattle.std.proofs.lemmas.List.{drop_more, take-append-drop, get_or-take, take_all, length-drop, length-take, get_or_default}
 use Rattle.std.proofs.lemmas.List.Folds.{list_any_none}
 use Rattle.memchr.specs.Find.{NoneBefore, Nowhere, Passes, is_byte}
-use Rattle.event_lines.specs.Run.{has_line_end, line_end}
-use Rattle.event_lines.specs.inner.Session.{IsLineCut}
+use Rattle.event_lines.specs.Run.{IsLineCut, has_line_end, line_end}
 
 -- a test that does not pass fails
 fails : (b : Bool) → ¬ (b ≡ true) → b ≡ false

@@ -3,11 +3,11 @@ use Rattle.std.proofs.Common.{arith, ◌≡◌, ℕ, ◌<◌, length, List, [], 
 use Rattle.event_lines.specs.declared.fault.RunFault.{RunFault}
 use Rattle.event_lines.specs.declared.fault.RunFault.TheVariants as faults
 use Rattle.event_lines.specs.declared.accepted.AcceptedLines.{AcceptedLines}
-use Rattle.event_lines.specs.Run.{AreLines, ended_lines, has_line_end, line_end}
-use Rattle.event_lines.specs.inner.Replies.{RepliesTo}
+use Rattle.event_lines.specs.Run.{AreLines, IsLineCut, ended_lines, has_line_end, line_end}
+use Rattle.event_lines.specs.Replies.{RepliesTo}
 use Rattle.event_lines.specs.Answers.{Stage, Closed, GoesOn}
 use Rattle.std.proofs.lemmas.List.{length-append}
-use Rattle.event_lines.specs.inner.Session.{AnswersLines, AnswersBytes, HasMore, IsLineCut, SessionValue, RepliesOrFails}
+use Rattle.event_lines.specs.inner.Session.{AnswersLines, AnswersBytes, HasMore, SessionValue, RepliesOrFails}
 use Rattle.event_lines.proofs.Lines.{closed, cut_of, ended_more, grown, joined, none_read}
 use Rattle.event_lines.proofs.Telling.{told_append, told_one}
 
@@ -45,7 +45,7 @@ hears_more accepted {lines} {old} stage next replies after line text accepts say
 }
 
 -- a line and its end behind lines
-line_read : {read rest : List ℕ} {lines : List (List ℕ)} (line : List ℕ) → AreLines read lines rest
+pub line_read : {read rest : List ℕ} {lines : List (List ℕ)} (line : List ℕ) → AreLines read lines rest
     → has_line_end line ≡ false
     → AreLines (read ++ (line ++ line_end ∷ [])) (lines ++ (rest ++ line) ∷ []) []
 line_read {read} {rest} {lines} line are one =
@@ -53,7 +53,7 @@ line_read {read} {rest} {lines} line are one =
     (closed (grown line are one))
 
 -- the front with one line more
-front_more : (front line behind : List ℕ)
+pub front_more : (front line behind : List ℕ)
     → front ++ (line ++ line_end ∷ behind) ≡ (front ++ (line ++ line_end ∷ [])) ++ behind
 front_more front line behind =
     ap (λ l. front ++ l) (sym (append_assoc line (line_end ∷ []) behind)) ∙ sym
@@ -82,7 +82,7 @@ pub record Later (bytes left : List ℕ) (old : SessionValue) (lines : List (Lis
   pub more : 0 < length left → HasMore later rest
 
 -- bytes are lines, or a beginning of one
-has_more : (bytes : List ℕ) (lines : List (List ℕ)) (rest : List ℕ) → AreLines bytes lines rest
+pub has_more : (bytes : List ℕ) (lines : List (List ℕ)) (rest : List ℕ) → AreLines bytes lines rest
     → 0 < length bytes → HasMore lines rest
 has_more bytes [] [] are some = absurd (omega (arith, some, ap (λ l. length l) are.whole))
 has_more bytes [] (b ∷ rest) are some = tt

@@ -13,7 +13,7 @@ use Rattle.network_core.proofs.Runs.{is_run}
 use Rattle.event_lines.specs.declared.accepted.AcceptedLines.{AcceptedLines}
 use Rattle.event_lines.specs.AcceptedLines.{accepted_as}
 use Rattle.event_lines.specs.Line.{LineValue, Happens, Shows, line_in}
-use Rattle.event_lines.specs.inner.Replies.{Replies, Opens, RepliesToAll}
+use Rattle.event_lines.specs.Replies.{Replies, Opens, RepliesToAll}
 use Rattle.event_lines.specs.Answers.{event_of, events_of, IsAnswered, AreAnswered, AreRun, Stage, Unbegun, Open, Closed, Begins, RepliesToInput}
 
 -- ---- histories one after the other

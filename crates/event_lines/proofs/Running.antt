@@ -9,7 +9,7 @@ use Rattle.event_lines.specs.declared.accepted.AcceptedLines.{AcceptedLines}
 use Rattle.streams.specs.Streams.{most_input}
 use Rattle.event_lines.specs.Run.{AreAll, AreFirst, AreLines, Ends, HaveNext, Listens, Wrote, WroteSome, all_lines, ended_lines, most_read}
 use Rattle.network_core.specs.Value.{NetValue}
-use Rattle.event_lines.specs.inner.Replies.{RepliesTo, RepliesToAll}
+use Rattle.event_lines.specs.Replies.{RepliesTo, RepliesToAll}
 use Rattle.event_lines.specs.Answers.{Stage, Unbegun, Open, Closed, GoesOn, RepliesToInput}
 use Rattle.event_lines.specs.inner.Session.{Exchanges, Finishes, HasMore, Hears, Passes, PassesSome, SessionValue, last_after, last_lines}
 use Rattle.event_lines.proofs.Lines.{ended_append, joined, none_read}
@@ -105,7 +105,7 @@ written_on accepted {before} {after} {held} {holds} with {session} {count} lines
 )
 
 -- a list and a front of another
-take_behind : (xs ys : List ℕ) (n : ℕ) → xs ++ take n ys ≡ take (length xs + n) (xs ++ ys)
+pub take_behind : (xs ys : List ℕ) (n : ℕ) → xs ++ take n ys ≡ take (length xs + n) (xs ++ ys)
 take_behind [] ys n = ap (λ k. take k ys) (omega arith)
 take_behind (x ∷ xs) ys n =
     let next : suc (length xs + n) ≡ length (x ∷ xs) + n = omega arith in
@@ -155,7 +155,7 @@ first_of accepted {session} far =
     ([], session.rest, subst (λ ls. AreLines far.read ls session.rest) (sym (append-nil far.lines)) far.are)
 
 -- a line follows these
-next_of : (lines later : List (List ℕ)) (rest : List ℕ) → HasMore later rest
+pub next_of : (lines later : List (List ℕ)) (rest : List ℕ) → HasMore later rest
     → (next : List ℕ) × (after : List (List ℕ)) × (all_lines (lines ++ later) rest ≡ lines ++ next ∷ after)
 next_of lines [] [] more = absurd more
 next_of [] (line ∷ later) [] more = (line, later, refl)
@@ -201,7 +201,7 @@ last_begun (Open net) line (b ∷ rest) lines begun = refl
 last_begun Closed line [] lines begun = append-nil (line ∷ lines)
 last_begun Closed line (b ∷ rest) lines begun = refl
 
-all_told : (accepted : AcceptedLines) (lines texts : List (List ℕ)) (stage : Stage) (rest : List ℕ)
+pub all_told : (accepted : AcceptedLines) (lines texts : List (List ℕ)) (stage : Stage) (rest : List ℕ)
     → RepliesToAll accepted Unbegun lines texts stage
     → lines ++ last_after stage rest ≡ all_lines lines rest
 all_told accepted [] texts stage rest told = ap (λ s. last_after s rest) told.1

@@ -8,7 +8,7 @@ use Rattle.network_core.specs.Delivery.{IsFramed}
 use Rattle.event_lines.specs.Line.{Happens}
 use Rattle.event_lines.specs.Text.{reply_text}
 use Rattle.event_lines.specs.declared.accepted.AcceptedLines.{AcceptedLines}
-use Rattle.event_lines.specs.inner.Replies.{Replies, RepliesTo, RepliesToAll}
+use Rattle.event_lines.specs.Replies.{Replies, RepliesTo, RepliesToAll}
 use Rattle.event_lines.specs.Answers.{Stage}
 
 -- the reply to an event, written behind no bytes, answers the line

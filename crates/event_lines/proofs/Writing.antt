@@ -10,9 +10,9 @@ use Rattle.event_lines.specs.declared.fault.RunFault.{RunFault}
 use Rattle.event_lines.specs.declared.fault.RunFault.TheVariants as faults
 use Rattle.event_lines.specs.declared.accepted.AcceptedLines.{AcceptedLines}
 use Rattle.event_lines.specs.Run.{AreLines, ended_lines, line_end}
-use Rattle.event_lines.specs.inner.Replies.{Opens, RepliesTo}
+use Rattle.event_lines.specs.Replies.{Opens, RepliesTo, stage_of}
 use Rattle.event_lines.specs.Answers.{Stage, Unbegun, Open, Closed, GoesOn}
-use Rattle.event_lines.specs.inner.Session.{Exchanges, Finishes, AnswersLines, AnswersBytes, IsRunDone, Passes, PassesSome, SessionValue, RepliesOrFails, WritesRest, last_lines, stage_of}
+use Rattle.event_lines.specs.inner.Session.{Exchanges, Finishes, AnswersLines, AnswersBytes, IsRunDone, Passes, PassesSome, SessionValue, RepliesOrFails, WritesRest, last_lines}
 use Rattle.event_lines.proofs.Telling.{told_one}
 
 -- a beginning of the replies to these lines was written

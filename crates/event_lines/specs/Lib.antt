@@ -2,5 +2,6 @@ pub mod Line
 pub mod AcceptedLines
 pub mod Text
 pub mod Answers
+pub mod Replies
 pub mod Run
 pub mod inner

@@ -1,7 +1,7 @@
 -- A run over streams: the lines that were read, and the replies that were written.
-use Rattle.std.specs.Prelude.{◌≡◌, ◌⊎◌, ℕ, ◌+◌, ◌≤◌, Bool, true, false, List, [], ◌∷◌, ◌++◌, length, take, flat_map, ◌==◌, Option, Result, Ok, Err}
+use Rattle.std.specs.Prelude.{◌≡◌, ◌⊎◌, ℕ, ◌+◌, ◌≤◌, Bool, true, false, List, [], ◌∷◌, ◌++◌, length, take, flat_map, ◌==◌, Option, Some, None, Result, Ok, Err}
 use Rattle.std.specs.List.{list_any}
-use Rattle.std.specs.Io.KnownBytes.{Appends, Consumes, IsAtEnd}
+use Rattle.std.specs.Io.KnownBytes.{Appends, Consumes, IsAtEnd, Keeps}
 use Rattle.streams.specs.Streams.{most_input}
 use Rattle.event_lines.specs.declared.fault.RunFault.{RunFault}
 use Rattle.event_lines.specs.declared.fault.RunFault.TheVariants as faults
@@ -30,6 +30,11 @@ pub record AreLines (bytes : List ℕ) (lines : List (List ℕ)) (rest : List �
   pub apart : list_any has_line_end lines ≡ false
   pub last : has_line_end rest ≡ false
 
+-- the bytes are a line with its end, and the rest after it
+pub record IsLineCut (bytes line rest : List ℕ) : Type 0 where
+  pub whole : bytes ≡ line ++ line_end ∷ rest
+  pub one : has_line_end line ≡ false
+
 -- the lines of an input, the last of which may lack its end; an input without bytes is one empty
 -- line
 abbrev pub all_lines : List (List ℕ) → List ℕ → List (List ℕ)
@@ -57,6 +62,14 @@ AreAll at_end read lines = (whole : List (List ℕ)) × (rest : List ℕ)
 -- these lines were read and answered
 abbrev pub AreHeard : Type 0 → List ℕ → List (List ℕ) → Type 0
 AreHeard at_end read lines = AreFirst read lines ⊎ AreAll at_end read lines
+
+-- ---- reading
+
+-- the source gave these bytes, and no bytes only at its end; or its read failed
+abbrev pub Brings : (brought before after : Option (List ℕ)) (most : ℕ) → Type 0
+Brings None before after most = Keeps before after
+Brings (Some bytes) before after most =
+    Consumes before after bytes × ((bytes ≡ [] → IsAtEnd after) × (length bytes ≤ most))
 
 -- ---- how a run ended
 
@@ -101,7 +114,7 @@ Ends accepted (Err faults.Write) at_end read went = (lines : List (List ℕ))
 
 -- the largest number of bytes that are read: one more than an input may have, if the input is too
 -- long
-abbrev pub most_read : Result NetValue RunFault → ℕ
+abbrev pub most_read : {A : Type 0} → Result A RunFault → ℕ
 most_read (Err faults.InputTooLong) = most_input + 1
 most_read result = most_input
 

@@ -1,4 +1,3 @@
 -- Words of private functions' contracts alone: no clause of a public call cites one.
-pub mod Replies
 pub mod Seen
 pub mod Session

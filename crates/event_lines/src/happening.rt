@@ -11,7 +11,7 @@ ghost use Rattle.network_core.specs.Event as events;
 ghost use Rattle.event_lines.specs.AcceptedLines.{accepted_as};
 ghost use Rattle.event_lines.specs.Line.{Happens, ask_in, back_in, line_in, line_with_word, plain_event, rotate_in, said_by, send_in, show_in};
 ghost use Rattle.event_lines.specs.inner.Seen.{line_value};
-ghost use Rattle.event_lines.specs.inner.Replies.{Replies};
+ghost use Rattle.event_lines.specs.Replies.{Replies};
 
 use crate::accepted::AcceptedLines;
 use crate::fields::{read_bytes, read_options};

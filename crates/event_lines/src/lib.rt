@@ -2,7 +2,7 @@
 //!
 //! The first line is a topology. Each line after it is an event of the network, or shows a packet.
 //! [`listen`] accepts all lines, or only those that prepare a network, and returns the network
-//! after them.
+//! after them. A [`LineRun`] answers lines that come one by one.
 #![tactic(auto)]
 
 mod accepted;
@@ -10,12 +10,16 @@ mod cutting;
 mod fault;
 pub mod fields;
 mod happening;
+pub mod input;
 mod line;
+mod line_run;
 mod run;
 mod session;
 mod text;
 
 pub use accepted::AcceptedLines;
+pub use cutting::cut_line;
 pub use fault::RunFault;
+pub use line_run::LineRun;
 pub use run::{listen, run_lines};
 pub use text::{hops_text, kinds_text};

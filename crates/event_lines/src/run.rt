@@ -1,43 +1,18 @@
 //! A run of lines over streams.
 
-ghost use Rattle.std.specs.Prelude.{◌≡◌, ◌+◌, ◌<◌, ◌≤◌, ◌||◌, [], false, is_none, length, option_map};
+ghost use Rattle.std.specs.Prelude.{◌≡◌, ◌||◌, [], false};
 ghost use Rattle.std.specs.String.{string_bytes};
-ghost use Rattle.streams.specs.Streams.{most_input};
+ghost use Rattle.event_lines.specs.Replies.{stage_behind};
 ghost use Rattle.event_lines.specs.Run.{Listens, Runs, has_line_end, is_read_fault, is_write_fault};
-ghost use Rattle.event_lines.specs.inner.Session.{Brings, Exchanges, Finishes, Hears, WritesRest, stage_of, session_value, unbegun_session};
+ghost use Rattle.event_lines.specs.inner.Session.{Exchanges, Finishes, Hears, WritesRest, session_value, unbegun_session};
 
 use crate::accepted::AcceptedLines;
 use crate::fault::RunFault;
+use crate::input::{read_into, wanted_after};
 use crate::session::Session;
 use network_core::Net;
 use std::alloc::Global;
 use streams::{MAX_INPUT_LEN, MAX_READ_LEN, Sink, Source, write_all};
-
-/// The number of bytes to read next after `count` bytes. At the limit it is 1, to find out whether
-/// more bytes follow.
-fn wanted_after(count: usize) -> usize
-    requires { count ≤ most_input }
-    ensures some { 0 < result }
-    ensures room { result ≤ 8192 }
-    ensures fits { count < most_input → count + result ≤ most_input }
-    ensures last { count ≡ most_input → result ≡ 1 }
-{
-    let left = MAX_INPUT_LEN - count;
-    if left == 0 { 1 } else { left.min(MAX_READ_LEN) }
-}
-
-/// The bytes of the next read, in `room`; `None` if it fails.
-fn read_into<'r, S: Source>(source: &mut S, room: &'r mut [u8]) -> Option<&'r [u8]>
-    requires { 0 < length room.old }
-    ensures bytes { Brings (option_map (λ bytes. bytes.now) result) (S.left source.old)
-        (S.left source.new) (length room.old) }
-    ensures flag { S.failed source.new ≡ (S.failed source.old || is_none result) }
-{
-    match source.read(room) {
-        Ok(count) => Some(&room[..count]),
-        Err(_) => None,
-    }
-}
 
 /// Writes the replies that are not written yet.
 fn write_replies<K: Sink>(session: &mut Session, sink: &mut K) -> Result<(), RunFault>
@@ -84,7 +59,7 @@ fn finish<K: Sink>(
     sink: &mut K,
 ) -> Result<(), RunFault>
     requires { string_bytes session.old.replies ≡ [] }
-    ensures told { Finishes accepted result (session_value session.old) (stage_of session.new.net)
+    ensures told { Finishes accepted result (session_value session.old) (stage_behind session.new.run)
         (K.held sink.old) (K.held sink.new) }
     ensures flag { K.failed sink.new ≡ (K.failed sink.old || is_write_fault result) }
 {
@@ -105,7 +80,7 @@ fn hear<S: Source, K: Sink>(
     sink: &mut K,
 ) -> Result<(), RunFault>
     requires { session_value session.old ≡ unbegun_session }
-    ensures heard { Hears accepted result (stage_of session.new.net)
+    ensures heard { Hears accepted result (stage_behind session.new.run)
         (S.left source.old) (S.left source.new)
         (K.held sink.old) (K.held sink.new) }
     ensures source { S.failed source.new ≡ (S.failed source.old || is_read_fault result) }

@@ -1,38 +1,27 @@
-//! A session: a network whose events are lines.
+//! A session: a run whose lines come in parts.
 
 ghost use Rattle.std.specs.Prelude.{◌≡◌, ◌++◌, ◌∷◌, [], true, false, if◌then◌else◌, is_ok, Ok, Err};
 ghost use Rattle.std.specs.String.{string_bytes};
 ghost use Rattle.network_core.specs.Value.{NetValue};
+ghost use Rattle.event_lines.specs.Replies.{stage_behind};
 ghost use Rattle.event_lines.specs.Run.{has_line_end, line_end};
-ghost use Rattle.event_lines.specs.Answers.{Open, Unbegun};
-ghost use Rattle.event_lines.specs.inner.Session.{AnswersBytes, IsRunDone, RepliesOrFails, last_lines, stage_of, session_value, unbegun_session};
+ghost use Rattle.event_lines.specs.Answers.{Open};
+ghost use Rattle.event_lines.specs.inner.Session.{AnswersBytes, IsRunDone, RepliesOrFails, last_lines, session_value, unbegun_session};
 
 use crate::accepted::AcceptedLines;
 use crate::cutting::cut_line;
 use crate::fault::RunFault;
-use crate::happening::answer_line;
-use json_fields::JsonRoom;
+use crate::line_run::LineRun;
 use network_core::Net;
-use refusal::{NumberedFault, OrMemory};
-use scion_topology::{Topology, TopologyFault};
 use std::alloc::{AllocError, Global};
-use std::fmt::Write;
 
-/// The room that each line needs, kept from line to line: for reading it, and for its reply.
-#[derive(Drop)]
-struct LineRoom {
-    json: JsonRoom,
-    reply: String,
-}
-
-/// A run so far: its network, once the topology was read; the beginning of a line whose end was not
-/// read yet; the replies that are not written yet; and the room that a line needs.
+/// A run so far; the beginning of a line whose end was not read yet; and the replies that are not
+/// written yet.
 #[derive(Drop)]
 pub(crate) struct Session {
-    pub(crate) net: Option<Net>,
+    pub(crate) run: LineRun,
     pub(crate) rest: Vec<u8>,
     pub(crate) replies: String,
-    room: LineRoom,
 }
 
 /// Adds a reply and the end of its line. If memory runs out, the replies are as they were.
@@ -45,73 +34,24 @@ fn add_reply(replies: &mut String, reply: &mut String) -> Result<(), AllocError>
     replies.push_str(reply)
 }
 
-/// Answers a line in a network, and adds the reply.
-fn tell(
-    alloc: Global,
-    accepted: AcceptedLines,
-    room: &mut LineRoom,
-    net: &mut Net,
-    line: &[u8],
-    replies: &mut String,
-) -> Result<(), RunFault>
-    ensures { RepliesOrFails accepted (λ _. Open net.new) result (Open net.old) line.now
-        (string_bytes replies.old) (string_bytes replies.new) }
-{
-    let LineRoom { json, reply } = room;
-    reply.clear();
-    answer_line(alloc, accepted, json, net, line, reply)?;
-    add_reply(replies, reply)?;
-    Ok(())
-}
-
-/// Begins the network of the first line, and adds the reply. [`RunFault::Topology`] if the line is
-/// no topology.
-fn begin(
-    alloc: Global,
-    room: &mut LineRoom,
-    line: &[u8],
-    replies: &mut String,
-) -> Result<Net, RunFault>
-    ensures { (accepted : AcceptedLines)
-        → RepliesOrFails accepted (λ net. Open net) result Unbegun line.now
-        (string_bytes replies.old) (string_bytes replies.new) }
-{
-    let reply = &mut room.reply;
-    reply.clear();
-    match Topology::from_json(alloc, line) {
-        Ok(topology) => {
-            topology.known();
-            reply.push_str("topology ok")?;
-            add_reply(replies, reply)?;
-            Ok(Net::new(alloc, topology))
-        }
-        Err(OrMemory::Refused(fault)) => {
-            write!(reply, "topology no {} {}", fault.code(), fault.name())?;
-            add_reply(replies, reply)?;
-            Err(RunFault::Topology)
-        }
-        Err(OrMemory::Memory) => Err(RunFault::Memory),
-    }
-}
-
-/// Answers a line: the first begins the network, and each later one is an event or shows a packet.
+/// Answers a line, and adds the reply.
 fn answer(
     alloc: Global,
     accepted: AcceptedLines,
-    room: &mut LineRoom,
-    net: &mut Option<Net>,
+    run: &mut LineRun,
     line: &[u8],
     replies: &mut String,
 ) -> Result<(), RunFault>
-    ensures { RepliesOrFails accepted (λ _. stage_of net.new) result (stage_of net.old) line.now
-        (string_bytes replies.old) (string_bytes replies.new) }
+    ensures { RepliesOrFails accepted (λ _. stage_behind run.new) result (stage_behind run.old)
+        line.now (string_bytes replies.old) (string_bytes replies.new) }
 {
-    match net {
-        Some(net) => tell(alloc, accepted, room, net, line, replies),
-        None => {
-            *net = Some(begin(alloc, room, line, replies)?);
-            Ok(())
+    match run.answer(alloc, accepted, line) {
+        Ok(()) => Ok(add_reply(replies, &mut run.reply)?),
+        Err(RunFault::Topology) => {
+            add_reply(replies, &mut run.reply)?;
+            Err(RunFault::Topology)
         }
+        Err(fault) => Err(fault),
     }
 }
 
@@ -121,13 +61,9 @@ impl Session {
         ensures { session_value result ≡ unbegun_session }
     {
         Session {
-            net: None,
+            run: LineRun::new(alloc),
             rest: Vec::new(alloc),
             replies: String::new(alloc),
-            room: LineRoom {
-                json: JsonRoom::new(alloc),
-                reply: String::new(alloc),
-            },
         }
     }
 
@@ -137,7 +73,7 @@ impl Session {
         ensures more { result ≡ false
             → last_lines (session_value self.now) ≡ self.now.rest.items ∷ [] }
     {
-        match &self.net {
+        match &self.run.net {
             Some(_) => self.rest.is_empty(),
             None => false,
         }
@@ -145,28 +81,23 @@ impl Session {
 
     /// The network of the run.
     pub(crate) fn into_net(self) -> Net
-        requires begun { (net : NetValue) × (stage_of self.net ≡ Open net) }
-        ensures { stage_of self.net ≡ Open result }
+        requires begun { (net : NetValue) × (stage_behind self.run ≡ Open net) }
+        ensures { stage_behind self.run ≡ Open result }
     {
-        let Session { net, .. } = self;
-        match net {
-            Some(net) => net,
-            None => unreachable!(),
-        }
+        self.run.into_net()
     }
 
     /// Answers the line that was read so far, which had no end.
     pub(crate) fn answer(&mut self, alloc: Global, accepted: AcceptedLines) -> Result<(), RunFault>
-        ensures told { RepliesOrFails accepted (λ _. stage_of self.new.net) result
-            (stage_of self.old.net)
+        ensures told { RepliesOrFails accepted (λ _. stage_behind self.new.run) result
+            (stage_behind self.old.run)
             self.old.rest.items (string_bytes self.old.replies) (string_bytes self.new.replies) }
         ensures rest { self.new.rest ≡ self.old.rest }
     {
         answer(
             alloc,
             accepted,
-            &mut self.room,
-            &mut self.net,
+            &mut self.run,
             &self.rest,
             &mut self.replies,
         )
@@ -180,21 +111,14 @@ impl Session {
         accepted: AcceptedLines,
         end: &[u8],
     ) -> Result<(), RunFault>
-        ensures told { RepliesOrFails accepted (λ _. stage_of self.new.net) result
-            (stage_of self.old.net)
+        ensures told { RepliesOrFails accepted (λ _. stage_behind self.new.run) result
+            (stage_behind self.old.run)
             (self.old.rest.items ++ end.now) (string_bytes self.old.replies)
             (string_bytes self.new.replies) }
         ensures rest { result ≡ Ok tt → self.new.rest.items ≡ [] }
     {
         if self.rest.is_empty() {
-            return answer(
-                alloc,
-                accepted,
-                &mut self.room,
-                &mut self.net,
-                end,
-                &mut self.replies,
-            );
+            return answer(alloc, accepted, &mut self.run, end, &mut self.replies);
         }
         self.rest.extend_from_slice(end)?;
         self.answer(alloc, accepted)?;

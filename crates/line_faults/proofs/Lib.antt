@@ -1,1 +1,4 @@
-pub mod Telling
+pub mod Said
+pub mod Front
+pub mod Writing
+pub mod Running

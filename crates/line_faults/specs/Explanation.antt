@@ -1,8 +1,8 @@
--- What is said of the lines of a run.
+-- What is said of the lines of a run, by their replies.
 use Rattle.std.specs.Prelude.{◌≡◌, ℕ, ◌+◌, ◌||◌, codes, Bool, true, false, List, [], ◌∷◌, ◌++◌, nat_eq}
 use Rattle.std.specs.Fmt.{decimal}
 use Rattle.std.specs.List.{flat_map, list_any, starts_with}
-use Rattle.event_lines.specs.Run.{AreLines, has_line_end}
+use Rattle.event_lines.specs.Run.{has_line_end}
 
 -- whether a reply says that its line is refused
 abbrev pub is_refusal : (reply : List ℕ) → Bool
@@ -46,11 +46,3 @@ abbrev pub AreTold : (first : ℕ) (replies : List (List ℕ)) (text : List ℕ)
 AreTold first [] text = text ≡ []
 AreTold first (reply ∷ replies) text = (told later : List ℕ)
     × (IsTold first reply told × (AreTold (first + 1) replies later × (text ≡ told ++ later)))
-
--- the text explains these replies, each of which is a line: what it says of their lines, from line
--- 1 on
-pub record IsExplanation (replies text : List ℕ) : Type 0 where
-  pub lines : List (List ℕ)
-  pub rest : List ℕ
-  pub are : AreLines replies lines rest
-  pub told : AreTold 1 lines text

@@ -1,2 +1,3 @@
 pub mod Explanation
+pub mod Explained
 pub mod inner

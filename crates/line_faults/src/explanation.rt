@@ -1,33 +1,20 @@
-//! The explanation of a run.
+//! What is told of a line.
 
-ghost use Rattle.std.specs.Prelude.{◌≡◌, false, IfOk, nat_eq, OnOk};
+ghost use Rattle.std.specs.Prelude.{◌≡◌, false, nat_eq, OnOk};
 ghost use Rattle.std.specs.List.{starts_with};
 ghost use Rattle.std.specs.String.{string_bytes};
 ghost use Rattle.event_lines.specs.Run.{has_line_end};
-ghost use Rattle.line_faults.specs.Explanation.{AreWarnings, IsExplanation, IsReason, IsReasonIf, IsTold, is_refusal};
+ghost use Rattle.line_faults.specs.Explanation.{AreWarnings, IsReason, IsReasonIf, IsTold, is_refusal};
 ghost use Rattle.line_faults.specs.inner.Adding.{Adds, IsWarning};
 
-use crate::history::History;
-use crate::json::read;
 use crate::reason::{Line, reason_of, warnings_of};
 use crate::refused::Context;
-use memchr::memchr;
-use network_core::Net;
-use separators::sign::cut;
 use serde_json::Value;
 use std::alloc::{AllocError, Global};
 use std::fmt::Write;
 
 /// The end of a line.
 const LINE_END: u8 = b'\n';
-
-/// The first line of the bytes without its end, and the bytes after it.
-fn cut_line(bytes: &[u8]) -> (&[u8], &[u8]) {
-    match memchr(LINE_END, bytes) {
-        Some(place) => (&bytes[..place], &bytes[place + 1..]),
-        None => (bytes, &[]),
-    }
-}
 
 /// Whether a reply begins with these words.
 fn begins_with(reply: &str, words: &str) -> bool
@@ -103,8 +90,8 @@ fn push_refusal(
 }
 
 /// Adds why a line is refused, if it is, and the warnings about it.
-#[tactic(auto, using(crate::proofs::Telling::told))]
-fn push_comments(
+#[tactic(auto, using(crate::proofs::Said::told))]
+pub(crate) fn push_comments(
     alloc: Global,
     text: &mut String,
     context: &Context<'_>,
@@ -117,57 +104,4 @@ fn push_comments(
     push_refusal(alloc, text, context, line, value)?;
     let warnings = warnings_of(alloc, context, line, value)?;
     push_warnings(text, line.number, &warnings)
-}
-
-/// Adds what there is to say of a line, and notes what it has made.
-fn push_told(
-    alloc: Global,
-    text: &mut String,
-    context: &mut Context<'_>,
-    line: &Line<'_>,
-) -> Result<(), AllocError>
-    ensures { OnOk result (Adds (IsTold line.now.number line.now.reply.now)
-        (string_bytes text.old) (string_bytes text.new)) }
-{
-    let value = read(alloc, line.bytes)?;
-    push_comments(alloc, text, context, line, value.as_ref())?;
-    context.history.add(value.as_ref(), line.reply);
-    Ok(())
-}
-
-/// What there is to say of the lines of an input, whose replies these are. For each line that is
-/// refused there is a line: its number from 1, its reply, the place in it, what stands there, and
-/// what is wanted or which rule it breaks. After it, or alone if the line is right, come warnings:
-/// members that nobody reads, and addresses in requests that no AS has.
-///
-/// `net` is the network after all lines, if there is one. Time and memory are in proportion to the
-/// bytes of the input and of the replies, and the time of a refused line that names an AS also to
-/// the number of links.
-pub fn explain(
-    alloc: Global,
-    input: &[u8],
-    replies: &str,
-    net: Option<&Net>,
-) -> Result<String, AllocError>
-    ensures { IfOk result (λ text. IsExplanation replies.now (string_bytes text)) }
-{
-    let mut text = String::new(alloc);
-    let mut context = Context {
-        net,
-        history: History::default(),
-    };
-    let (mut lines, mut left) = (input, replies);
-    let mut number = 0;
-    while let Some((reply, behind)) = cut(left, '\n') {
-        let (bytes, later) = cut_line(lines);
-        number += 1;
-        let line = Line {
-            number,
-            bytes,
-            reply,
-        };
-        push_told(alloc, &mut text, &mut context, &line)?;
-        (lines, left) = (later, behind);
-    }
-    Ok(text)
 }

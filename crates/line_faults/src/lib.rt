@@ -1,8 +1,8 @@
 //! What is wrong with the lines that a run refuses: where in the line, what stands there, and what
 //! is wanted.
 //!
-//! [`explain`] goes through the lines of an input and the replies to them. Of a line that is right
-//! it says nothing.
+//! [`explain`] answers the lines of a source as a run does, and writes what is wrong with each as
+//! soon as its reply is known. Of a line that is right it says nothing.
 #![tactic(auto)]
 
 mod event;
@@ -13,12 +13,14 @@ mod history;
 mod joining;
 mod json;
 mod member;
+mod notes;
 mod policy;
 mod reason;
 mod refused;
 mod sentence;
 mod sequence;
+mod telling;
 mod topology;
 mod unread;
 
-pub use explanation::explain;
+pub use telling::explain;

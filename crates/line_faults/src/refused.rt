@@ -14,8 +14,7 @@ use std::fmt::Write;
 /// The most interfaces of an AS that are shown.
 const MAX_INTERFACES: usize = 16;
 
-/// What is known where a line stands: the network after all lines, and what the lines before it have
-/// made.
+/// What is known where a line stands: the network after it, and what the lines before it have made.
 #[derive(Clone, Copy)]
 pub(crate) struct Context<'a> {
     pub(crate) net: Option<&'a Net>,

@@ -1,17 +1,16 @@
 -- The output of `scionet_view explain`.
-use Rattle.std.specs.Prelude.{ℕ, List, [], Option, Some, Result}
+use Rattle.std.specs.Prelude.{◌⊎◌, ℕ, List, Option, Result, Ok, Err}
 use Rattle.event_lines.specs.declared.fault.RunFault.{RunFault}
-use Rattle.event_lines.specs.declared.accepted.AcceptedLines.TheVariants.{All}
-use Rattle.event_lines.specs.Run.{Listens}
-use Rattle.network_core.specs.Value.{NetValue}
-use Rattle.line_faults.specs.Explanation.{IsExplanation}
+use Rattle.event_lines.specs.declared.fault.RunFault.TheVariants.{Topology}
+use Rattle.line_faults.specs.Explained.{AreExplained}
 
--- these are the replies of a run over this input
-abbrev pub AreReplies : (input replies : List ℕ) → Type 0
-AreReplies input replies = (end : Result NetValue RunFault) × (after : Option (List ℕ))
-    × Listens All end (Some input) after (Some []) (Some replies)
-
--- the text explains the replies of a run over this input
-abbrev pub Explains : (input text : List ℕ) → Type 0
-Explains input text =
-    (replies : List ℕ) × (AreReplies input replies × IsExplanation replies text)
+-- the lines of a source were answered and explained, up to the end or to a topology that was
+-- refused; or another fault came. The first two contents are what the source still had before and
+-- after it; the last two are what the sink held before and after it.
+abbrev pub ExplainsAll : (result : Result (Unit {0}) RunFault)
+    (before after held holds : Option (List ℕ)) → Type 0
+ExplainsAll (Ok done) before after held holds = AreExplained (Ok done) before after held holds
+    ⊎ AreExplained (Err Topology) before after held holds
+ExplainsAll (Err Topology) before after held holds = ⊥
+ExplainsAll (Err fault) before after held holds =
+    AreExplained (Err fault) before after held holds

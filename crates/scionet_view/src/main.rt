@@ -43,23 +43,27 @@ fn packet_text<S: Source>(
     Ok(lines)
 }
 
-/// What the view shows of the bytes of the source.
-fn view_text<S: Source>(
+/// Shows what the view wants of the bytes of the source: an explanation line by line, and anything
+/// else at once.
+fn show_view<S: Source, K: Sink>(
     alloc: Global,
     view: &View,
     source: &mut S,
-) -> Result<String, CommandFault> {
-    match view {
-        View::Packet(command) => packet_text(alloc, command, source),
-        View::Network(subject) => Ok(network_picture(alloc, source, *subject)?),
-        View::Report(words) => Ok(network_report(alloc, source, words)?),
-        View::Explain => explanation(alloc, source),
-        View::Beacons(options) => beacons(alloc, source, options),
-        View::Path(Subject::Packet(number)) => Ok(packet_path(alloc, source, *number)?),
+    sink: &mut K,
+) -> Result<(), CommandFault> {
+    let text = match view {
+        View::Explain => return Ok(explanation(alloc, source, sink)?),
+        View::Packet(command) => packet_text(alloc, command, source)?,
+        View::Network(subject) => network_picture(alloc, source, *subject)?,
+        View::Report(words) => network_report(alloc, source, words)?,
+        View::Beacons(options) => beacons(alloc, source, options)?,
+        View::Path(Subject::Packet(number)) => packet_path(alloc, source, *number)?,
         View::Path(Subject::Answer { answer, path }) => {
-            Ok(answer_path(alloc, source, *answer, *path)?)
+            answer_path(alloc, source, *answer, *path)?
         }
-    }
+    };
+    write_all(sink, text.as_bytes())?;
+    Ok(())
 }
 
 /// Shows what the words ask for, from the bytes of the source.
@@ -70,9 +74,7 @@ fn show<'a, S: Source, K: Sink>(
     sink: &mut K,
 ) -> Result<(), CommandFault> {
     let view = read_view(alloc, words)?;
-    let text = view_text(alloc, &view, source)?;
-    write_all(sink, text.as_bytes())?;
-    Ok(())
+    show_view(alloc, &view, source, sink)
 }
 
 /// Runs the program with its words and its streams.

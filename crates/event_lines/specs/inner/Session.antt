@@ -1,25 +1,23 @@
 -- Contracts of the private calls of a run (words of no public clause).
-use Rattle.std.specs.Prelude.{◌≡◌, ◌⊎◌, ℕ, ◌≤◌, false, List, [], ◌∷◌, ◌++◌, length, take, Option, Some, None, Result, Ok, Err}
-use Rattle.std.specs.Io.KnownBytes.{Appends, Consumes, IsAtEnd, Keeps}
+use Rattle.std.specs.Prelude.{◌≡◌, ◌⊎◌, ℕ, List, [], ◌∷◌, ◌++◌, take, Option, Result, Ok, Err}
+use Rattle.std.specs.Io.KnownBytes.{Appends, Keeps}
 use Rattle.network_core.specs.Value.{NetValue}
 use Rattle.std.specs.String.{string_bytes}
 use Rattle.event_lines.specs.declared.session.Session.{Session}
 use Rattle.event_lines.specs.declared.fault.RunFault.{RunFault}
 use Rattle.event_lines.specs.declared.fault.RunFault.TheVariants as faults
 use Rattle.event_lines.specs.declared.accepted.AcceptedLines.{AcceptedLines}
-use Rattle.event_lines.specs.inner.Replies.{RepliesTo, RepliesToAll}
+use Rattle.event_lines.specs.Replies.{RepliesTo, RepliesToAll, stage_behind}
 use Rattle.event_lines.specs.Answers.{Stage, Unbegun, Open, Closed, GoesOn}
-use Rattle.event_lines.specs.Run.{AreLines, Listens, ended_lines, has_line_end, line_end}
+use Rattle.event_lines.specs.Run.{AreLines, Listens, ended_lines, line_end}
 
--- the state of a run whose network is this one, if it has begun
-abbrev pub stage_of : Option NetValue → Stage
-stage_of None = Unbegun
-stage_of (Some net) = Open net
-
--- the bytes are a line with its end, and the rest after it
-pub record IsLineCut (bytes line rest : List ℕ) : Type 0 where
-  pub whole : bytes ≡ line ++ line_end ∷ rest
-  pub one : has_line_end line ≡ false
+-- the first line begins this network, whatever lines are accepted; or its topology was refused; or
+-- memory ran out
+abbrev pub Begins : AcceptedLines → Result NetValue RunFault → (line reply : List ℕ) → Type 0
+Begins accepted (Ok net) line reply = RepliesTo accepted Unbegun line reply (Open net)
+Begins accepted (Err faults.Topology) line reply = RepliesTo accepted Unbegun line reply Closed
+Begins accepted (Err faults.Memory) line reply = Unit {0}
+Begins accepted (Err fault) line reply = ⊥
 
 -- one line was answered, and the value gives the state of the run; or the topology was refused; or
 -- memory ran out
@@ -44,7 +42,7 @@ pub record SessionValue : Type 0 where
 abbrev pub session_value : Session → SessionValue
 session_value session =
     record {
-      stage = stage_of session.net;
+      stage = stage_behind session.run;
       rest = session.rest.items;
       replies = string_bytes session.replies;
     }
@@ -102,12 +100,6 @@ pub record IsRunDone (session : SessionValue) (net : NetValue) : Type 0 where
   pub none : last_lines session ≡ []
 
 -- ---- streams
-
--- the source gave these bytes, and no bytes only at its end; or its read failed
-abbrev pub Brings : Option (List ℕ) → Option (List ℕ) → Option (List ℕ) → ℕ → Type 0
-Brings None before after most = Keeps before after
-Brings (Some bytes) before after most =
-    Consumes before after bytes × ((bytes ≡ [] → IsAtEnd after) × (length bytes ≤ most))
 
 -- the replies that were not written yet were written, or a beginning of them
 abbrev pub WritesRest : Result (Unit {0}) RunFault → SessionValue → SessionValue → Option (List ℕ)

@@ -14,7 +14,7 @@ returns-in_err-write_replies-clause-told g c =
     let p = err_from_is_err_and c.from_residual.result c.from_residual.ensures.1 in
     rw (p.1, p.2)
     (finish_failed c.args.accepted c.answer-heard.result c.in_err-write_replies.field-0.0 (session_value c.args.session.now)
-    (session_value c.answer-heard.new.self) (session_value c.write_replies.new.session) c.answer-heard.new.self.net _
+    (session_value c.answer-heard.new.self) (session_value c.write_replies.new.session) c.answer-heard.new.self.run.net _
     (g.K.Sink.held c.args.sink.now) (g.K.Sink.held c.write_replies.new.sink)
     c.requires (c.is_done.ensures.more c.if-is_done.false) c.answer-heard.ensures.told c.in_err-write_replies.ensures.written)
 
@@ -23,6 +23,6 @@ returns-clause-told g c =
     let same = ap (λ (t : SessionValue). t.stage) c.in_ok-write_replies.ensures.written.1 in
     subst (λ stage. Finishes c.args.accepted c.answer-heard.result (session_value c.args.session.now) stage (g.K.Sink.held c.args.sink.now) (g.K.Sink.held c.write_replies.new.sink))
     (sym same)
-    (finished c.args.accepted c.answer-heard.result (session_value c.args.session.now) c.answer-heard.new.self.net (session_value c.answer-heard.new.self).replies
+    (finished c.args.accepted c.answer-heard.result (session_value c.args.session.now) c.answer-heard.new.self.run.net (session_value c.answer-heard.new.self).replies
     (g.K.Sink.held c.args.sink.now) (g.K.Sink.held c.write_replies.new.sink)
     c.requires (c.is_done.ensures.more c.if-is_done.false) c.answer-heard.ensures.told c.in_ok-write_replies.ensures.written.0)

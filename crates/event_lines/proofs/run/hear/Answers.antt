@@ -58,7 +58,7 @@ loop-bytes-preserved g c =
           (g.K.Sink.held c.args.sink.now) (g.K.Sink.held c.loop-bytes.sink) (g.K.Sink.held c.exchange.new.sink)
           c.in-Some.bytes.now (session_value c.exchange.new.session) c.loop-bytes.invariant.far brought.0
           (let fits = c.wanted_after-wanted.ensures.fits (omega (arith, c.loop-bytes.invariant.far.few, c.if-count-eq-MAX_INPUT_LEN.false)) in grind (arith, common_steps, brought.1.1, fits))
-          exchanged.0 exchanged.1.0 exchanged.1.1.0 exchanged.1.1.1 (on_stage c.exchange.new.session.net);
+          exchanged.0 exchanged.1.0 exchanged.1.1.0 exchanged.1.1.1 (on_stage c.exchange.new.session.run.net);
       source = search rules;
       sink = search rules;
     }

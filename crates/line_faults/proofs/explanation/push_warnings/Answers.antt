@@ -1,5 +1,5 @@
 use Rattle.std.specs.String.{string_bytes}
-use Rattle.line_faults.proofs.Telling.{none_yet, one_more}
+use Rattle.line_faults.proofs.Said.{none_yet, one_more}
 use Rattle.line_faults.proofs.explanation.push_warnings.Goals as goal
 
 pub loop-warning-init : goal.loop-warning-init

@@ -1,0 +1,113 @@
+//! A run whose lines come one by one.
+
+ghost use Rattle.std.specs.Prelude.{◌≡◌, [], Ok, option_map};
+ghost use Rattle.std.specs.String.{string_bytes};
+ghost use Rattle.network_core.specs.Value.{NetValue};
+ghost use Rattle.event_lines.specs.Answers.{Open, Unbegun};
+ghost use Rattle.event_lines.specs.inner.Session.{Begins};
+ghost use Rattle.event_lines.specs.Replies.{RepliesUnlessFull, reply_behind, stage_behind, stage_of};
+
+use crate::accepted::AcceptedLines;
+use crate::fault::RunFault;
+use crate::happening::answer_line;
+use json_fields::JsonRoom;
+use network_core::Net;
+use refusal::{NumberedFault, OrMemory};
+use scion_topology::{Topology, TopologyFault};
+use std::alloc::Global;
+use std::fmt::Write;
+
+/// A run whose lines come one by one: its network, once the topology was read; its reply to the
+/// last line; and the room for reading a line, kept from line to line.
+#[derive(Drop)]
+pub struct LineRun {
+    pub(crate) net: Option<Net>,
+    pub(crate) reply: String,
+    json: JsonRoom,
+}
+
+/// The network of the first line, whose reply is written. [`RunFault::Topology`] if the line is no
+/// topology.
+fn begin(alloc: Global, line: &[u8], reply: &mut String) -> Result<Net, RunFault>
+    requires { string_bytes reply.old ≡ [] }
+    ensures { (accepted : AcceptedLines) → Begins accepted result line.now
+        (string_bytes reply.new) }
+{
+    match Topology::from_json(alloc, line) {
+        Ok(topology) => {
+            topology.known();
+            reply.push_str("topology ok")?;
+            Ok(Net::new(alloc, topology))
+        }
+        Err(OrMemory::Refused(fault)) => {
+            write!(reply, "topology no {} {}", fault.code(), fault.name())?;
+            Err(RunFault::Topology)
+        }
+        Err(OrMemory::Memory) => Err(RunFault::Memory),
+    }
+}
+
+impl LineRun {
+    /// A run that has not begun.
+    pub fn new(alloc: Global) -> Self
+        ensures { stage_behind result ≡ Unbegun }
+    {
+        Self {
+            net: None,
+            reply: String::new(alloc),
+            json: JsonRoom::new(alloc),
+        }
+    }
+
+    /// Answers a line without its end: the first begins the network, and each later one is an event
+    /// or shows a packet. [`reply`](Self::reply) is the answer.
+    ///
+    /// [`RunFault::Topology`] if the first line is no topology, which is also the reply;
+    /// [`RunFault::Memory`] if memory runs out. The run ends with either. No other fault comes.
+    ///
+    /// It takes the time and memory of the line's event, and more in proportion to its bytes.
+    pub fn answer(
+        &mut self,
+        alloc: Global,
+        accepted: AcceptedLines,
+        line: &[u8],
+    ) -> Result<(), RunFault>
+        ensures { RepliesUnlessFull accepted result (stage_behind self.old) line.now
+            (reply_behind self.new) (stage_behind self.new) }
+    {
+        self.reply.clear();
+        match &mut self.net {
+            Some(net) => {
+                answer_line(alloc, accepted, &mut self.json, net, line, &mut self.reply)?;
+            }
+            None => self.net = Some(begin(alloc, line, &mut self.reply)?),
+        }
+        Ok(())
+    }
+
+    /// The reply to the last line; empty if there was none yet.
+    pub fn reply(&self) -> &str
+        ensures { result.now ≡ reply_behind self.now }
+    {
+        self.reply.as_str()
+    }
+
+    /// The network after the last line, once the topology was read.
+    pub fn net(&self) -> Option<&Net>
+        ensures { stage_of (option_map (λ net. net.now) result) ≡ stage_behind self.now }
+    {
+        self.net.as_ref()
+    }
+
+    /// The network of a run that has begun.
+    pub(crate) fn into_net(self) -> Net
+        requires begun { (net : NetValue) × (stage_behind self ≡ Open net) }
+        ensures { stage_behind self ≡ Open result }
+    {
+        let Self { net, .. } = self;
+        match net {
+            Some(net) => net,
+            None => unreachable!(),
+        }
+    }
+}
