@@ -1,10 +1,11 @@
 #!/usr/bin/env python3
 """Runs the cases of `cases/*.jsonl` over the `scionet` that `rt ci` has proved and built.
 
-The first word, if there is one, is another program to run them over. `cases/README.md` says what a
-case is. The last line has the number of cases and of those that were answered otherwise; the status
-is 1 where one was, or where there is no case.
+A word, if there is one, is another program to run them over. `cases/README.md` says what a case is.
+The last line has the numbers of cases, of the runs that they stand for, and of the runs that were
+answered otherwise; the status is 1 where one was, or where there is no case.
 """
+import argparse
 import concurrent.futures
 import json
 import os
@@ -13,7 +14,7 @@ import sys
 from pathlib import Path
 
 TOP = Path(__file__).resolve().parent.parent
-SECONDS = 60  # of one case
+SECONDS = 60  # of one run
 
 
 def cases():
@@ -21,6 +22,38 @@ def cases():
     for file in sorted((TOP / "cases").glob("*.jsonl")):
         for line in file.read_text(encoding="utf-8").splitlines():
             yield file.stem, json.loads(line)
+
+
+def changed(text, at, xor):
+    """A packet in hexadecimal, behind an outcome or alone, with a byte changed by exclusive or."""
+    outcome, blank, digits = text.rpartition(" ")
+    packet = bytearray.fromhex(digits)
+    packet[at] ^= xor
+    return f"{outcome}{blank}{packet.hex()}"
+
+
+def with_changed_byte(case, at, xor):
+    """The case with a byte of its packet changed, also in the answer if it has the packet."""
+    answer = case["stdout"]
+    if not answer.startswith("refused"):
+        answer = changed(answer, at, xor) + "\n"
+    name = f"{case['name']}: byte {at} by {xor:02x}"
+    return {**case, "name": name, "stdin": changed(case["stdin"], at, xor), "stdout": answer}
+
+
+def runs(case):
+    """The runs that a case stands for: one, or one for each change that it names."""
+    if "prefixes" in case:
+        given = case["stdin"]
+        for end in range(0, len(given), case["prefixes"]):
+            yield {**case, "name": f"{case['name']}: the first {end}", "stdin": given[:end]}
+    elif "changed_bytes" in case:
+        first, last = case["changed_bytes"]
+        for at in range(first, last + 1):
+            for xor in range(1, 256):
+                yield with_changed_byte(case, at, xor)
+    else:
+        yield case
 
 
 def given(case):
@@ -44,30 +77,44 @@ def difference(case, done):
     return None
 
 
-def tried(program, named):
-    """What was wrong with this case, or nothing."""
-    file, case = named
+def tried(program, case):
+    """What was wrong with this run, or nothing."""
     words = [program, *case["args"]]
     try:
-        done = subprocess.run(words, input=given(case), capture_output=True, timeout=SECONDS)
+        done = subprocess.run(
+            words, input=given(case), capture_output=True, timeout=SECONDS, check=False
+        )
         wrong = difference(case, done)
     except subprocess.TimeoutExpired:
         wrong = f"no end within {SECONDS} seconds"
-    return wrong and f"cases: {file}: {case['name']}: {wrong}"
+    return wrong and f"{case['name']}: {wrong}"
+
+
+def first_of_each(wrong):
+    """A line for each case of which a run was wrong: what is wrong with the first."""
+    lines = {}
+    for file, name, said in wrong:
+        lines.setdefault((file, name), f"cases: {file}: {said}")
+    return [*lines.values()]
 
 
 def main():
-    program = sys.argv[1] if sys.argv[1:] else str(TOP / "crates/scionet/out/scionet")
+    reader = argparse.ArgumentParser(description=__doc__.partition("\n")[0])
+    built = str(TOP / "crates/scionet/out/scionet")
+    reader.add_argument("program", nargs="?", default=built, help="in place of the proved one")
+    program = reader.parse_args().program
     if not os.access(program, os.X_OK):
         sys.exit(f"cases: {program} is not there: rt ci builds it")
     named = [*cases()]
+    each = [(file, case["name"], run) for file, case in named for run in runs(case)]
     with concurrent.futures.ThreadPoolExecutor(os.cpu_count()) as pool:
-        found = [*pool.map(lambda it: tried(program, it), named)]
-    wrong = [it for it in found if it]
-    for it in wrong[:20]:
-        print(it)
-    print(f"cases: {len(named)}, {len(wrong)} wrong")
+        found = [*pool.map(lambda it: tried(program, it[2]), each)]
+    wrong = [(file, name, said) for (file, name, _), said in zip(each, found) if said]
+    for line in first_of_each(wrong)[:20]:
+        print(line)
+    print(f"cases: {len(named)} in {len(each)} runs, {len(wrong)} wrong")
     return 1 if wrong or not named else 0
 
 
-sys.exit(main())
+if __name__ == "__main__":
+    sys.exit(main())

@@ -2,8 +2,8 @@
 """Writes the topologies of `examples/` wherever else they stand: the texts of `worked`, and those
 of the programs' help, which have the first ASes of `row`. So a change of what a topology has is
 made by hand in `examples/` alone, and in what makes networks (`Drawing` of `worked`). The stored
-runs are the example of the help and, of `scionet`, the answers that the help gives, so that `rt ci`
-runs it.
+run of `scionet` is a case, so that `rt ci` runs it; that of `scionet_view` is the example of the
+help. That example is a case too, with the answers that the help gives.
 
 With --check it compares, and ends with 1 where another text stands."""
 import json
@@ -11,15 +11,19 @@ import re
 import sys
 from pathlib import Path
 
+from pages import is_check
+
 NAMES = "row", "pair", "fork"
 WORKED = "crates/worked/src/networks.rt"
 
 # The lines of the help's example, and the help that gives their answers.
 EXAMPLE, HELP_OF_RUN = "crates/commands/src/example.rt", "crates/commands/src/words.rt"
 
-# The inputs of stored runs, with the turns behind the example's lines; and the output of one.
-INPUTS = {"crates/scionet/stdin": 2, "crates/scionet_view/stdin": 1}
-ANSWERS = "crates/scionet/stdout"
+# The cases of networks, and the names of two: the stored run, by the member that each of its files
+# has, and the help's example with the turns behind it.
+CASES, ROW, EXAMPLE_CASE = "cases/networks.jsonl", "three ASes in a row", "the example of the help"
+STORED_RUN = {"crates/scionet/stdin": "stdin", "crates/scionet/stdout": "stdout"}
+EXAMPLE_INPUT = "crates/scionet_view/stdin"
 TURN = '{"do":"turn","packet":0}'
 
 # The texts of help, and how many of the first ASes of `row` each topology in them has.
@@ -69,12 +73,32 @@ def answers():
     return re.search(r'which is answered by\n(.*?)"', text, re.S)[1].split("\n  ")
 
 
+def cases():
+    """The cases of networks by their names, in their order, each as its line."""
+    lines = Path(CASES).read_text(encoding="utf-8").splitlines()
+    return {json.loads(line)["name"]: line for line in lines}
+
+
+def with_turns(count):
+    """The lines of the help's example and so many turns of its packet."""
+    return "\n".join([*example(), *[TURN] * count]) + "\n"
+
+
+def example_case():
+    """The case of the help's example, as a line."""
+    said = "\n".join(answers()).strip() + "\n"
+    given = {"name": EXAMPLE_CASE, "args": ["run"], "stdin": with_turns(2)}
+    return json.dumps({**given, "status": 0, "stdout": said}, separators=(",", ":"))
+
+
 def written(path):
-    """The text of a file with the topologies or the example in it."""
-    if path in INPUTS:
-        return "\n".join([*example(), *[TURN] * INPUTS[path]]) + "\n"
-    if path == ANSWERS:
-        return "\n".join(answers()).strip() + "\n"
+    """The text of a file with the topologies, the example or a case in it."""
+    if path == CASES:
+        return "\n".join({**cases(), EXAMPLE_CASE: example_case()}.values()) + "\n"
+    if path in STORED_RUN:
+        return json.loads(cases()[ROW])[STORED_RUN[path]]
+    if path == EXAMPLE_INPUT:
+        return with_turns(1)
     text = Path(path).read_text(encoding="utf-8")
     if path == WORKED:
         return FUNCTION.sub(lambda found: found[1] + found[2] + as_function(found[1]), text)
@@ -83,18 +107,19 @@ def written(path):
 
 
 def main():
+    is_only_compared = is_check()
     for name in NAMES:
         json.loads(topology(name))
-    files = [WORKED, *HELP, *INPUTS, ANSWERS]
+    files = [WORKED, *HELP, CASES, *STORED_RUN, EXAMPLE_INPUT]
     others = [it for it in files if written(it) != Path(it).read_text(encoding="utf-8")]
     for it in others:
-        if "--check" in sys.argv:
+        if is_only_compared:
             print(f"{it} is not what it would be by examples/: run .ci/examples.py")
         else:
             Path(it).write_text(written(it), encoding="utf-8")
             print(f"{it} written")
     print(f"{len(files)} files with networks of examples/, {len(others)} others")
-    sys.exit(1 if others and "--check" in sys.argv else 0)
+    sys.exit(1 if others and is_only_compared else 0)
 
 
 main()

@@ -9,6 +9,7 @@ import re
 import sys
 from pathlib import Path
 
+from pages import is_check
 from refusals import TYPES, numbers_of
 from specs import Definition, Specs
 
@@ -146,9 +147,10 @@ def written(text):
 
 
 def main():
+    is_only_compared = is_check()
     old = PAGE.read_text(encoding="utf-8")
     new = written(old)
-    if "--check" not in sys.argv:
+    if not is_only_compared:
         PAGE.write_text(new, encoding="utf-8")
     elif new != old:
         sys.exit(f"{PAGE} has another table than the source: run .ci/lines.py")
