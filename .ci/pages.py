@@ -1,4 +1,5 @@
 """What the scripts that print documents share."""
+import argparse
 import subprocess
 import sys
 import textwrap
@@ -18,10 +19,17 @@ def files(*patterns):
     return [it for it in map(Path, listed.splitlines()) if it.is_file()]
 
 
+def is_check():
+    """Whether the only word is `--check`. Another word ends the script with status 2."""
+    reader = argparse.ArgumentParser(allow_abbrev=False)
+    reader.add_argument("--check", action="store_true", help="compare; 1 if it differs")
+    return reader.parse_args().check
+
+
 def settle(text, path):
     """Prints a document; with `--check` it says whether the file is that, and ends with 1 where it
     is not."""
-    if sys.argv[1:] != ["--check"]:
+    if not is_check():
         sys.stdout.write(text)
     elif Path(path).read_text() != text:
         sys.exit(f"{path} is not what {sys.argv[0]} prints: run it and put what it prints there")

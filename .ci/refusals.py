@@ -3,12 +3,15 @@
 each means as the code says it. Run it at the top of the repository; docs/refusals.md is what it
 prints.
 
-`refusals.py --check` says whether docs/refusals.md is that, and ends with 1 where it is not."""
+`refusals.py --check` says whether docs/refusals.md is that, and whether a number and a name of a
+refusal that stand beside one another, in a page or in code of any language, are one refusal's; it
+ends with 1 where that is not so.
+"""
 import re
 import sys
 from pathlib import Path
 
-from pages import filled, settle
+from pages import filled, files, settle
 from surface import Surface
 
 FRONT = """# All refusals
@@ -18,8 +21,9 @@ number and the name: `no 41 NoInterface` if an event is refused, `topology no 12
 topology is, and `refused 93 Expired` if a router refuses a packet; after `90 BadHeader` come the
 number and the name of the header's own refusal. A number has one name, and means the same
 everywhere. Each of these is a clause: the call refuses if and only if its cause holds, and if
-several causes hold it names the first in the order that its documentation gives. No clause says
-when 110, 111 and 121 come.
+several causes hold it names the first in the order that its documentation gives. Two things are in
+no clause: when 110, 111 and 121 come, and that memory lasts until a topology or a segment is read.
+Where it does not, it may be told in the place of any of 10 to 18 and 30 to 34.
 
 `.ci/refusals.py` prints this document from the crates' definitions and the comments of their types;
 the gate checks that it is up to date.
@@ -33,7 +37,7 @@ Lines: each line after the first.
 
 | number | name | meaning |
 |---|---|---|
-| 140 | BadLine | The line has none of the forms that [lines.md](lines.md) lists, or a value in it is \
+| {bad_line} | BadLine | The line has none of the forms that [lines.md](lines.md) lists, or a value in it is \
 out of its range. |
 
 ## `scion_ffi`
@@ -44,7 +48,7 @@ Calls: `scion_step`, `scion_step_all`.
 
 | number | name | meaning |
 |---|---|---|
-| 9 | BadCall | There is no such kind of link, state of a link or way in, or there are more than \
+| {bad_call} | BadCall | There is no such kind of link, state of a link or way in, or there are more than \
 256 interfaces. |
 """
 
@@ -81,6 +85,19 @@ TYPES = {
     "router_workers": [("RunFault", "", "")],
     "scion_ffi_paths": [("RequestFault", "scion_paths scion_verify", "")],
 }
+
+# Refusals that no table has: the definition of each, and its number in it.
+ALONE = {
+    "BadLine": ("event_lines/specs/Text.antt", r'^bad_line = codes "no (\d+) BadLine"$'),
+    "BadCall": ("scion_ffi/specs/Answer.antt", r"^bad_call = answer (\d+) 0$"),
+}
+
+# Files of pages and of code. Tests of the gate have wrong pairs.
+READ = "*.md", "*.rt", "*.h", "*.html", "*.js", "*.mjs", "*.py", "*.rs", ":!.ci/*_test.py"
+
+# A number and a name beside one another, as in `94 BadMac`; a name in words of capitals is one too.
+PAIR = re.compile(r"(?<![\w.,:#-])(\d+) ([A-Z][a-z]\w*)")
+NAMED = re.compile(r"[A-Z][a-z]+[A-Z]\w*[a-z]\w*")
 
 ALIAS = re.compile(r"^pub type (\w+) = OrMemory<(\w+)>;", re.M)
 ENUM = r"((?:^///.*\n)+)(?:^#\[.*\n)*^pub enum NAME \{\n((?:.*\n)*?)^\}"
@@ -119,6 +136,43 @@ def numbers_of(crate, type_name):
             found = {variant: number_at(text, term) for variant, term in rows}
             return {variant: row for variant, row in found.items() if row}
     sys.exit(f"{crate} has no table of {type_name}")
+
+
+def alone():
+    """The numbers of refusals that no table has, by their names."""
+    found = {}
+    for name, (file, pattern) in ALONE.items():
+        number = re.search(pattern, Path("crates", file).read_text(), re.M)
+        if number is None:
+            sys.exit(f"{file} has no number of {name}")
+        found[name] = int(number[1])
+    return found
+
+
+def by_number(rows):
+    """The name of each number; a number with two names ends the script."""
+    names = {}
+    for number, name in rows:
+        if names.setdefault(number, name) != name:
+            sys.exit(f"{number} is {name} and {names[number]}")
+    return names
+
+
+def all_names():
+    """The name of each number that a refusal has, of all crates."""
+    tables = [numbers_of(crate, one[0]) for crate, types in TYPES.items() for one in types]
+    rows = [it for table in tables for it in table.values()]
+    return by_number(rows + [(number, name) for name, number in alone().items()])
+
+
+def misnamed(text, names):
+    """Pairs of a number and a name in a text of which one is of a refusal, and not the other's."""
+    pairs = ((int(number), name) for number, name in PAIR.findall(text))
+    known = {*names.values()}
+    for number, name in pairs:
+        is_meant = name in known or (number in names and NAMED.fullmatch(name))
+        if is_meant and names.get(number) != name:
+            yield f"{number} {name}"
 
 
 def meanings_of(crate, type_name):
@@ -186,18 +240,26 @@ def document():
     tables = {it.parts[1] for it in specs if table.search(it.read_text())}
     if tables != {*TYPES}:
         sys.exit(f"crates whose tables of refusals are not listed here: {tables ^ {*TYPES}}")
-    names = {}
-    rows = [numbers_of(crate, one[0]) for crate, types in TYPES.items() for one in types]
-    for number, name in (it for table in rows for it in table.values()):
-        if names.setdefault(number, name) != name:
-            sys.exit(f"{number} is {name} and {names[number]}")
+    all_names()
     calls, words, parts = calls_by_type(libraries()), words_by_type(), []
     for crate, types in TYPES.items():
         for name, _, lines in types:
             own = [] if name == "EventFault" else words.get(name, [])
             parts += section(crate, name, calls[name], lines + ", ".join(f"`{it}`" for it in own))
-    return FRONT + "\n".join(parts) + "\n" + BEHIND
+    own = alone()
+    behind = BEHIND.format(bad_line=own["BadLine"], bad_call=own["BadCall"])
+    return FRONT + "\n".join(parts) + "\n" + behind
+
+
+def main():
+    settle(document(), "docs/refusals.md")
+    names, wrong = all_names(), 0
+    for file in files(*READ):
+        for pair in misnamed(file.read_text(encoding="utf-8"), names):
+            wrong += 1
+            print(f"refusals: {file}: {pair} is no number and name of a refusal", file=sys.stderr)
+    return 1 if wrong else 0
 
 
 if __name__ == "__main__":
-    settle(document(), "docs/refusals.md")
+    sys.exit(main())
